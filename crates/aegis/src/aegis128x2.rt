@@ -1,0 +1,34 @@
+//! AEGIS-128X2: two lanes, a key and a nonce of 16 bytes, a rate of 64 bytes.
+
+ghost use Rattle.std.specs.Prelude.{codes};
+
+use aegis_128::State128;
+use aegis_aes::AesBlock2;
+use aegis_base::Variant;
+use aegis_engine::Cipher;
+
+pub use aegis_base::Error;
+
+/// A key.
+pub type Key = [u8; 16];
+
+/// A nonce, to be used once under a key.
+pub type Nonce = [u8; 16];
+
+/// A tag of 16 or 32 bytes.
+pub type Tag<const TAG_BYTES: usize> = [u8; TAG_BYTES];
+
+/// The names of AEGIS-128X2.
+#[derive(Clone, Copy)]
+pub struct Aegis128X2Variant;
+
+impl Variant for Aegis128X2Variant {
+    ghost cipher_name = { codes "Aegis128X2" };
+
+    fn cipher_name() -> &'static str {
+        "Aegis128X2"
+    }
+}
+
+/// AEGIS-128X2 under a key and a nonce. [`Cipher`] has its calls.
+pub type Aegis128X2<const TAG_BYTES: usize> = Cipher<State128<AesBlock2>, Aegis128X2Variant, TAG_BYTES>;

@@ -1,0 +1,34 @@
+//! AEGIS-128X4: four lanes, a key and a nonce of 16 bytes, a rate of 128 bytes.
+
+ghost use Rattle.std.specs.Prelude.{codes};
+
+use aegis_128::State128;
+use aegis_aes::AesBlock4;
+use aegis_base::Variant;
+use aegis_engine::Cipher;
+
+pub use aegis_base::Error;
+
+/// A key.
+pub type Key = [u8; 16];
+
+/// A nonce, to be used once under a key.
+pub type Nonce = [u8; 16];
+
+/// A tag of 16 or 32 bytes.
+pub type Tag<const TAG_BYTES: usize> = [u8; TAG_BYTES];
+
+/// The names of AEGIS-128X4.
+#[derive(Clone, Copy)]
+pub struct Aegis128X4Variant;
+
+impl Variant for Aegis128X4Variant {
+    ghost cipher_name = { codes "Aegis128X4" };
+
+    fn cipher_name() -> &'static str {
+        "Aegis128X4"
+    }
+}
+
+/// AEGIS-128X4 under a key and a nonce. [`Cipher`] has its calls.
+pub type Aegis128X4<const TAG_BYTES: usize> = Cipher<State128<AesBlock4>, Aegis128X4Variant, TAG_BYTES>;

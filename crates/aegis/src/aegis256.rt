@@ -1,0 +1,33 @@
+//! AEGIS-256: one lane, a key and a nonce of 32 bytes, a rate of 16 bytes.
+
+ghost use Rattle.std.specs.Prelude.{codes};
+
+use aegis_256::State256;
+use aegis_aes::AesBlock;
+use aegis_base::Variant;
+use aegis_engine::Cipher;
+
+pub use aegis_base::Error;
+
+/// A key.
+pub type Key = [u8; 32];
+
+/// A nonce, to be used once under a key.
+pub type Nonce = [u8; 32];
+
+/// A tag of 16 or 32 bytes.
+pub type Tag<const TAG_BYTES: usize> = [u8; TAG_BYTES];
+
+/// The names of AEGIS-256.
+pub struct Aegis256Variant;
+
+impl Variant for Aegis256Variant {
+    ghost cipher_name = { codes "Aegis256" };
+
+    fn cipher_name() -> &'static str {
+        "Aegis256"
+    }
+}
+
+/// AEGIS-256 under a key and a nonce. [`Cipher`] has its calls.
+pub type Aegis256<const TAG_BYTES: usize> = Cipher<State256<AesBlock>, Aegis256Variant, TAG_BYTES>;

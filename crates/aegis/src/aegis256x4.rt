@@ -1,0 +1,34 @@
+//! AEGIS-256X4: four lanes, a key and a nonce of 32 bytes, a rate of 64 bytes.
+
+ghost use Rattle.std.specs.Prelude.{codes};
+
+use aegis_256::State256;
+use aegis_aes::AesBlock4;
+use aegis_base::Variant;
+use aegis_engine::Cipher;
+
+pub use aegis_base::Error;
+
+/// A key.
+pub type Key = [u8; 32];
+
+/// A nonce, to be used once under a key.
+pub type Nonce = [u8; 32];
+
+/// A tag of 16 or 32 bytes.
+pub type Tag<const TAG_BYTES: usize> = [u8; TAG_BYTES];
+
+/// The names of AEGIS-256X4.
+#[derive(Clone, Copy)]
+pub struct Aegis256X4Variant;
+
+impl Variant for Aegis256X4Variant {
+    ghost cipher_name = { codes "Aegis256X4" };
+
+    fn cipher_name() -> &'static str {
+        "Aegis256X4"
+    }
+}
+
+/// AEGIS-256X4 under a key and a nonce. [`Cipher`] has its calls.
+pub type Aegis256X4<const TAG_BYTES: usize> = Cipher<State256<AesBlock4>, Aegis256X4Variant, TAG_BYTES>;

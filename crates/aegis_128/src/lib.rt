@@ -1,0 +1,213 @@
+//! The lanes of the family AEGIS-128: eight rows, two blocks of each rate block to a lane.
+#![tactic(auto)]
+
+ghost use Rattle.std.specs.Prelude.{◌≡◌, ℕ, ◌+◌, ◌*◌, ◌^◌, ◌<◌, ◌≤◌, length, List, [], ◌∷◌};
+ghost use Rattle.aegis_aes.specs.Block.{and, xor};
+ghost use Rattle.aegis_aes.specs.Lanes.{context};
+ghost use Rattle.aegis_base.specs.Family.{Aegis128, rate};
+ghost use Rattle.aegis_aes.specs.Block.{block_at};
+ghost use Rattle.aegis_aes.specs.Lanes.{xor_lanes};
+ghost use Rattle.aegis_base.specs.Lane.{add_context, finish, first_rows, high_tag, keystream, last_block, low_tag, row, short_tag, start, start_turn, step};
+ghost use Rattle.aegis_base.specs.Message.{share_at};
+
+use aegis_aes::{AesBlock, Row};
+use aegis_base::{C0, C1, LaneState, bit_lengths};
+
+/// The lanes of AEGIS-128L, 128X2 or 128X4.
+#[derive(Clone, Copy)]
+pub struct State128<R: Row> {
+    s0: R,
+    s1: R,
+    s2: R,
+    s3: R,
+    s4: R,
+    s5: R,
+    s6: R,
+    s7: R,
+    updates: u64,
+}
+
+impl<R: Row> State128<R> {
+    ghost use Rattle.aegis_128.specs.Rows.{lane};
+
+    // The rows before the updates of the start.
+    fn first_rows(key: AesBlock, nonce: AesBlock) -> Self
+        ensures lanes { (j : ℕ) → j < R.LANES → lane R.block result j ≡ first_rows Aegis128 key nonce }
+        ensures updates { result.updates ≡ 0 }
+    {
+        let c0 = AesBlock::from_bytes(&C0);
+        let c1 = AesBlock::from_bytes(&C1);
+        let both = R::splat(key.xor(nonce));
+        State128 {
+            s0: both,
+            s1: R::splat(c1),
+            s2: R::splat(c0),
+            s3: R::splat(c1),
+            s4: both,
+            s5: R::splat(key.xor(c0)),
+            s6: R::splat(key.xor(c1)),
+            s7: R::splat(key.xor(c0)),
+            updates: 0,
+        }
+    }
+
+    // The rows after one update by two rows of blocks, the private step of every lane, which alone counts.
+    fn update(self, m0: R, m1: R) -> Self
+        requires { self.updates + 1 < 2 ^ 64 }
+        ensures lanes { (j : ℕ) → j < R.LANES → lane R.block result j ≡ step Aegis128 (lane R.block self j) (R.block m0 j ∷ R.block m1 j ∷ []) }
+        ensures updates { result.updates ≡ self.updates + 1 }
+    {
+        State128 {
+            s0: self.s7.round(self.s0).xor(m0),
+            s1: self.s0.round(self.s1),
+            s2: self.s1.round(self.s2),
+            s3: self.s2.round(self.s3),
+            s4: self.s3.round(self.s4).xor(m1),
+            s5: self.s4.round(self.s5),
+            s6: self.s5.round(self.s6),
+            s7: self.s6.round(self.s7),
+            updates: self.updates + 1,
+        }
+    }
+
+    // The rows with the context blocks xored in.
+    fn add_contexts(self) -> Self
+        ensures lanes { (j : ℕ) → j < R.LANES → lane R.block result j ≡ add_context Aegis128 (context j R.LANES) (lane R.block self j) }
+        ensures updates { result.updates ≡ self.updates }
+    {
+        State128 {
+            s3: self.s3.xor(R::contexts()),
+            s7: self.s7.xor(R::contexts()),
+            ..self
+        }
+    }
+
+    // One turn of the start.
+    fn start_turn(self, key: AesBlock, nonce: AesBlock) -> Self
+        requires { self.updates + 1 < 2 ^ 64 }
+        ensures lanes { (j : ℕ) → j < R.LANES → lane R.block result j ≡ start_turn Aegis128 key nonce (context j R.LANES) (lane R.block self j) }
+        ensures updates { result.updates ≡ self.updates + 1 }
+    {
+        self.add_contexts().update(R::splat(nonce), R::splat(key))
+    }
+
+    // The rows after the start.
+    fn start(key: AesBlock, nonce: AesBlock) -> Self
+        ensures lanes { (j : ℕ) → j < R.LANES → lane R.block result j ≡ start Aegis128 R.LANES key nonce j }
+        ensures updates { result.updates ≡ 0 }
+    {
+        let mut state = Self::first_rows(key, nonce);
+        for _turn in 0..10usize {
+            state = state.start_turn(key, nonce);
+        }
+        State128 {
+            updates: 0,
+            ..state
+        }
+    }
+
+    // The blocks that end the lanes.
+    fn last_blocks(self, first_bits: u64, second_bits: u64) -> R
+        ensures { (j : ℕ) → j < R.LANES → R.block result j ≡ last_block Aegis128 (lane R.block self j) first_bits second_bits }
+    {
+        let lengths = AesBlock::from_bytes(&bit_lengths(first_bits, second_bits));
+        self.s2.xor(R::splat(lengths))
+    }
+
+    // The first row of keystream blocks.
+    fn first_keystream(self) -> R
+        ensures { (j : ℕ) → j < R.LANES → R.block result j ≡ row (keystream Aegis128 (lane R.block self j)) 0 }
+    {
+        self.s6.xor(self.s1).xor(self.s2.and(self.s3))
+    }
+
+    // The second row of keystream blocks.
+    fn second_keystream(self) -> R
+        ensures { (j : ℕ) → j < R.LANES → R.block result j ≡ row (keystream Aegis128 (lane R.block self j)) 1 }
+    {
+        self.s2.xor(self.s5).xor(self.s6.and(self.s7))
+    }
+
+    // The lanes' tags of 16 bytes.
+    fn short_tags(self) -> R
+        ensures { (j : ℕ) → j < R.LANES → R.block result j ≡ short_tag Aegis128 (lane R.block self j) }
+    {
+        let front = self.s0.xor(self.s1).xor(self.s2.xor(self.s3));
+        front.xor(self.s4.xor(self.s5).xor(self.s6))
+    }
+
+    // The low halves of the lanes' tags of 32 bytes.
+    fn low_tags(self) -> R
+        ensures { (j : ℕ) → j < R.LANES → R.block result j ≡ low_tag Aegis128 (lane R.block self j) }
+    {
+        self.s0.xor(self.s1).xor(self.s2.xor(self.s3))
+    }
+
+    // The high halves of the lanes' tags of 32 bytes.
+    fn high_tags(self) -> R
+        ensures { (j : ℕ) → j < R.LANES → R.block result j ≡ high_tag Aegis128 (lane R.block self j) }
+    {
+        self.s4.xor(self.s5).xor(self.s6.xor(self.s7))
+    }
+}
+
+impl<R: Row> LaneState for State128<R> {
+    ghost use Rattle.aegis_128.specs.Rows.{lane};
+
+    ghost use Rattle.std.proofs.Common.{rules};
+
+    type Key = [u8; 16];
+
+    const RATE: usize = 32 * R::LANES;
+
+    ghost RATE = { 32 * R.LANES };
+
+    ghost FAMILY = { Aegis128 };
+
+    ghost LANES = { R.LANES };
+
+    ghost key_bytes = { λ key. key };
+
+    ghost lane = { λ s j. lane R.block s j };
+
+    ghost updates = { λ s. s.updates };
+
+    fn new(key: &[u8; 16], nonce: &[u8; 16]) -> Self {
+        Self::start(AesBlock::from_bytes(key), AesBlock::from_bytes(nonce))
+    }
+
+    #[inline(always)]
+    fn absorb(self, bytes: &[u8], at: usize) -> Self {
+        self.update(R::load(bytes, at), R::load(bytes, at + 16 * R::LANES))
+    }
+
+    #[inline(always)]
+    fn xor_keystream(self, buffer: &mut [u8], at: usize) {
+        let second = at + 16 * R::LANES;
+        let m0 = R::load(buffer, at).xor(self.first_keystream());
+        let m1 = R::load(buffer, second).xor(self.second_keystream());
+        m0.store(buffer, at);
+        m1.store(buffer, second);
+    }
+
+    fn finish(self, first_bits: u64, second_bits: u64) -> Self {
+        let last = self.last_blocks(first_bits, second_bits);
+        let mut state = self;
+        for _turn in 0..7usize {
+            state = state.update(last, last);
+        }
+        state
+    }
+
+    fn short_tag(self) -> AesBlock {
+        self.short_tags().xor_of_lanes()
+    }
+
+    fn long_tag(self) -> (AesBlock, AesBlock) {
+        (self.low_tags().xor_of_lanes(), self.high_tags().xor_of_lanes())
+    }
+
+    ghost one_two_or_four = { R.one_two_or_four };
+
+    ghost rate_is = { Prim.search rules };
+}

@@ -1,0 +1,224 @@
+//! The lanes of the family AEGIS-256: six rows, one block of each rate block to a lane.
+#![tactic(auto)]
+
+ghost use Rattle.std.specs.Prelude.{◌≡◌, ℕ, ◌+◌, ◌*◌, ◌^◌, ◌<◌, ◌≤◌, length, List, [], ◌∷◌};
+ghost use Rattle.aegis_aes.specs.Block.{and, xor};
+ghost use Rattle.aegis_aes.specs.Lanes.{context};
+ghost use Rattle.aegis_base.specs.Family.{Aegis256, rate};
+ghost use Rattle.aegis_aes.specs.Block.{block_at};
+ghost use Rattle.aegis_aes.specs.Lanes.{xor_lanes};
+ghost use Rattle.aegis_base.specs.Lane.{add_context, finish, first_rows, high_half, high_tag, keystream, last_block, low_half, low_tag, row, short_tag, start, start_turn, step};
+ghost use Rattle.aegis_base.specs.Message.{share_at};
+
+use aegis_aes::{AesBlock, Row};
+use aegis_base::{C0, C1, LaneState, bit_lengths};
+
+// The first block of a key or nonce.
+fn low_half(bytes: &[u8; 32]) -> AesBlock
+    ensures { result ≡ low_half bytes.now }
+{
+    AesBlock::from_bytes(&bytes[..16])
+}
+
+// The second block of a key or nonce.
+fn high_half(bytes: &[u8; 32]) -> AesBlock
+    ensures { result ≡ high_half bytes.now }
+{
+    let (_, high) = bytes.split_at(16);
+    AesBlock::from_bytes(high)
+}
+
+/// The lanes of AEGIS-256, 256X2 or 256X4.
+#[derive(Clone, Copy)]
+pub struct State256<R: Row> {
+    s0: R,
+    s1: R,
+    s2: R,
+    s3: R,
+    s4: R,
+    s5: R,
+    updates: u64,
+}
+
+impl<R: Row> State256<R> {
+    ghost use Rattle.aegis_256.specs.Rows.{lane};
+
+    // The rows before the updates of the start.
+    fn first_rows(key: &[u8; 32], nonce: &[u8; 32]) -> Self
+        ensures lanes { (j : ℕ) → j < R.LANES → lane R.block result j ≡ first_rows Aegis256 key.now nonce.now }
+        ensures updates { result.updates ≡ 0 }
+    {
+        let c0 = AesBlock::from_bytes(&C0);
+        let c1 = AesBlock::from_bytes(&C1);
+        State256 {
+            s0: R::splat(low_half(key).xor(low_half(nonce))),
+            s1: R::splat(high_half(key).xor(high_half(nonce))),
+            s2: R::splat(c1),
+            s3: R::splat(c0),
+            s4: R::splat(low_half(key).xor(c0)),
+            s5: R::splat(high_half(key).xor(c1)),
+            updates: 0,
+        }
+    }
+
+    // The rows after one update by a row of blocks, the private step of every lane, which alone counts.
+    #[inline(always)]
+    fn update(self, m: R) -> Self
+        requires { self.updates + 1 < 2 ^ 64 }
+        ensures lanes { (j : ℕ) → j < R.LANES → lane R.block result j ≡ step Aegis256 (lane R.block self j) (R.block m j ∷ []) }
+        ensures updates { result.updates ≡ self.updates + 1 }
+    {
+        State256 {
+            s0: self.s5.round(self.s0).xor(m),
+            s1: self.s0.round(self.s1),
+            s2: self.s1.round(self.s2),
+            s3: self.s2.round(self.s3),
+            s4: self.s3.round(self.s4),
+            s5: self.s4.round(self.s5),
+            updates: self.updates + 1,
+        }
+    }
+
+    // The rows with the context blocks xored in.
+    fn add_contexts(self) -> Self
+        ensures lanes { (j : ℕ) → j < R.LANES → lane R.block result j ≡ add_context Aegis256 (context j R.LANES) (lane R.block self j) }
+        ensures updates { result.updates ≡ self.updates }
+    {
+        State256 {
+            s3: self.s3.xor(R::contexts()),
+            s5: self.s5.xor(R::contexts()),
+            ..self
+        }
+    }
+
+    // One update of the start.
+    fn start_update(self, block: AesBlock) -> Self
+        requires { self.updates + 1 < 2 ^ 64 }
+        ensures lanes { (j : ℕ) → j < R.LANES → lane R.block result j ≡ step Aegis256 (add_context Aegis256 (context j R.LANES) (lane R.block self j)) (block ∷ []) }
+        ensures updates { result.updates ≡ self.updates + 1 }
+    {
+        self.add_contexts().update(R::splat(block))
+    }
+
+    // One turn of the start.
+    fn start_turn(self, key: &[u8; 32], nonce: &[u8; 32]) -> Self
+        requires { self.updates + 4 < 2 ^ 64 }
+        ensures lanes { (j : ℕ) → j < R.LANES → lane R.block result j ≡ start_turn Aegis256 key.now nonce.now (context j R.LANES) (lane R.block self j) }
+        ensures updates { result.updates ≡ self.updates + 4 }
+    {
+        let by_low = self.start_update(low_half(key));
+        let by_high = by_low.start_update(high_half(key));
+        let by_low_nonce = by_high.start_update(low_half(key).xor(low_half(nonce)));
+        by_low_nonce.start_update(high_half(key).xor(high_half(nonce)))
+    }
+
+    // The rows after the start.
+    fn start(key: &[u8; 32], nonce: &[u8; 32]) -> Self
+        ensures lanes { (j : ℕ) → j < R.LANES → lane R.block result j ≡ start Aegis256 R.LANES key.now nonce.now j }
+        ensures updates { result.updates ≡ 0 }
+    {
+        let mut state = Self::first_rows(key, nonce);
+        for _turn in 0..4usize {
+            state = state.start_turn(key, nonce);
+        }
+        State256 {
+            updates: 0,
+            ..state
+        }
+    }
+
+    // The blocks that end the lanes.
+    fn last_blocks(self, first_bits: u64, second_bits: u64) -> R
+        ensures { (j : ℕ) → j < R.LANES → R.block result j ≡ last_block Aegis256 (lane R.block self j) first_bits second_bits }
+    {
+        let lengths = AesBlock::from_bytes(&bit_lengths(first_bits, second_bits));
+        self.s3.xor(R::splat(lengths))
+    }
+
+    // The row of keystream blocks.
+    #[inline(always)]
+    fn keystream(self) -> R
+        ensures { (j : ℕ) → j < R.LANES → R.block result j ≡ row (keystream Aegis256 (lane R.block self j)) 0 }
+    {
+        let front = self.s1.xor(self.s4);
+        front.xor(self.s5.xor(self.s2.and(self.s3)))
+    }
+
+    // The lanes' tags of 16 bytes.
+    fn short_tags(self) -> R
+        ensures { (j : ℕ) → j < R.LANES → R.block result j ≡ short_tag Aegis256 (lane R.block self j) }
+    {
+        self.low_tags().xor(self.high_tags())
+    }
+
+    // The low halves of the lanes' tags of 32 bytes.
+    fn low_tags(self) -> R
+        ensures { (j : ℕ) → j < R.LANES → R.block result j ≡ low_tag Aegis256 (lane R.block self j) }
+    {
+        self.s0.xor(self.s1).xor(self.s2)
+    }
+
+    // The high halves of the lanes' tags of 32 bytes.
+    fn high_tags(self) -> R
+        ensures { (j : ℕ) → j < R.LANES → R.block result j ≡ high_tag Aegis256 (lane R.block self j) }
+    {
+        self.s3.xor(self.s4).xor(self.s5)
+    }
+}
+
+impl<R: Row> LaneState for State256<R> {
+    ghost use Rattle.aegis_256.specs.Rows.{lane};
+
+    ghost use Rattle.std.proofs.Common.{rules};
+
+    type Key = [u8; 32];
+
+    const RATE: usize = 16 * R::LANES;
+
+    ghost RATE = { 16 * R.LANES };
+
+    ghost FAMILY = { Aegis256 };
+
+    ghost LANES = { R.LANES };
+
+    ghost key_bytes = { λ key. key };
+
+    ghost lane = { λ s j. lane R.block s j };
+
+    ghost updates = { λ s. s.updates };
+
+    fn new(key: &[u8; 32], nonce: &[u8; 32]) -> Self {
+        Self::start(key, nonce)
+    }
+
+    #[inline(always)]
+    fn absorb(self, bytes: &[u8], at: usize) -> Self {
+        self.update(R::load(bytes, at))
+    }
+
+    #[inline(always)]
+    fn xor_keystream(self, buffer: &mut [u8], at: usize) {
+        R::load(buffer, at).xor(self.keystream()).store(buffer, at);
+    }
+
+    fn finish(self, first_bits: u64, second_bits: u64) -> Self {
+        let last = self.last_blocks(first_bits, second_bits);
+        let mut state = self;
+        for _turn in 0..7usize {
+            state = state.update(last);
+        }
+        state
+    }
+
+    fn short_tag(self) -> AesBlock {
+        self.short_tags().xor_of_lanes()
+    }
+
+    fn long_tag(self) -> (AesBlock, AesBlock) {
+        (self.low_tags().xor_of_lanes(), self.high_tags().xor_of_lanes())
+    }
+
+    ghost one_two_or_four = { R.one_two_or_four };
+
+    ghost rate_is = { Prim.search rules };
+}

@@ -1,0 +1,17 @@
+-- Lanes: D of them run side by side, numbered from 0.
+use Rattle.std.specs.Prelude.{◌≡◌, ℕ, zero, suc, ◌-◌, List, [], ◌∷◌, ◌⊎◌, replicate}
+use Rattle.aegis_aes.specs.Block.{xor}
+
+-- the lane counts of AEGIS
+abbrev pub IsLaneCount : ℕ → Type 0
+IsLaneCount d = (d ≡ 1) ⊎ ((d ≡ 2) ⊎ (d ≡ 4))
+
+-- the context block of lane j of d (AEGIS): the lane's number, the last lane's number, and zeros
+abbrev pub context : ℕ → ℕ → List ℕ
+context j d = j ∷ (d - 1) ∷ replicate 14 0
+
+-- the xor of what the first d lanes have
+unfoldable pub xor_lanes : (ℕ → List ℕ) → ℕ → List ℕ
+xor_lanes f zero = []
+xor_lanes f (suc zero) = f zero
+xor_lanes f (suc (suc d)) = xor (xor_lanes f (suc d)) (f (suc d))

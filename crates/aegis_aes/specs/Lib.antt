@@ -1,0 +1,5 @@
+pub mod Field
+pub mod Block
+pub mod Blocks
+pub mod Round
+pub mod Lanes

@@ -1,0 +1,96 @@
+//! Blocks of sixteen bytes.
+
+ghost use Rattle.std.specs.Prelude.{◌≡◌, ℕ, ◌+◌, ◌*◌, ◌<◌, ◌≤◌, length, List, slice_index, replicate};
+ghost use Rattle.aegis_aes.specs.Block.{and, block_at, xor};
+ghost use Rattle.aegis_aes.specs.Round.{round};
+
+use crate::table::column;
+use std::marker::Model;
+use std::simd::prelude::*;
+
+/// A block of sixteen bytes: the state or the key of an AES round (FIPS 197, section 3.4). Byte 4c + r
+/// is row r of column c. The default is sixteen zeros.
+#[derive(Clone, Copy, Debug)]
+pub struct AesBlock {
+    bytes: u8x16,
+}
+
+impl Model for AesBlock {
+    ghost Value = { List ℕ };
+
+    ghost view = { λ b. b.bytes };
+
+    ghost inverse = { λ bytes. record { bytes = bytes } };
+}
+
+impl Default for AesBlock {
+    ghost is_default = { λ b. b ≡ replicate 16 0 };
+
+    fn default() -> AesBlock {
+        AesBlock {
+            bytes: u8x16::splat(0),
+        }
+    }
+}
+
+impl AesBlock {
+    /// The block of sixteen bytes, in order.
+    #[inline]
+    pub fn from_bytes(bytes: &[u8]) -> AesBlock
+        requires { length bytes.now ≡ 16 }
+        ensures { result ≡ bytes.now }
+    {
+        AesBlock {
+            bytes: u8x16::from_slice(bytes),
+        }
+    }
+
+    /// The sixteen bytes, in order.
+    #[inline]
+    pub fn to_bytes(self) -> [u8; 16]
+        ensures { result ≡ self }
+    {
+        self.bytes.to_array()
+    }
+
+    /// The xor of two blocks, byte by byte.
+    #[inline]
+    pub fn xor(&self, other: AesBlock) -> AesBlock
+        ensures { result ≡ xor self.now other }
+    {
+        AesBlock {
+            bytes: self.bytes ^ other.bytes,
+        }
+    }
+
+    /// The and of two blocks, byte by byte.
+    #[inline]
+    pub fn and(&self, other: AesBlock) -> AesBlock
+        ensures { result ≡ and self.now other }
+    {
+        AesBlock {
+            bytes: self.bytes & other.bytes,
+        }
+    }
+
+    /// One AES round: SubBytes, ShiftRows, MixColumns, and last the key's bytes added by xor (FIPS 197,
+    /// sections 5.1.1 to 5.1.4). AEGIS calls it AESRound.
+    #[inline]
+    pub fn round(&self, key: AesBlock) -> AesBlock
+        ensures { result ≡ round self.now key }
+    {
+        let b = self.to_bytes();
+        // By way of an array, since of a vector alone the proof does not know its length.
+        let key = u8x16::from_array(key.to_bytes());
+        // ShiftRows: row r of column c comes from column c + r.
+        let columns = u32x4::from_array([
+            column(b[0], b[5], b[10], b[15]),
+            column(b[4], b[9], b[14], b[3]),
+            column(b[8], b[13], b[2], b[7]),
+            column(b[12], b[1], b[6], b[11]),
+        ]);
+        AesBlock {
+            bytes: columns.to_le_bytes() ^ key,
+        }
+    }
+}

@@ -1,0 +1,18 @@
+//! The AES round on blocks of sixteen bytes (FIPS 197), and rows of blocks, one for each lane of AEGIS.
+#![tactic(auto)]
+
+mod block;
+mod block2;
+mod block4;
+pub mod field;
+mod row;
+#[cfg(test)]
+mod rows_tests;
+mod table;
+#[cfg(test)]
+mod tests;
+
+pub use block::AesBlock;
+pub use block2::AesBlock2;
+pub use block4::AesBlock4;
+pub use row::Row;

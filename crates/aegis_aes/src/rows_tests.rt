@@ -1,0 +1,127 @@
+ghost use Rattle.std.specs.Prelude.{ℕ, ◌+◌, ◌*◌, ◌<◌, ◌≤◌};
+
+use crate::block::AesBlock;
+use crate::block2::AesBlock2;
+use crate::block4::AesBlock4;
+use crate::row::Row;
+use std::process::Abort;
+
+fn filled(byte: u8) -> AesBlock {
+    AesBlock::from_bytes(&[byte; 16])
+}
+
+// The bytes 0, 1, 2 and so on.
+fn counted() -> [u8; 80] {
+    let mut bytes = [0; 80];
+    for (i, byte) in bytes.iter_mut().enumerate() {
+        *byte = (i % 256) as u8;
+    }
+    bytes
+}
+
+// What a row stores from place 8 on, among bytes that are 0xee.
+fn stored<R: Row>(row: R) -> [u8; 80]
+    requires { R.LANES ≤ 4 }
+{
+    let mut out = [0xee; 80];
+    row.store(&mut out, 8);
+    out
+}
+
+// Each operation at a type of row. Its lanes are loaded from bytes that count up from 3.
+fn works<R: Row>(rt: &impl Abort)
+    requires { R.LANES ≤ 4 }
+{
+    let end = 8 + 16 * R::LANES;
+    let row = R::load(&counted(), 3);
+    let mask = R::splat(filled(0x0f));
+    let rounds = [
+        AesBlock::load(&counted(), 3).round(filled(0x0f)).to_bytes(),
+        AesBlock::load(&counted(), 19)
+            .round(filled(0x0f))
+            .to_bytes(),
+        AesBlock::load(&counted(), 35)
+            .round(filled(0x0f))
+            .to_bytes(),
+        AesBlock::load(&counted(), 51)
+            .round(filled(0x0f))
+            .to_bytes(),
+    ];
+
+    let loaded = stored(row);
+    let sum = stored(row.xor(mask));
+    let masked = stored(row.and(mask));
+    let round = stored(row.round(mask));
+    let splat = stored(mask);
+    let contexts = stored(R::contexts());
+    for i in 0..80 {
+        if i < 8 || i >= end {
+            for bytes in [&loaded, &sum, &masked, &round, &splat, &contexts] {
+                assert_eq!(rt; bytes[i], 0xee, "at {i}");
+            }
+        } else {
+            let byte = i as u8 - 5;
+            let lane = (i - 8) / 16;
+            let place = (i - 8) % 16;
+            let context = match place {
+                0 => lane,
+                1 => R::LANES - 1,
+                _ => 0,
+            };
+            assert_eq!(rt; loaded[i], byte, "at {i}");
+            assert_eq!(rt; sum[i], byte ^ 0x0f, "at {i}");
+            assert_eq!(rt; masked[i], byte % 16, "at {i}");
+            assert_eq!(rt; round[i], rounds[lane][place], "at {i}");
+            assert_eq!(rt; splat[i], 0x0f, "at {i}");
+            assert_eq!(rt; contexts[i] as usize, context, "at {i}");
+        }
+    }
+}
+
+// The xor of the lanes that are filled with 1, 2, 4 and 8.
+fn xor_of_powers<R: Row>() -> [u8; 16]
+    requires { R.LANES ≤ 4 }
+{
+    let mut bytes = [0; 64];
+    for (i, byte) in bytes.iter_mut().enumerate() {
+        *byte = 1 << (i / 16 % 4);
+    }
+    R::load(&bytes, 0).xor_of_lanes().to_bytes()
+}
+
+#[test]
+fn rows_work_lane_by_lane(rt: HostRuntime) {
+    works::<AesBlock>(&rt);
+    works::<AesBlock2>(&rt);
+    works::<AesBlock4>(&rt);
+    assert_eq!(rt; xor_of_powers::<AesBlock>(), [1; 16]);
+    assert_eq!(rt; xor_of_powers::<AesBlock2>(), [3; 16]);
+    assert_eq!(rt; xor_of_powers::<AesBlock4>(), [15; 16]);
+}
+
+#[test]
+fn two_blocks_keep_their_places(rt: HostRuntime) {
+    let blocks = AesBlock2::from_blocks(filled(1), filled(2));
+    let (b0, b1) = blocks.as_blocks();
+    assert_eq!(rt; b0.to_bytes(), [1; 16]);
+    assert_eq!(rt; b1.to_bytes(), [2; 16]);
+
+    let (b0, b1) = AesBlock2::default().as_blocks();
+    assert_eq!(rt; b0.to_bytes(), [0; 16]);
+    assert_eq!(rt; b1.to_bytes(), [0; 16]);
+}
+
+#[test]
+fn four_blocks_keep_their_places(rt: HostRuntime) {
+    let blocks = AesBlock4::from_blocks(filled(1), filled(2), filled(3), filled(4));
+    let (b0, b1, b2, b3) = blocks.as_blocks();
+    assert_eq!(rt; b0.to_bytes(), [1; 16]);
+    assert_eq!(rt; b1.to_bytes(), [2; 16]);
+    assert_eq!(rt; b2.to_bytes(), [3; 16]);
+    assert_eq!(rt; b3.to_bytes(), [4; 16]);
+
+    let (b0, b1, b2, b3) = AesBlock4::default().as_blocks();
+    for block in [b0, b1, b2, b3] {
+        assert_eq!(rt; block.to_bytes(), [0; 16]);
+    }
+}

@@ -1,0 +1,74 @@
+use Rattle.std.proofs.Common.{◌≡◌, ℕ, zero, suc, ◌+◌, ◌*◌, ◌<◌, List, [], ◌∷◌, ◌++◌, length, slice_index, refl, sym, ◌∙◌, arith, add-one, add-zero}
+use Rattle.aegis_aes.specs.Block.{bytes_at, xor}
+use Rattle.aegis_aes.specs.Lanes.{xor_lanes}
+use Rattle.aegis_base.specs.Lane.{times}
+
+-- lanes that have the same have the same xor
+pub xor_lanes-same : (f g : ℕ → List ℕ) (d : ℕ) → ((j : ℕ) → j < d → f j ≡ g j) → xor_lanes f d ≡ xor_lanes g d
+unfolding xor_lanes
+xor_lanes-same f g zero same = refl
+xor_lanes-same f g (suc zero) same = same 0 (omega arith)
+xor_lanes-same f g (suc (suc d)) same =
+    let rest = xor_lanes-same f g (suc d) (λ j h. same j (omega arith)) in
+    let here = same (suc d) (omega arith) in
+    rw (rest, here) refl
+
+-- two lists that agree along n bytes have these bytes in common
+pub bytes_at-same : (xs ys : List ℕ) (i k n : ℕ) → ((p : ℕ) → p < n → slice_index xs (i + p) ≡ slice_index ys (k + p)) → bytes_at xs i n ≡ bytes_at ys k n
+unfolding bytes_at
+bytes_at-same xs ys i k zero same = refl
+bytes_at-same xs ys i k (suc n) same =
+    let here : slice_index xs i ≡ slice_index ys k = (let e = same 0 (omega arith) in simp add-zero at e) in
+    let rest : bytes_at xs (i + 1) n ≡ bytes_at ys (k + 1) n =
+        bytes_at-same xs ys (i + 1) (k + 1) n (λ p h. let e = same (p + 1) (omega arith) in
+        let a : (i + 1) + p ≡ i + (p + 1) = omega arith in
+        let b : (k + 1) + p ≡ k + (p + 1) = omega arith in
+        rw (a, b) e) in
+    rw (here, rest) refl
+
+-- a function applied once more
+pub times-more : (n : ℕ) (f : List (List ℕ) → List (List ℕ)) (s : List (List ℕ)) → times (n + 1) f s ≡ f (times n f s)
+unfolding times
+times-more n f s = rw add-one refl
+
+pub times-none : (f : List (List ℕ) → List (List ℕ)) (s : List (List ℕ)) → times 0 f s ≡ s
+unfolding times
+times-none f s = refl
+
+-- two lists of equal lengths, and what is joined to them, place by place
+zip2-append : (xs ys vs ws : List ℕ) → length xs ≡ length ys → xor (xs ++ vs) (ys ++ ws) ≡ xor xs ys ++ xor vs ws
+zip2-append [] [] vs ws e = refl
+zip2-append [] (y ∷ ys) vs ws e = absurd (omega (arith, e))
+zip2-append (x ∷ xs) [] vs ws e = absurd (omega (arith, e))
+zip2-append (x ∷ xs) (y ∷ ys) vs ws e =
+    let shorter : length xs ≡ length ys = omega (arith, e) in
+    rw (zip2-append xs ys vs ws shorter) refl
+
+length-xor : (xs ys : List ℕ) → length xs ≡ length ys → length (xor xs ys) ≡ length ys
+length-xor [] [] e = refl
+length-xor [] (y ∷ ys) e = absurd (omega (arith, e))
+length-xor (x ∷ xs) [] e = absurd (omega (arith, e))
+length-xor (x ∷ xs) (y ∷ ys) e =
+    let shorter : length xs ≡ length ys = omega (arith, e) in
+    let rest = length-xor xs ys shorter in omega arith
+
+-- the xor of the first lanes is as long as what each has
+length-xor_lanes : (f : ℕ → List ℕ) (n d : ℕ) → ((j : ℕ) → j < suc d → length (f j) ≡ n) → length (xor_lanes f (suc d)) ≡ n
+unfolding xor_lanes
+length-xor_lanes f n zero long = long 0 (omega arith)
+length-xor_lanes f n (suc d) long =
+    let rest = length-xor_lanes f n d (λ j h. long j (omega arith)) in
+    let here = long (suc d) (omega arith) in
+    length-xor (xor_lanes f (suc d)) (f (suc d)) (rest ∙ sym here) ∙ here
+
+-- the xor of lists that are each joined from two of equal lengths
+pub xor_lanes-append : (f g : ℕ → List ℕ) (n d : ℕ) → ((j : ℕ) → j < d → length (f j) ≡ n)
+    → xor_lanes (λ j. f j ++ g j) d ≡ xor_lanes f d ++ xor_lanes g d
+unfolding xor_lanes
+xor_lanes-append f g n zero long = refl
+xor_lanes-append f g n (suc zero) long = refl
+xor_lanes-append f g n (suc (suc d)) long =
+    let before : (j : ℕ) → j < suc d → length (f j) ≡ n = λ j h. long j (omega arith) in
+    let rest = xor_lanes-append f g n (suc d) before in
+    let front : length (xor_lanes f (suc d)) ≡ length (f (suc d)) = length-xor_lanes f n d before ∙ sym (long (suc d) (omega arith)) in
+    rw rest (zip2-append (xor_lanes f (suc d)) (f (suc d)) (xor_lanes g (suc d)) (g (suc d)) front)

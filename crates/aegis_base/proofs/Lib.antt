@@ -1,0 +1,6 @@
+pub mod Bijection
+pub mod LaneFacts
+pub mod LaneIndependence
+pub mod MessageFacts
+pub mod SealFacts
+pub mod StreamFacts

@@ -1,0 +1,165 @@
+-- How the definitions of a message read bytes: rate blocks of two messages that agree, places in a rate block, and
+-- blocks of keystream byte by byte.
+use Rattle.std.proofs.Common.{◌≡◌, ◌∙◌, sym, ap, subst, refl, ℕ, zero, suc, ◌+◌, ◌-◌, ◌*◌, ◌/◌, ◌%◌, ◌<◌, ◌≤◌, List, [], ◌∷◌, length, bit_xor, slice_index, arith, add-one, add-zero, ◌⊎◌, inl, inr}
+use Rattle.std.proofs.Math.Nat.{div-mul-le_self, lt-div-mul-add}
+use Rattle.std.proofs.lemmas.Nat.{div-mul-add}
+use Rattle.aegis_aes.specs.Block.{block_at, bytes_at, xor}
+use Rattle.aegis_aes.specs.Lanes.{IsLaneCount}
+use Rattle.aegis_base.specs.Family.{Family, Aegis128, Aegis256, rate, width}
+use Rattle.aegis_base.specs.Lane.{keystream, row, step}
+use Rattle.aegis_base.specs.Message.{after, block_count, keystream_byte, lane_of, share, share_at, stream_byte}
+use Rattle.aegis_base.proofs.LaneFacts.{bytes_at-same}
+
+-- ---- messages that agree
+
+pub share_at-same : (family : Family) (d j : ℕ) (x y : List ℕ) (a b : ℕ) → j < d
+    → ((k : ℕ) → k < rate family d → slice_index x (a + k) ≡ slice_index y (b + k))
+    → share_at family d j x a ≡ share_at family d j y b
+share_at-same Aegis128 d j x y a b inside same =
+    let block : (q : ℕ) → q < 2 * d → block_at x (a + 16 * q) ≡ block_at y (b + 16 * q) =
+        λ q low. bytes_at-same x y (a + 16 * q) (b + 16 * q) 16 (λ p h.
+        let e = same (16 * q + p) (omega arith) in
+        let f : a + 16 * q + p ≡ a + (16 * q + p) = omega arith in
+        let g : b + 16 * q + p ≡ b + (16 * q + p) = omega arith in
+        rw (f, g) e) in
+    rw (block j (omega arith), block (d + j) (omega arith)) refl
+share_at-same Aegis256 d j x y a b inside same =
+    let first : block_at x (a + 16 * j) ≡ block_at y (b + 16 * j) =
+        bytes_at-same x y (a + 16 * j) (b + 16 * j) 16 (λ p h.
+        let e = same (16 * j + p) (omega arith) in
+        let f : a + 16 * j + p ≡ a + (16 * j + p) = omega arith in
+        let g : b + 16 * j + p ≡ b + (16 * j + p) = omega arith in
+        rw (f, g) e) in
+    rw first refl
+
+pub after-same : (family : Family) (d : ℕ) (s : List (List ℕ)) (j : ℕ) (x y : List ℕ) (n : ℕ) → j < d
+    → ((k : ℕ) → k < n * rate family d → slice_index x k ≡ slice_index y k)
+    → after family d s j x n ≡ after family d s j y n
+unfolding after
+after-same family d s j x y zero inside same = refl
+after-same family d s j x y (suc n) inside same =
+    let before = after-same family d s j x y n inside (λ k h. same k (omega arith)) in
+    let taken = share_at-same family d j x y (n * rate family d) (n * rate family d) inside
+        (λ k h. same (n * rate family d + k) (omega arith)) in
+    rw (before, taken) refl
+
+pub after-none : (family : Family) (d : ℕ) (s : List (List ℕ)) (j : ℕ) (x : List ℕ) → after family d s j x 0 ≡ s
+unfolding after
+after-none family d s j x = refl
+
+pub after-more : (family : Family) (d : ℕ) (s : List (List ℕ)) (j : ℕ) (x : List ℕ) (n : ℕ)
+    → after family d s j x (n + 1) ≡ step family (after family d s j x n) (share family d j n x)
+unfolding after
+after-more family d s j x n = rw add-one refl
+
+-- ---- places
+
+pub lane_of-within : (d i : ℕ) → IsLaneCount d → lane_of d i < d
+lane_of-within d i (inl e) = rw e (omega arith)
+lane_of-within d i (inr (inl e)) = rw e (omega arith)
+lane_of-within d i (inr (inr e)) = rw e (omega arith)
+
+pub rate-positive : (family : Family) (d : ℕ) → IsLaneCount d → 0 < rate family d
+rate-positive Aegis128 d (inl e) = rw e (omega arith)
+rate-positive Aegis128 d (inr (inl e)) = rw e (omega arith)
+rate-positive Aegis128 d (inr (inr e)) = rw e (omega arith)
+rate-positive Aegis256 d (inl e) = rw e (omega arith)
+rate-positive Aegis256 d (inr (inl e)) = rw e (omega arith)
+rate-positive Aegis256 d (inr (inr e)) = rw e (omega arith)
+
+-- place i of a message and the same place of another rate block
+record IsSamePlace (family : Family) (d i k : ℕ) : Type 0 where
+  lane : lane_of d i ≡ lane_of d k
+  within : i % rate family d ≡ k % rate family d
+  byte : i % 16 ≡ k % 16
+
+places-periodic : (family : Family) (d n k : ℕ) → IsLaneCount d → IsSamePlace family d (n * rate family d + k) k
+places-periodic Aegis128 d n k (inl e) = rw e record { lane = omega arith; within = omega arith; byte = omega arith }
+places-periodic Aegis128 d n k (inr (inl e)) = rw e record { lane = omega arith; within = omega arith; byte = omega arith }
+places-periodic Aegis128 d n k (inr (inr e)) = rw e record { lane = omega arith; within = omega arith; byte = omega arith }
+places-periodic Aegis256 d n k (inl e) = rw e record { lane = omega arith; within = omega arith; byte = omega arith }
+places-periodic Aegis256 d n k (inr (inl e)) = rw e record { lane = omega arith; within = omega arith; byte = omega arith }
+places-periodic Aegis256 d n k (inr (inr e)) = rw e record { lane = omega arith; within = omega arith; byte = omega arith }
+
+pub keystream_byte-same : (family : Family) (d : ℕ) (f g : ℕ → List (List ℕ)) (i : ℕ) → IsLaneCount d
+    → ((j : ℕ) → j < d → f j ≡ g j) → keystream_byte family d f i ≡ keystream_byte family d g i
+keystream_byte-same family d f g i count same = rw (same (lane_of d i) (lane_of-within d i count)) refl
+
+-- the places of a rate block are the same in each
+pub keystream_byte-periodic : (family : Family) (d : ℕ) (f : ℕ → List (List ℕ)) (n k : ℕ) → IsLaneCount d
+    → keystream_byte family d f (n * rate family d + k) ≡ keystream_byte family d f k
+keystream_byte-periodic family d f n k count =
+    let same = places-periodic family d n k count in
+    rw (same.lane, same.within, same.byte) refl
+
+-- ---- blocks byte by byte
+
+-- the bytes of an xor, as far as it goes
+xor-reads : (xs ys : List ℕ) (p : ℕ) → p < length (xor xs ys) → slice_index (xor xs ys) p ≡ bit_xor (slice_index xs p) (slice_index ys p)
+xor-reads [] ys p h = absurd (omega arith)
+xor-reads (x ∷ xs) [] p h = absurd (omega arith)
+xor-reads (x ∷ xs) (y ∷ ys) zero h = refl
+xor-reads (x ∷ xs) (y ∷ ys) (suc p) h = xor-reads xs ys p (omega arith)
+
+length-bytes_at : (xs : List ℕ) (i n : ℕ) → length (bytes_at xs i n) ≡ n
+unfolding bytes_at
+length-bytes_at xs i zero = refl
+length-bytes_at xs i (suc n) = let rest = length-bytes_at xs (i + 1) n in omega arith
+
+bytes_at-reads : (xs : List ℕ) (i n p : ℕ) → p < n → slice_index (bytes_at xs i n) p ≡ slice_index xs (i + p)
+unfolding bytes_at
+bytes_at-reads xs i zero p h = absurd (omega arith)
+bytes_at-reads xs i (suc n) zero h = rw add-zero refl
+bytes_at-reads xs i (suc n) (suc p) h =
+    let place : i + suc p ≡ (i + 1) + p = omega arith in
+    rw place (bytes_at-reads xs (i + 1) n p (omega arith))
+
+-- a block that is the xor of a block and a block of keystream, byte by byte
+xored-reads : (new old z : List ℕ) (a p : ℕ) → p < 16 → block_at new a ≡ xor (block_at old a) z
+    → slice_index new (a + p) ≡ bit_xor (slice_index old (a + p)) (slice_index z p)
+xored-reads new old z a p low e =
+    let long : p < length (xor (block_at old a) z) = rw (← e, length-bytes_at new a 16) low in
+    sym (bytes_at-reads new a 16 p low) ∙ ap (λ (xs : List ℕ). slice_index xs p) e ∙ xor-reads (block_at old a) z p long
+    ∙ ap (λ (b : ℕ). bit_xor b (slice_index z p)) (bytes_at-reads old a 16 p low)
+
+-- where byte k of a rate block stands among its blocks
+record IsPlace (family : Family) (d k : ℕ) : Type 0 where
+  place : 16 * (k % rate family d / 16 / d * d + lane_of d k) + k % 16 ≡ k
+  block : k % rate family d / 16 / d < width family
+
+places-within : (family : Family) (d k : ℕ) → IsLaneCount d → k < rate family d → IsPlace family d k
+places-within Aegis128 d k (inl e) = rw e (λ h. record { place = omega arith; block = omega arith })
+places-within Aegis128 d k (inr (inl e)) = rw e (λ h. record { place = omega arith; block = omega arith })
+places-within Aegis128 d k (inr (inr e)) = rw e (λ h. record { place = omega arith; block = omega arith })
+places-within Aegis256 d k (inl e) = rw e (λ h. record { place = omega arith; block = omega arith })
+places-within Aegis256 d k (inr (inl e)) = rw e (λ h. record { place = omega arith; block = omega arith })
+places-within Aegis256 d k (inr (inr e)) = rw e (λ h. record { place = omega arith; block = omega arith })
+
+-- a rate block whose blocks are xored with the lanes' keystream, byte by byte
+pub keystream-reads : (family : Family) (d : ℕ) (lanes : ℕ → List (List ℕ)) (new old : List ℕ) (a k : ℕ) → IsLaneCount d
+    → ((j h : ℕ) → j < d → h < width family
+      → block_at new (a + 16 * (h * d + j)) ≡ xor (block_at old (a + 16 * (h * d + j))) (row (keystream family (lanes j)) h))
+    → k < rate family d
+    → slice_index new (a + k) ≡ bit_xor (slice_index old (a + k)) (keystream_byte family d lanes k)
+keystream-reads family d lanes new old a k count blocks low =
+    let is = places-within family d k count low in
+    let j = lane_of d k in
+    let h = k % rate family d / 16 / d in
+    let byte = xored-reads new old (row (keystream family (lanes j)) h) (a + 16 * (h * d + j)) (k % 16) (omega arith)
+        (blocks j h (lane_of-within d k count) is.block) in
+    let place : a + 16 * (h * d + j) + k % 16 ≡ a + k = (let at = is.place in omega arith) in
+    rw place at byte
+
+-- ---- how many rate blocks there are
+
+pub block_count-part : (family : Family) (d n r : ℕ) → r ≡ rate family d → 0 < r → n / r * r < n → block_count family d n ≡ n / r + 1
+block_count-part family d n r e positive part =
+    let below : n < n / r * r + r = lt-div-mul-add positive in
+    let place : n + (r - 1) ≡ (n / r + 1) * r + (n - n / r * r - 1) = omega arith in
+    rw (← e, place) (div-mul-add (n / r + 1) r (n - n / r * r - 1) (omega arith))
+
+pub block_count-whole : (family : Family) (d n r : ℕ) → r ≡ rate family d → 0 < r → n ≤ n / r * r → block_count family d n ≡ n / r
+block_count-whole family d n r e positive whole =
+    let floor = div-mul-le_self n r in
+    let place : n + (r - 1) ≡ n / r * r + (r - 1) = omega arith in
+    rw (← e, place) (div-mul-add (n / r) r (r - 1) (omega arith))

@@ -1,0 +1,13 @@
+-- Each part is the lemma at the lanes before the message.
+use Rattle.aegis_base.specs.Message.{lane_before}
+use Rattle.aegis_base.proofs.Bijection.{ciphertext-injective, ciphertext-onto, length-ciphertext}
+use Rattle.aegis_base.proofs.laws.bijection.Goals as goal
+
+pub returns-clause-length_kept : goal.returns-clause-length_kept
+returns-clause-length_kept c family d count key nonce ad m = length-ciphertext family d (lane_before family d key nonce ad) m
+
+pub returns-clause-one_to_one : goal.returns-clause-one_to_one
+returns-clause-one_to_one c family d count key nonce ad m n = ciphertext-injective family d (lane_before family d key nonce ad) m n count
+
+pub returns-clause-onto : goal.returns-clause-onto
+returns-clause-onto c family d count key nonce ad sealed = ciphertext-onto family d (lane_before family d key nonce ad) sealed count

@@ -1,0 +1,4 @@
+pub mod Family
+pub mod Lane
+pub mod Laws
+pub mod Message

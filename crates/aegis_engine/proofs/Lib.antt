@@ -1,0 +1,2 @@
+pub mod PassFacts
+pub mod TagFacts

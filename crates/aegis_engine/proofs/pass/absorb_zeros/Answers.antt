@@ -1,0 +1,11 @@
+use Rattle.std.proofs.Common.{◌∙◌, ◌+◌, ap, sym}
+use Rattle.aegis_base.specs.Lane.{step}
+use Rattle.aegis_base.proofs.MessageFacts.{share_at-same}
+use Rattle.aegis_engine.proofs.PassFacts.{zeros-read}
+use Rattle.aegis_engine.proofs.pass.absorb_zeros.Goals as goal
+
+pub returns-clause-lanes : goal.returns-clause-lanes
+returns-clause-lanes g c j i n inside =
+    c.absorb.ensures.lanes j inside
+    ∙ ap (step g.S.LaneState.FAMILY (g.S.LaneState.lane c.args.state j))
+    (share_at-same g.S.LaneState.FAMILY g.S.LaneState.LANES j _ _ 0 i inside (λ k h. zeros-read 128 (0 + k) ∙ sym (zeros-read n (i + k))))
