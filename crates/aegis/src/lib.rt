@@ -10,3 +10,4 @@ pub mod aegis256x4;
 pub mod aes;
 
 pub use aegis_base::{Error, MAX_AEAD_BYTES, laws};
+pub use aegis_engine::{Cipher, ERASED};

@@ -92,6 +92,7 @@ impl<R: Row> State128<R> {
     }
 
     // The rows after the start.
+    #[tactic(auto, unfolding(aegis_base::specs::Lane::start))]
     fn start(key: AesBlock, nonce: AesBlock) -> Self
         ensures lanes { (j : ℕ) → j < R.LANES → lane R.block result j ≡ start Aegis128 R.LANES key nonce j }
         ensures updates { result.updates ≡ 0 }
@@ -190,6 +191,7 @@ impl<R: Row> LaneState for State128<R> {
         m1.store(buffer, second);
     }
 
+    #[tactic(auto, unfolding(aegis_base::specs::Lane::finish))]
     fn finish(self, first_bits: u64, second_bits: u64) -> Self {
         let last = self.last_blocks(first_bits, second_bits);
         let mut state = self;

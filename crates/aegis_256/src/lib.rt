@@ -113,6 +113,7 @@ impl<R: Row> State256<R> {
     }
 
     // The rows after the start.
+    #[tactic(auto, unfolding(aegis_base::specs::Lane::start))]
     fn start(key: &[u8; 32], nonce: &[u8; 32]) -> Self
         ensures lanes { (j : ℕ) → j < R.LANES → lane R.block result j ≡ start Aegis256 R.LANES key.now nonce.now j }
         ensures updates { result.updates ≡ 0 }
@@ -201,6 +202,7 @@ impl<R: Row> LaneState for State256<R> {
         R::load(buffer, at).xor(self.keystream()).store(buffer, at);
     }
 
+    #[tactic(auto, unfolding(aegis_base::specs::Lane::finish))]
     fn finish(self, first_bits: u64, second_bits: u64) -> Self {
         let last = self.last_blocks(first_bits, second_bits);
         let mut state = self;

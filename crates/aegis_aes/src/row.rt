@@ -103,6 +103,8 @@ impl Row for AesBlock {
         AesBlock::and(&self, other)
     }
 
+    // Inlined into an update, the look-ups of several rounds are gathered into vectors, which is slower.
+    #[inline(never)]
     fn round(self, key: AesBlock) -> AesBlock {
         AesBlock::round(&self, key)
     }

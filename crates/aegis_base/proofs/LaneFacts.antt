@@ -1,7 +1,8 @@
-use Rattle.std.proofs.Common.{◌≡◌, ℕ, zero, suc, ◌+◌, ◌*◌, ◌<◌, List, [], ◌∷◌, ◌++◌, length, slice_index, refl, sym, ◌∙◌, arith, add-one, add-zero}
+-- The xor of what lanes have, and bytes that two lists have in common.
+use Rattle.std.proofs.Common.{◌≡◌, ℕ, zero, suc, ◌+◌, ◌*◌, ◌<◌, List, [], ◌∷◌, ◌++◌, length, slice_index, refl, sym, ◌∙◌, arith, add-zero}
 use Rattle.aegis_aes.specs.Block.{bytes_at, xor}
 use Rattle.aegis_aes.specs.Lanes.{xor_lanes}
-use Rattle.aegis_base.specs.Lane.{times}
+use Rattle.aegis_aes.proofs.Places.{bytes_at-is, get_or-bytes_at, length-bytes_at}
 
 -- lanes that have the same have the same xor
 pub xor_lanes-same : (f g : ℕ → List ℕ) (d : ℕ) → ((j : ℕ) → j < d → f j ≡ g j) → xor_lanes f d ≡ xor_lanes g d
@@ -15,25 +16,8 @@ xor_lanes-same f g (suc (suc d)) same =
 
 -- two lists that agree along n bytes have these bytes in common
 pub bytes_at-same : (xs ys : List ℕ) (i k n : ℕ) → ((p : ℕ) → p < n → slice_index xs (i + p) ≡ slice_index ys (k + p)) → bytes_at xs i n ≡ bytes_at ys k n
-unfolding bytes_at
-bytes_at-same xs ys i k zero same = refl
-bytes_at-same xs ys i k (suc n) same =
-    let here : slice_index xs i ≡ slice_index ys k = (let e = same 0 (omega arith) in simp add-zero at e) in
-    let rest : bytes_at xs (i + 1) n ≡ bytes_at ys (k + 1) n =
-        bytes_at-same xs ys (i + 1) (k + 1) n (λ p h. let e = same (p + 1) (omega arith) in
-        let a : (i + 1) + p ≡ i + (p + 1) = omega arith in
-        let b : (k + 1) + p ≡ k + (p + 1) = omega arith in
-        rw (a, b) e) in
-    rw (here, rest) refl
-
--- a function applied once more
-pub times-more : (n : ℕ) (f : List (List ℕ) → List (List ℕ)) (s : List (List ℕ)) → times (n + 1) f s ≡ f (times n f s)
-unfolding times
-times-more n f s = rw add-one refl
-
-pub times-none : (f : List (List ℕ) → List (List ℕ)) (s : List (List ℕ)) → times 0 f s ≡ s
-unfolding times
-times-none f s = refl
+bytes_at-same xs ys i k n same =
+    bytes_at-is xs i n (bytes_at ys k n) (length-bytes_at ys k n) (λ p h. same p h ∙ sym (get_or-bytes_at ys k n p 0 h))
 
 -- two lists of equal lengths, and what is joined to them, place by place
 zip2-append : (xs ys vs ws : List ℕ) → length xs ≡ length ys → xor (xs ++ vs) (ys ++ ws) ≡ xor xs ys ++ xor vs ws

@@ -8,6 +8,7 @@ use Rattle.aegis_aes.specs.Lanes.{IsLaneCount}
 use Rattle.aegis_base.specs.Family.{Family, Aegis128, Aegis256, rate, width}
 use Rattle.aegis_base.specs.Lane.{keystream, row, step}
 use Rattle.aegis_base.specs.Message.{after, block_count, keystream_byte, lane_of, share, share_at, stream_byte}
+use Rattle.aegis_aes.proofs.Places.{get_or-bytes_at, length-bytes_at}
 use Rattle.aegis_base.proofs.LaneFacts.{bytes_at-same}
 
 -- ---- messages that agree
@@ -101,26 +102,13 @@ xor-reads (x ∷ xs) [] p h = absurd (omega arith)
 xor-reads (x ∷ xs) (y ∷ ys) zero h = refl
 xor-reads (x ∷ xs) (y ∷ ys) (suc p) h = xor-reads xs ys p (omega arith)
 
-length-bytes_at : (xs : List ℕ) (i n : ℕ) → length (bytes_at xs i n) ≡ n
-unfolding bytes_at
-length-bytes_at xs i zero = refl
-length-bytes_at xs i (suc n) = let rest = length-bytes_at xs (i + 1) n in omega arith
-
-bytes_at-reads : (xs : List ℕ) (i n p : ℕ) → p < n → slice_index (bytes_at xs i n) p ≡ slice_index xs (i + p)
-unfolding bytes_at
-bytes_at-reads xs i zero p h = absurd (omega arith)
-bytes_at-reads xs i (suc n) zero h = rw add-zero refl
-bytes_at-reads xs i (suc n) (suc p) h =
-    let place : i + suc p ≡ (i + 1) + p = omega arith in
-    rw place (bytes_at-reads xs (i + 1) n p (omega arith))
-
 -- a block that is the xor of a block and a block of keystream, byte by byte
 xored-reads : (new old z : List ℕ) (a p : ℕ) → p < 16 → block_at new a ≡ xor (block_at old a) z
     → slice_index new (a + p) ≡ bit_xor (slice_index old (a + p)) (slice_index z p)
 xored-reads new old z a p low e =
     let long : p < length (xor (block_at old a) z) = rw (← e, length-bytes_at new a 16) low in
-    sym (bytes_at-reads new a 16 p low) ∙ ap (λ (xs : List ℕ). slice_index xs p) e ∙ xor-reads (block_at old a) z p long
-    ∙ ap (λ (b : ℕ). bit_xor b (slice_index z p)) (bytes_at-reads old a 16 p low)
+    sym (get_or-bytes_at new a 16 p 0 low) ∙ ap (λ (xs : List ℕ). slice_index xs p) e ∙ xor-reads (block_at old a) z p long
+    ∙ ap (λ (b : ℕ). bit_xor b (slice_index z p)) (get_or-bytes_at old a 16 p 0 low)
 
 -- where byte k of a rate block stands among its blocks
 record IsPlace (family : Family) (d k : ℕ) : Type 0 where

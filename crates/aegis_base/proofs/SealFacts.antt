@@ -20,12 +20,14 @@ pub record IsBefore (family : Family) (d : ℕ) (lanes : ℕ → List (List ℕ)
   pub count : IsLaneCount d
   pub before : (j : ℕ) → j < d → lanes j ≡ lane_before family d key nonce ad j
 
-pub before-is : (family : Family) (d : ℕ) (first lanes : ℕ → List (List ℕ)) (key nonce ad : List ℕ) → IsLaneCount d
-    → Stands family d first key nonce → ((j : ℕ) → j < d → lanes j ≡ after_all family d (first j) j ad)
-    → IsBefore family d lanes key nonce ad
-before-is family d first lanes key nonce ad count stands absorbed = record {
+-- `lane` reads the lanes of a state; the cipher's value is `value`, and its state inside is that
+pub before-is : {S : Type 0} {inside value absorbed : S} (family : Family) (d : ℕ) (lane : S → ℕ → List (List ℕ)) → inside ≡ value
+    → (key nonce ad : List ℕ) → IsLaneCount d → Stands family d (lane value) key nonce
+    → ((j : ℕ) → j < d → lane absorbed j ≡ after_all family d (lane inside j) j ad)
+    → IsBefore family d (lane absorbed) key nonce ad
+before-is family d lane is key nonce ad count stands absorbed = record {
   count = count;
-  before = λ j h. absorbed j h ∙ ap (λ (s : List (List ℕ)). after_all family d s j ad) (stands j h)
+  before = λ j h. absorbed j h ∙ ap (λ (s : List (List ℕ)). after_all family d s j ad) (rw is (stands j h))
 }
 
 -- bytes that are the message's, xored with the keystream along it

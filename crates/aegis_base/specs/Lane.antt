@@ -46,7 +46,7 @@ add_context Aegis128 c s =
 add_context Aegis256 c s = row s 0 ∷ row s 1 ∷ row s 2 ∷ xor (row s 3) c ∷ row s 4 ∷ xor (row s 5) c ∷ []
 
 -- f applied n times
-unfoldable pub times : ℕ → (List (List ℕ) → List (List ℕ)) → List (List ℕ) → List (List ℕ)
+abbrev pub times : ℕ → (List (List ℕ) → List (List ℕ)) → List (List ℕ) → List (List ℕ)
 times zero f s = s
 times (suc n) f s = f (times n f s)
 

@@ -1,4 +1,4 @@
-//! What a call can refuse, and the length limit.
+//! What a call can refuse, and the limit on lengths.
 
 use thiserror::Error;
 
@@ -8,7 +8,7 @@ pub const MAX_AEAD_BYTES: u64 = (1 << 61) - 1;
 /// Why a call was refused.
 #[derive(Clone, Copy, Debug, PartialEq, Eq, Error)]
 pub enum Error {
-    /// The tag is not that of the message.
+    /// No message is sealed to this ciphertext and tag.
     #[error("Invalid tag")]
     InvalidTag,
     /// The destination has no room for the chunk.

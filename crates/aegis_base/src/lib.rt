@@ -1,11 +1,14 @@
-//! What the AEGIS crates share: errors, the length limit, and the traits that a variant is made of.
+//! What the crates of AEGIS share: its definitions (in `specs/`), errors and limits, the traits that a variant is
+//! made of, and the laws that follow from the definitions.
 #![tactic(auto)]
 
+mod constants;
 mod error;
 pub mod laws;
 mod state;
 mod variant;
 
+pub use constants::{C0, C1, bit_lengths};
 pub use error::{Error, MAX_AEAD_BYTES};
-pub use state::{C0, C1, LaneState, bit_lengths};
+pub use state::LaneState;
 pub use variant::Variant;

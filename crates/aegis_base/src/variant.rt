@@ -1,8 +1,8 @@
-//! The names of the variants.
+//! The names of a variant.
 
 ghost use Rattle.std.specs.Prelude.{◌≡◌, ℕ, List};
 
-/// A marker of one variant of AEGIS, for the names that its types print.
+/// A marker of one variant of AEGIS: the names that its types print. A cipher is `Copy` where its marker is.
 pub trait Variant {
     ghost cipher_name: { List ℕ };
 

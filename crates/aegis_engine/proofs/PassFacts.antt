@@ -75,7 +75,7 @@ pub lanes-go-on : (family : Family) (d : ℕ) (lanes here : ℕ → List (List �
     → step family (here j) (share_at family d j (taken pass now new) (n * r)) ≡ after family d (lanes j) j (taken pass old new) (n + 1)
 lanes-go-on family d lanes here pass old now new n r m on j inside =
     let same = share_at-same family d j (taken pass now new) (taken pass old new) (n * r) (n * r) inside
-        (λ k h. taken-same pass now old new new (n * r + k) (on.rest (n * r + k) (omega arith)) refl) in
+    (λ k h. taken-same pass now old new new (n * r + k) (on.rest (n * r + k) (omega arith)) refl) in
     rw (after-more, ← lanes-kept family d lanes here pass old now new n r m on j inside, same)
     (ap (λ (q : ℕ). step family (here j) (share_at family d j (taken pass old new) (n * q))) on.rate_is)
 
@@ -87,8 +87,8 @@ byte-goes-on family d lanes here pass old now new n r m on k low =
     let rows = λ (j : ℕ). after family d (lanes j) j (taken pass old new) n in
     let block : (n * rate family d + k) / rate family d ≡ n = div-mul-add n (rate family d) k within in
     let stream : stream_byte family d lanes (taken pass old new) (n * r + k) ≡ keystream_byte family d here k =
-        rw (on.rate_is, block) (keystream_byte-periodic family d rows n k on.count
-        ∙ sym (keystream_byte-same family d here rows k on.count (lanes-kept family d lanes here pass old now new n r m on))) in
+    rw (on.rate_is, block) (keystream_byte-periodic family d rows n k on.count
+    ∙ sym (keystream_byte-same family d here rows k on.count (lanes-kept family d lanes here pass old now new n r m on))) in
     rw (stream, ← on.rest (n * r + k) (omega arith)) (on.written k low)
 
 pub bytes-go-on : (family : Family) (d : ℕ) (lanes here : ℕ → List (List ℕ)) (pass : Pass) (old now new : List ℕ) (n r m : ℕ)
@@ -98,7 +98,7 @@ bytes-go-on family d lanes here pass old now new n r m on i low =
     ⊎_elim
     (λ front. on.kept i front ∙ on.xored i front
     ∙ ap (bit_xor (slice_index old i)) (stream_byte-same family d lanes (taken pass old now) (taken pass old new) i on.count
-        (λ k h. let floor = div-mul-le_self i (rate family d) in taken-kept family d lanes here pass old now new n r m on k (omega arith))))
+    (λ k h. let floor = div-mul-le_self i (rate family d) in taken-kept family d lanes here pass old now new n r m on k (omega arith))))
     (λ back. let place : n * r + (i - n * r) ≡ i = omega arith in
     rw place at (byte-goes-on family d lanes here pass old now new n r m on (i - n * r) (omega arith)))
     (cases_lt i (n * r))

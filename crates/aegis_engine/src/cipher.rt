@@ -1,19 +1,32 @@
 //! Ciphers: a key and a nonce, for one message or one keystream.
+//!
+//! [`Cipher`] is written once, over a state and a marker of names; the six variants are aliases of it. Its calls run
+//! the block engine of `pass` and compare tags by `tag`; nothing here knows a family or a lane count.
 
-ghost use Rattle.std.specs.Prelude.{◌≡◌, ⊤, ℕ, ◌+◌, ◌*◌, ◌<◌, ◌≤◌, ◌^◌, ◌⊎◌, ◌++◌, ◌↔◌, IfErr, IfOk, IsTrue, OnErr, OnOk, Some, codes, length, List, replicate};
-ghost use Rattle.aegis_aes.specs.Lanes.{xor_lanes};
-ghost use Rattle.aegis_base.specs.Lane.{finish, lane_tag};
+ghost use Rattle.std.specs.Prelude.{◌≡◌, ⊤, ℕ, ◌≤◌, ◌⊎◌, ◌++◌, IfErr, IfOk, List, OnErr, OnOk, Some, codes, length, replicate};
 ghost use Rattle.aegis_aes.specs.Block.{xor};
 ghost use Rattle.aegis_base.specs.Message.{Opens, Stands, ciphertext, seal, stream, tag};
 
+use crate::bytes::overwrite;
 use crate::pass::{Pass, absorb_all, pass_all};
-use aegis_aes::AesBlock;
+use crate::tag::{finish_tag, same_bytes};
 use aegis_base::{Error, LaneState, MAX_AEAD_BYTES, Variant};
 use std::alloc::{AllocError, Allocator};
 use std::fmt;
 use std::marker::{Model, PhantomData};
 
-/// A cipher that has taken in its key and nonce.
+/// What a refused opening in place leaves in each byte of the buffer.
+pub const ERASED: u8 = 0xaa;
+
+/// A cipher that has taken in its key and nonce, with tags of `TAG_BYTES` bytes, 16 or 32.
+///
+/// Each call takes the cipher and makes one message or one keystream; a nonce is for one of them under a key. Contracts
+/// see a cipher as its lanes and speak of each key and nonce that these stand for. The ciphers of more than one lane
+/// are `Copy`.
+///
+/// Lengths are in bytes. Associated data and a message each have at most [`MAX_AEAD_BYTES`], which is the caller's to
+/// see to; keystreams have no limit. No call takes memory but `encrypt`, `decrypt` and `stream_xor`, which make one
+/// reservation of the message's length before they process a byte.
 #[derive(Copy, Drop)]
 pub struct Cipher<S: LaneState, V: Variant, const TAG_BYTES: usize> {
     state: S,
@@ -52,7 +65,7 @@ impl<S: LaneState, V: Variant, const TAG_BYTES: usize> fmt::Debug for Cipher<S, 
 }
 
 impl<S: LaneState, V: Variant, const TAG_BYTES: usize> Cipher<S, V, TAG_BYTES> {
-    /// The cipher of a key and a nonce.
+    /// The cipher of a key and a nonce. `TAG_BYTES` has to be 16 or 32.
     pub fn new(key: &S::Key, nonce: &S::Key) -> Self
         requires { (TAG_BYTES ≡ 16) ⊎ (TAG_BYTES ≡ 32) }
         ensures stands { Stands S.FAMILY S.LANES (S.lane result) (S.key_bytes key.now) (S.key_bytes nonce.now) }
@@ -64,7 +77,8 @@ impl<S: LaneState, V: Variant, const TAG_BYTES: usize> Cipher<S, V, TAG_BYTES> {
         }
     }
 
-    /// Seals.
+    /// Seals a message in place (AEGIS, Encrypt): `mc` is the message before the call and the ciphertext after it, and
+    /// the answer is the tag, which covers the associated data `ad` too.
     pub fn encrypt_in_place(self, mc: &mut [u8], ad: &[u8]) -> [u8; TAG_BYTES]
         requires message_within { length mc.old ≤ MAX_AEAD_BYTES }
         requires associated_data_within { length ad.now ≤ MAX_AEAD_BYTES }
@@ -78,8 +92,17 @@ impl<S: LaneState, V: Variant, const TAG_BYTES: usize> Cipher<S, V, TAG_BYTES> {
         finish_tag(state, ad.len() as u64, mc.len() as u64)
     }
 
-    /// Opens.
-    pub fn decrypt_in_place(self, mc: &mut [u8], tag: &[u8; TAG_BYTES], ad: &[u8]) -> Result<(), Error>
+    /// Opens a ciphertext in place (AEGIS, Decrypt): `mc` is the ciphertext before the call and the message after it.
+    ///
+    /// The answer is `Ok` exactly where some message is sealed to this ciphertext and tag, and `mc` is then that
+    /// message. Otherwise it is [`Error::InvalidTag`], and every byte of `mc` is [`ERASED`]. The comparison of the tags
+    /// looks at every byte.
+    pub fn decrypt_in_place(
+        self,
+        mc: &mut [u8],
+        tag: &[u8; TAG_BYTES],
+        ad: &[u8],
+    ) -> Result<(), Error>
         requires message_within { length mc.old ≤ MAX_AEAD_BYTES }
         requires associated_data_within { length ad.now ≤ MAX_AEAD_BYTES }
         ensures opened { (key nonce : List ℕ) → Stands S.FAMILY S.LANES (S.lane self) key nonce
@@ -98,8 +121,15 @@ impl<S: LaneState, V: Variant, const TAG_BYTES: usize> Cipher<S, V, TAG_BYTES> {
         }
     }
 
-    /// Seals in a vector.
-    pub fn encrypt<A: Allocator>(self, alloc: A, m: &[u8], ad: &[u8]) -> Result<(Vec<u8, A>, [u8; TAG_BYTES]), Error>
+    /// Seals a message into a fresh vector: its ciphertext, and its tag, which covers the associated data `ad` too.
+    ///
+    /// [`Error::OutOfMemory`] alone, where the reservation was refused, and then no byte was processed.
+    pub fn encrypt<A: Allocator>(
+        self,
+        alloc: A,
+        m: &[u8],
+        ad: &[u8],
+    ) -> Result<(Vec<u8, A>, [u8; TAG_BYTES]), Error>
         requires message_within { length m.now ≤ MAX_AEAD_BYTES }
         requires associated_data_within { length ad.now ≤ MAX_AEAD_BYTES }
         ensures sealed { (key nonce : List ℕ) → Stands S.FAMILY S.LANES (S.lane self) key nonce
@@ -111,8 +141,18 @@ impl<S: LaneState, V: Variant, const TAG_BYTES: usize> Cipher<S, V, TAG_BYTES> {
         Ok((c, tag))
     }
 
-    /// Opens in a vector.
-    pub fn decrypt<A: Allocator>(self, alloc: A, c: &[u8], tag: &[u8; TAG_BYTES], ad: &[u8]) -> Result<Vec<u8, A>, Error>
+    /// Opens a ciphertext into a fresh vector.
+    ///
+    /// [`Error::OutOfMemory`] where the reservation was refused, whatever the tag, before any byte is processed.
+    /// Otherwise `Ok` exactly where some message is sealed to this ciphertext and tag, and the answer is that message,
+    /// else [`Error::InvalidTag`]. Nothing is handed out with a refusal.
+    pub fn decrypt<A: Allocator>(
+        self,
+        alloc: A,
+        c: &[u8],
+        tag: &[u8; TAG_BYTES],
+        ad: &[u8],
+    ) -> Result<Vec<u8, A>, Error>
         requires message_within { length c.now ≤ MAX_AEAD_BYTES }
         requires associated_data_within { length ad.now ≤ MAX_AEAD_BYTES }
         ensures opened { (key nonce : List ℕ) → Stands S.FAMILY S.LANES (S.lane self) key nonce
@@ -126,7 +166,9 @@ impl<S: LaneState, V: Variant, const TAG_BYTES: usize> Cipher<S, V, TAG_BYTES> {
         Ok(m)
     }
 
-    /// Xors the keystream in a vector.
+    /// A message xored with the keystream, in a fresh vector.
+    ///
+    /// [`Error::OutOfMemory`] alone, where the reservation was refused.
     pub fn stream_xor<A: Allocator>(self, alloc: A, m: &[u8]) -> Result<Vec<u8, A>, Error>
         ensures xored { (key nonce : List ℕ) → Stands S.FAMILY S.LANES (S.lane self) key nonce
             → IfOk result (λ c. c.items ≡ xor m.now (stream S.FAMILY S.LANES key nonce (length m.now))) }
@@ -151,7 +193,8 @@ impl<S: LaneState, V: Variant, const TAG_BYTES: usize> Cipher<S, V, TAG_BYTES> {
         finish_tag(state, ad.len() as u64, mc.len() as u64)
     }
 
-    /// The keystream.
+    /// Fills `out` with the keystream from its beginning, whatever `out` held: the ciphertext of as many zeros, sealed
+    /// without associated data. `TAG_BYTES` has no effect on it.
     pub fn stream(self, out: &mut [u8])
         ensures { (key nonce : List ℕ) → Stands S.FAMILY S.LANES (S.lane self) key nonce
             → out.new ≡ stream S.FAMILY S.LANES key nonce (length out.old) }
@@ -160,65 +203,11 @@ impl<S: LaneState, V: Variant, const TAG_BYTES: usize> Cipher<S, V, TAG_BYTES> {
         pass_all(self.state, Pass::Seal, out);
     }
 
-    /// Xors the keystream.
+    /// Xors a message in place with the keystream from its beginning. Done twice, it gives the message back.
     pub fn stream_xor_in_place(self, mc: &mut [u8])
         ensures { (key nonce : List ℕ) → Stands S.FAMILY S.LANES (S.lane self) key nonce
             → mc.new ≡ xor mc.old (stream S.FAMILY S.LANES key nonce (length mc.old)) }
     {
         pass_all(self.state, Pass::Stream, mc);
     }
-}
-
-/// What a refused opening leaves in each byte of the buffer.
-pub const ERASED: u8 = 0xaa;
-
-// Writes one value into each byte.
-fn overwrite(buffer: &mut [u8], value: u8)
-    ensures { buffer.new ≡ replicate (length buffer.old) value }
-{
-    for byte in buffer.iter_mut() {
-        *byte = value;
-    }
-}
-
-// Whether two slices have the same bytes. It looks at every byte.
-fn same_bytes(a: &[u8], b: &[u8]) -> bool
-    requires { length a.now ≡ length b.now }
-    ensures { IsTrue result ↔ (a.now ≡ b.now) }
-{
-    let mut difference = 0;
-    for i in 0..a.len() {
-        difference |= a[i] ^ b[i];
-    }
-    difference == 0
-}
-
-// The halves of a long tag, one after the other.
-fn joined(low: AesBlock, high: AesBlock) -> [u8; 32]
-    ensures { result ≡ low ++ high }
-{
-    let mut tag = [0; 32];
-    tag[..16].copy_from_slice(&low.to_bytes());
-    tag[16..].copy_from_slice(&high.to_bytes());
-    tag
-}
-
-// The tag after associated data and a message of these numbers of bytes.
-fn finish_tag<S: LaneState, const TAG_BYTES: usize>(state: S, ad_len: u64, message_len: u64) -> [u8; TAG_BYTES]
-    requires tag_bytes { (TAG_BYTES ≡ 16) ⊎ (TAG_BYTES ≡ 32) }
-    requires countable { S.updates state + 7 < 2 ^ 64 }
-    requires associated_data_within { ad_len ≤ MAX_AEAD_BYTES }
-    requires message_within { message_len ≤ MAX_AEAD_BYTES }
-    ensures { result ≡ xor_lanes (λ j. lane_tag S.FAMILY TAG_BYTES (finish S.FAMILY (S.lane state j) (8 * ad_len) (8 * message_len))) S.LANES }
-{
-    let end = state.finish(8 * ad_len, 8 * message_len);
-    let mut tag = [0; TAG_BYTES];
-    let out = &mut tag[..];
-    if TAG_BYTES == 16 {
-        out.copy_from_slice(&end.short_tag().to_bytes());
-    } else {
-        let (low, high) = end.long_tag();
-        out.copy_from_slice(&joined(low, high));
-    }
-    tag
 }

@@ -6,15 +6,15 @@ use Rattle.aegis_engine.proofs.pass.absorb_all.Goals as goal
 pub loop-n-init : goal.loop-n-init
 loop-n-init g c = record {
   updates = omega arith;
-  lanes = λ j inside. rw after-none refl
+  lanes = λ j inside. rw after-none refl;
 }
 
 pub loop-n-preserved : goal.loop-n-preserved
 loop-n-preserved g c = record {
   updates = omega arith;
   lanes = λ j inside.
-    rw (after-more, ← c.loop-n.invariant.lanes j inside, ← g.met.S.LaneState.rate_is, ← c.RATE-rate.ensures)
-    (c.absorb-state.ensures.lanes j inside)
+      rw (after-more, ← c.loop-n.invariant.lanes j inside, ← g.met.S.LaneState.rate_is, ← c.RATE-rate.ensures)
+      (c.absorb-state.ensures.lanes j inside);
 }
 
 pub returns-then-whole-rate-clause-lanes : goal.returns-then-whole-rate-clause-lanes

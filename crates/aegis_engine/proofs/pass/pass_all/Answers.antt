@@ -10,29 +10,29 @@ loop-n-init g c = record {
   updates = omega arith;
   lanes = λ j inside. rw after-none refl;
   written = λ i low. absurd (omega arith);
-  rest = λ i high. refl
+  rest = λ i high. refl;
 }
 
 pub loop-n-preserved : goal.loop-n-preserved
 loop-n-preserved g c =
     let on : GoesOn g.S.LaneState.FAMILY g.S.LaneState.LANES (g.S.LaneState.lane c.args.state) (g.S.LaneState.lane c.loop-n.state)
-        c.args.pass c.args.buffer.now c.loop-n.buffer c.pass_block-state.new.buffer c.loop-n.n c.RATE-rate.result c.RATE-rate.result =
-        record {
-          count = g.met.S.LaneState.one_two_or_four;
-          rate_is = c.RATE-rate.ensures ∙ g.met.S.LaneState.rate_is;
-          at_most = omega arith;
-          before = c.loop-n.invariant.lanes;
-          xored = c.loop-n.invariant.written;
-          rest = c.loop-n.invariant.rest;
-          kept = c.pass_block-state.ensures.below;
-          written = λ k low. c.pass_block-state.ensures.written k (rw (← c.RATE-rate.ensures) low)
-        } in
+    c.args.pass c.args.buffer.now c.loop-n.buffer c.pass_block-state.new.buffer c.loop-n.n c.RATE-rate.result c.RATE-rate.result =
+    record {
+      count = g.met.S.LaneState.one_two_or_four;
+      rate_is = c.RATE-rate.ensures ∙ g.met.S.LaneState.rate_is;
+      at_most = omega arith;
+      before = c.loop-n.invariant.lanes;
+      xored = c.loop-n.invariant.written;
+      rest = c.loop-n.invariant.rest;
+      kept = c.pass_block-state.ensures.below;
+      written = λ k low. c.pass_block-state.ensures.written k (rw (← c.RATE-rate.ensures) low);
+    } in
     record {
       updates = omega arith;
       lanes = λ j inside.
-        c.pass_block-state.ensures.lanes j inside ∙ lanes-go-on _ _ _ _ _ _ _ _ _ _ _ on j inside;
+          c.pass_block-state.ensures.lanes j inside ∙ lanes-go-on _ _ _ _ _ _ _ _ _ _ _ on j inside;
       written = λ i low. bytes-go-on _ _ _ _ _ _ _ _ _ _ _ on i (omega arith);
-      rest = λ i high. c.pass_block-state.ensures.above i (rw (← c.RATE-rate.ensures) (omega arith)) ∙ c.loop-n.invariant.rest i (omega arith)
+      rest = λ i high. c.pass_block-state.ensures.above i (rw (← c.RATE-rate.ensures) (omega arith)) ∙ c.loop-n.invariant.rest i (omega arith);
     }
 
 -- the tail goes on from where the whole rate blocks end
@@ -45,7 +45,7 @@ tail g c =
     let rate_is = c.RATE-rate.ensures ∙ g.met.S.LaneState.rate_is in
     let positive : 0 < c.RATE-rate.result = rw rate_is (rate-positive g.S.LaneState.FAMILY g.S.LaneState.LANES g.met.S.LaneState.one_two_or_four) in
     let below : length c.args.buffer.now < length c.args.buffer.now / c.RATE-rate.result * c.RATE-rate.result + c.RATE-rate.result =
-        lt-div-mul-add positive in
+    lt-div-mul-add positive in
     record {
       count = g.met.S.LaneState.one_two_or_four;
       rate_is = rate_is;
@@ -54,7 +54,7 @@ tail g c =
       xored = λ i low. c.loop-n.invariant.written i (rw (← done) low);
       rest = λ i high. c.loop-n.invariant.rest i (rw (← done) high);
       kept = c.pass_tail.ensures.below;
-      written = λ k low. c.pass_tail.ensures.written k (omega arith)
+      written = λ k low. c.pass_tail.ensures.written k (omega arith);
     }
 
 pub returns-then-whole-rate-clause-written : goal.returns-then-whole-rate-clause-written

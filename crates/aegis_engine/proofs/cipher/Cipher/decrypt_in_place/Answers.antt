@@ -13,9 +13,9 @@ returns-then-same_bytes-clause-opened g c key nonce stands =
 pub returns-else-same_bytes-clause-refused : goal.returns-else-same_bytes-clause-refused
 returns-else-same_bytes-clause-refused g c key nonce stands m opens =
     let one = opened-one g.S.LaneState.FAMILY g.S.LaneState.LANES key nonce c.args.ad.now c.args.mc.now m c.open_unchecked-expected.new.mc
-        g.met.S.LaneState.one_two_or_four (ap (λ (p : List ℕ × List ℕ). p.0) opens) (c.open_unchecked-expected.ensures.message key nonce stands) in
+    g.met.S.LaneState.one_two_or_four (ap (λ (p : List ℕ × List ℕ). p.0) opens) (c.open_unchecked-expected.ensures.message key nonce stands) in
     let same : c.open_unchecked-expected.result ≡ c.args.tag.now =
-        c.open_unchecked-expected.ensures.tag key nonce stands ∙ rw (← one) (ap (λ (p : List ℕ × List ℕ). p.1) opens) in
+    c.open_unchecked-expected.ensures.tag key nonce stands ∙ rw (← one) (ap (λ (p : List ℕ × List ℕ). p.1) opens) in
     let yes = c.same_bytes.ensures.1 same in
     let no = c.if-same_bytes.false in
     cc

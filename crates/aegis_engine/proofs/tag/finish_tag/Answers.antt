@@ -1,0 +1,18 @@
+use Rattle.std.proofs.Common.{◌≡◌, ◌∙◌, ap, arith}
+use Rattle.aegis_base.specs.Lane.{lane_tag}
+use Rattle.aegis_base.proofs.LaneFacts.{xor_lanes-same}
+use Rattle.aegis_engine.proofs.tag.finish_tag.Goals as goal
+
+pub returns-then-this-eq16 : goal.returns-then-this-eq16
+returns-then-this-eq16 g c =
+    let sixteen : g.row.TAG_BYTES ≡ 16 = c.if-this-eq16.true in
+    rw sixteen
+    (c.copy_from_slice.ensures.after ∙ c.to_bytes.ensures ∙ c.short_tag.ensures
+    ∙ xor_lanes-same _ _ _ (λ j h. ap (lane_tag g.S.LaneState.FAMILY 16) (c.finish-end.ensures.lanes j h)))
+
+pub returns-else-this-eq16 : goal.returns-else-this-eq16
+returns-else-this-eq16 g c =
+    let long : g.row.TAG_BYTES ≡ 32 = omega (arith, c.requires.tag_bytes) in
+    rw long
+    (c.copy_from_slice-else-this-eq16.ensures.after ∙ c.joined.ensures ∙ c.long_tag-low.ensures
+    ∙ xor_lanes-same _ _ _ (λ j h. ap (lane_tag g.S.LaneState.FAMILY 32) (c.finish-end.ensures.lanes j h)))

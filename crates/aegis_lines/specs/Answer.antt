@@ -1,0 +1,32 @@
+-- The answer of a line.
+use Rattle.std.specs.Prelude.{◌≡◌, ℕ, ◌⊎◌, List, ◌++◌, bit_xor, codes, length, MatchResult}
+use Rattle.std.specs.Simd.Lanes.{zip2}
+use Rattle.aegis_aes.specs.Round.{round}
+use Rattle.aegis_base.specs.Message.{Opens, seal, stream}
+use Rattle.aegis_lines.specs.Fault.{text_of_fault}
+use Rattle.aegis_lines.specs.Field.{shown}
+use Rattle.aegis_lines.specs.Request.{Request, Round, Seal, Open, Stream, Xor, request_of}
+use Rattle.aegis_lines.specs.Variant.{family_of, lanes_of}
+
+-- a ciphertext and a tag, as they are printed
+abbrev pub shown_pair : List ℕ × List ℕ → List ℕ
+shown_pair sealed = shown sealed.0 ++ codes " " ++ shown sealed.1
+
+-- The answer to an opening, where `IsMessage` says which messages seal to the ciphertext and the tag: such a message,
+-- or that there is none.
+abbrev pub IsOpeningAnswer : (List ℕ → Type 0) → List ℕ → Type 0
+IsOpeningAnswer IsMessage text =
+    ((m : List ℕ) × IsMessage m × (text ≡ codes "ok " ++ shown m))
+    ⊎ (((m : List ℕ) → IsMessage m → ⊥) × (text ≡ codes "invalid tag"))
+
+-- this text is the answer to a request
+abbrev pub IsReply : Request → List ℕ → Type 0
+IsReply (Round b k) text = text ≡ shown (round b k)
+IsReply (Seal v n key nonce ad m) text = text ≡ shown_pair (seal (family_of v) (lanes_of v) n key nonce ad m)
+IsReply (Open v n key nonce ad c t) text = IsOpeningAnswer (Opens (family_of v) (lanes_of v) n key nonce ad c t) text
+IsReply (Stream v key nonce n) text = text ≡ shown (stream (family_of v) (lanes_of v) key nonce n)
+IsReply (Xor v key nonce m) text = text ≡ shown (zip2 bit_xor m (stream (family_of v) (lanes_of v) key nonce (length m)))
+
+-- this text is the answer of this line: the answer to what it asks for, or its first fault
+abbrev pub IsAnswer : List ℕ → List ℕ → Type 0
+IsAnswer line text = MatchResult (request_of line) (λ request. IsReply request text) (λ fault. text ≡ text_of_fault fault)

@@ -1,0 +1,72 @@
+-- The fields of a line, and what a field stands for.
+use denote.Ref.{Bor}
+use Rattle.std.specs.Prelude.{ℕ, ◌==◌, ◌&&◌, ◌^◌, nat_le, nat_lt, Bool, List, [], length, map, Result, Ok, Err, codes, if◌then◌else◌, slice_index_or}
+use Rattle.std.specs.Char.{is_ascii_digit}
+use Rattle.std.specs.List.{list_all, slice_split}
+use Rattle.std.specs.Result.{result_unwrap_or}
+use Rattle.std.specs.Str.{bytes_eq}
+use Rattle.std.specs.Str.Parse.{digits_value}
+use Rattle.hex.specs.Hex.{decode_of, encode_lower}
+use Rattle.hex.specs.declared.error.FromHexError.{FromHexError}
+use Rattle.aegis_lines.specs.declared.fault.Fault.{Fault}
+use Rattle.aegis_lines.specs.declared.fault.Fault.TheVariants as faults
+use Rattle.aegis_lines.specs.declared.variant.Variant.{Variant}
+use Rattle.aegis_lines.specs.declared.variant.Variant.TheVariants as variants
+use Rattle.aegis_lines.specs.Variant.{tag_length_named, variant_named}
+
+-- The fields of a line are the pieces between single spaces. Two spaces together, or one at an end, make an empty
+-- field.
+abbrev pub fields_of : List ℕ → List (List ℕ)
+fields_of line = slice_split (λ byte. byte == 32) line
+
+-- the bytes of some fields, without where they lie in memory
+abbrev pub texts : List (Bor (List ℕ)) → List (List ℕ)
+texts fields = map (λ field. field.now) fields
+
+-- field i of a line; the command is field 0
+abbrev pub field_of : List (List ℕ) → ℕ → List ℕ
+field_of fields i = slice_index_or fields i []
+
+-- any fault of the hexadecimal text is one to a reader of lines
+abbrev pub or_hex_fault : Result (List ℕ) FromHexError → Result (List ℕ) Fault
+or_hex_fault (Ok bytes) = Ok bytes
+or_hex_fault (Err e) = Err faults.Hex
+
+-- what a field of bytes stands for: `-` for none, and otherwise pairs of hexadecimal digits of either case, one at
+-- least
+unfoldable pub bytes_in : List ℕ → Result (List ℕ) Fault
+bytes_in field =
+    if length field == 0 then Err faults.Hex
+    else if bytes_eq field (codes "-") then Ok []
+    else or_hex_fault (decode_of field)
+
+-- how bytes are printed
+unfoldable pub shown : List ℕ → List ℕ
+shown bytes = if length bytes == 0 then codes "-" else encode_lower bytes
+
+-- the length that a field of one to five decimal digits says, of 65536 at most
+unfoldable pub stream_length_in : List ℕ → Result ℕ Fault
+stream_length_in field =
+    if nat_le 1 (length field) && nat_le (length field) 5 && list_all is_ascii_digit field && nat_le (digits_value 10 field) 65536
+    then Ok (digits_value 10 field) else Err faults.Length
+
+-- what a field without a fault says: its bytes, a variant, the length of a tag, or a count
+abbrev pub bytes_of : List ℕ → List ℕ
+bytes_of field = result_unwrap_or (bytes_in field) []
+
+abbrev pub variant_in : List ℕ → Variant
+variant_in field = result_unwrap_or (variant_named field) variants.Aegis128L
+
+abbrev pub tag_length_in : List ℕ → ℕ
+tag_length_in field = result_unwrap_or (tag_length_named field) 0
+
+abbrev pub count_in : List ℕ → ℕ
+count_in field = result_unwrap_or (stream_length_in field) 0
+
+-- whether associated data or a message is no longer than AEGIS allows: 2^61 - 1 bytes
+abbrev pub is_within_limit : List ℕ → Bool
+is_within_limit bytes = nat_lt (length bytes) (2 ^ 61)
+
+-- bytes that are no longer than AEGIS allows, or a length fault
+abbrev pub limited : List ℕ → Result (List ℕ) Fault
+limited bytes = if is_within_limit bytes then Ok bytes else Err faults.Length

@@ -1,0 +1,9 @@
+pub mod Answer
+pub mod Command
+pub mod Fault
+pub mod Field
+pub mod Lines
+pub mod Output
+pub mod Request
+pub mod Table
+pub mod Variant

@@ -1,0 +1,58 @@
+-- What the program writes, and the status that it ends with.
+use Rattle.std.specs.Prelude.{◌≡◌, ℕ, Bool, ◌||◌, ◌==◌, List, [], ◌∷◌, ◌++◌, Option, codes, flat_map, if◌then◌else◌}
+use Rattle.std.specs.List.{list_any, starts_with}
+use Rattle.std.specs.Io.KnownBytes.{Appends}
+use Rattle.aegis_lines.specs.Answer.{IsAnswer}
+
+-- each text answers its line, in order
+abbrev pub AreAnswers : List (List ℕ) → List (List ℕ) → Type 0
+AreAnswers [] [] = Unit {0}
+AreAnswers [] (text ∷ texts) = ⊥
+AreAnswers (line ∷ lines) [] = ⊥
+AreAnswers (line ∷ lines) (text ∷ texts) = IsAnswer line text × AreAnswers lines texts
+
+-- a text and the line feed behind it
+abbrev pub with_line_feed : List ℕ → List ℕ
+with_line_feed text = text ++ 10 ∷ []
+
+-- the texts, each with a line feed behind it
+abbrev pub output_of : List (List ℕ) → List ℕ
+output_of texts = flat_map with_line_feed texts
+
+-- whether the text begins with `error `
+abbrev pub is_error : List ℕ → Bool
+is_error text = starts_with ◌==◌ text (codes "error ")
+
+-- 1 where some text begins with `error `, else 0
+abbrev pub status_of : List (List ℕ) → ℕ
+status_of texts = if list_any is_error texts then 1 else 0
+
+-- The lines are answered, each answer stands in what was written, from old to new, with a line feed behind it,
+-- and the status is the answers'.
+pub record AnswersAll (lines : List (List ℕ)) (old new : Option (List ℕ)) (status : ℕ) : Type 0 where
+  pub texts : List (List ℕ)
+  pub answers : AreAnswers lines texts
+  pub written : Appends old new (output_of texts)
+  pub status_is : status ≡ status_of texts
+
+-- What was written, from old to new, is a beginning of what answers the first of the lines.
+pub record AnswersSome (lines : List (List ℕ)) (old new : Option (List ℕ)) : Type 0 where
+  pub first : List (List ℕ)
+  pub others : List (List ℕ)
+  pub texts : List (List ℕ)
+  pub begun : List ℕ
+  pub missing : List ℕ
+  pub split : lines ≡ first ++ others
+  pub answers : AreAnswers first texts
+  pub begins : output_of texts ≡ begun ++ missing
+  pub written : Appends old new begun
+
+-- Of the lines `before` all but the lines `after` were answered: what was written, from old to new, and whether an
+-- answer began with `error `, from saw to sees.
+pub record Answers (before after : List (List ℕ)) (saw sees : Bool) (old new : Option (List ℕ)) : Type 0 where
+  pub answered : List (List ℕ)
+  pub texts : List (List ℕ)
+  pub split : before ≡ answered ++ after
+  pub answers : AreAnswers answered texts
+  pub written : Appends old new (output_of texts)
+  pub errors : sees ≡ (saw || list_any is_error texts)

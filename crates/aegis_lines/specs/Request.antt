@@ -1,0 +1,50 @@
+-- What a line asks for.
+use Rattle.std.specs.Prelude.{ℕ, List, Option, Some, None, Result, Ok, Err}
+use Rattle.aegis_lines.specs.declared.fault.Fault.{Fault}
+use Rattle.aegis_lines.specs.declared.fault.Fault.TheVariants as faults
+use Rattle.aegis_lines.specs.declared.variant.Variant.{Variant}
+use Rattle.aegis_lines.specs.Field.{bytes_of, count_in, field_of, fields_of, tag_length_in, variant_in}
+use Rattle.aegis_lines.specs.Table.{Name, fault_in, name_of}
+use Rattle.aegis_lines.specs.Table as names
+
+-- A tag's length is a number of bytes, and what is not a number or a variant is a list of bytes.
+pub data Request : Type 0 where
+  Round : (block key : List ℕ) → Request
+  Seal : (variant : Variant) (tag_length : ℕ) (key nonce associated_data message : List ℕ) → Request
+  Open : (variant : Variant) (tag_length : ℕ) (key nonce associated_data ciphertext tag : List ℕ) → Request
+  Stream : (variant : Variant) (key nonce : List ℕ) (count : ℕ) → Request
+  Xor : (variant : Variant) (key nonce message : List ℕ) → Request
+
+-- what a line without a fault asks for, field by field
+abbrev pub request_in : Name → List (List ℕ) → Request
+request_in names.Round fields = Round (bytes_of (field_of fields 1)) (bytes_of (field_of fields 2))
+request_in names.Seal fields =
+    Seal (variant_in (field_of fields 1)) (tag_length_in (field_of fields 2)) (bytes_of (field_of fields 3))
+    (bytes_of (field_of fields 4)) (bytes_of (field_of fields 5)) (bytes_of (field_of fields 6))
+request_in names.Open fields =
+    Open (variant_in (field_of fields 1)) (tag_length_in (field_of fields 2)) (bytes_of (field_of fields 3))
+    (bytes_of (field_of fields 4)) (bytes_of (field_of fields 5)) (bytes_of (field_of fields 6)) (bytes_of (field_of fields 7))
+request_in names.Stream fields =
+    Stream (variant_in (field_of fields 1)) (bytes_of (field_of fields 2)) (bytes_of (field_of fields 3))
+    (count_in (field_of fields 4))
+request_in names.Xor fields =
+    Xor (variant_in (field_of fields 1)) (bytes_of (field_of fields 2)) (bytes_of (field_of fields 3))
+    (bytes_of (field_of fields 4))
+
+-- a request, but for a fault
+abbrev pub unless_fault : Option Fault → Request → Result Request Fault
+unless_fault (Some fault) request = Err fault
+unless_fault None request = Ok request
+
+-- what the line of a command asks for, or its first fault
+unfoldable pub request_of_command : Name → List (List ℕ) → Result Request Fault
+request_of_command name fields = unless_fault (fault_in name fields) (request_in name fields)
+
+-- what the line of a command asks for, or its first fault, which is that there is no such command
+abbrev pub request_of_name : Option Name → List (List ℕ) → Result Request Fault
+request_of_name (Some name) fields = request_of_command name fields
+request_of_name None fields = Err faults.Command
+
+-- what a line asks for, or its first fault
+unfoldable pub request_of : List ℕ → Result Request Fault
+request_of line = request_of_name (name_of (field_of (fields_of line) 0)) (fields_of line)

@@ -1,0 +1,89 @@
+-- The commands, what their fields say, and which fault of a line is found first.
+use Rattle.std.specs.Prelude.{ℕ, ◌+◌, ◌==◌, ◌||◌, Bool, false, not, List, [], ◌∷◌, length, Option, Some, None, is_err, codes, if◌then◌else◌}
+use Rattle.std.specs.Str.{bytes_eq}
+use Rattle.aegis_lines.specs.declared.fault.Fault.{Fault}
+use Rattle.aegis_lines.specs.declared.fault.Fault.TheVariants as faults
+use Rattle.aegis_lines.specs.declared.variant.Variant.{Variant}
+use Rattle.aegis_lines.specs.Field.{bytes_in, bytes_of, field_of, is_within_limit, stream_length_in, tag_length_in, variant_in}
+use Rattle.aegis_lines.specs.Variant.{key_length_of, tag_length_named, variant_named}
+
+-- the commands
+pub data Name : Type 0 where
+  Round : Name
+  Seal : Name
+  Open : Name
+  Stream : Name
+  Xor : Name
+
+-- the command of a name
+abbrev pub name_of : List ℕ → Option Name
+name_of field =
+    if bytes_eq field (codes "round") then Some Round
+    else if bytes_eq field (codes "seal") then Some Seal
+    else if bytes_eq field (codes "open") then Some Open
+    else if bytes_eq field (codes "stream") then Some Stream
+    else if bytes_eq field (codes "xor") then Some Xor
+    else None
+
+-- What a field says: the name of a variant, the length of a tag, the count of a stream's bytes, or bytes. Those are a
+-- block, a key or a nonce of the line's variant, associated data or a message that AEGIS takes, a tag of the line's
+-- length, or any bytes.
+pub data Kind : Type 0 where
+  VariantName : Kind
+  TagLength : Kind
+  Count : Kind
+  Block : Kind
+  Key : Kind
+  Message : Kind
+  Tag : Kind
+  Bytes : Kind
+
+-- the fields after each command
+abbrev pub kinds_of : Name → List Kind
+kinds_of Round = Block ∷ Block ∷ []
+kinds_of Seal = VariantName ∷ TagLength ∷ Key ∷ Key ∷ Message ∷ Message ∷ []
+kinds_of Open = VariantName ∷ TagLength ∷ Key ∷ Key ∷ Message ∷ Message ∷ Tag ∷ []
+kinds_of Stream = VariantName ∷ Key ∷ Key ∷ Count ∷ []
+kinds_of Xor = VariantName ∷ Key ∷ Key ∷ Bytes ∷ []
+
+-- whether a field names no variant
+abbrev pub has_variant_fault : Kind → List ℕ → Bool
+has_variant_fault VariantName field = is_err (variant_named field)
+has_variant_fault kind field = false
+
+-- whether a field says no length of a tag
+abbrev pub has_tag_fault : Kind → List ℕ → Bool
+has_tag_fault TagLength field = is_err (tag_length_named field)
+has_tag_fault kind field = false
+
+-- whether a field of bytes is neither `-` nor pairs of hexadecimal digits
+abbrev pub has_hex_fault : Kind → List ℕ → Bool
+has_hex_fault VariantName field = false
+has_hex_fault TagLength field = false
+has_hex_fault Count field = false
+has_hex_fault kind field = is_err (bytes_in field)
+
+-- Whether a field has a length that is not allowed. `variant` and `n` are the variant and the length of a tag that the
+-- line says, and are not asked for where its command has no such field.
+abbrev pub has_length_fault : Variant → ℕ → Kind → List ℕ → Bool
+has_length_fault variant n Count field = is_err (stream_length_in field)
+has_length_fault variant n Block field = not (length (bytes_of field) == 16)
+has_length_fault variant n Key field = not (length (bytes_of field) == key_length_of variant)
+has_length_fault variant n Message field = not (is_within_limit (bytes_of field))
+has_length_fault variant n Tag field = not (length (bytes_of field) == n)
+has_length_fault variant n kind field = false
+
+-- whether some field has a fault, where the kinds are those of the fields from field i on
+abbrev pub has_any : (Kind → List ℕ → Bool) → List Kind → ℕ → List (List ℕ) → Bool
+has_any has_fault [] i fields = false
+has_any has_fault (kind ∷ kinds) i fields = has_fault kind (field_of fields i) || has_any has_fault kinds (i + 1) fields
+
+-- The first fault of a command's line. Each is looked for in all fields before the next one.
+abbrev pub fault_in : Name → List (List ℕ) → Option Fault
+fault_in name fields =
+    if not (length fields == length (kinds_of name) + 1) then Some faults.Fields
+    else if has_any has_variant_fault (kinds_of name) 1 fields then Some faults.Variant
+    else if has_any has_tag_fault (kinds_of name) 1 fields then Some faults.Tag
+    else if has_any has_hex_fault (kinds_of name) 1 fields then Some faults.Hex
+    else if has_any (has_length_fault (variant_in (field_of fields 1)) (tag_length_in (field_of fields 2))) (kinds_of name) 1 fields then Some faults.Length
+    else None

@@ -1,0 +1,136 @@
+//! The answer of a line.
+
+ghost use Rattle.std.specs.Prelude.{◌≡◌, IfErr, IfOk};
+ghost use Rattle.aegis_base.specs.declared.error.Error.TheVariants.{OutOfMemory};
+ghost use Rattle.aegis_lines.specs.Answer.{IsAnswer, IsOpeningAnswer, IsReply, shown_pair};
+ghost use Rattle.aegis_lines.specs.Command.{request_from, sealed_by, tag_bytes_of, tag_size_of};
+ghost use Rattle.aegis_lines.specs.Field.{shown};
+ghost use Rattle.aegis_lines.specs.Variant.{tag_length_of};
+
+use crate::ciphers::{Cipher, Tag};
+use crate::command::Command;
+use crate::fault::Refusal;
+use crate::fields::push_bytes;
+use crate::limited::Limited;
+use crate::parse::parse;
+use crate::variant::TagLength;
+use aegis::Error;
+use std::alloc::{AllocError, Allocator};
+
+/// The answer of a line, without a line end. The line is any bytes, and a line end in it is a byte
+/// like others. The only error is want of memory.
+pub fn answer_line<A: Allocator + Copy>(alloc: A, line: &[u8]) -> Result<Vec<u8, A>, Error>
+    ensures answer { IfOk result (λ text. IsAnswer line.now text.items) }
+    ensures refused { IfErr result (λ error. error ≡ OutOfMemory) }
+{
+    let answer = match parse(alloc, line) {
+        Ok(command) => reply(alloc, command),
+        Err(Refusal::Fault(fault)) => Vec::from_slice(alloc, fault.text()),
+        Err(Refusal::OutOfMemory) => Err(AllocError),
+    };
+    match answer {
+        Ok(text) => Ok(text),
+        Err(_) => Err(Error::OutOfMemory),
+    }
+}
+
+// The answer to a command.
+fn reply<A: Allocator + Copy>(alloc: A, command: Command<A>) -> Result<Vec<u8, A>, AllocError>
+    ensures { IfOk result (λ text. IsReply (request_from command) text.items) }
+{
+    match command {
+        Command::Round { block, key } => shown(alloc, &block.round(key).to_bytes()),
+        Command::Seal {
+            cipher,
+            tag_length,
+            associated_data,
+            message,
+        } => seal(alloc, cipher, tag_length, associated_data, message),
+        Command::Open {
+            cipher,
+            tag,
+            associated_data,
+            ciphertext,
+        } => open(alloc, cipher, tag, associated_data, ciphertext),
+        Command::Stream { cipher, count } => {
+            let mut buffer = vec![in alloc; 0u8; count]?;
+            cipher.stream(&mut buffer);
+            shown(alloc, &buffer)
+        }
+        Command::Xor { cipher, message } => {
+            let mut buffer = message;
+            cipher.stream_xor(&mut buffer);
+            shown(alloc, &buffer)
+        }
+    }
+}
+
+// Bytes, as they are printed.
+fn shown<A: Allocator + Copy>(alloc: A, bytes: &[u8]) -> Result<Vec<u8, A>, AllocError>
+    ensures { IfOk result (λ text. text.items ≡ shown bytes.now) }
+{
+    let mut text = Vec::new(alloc);
+    push_bytes(alloc, &mut text, bytes)?;
+    Ok(text)
+}
+
+// A ciphertext and a tag, as they are printed.
+fn shown_pair<A: Allocator + Copy>(
+    alloc: A,
+    ciphertext: &[u8],
+    tag: &[u8],
+) -> Result<Vec<u8, A>, AllocError>
+    ensures { IfOk result (λ text. text.items ≡ shown_pair (ciphertext.now, tag.now)) }
+{
+    let mut text = Vec::new(alloc);
+    push_bytes(alloc, &mut text, ciphertext)?;
+    text.push(b' ')?;
+    push_bytes(alloc, &mut text, tag)?;
+    Ok(text)
+}
+
+// The answer to a sealing of a message.
+fn seal<A: Allocator + Copy>(
+    alloc: A,
+    cipher: Cipher,
+    tag_length: TagLength,
+    associated_data: Limited<A>,
+    message: Limited<A>,
+) -> Result<Vec<u8, A>, AllocError>
+    ensures { IfOk result (λ text. text.items ≡ shown_pair (sealed_by cipher (tag_length_of tag_length) associated_data.bytes.items message.bytes.items)) }
+{
+    let mut buffer = message.bytes;
+    match tag_length {
+        TagLength::Short => {
+            let tag = cipher.seal::<16>(&associated_data.bytes, &mut buffer);
+            shown_pair(alloc, &buffer, &tag)
+        }
+        TagLength::Long => {
+            let tag = cipher.seal::<32>(&associated_data.bytes, &mut buffer);
+            shown_pair(alloc, &buffer, &tag)
+        }
+    }
+}
+
+// The answer to an opening of a ciphertext.
+fn open<A: Allocator + Copy>(
+    alloc: A,
+    cipher: Cipher,
+    tag: Tag,
+    associated_data: Limited<A>,
+    ciphertext: Limited<A>,
+) -> Result<Vec<u8, A>, AllocError>
+    ensures { IfOk result (λ text. IsOpeningAnswer (λ m. sealed_by cipher (tag_size_of tag) associated_data.bytes.items m ≡ (ciphertext.bytes.items, tag_bytes_of tag)) text.items) }
+{
+    let mut buffer = ciphertext.bytes;
+    let opened = match tag {
+        Tag::Short(bytes) => cipher.open::<16>(&associated_data.bytes, &mut buffer, &bytes),
+        Tag::Long(bytes) => cipher.open::<32>(&associated_data.bytes, &mut buffer, &bytes),
+    };
+    if opened.is_err() {
+        return Vec::from_slice(alloc, b"invalid tag");
+    }
+    let mut text = Vec::from_slice(alloc, b"ok ")?;
+    push_bytes(alloc, &mut text, &buffer)?;
+    Ok(text)
+}

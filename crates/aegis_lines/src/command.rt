@@ -1,0 +1,39 @@
+//! What a line asks for.
+
+use crate::ciphers::{Cipher, Tag};
+use crate::limited::Limited;
+use crate::variant::TagLength;
+use aegis::aes::AesBlock;
+use std::alloc::Allocator;
+
+/// A command, with what its fields stand for.
+#[derive(Drop)]
+pub enum Command<A: Allocator> {
+    /// One round of AES.
+    Round {
+        block: AesBlock,
+        key: AesBlock,
+    },
+    Seal {
+        cipher: Cipher,
+        tag_length: TagLength,
+        associated_data: Limited<A>,
+        message: Limited<A>,
+    },
+    Open {
+        cipher: Cipher,
+        tag: Tag,
+        associated_data: Limited<A>,
+        ciphertext: Limited<A>,
+    },
+    /// So many bytes of the keystream.
+    Stream {
+        cipher: Cipher,
+        count: usize,
+    },
+    /// A message, xored with the keystream.
+    Xor {
+        cipher: Cipher,
+        message: Vec<u8, A>,
+    },
+}

@@ -1,0 +1,64 @@
+//! What may be wrong with a line.
+
+ghost use Rattle.std.specs.Prelude.{◌≡◌};
+ghost use Rattle.aegis_lines.specs.Fault.{text_of_fault};
+ghost use Rattle.aegis_lines.specs.declared.fault.Refusal.TheVariants.{OutOfMemory};
+
+use std::alloc::{AllocError, AllocFailed};
+
+/// The faults, in the order in which a line is searched for them: each is looked for in all of the
+/// line's fields before the next one.
+#[derive(Clone, Copy, Debug, PartialEq, Eq)]
+pub enum Fault {
+    /// The first field is not a command.
+    Command,
+    /// The command takes another number of fields.
+    Fields,
+    /// No variant has this name.
+    Variant,
+    /// A tag's length is neither 16 nor 32.
+    Tag,
+    /// A field that stands for bytes is neither `-` nor pairs of hexadecimal digits.
+    Hex,
+    /// A field's length, or the length that it says, is not allowed.
+    Length,
+}
+
+impl Fault {
+    /// The answer to a line with this fault.
+    pub fn text(self) -> &'static [u8]
+        ensures { result.now ≡ text_of_fault self }
+    {
+        match self {
+            Fault::Command => b"error command",
+            Fault::Fields => b"error fields",
+            Fault::Variant => b"error variant",
+            Fault::Tag => b"error tag",
+            Fault::Hex => b"error hex",
+            Fault::Length => b"error length",
+        }
+    }
+}
+
+/// Why a line was not read: it has a fault, or memory ran out first.
+#[derive(Clone, Copy, Debug, PartialEq, Eq)]
+pub enum Refusal {
+    Fault(Fault),
+    OutOfMemory,
+}
+
+impl From<AllocError> for Refusal {
+    ghost from_gives = { λ _ refusal. refusal ≡ OutOfMemory };
+
+    fn from(_error: AllocError) -> Refusal {
+        Refusal::OutOfMemory
+    }
+}
+
+impl<T: Drop> From<AllocFailed<T>> for Refusal {
+    ghost from_gives = { λ _ refusal. refusal ≡ OutOfMemory };
+
+    fn from(_error: AllocFailed<T>) -> Refusal {
+        Refusal::OutOfMemory
+    }
+}

@@ -1,0 +1,105 @@
+//! Fields of a line, and what they stand for.
+
+ghost use Rattle.std.specs.Prelude.{◌≡◌, ◌+◌, ◌<◌, ◌≤◌, ◌++◌, List, ℕ, true, length, map, ◌⊎◌, IfErr, IfOk, OnOk};
+ghost use Rattle.std.specs.Char.{is_ascii_digit};
+ghost use Rattle.std.specs.List.{list_all};
+ghost use Rattle.std.specs.Str.Parse.{digits_value};
+ghost use Rattle.aegis_lines.specs.declared.fault.Fault.TheVariants.{Hex, Length};
+ghost use Rattle.aegis_lines.specs.declared.fault.Refusal.TheVariants.{OutOfMemory};
+ghost use Rattle.aegis_lines.specs.Fault.{Gives};
+ghost use Rattle.aegis_lines.specs.Field.{bytes_in, field_of, fields_of, shown, stream_length_in, texts};
+
+use crate::fault::{Fault, Refusal};
+use hex::FromHexError;
+use std::alloc::{AllocError, Allocator};
+
+/// The longest stream that a line can ask for.
+const MAX_STREAM: usize = 65536;
+
+/// Cuts a line at each single space.
+pub fn split<A: Allocator>(alloc: A, line: &[u8]) -> Result<Vec<&[u8], A>, AllocError>
+    ensures { IfOk result (λ fields. texts fields.items ≡ fields_of line.now) }
+{
+    line.split(|byte| *byte == b' ').collect(alloc)
+}
+
+/// Field `index` of a line; the command is field 0.
+pub fn field<'a>(fields: &[&'a [u8]], index: usize) -> &'a [u8]
+    requires { index < length fields.now }
+    ensures { result.now ≡ field_of (texts fields.now) index }
+{
+    fields[index]
+}
+
+/// The bytes that a field stands for. It is a hexadecimal fault where the field is neither `-` nor
+/// pairs of digits.
+#[tactic(auto, unfolding(crate::specs::Field::bytes_in))]
+pub fn bytes<A: Allocator>(alloc: A, field: &[u8]) -> Result<Vec<u8, A>, Refusal>
+    ensures value { Gives (λ bytes. bytes.items) result (bytes_in field.now) }
+    ensures refused { IfErr result (λ refusal. (refusal ≡ OutOfMemory) ⊎ (refusal ≡ Refusal.Fault Hex)) }
+{
+    if field.is_empty() {
+        return Err(Refusal::Fault(Fault::Hex));
+    }
+    if field == b"-".as_slice() {
+        return Ok(Vec::new(alloc));
+    }
+    match hex::decode(alloc, field) {
+        Ok(bytes) => Ok(bytes),
+        Err(FromHexError::OutOfMemory) => Err(Refusal::OutOfMemory),
+        Err(_) => Err(Refusal::Fault(Fault::Hex)),
+    }
+}
+
+/// Writes bytes at the end of a text, as a field of them reads: in lower case, and no bytes as `-`.
+#[tactic(auto, unfolding(crate::specs::Field::shown))]
+pub fn push_bytes<A: Allocator + Copy>(
+    alloc: A,
+    text: &mut Vec<u8, A>,
+    bytes: &[u8],
+) -> Result<(), AllocError>
+    ensures { OnOk result (text.new.items ≡ text.old.items ++ shown bytes.now) }
+{
+    if bytes.is_empty() {
+        return text.extend_from_slice(b"-");
+    }
+    let digits = hex::encode(alloc, bytes)?;
+    text.extend_from_slice(digits.as_bytes())
+}
+
+/// The length that one to five decimal digits say. It is a length fault where the field is something
+/// else, or the length passes the longest stream's.
+#[tactic(auto, unfolding(crate::specs::Field::stream_length_in))]
+pub fn stream_length(field: &[u8]) -> Result<usize, Refusal>
+    ensures value { Gives (λ length. length) result (stream_length_in field.now) }
+    ensures refused { IfErr result (λ refusal. refusal ≡ Refusal.Fault Length) }
+{
+    if field.is_empty() || field.len() > 5 || !all_digits(field) {
+        return Err(Refusal::Fault(Fault::Length));
+    }
+    let length = decimal(field);
+    if length > MAX_STREAM {
+        return Err(Refusal::Fault(Fault::Length));
+    }
+    Ok(length)
+}
+
+// Whether each byte is a decimal digit.
+fn all_digits(field: &[u8]) -> bool
+    ensures { result ≡ list_all is_ascii_digit field.now }
+{
+    field.iter().all(|byte| byte.is_ascii_digit())
+}
+
+// The number that a few decimal digits write.
+fn decimal(digits: &[u8]) -> usize
+    requires few { length digits.now ≤ 5 }
+    requires digits { list_all is_ascii_digit digits.now ≡ true }
+    ensures { result ≡ digits_value 10 digits.now }
+{
+    let mut value = 0;
+    for digit in digits {
+        value = value * 10 + usize::from(*digit - b'0');
+    }
+    value
+}

@@ -1,0 +1,19 @@
+//! Lines of test vectors and their answers: `parse` reads a line as a typed command, `answer` carries it out over the
+//! public calls of `aegis`, and `session` answers all lines of a reader into a writer.
+#![tactic(auto)]
+
+mod answer;
+mod ciphers;
+mod command;
+mod fault;
+mod fields;
+mod limited;
+mod output;
+mod parse;
+mod session;
+#[cfg(test)]
+mod tests;
+mod variant;
+
+pub use answer::answer_line;
+pub use session::run;

@@ -1,0 +1,149 @@
+//! From a line to its command.
+
+ghost use Rattle.std.specs.Prelude.{◌≡◌, length};
+ghost use Rattle.aegis_lines.specs.Command.{request_from};
+ghost use Rattle.aegis_lines.specs.Fault.{Gives};
+ghost use Rattle.aegis_lines.specs.Field.{field_of, texts};
+ghost use Rattle.aegis_lines.specs.Table.{name_of};
+ghost use Rattle.aegis_lines.specs.Table as names;
+ghost use Rattle.aegis_lines.specs.Request.{request_of, request_of_command, request_of_name};
+
+use crate::ciphers::{Cipher, Tag};
+use crate::command::Command;
+use crate::fault::{Fault, Refusal};
+use crate::fields;
+use crate::limited::Limited;
+use crate::variant::{TagLength, Variant};
+use aegis::aes::AesBlock;
+use std::alloc::Allocator;
+
+/// What a line asks for, or its first fault.
+#[tactic(auto, unfolding(crate::specs::Request::request_of))]
+pub fn parse<A: Allocator + Copy>(alloc: A, line: &[u8]) -> Result<Command<A>, Refusal>
+    ensures { Gives request_from result (request_of line.now) }
+{
+    let fields = fields::split(alloc, line)?;
+    command(alloc, fields.as_slice())
+}
+
+// The command of some fields.
+fn command<A: Allocator + Copy>(alloc: A, fields: &[&[u8]]) -> Result<Command<A>, Refusal>
+    ensures { Gives request_from result (request_of_name (name_of (field_of (texts fields.now) 0)) (texts fields.now)) }
+{
+    let Some(name) = fields.first() else {
+        return Err(Refusal::Fault(Fault::Command));
+    };
+    if *name == b"round".as_slice() {
+        round(alloc, fields)
+    } else if *name == b"seal".as_slice() {
+        seal(alloc, fields)
+    } else if *name == b"open".as_slice() {
+        open(alloc, fields)
+    } else if *name == b"stream".as_slice() {
+        stream(alloc, fields)
+    } else if *name == b"xor".as_slice() {
+        xor(alloc, fields)
+    } else {
+        Err(Refusal::Fault(Fault::Command))
+    }
+}
+
+// `round B K`
+#[tactic(auto, unfolding(crate::specs::Request::request_of_command))]
+fn round<A: Allocator + Copy>(alloc: A, fields: &[&[u8]]) -> Result<Command<A>, Refusal>
+    ensures { Gives request_from result (request_of_command names.Round (texts fields.now)) }
+{
+    if fields.len() != 3 {
+        return Err(Refusal::Fault(Fault::Fields));
+    }
+    let block = fields::bytes(alloc, fields::field(fields, 1))?;
+    let key = fields::bytes(alloc, fields::field(fields, 2))?;
+    if block.len() != 16 || key.len() != 16 {
+        return Err(Refusal::Fault(Fault::Length));
+    }
+    Ok(Command::Round {
+        block: AesBlock::from_bytes(&block),
+        key: AesBlock::from_bytes(&key),
+    })
+}
+
+// `seal V T K N A M`
+#[tactic(auto, unfolding(crate::specs::Request::request_of_command))]
+fn seal<A: Allocator + Copy>(alloc: A, fields: &[&[u8]]) -> Result<Command<A>, Refusal>
+    ensures { Gives request_from result (request_of_command names.Seal (texts fields.now)) }
+{
+    if fields.len() != 7 {
+        return Err(Refusal::Fault(Fault::Fields));
+    }
+    let variant = Variant::from_name(fields::field(fields, 1))?;
+    let tag_length = TagLength::from_field(fields::field(fields, 2))?;
+    let key = fields::bytes(alloc, fields::field(fields, 3))?;
+    let nonce = fields::bytes(alloc, fields::field(fields, 4))?;
+    let associated_data = fields::bytes(alloc, fields::field(fields, 5))?;
+    let message = fields::bytes(alloc, fields::field(fields, 6))?;
+    Ok(Command::Seal {
+        cipher: Cipher::new(variant, &key, &nonce)?,
+        tag_length,
+        associated_data: Limited::new(associated_data)?,
+        message: Limited::new(message)?,
+    })
+}
+
+// `open V T K N A C TAG`
+#[tactic(auto, unfolding(crate::specs::Request::request_of_command))]
+fn open<A: Allocator + Copy>(alloc: A, fields: &[&[u8]]) -> Result<Command<A>, Refusal>
+    ensures { Gives request_from result (request_of_command names.Open (texts fields.now)) }
+{
+    if fields.len() != 8 {
+        return Err(Refusal::Fault(Fault::Fields));
+    }
+    let variant = Variant::from_name(fields::field(fields, 1))?;
+    let tag_length = TagLength::from_field(fields::field(fields, 2))?;
+    let key = fields::bytes(alloc, fields::field(fields, 3))?;
+    let nonce = fields::bytes(alloc, fields::field(fields, 4))?;
+    let associated_data = fields::bytes(alloc, fields::field(fields, 5))?;
+    let ciphertext = fields::bytes(alloc, fields::field(fields, 6))?;
+    let tag = fields::bytes(alloc, fields::field(fields, 7))?;
+    Ok(Command::Open {
+        cipher: Cipher::new(variant, &key, &nonce)?,
+        tag: Tag::from_slice(tag_length, &tag)?,
+        associated_data: Limited::new(associated_data)?,
+        ciphertext: Limited::new(ciphertext)?,
+    })
+}
+
+// `stream V K N LEN`
+#[tactic(auto, unfolding(crate::specs::Request::request_of_command))]
+fn stream<A: Allocator + Copy>(alloc: A, fields: &[&[u8]]) -> Result<Command<A>, Refusal>
+    ensures { Gives request_from result (request_of_command names.Stream (texts fields.now)) }
+{
+    if fields.len() != 5 {
+        return Err(Refusal::Fault(Fault::Fields));
+    }
+    let variant = Variant::from_name(fields::field(fields, 1))?;
+    let key = fields::bytes(alloc, fields::field(fields, 2))?;
+    let nonce = fields::bytes(alloc, fields::field(fields, 3))?;
+    let count = fields::stream_length(fields::field(fields, 4))?;
+    Ok(Command::Stream {
+        cipher: Cipher::new(variant, &key, &nonce)?,
+        count,
+    })
+}
+
+// `xor V K N M`
+#[tactic(auto, unfolding(crate::specs::Request::request_of_command))]
+fn xor<A: Allocator + Copy>(alloc: A, fields: &[&[u8]]) -> Result<Command<A>, Refusal>
+    ensures { Gives request_from result (request_of_command names.Xor (texts fields.now)) }
+{
+    if fields.len() != 5 {
+        return Err(Refusal::Fault(Fault::Fields));
+    }
+    let variant = Variant::from_name(fields::field(fields, 1))?;
+    let key = fields::bytes(alloc, fields::field(fields, 2))?;
+    let nonce = fields::bytes(alloc, fields::field(fields, 3))?;
+    let message = fields::bytes(alloc, fields::field(fields, 4))?;
+    Ok(Command::Xor {
+        cipher: Cipher::new(variant, &key, &nonce)?,
+        message,
+    })
+}

@@ -1,0 +1,165 @@
+//! The whole program, over a reader and a writer.
+
+ghost use Rattle.std.specs.Prelude.{◌≡◌, ◌≤◌, ℕ, List, [], ◌∷◌, ◌++◌, false, IfOk, IfSome, OnErr, OnOk};
+ghost use Rattle.std.specs.Io.BufRead.{strip_last};
+ghost use Rattle.std.specs.Io.KnownBytes.{IsAtEnd};
+ghost use Rattle.aegis_lines.specs.Lines.{lines, lines_after};
+ghost use Rattle.aegis_lines.specs.Output.{Answers, AnswersAll, AnswersSome};
+
+use crate::answer::answer_line;
+use crate::output::write_whole;
+use std::alloc::Allocator;
+use std::io;
+use std::io::{ErrorKind, Read, Write};
+
+/// All lines were understood.
+const UNDERSTOOD: u8 = 0;
+
+/// Some answer began with `error `.
+const NOT_UNDERSTOOD: u8 = 1;
+
+/// A read, a write or the last flush failed, a write took no byte, or memory was refused.
+const FAILED: u8 = 2;
+
+/// How many bytes one read may give.
+const CHUNK: usize = 4096;
+
+/// Answers each line of the input by one line of the output, and returns the exit status.
+pub fn run<R: Read, W: Write, A: Allocator + Copy>(alloc: A, input: &mut R, output: &mut W) -> u8
+    ensures status { result ≤ 2 }
+
+    // With the statuses 0 and 1 all lines are answered.
+    ensures end { result ≤ 1 → IsAtEnd (R.remaining input.new) }
+    ensures answered { result ≤ 1 → IfSome (R.remaining input.old)
+        (λ bytes. AnswersAll (lines bytes) (W.contents output.old) (W.contents output.new) result) }
+
+    // With the status 2 the output is a beginning of the answers.
+    ensures failed { result ≡ 2 → IfSome (R.remaining input.old)
+        (λ bytes. AnswersSome (lines bytes) (W.contents output.old) (W.contents output.new)) }
+{
+    match answer_all(alloc, input, output) {
+        Ok(false) => UNDERSTOOD,
+        Ok(true) => NOT_UNDERSTOOD,
+        Err(_) => FAILED,
+    }
+}
+
+// Whether some answer began with `error `.
+fn answer_all<R: Read, W: Write, A: Allocator + Copy>(
+    alloc: A,
+    input: &mut R,
+    output: &mut W,
+) -> io::Result<bool>
+    ensures end { OnOk result (IsAtEnd (R.remaining input.new)) }
+    ensures ok { IfOk result (λ saw_error. IfSome (R.remaining input.old)
+        (λ bytes. Answers (lines bytes) [] false saw_error (W.contents output.old) (W.contents output.new))) }
+    ensures err { OnErr result (IfSome (R.remaining input.old)
+        (λ bytes. AnswersSome (lines bytes) (W.contents output.old) (W.contents output.new))) }
+{
+    let mut chunk = [0u8; CHUNK];
+    let mut session = Session::new(alloc);
+    'reads: for _ in 0..u64::MAX {
+        let count = input.read(&mut chunk)?;
+        if count == 0 {
+            session.end(output)?;
+            output.flush()?;
+            return Ok(session.saw_error);
+        }
+        session.take(&chunk[..count], output)?;
+    }
+    Err(io::Error::from(ErrorKind::TimedOut))
+}
+
+/// What is kept from one read to the next.
+#[derive(Drop)]
+struct Session<A: Allocator> {
+    alloc: A,
+    // what was read of the line that no line feed has ended yet
+    line: Vec<u8, A>,
+    // whether an answer began with `error `
+    saw_error: bool,
+}
+
+impl<A: Allocator + Copy> Session<A> {
+    fn new(alloc: A) -> Session<A>
+        ensures line { result.line.items ≡ [] }
+        ensures saw_error { result.saw_error ≡ false }
+    {
+        Session {
+            alloc,
+            line: Vec::new(alloc),
+            saw_error: false,
+        }
+    }
+
+    // Answers the lines that the bytes end.
+    fn take<W: Write>(&mut self, bytes: &[u8], output: &mut W) -> io::Result<()>
+        ensures ok { OnOk result ((more : List ℕ) → Answers
+            (lines_after self.old.line.items (bytes.now ++ more)) (lines_after self.new.line.items more)
+            self.old.saw_error self.new.saw_error (W.contents output.old) (W.contents output.new)) }
+        ensures err { OnErr result ((more : List ℕ) → AnswersSome
+            (lines_after self.old.line.items (bytes.now ++ more)) (W.contents output.old) (W.contents output.new)) }
+    {
+        for byte in bytes {
+            self.take_byte(*byte, output)?;
+        }
+        Ok(())
+    }
+
+    fn take_byte<W: Write>(&mut self, byte: u8, output: &mut W) -> io::Result<()>
+        ensures ok { OnOk result ((more : List ℕ) → Answers
+            (lines_after self.old.line.items (byte ∷ more)) (lines_after self.new.line.items more)
+            self.old.saw_error self.new.saw_error (W.contents output.old) (W.contents output.new)) }
+        ensures err { OnErr result ((more : List ℕ) → AnswersSome
+            (lines_after self.old.line.items (byte ∷ more)) (W.contents output.old) (W.contents output.new)) }
+    {
+        if byte == b'\n' {
+            self.answer(output)
+        } else {
+            self.line.push(byte)?;
+            Ok(())
+        }
+    }
+
+    // Answers the last line, where no line feed ends it.
+    fn end<W: Write>(&mut self, output: &mut W) -> io::Result<()>
+        ensures ok { OnOk result (Answers (lines_after self.old.line.items []) []
+            self.old.saw_error self.new.saw_error (W.contents output.old) (W.contents output.new)) }
+        ensures err { OnErr result (AnswersSome
+            (lines_after self.old.line.items []) (W.contents output.old) (W.contents output.new)) }
+    {
+        if self.line.is_empty() {
+            return Ok(());
+        }
+        self.answer(output)
+    }
+
+    // Answers the line, and begins the next one.
+    fn answer<W: Write>(&mut self, output: &mut W) -> io::Result<()>
+        ensures line { OnOk result (self.new.line.items ≡ []) }
+        ensures ok { OnOk result ((others : List (List ℕ)) → Answers
+            (strip_last 13 self.old.line.items ∷ others) others
+            self.old.saw_error self.new.saw_error (W.contents output.old) (W.contents output.new)) }
+        ensures err { OnErr result ((others : List (List ℕ)) → AnswersSome
+            (strip_last 13 self.old.line.items ∷ others) (W.contents output.old) (W.contents output.new)) }
+    {
+        let Ok(mut text) = answer_line(self.alloc, without_carriage_return(&self.line)) else {
+            return Err(io::Error::from(ErrorKind::OutOfMemory));
+        };
+        let is_error = text.starts_with(b"error ");
+        text.push(b'\n')?;
+        write_whole(output, &text)?;
+        self.saw_error |= is_error;
+        self.line.clear();
+        Ok(())
+    }
+}
+
+fn without_carriage_return(line: &[u8]) -> &[u8]
+    ensures { result.now ≡ strip_last 13 line.now }
+{
+    line.strip_suffix(b"\r").unwrap_or(line)
+}
+
+#[cfg(test)]
+mod tests;
