@@ -1,18 +1,170 @@
-//! Proved callers.
+//! Callers of the public crate, one of each kind of call and one at each variant, proved from its contracts alone: the
+//! crate has no proof file. `docs/CALLING.md` shows them.
 #![tactic(auto)]
 
-ghost use Rattle.std.specs.Prelude.{◌≡◌, ℕ, ◌≤◌, length, List, OnOk, replicate};
+ghost use Rattle.std.specs.Prelude.{◌≡◌, ◌≤◌, IfOk, IsOk, List, OnErr, OnOk, length, replicate, ℕ};
+ghost use Rattle.aegis_aes.specs.Block.{xor};
 ghost use Rattle.aegis_base.specs.Family.{Aegis128, Aegis256};
 ghost use Rattle.aegis_base.specs.Message.{Opens, seal, stream};
 
-use aegis::aegis128l::{Aegis128L, Error, Key, Nonce, Tag};
-use aegis::MAX_AEAD_BYTES;
+use aegis::aegis128l::{Aegis128L, Error, Tag};
+use aegis::aegis128x2::Aegis128X2;
+use aegis::aegis128x4::Aegis128X4;
+use aegis::aegis256::Aegis256;
+use aegis::aegis256x2::Aegis256X2;
+use aegis::aegis256x4::Aegis256X4;
+use aegis::{ERASED, MAX_AEAD_BYTES};
+use std::alloc::Allocator;
 
-/// Seals.
-pub fn seal(key: &Key, nonce: &Nonce, ad: &[u8], message: &mut [u8]) -> Tag<16>
+/// Seals with Aegis128L and a tag of 32 bytes.
+pub fn seal_aegis128l(
+    key: &[u8; 16],
+    nonce: &[u8; 16],
+    associated_data: &[u8],
+    message: &mut [u8],
+) -> [u8; 32]
     requires message_within { length message.old ≤ MAX_AEAD_BYTES }
-    requires associated_data_within { length ad.now ≤ MAX_AEAD_BYTES }
-    ensures { (message.new, result) ≡ seal Aegis128 1 16 key.now nonce.now ad.now message.old }
+    requires associated_data_within { length associated_data.now ≤ MAX_AEAD_BYTES }
+    ensures { (message.new, result) ≡ seal Aegis128 1 32 key.now nonce.now associated_data.now message.old }
 {
-    Aegis128L::<16>::new(key, nonce).encrypt_in_place(message, ad)
+    Aegis128L::<32>::new(key, nonce).encrypt_in_place(message, associated_data)
+}
+
+/// Seals with Aegis128X2 and a tag of 32 bytes.
+pub fn seal_aegis128x2(
+    key: &[u8; 16],
+    nonce: &[u8; 16],
+    associated_data: &[u8],
+    message: &mut [u8],
+) -> [u8; 32]
+    requires message_within { length message.old ≤ MAX_AEAD_BYTES }
+    requires associated_data_within { length associated_data.now ≤ MAX_AEAD_BYTES }
+    ensures { (message.new, result) ≡ seal Aegis128 2 32 key.now nonce.now associated_data.now message.old }
+{
+    Aegis128X2::<32>::new(key, nonce).encrypt_in_place(message, associated_data)
+}
+
+/// Seals with Aegis128X4 and a tag of 32 bytes.
+pub fn seal_aegis128x4(
+    key: &[u8; 16],
+    nonce: &[u8; 16],
+    associated_data: &[u8],
+    message: &mut [u8],
+) -> [u8; 32]
+    requires message_within { length message.old ≤ MAX_AEAD_BYTES }
+    requires associated_data_within { length associated_data.now ≤ MAX_AEAD_BYTES }
+    ensures { (message.new, result) ≡ seal Aegis128 4 32 key.now nonce.now associated_data.now message.old }
+{
+    Aegis128X4::<32>::new(key, nonce).encrypt_in_place(message, associated_data)
+}
+
+/// Seals with Aegis256 and a tag of 32 bytes.
+pub fn seal_aegis256(
+    key: &[u8; 32],
+    nonce: &[u8; 32],
+    associated_data: &[u8],
+    message: &mut [u8],
+) -> [u8; 32]
+    requires message_within { length message.old ≤ MAX_AEAD_BYTES }
+    requires associated_data_within { length associated_data.now ≤ MAX_AEAD_BYTES }
+    ensures { (message.new, result) ≡ seal Aegis256 1 32 key.now nonce.now associated_data.now message.old }
+{
+    Aegis256::<32>::new(key, nonce).encrypt_in_place(message, associated_data)
+}
+
+/// Seals with Aegis256X2 and a tag of 32 bytes.
+pub fn seal_aegis256x2(
+    key: &[u8; 32],
+    nonce: &[u8; 32],
+    associated_data: &[u8],
+    message: &mut [u8],
+) -> [u8; 32]
+    requires message_within { length message.old ≤ MAX_AEAD_BYTES }
+    requires associated_data_within { length associated_data.now ≤ MAX_AEAD_BYTES }
+    ensures { (message.new, result) ≡ seal Aegis256 2 32 key.now nonce.now associated_data.now message.old }
+{
+    Aegis256X2::<32>::new(key, nonce).encrypt_in_place(message, associated_data)
+}
+
+/// Seals with Aegis256X4 and a tag of 32 bytes.
+pub fn seal_aegis256x4(
+    key: &[u8; 32],
+    nonce: &[u8; 32],
+    associated_data: &[u8],
+    message: &mut [u8],
+) -> [u8; 32]
+    requires message_within { length message.old ≤ MAX_AEAD_BYTES }
+    requires associated_data_within { length associated_data.now ≤ MAX_AEAD_BYTES }
+    ensures { (message.new, result) ≡ seal Aegis256 4 32 key.now nonce.now associated_data.now message.old }
+{
+    Aegis256X4::<32>::new(key, nonce).encrypt_in_place(message, associated_data)
+}
+
+/// Opens in place: `Ok` exactly where some message is sealed to the ciphertext and the tag, and the buffer is then that
+/// message; otherwise every byte of it is `aa`.
+pub fn open(
+    key: &[u8; 16],
+    nonce: &[u8; 16],
+    associated_data: &[u8],
+    buffer: &mut [u8],
+    tag: &Tag<16>,
+) -> Result<(), Error>
+    requires message_within { length buffer.old ≤ MAX_AEAD_BYTES }
+    requires associated_data_within { length associated_data.now ≤ MAX_AEAD_BYTES }
+    ensures opened { OnOk result (Opens Aegis128 1 16 key.now nonce.now associated_data.now buffer.old tag.now buffer.new) }
+    ensures accepted { (m : List ℕ) → Opens Aegis128 1 16 key.now nonce.now associated_data.now buffer.old tag.now m → IsOk result }
+    ensures erased { OnErr result (buffer.new ≡ replicate (length buffer.old) ERASED) }
+{
+    Aegis128L::<16>::new(key, nonce).decrypt_in_place(buffer, tag, associated_data)
+}
+
+/// Seals into a fresh vector.
+pub fn seal_to_vec<A: Allocator>(
+    alloc: A,
+    key: &[u8; 32],
+    nonce: &[u8; 32],
+    associated_data: &[u8],
+    message: &[u8],
+) -> Result<(Vec<u8, A>, [u8; 16]), Error>
+    requires message_within { length message.now ≤ MAX_AEAD_BYTES }
+    requires associated_data_within { length associated_data.now ≤ MAX_AEAD_BYTES }
+    ensures { IfOk result (λ sealed. (sealed.0.items, sealed.1) ≡ seal Aegis256 1 16 key.now nonce.now associated_data.now message.now) }
+{
+    let (ciphertext, tag) = Aegis256::<16>::new(key, nonce).encrypt(
+        alloc,
+        message,
+        associated_data,
+    )?;
+    Ok((ciphertext, tag))
+}
+
+/// Opens into a fresh vector.
+pub fn open_to_vec<A: Allocator>(
+    alloc: A,
+    key: &[u8; 32],
+    nonce: &[u8; 32],
+    associated_data: &[u8],
+    ciphertext: &[u8],
+    tag: &[u8; 16],
+) -> Result<Vec<u8, A>, Error>
+    requires message_within { length ciphertext.now ≤ MAX_AEAD_BYTES }
+    requires associated_data_within { length associated_data.now ≤ MAX_AEAD_BYTES }
+    ensures { IfOk result (λ message. Opens Aegis256 1 16 key.now nonce.now associated_data.now ciphertext.now tag.now message.items) }
+{
+    let message = Aegis256::<16>::new(key, nonce).decrypt(alloc, ciphertext, tag, associated_data)?;
+    Ok(message)
+}
+
+/// Fills a buffer with the keystream.
+pub fn keystream(key: &[u8; 16], nonce: &[u8; 16], out: &mut [u8])
+    ensures { out.new ≡ stream Aegis128 4 key.now nonce.now (length out.old) }
+{
+    Aegis128X4::<16>::new(key, nonce).stream(out)
+}
+
+/// Xors a message with the keystream.
+pub fn xor_keystream(key: &[u8; 16], nonce: &[u8; 16], message: &mut [u8])
+    ensures { message.new ≡ xor message.old (stream Aegis128 4 key.now nonce.now (length message.old)) }
+{
+    Aegis128X4::<16>::new(key, nonce).stream_xor_in_place(message)
 }

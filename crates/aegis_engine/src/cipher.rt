@@ -3,7 +3,7 @@
 //! [`Cipher`] is written once, over a state and a marker of names; the six variants are aliases of it. Its calls run
 //! the block engine of `pass` and compare tags by `tag`; nothing here knows a family or a lane count.
 
-ghost use Rattle.std.specs.Prelude.{◌≡◌, ⊤, ℕ, ◌≤◌, ◌⊎◌, ◌++◌, IfErr, IfOk, List, OnErr, OnOk, Some, codes, length, replicate};
+ghost use Rattle.std.specs.Prelude.{◌≡◌, ⊤, ℕ, ◌≤◌, ◌⊎◌, ◌++◌, IfErr, IfOk, IsOk, List, OnErr, OnOk, Some, codes, length, replicate};
 ghost use Rattle.aegis_aes.specs.Block.{xor};
 ghost use Rattle.aegis_base.specs.Message.{Opens, Stands, ciphertext, seal, stream, tag};
 
@@ -107,8 +107,8 @@ impl<S: LaneState, V: Variant, const TAG_BYTES: usize> Cipher<S, V, TAG_BYTES> {
         requires associated_data_within { length ad.now ≤ MAX_AEAD_BYTES }
         ensures opened { (key nonce : List ℕ) → Stands S.FAMILY S.LANES (S.lane self) key nonce
             → OnOk result (Opens S.FAMILY S.LANES TAG_BYTES key nonce ad.now mc.old tag.now mc.new) }
-        ensures refused { (key nonce : List ℕ) → Stands S.FAMILY S.LANES (S.lane self) key nonce
-            → OnErr result ((m : List ℕ) → ¬ Opens S.FAMILY S.LANES TAG_BYTES key nonce ad.now mc.old tag.now m) }
+        ensures accepted { (key nonce m : List ℕ) → Stands S.FAMILY S.LANES (S.lane self) key nonce
+            → Opens S.FAMILY S.LANES TAG_BYTES key nonce ad.now mc.old tag.now m → IsOk result }
         ensures erased { OnErr result (mc.new ≡ replicate (length mc.old) ERASED) }
         ensures error { IfErr result (λ e. e ≡ Error.InvalidTag) }
     {
@@ -157,8 +157,8 @@ impl<S: LaneState, V: Variant, const TAG_BYTES: usize> Cipher<S, V, TAG_BYTES> {
         requires associated_data_within { length ad.now ≤ MAX_AEAD_BYTES }
         ensures opened { (key nonce : List ℕ) → Stands S.FAMILY S.LANES (S.lane self) key nonce
             → IfOk result (λ m. Opens S.FAMILY S.LANES TAG_BYTES key nonce ad.now c.now tag.now m.items) }
-        ensures refused { (key nonce : List ℕ) → Stands S.FAMILY S.LANES (S.lane self) key nonce
-            → result ≡ Err Error.InvalidTag → (m : List ℕ) → ¬ Opens S.FAMILY S.LANES TAG_BYTES key nonce ad.now c.now tag.now m }
+        ensures accepted { (key nonce m : List ℕ) → Stands S.FAMILY S.LANES (S.lane self) key nonce
+            → Opens S.FAMILY S.LANES TAG_BYTES key nonce ad.now c.now tag.now m → result ≡ Err Error.InvalidTag → ⊥ }
         ensures error { IfErr result (λ e. (e ≡ Error.InvalidTag) ⊎ (e ≡ Error.OutOfMemory)) }
     {
         let mut m = Vec::from_slice(alloc, c).map_err(|_| Error::OutOfMemory)?;

@@ -10,8 +10,8 @@ returns-then-same_bytes-clause-opened g c key nonce stands =
     let same : c.open_unchecked-expected.result ≡ c.args.tag.now = c.same_bytes.ensures.0 c.if-same_bytes.true in
     rw (message, ← right, same) refl
 
-pub returns-else-same_bytes-clause-refused : goal.returns-else-same_bytes-clause-refused
-returns-else-same_bytes-clause-refused g c key nonce stands m opens =
+pub returns-else-same_bytes-clause-accepted : goal.returns-else-same_bytes-clause-accepted
+returns-else-same_bytes-clause-accepted g c key nonce m stands opens =
     let one = opened-one g.S.LaneState.FAMILY g.S.LaneState.LANES key nonce c.args.ad.now c.args.mc.now m c.open_unchecked-expected.new.mc
     g.met.S.LaneState.one_two_or_four (ap (λ (p : List ℕ × List ℕ). p.0) opens) (c.open_unchecked-expected.ensures.message key nonce stands) in
     let same : c.open_unchecked-expected.result ≡ c.args.tag.now =
