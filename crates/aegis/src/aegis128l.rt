@@ -4,10 +4,9 @@ ghost use Rattle.std.specs.Prelude.{codes};
 
 use aegis_128::State128;
 use aegis_aes::AesBlock;
+pub use aegis_base::Error;
 use aegis_base::Variant;
 use aegis_engine::Cipher;
-
-pub use aegis_base::Error;
 
 /// A key.
 pub type Key = [u8; 16];
@@ -30,4 +29,8 @@ impl Variant for Aegis128LVariant {
 }
 
 /// AEGIS-128L under a key and a nonce. [`Cipher`] has its calls.
-pub type Aegis128L<const TAG_BYTES: usize> = Cipher<State128<AesBlock>, Aegis128LVariant, TAG_BYTES>;
+pub type Aegis128L<const TAG_BYTES: usize> = Cipher<
+    State128<AesBlock>,
+    Aegis128LVariant,
+    TAG_BYTES,
+>;

@@ -4,10 +4,9 @@ ghost use Rattle.std.specs.Prelude.{codes};
 
 use aegis_128::State128;
 use aegis_aes::AesBlock4;
+pub use aegis_base::Error;
 use aegis_base::Variant;
 use aegis_engine::Cipher;
-
-pub use aegis_base::Error;
 
 /// A key.
 pub type Key = [u8; 16];
@@ -31,4 +30,8 @@ impl Variant for Aegis128X4Variant {
 }
 
 /// AEGIS-128X4 under a key and a nonce. [`Cipher`] has its calls.
-pub type Aegis128X4<const TAG_BYTES: usize> = Cipher<State128<AesBlock4>, Aegis128X4Variant, TAG_BYTES>;
+pub type Aegis128X4<const TAG_BYTES: usize> = Cipher<
+    State128<AesBlock4>,
+    Aegis128X4Variant,
+    TAG_BYTES,
+>;

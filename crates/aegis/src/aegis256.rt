@@ -4,10 +4,9 @@ ghost use Rattle.std.specs.Prelude.{codes};
 
 use aegis_256::State256;
 use aegis_aes::AesBlock;
+pub use aegis_base::Error;
 use aegis_base::Variant;
 use aegis_engine::Cipher;
-
-pub use aegis_base::Error;
 
 /// A key.
 pub type Key = [u8; 32];

@@ -4,10 +4,9 @@ ghost use Rattle.std.specs.Prelude.{codes};
 
 use aegis_256::State256;
 use aegis_aes::AesBlock2;
+pub use aegis_base::Error;
 use aegis_base::Variant;
 use aegis_engine::Cipher;
-
-pub use aegis_base::Error;
 
 /// A key.
 pub type Key = [u8; 32];
@@ -31,4 +30,8 @@ impl Variant for Aegis256X2Variant {
 }
 
 /// AEGIS-256X2 under a key and a nonce. [`Cipher`] has its calls.
-pub type Aegis256X2<const TAG_BYTES: usize> = Cipher<State256<AesBlock2>, Aegis256X2Variant, TAG_BYTES>;
+pub type Aegis256X2<const TAG_BYTES: usize> = Cipher<
+    State256<AesBlock2>,
+    Aegis256X2Variant,
+    TAG_BYTES,
+>;

@@ -154,7 +154,6 @@ impl<R: Row> State128<R> {
 
 impl<R: Row> LaneState for State128<R> {
     ghost use Rattle.aegis_128.specs.Rows.{lane};
-
     ghost use Rattle.std.proofs.Common.{rules};
 
     type Key = [u8; 16];
@@ -206,7 +205,10 @@ impl<R: Row> LaneState for State128<R> {
     }
 
     fn long_tag(self) -> (AesBlock, AesBlock) {
-        (self.low_tags().xor_of_lanes(), self.high_tags().xor_of_lanes())
+        (
+            self.low_tags().xor_of_lanes(),
+            self.high_tags().xor_of_lanes(),
+        )
     }
 
     ghost one_two_or_four = { R.one_two_or_four };

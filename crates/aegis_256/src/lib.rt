@@ -169,7 +169,6 @@ impl<R: Row> State256<R> {
 
 impl<R: Row> LaneState for State256<R> {
     ghost use Rattle.aegis_256.specs.Rows.{lane};
-
     ghost use Rattle.std.proofs.Common.{rules};
 
     type Key = [u8; 32];
@@ -217,7 +216,10 @@ impl<R: Row> LaneState for State256<R> {
     }
 
     fn long_tag(self) -> (AesBlock, AesBlock) {
-        (self.low_tags().xor_of_lanes(), self.high_tags().xor_of_lanes())
+        (
+            self.low_tags().xor_of_lanes(),
+            self.high_tags().xor_of_lanes(),
+        )
     }
 
     ghost one_two_or_four = { R.one_two_or_four };

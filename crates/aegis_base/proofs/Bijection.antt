@@ -37,8 +37,8 @@ ciphertext-same family d f g m count same =
     ciphertext-is family d g m (ciphertext_from family d f m) (length-ciphertext family d f m) (λ i h.
     ciphertext-reads family d f m i h
     ∙ ap (bit_xor (slice_index m i)) (keystream_byte-same family d (λ j. after family d (f j) j m (i / rate family d))
-        (λ j. after family d (g j) j m (i / rate family d)) i count
-        (λ j low. ap (λ (s : List (List ℕ)). after family d s j m (i / rate family d)) (same j low))))
+    (λ j. after family d (g j) j m (i / rate family d)) i count
+    (λ j low. ap (λ (s : List (List ℕ)). after family d s j m (i / rate family d)) (same j low))))
 
 -- ---- what a byte of the keystream depends on
 
@@ -73,22 +73,22 @@ ciphertext-determines : (family : Family) (d : ℕ) (lanes : ℕ → List (List 
 ciphertext-determines family d lanes x y zero count long e low k h = absurd (omega arith)
 ciphertext-determines family d lanes x y (suc n) count long e low k h =
     let before : (q : ℕ) → q < n → slice_index x q ≡ slice_index y q =
-        ciphertext-determines family d lanes x y n count long e (omega arith) in
+    ciphertext-determines family d lanes x y n count long e (omega arith) in
     let sealed : ciphertext_byte family d lanes x n ≡ ciphertext_byte family d lanes y n =
-        sym (ciphertext-reads family d lanes x n (omega arith)) ∙ ap (λ (c : List ℕ). slice_index c n) e
-        ∙ ciphertext-reads family d lanes y n (omega arith) in
+    sym (ciphertext-reads family d lanes x n (omega arith)) ∙ ap (λ (c : List ℕ). slice_index c n) e
+    ∙ ciphertext-reads family d lanes y n (omega arith) in
     let stream : stream_byte family d lanes x n ≡ stream_byte family d lanes y n =
-        stream_byte-before family d lanes x y n count before in
+    stream_byte-before family d lanes x y n count before in
     let here : slice_index x n ≡ slice_index y n =
-        bit_xor-cancel (slice_index x n) (slice_index y n) (stream_byte family d lanes y n)
-        (ap (bit_xor (slice_index x n)) (sym stream) ∙ sealed) in
+    bit_xor-cancel (slice_index x n) (slice_index y n) (stream_byte family d lanes y n)
+    (ap (bit_xor (slice_index x n)) (sym stream) ∙ sealed) in
     below_more (λ q. slice_index x q ≡ slice_index y q) n before here k (omega arith)
 
 pub ciphertext-injective : (family : Family) (d : ℕ) (lanes : ℕ → List (List ℕ)) (m n : List ℕ) → IsLaneCount d
     → ciphertext_from family d lanes m ≡ ciphertext_from family d lanes n → m ≡ n
 ciphertext-injective family d lanes m n count e =
     let long : length m ≡ length n =
-        sym (length-ciphertext family d lanes m) ∙ ap length e ∙ length-ciphertext family d lanes n in
+    sym (length-ciphertext family d lanes m) ∙ ap length e ∙ length-ciphertext family d lanes n in
     ext_get_or 0 m n long (ciphertext-determines family d lanes m n (length m) count long e (omega arith))
 
 -- ---- onto
@@ -113,21 +113,21 @@ opened-more family d lanes c n m count is =
     let longer : List ℕ = m ++ (byte ∷ []) in
     let long : length m ≡ n = is.long in
     let front : (k : ℕ) → k < n → slice_index longer k ≡ slice_index m k =
-        λ k h. get_or_append_left m (byte ∷ []) 0 k (omega arith) in
+    λ k h. get_or_append_left m (byte ∷ []) 0 k (omega arith) in
     let stream : (i : ℕ) → i ≤ n → stream_byte family d lanes longer i ≡ stream_byte family d lanes m i =
-        λ i h. stream_byte-before family d lanes longer m i count (λ k low. front k (omega arith)) in
+    λ i h. stream_byte-before family d lanes longer m i count (λ k low. front k (omega arith)) in
     let before : (i : ℕ) → i < n → ciphertext_byte family d lanes longer i ≡ slice_index c i =
-        λ i h. ap (λ (x : ℕ). bit_xor x (stream_byte family d lanes longer i)) (front i h)
-        ∙ ap (bit_xor (slice_index m i)) (stream i (omega arith)) ∙ is.opens i h in
+    λ i h. ap (λ (x : ℕ). bit_xor x (stream_byte family d lanes longer i)) (front i h)
+    ∙ ap (bit_xor (slice_index m i)) (stream i (omega arith)) ∙ is.opens i h in
     let last : slice_index longer n ≡ byte =
-        ap (slice_index longer) (sym long) ∙ get_or-append_seam m byte [] 0 in
+    ap (slice_index longer) (sym long) ∙ get_or-append_seam m byte [] 0 in
     let here : ciphertext_byte family d lanes longer n ≡ slice_index c n =
-        ap (λ (x : ℕ). bit_xor x (stream_byte family d lanes longer n)) last
-        ∙ ap (bit_xor byte) (stream n (omega arith))
-        ∙ bit_xor-twice (slice_index c n) (stream_byte family d lanes m n) in
+    ap (λ (x : ℕ). bit_xor x (stream_byte family d lanes longer n)) last
+    ∙ ap (bit_xor byte) (stream n (omega arith))
+    ∙ bit_xor-twice (slice_index c n) (stream_byte family d lanes m n) in
     record {
       long = omega (arith, length-append m (byte ∷ []));
-      opens = λ i h. below_more (λ k. ciphertext_byte family d lanes longer k ≡ slice_index c k) n before here i (omega arith)
+      opens = λ i h. below_more (λ k. ciphertext_byte family d lanes longer k ≡ slice_index c k) n before here i (omega arith);
     }
 
 opened-opens : (family : Family) (d : ℕ) (lanes : ℕ → List (List ℕ)) (c : List ℕ) (n : ℕ) → IsLaneCount d

@@ -1,13 +1,13 @@
 -- How the definitions of a message read bytes: rate blocks of two messages that agree, places in a rate block, and
 -- blocks of keystream byte by byte.
-use Rattle.std.proofs.Common.{◌≡◌, ◌∙◌, sym, ap, subst, refl, ℕ, zero, suc, ◌+◌, ◌-◌, ◌*◌, ◌/◌, ◌%◌, ◌<◌, ◌≤◌, List, [], ◌∷◌, length, bit_xor, slice_index, arith, add-one, add-zero, ◌⊎◌, inl, inr}
+use Rattle.std.proofs.Common.{◌≡◌, ◌∙◌, sym, ap, refl, ℕ, zero, suc, ◌+◌, ◌-◌, ◌*◌, ◌/◌, ◌%◌, ◌<◌, ◌≤◌, List, [], ◌∷◌, length, bit_xor, slice_index, arith, add-one, inl, inr}
 use Rattle.std.proofs.Math.Nat.{div-mul-le_self, lt-div-mul-add}
 use Rattle.std.proofs.lemmas.Nat.{div-mul-add}
-use Rattle.aegis_aes.specs.Block.{block_at, bytes_at, xor}
+use Rattle.aegis_aes.specs.Block.{block_at, xor}
 use Rattle.aegis_aes.specs.Lanes.{IsLaneCount}
 use Rattle.aegis_base.specs.Family.{Family, Aegis128, Aegis256, rate, width}
 use Rattle.aegis_base.specs.Lane.{keystream, row, step}
-use Rattle.aegis_base.specs.Message.{after, block_count, keystream_byte, lane_of, share, share_at, stream_byte}
+use Rattle.aegis_base.specs.Message.{after, block_count, keystream_byte, lane_of, share, share_at}
 use Rattle.aegis_aes.proofs.Places.{get_or-bytes_at, length-bytes_at}
 use Rattle.aegis_base.proofs.LaneFacts.{bytes_at-same}
 
@@ -18,19 +18,19 @@ pub share_at-same : (family : Family) (d j : ℕ) (x y : List ℕ) (a b : ℕ) �
     → share_at family d j x a ≡ share_at family d j y b
 share_at-same Aegis128 d j x y a b inside same =
     let block : (q : ℕ) → q < 2 * d → block_at x (a + 16 * q) ≡ block_at y (b + 16 * q) =
-        λ q low. bytes_at-same x y (a + 16 * q) (b + 16 * q) 16 (λ p h.
-        let e = same (16 * q + p) (omega arith) in
-        let f : a + 16 * q + p ≡ a + (16 * q + p) = omega arith in
-        let g : b + 16 * q + p ≡ b + (16 * q + p) = omega arith in
-        rw (f, g) e) in
+    λ q low. bytes_at-same x y (a + 16 * q) (b + 16 * q) 16 (λ p h.
+    let e = same (16 * q + p) (omega arith) in
+    let f : a + 16 * q + p ≡ a + (16 * q + p) = omega arith in
+    let g : b + 16 * q + p ≡ b + (16 * q + p) = omega arith in
+    rw (f, g) e) in
     rw (block j (omega arith), block (d + j) (omega arith)) refl
 share_at-same Aegis256 d j x y a b inside same =
     let first : block_at x (a + 16 * j) ≡ block_at y (b + 16 * j) =
-        bytes_at-same x y (a + 16 * j) (b + 16 * j) 16 (λ p h.
-        let e = same (16 * j + p) (omega arith) in
-        let f : a + 16 * j + p ≡ a + (16 * j + p) = omega arith in
-        let g : b + 16 * j + p ≡ b + (16 * j + p) = omega arith in
-        rw (f, g) e) in
+    bytes_at-same x y (a + 16 * j) (b + 16 * j) 16 (λ p h.
+    let e = same (16 * j + p) (omega arith) in
+    let f : a + 16 * j + p ≡ a + (16 * j + p) = omega arith in
+    let g : b + 16 * j + p ≡ b + (16 * j + p) = omega arith in
+    rw (f, g) e) in
     rw first refl
 
 pub after-same : (family : Family) (d : ℕ) (s : List (List ℕ)) (j : ℕ) (x y : List ℕ) (n : ℕ) → j < d
@@ -41,7 +41,7 @@ after-same family d s j x y zero inside same = refl
 after-same family d s j x y (suc n) inside same =
     let before = after-same family d s j x y n inside (λ k h. same k (omega arith)) in
     let taken = share_at-same family d j x y (n * rate family d) (n * rate family d) inside
-        (λ k h. same (n * rate family d + k) (omega arith)) in
+    (λ k h. same (n * rate family d + k) (omega arith)) in
     rw (before, taken) refl
 
 pub after-none : (family : Family) (d : ℕ) (s : List (List ℕ)) (j : ℕ) (x : List ℕ) → after family d s j x 0 ≡ s
@@ -126,7 +126,7 @@ places-within Aegis256 d k (inr (inr e)) = rw e (λ h. record { place = omega ar
 -- a rate block whose blocks are xored with the lanes' keystream, byte by byte
 pub keystream-reads : (family : Family) (d : ℕ) (lanes : ℕ → List (List ℕ)) (new old : List ℕ) (a k : ℕ) → IsLaneCount d
     → ((j h : ℕ) → j < d → h < width family
-      → block_at new (a + 16 * (h * d + j)) ≡ xor (block_at old (a + 16 * (h * d + j))) (row (keystream family (lanes j)) h))
+    → block_at new (a + 16 * (h * d + j)) ≡ xor (block_at old (a + 16 * (h * d + j))) (row (keystream family (lanes j)) h))
     → k < rate family d
     → slice_index new (a + k) ≡ bit_xor (slice_index old (a + k)) (keystream_byte family d lanes k)
 keystream-reads family d lanes new old a k count blocks low =
@@ -134,7 +134,7 @@ keystream-reads family d lanes new old a k count blocks low =
     let j = lane_of d k in
     let h = k % rate family d / 16 / d in
     let byte = xored-reads new old (row (keystream family (lanes j)) h) (a + 16 * (h * d + j)) (k % 16) (omega arith)
-        (blocks j h (lane_of-within d k count) is.block) in
+    (blocks j h (lane_of-within d k count) is.block) in
     let place : a + 16 * (h * d + j) + k % 16 ≡ a + k = (let at = is.place in omega arith) in
     rw place at byte
 

@@ -1,5 +1,5 @@
 -- What lanes that were run along associated data and a message say of its ciphertext and tag.
-use Rattle.std.proofs.Common.{◌≡◌, ◌∙◌, sym, ap, refl, ℕ, ◌*◌, ◌<◌, List, [], length, replicate, bit_xor, slice_index, arith}
+use Rattle.std.proofs.Common.{◌≡◌, ◌∙◌, sym, ap, ℕ, ◌*◌, ◌<◌, List, [], length, replicate, bit_xor, slice_index, arith}
 use Rattle.std.proofs.Math.Nat.{div-eq_of_lt}
 use Rattle.std.proofs.lemmas.Grind.{same_number_lists}
 use Rattle.std.proofs.lemmas.Simd.{get_or-zip2, length-zip2}
@@ -10,7 +10,7 @@ use Rattle.aegis_aes.specs.Block.{xor}
 use Rattle.aegis_base.specs.Family.{Family}
 use Rattle.aegis_base.specs.Lane.{finish, lane_tag}
 use Rattle.aegis_base.specs.Message.{Stands, after_all, block_count, ciphertext, lane_before, stream, stream_byte, tag}
-use Rattle.aegis_base.proofs.Bijection.{bit_xor-twice, ciphertext-injective, ciphertext-is, ciphertext-reads, ciphertext-same, length-ciphertext}
+use Rattle.aegis_base.proofs.Bijection.{bit_xor-twice, ciphertext-injective, ciphertext-is, ciphertext-reads, ciphertext-same}
 use Rattle.aegis_base.proofs.LaneFacts.{xor_lanes-same}
 use Rattle.aegis_base.proofs.MessageFacts.{after-none, rate-positive}
 use Rattle.aegis_base.proofs.StreamFacts.{length-stream}
@@ -27,7 +27,7 @@ pub before-is : {S : Type 0} {inside value absorbed : S} (family : Family) (d : 
     → IsBefore family d (lane absorbed) key nonce ad
 before-is family d lane is key nonce ad count stands absorbed = record {
   count = count;
-  before = λ j h. absorbed j h ∙ ap (λ (s : List (List ℕ)). after_all family d s j ad) (rw is (stands j h))
+  before = λ j h. absorbed j h ∙ ap (λ (s : List (List ℕ)). after_all family d s j ad) (rw is (stands j h));
 }
 
 -- bytes that are the message's, xored with the keystream along it
@@ -71,7 +71,7 @@ before-start family d lanes key nonce count stands =
     let none : block_count family d 0 ≡ 0 = div-eq_of_lt (let positive = rate-positive family d count in omega arith) in
     record {
       count = count;
-      before = λ j h. rw (none, after-none) (stands j h)
+      before = λ j h. rw (none, after-none) (stands j h);
     }
 
 -- bytes that are xored with the keystream along zeros are xored with the stream
@@ -87,8 +87,8 @@ streamed-is family d lanes key nonce m c is long xored =
     same_number_lists c (xor m s) (long ∙ sym (length-zip2 bit_xor m s (sym many))) (λ i h.
     let inside : i < length m = omega (arith, long) in
     let byte : slice_index s i ≡ stream_byte family d lanes zeros i =
-        ap (λ (xs : List ℕ). slice_index xs i) (sym (ciphertext-same family d lanes (lane_before family d key nonce []) zeros is.count is.before))
-        ∙ ciphertext-reads family d lanes zeros i (omega (arith, all))
-        ∙ ap (λ (x : ℕ). bit_xor x (stream_byte family d lanes zeros i)) (get_or-replicate (length m) i 0 0 inside)
-        ∙ xor_zero_l (stream_byte family d lanes zeros i) in
+    ap (λ (xs : List ℕ). slice_index xs i) (sym (ciphertext-same family d lanes (lane_before family d key nonce []) zeros is.count is.before))
+    ∙ ciphertext-reads family d lanes zeros i (omega (arith, all))
+    ∙ ap (λ (x : ℕ). bit_xor x (stream_byte family d lanes zeros i)) (get_or-replicate (length m) i 0 0 inside)
+    ∙ xor_zero_l (stream_byte family d lanes zeros i) in
     xored i inside ∙ sym (get_or-zip2 bit_xor m s i 0 0 0 inside (omega (arith, many)) ∙ ap (bit_xor (slice_index m i)) byte))

@@ -1,6 +1,6 @@
 -- One lane of AEGIS, alone. A lane is the list of its rows, eight in the family 128 and six in the family 256,
 -- and a row is a block.
-use Rattle.std.specs.Prelude.{ℕ, zero, suc, ◌+◌, ◌*◌, ◌==◌, List, [], ◌∷◌, ◌++◌, take, drop, if◌then◌else◌, slice_index_or}
+use Rattle.std.specs.Prelude.{ℕ, zero, suc, ◌==◌, List, [], ◌∷◌, ◌++◌, take, drop, if◌then◌else◌, slice_index_or}
 use Rattle.std.specs.Int.{w64, to_le_bytes}
 use Rattle.aegis_aes.specs.Block.{and, xor}
 use Rattle.aegis_aes.specs.Lanes.{context}

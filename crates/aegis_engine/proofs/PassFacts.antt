@@ -1,5 +1,5 @@
-use Rattle.std.proofs.Common.{◌≡◌, ◌∙◌, sym, ap, refl, ℕ, zero, suc, ◌+◌, ◌-◌, ◌*◌, ◌/◌, ◌<◌, ◌≤◌, ⊎_elim, List, bit_xor, ◌++◌, length, take, drop, replicate, slice_index, arith, length-take, length-drop}
-use Rattle.std.proofs.lemmas.List.{drop-replicate, length-replicate, get_or-append_right, get_or-drop, get_or-replicate, get_or-take, get_or_append_left, get_or_past}
+use Rattle.std.proofs.Common.{◌≡◌, ◌∙◌, sym, ap, refl, ℕ, zero, suc, ◌+◌, ◌-◌, ◌*◌, ◌/◌, ◌<◌, ◌≤◌, ⊎_elim, List, bit_xor, ◌++◌, length, drop, replicate, slice_index, arith, length-drop}
+use Rattle.std.proofs.lemmas.List.{drop-replicate, length-replicate, get_or-append_right, get_or-drop, get_or_append_left, get_or_past}
 use Rattle.std.proofs.lemmas.Bool.{cases_lt}
 use Rattle.std.proofs.Math.Nat.{div-mul-le_self}
 use Rattle.std.proofs.lemmas.Nat.{div-mul-add}
@@ -8,7 +8,7 @@ use Rattle.aegis_base.specs.Family.{Family, rate}
 use Rattle.aegis_base.specs.Lane.{step}
 use Rattle.aegis_base.specs.Message.{after, keystream_byte, share_at, stream_byte}
 use Rattle.aegis_base.proofs.Bijection.{stream_byte-same}
-use Rattle.aegis_base.proofs.MessageFacts.{after-more, after-same, keystream_byte-periodic, keystream_byte-same, rate-positive, share_at-same}
+use Rattle.aegis_base.proofs.MessageFacts.{after-more, after-same, keystream_byte-periodic, keystream_byte-same, share_at-same}
 use Rattle.aegis_engine.specs.Pass.{taken}
 use Rattle.aegis_engine.specs.declared.pass.Pass.{Pass}
 use Rattle.aegis_engine.specs.declared.pass.Pass.TheVariants.{Seal, Open, Stream}

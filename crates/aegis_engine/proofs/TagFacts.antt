@@ -1,9 +1,9 @@
 -- When bytes differ, by the xor and the or of their bits.
-use Rattle.std.proofs.Common.{◌≡◌, ◌∙◌, sym, ap, refl, ℕ, ◌+◌, ◌*◌, List, ◌++◌, length, bit_and, bit_or, bit_xor, arith}
+use Rattle.std.proofs.Common.{◌≡◌, ℕ, List, ◌++◌, length, bit_or, bit_xor, arith}
 use Rattle.std.proofs.lemmas.List.{places, same_lists}
 use borrow.Rule.Slice.PartMut.{put_mid}
 use Rattle.std.proofs.lemmas.Nat.{and_le_l, and_le_r}
-use lib.Bits.{or_add_and, xor_add_and, xor_self}
+use lib.Bits.{or_add_and, xor_add_and}
 
 -- an or of two numbers is zero where both are
 pub or-left : (a b : ℕ) → bit_or a b ≡ 0 → a ≡ 0

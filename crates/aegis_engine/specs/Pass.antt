@@ -1,7 +1,5 @@
 -- What runs along a buffer with the lanes.
-use Rattle.std.specs.Prelude.{◌≡◌, ℕ, ◌<◌, List, bit_xor, length, replicate, slice_index}
-use Rattle.aegis_base.specs.Family.{Family}
-use Rattle.aegis_base.specs.Message.{stream_byte}
+use Rattle.std.specs.Prelude.{ℕ, List, length, replicate}
 use Rattle.aegis_engine.specs.declared.pass.Pass.{Pass}
 use Rattle.aegis_engine.specs.declared.pass.Pass.TheVariants.{Seal, Open, Stream}
 

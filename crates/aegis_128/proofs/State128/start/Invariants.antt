@@ -9,5 +9,5 @@ abbrev pub invariant-loop-turn : goal.invariant-loop-turn
 invariant-loop-turn g l = record {
   updates : l.state.updates ≡ l._turn;
   lanes : (j : ℕ) → j < g.R.Row.LANES
-    → lane g.R.Row.block l.state j ≡ times l._turn (start_turn Aegis128 l.key l.nonce (context j g.R.Row.LANES)) (first_rows Aegis128 l.key l.nonce)
+      → lane g.R.Row.block l.state j ≡ times l._turn (start_turn Aegis128 l.key l.nonce (context j g.R.Row.LANES)) (first_rows Aegis128 l.key l.nonce);
 }

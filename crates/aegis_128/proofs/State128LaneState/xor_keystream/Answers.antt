@@ -1,12 +1,11 @@
-use Rattle.std.proofs.Common.{◌≡◌, ◌∙◌, sym, ap, ℕ, zero, suc, ◌+◌, ◌*◌, ◌<◌, arith}
-use Rattle.aegis_aes.specs.Block.{block_at, bytes_at}
+use Rattle.std.proofs.Common.{◌≡◌, zero, suc, ◌+◌, ◌*◌, arith}
 use Rattle.aegis_base.proofs.LaneFacts.{bytes_at-same}
 use Rattle.aegis_128.proofs.State128LaneState.xor_keystream.Goals as goal
 
 pub returns-clause-written : goal.returns-clause-written
 returns-clause-written g c j zero inside low =
     let kept = bytes_at-same c.store-2.new.out c.store.new.out (c.args.at + 16 * j) (c.args.at + 16 * j) 16
-        (λ p within. c.store-2.ensures.below (c.args.at + 16 * j + p) (omega (arith, c.LANES.ensures))) in
+    (λ p within. c.store-2.ensures.below (c.args.at + 16 * j + p) (omega (arith, c.LANES.ensures))) in
     let stored = c.store.ensures.written j inside in
     let xored = c.xor-m0.ensures j inside in
     let loaded = c.load.ensures j inside in

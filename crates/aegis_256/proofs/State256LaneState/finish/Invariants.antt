@@ -8,6 +8,6 @@ abbrev pub invariant-loop-turn : goal.invariant-loop-turn
 invariant-loop-turn g l = record {
   updates : l.state.updates ≡ l.initial.state.updates + l._turn;
   lanes : (j : ℕ) → j < g.R.Row.LANES
-    → lane g.R.Row.block l.state j
-    ≡ times l._turn (λ r. step Aegis256 r (last_input Aegis256 (g.R.Row.block l.last j))) (lane g.R.Row.block l.initial.state j)
+      → lane g.R.Row.block l.state j
+      ≡ times l._turn (λ r. step Aegis256 r (last_input Aegis256 (g.R.Row.block l.last j))) (lane g.R.Row.block l.initial.state j);
 }

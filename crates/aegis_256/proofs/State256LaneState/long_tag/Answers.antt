@@ -1,5 +1,4 @@
-use Rattle.std.proofs.Common.{◌≡◌, ◌∙◌, ◌++◌, refl, sym}
-use Rattle.aegis_aes.specs.Lanes.{xor_lanes}
+use Rattle.std.proofs.Common.{◌∙◌, refl, sym}
 use Rattle.aegis_base.proofs.LaneFacts.{xor_lanes-append, xor_lanes-same}
 use Rattle.aegis_256.proofs.State256LaneState.long_tag.Goals as goal
 

@@ -1,5 +1,4 @@
-use Rattle.std.proofs.Common.{◌≡◌, ◌∙◌, ◌+◌, ◌<◌, ◌/◌, arith, length, refl}
-use Rattle.aegis_base.specs.Message.{block_count}
+use Rattle.std.proofs.Common.{◌≡◌, ◌∙◌, ◌<◌, ◌/◌, arith, length, refl}
 use Rattle.aegis_base.proofs.MessageFacts.{after-more, after-none, block_count-part, rate-positive}
 use Rattle.aegis_engine.proofs.pass.absorb_all.Goals as goal
 

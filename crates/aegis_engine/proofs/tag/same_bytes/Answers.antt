@@ -1,4 +1,4 @@
-use Rattle.std.proofs.Common.{◌≡◌, ◌∙◌, ap, ℕ, ◌<◌, arith, List, length, refl, eq-eqb, below_more, bit_or, bit_xor, slice_index}
+use Rattle.std.proofs.Common.{◌≡◌, ap, ℕ, arith, List, length, refl, eq-eqb, below_more, slice_index}
 use Rattle.std.proofs.lemmas.Grind.{same_number_lists}
 use Rattle.std.proofs.lemmas.Bool.{eqb-true}
 use lib.Bits.{xor_self}

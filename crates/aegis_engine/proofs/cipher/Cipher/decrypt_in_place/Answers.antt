@@ -1,5 +1,4 @@
-use Rattle.std.proofs.Common.{◌≡◌, ◌∙◌, ap, sym, refl, List, ℕ}
-use Rattle.aegis_base.specs.Message.{tag}
+use Rattle.std.proofs.Common.{◌≡◌, ◌∙◌, ap, refl, List, ℕ}
 use Rattle.aegis_base.proofs.SealFacts.{opened-one}
 use Rattle.aegis_engine.proofs.cipher.Cipher.decrypt_in_place.Goals as goal
 
