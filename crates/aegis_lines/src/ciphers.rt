@@ -1,6 +1,6 @@
 //! The six ciphers, with their keys.
 
-ghost use Rattle.std.specs.Prelude.{◌≡◌, ◌⊎◌, ◌<◌, ◌^◌, ℕ, List, bit_xor, length, OnErr, OnOk};
+ghost use Rattle.std.specs.Prelude.{◌≡◌, ◌⊎◌, ◌<◌, ◌^◌, ℕ, List, bit_xor, length, IsOk, OnOk};
 ghost use Rattle.std.specs.Simd.Lanes.{zip2};
 ghost use Rattle.aegis_lines.specs.Command.{cipher_with, keys_of_length, parts_of, sealed_by, stream_of, tag_bytes_of, tag_size_of, tag_with};
 ghost use Rattle.aegis_lines.specs.Fault.{Gives};
@@ -148,7 +148,7 @@ impl Cipher {
         requires associated_data { length associated_data.now < 2 ^ 61 }
         requires message { length buffer.old < 2 ^ 61 }
         ensures opened { OnOk result (sealed_by self.now TAG_BYTES associated_data.now buffer.new ≡ (buffer.old, tag.now)) }
-        ensures refused { OnErr result ((m : List ℕ) → ¬ (sealed_by self.now TAG_BYTES associated_data.now m ≡ (buffer.old, tag.now))) }
+        ensures accepted { (m : List ℕ) → sealed_by self.now TAG_BYTES associated_data.now m ≡ (buffer.old, tag.now) → IsOk result }
     {
         with_cipher!(self, TAG_BYTES, cipher => cipher.decrypt_in_place(buffer, tag, associated_data))
     }
