@@ -1,4 +1,4 @@
-.PHONY: run test
+.PHONY: run test bench c-library check-c check-header example-c example-rust
 
 # Proves, builds and runs the line program on what is piped in, or else on its stored first input.
 run:
@@ -8,3 +8,45 @@ run:
 # The merge gate: every proof from nothing, the must-fail edits, the tests and the programs.
 test:
 	rt ci
+
+# What follows builds with stock gcc and rustc over the static library, and proves nothing but that library.
+
+C_LIBRARY = crates/aegis_c/out/libaegis_c.a
+OUT = out
+CC = gcc
+RUSTC = rustc -O --edition 2024
+LINK_RUST = -L native=$(dir $(C_LIBRARY)) -l static=aegis_c
+# The processor level is that of the library's own code. Without `no-vectorize-slp` the compiler gathers look-ups
+# into vectors, which makes the tables that the library is compared with a third slower at four lanes.
+BENCH_FLAGS = -C target-cpu=x86-64-v2 -C no-vectorize-slp
+
+# Measures the library beside look-up tables and AES instructions; writes bench/RESULTS.md and bench/results.svg.
+bench: $(OUT)/driver
+	$(OUT)/driver bench
+
+# The tests of the C interface: its header, both examples, and every call of it against known answers.
+check-c: check-header example-c example-rust $(OUT)/driver
+	$(OUT)/driver
+
+# The header stands by itself, as C and as C++.
+check-header:
+	$(CC) -std=c99 -Wall -Wextra -Wpedantic -Werror -fsyntax-only -x c include/aegis.h
+	$(CC) -std=c++11 -Wall -Wextra -Wpedantic -Werror -fsyntax-only -x c++ include/aegis.h
+
+example-c: c-library | $(OUT)
+	$(CC) -std=c99 -Wall -Wextra -Werror -O2 -Iinclude examples/c/seal.c $(C_LIBRARY) -o $(OUT)/seal-c
+	$(OUT)/seal-c
+
+example-rust: c-library | $(OUT)
+	$(RUSTC) examples/rust/seal.rs $(LINK_RUST) -o $(OUT)/seal-rust
+	$(OUT)/seal-rust
+
+# Proves what changed, and builds the static library.
+c-library:
+	cd crates/aegis_c && rt lib
+
+$(OUT)/driver: $(wildcard bench/*.rs) c-library | $(OUT)
+	$(RUSTC) $(BENCH_FLAGS) bench/driver.rs $(LINK_RUST) -o $@
+
+$(OUT):
+	mkdir -p $@

@@ -1,0 +1,106 @@
+//! The check that comes before the measurement: the contenders agree, with one another and with known answers.
+
+use crate::contender::{Calls, Variant};
+use crate::sample::{counted, sample};
+use crate::vectors::{DATA_BYTES, KNOWN, Known, MESSAGE_BYTES};
+
+/// Lengths at which a rate block of some variant ends, and those beside them.
+const ODD_SIZES: [usize; 14] = [0, 1, 15, 16, 17, 31, 32, 33, 63, 65, 127, 128, 129, 300];
+const DATA_SIZES: [usize; 3] = [0, 13, 200];
+const TAG_SIZES: [usize; 2] = [16, 32];
+
+fn hexadecimal(bytes: &[u8]) -> String {
+    bytes.iter().map(|byte| format!("{byte:02x}")).collect()
+}
+
+fn check_known(calls: &Calls, key_bytes: usize, known: &Known) {
+    let (key, nonce) = (counted(0, key_bytes), counted(16, key_bytes));
+    let (ad, message) = (counted(0, DATA_BYTES), counted(0, MESSAGE_BYTES));
+    for expected in [known.short_tag, known.long_tag] {
+        let (mut mc, mut tag) = (message.clone(), vec![0; expected.len() / 2]);
+        (calls.seal)(&key, &nonce, &ad, &mut mc, &mut tag);
+        assert_eq!(hexadecimal(&mc), known.ciphertext, "{}", known.name);
+        assert_eq!(hexadecimal(&tag), expected, "{}", known.name);
+    }
+}
+
+/// All that a contender gives for one message and one length of the tag.
+#[derive(PartialEq)]
+struct Outcome {
+    ciphertext: Vec<u8>,
+    tag: Vec<u8>,
+    stream: Vec<u8>,
+    stream_xor: Vec<u8>,
+}
+
+fn outcome(
+    calls: &Calls,
+    key_bytes: usize,
+    tag_bytes: usize,
+    data_bytes: usize,
+    size: usize,
+) -> Outcome {
+    let (key, nonce) = (sample(1, key_bytes), sample(2, key_bytes));
+    let (ad, message) = (sample(3, data_bytes), sample(4, size));
+    let (mut mc, mut tag) = (message.clone(), vec![0; tag_bytes]);
+    (calls.seal)(&key, &nonce, &ad, &mut mc, &mut tag);
+    let ciphertext = mc.clone();
+
+    assert!(
+        (calls.open)(&key, &nonce, &ad, &mut mc, &tag),
+        "the right tag is refused"
+    );
+    assert!(mc == message, "opening gives another message");
+
+    let mut wrong = tag.clone();
+    wrong[tag_bytes - 1] ^= 1;
+    mc.copy_from_slice(&ciphertext);
+    assert!(
+        !(calls.open)(&key, &nonce, &ad, &mut mc, &wrong),
+        "a wrong tag is accepted"
+    );
+    assert!(
+        mc.iter().all(|byte| *byte == 0xaa),
+        "a refused message is left"
+    );
+
+    let mut stream = vec![0x55; size];
+    (calls.stream)(&key, &nonce, &mut stream);
+    let mut stream_xor = message;
+    (calls.stream_xor)(&key, &nonce, &mut stream_xor);
+    Outcome {
+        ciphertext,
+        tag,
+        stream,
+        stream_xor,
+    }
+}
+
+fn check_outcomes(variant: &Variant, size: usize) {
+    for tag_bytes in TAG_SIZES {
+        for data_bytes in DATA_SIZES {
+            let of = |calls: &Calls| outcome(calls, variant.key_bytes, tag_bytes, data_bytes, size);
+            let expected = of(&variant.tables);
+            for calls in variant.contenders() {
+                assert!(
+                    of(&calls) == expected,
+                    "{}: {size} bytes give two answers",
+                    variant.name
+                );
+            }
+        }
+    }
+}
+
+/// Stops the program where two contenders differ, or one differs from the known answers.
+pub fn check(variants: &[Variant], sizes: &[usize]) {
+    for (variant, known) in variants.iter().zip(&KNOWN) {
+        assert_eq!(variant.name, known.name);
+        for calls in variant.contenders() {
+            check_known(&calls, variant.key_bytes, known);
+        }
+        for size in ODD_SIZES.iter().chain(sizes) {
+            check_outcomes(variant, *size);
+        }
+    }
+}

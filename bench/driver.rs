@@ -1,0 +1,32 @@
+//! Measures the proved library beside the same ciphers over look-up tables and over the processor's AES instructions.
+//!
+//! `driver` checks that all agree, measures, and writes RESULTS.md and results.svg into the folder that it is given.
+//! `driver` with no folder only checks.
+
+mod agreement;
+mod baseline;
+mod block;
+mod contender;
+mod library;
+mod measure;
+mod picture;
+mod report;
+mod sample;
+mod vectors;
+
+use std::path::Path;
+
+fn main() -> std::io::Result<()> {
+    let variants = contender::variants();
+    agreement::check(&variants, &measure::SIZES);
+    println!("The contenders agree at each size.");
+    let Some(folder) = std::env::args_os().nth(1) else {
+        return Ok(());
+    };
+    let lines = measure::measure(&variants);
+    let table = report::table(&lines);
+    print!("{table}");
+    let folder = Path::new(&folder);
+    std::fs::write(folder.join("RESULTS.md"), report::page(&table))?;
+    std::fs::write(folder.join("results.svg"), picture::picture(&lines))
+}

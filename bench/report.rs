@@ -1,0 +1,95 @@
+//! The results as a page of text.
+
+use crate::measure::Line;
+use std::process::Command;
+
+const HEAD: &str = "\
+| Variant | Call | Bytes | Of the tables' speed | Of the AES instructions' speed | Library, MB/s | Tables, MB/s | AES instructions, MB/s |
+|---|---|---:|---:|---:|---:|---:|---:|
+";
+
+fn size_name(size: usize) -> String {
+    match size {
+        size if size >= 1024 * 1024 => format!("{} MiB", size / 1024 / 1024),
+        size if size >= 1024 => format!("{} KiB", size / 1024),
+        size => format!("{size}"),
+    }
+}
+
+fn row(line: &Line) -> String {
+    let ratio = line.library / line.tables;
+    let share = line
+        .instructions
+        .map_or("-".into(), |speed| format!("{:.3}", line.library / speed));
+    let ceiling = line
+        .instructions
+        .map_or("-".into(), |speed| format!("{speed:.0}"));
+    format!(
+        "| {} | {} | {} | {ratio:.2} | {share} | {:.0} | {:.0} | {ceiling} |\n",
+        line.variant,
+        line.call,
+        size_name(line.size),
+        line.library,
+        line.tables
+    )
+}
+
+/// The table of all lines, as Markdown.
+pub fn table(lines: &[Line]) -> String {
+    lines
+        .iter()
+        .map(row)
+        .fold(HEAD.to_string(), |table, row| table + &row)
+}
+
+/// What a program prints, without the line's end.
+fn output_of(program: &str, arguments: &[&str]) -> String {
+    let output = Command::new(program).args(arguments).output();
+    let text = output.map_or("unknown".into(), |output| {
+        String::from_utf8_lossy(&output.stdout).into_owned()
+    });
+    text.trim().to_string()
+}
+
+fn processor() -> String {
+    let lines = std::fs::read_to_string("/proc/cpuinfo").unwrap_or_default();
+    let model = lines
+        .lines()
+        .find_map(|line| line.strip_prefix("model name"));
+    model.map_or("unknown".into(), |model| {
+        model.trim_start_matches([' ', '\t', ':']).to_string()
+    })
+}
+
+/// The page of results.
+pub fn page(table: &str) -> String {
+    format!(
+        "\
+# Speed
+
+Written by `make bench`, in one run.
+
+- Processor: {}
+- Toolchain of the library: {}
+- Compiler of the driver and of what it compares with: {}
+- Date: {}
+
+The library is called through its C interface. Both others are the driver's own code, generic in the family and in the
+number of lanes like the library: one has its AES round by four look-up tables of 256 words, the other by the
+processor's AES instructions, one block each, which the library does not use. The library and the tables are built for
+the same processor level, x86-64-v2, and the tables with `-C no-vectorize-slp`, which makes them faster.
+
+Each call does all of its work on one message with no associated data, from the key to the tag of 16 bytes, in place.
+Before anything is timed, all three give the same ciphertexts, tags of both lengths, opened messages, refusals and
+keystreams at each size, and the known answers. They take turns, a hundred each, and the best turn counts. A turn is
+32 KiB in messages of one size, or one message. MB are 10^6 bytes. A ratio above 1 says that the library is faster.
+
+![The library's speed in sealing, as a multiple of the tables'](results.svg)
+
+{table}",
+        processor(),
+        output_of("rt", &["version"]),
+        output_of("rustc", &["--version"]),
+        output_of("date", &["-u", "+%Y-%m-%d"])
+    )
+}

@@ -1,0 +1,24 @@
+-- What a call answers to the lengths that it is given.
+use Rattle.std.specs.Prelude.{ℕ, ℤ, ◌==◌, ◌||◌, leb, if◌then◌else◌}
+use Rattle.aegis_base.specs.declared.error.TheConstants.{MAX_AEAD_BYTES}
+use Rattle.aegis_c.specs.declared.answer.TheConstants.{DONE, WRONG_NONCE_LENGTH, WRONG_KEY_LENGTH, MESSAGE_TOO_LONG, DATA_TOO_LONG, WRONG_TAG_LENGTH}
+
+-- to a message, its associated data and its tag
+abbrev pub message_answer : ℕ → ℕ → ℕ → ℤ
+message_answer message ad tag =
+    if leb message MAX_AEAD_BYTES then
+    (if leb ad MAX_AEAD_BYTES then (if tag == 16 || tag == 32 then DONE else WRONG_TAG_LENGTH) else DATA_TOO_LONG)
+    else MESSAGE_TOO_LONG
+
+-- to a nonce and a key, of a variant whose nonces and keys have n bytes, and then the answer to the rest
+abbrev pub key_answer : ℕ → ℕ → ℕ → ℤ → ℤ
+key_answer n nonce key rest =
+    if nonce == n then (if key == n then rest else WRONG_KEY_LENGTH) else WRONG_NONCE_LENGTH
+
+-- to the lengths that a keystream has to do with
+abbrev pub stream_answer : ℕ → ℕ → ℕ → ℤ
+stream_answer n nonce key = key_answer n nonce key DONE
+
+-- to the lengths that a message has to do with
+abbrev pub seal_answer : ℕ → ℕ → ℕ → ℕ → ℕ → ℕ → ℤ
+seal_answer n nonce key message ad tag = key_answer n nonce key (message_answer message ad tag)
