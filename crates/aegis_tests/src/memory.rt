@@ -1,0 +1,68 @@
+//! An allocator that refuses each request, and one that refuses those after the first few.
+
+ghost use Rattle.std.specs.Borrow.{ffalse};
+
+use std::alloc::{AllocError, Allocator};
+use std::cell::Cell;
+
+/// An allocator without memory: it refuses each request.
+#[derive(Clone, Copy)]
+pub struct NoMemory;
+
+unsafe impl Allocator for NoMemory {
+    ghost dealloc_token = { λ _ _ _. ffalse };
+
+    fn allocate(&self, _size: usize, _align: usize) -> Result<*mut u8, AllocError> {
+        Err(AllocError)
+    }
+
+    unsafe fn deallocate(&self, _ptr: *mut u8, _size: usize, _align: usize) {}
+}
+
+/// An allocator that passes so many requests on, and refuses those after them.
+pub struct Rationed<B: Allocator> {
+    inner: B,
+    left: Cell<u64>,
+}
+
+impl<B: Allocator> Rationed<B> {
+    pub fn new(inner: B, requests: u64) -> Rationed<B> {
+        Rationed {
+            inner,
+            left: Cell::new(requests),
+        }
+    }
+
+    /// How many requests it would still pass on.
+    pub fn left(&self) -> u64 {
+        self.left.get()
+    }
+}
+
+impl<B: Allocator> Drop for Rationed<B> {
+    fn drop(self) {
+        let Self { inner: _, left: _ } = self;
+    }
+}
+
+// Takes one request off those that are left, or answers that none is.
+fn is_spent(left: &Cell<u64>) -> bool {
+    let requests = left.get();
+    left.set(requests.saturating_sub(1));
+    requests == 0
+}
+
+unsafe impl<B: Allocator> Allocator for Rationed<B> {
+    ghost dealloc_token = { λ heap ty ptr. B.dealloc_token heap.inner ty ptr };
+
+    fn allocate(&self, size: usize, align: usize) -> Result<*mut u8, AllocError> {
+        if is_spent(&self.left) {
+            return Err(AllocError);
+        }
+        self.inner.allocate(size, align)
+    }
+
+    unsafe fn deallocate(&self, ptr: *mut u8, size: usize, align: usize) {
+        self.inner.deallocate(ptr, size, align);
+    }
+}

@@ -1,0 +1,10 @@
+//! Worked examples of what the contracts say, and tests of what no contract says.
+
+mod examples;
+mod keystreams;
+mod lanes;
+mod lines;
+mod openings;
+mod reservations;
+mod texts;
+mod variant;

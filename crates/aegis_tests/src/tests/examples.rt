@@ -1,0 +1,133 @@
+//! Worked examples, whose ciphertexts and tags were not made by the library.
+
+use aegis::Error;
+use aegis::aegis128l::Aegis128L;
+use aegis::aegis256::Aegis256;
+use hex::FromHex;
+use std::process::Abort;
+use std::test::Fail;
+
+const MESSAGE: [u8; 114] =
+    *b"Ladies and Gentlemen of the class of '99: If I could offer you only one tip for the future, sunscreen would be it.";
+
+const ASSOCIATED_DATA: [u8; 17] = *b"Comment numero un";
+
+const SHORT_KEY: [u8; 16] = *b"YELLOW SUBMARINE";
+
+const LONG_KEY: [u8; 32] = *b"YELLOW SUBMARINEyellow submarine";
+
+const AEGIS128L_CIPHERTEXT: &str =
+    "899362861e6c645ab98b6effa9c962e88a9fa647a95060cd026d1665478ae74f82949faf8394a6c8b49f8b8a5068bc325935cc6f0cd4c48f6219817684735f0de8a70d3b138f3a3b2aceee8b02fbc2deb93b8f74e7afe943e50bdb7fa0d759d96d594ce16676455efc0245cdfb419fb10365";
+
+const AEGIS128L_TAG: &str = "10f485a74c28388806eb3d8bfc073996";
+
+const AEGIS256_CIPHERTEXT: &str =
+    "3e5a155af5b611d637667c0c8c054ee94f860a1d6769e9c5ee31dd6d2cf52a652bccfafb096f0406be6aeebe50640ccba81bfaf0de329bfaf74c1ae9e41211bb34e59f420c3e78ff2a5a0e32f394c56bc29fba5f45785563d4c18e434ac222c409879476d7272c4792f1f748323c10349ce2";
+
+const AEGIS256_TAG: &str = "59c6e5d51fdf2bc7c147043fc97281b0";
+
+fn aegis128l() -> Aegis128L<16> {
+    Aegis128L::new(&SHORT_KEY, &[0; 16])
+}
+
+fn aegis256() -> Aegis256<16> {
+    Aegis256::new(&LONG_KEY, &[0; 32])
+}
+
+// The digits are those of the bytes.
+fn assert_digits<R: Abort + AllocGlobal>(rt: &R, bytes: &[u8], digits: &str) -> Result<(), Fail> {
+    let text = hex::encode(rt.alloc(), bytes)?;
+    assert_eq!(rt; text.as_str(), digits);
+    Ok(())
+}
+
+#[test]
+fn aegis128l_seals(rt: HostRuntime) -> Result<(), Fail> {
+    let (sealed, tag) = aegis128l().encrypt(rt.alloc(), &MESSAGE, &ASSOCIATED_DATA)?;
+    assert_digits(&rt, &sealed, AEGIS128L_CIPHERTEXT)?;
+    assert_digits(&rt, &tag, AEGIS128L_TAG)?;
+    let mut buffer = MESSAGE;
+    let tag = aegis128l().encrypt_in_place(&mut buffer, &ASSOCIATED_DATA);
+    assert_digits(&rt, &buffer, AEGIS128L_CIPHERTEXT)?;
+    assert_digits(&rt, &tag, AEGIS128L_TAG)
+}
+
+#[test]
+fn aegis128l_opens(rt: HostRuntime) -> Result<(), Fail> {
+    let sealed = <[u8; 114] as FromHex>::from_hex(AEGIS128L_CIPHERTEXT)?;
+    let tag = <[u8; 16] as FromHex>::from_hex(AEGIS128L_TAG)?;
+    let opened = aegis128l().decrypt(rt.alloc(), &sealed, &tag, &ASSOCIATED_DATA)?;
+    assert_eq!(rt; opened.as_slice(), MESSAGE.as_slice());
+    let mut buffer = sealed;
+    aegis128l().decrypt_in_place(&mut buffer, &tag, &ASSOCIATED_DATA)?;
+    assert_eq!(rt; buffer, MESSAGE);
+
+    let mut wrong = tag;
+    wrong[0] = 0x11;
+    let refused = aegis128l().decrypt(rt.alloc(), &sealed, &wrong, &ASSOCIATED_DATA);
+    assert_eq!(rt; refused.err(), Some(Error::InvalidTag));
+    let mut buffer = sealed;
+    let refused = aegis128l().decrypt_in_place(&mut buffer, &wrong, &ASSOCIATED_DATA);
+    assert_eq!(rt; refused, Err(Error::InvalidTag));
+    assert_eq!(rt; buffer, [0xaa; 114]);
+    Ok(())
+}
+
+#[test]
+fn aegis256_seals(rt: HostRuntime) -> Result<(), Fail> {
+    let (sealed, tag) = aegis256().encrypt(rt.alloc(), &MESSAGE, &ASSOCIATED_DATA)?;
+    assert_digits(&rt, &sealed, AEGIS256_CIPHERTEXT)?;
+    assert_digits(&rt, &tag, AEGIS256_TAG)?;
+    let mut buffer = MESSAGE;
+    let tag = aegis256().encrypt_in_place(&mut buffer, &ASSOCIATED_DATA);
+    assert_digits(&rt, &buffer, AEGIS256_CIPHERTEXT)?;
+    assert_digits(&rt, &tag, AEGIS256_TAG)
+}
+
+#[test]
+fn aegis256_opens(rt: HostRuntime) -> Result<(), Fail> {
+    let sealed = <[u8; 114] as FromHex>::from_hex(AEGIS256_CIPHERTEXT)?;
+    let tag = <[u8; 16] as FromHex>::from_hex(AEGIS256_TAG)?;
+    let opened = aegis256().decrypt(rt.alloc(), &sealed, &tag, &ASSOCIATED_DATA)?;
+    assert_eq!(rt; opened.as_slice(), MESSAGE.as_slice());
+    let mut buffer = sealed;
+    aegis256().decrypt_in_place(&mut buffer, &tag, &ASSOCIATED_DATA)?;
+    assert_eq!(rt; buffer, MESSAGE);
+
+    let mut wrong = tag;
+    wrong[0] ^= 1;
+    let refused = aegis256().decrypt(rt.alloc(), &sealed, &wrong, &ASSOCIATED_DATA);
+    assert_eq!(rt; refused.err(), Some(Error::InvalidTag));
+    let mut buffer = sealed;
+    let refused = aegis256().decrypt_in_place(&mut buffer, &wrong, &ASSOCIATED_DATA);
+    assert_eq!(rt; refused, Err(Error::InvalidTag));
+    assert_eq!(rt; buffer, [0xaa; 114]);
+    Ok(())
+}
+
+// The length of the tag has no effect on the ciphertext.
+#[test]
+fn long_tags_open(rt: HostRuntime) -> Result<(), Fail> {
+    let mut buffer = MESSAGE;
+    let tag = Aegis128L::<32>::new(&SHORT_KEY, &[0; 16]).encrypt_in_place(
+        &mut buffer,
+        &ASSOCIATED_DATA,
+    );
+    assert_digits(&rt, &buffer, AEGIS128L_CIPHERTEXT)?;
+    Aegis128L::<32>::new(&SHORT_KEY, &[0; 16]).decrypt_in_place(
+        &mut buffer,
+        &tag,
+        &ASSOCIATED_DATA,
+    )?;
+    assert_eq!(rt; buffer, MESSAGE);
+
+    let mut buffer = MESSAGE;
+    let tag = Aegis256::<32>::new(&LONG_KEY, &[0; 32]).encrypt_in_place(
+        &mut buffer,
+        &ASSOCIATED_DATA,
+    );
+    assert_digits(&rt, &buffer, AEGIS256_CIPHERTEXT)?;
+    Aegis256::<32>::new(&LONG_KEY, &[0; 32]).decrypt_in_place(&mut buffer, &tag, &ASSOCIATED_DATA)?;
+    assert_eq!(rt; buffer, MESSAGE);
+    Ok(())
+}

@@ -1,0 +1,44 @@
+//! Keystreams, by each variant.
+
+ghost use Rattle.std.specs.Prelude.{◌≡◌, ◌⊎◌};
+
+use crate::tests::variant::{VARIANTS, Variant};
+use std::process::Abort;
+use std::test::Fail;
+
+const MESSAGE: [u8; 13] = *b"AEGIS is fast";
+
+// The keystream is the ciphertext of zeros, whatever it is written over. A message that is xored with it twice is as
+// it was.
+fn check_keystream<R: Abort + AllocGlobal, const TAG_BYTES: usize>(
+    rt: &R,
+    variant: Variant,
+) -> Result<(), Fail>
+    requires { (TAG_BYTES ≡ 16) ⊎ (TAG_BYTES ≡ 32) }
+{
+    let mut stream = [0xa5; 515];
+    variant.stream::<TAG_BYTES>(&mut stream);
+    let mut sealed = [0; 515];
+    variant.encrypt_in_place::<TAG_BYTES>(&mut sealed, &[]);
+    assert_eq!(rt; stream.as_slice(), sealed.as_slice(), "{variant:?}");
+
+    let mut buffer = MESSAGE;
+    variant.stream_xor_in_place::<TAG_BYTES>(&mut buffer);
+    for i in 0..13usize {
+        assert_eq!(rt; buffer[i], MESSAGE[i] ^ stream[i], "{variant:?} at {i}");
+    }
+    let xored = variant.stream_xor::<_, TAG_BYTES>(rt.alloc(), &MESSAGE)?;
+    assert_eq!(rt; xored.as_slice(), buffer.as_slice(), "{variant:?}");
+    variant.stream_xor_in_place::<TAG_BYTES>(&mut buffer);
+    assert_eq!(rt; buffer, MESSAGE, "{variant:?}");
+    Ok(())
+}
+
+#[test]
+fn keystreams(rt: HostRuntime) -> Result<(), Fail> {
+    for variant in VARIANTS {
+        check_keystream::<_, 16>(&rt, variant)?;
+        check_keystream::<_, 32>(&rt, variant)?;
+    }
+    Ok(())
+}

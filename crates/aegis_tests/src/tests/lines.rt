@@ -1,0 +1,57 @@
+//! Want of memory in the line program: each of its allocations refused in turn.
+
+use crate::memory::Rationed;
+use aegis::Error;
+use aegis_lines::{answer_line, run};
+use std::test::Fail;
+
+// More requests than the lines below make.
+const REQUESTS: u64 = 80;
+
+const LINES: &[u8] = b"round 000102030405060708090a0b0c0d0e0f 101112131415161718191a1b1c1d1e1f
+seal aegis128l 16 59454c4c4f57205355424d4152494e45 00000000000000000000000000000000 636f -
+stream aegis128x4 59454c4c4f57205355424d4152494e45 00000000000000000000000000000000 20
+";
+
+// A line is answered as with ample memory, or with want of memory.
+#[test]
+fn each_line_or_want_of_memory(rt: HostRuntime) -> Result<(), Fail> {
+    for line in LINES.split(|byte| *byte == b'\n') {
+        let expected = answer_line(rt.alloc(), line)?;
+        for requests in 0..REQUESTS {
+            let heap = Rationed::new(rt.alloc(), requests);
+            match answer_line(&heap, line) {
+                Ok(answer) => assert_eq!(rt; answer.as_slice(), expected.as_slice(), "{requests}"),
+                Err(error) => assert_eq!(rt; error, Error::OutOfMemory, "{requests}"),
+            }
+        }
+        let heap = Rationed::new(rt.alloc(), 0);
+        assert!(rt; answer_line(&heap, line).is_err());
+        let heap = Rationed::new(rt.alloc(), REQUESTS);
+        assert!(rt; answer_line(&heap, line).is_ok());
+    }
+    Ok(())
+}
+
+// The program ends with status 2 and a beginning of its answers, or as with ample memory.
+#[test]
+fn all_lines_or_status_two(rt: HostRuntime) -> Result<(), Fail> {
+    let mut expected = Vec::new(rt.alloc());
+    let status = run(rt.alloc(), &mut &LINES[..], &mut expected);
+    assert_eq!(rt; status, 0);
+    for requests in 0..REQUESTS {
+        let heap = Rationed::new(rt.alloc(), requests);
+        let mut output = Vec::new(rt.alloc());
+        let status = run(&heap, &mut &LINES[..], &mut output);
+        assert!(rt;
+            status == 2 || output.as_slice() == expected.as_slice(),
+            "{requests}"
+        );
+        assert!(rt; expected.as_slice().starts_with(&output), "{requests}");
+        assert!(rt; status == 0 || status == 2, "{requests}");
+    }
+    let heap = Rationed::new(rt.alloc(), 0);
+    let mut output = Vec::new(rt.alloc());
+    assert_eq!(rt; run(&heap, &mut &LINES[..], &mut output), 2);
+    Ok(())
+}

@@ -1,0 +1,78 @@
+//! Printed texts.
+
+use crate::tests::variant::{LONG_KEY, LONG_NONCE, SHORT_KEY, SHORT_NONCE};
+use aegis::Error;
+use aegis::aegis128l::Aegis128L;
+use aegis::aegis128x2::Aegis128X2;
+use aegis::aegis128x4::Aegis128X4;
+use aegis::aegis256::Aegis256;
+use aegis::aegis256x2::Aegis256X2;
+use aegis::aegis256x4::Aegis256X4;
+use std::test::Fail;
+
+// A cipher prints its name in either form.
+macro_rules! prints {
+    ($rt:expr, $cipher:expr, $expected:literal) => {{
+        let cipher = $cipher;
+        let text = format!(in $rt.alloc(); "{cipher:?}")?;
+        let tall = format!(in $rt.alloc(); "{cipher:#?}")?;
+        assert_eq!($rt; text.as_str(), $expected);
+        assert_eq!($rt; tall.as_str(), $expected);
+    }};
+}
+
+#[test]
+fn ciphers(rt: HostRuntime) -> Result<(), Fail> {
+    prints!(
+        rt,
+        Aegis128L::<16>::new(&SHORT_KEY, &SHORT_NONCE),
+        "Aegis128L { .. }"
+    );
+    prints!(
+        rt,
+        Aegis128X2::<32>::new(&SHORT_KEY, &SHORT_NONCE),
+        "Aegis128X2 { .. }"
+    );
+    prints!(
+        rt,
+        Aegis128X4::<16>::new(&SHORT_KEY, &SHORT_NONCE),
+        "Aegis128X4 { .. }"
+    );
+    prints!(
+        rt,
+        Aegis256::<32>::new(&LONG_KEY, &LONG_NONCE),
+        "Aegis256 { .. }"
+    );
+    prints!(
+        rt,
+        Aegis256X2::<16>::new(&LONG_KEY, &LONG_NONCE),
+        "Aegis256X2 { .. }"
+    );
+    prints!(
+        rt,
+        Aegis256X4::<32>::new(&LONG_KEY, &LONG_NONCE),
+        "Aegis256X4 { .. }"
+    );
+    Ok(())
+}
+
+#[test]
+fn errors(rt: HostRuntime) -> Result<(), Fail> {
+    let errors = [
+        (Error::InvalidTag, "Invalid tag"),
+        (Error::OutputBufferTooSmall, "Output buffer too small"),
+        (Error::MessageTooLong, "Message too long"),
+        (Error::OutOfMemory, "Out of memory"),
+    ];
+    for (error, expected) in errors {
+        let text = error.to_string(rt.alloc())?;
+        assert_eq!(rt; text.as_str(), expected);
+        let copy = error;
+        assert_eq!(rt; copy, error);
+        assert_eq!(rt; error.clone()?, error);
+        for (other, text_of_other) in errors {
+            assert_eq!(rt; error == other, expected == text_of_other);
+        }
+    }
+    Ok(())
+}

@@ -1,0 +1,95 @@
+//! The comparison.
+
+ghost use Rattle.std.specs.Prelude.{◌≤◌};
+
+use crate::library::library_seal;
+use crate::round::SubstitutionTable;
+use crate::slow::slow_seal;
+use crate::variant::{TagLength, Variant};
+use std::fmt;
+
+// The longest message or associated data: one byte more than two rate blocks of 128 bytes.
+const LONGEST: usize = 257;
+
+// How long the message is while the associated data grows, and the other way round.
+const FIXED: usize = 17;
+
+/// Lengths at which the library and the slow function give something else.
+#[derive(Clone, Copy)]
+pub struct Difference {
+    what: &'static str,
+    message_bytes: usize,
+    ad_bytes: usize,
+}
+
+impl fmt::Display for Difference {
+    fn fmt<W: fmt::Write>(&self, f: &mut fmt::Formatter<W>) -> fmt::Result {
+        let what = self.what;
+        let message_bytes = self.message_bytes;
+        let ad_bytes = self.ad_bytes;
+        write!(
+            f,
+            "the {what} differs at a message of {message_bytes} bytes with associated data of {ad_bytes} bytes"
+        )
+    }
+}
+
+// Bytes that look random: the high bytes of a linear congruential generator.
+fn filler(seed: u16) -> [u8; LONGEST] {
+    let mut bytes = [0; LONGEST];
+    let mut state = seed;
+    for byte in bytes.iter_mut() {
+        state = state.wrapping_mul(25173).wrapping_add(13849);
+        *byte = state.to_be_bytes()[0];
+    }
+    bytes
+}
+
+fn compare_one(
+    table: &SubstitutionTable,
+    variant: Variant,
+    tag_length: TagLength,
+    message_bytes: usize,
+    ad_bytes: usize,
+) -> Result<(), Difference>
+    requires message { message_bytes ≤ 257 }
+    requires ad { ad_bytes ≤ 257 }
+{
+    let ad = filler(29);
+    let ad = &ad[..ad_bytes];
+    let mut expected = filler(71);
+    let expected = &mut expected[..message_bytes];
+    let mut sealed = filler(71);
+    let sealed = &mut sealed[..message_bytes];
+    let expected_tag = slow_seal(table, variant, tag_length, ad, expected);
+    let tag = library_seal(variant, tag_length, ad, sealed);
+    let what = if *sealed != *expected {
+        "ciphertext"
+    } else if tag != expected_tag {
+        "tag"
+    } else {
+        return Ok(());
+    };
+    Err(Difference {
+        what,
+        message_bytes,
+        ad_bytes,
+    })
+}
+
+/// Compares at each length of message and of associated data up to one byte more than two rate blocks, and returns at
+/// how many.
+pub fn compare(
+    table: &SubstitutionTable,
+    variant: Variant,
+    tag_length: TagLength,
+) -> Result<usize, Difference> {
+    let longest = 2 * variant.rate() + 1;
+    for message_bytes in 0..=longest {
+        compare_one(table, variant, tag_length, message_bytes, FIXED)?;
+    }
+    for ad_bytes in 0..=longest {
+        compare_one(table, variant, tag_length, FIXED, ad_bytes)?;
+    }
+    Ok(2 * (longest + 1))
+}

@@ -1,0 +1,45 @@
+//! Seals by a slow function, written from the definitions one lane at a time, and compares what the library gives.
+//! It shares nothing with the library, and only calls it.
+#![tactic(auto)]
+
+mod compare;
+mod lane;
+mod library;
+mod round;
+mod slow;
+mod variant;
+
+use compare::compare;
+use round::SubstitutionTable;
+use std::io;
+use std::process::ExitCode;
+use variant::{TagLength, Variant};
+
+const VARIANTS: [Variant; 6] = [
+    Variant::Aegis128L,
+    Variant::Aegis128X2,
+    Variant::Aegis128X4,
+    Variant::Aegis256,
+    Variant::Aegis256X2,
+    Variant::Aegis256X4,
+];
+
+const TAG_LENGTHS: [TagLength; 2] = [TagLength::Short, TagLength::Long];
+
+fn main(rt: HostRuntime) -> io::Result<ExitCode> {
+    let table = SubstitutionTable::new();
+    for variant in VARIANTS {
+        for tag_length in TAG_LENGTHS {
+            let name = variant.name();
+            let tag_bytes = tag_length.bytes();
+            match compare(&table, variant, tag_length) {
+                Ok(count) => println!(rt; "{name}, tag of {tag_bytes} bytes: {count} agree")?,
+                Err(difference) => {
+                    println!(rt; "{name}, tag of {tag_bytes} bytes: {difference}")?;
+                    return Ok(ExitCode::FAILURE);
+                }
+            }
+        }
+    }
+    Ok(ExitCode::SUCCESS)
+}
