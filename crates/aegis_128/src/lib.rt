@@ -1,19 +1,19 @@
-//! The lanes of the family AEGIS-128: eight rows, two blocks of each rate block to a lane.
+//! The lanes of the family AEGIS-128: eight rows, and two blocks of each rate block to a lane.
+//!
+//! [`State128`] is entered by the calls of `LaneState` alone. Each private step is one of the standard's, said lane by
+//! lane; only `update` counts.
 #![tactic(auto)]
 
-ghost use Rattle.std.specs.Prelude.{◌≡◌, ℕ, ◌+◌, ◌*◌, ◌^◌, ◌<◌, ◌≤◌, length, List, [], ◌∷◌};
-ghost use Rattle.aegis_aes.specs.Block.{and, xor};
+ghost use Rattle.std.specs.Prelude.{◌≡◌, ℕ, ◌+◌, ◌*◌, ◌^◌, ◌<◌, List, [], ◌∷◌};
 ghost use Rattle.aegis_aes.specs.Lanes.{context};
-ghost use Rattle.aegis_base.specs.Family.{Aegis128, rate};
-ghost use Rattle.aegis_aes.specs.Block.{block_at};
-ghost use Rattle.aegis_aes.specs.Lanes.{xor_lanes};
-ghost use Rattle.aegis_base.specs.Lane.{add_context, finish, first_rows, high_tag, keystream, last_block, low_tag, row, short_tag, start, start_turn, step};
-ghost use Rattle.aegis_base.specs.Message.{share_at};
+ghost use Rattle.aegis_base.specs.Family.{Aegis128};
+ghost use Rattle.aegis_base.specs.Lane.{add_context, first_rows, high_tag, keystream, last_block, low_tag, row, short_tag, start, start_turn, step};
 
 use aegis_aes::{AesBlock, Row};
 use aegis_base::{C0, C1, LaneState, bit_lengths};
 
-/// The lanes of AEGIS-128L, 128X2 or 128X4.
+/// The lanes of AEGIS-128L, 128X2 or 128X4: their rows, each with one block of every lane, and the count of updates since the
+/// start.
 #[derive(Clone, Copy)]
 pub struct State128<R: Row> {
     s0: R,

@@ -1,14 +1,13 @@
-//! The lanes of the family AEGIS-256: six rows, one block of each rate block to a lane.
+//! The lanes of the family AEGIS-256: six rows, and one block of each rate block to a lane.
+//!
+//! [`State256`] is entered by the calls of `LaneState` alone. Each private step is one of the standard's, said lane by
+//! lane; only `update` counts.
 #![tactic(auto)]
 
-ghost use Rattle.std.specs.Prelude.{◌≡◌, ℕ, ◌+◌, ◌*◌, ◌^◌, ◌<◌, ◌≤◌, length, List, [], ◌∷◌};
-ghost use Rattle.aegis_aes.specs.Block.{and, xor};
+ghost use Rattle.std.specs.Prelude.{◌≡◌, ℕ, ◌+◌, ◌*◌, ◌^◌, ◌<◌, List, [], ◌∷◌};
 ghost use Rattle.aegis_aes.specs.Lanes.{context};
-ghost use Rattle.aegis_base.specs.Family.{Aegis256, rate};
-ghost use Rattle.aegis_aes.specs.Block.{block_at};
-ghost use Rattle.aegis_aes.specs.Lanes.{xor_lanes};
-ghost use Rattle.aegis_base.specs.Lane.{add_context, finish, first_rows, high_half, high_tag, keystream, last_block, low_half, low_tag, row, short_tag, start, start_turn, step};
-ghost use Rattle.aegis_base.specs.Message.{share_at};
+ghost use Rattle.aegis_base.specs.Family.{Aegis256};
+ghost use Rattle.aegis_base.specs.Lane.{add_context, first_rows, high_half, high_tag, keystream, last_block, low_half, low_tag, row, short_tag, start, start_turn, step};
 
 use aegis_aes::{AesBlock, Row};
 use aegis_base::{C0, C1, LaneState, bit_lengths};
@@ -28,7 +27,8 @@ fn high_half(bytes: &[u8; 32]) -> AesBlock
     AesBlock::from_bytes(high)
 }
 
-/// The lanes of AEGIS-256, 256X2 or 256X4.
+/// The lanes of AEGIS-256, 256X2 or 256X4: their rows, each with one block of every lane, and the count of updates since the
+/// start.
 #[derive(Clone, Copy)]
 pub struct State256<R: Row> {
     s0: R,

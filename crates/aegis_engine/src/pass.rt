@@ -4,10 +4,9 @@
 //! the lanes take in what the pass says, the bytes before that, the bytes after it, or zeros. The last bytes, which fill
 //! no rate block, are taken in with zeros after them.
 
-ghost use Rattle.std.specs.Prelude.{◌≡◌, ℕ, ◌+◌, ◌-◌, ◌*◌, ◌/◌, ◌^◌, ◌<◌, ◌≤◌, bit_xor, length, List, slice_index, replicate};
-ghost use Rattle.aegis_base.specs.Family.{rate};
+ghost use Rattle.std.specs.Prelude.{◌≡◌, ℕ, ◌+◌, ◌^◌, ◌<◌, ◌≤◌, bit_xor, length, List, slice_index, replicate};
 ghost use Rattle.aegis_base.specs.Lane.{step};
-ghost use Rattle.aegis_base.specs.Message.{after, after_all, block_count, keystream_byte, share_at, stream_byte};
+ghost use Rattle.aegis_base.specs.Message.{after_all, block_count, keystream_byte, share_at, stream_byte};
 ghost use Rattle.aegis_engine.specs.Pass.{taken};
 
 use aegis_base::LaneState;
