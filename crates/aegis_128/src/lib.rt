@@ -30,27 +30,6 @@ pub struct State128<R: Row> {
 impl<R: Row> State128<R> {
     ghost use Rattle.aegis_128.specs.Rows.{lane};
 
-    // The rows before the updates of the start.
-    fn first_rows(key: AesBlock, nonce: AesBlock) -> Self
-        ensures lanes { (j : ℕ) → j < R.LANES → lane R.block result j ≡ first_rows Aegis128 key nonce }
-        ensures updates { result.updates ≡ 0 }
-    {
-        let c0 = AesBlock::from_bytes(&C0);
-        let c1 = AesBlock::from_bytes(&C1);
-        let both = R::splat(key.xor(nonce));
-        State128 {
-            s0: both,
-            s1: R::splat(c1),
-            s2: R::splat(c0),
-            s3: R::splat(c1),
-            s4: both,
-            s5: R::splat(key.xor(c0)),
-            s6: R::splat(key.xor(c1)),
-            s7: R::splat(key.xor(c0)),
-            updates: 0,
-        }
-    }
-
     // The rows after one update by two rows of blocks, the private step of every lane, which alone counts.
     fn update(self, m0: R, m1: R) -> Self
         requires { self.updates + 1 < 2 ^ 64 }
@@ -82,39 +61,6 @@ impl<R: Row> State128<R> {
         }
     }
 
-    // One turn of the start.
-    fn start_turn(self, key: AesBlock, nonce: AesBlock) -> Self
-        requires { self.updates + 1 < 2 ^ 64 }
-        ensures lanes { (j : ℕ) → j < R.LANES → lane R.block result j ≡ start_turn Aegis128 key nonce (context j R.LANES) (lane R.block self j) }
-        ensures updates { result.updates ≡ self.updates + 1 }
-    {
-        self.add_contexts().update(R::splat(nonce), R::splat(key))
-    }
-
-    // The rows after the start.
-    #[tactic(auto, unfolding(aegis_base::specs::Lane::start))]
-    fn start(key: AesBlock, nonce: AesBlock) -> Self
-        ensures lanes { (j : ℕ) → j < R.LANES → lane R.block result j ≡ start Aegis128 R.LANES key nonce j }
-        ensures updates { result.updates ≡ 0 }
-    {
-        let mut state = Self::first_rows(key, nonce);
-        for _turn in 0..10usize {
-            state = state.start_turn(key, nonce);
-        }
-        State128 {
-            updates: 0,
-            ..state
-        }
-    }
-
-    // The blocks that end the lanes.
-    fn last_blocks(self, first_bits: u64, second_bits: u64) -> R
-        ensures { (j : ℕ) → j < R.LANES → R.block result j ≡ last_block Aegis128 (lane R.block self j) first_bits second_bits }
-    {
-        let lengths = AesBlock::from_bytes(&bit_lengths(first_bits, second_bits));
-        self.s2.xor(R::splat(lengths))
-    }
-
     // The first row of keystream blocks.
     fn first_keystream(self) -> R
         ensures { (j : ℕ) → j < R.LANES → R.block result j ≡ row (keystream Aegis128 (lane R.block self j)) 0 }
@@ -128,35 +74,19 @@ impl<R: Row> State128<R> {
     {
         self.s2.xor(self.s5).xor(self.s6.and(self.s7))
     }
-
-    // The lanes' tags of 16 bytes.
-    fn short_tags(self) -> R
-        ensures { (j : ℕ) → j < R.LANES → R.block result j ≡ short_tag Aegis128 (lane R.block self j) }
-    {
-        let front = self.s0.xor(self.s1).xor(self.s2.xor(self.s3));
-        front.xor(self.s4.xor(self.s5).xor(self.s6))
-    }
-
-    // The low halves of the lanes' tags of 32 bytes.
-    fn low_tags(self) -> R
-        ensures { (j : ℕ) → j < R.LANES → R.block result j ≡ low_tag Aegis128 (lane R.block self j) }
-    {
-        self.s0.xor(self.s1).xor(self.s2.xor(self.s3))
-    }
-
-    // The high halves of the lanes' tags of 32 bytes.
-    fn high_tags(self) -> R
-        ensures { (j : ℕ) → j < R.LANES → R.block result j ≡ high_tag Aegis128 (lane R.block self j) }
-    {
-        self.s4.xor(self.s5).xor(self.s6.xor(self.s7))
-    }
 }
 
 impl<R: Row> LaneState for State128<R> {
     ghost use Rattle.aegis_128.specs.Rows.{lane};
-    ghost use Rattle.std.proofs.Common.{rules};
+    ghost use Rattle.std.proofs.Common.{refl, rules};
 
     type Key = [u8; 16];
+
+    type Row = R;
+
+    const START_TURNS: usize = 10;
+
+    ghost START_TURNS = { 10 };
 
     const RATE: usize = 32 * R::LANES;
 
@@ -172,8 +102,33 @@ impl<R: Row> LaneState for State128<R> {
 
     ghost updates = { λ s. s.updates };
 
-    fn new(key: &[u8; 16], nonce: &[u8; 16]) -> Self {
-        Self::start(AesBlock::from_bytes(key), AesBlock::from_bytes(nonce))
+    fn first_rows(key: &[u8; 16], nonce: &[u8; 16]) -> Self {
+        let key = AesBlock::from_bytes(key);
+        let nonce = AesBlock::from_bytes(nonce);
+        let c0 = AesBlock::from_bytes(&C0);
+        let c1 = AesBlock::from_bytes(&C1);
+        let both = R::splat(key.xor(nonce));
+        State128 {
+            s0: both,
+            s1: R::splat(c1),
+            s2: R::splat(c0),
+            s3: R::splat(c1),
+            s4: both,
+            s5: R::splat(key.xor(c0)),
+            s6: R::splat(key.xor(c1)),
+            s7: R::splat(key.xor(c0)),
+            updates: 0,
+        }
+    }
+
+    fn start_turn(self, key: &[u8; 16], nonce: &[u8; 16]) -> Self {
+        let key = R::splat(AesBlock::from_bytes(key));
+        let nonce = R::splat(AesBlock::from_bytes(nonce));
+        self.add_contexts().update(nonce, key)
+    }
+
+    fn uncounted(self) -> Self {
+        State128 { updates: 0, ..self }
     }
 
     #[inline(always)]
@@ -190,26 +145,32 @@ impl<R: Row> LaneState for State128<R> {
         m1.store(buffer, second);
     }
 
-    #[tactic(auto, unfolding(aegis_base::specs::Lane::finish))]
-    fn finish(self, first_bits: u64, second_bits: u64) -> Self {
-        let last = self.last_blocks(first_bits, second_bits);
-        let mut state = self;
-        for _turn in 0..7usize {
-            state = state.update(last, last);
-        }
-        state
+    fn last_blocks(self, first_bits: u64, second_bits: u64) -> R {
+        let lengths = AesBlock::from_bytes(&bit_lengths(first_bits, second_bits));
+        self.s2.xor(R::splat(lengths))
     }
 
-    fn short_tag(self) -> AesBlock {
-        self.short_tags().xor_of_lanes()
+    #[inline(always)]
+    fn end_update(self, last: R) -> Self {
+        self.update(last, last)
     }
 
-    fn long_tag(self) -> (AesBlock, AesBlock) {
-        (
-            self.low_tags().xor_of_lanes(),
-            self.high_tags().xor_of_lanes(),
-        )
+    fn short_tags(self) -> R {
+        let front = self.s0.xor(self.s1).xor(self.s2.xor(self.s3));
+        front.xor(self.s4.xor(self.s5).xor(self.s6))
     }
+
+    fn low_tags(self) -> R {
+        self.s0.xor(self.s1).xor(self.s2.xor(self.s3))
+    }
+
+    fn high_tags(self) -> R {
+        self.s4.xor(self.s5).xor(self.s6.xor(self.s7))
+    }
+
+    ghost lanes_are = { refl };
+
+    ghost start_turns_are = { refl };
 
     ghost one_two_or_four = { R.one_two_or_four };
 

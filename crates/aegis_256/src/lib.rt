@@ -43,24 +43,6 @@ pub struct State256<R: Row> {
 impl<R: Row> State256<R> {
     ghost use Rattle.aegis_256.specs.Rows.{lane};
 
-    // The rows before the updates of the start.
-    fn first_rows(key: &[u8; 32], nonce: &[u8; 32]) -> Self
-        ensures lanes { (j : ℕ) → j < R.LANES → lane R.block result j ≡ first_rows Aegis256 key.now nonce.now }
-        ensures updates { result.updates ≡ 0 }
-    {
-        let c0 = AesBlock::from_bytes(&C0);
-        let c1 = AesBlock::from_bytes(&C1);
-        State256 {
-            s0: R::splat(low_half(key).xor(low_half(nonce))),
-            s1: R::splat(high_half(key).xor(high_half(nonce))),
-            s2: R::splat(c1),
-            s3: R::splat(c0),
-            s4: R::splat(low_half(key).xor(c0)),
-            s5: R::splat(high_half(key).xor(c1)),
-            updates: 0,
-        }
-    }
-
     // The rows after one update by a row of blocks, the private step of every lane, which alone counts.
     #[inline(always)]
     fn update(self, m: R) -> Self
@@ -100,42 +82,6 @@ impl<R: Row> State256<R> {
         self.add_contexts().update(R::splat(block))
     }
 
-    // One turn of the start.
-    fn start_turn(self, key: &[u8; 32], nonce: &[u8; 32]) -> Self
-        requires { self.updates + 4 < 2 ^ 64 }
-        ensures lanes { (j : ℕ) → j < R.LANES → lane R.block result j ≡ start_turn Aegis256 key.now nonce.now (context j R.LANES) (lane R.block self j) }
-        ensures updates { result.updates ≡ self.updates + 4 }
-    {
-        let by_low = self.start_update(low_half(key));
-        let by_high = by_low.start_update(high_half(key));
-        let by_low_nonce = by_high.start_update(low_half(key).xor(low_half(nonce)));
-        by_low_nonce.start_update(high_half(key).xor(high_half(nonce)))
-    }
-
-    // The rows after the start.
-    #[tactic(auto, unfolding(aegis_base::specs::Lane::start))]
-    fn start(key: &[u8; 32], nonce: &[u8; 32]) -> Self
-        ensures lanes { (j : ℕ) → j < R.LANES → lane R.block result j ≡ start Aegis256 R.LANES key.now nonce.now j }
-        ensures updates { result.updates ≡ 0 }
-    {
-        let mut state = Self::first_rows(key, nonce);
-        for _turn in 0..4usize {
-            state = state.start_turn(key, nonce);
-        }
-        State256 {
-            updates: 0,
-            ..state
-        }
-    }
-
-    // The blocks that end the lanes.
-    fn last_blocks(self, first_bits: u64, second_bits: u64) -> R
-        ensures { (j : ℕ) → j < R.LANES → R.block result j ≡ last_block Aegis256 (lane R.block self j) first_bits second_bits }
-    {
-        let lengths = AesBlock::from_bytes(&bit_lengths(first_bits, second_bits));
-        self.s3.xor(R::splat(lengths))
-    }
-
     // The row of keystream blocks.
     #[inline(always)]
     fn keystream(self) -> R
@@ -144,34 +90,19 @@ impl<R: Row> State256<R> {
         let front = self.s1.xor(self.s4);
         front.xor(self.s5.xor(self.s2.and(self.s3)))
     }
-
-    // The lanes' tags of 16 bytes.
-    fn short_tags(self) -> R
-        ensures { (j : ℕ) → j < R.LANES → R.block result j ≡ short_tag Aegis256 (lane R.block self j) }
-    {
-        self.low_tags().xor(self.high_tags())
-    }
-
-    // The low halves of the lanes' tags of 32 bytes.
-    fn low_tags(self) -> R
-        ensures { (j : ℕ) → j < R.LANES → R.block result j ≡ low_tag Aegis256 (lane R.block self j) }
-    {
-        self.s0.xor(self.s1).xor(self.s2)
-    }
-
-    // The high halves of the lanes' tags of 32 bytes.
-    fn high_tags(self) -> R
-        ensures { (j : ℕ) → j < R.LANES → R.block result j ≡ high_tag Aegis256 (lane R.block self j) }
-    {
-        self.s3.xor(self.s4).xor(self.s5)
-    }
 }
 
 impl<R: Row> LaneState for State256<R> {
     ghost use Rattle.aegis_256.specs.Rows.{lane};
-    ghost use Rattle.std.proofs.Common.{rules};
+    ghost use Rattle.std.proofs.Common.{refl, rules};
 
     type Key = [u8; 32];
+
+    type Row = R;
+
+    const START_TURNS: usize = 4;
+
+    ghost START_TURNS = { 4 };
 
     const RATE: usize = 16 * R::LANES;
 
@@ -187,8 +118,29 @@ impl<R: Row> LaneState for State256<R> {
 
     ghost updates = { λ s. s.updates };
 
-    fn new(key: &[u8; 32], nonce: &[u8; 32]) -> Self {
-        Self::start(key, nonce)
+    fn first_rows(key: &[u8; 32], nonce: &[u8; 32]) -> Self {
+        let c0 = AesBlock::from_bytes(&C0);
+        let c1 = AesBlock::from_bytes(&C1);
+        State256 {
+            s0: R::splat(low_half(key).xor(low_half(nonce))),
+            s1: R::splat(high_half(key).xor(high_half(nonce))),
+            s2: R::splat(c1),
+            s3: R::splat(c0),
+            s4: R::splat(low_half(key).xor(c0)),
+            s5: R::splat(high_half(key).xor(c1)),
+            updates: 0,
+        }
+    }
+
+    fn start_turn(self, key: &[u8; 32], nonce: &[u8; 32]) -> Self {
+        let by_low = self.start_update(low_half(key));
+        let by_high = by_low.start_update(high_half(key));
+        let by_low_nonce = by_high.start_update(low_half(key).xor(low_half(nonce)));
+        by_low_nonce.start_update(high_half(key).xor(high_half(nonce)))
+    }
+
+    fn uncounted(self) -> Self {
+        State256 { updates: 0, ..self }
     }
 
     #[inline(always)]
@@ -201,26 +153,31 @@ impl<R: Row> LaneState for State256<R> {
         R::load(buffer, at).xor(self.keystream()).store(buffer, at);
     }
 
-    #[tactic(auto, unfolding(aegis_base::specs::Lane::finish))]
-    fn finish(self, first_bits: u64, second_bits: u64) -> Self {
-        let last = self.last_blocks(first_bits, second_bits);
-        let mut state = self;
-        for _turn in 0..7usize {
-            state = state.update(last);
-        }
-        state
+    fn last_blocks(self, first_bits: u64, second_bits: u64) -> R {
+        let lengths = AesBlock::from_bytes(&bit_lengths(first_bits, second_bits));
+        self.s3.xor(R::splat(lengths))
     }
 
-    fn short_tag(self) -> AesBlock {
-        self.short_tags().xor_of_lanes()
+    #[inline(always)]
+    fn end_update(self, last: R) -> Self {
+        self.update(last)
     }
 
-    fn long_tag(self) -> (AesBlock, AesBlock) {
-        (
-            self.low_tags().xor_of_lanes(),
-            self.high_tags().xor_of_lanes(),
-        )
+    fn short_tags(self) -> R {
+        self.low_tags().xor(self.high_tags())
     }
+
+    fn low_tags(self) -> R {
+        self.s0.xor(self.s1).xor(self.s2)
+    }
+
+    fn high_tags(self) -> R {
+        self.s3.xor(self.s4).xor(self.s5)
+    }
+
+    ghost lanes_are = { refl };
+
+    ghost start_turns_are = { refl };
 
     ghost one_two_or_four = { R.one_two_or_four };
 

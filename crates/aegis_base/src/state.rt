@@ -2,22 +2,32 @@
 
 ghost use Rattle.std.specs.Prelude.{◌≡◌, ℕ, ◌+◌, ◌*◌, ◌^◌, ◌<◌, ◌≤◌, ◌++◌, List, length, slice_index};
 ghost use Rattle.aegis_aes.specs.Block.{block_at, xor};
-ghost use Rattle.aegis_aes.specs.Lanes.{IsLaneCount, xor_lanes};
+ghost use Rattle.aegis_aes.specs.Lanes.{IsLaneCount, context, xor_lanes};
 ghost use Rattle.aegis_base.specs.Family.{Family, rate, width};
-ghost use Rattle.aegis_base.specs.Lane.{finish, keystream, lane_tag, row, start, step};
+ghost use Rattle.aegis_base.specs.Lane.{finish, first_rows, high_tag, keystream, lane_tag, last_block, last_input, low_tag, row, short_tag, start, start_turn, start_turns, step};
 ghost use Rattle.aegis_base.specs.Message.{share_at};
 
-use aegis_aes::AesBlock;
+use aegis_aes::{AesBlock, Row};
 
 /// The lanes of one variant, side by side.
 ///
 /// Contracts see the rows of each lane by its number, `lane state j`, and say what happens to each lane as if it ran
 /// alone. A state also counts its updates since the start; only the private step that moves every lane counts.
 ///
-/// The crate that implements it is entered by these calls alone, and the block engine is their only caller.
+/// A family gives the standard's steps; the start, the end and the tags are made of them here, once. The crate of a
+/// family is entered by these calls alone, and the block engine calls `new`, `absorb`, `xor_keystream`, `finish` and
+/// the two tags.
 pub trait LaneState: Copy {
     /// A key. A nonce has as many bytes.
     type Key: Copy;
+
+    /// One block of each lane.
+    type Row: Row;
+
+    /// How many turns the start has.
+    const START_TURNS: usize;
+
+    ghost START_TURNS: { ℕ };
 
     /// The bytes of a rate block: what all lanes take in by one update, at most 128.
     const RATE: usize;
@@ -37,10 +47,35 @@ pub trait LaneState: Copy {
     // how many updates were made since the start
     ghost updates: { Self → ℕ };
 
-    /// The lanes after their start with a key and a nonce (AEGIS, Init), with no update counted.
-    fn new(key: &Self::Key, nonce: &Self::Key) -> Self
-        ensures lanes { (j : ℕ) → j < LANES → lane result j ≡ start FAMILY LANES (key_bytes key.now) (key_bytes nonce.now) j }
+    /// The lanes before the updates of their start (AEGIS, Init).
+    fn first_rows(key: &Self::Key, nonce: &Self::Key) -> Self
+        ensures lanes { (j : ℕ) → j < LANES → lane result j ≡ first_rows FAMILY (key_bytes key.now) (key_bytes nonce.now) }
         ensures updates { updates result ≡ 0 };
+
+    /// The lanes after one turn of their start, at most four updates (AEGIS, Init).
+    fn start_turn(self, key: &Self::Key, nonce: &Self::Key) -> Self
+        requires { updates self + 4 < 2 ^ 64 }
+        ensures lanes { (j : ℕ) → j < LANES
+            → lane result j ≡ start_turn FAMILY (key_bytes key.now) (key_bytes nonce.now) (context j LANES) (lane self j) }
+        ensures updates { updates result ≤ updates self + 4 };
+
+    /// The lanes as they are, with no update counted.
+    fn uncounted(self) -> Self
+        ensures lanes { (j : ℕ) → j < LANES → lane result j ≡ lane self j }
+        ensures updates { updates result ≡ 0 };
+
+    /// The lanes after their start with a key and a nonce (AEGIS, Init), with no update counted.
+    #[tactic(auto, unfolding(crate::specs::Lane::start))]
+    final fn new(key: &Self::Key, nonce: &Self::Key) -> Self
+        ensures lanes { (j : ℕ) → j < LANES → lane result j ≡ start FAMILY LANES (key_bytes key.now) (key_bytes nonce.now) j }
+        ensures updates { updates result ≡ 0 }
+    {
+        let mut state = Self::first_rows(key, nonce);
+        for _turn in 0..Self::START_TURNS {
+            state = state.start_turn(key, nonce);
+        }
+        state.uncounted()
+    }
 
     /// The lanes after one update by the rate block of `bytes` that begins at place `at` (AEGIS, Absorb).
     fn absorb(self, bytes: &[u8], at: usize) -> Self
@@ -58,19 +93,63 @@ pub trait LaneState: Copy {
         ensures below { (i : ℕ) → i < at → slice_index buffer.new i ≡ slice_index buffer.old i }
         ensures above { (i : ℕ) → at + RATE ≤ i → slice_index buffer.new i ≡ slice_index buffer.old i };
 
-    /// The lanes after their end: seven updates by a row and two lengths in bits (AEGIS, Finalize).
-    fn finish(self, first_bits: u64, second_bits: u64) -> Self
+    /// The blocks that end the lanes: a row with two lengths in bits xored in (AEGIS, Finalize).
+    fn last_blocks(self, first_bits: u64, second_bits: u64) -> Self::Row
+        ensures { (j : ℕ) → j < LANES → Self.Row.block result j ≡ last_block FAMILY (lane self j) first_bits second_bits };
+
+    /// The lanes after one update by these blocks, in each place of the input.
+    fn end_update(self, last: Self::Row) -> Self
+        requires { updates self + 1 < 2 ^ 64 }
+        ensures lanes { (j : ℕ) → j < LANES → lane result j ≡ step FAMILY (lane self j) (last_input FAMILY (Self.Row.block last j)) }
+        ensures updates { updates result ≡ updates self + 1 };
+
+    /// The lanes after their end: seven updates by the blocks that end them (AEGIS, Finalize).
+    #[tactic(auto, unfolding(crate::specs::Lane::finish))]
+    final fn finish(self, first_bits: u64, second_bits: u64) -> Self
         requires { updates self + 7 < 2 ^ 64 }
         ensures lanes { (j : ℕ) → j < LANES → lane result j ≡ finish FAMILY (lane self j) first_bits second_bits }
-        ensures updates { updates result ≡ updates self + 7 };
+        ensures updates { updates result ≡ updates self + 7 }
+    {
+        let last = self.last_blocks(first_bits, second_bits);
+        let mut state = self;
+        for _turn in 0..7usize {
+            state = state.end_update(last);
+        }
+        state
+    }
+
+    /// The lanes' tags of 16 bytes (AEGIS, Finalize).
+    fn short_tags(self) -> Self::Row
+        ensures { (j : ℕ) → j < LANES → Self.Row.block result j ≡ short_tag FAMILY (lane self j) };
+
+    /// The low halves of the lanes' tags of 32 bytes.
+    fn low_tags(self) -> Self::Row
+        ensures { (j : ℕ) → j < LANES → Self.Row.block result j ≡ low_tag FAMILY (lane self j) };
+
+    /// The high halves of the lanes' tags of 32 bytes.
+    fn high_tags(self) -> Self::Row
+        ensures { (j : ℕ) → j < LANES → Self.Row.block result j ≡ high_tag FAMILY (lane self j) };
 
     /// The tag of 16 bytes: the xor of the lanes' tags.
-    fn short_tag(self) -> AesBlock
-        ensures { result ≡ xor_lanes (λ j. lane_tag FAMILY 16 (lane self j)) LANES };
+    final fn short_tag(self) -> AesBlock
+        ensures { result ≡ xor_lanes (λ j. lane_tag FAMILY 16 (lane self j)) LANES }
+    {
+        self.short_tags().xor_of_lanes()
+    }
 
     /// The halves of the tag of 32 bytes, low half first: the xor of the lanes' tags.
-    fn long_tag(self) -> (AesBlock, AesBlock)
-        ensures { result.0 ++ result.1 ≡ xor_lanes (λ j. lane_tag FAMILY 32 (lane self j)) LANES };
+    final fn long_tag(self) -> (AesBlock, AesBlock)
+        ensures { result.0 ++ result.1 ≡ xor_lanes (λ j. lane_tag FAMILY 32 (lane self j)) LANES }
+    {
+        (
+            self.low_tags().xor_of_lanes(),
+            self.high_tags().xor_of_lanes(),
+        )
+    }
+
+    ghost lanes_are: { LANES ≡ Self.Row.LANES };
+
+    ghost start_turns_are: { START_TURNS ≡ start_turns FAMILY };
 
     ghost one_two_or_four: { IsLaneCount LANES };
 

@@ -1,6 +1,0 @@
-use Rattle.std.proofs.Common.{◌∙◌}
-use Rattle.aegis_base.proofs.LaneFacts.{xor_lanes-same}
-use Rattle.aegis_256.proofs.State256LaneState.short_tag.Goals as goal
-
-pub returns : goal.returns
-returns g c = c.xor_of_lanes.ensures.value ∙ xor_lanes-same _ _ _ c.short_tags.ensures

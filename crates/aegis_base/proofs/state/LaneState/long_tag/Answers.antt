@@ -1,0 +1,10 @@
+use Rattle.std.proofs.Common.{◌≡◌, ◌∙◌, ◌++◌, refl, sym}
+use Rattle.aegis_base.proofs.LaneFacts.{xor_lanes-append, xor_lanes-same}
+use Rattle.aegis_base.proofs.state.LaneState.long_tag.Goals as goal
+
+pub returns : goal.returns
+returns g c =
+    let lanes_are = g.met.Self.LaneState.lanes_are in
+    rw (c.xor_of_lanes.ensures.value, c.xor_of_lanes-2.ensures.value, ← lanes_are)
+    (sym (xor_lanes-append _ _ 16 _ (λ j h. c.xor_of_lanes.ensures.sixteen j (rw (← lanes_are) h)))
+    ∙ xor_lanes-same _ _ _ (λ j h. rw (c.low_tags.ensures j h, c.high_tags.ensures j h) refl))
