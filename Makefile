@@ -17,7 +17,7 @@ CC = gcc
 RUSTC = rustc -O --edition 2024
 LINK_RUST = -L native=$(dir $(C_LIBRARY)) -l static=aegis_c
 # The processor level is that of the library's own code. Without `no-vectorize-slp` the compiler gathers look-ups
-# into vectors, which makes the tables that the library is compared with a third slower at four lanes.
+# into vectors, which makes the four tables that the library is compared with a third slower at four lanes.
 BENCH_FLAGS = -C target-cpu=x86-64-v2 -C no-vectorize-slp
 
 # Measures the library beside look-up tables and AES instructions; writes bench/RESULTS.md and bench/results.svg.

@@ -1,4 +1,4 @@
-//! The three that are measured, behind one set of calls.
+//! The four that are measured, behind one set of calls.
 
 use crate::baseline::{Family128, Family256, Lanes, open, seal, stream, stream_xor};
 use crate::block::{Columns, Register};
@@ -22,16 +22,19 @@ pub struct Variant {
     pub name: &'static str,
     pub key_bytes: usize,
     pub library: Calls,
+    /// Over four look-up tables.
     pub tables: Calls,
+    /// Over one look-up table, whose entries are rotated.
+    pub rotated: Calls,
     pub instructions: Option<Calls>,
 }
 
 impl Variant {
     /// The contenders, those that this processor can run.
     pub fn contenders(&self) -> Vec<Calls> {
-        [Some(self.library), Some(self.tables), self.instructions]
+        [self.library, self.tables, self.rotated]
             .into_iter()
-            .flatten()
+            .chain(self.instructions)
             .collect()
     }
 }
@@ -94,22 +97,27 @@ fn with_instructions<S: Lanes>() -> Option<Calls> {
     })
 }
 
-fn variant<T: Lanes, I: Lanes>(name: &'static str, library: Calls) -> Variant {
+fn variant<T: Lanes, R: Lanes, I: Lanes>(name: &'static str, library: Calls) -> Variant {
     Variant {
         name,
         key_bytes: T::KEY,
         library,
         tables: with_tables::<T>(),
+        rotated: with_tables::<R>(),
         instructions: with_instructions::<I>(),
     }
 }
 
 fn variant_128<const D: usize>(name: &'static str, library: Calls) -> Variant {
-    variant::<Family128<Columns, D>, Family128<Register, D>>(name, library)
+    variant::<Family128<Columns<4>, D>, Family128<Columns<1>, D>, Family128<Register, D>>(
+        name, library,
+    )
 }
 
 fn variant_256<const D: usize>(name: &'static str, library: Calls) -> Variant {
-    variant::<Family256<Columns, D>, Family256<Register, D>>(name, library)
+    variant::<Family256<Columns<4>, D>, Family256<Columns<1>, D>, Family256<Register, D>>(
+        name, library,
+    )
 }
 
 /// The six variants.

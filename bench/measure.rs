@@ -22,6 +22,7 @@ pub struct Line {
     pub size: usize,
     pub library: f64,
     pub tables: f64,
+    pub rotated: f64,
     pub instructions: Option<f64>,
 }
 
@@ -144,7 +145,8 @@ impl Race {
             size: self.size,
             library: speed(&self.best[0]),
             tables: speed(&self.best[1]),
-            instructions: self.best.get(2).map(speed),
+            rotated: speed(&self.best[2]),
+            instructions: self.best.get(3).map(speed),
         }
     }
 

@@ -4,8 +4,8 @@ use crate::measure::Line;
 use std::process::Command;
 
 const HEAD: &str = "\
-| Variant | Call | Bytes | Of the tables' speed | Of the AES instructions' speed | Library, MB/s | Tables, MB/s | AES instructions, MB/s |
-|---|---|---:|---:|---:|---:|---:|---:|
+| Variant | Call | Bytes | Of the tables' speed | Of one rotated table's speed | Of the AES instructions' speed | Library, MB/s | Tables, MB/s | One rotated table, MB/s | AES instructions, MB/s |
+|---|---|---:|---:|---:|---:|---:|---:|---:|---:|
 ";
 
 fn size_name(size: usize) -> String {
@@ -18,6 +18,7 @@ fn size_name(size: usize) -> String {
 
 fn row(line: &Line) -> String {
     let ratio = line.library / line.tables;
+    let rotated_ratio = line.library / line.rotated;
     let share = line
         .instructions
         .map_or("-".into(), |speed| format!("{:.3}", line.library / speed));
@@ -25,12 +26,13 @@ fn row(line: &Line) -> String {
         .instructions
         .map_or("-".into(), |speed| format!("{speed:.0}"));
     format!(
-        "| {} | {} | {} | {ratio:.2} | {share} | {:.0} | {:.0} | {ceiling} |\n",
+        "| {} | {} | {} | {ratio:.2} | {rotated_ratio:.2} | {share} | {:.0} | {:.0} | {:.0} | {ceiling} |\n",
         line.variant,
         line.call,
         size_name(line.size),
         line.library,
-        line.tables
+        line.tables,
+        line.rotated
     )
 }
 
@@ -74,13 +76,15 @@ Written by `make bench`, in one run.
 - Compiler of the driver and of what it compares with: {}
 - Date: {}
 
-The library is called through its C interface. Both others are the driver's own code, generic in the family and in the
-number of lanes like the library: one has its AES round by four look-up tables of 256 words, the other by the
-processor's AES instructions, one block each, which the library does not use. The library and the tables are built for
-the same processor level, x86-64-v2, and the tables with `-C no-vectorize-slp`, which makes them faster.
+The library is called through its C interface. The three others are the driver's own code, generic in the family and in
+the number of lanes like the library: the tables have their AES round by four look-up tables of 256 words, the one
+rotated table has it by the first of these, whose entries it rotates by 8, 16 and 24 bits for the other rows, and the
+third has it by the processor's AES instructions, one block each, which the library does not use. The library and all
+the tables are built for the same processor level, x86-64-v2, and the tables with `-C no-vectorize-slp`, which makes the
+four faster, and the one mostly slower.
 
 Each call does all of its work on one message with no associated data, from the key to the tag of 16 bytes, in place.
-Before anything is timed, all three give the same ciphertexts, tags of both lengths, opened messages, refusals and
+Before anything is timed, all four give the same ciphertexts, tags of both lengths, opened messages, refusals and
 keystreams at each size, and the known answers. They take turns, a hundred each, and the best turn counts. A turn is
 32 KiB in messages of one size, or one message. MB are 10^6 bytes. A ratio above 1 says that the library is faster.
 

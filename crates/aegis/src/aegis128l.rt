@@ -4,8 +4,8 @@ ghost use Rattle.std.specs.Prelude.{codes};
 
 use aegis_128::State128;
 use aegis_aes::AesBlock;
-pub use aegis_base::Error;
 use aegis_base::Variant;
+pub use aegis_base::{Error, Tag};
 use aegis_engine::Cipher;
 
 /// A key.
@@ -14,13 +14,10 @@ pub type Key = [u8; 16];
 /// A nonce, to be used once under a key.
 pub type Nonce = [u8; 16];
 
-/// A tag of 16 or 32 bytes.
-pub type Tag<const TAG_BYTES: usize> = [u8; TAG_BYTES];
+/// The marker of AEGIS-128L: the names that its types print.
+pub struct Names;
 
-/// The names of AEGIS-128L.
-pub struct Aegis128LVariant;
-
-impl Variant for Aegis128LVariant {
+impl Variant for Names {
     ghost cipher_name = { codes "Aegis128L" };
 
     fn cipher_name() -> &'static str {
@@ -29,8 +26,4 @@ impl Variant for Aegis128LVariant {
 }
 
 /// AEGIS-128L under a key and a nonce. [`Cipher`] has its calls.
-pub type Aegis128L<const TAG_BYTES: usize> = Cipher<
-    State128<AesBlock>,
-    Aegis128LVariant,
-    TAG_BYTES,
->;
+pub type Aegis128L<const TAG_BYTES: usize> = Cipher<State128<AesBlock>, Names, TAG_BYTES>;

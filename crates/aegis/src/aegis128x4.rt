@@ -4,8 +4,8 @@ ghost use Rattle.std.specs.Prelude.{codes};
 
 use aegis_128::State128;
 use aegis_aes::AesBlock4;
-pub use aegis_base::Error;
 use aegis_base::Variant;
+pub use aegis_base::{Error, Tag};
 use aegis_engine::Cipher;
 
 /// A key.
@@ -14,14 +14,11 @@ pub type Key = [u8; 16];
 /// A nonce, to be used once under a key.
 pub type Nonce = [u8; 16];
 
-/// A tag of 16 or 32 bytes.
-pub type Tag<const TAG_BYTES: usize> = [u8; TAG_BYTES];
-
-/// The names of AEGIS-128X4.
+/// The marker of AEGIS-128X4: the names that its types print.
 #[derive(Clone, Copy)]
-pub struct Aegis128X4Variant;
+pub struct Names;
 
-impl Variant for Aegis128X4Variant {
+impl Variant for Names {
     ghost cipher_name = { codes "Aegis128X4" };
 
     fn cipher_name() -> &'static str {
@@ -30,8 +27,4 @@ impl Variant for Aegis128X4Variant {
 }
 
 /// AEGIS-128X4 under a key and a nonce. [`Cipher`] has its calls.
-pub type Aegis128X4<const TAG_BYTES: usize> = Cipher<
-    State128<AesBlock4>,
-    Aegis128X4Variant,
-    TAG_BYTES,
->;
+pub type Aegis128X4<const TAG_BYTES: usize> = Cipher<State128<AesBlock4>, Names, TAG_BYTES>;

@@ -4,8 +4,8 @@ ghost use Rattle.std.specs.Prelude.{codes};
 
 use aegis_256::State256;
 use aegis_aes::AesBlock;
-pub use aegis_base::Error;
 use aegis_base::Variant;
+pub use aegis_base::{Error, Tag};
 use aegis_engine::Cipher;
 
 /// A key.
@@ -14,13 +14,10 @@ pub type Key = [u8; 32];
 /// A nonce, to be used once under a key.
 pub type Nonce = [u8; 32];
 
-/// A tag of 16 or 32 bytes.
-pub type Tag<const TAG_BYTES: usize> = [u8; TAG_BYTES];
+/// The marker of AEGIS-256: the names that its types print.
+pub struct Names;
 
-/// The names of AEGIS-256.
-pub struct Aegis256Variant;
-
-impl Variant for Aegis256Variant {
+impl Variant for Names {
     ghost cipher_name = { codes "Aegis256" };
 
     fn cipher_name() -> &'static str {
@@ -29,4 +26,4 @@ impl Variant for Aegis256Variant {
 }
 
 /// AEGIS-256 under a key and a nonce. [`Cipher`] has its calls.
-pub type Aegis256<const TAG_BYTES: usize> = Cipher<State256<AesBlock>, Aegis256Variant, TAG_BYTES>;
+pub type Aegis256<const TAG_BYTES: usize> = Cipher<State256<AesBlock>, Names, TAG_BYTES>;

@@ -11,4 +11,4 @@ mod variant;
 pub use constants::{C0, C1, bit_lengths};
 pub use error::{Error, MAX_AEAD_BYTES};
 pub use state::LaneState;
-pub use variant::Variant;
+pub use variant::{Tag, Variant};

@@ -1,4 +1,4 @@
-//! The names of a variant.
+//! What each variant's types are called.
 
 ghost use Rattle.std.specs.Prelude.{◌≡◌, ℕ, List};
 
@@ -10,3 +10,6 @@ pub trait Variant {
     fn cipher_name() -> &'static str
         ensures { result.now ≡ cipher_name };
 }
+
+/// A tag of 16 or 32 bytes.
+pub type Tag<const TAG_BYTES: usize> = [u8; TAG_BYTES];

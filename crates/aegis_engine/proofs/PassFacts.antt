@@ -1,3 +1,5 @@
+-- How a pass goes on from one rate block to the next, and what zeros and the bytes of a tail read as. It is long since
+-- sealing, opening and keystreams share it, at each place of the buffer.
 use Rattle.std.proofs.Common.{◌≡◌, ◌∙◌, sym, ap, refl, ℕ, zero, suc, ◌+◌, ◌-◌, ◌*◌, ◌/◌, ◌<◌, ◌≤◌, ⊎_elim, List, bit_xor, ◌++◌, length, drop, replicate, slice_index, arith, length-drop}
 use Rattle.std.proofs.lemmas.List.{drop-replicate, length-replicate, get_or-append_right, get_or-drop, get_or_append_left, get_or_past}
 use Rattle.std.proofs.lemmas.Bool.{cases_lt}

@@ -1,3 +1,4 @@
+-- The lanes take in one share more with each turn, and the last one with zeros after it.
 use Rattle.std.proofs.Common.{◌≡◌, ◌∙◌, ◌<◌, ◌/◌, arith, length, refl}
 use Rattle.aegis_base.proofs.MessageFacts.{after-more, after-none, block_count-part, rate-positive}
 use Rattle.aegis_engine.proofs.pass.absorb_all.Goals as goal

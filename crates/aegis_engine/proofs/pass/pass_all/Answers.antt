@@ -1,3 +1,4 @@
+-- A turn of the loop and the tail each go on from what was there before; the same facts, so both cite `GoesOn`.
 use Rattle.std.proofs.Common.{◌≡◌, ◌∙◌, ◌+◌, ◌-◌, ◌*◌, ◌/◌, ◌<◌, arith, length, refl}
 use Rattle.std.proofs.Math.Nat.{div-mul-le_self, lt-div-mul-add}
 use Rattle.aegis_engine.specs.Pass.{taken}

@@ -1,3 +1,4 @@
+-- What was read, and what was written, after one more chunk, at the end of the input, and where a read failed.
 use Rattle.std.proofs.Common.{◌<◌, length, rules}
 use Rattle.std.proofs.lemmas.Result.{err_from_is_err_and}
 use Rattle.aegis_lines.proofs.OutputFacts.{all_beginning}
