@@ -5,10 +5,13 @@ use Rattle.std.specs.Int.Bits.{xor_assoc, xor_self, xor_zero_r}
 use Rattle.std.proofs.Math.Nat.{div-mul-le_self}
 use Rattle.std.proofs.Math.Seq.{get_or-append_seam}
 use Rattle.std.proofs.lemmas.List.{ext_get_or, get_or_append_left, length-append}
+use Rattle.std.proofs.lemmas.Nat.{xor_lt}
 use Rattle.std.proofs.lemmas.List.FromFn.{fill_by_all, get_or-map-range_with_len, length-map-range_with_len}
 use Rattle.aegis_aes.specs.Lanes.{IsLaneCount}
 use Rattle.aegis_base.specs.Family.{Family, rate}
 use Rattle.aegis_base.specs.Message.{after, ciphertext_byte, ciphertext_from, stream_byte}
+use Rattle.aegis_aes.proofs.RoundBytes.{IsBytes}
+use Rattle.aegis_base.proofs.Bytes.{AreRows, append-bytes, more-bytes, none-bytes, stream_byte-below}
 use Rattle.aegis_base.proofs.MessageFacts.{after-same, keystream_byte-same}
 
 -- ---- the ciphertext byte by byte
@@ -137,10 +140,27 @@ opened-opens family d lanes c zero count = record { long = refl; opens = λ i h.
 opened-opens family d lanes c (suc n) count =
     opened-more family d lanes c n (opened family d lanes c n) count (opened-opens family d lanes c n count)
 
+-- from lanes of bytes, a message opened from bytes is bytes
+opened-bytes : (family : Family) (d : ℕ) (lanes : ℕ → List (List ℕ)) (c : List ℕ) (n : ℕ) → IsLaneCount d
+    → ((j : ℕ) → j < d → AreRows (lanes j)) → IsBytes c → IsBytes (opened family d lanes c n)
+unfolding opened
+opened-bytes family d lanes c zero count rows is = none-bytes
+opened-bytes family d lanes c (suc n) count rows is =
+    let m = opened family d lanes c n in
+    let before : IsBytes m = opened-bytes family d lanes c n count rows is in
+    let byte = xor_lt 8 (slice_index c n) (stream_byte family d lanes m n) (is.below n)
+    (stream_byte-below family d lanes m n count rows before) in
+    append-bytes m (bit_xor (slice_index c n) (stream_byte family d lanes m n) ∷ []) before (more-bytes byte none-bytes)
+
 pub ciphertext-onto : (family : Family) (d : ℕ) (lanes : ℕ → List (List ℕ)) (c : List ℕ) → IsLaneCount d
     → (m : List ℕ) × (length m ≡ length c) × (ciphertext_from family d lanes m ≡ c)
+    × (((j : ℕ) → j < d → AreRows (lanes j)) → IsBytes c → IsBytes m)
 ciphertext-onto family d lanes c count =
     let m = opened family d lanes c (length c) in
     let is : IsOpened family d lanes c (length c) m = opened-opens family d lanes c (length c) count in
-    let long : length m ≡ length c = is.long in
-    (m, long, sym (ciphertext-is family d lanes m c (sym long) (λ i h. sym (is.opens i (omega arith)))))
+    let long : length m ≡ length c = is.long in (
+      m,
+      long,
+      sym (ciphertext-is family d lanes m c (sym long) (λ i h. sym (is.opens i (omega arith)))),
+      opened-bytes family d lanes c (length c) count,
+    )

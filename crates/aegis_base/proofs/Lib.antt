@@ -1,4 +1,5 @@
 pub mod Bijection
+pub mod Bytes
 pub mod LaneFacts
 pub mod LaneIndependence
 pub mod MessageFacts

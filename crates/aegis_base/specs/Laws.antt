@@ -1,6 +1,6 @@
 -- The laws of sealing, of any lane count d: what a ciphertext and the stream of a key and a nonce are, whatever the
 -- inputs.
-use Rattle.std.specs.Prelude.{◌≡◌, ℕ, ◌≤◌, List, [], length, replicate, slice_index, take}
+use Rattle.std.specs.Prelude.{◌≡◌, ℕ, ◌<◌, ◌≤◌, List, [], length, replicate, slice_index, take}
 use Rattle.aegis_aes.specs.Block.{xor}
 use Rattle.aegis_base.specs.Family.{Family}
 use Rattle.aegis_base.specs.Message.{ciphertext, lane_of, seal, stream}
@@ -14,10 +14,17 @@ abbrev pub IsOneToOne : Family → ℕ → Type 0
 IsOneToOne family d =
     (key nonce ad m n : List ℕ) → ciphertext family d key nonce ad m ≡ ciphertext family d key nonce ad n → m ≡ n
 
--- under each key, nonce and associated data every list is the ciphertext of a message of its length
+-- a list of bytes
+abbrev pub AreBytes : List ℕ → Type 0
+AreBytes xs = (i : ℕ) → slice_index xs i < 256
+
+-- under each key, nonce and associated data every list is the ciphertext of a message of its length, and of a message
+-- of bytes where the key, the nonce, the associated data and the list are lists of bytes
 abbrev pub IsOnto : Family → ℕ → Type 0
 IsOnto family d =
-    (key nonce ad c : List ℕ) → (m : List ℕ) × (length m ≡ length c) × (ciphertext family d key nonce ad m ≡ c)
+    (key nonce ad c : List ℕ)
+    → (m : List ℕ) × (length m ≡ length c) × (ciphertext family d key nonce ad m ≡ c)
+    × (AreBytes key → AreBytes nonce → AreBytes ad → AreBytes c → AreBytes m)
 
 -- x and y have the same bytes at the places of lane j of d
 abbrev pub AgreeInLane : ℕ → ℕ → List ℕ → List ℕ → Type 0

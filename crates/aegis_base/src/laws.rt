@@ -7,7 +7,8 @@ ghost use Rattle.aegis_base.specs.Family.{Family};
 ghost use Rattle.aegis_base.specs.Laws.{AreLanesIndependent, IsLengthKept, IsOneToOne, IsOnto, IsStreamPrefix, IsStreamSealedZeros, IsStreamUndone};
 
 /// Under each key, nonce and associated data, encryption is one-to-one and onto on the messages of each length: it keeps
-/// the length, no two messages have the same ciphertext, and every list is the ciphertext of a message of its length.
+/// the length, no two messages have the same ciphertext, and every list of bytes is the ciphertext of a list of bytes of
+/// its length.
 pub fn bijection()
     ensures length_kept { (family : Family) (d : ℕ) → IsLaneCount d → IsLengthKept family d }
     ensures one_to_one { (family : Family) (d : ℕ) → IsLaneCount d → IsOneToOne family d }

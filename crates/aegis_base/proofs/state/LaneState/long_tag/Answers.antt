@@ -1,4 +1,4 @@
-use Rattle.std.proofs.Common.{◌≡◌, ◌∙◌, ◌++◌, refl, sym}
+use Rattle.std.proofs.Common.{◌∙◌, refl, sym}
 use Rattle.aegis_base.proofs.LaneFacts.{xor_lanes-append, xor_lanes-same}
 use Rattle.aegis_base.proofs.state.LaneState.long_tag.Goals as goal
 

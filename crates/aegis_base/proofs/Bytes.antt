@@ -1,0 +1,212 @@
+-- Lanes of bytes: where the key, the nonce, the associated data and the message are lists of bytes, so are the rows of
+-- the lanes and their keystream.
+use Rattle.std.proofs.Common.{◌≡◌, ℕ, zero, suc, ◌+◌, ◌*◌, ◌/◌, ◌%◌, ◌<◌, Bool, true, ◌&&◌, nat_lt, List, [], ◌∷◌, ◌++◌, take, drop, bit_and, bit_xor, slice_index, refl, arith, inl, inr}
+use Rattle.std.specs.Int.Bits.{and_lt}
+use Rattle.std.specs.Simd.Lanes.{zip2}
+use Rattle.std.proofs.lemmas.Bool.{and_parts, ltb-true}
+use Rattle.std.proofs.lemmas.Nat.{xor_lt}
+use Rattle.aegis_aes.specs.Block.{and, bytes_at, xor}
+use Rattle.aegis_aes.specs.Lanes.{IsLaneCount, context}
+use Rattle.aegis_aes.proofs.RoundBytes.{IsBytes, round-bytes}
+use Rattle.aegis_base.specs.Family.{Family, Aegis128, Aegis256, rate}
+use Rattle.aegis_base.specs.Lane.{add_context, c0, c1, first_rows, high_half, keystream, low_half, row, start, start_turn, start_turns, step, times}
+use Rattle.aegis_base.specs.Message.{after, lane_before, lane_of, share_at, stream_byte}
+use Rattle.aegis_base.proofs.MessageFacts.{lane_of-within}
+
+-- ---- lists of bytes
+
+pub none-bytes : IsBytes []
+none-bytes = record { below = λ i. omega arith }
+
+pub more-bytes : {x : ℕ} {xs : List ℕ} → x < 256 → IsBytes xs → IsBytes (x ∷ xs)
+more-bytes {x} {xs} low is = record { below = at }
+  where
+    at : (i : ℕ) → slice_index (x ∷ xs) i < 256
+    at zero = low
+    at (suc i) = is.below i
+
+rest-bytes : {x : ℕ} {xs : List ℕ} → IsBytes (x ∷ xs) → IsBytes xs
+rest-bytes is = record { below = λ i. is.below (suc i) }
+
+zip2-bytes : (f : ℕ → ℕ → ℕ) (xs ys : List ℕ) → ((a b : ℕ) → a < 256 → b < 256 → f a b < 256)
+    → IsBytes xs → IsBytes ys → IsBytes (zip2 f xs ys)
+zip2-bytes f [] ys low is also = none-bytes
+zip2-bytes f (x ∷ xs) [] low is also = none-bytes
+zip2-bytes f (x ∷ xs) (y ∷ ys) low is also =
+    more-bytes (low x y (is.below 0) (also.below 0)) (zip2-bytes f xs ys low (rest-bytes is) (rest-bytes also))
+
+xor-bytes : {xs ys : List ℕ} → IsBytes xs → IsBytes ys → IsBytes (xor xs ys)
+xor-bytes {xs} {ys} is also = zip2-bytes bit_xor xs ys (xor_lt 8) is also
+
+and-bytes : {xs ys : List ℕ} → IsBytes xs → IsBytes ys → IsBytes (and xs ys)
+and-bytes {xs} {ys} is also = zip2-bytes bit_and xs ys (and_lt 8) is also
+
+take-bytes : (n : ℕ) (xs : List ℕ) → IsBytes xs → IsBytes (take n xs)
+take-bytes zero xs is = none-bytes
+take-bytes (suc n) [] is = none-bytes
+take-bytes (suc n) (x ∷ xs) is = more-bytes (is.below 0) (take-bytes n xs (rest-bytes is))
+
+drop-bytes : (n : ℕ) (xs : List ℕ) → IsBytes xs → IsBytes (drop n xs)
+drop-bytes zero xs is = is
+drop-bytes (suc n) [] is = none-bytes
+drop-bytes (suc n) (x ∷ xs) is = drop-bytes n xs (rest-bytes is)
+
+pub append-bytes : (xs ys : List ℕ) → IsBytes xs → IsBytes ys → IsBytes (xs ++ ys)
+append-bytes [] ys is also = also
+append-bytes (x ∷ xs) ys is also = more-bytes (is.below 0) (append-bytes xs ys (rest-bytes is) also)
+
+bytes_at-bytes : (xs : List ℕ) (i n : ℕ) → IsBytes xs → IsBytes (bytes_at xs i n)
+unfolding bytes_at
+bytes_at-bytes xs i zero is = none-bytes
+bytes_at-bytes xs i (suc n) is = more-bytes (is.below i) (bytes_at-bytes xs (i + 1) n is)
+
+-- a test of a list that is written out
+are_bytes : List ℕ → Bool
+are_bytes [] = true
+are_bytes (x ∷ xs) = nat_lt x 256 && are_bytes xs
+
+tested-bytes : (xs : List ℕ) → are_bytes xs ≡ true → IsBytes xs
+unfolding are_bytes
+tested-bytes [] e = none-bytes
+tested-bytes (x ∷ xs) e =
+    let both = and_parts (nat_lt x 256) (are_bytes xs) e in
+    more-bytes (ltb-true x 256 both.0) (tested-bytes xs both.1)
+
+c0-bytes : IsBytes c0
+unfolding are_bytes
+c0-bytes = tested-bytes c0 refl
+
+c1-bytes : IsBytes c1
+unfolding are_bytes
+c1-bytes = tested-bytes c1 refl
+
+zeros-bytes : IsBytes (0 ∷ 0 ∷ 0 ∷ 0 ∷ 0 ∷ 0 ∷ 0 ∷ 0 ∷ 0 ∷ 0 ∷ 0 ∷ 0 ∷ 0 ∷ 0 ∷ [])
+unfolding are_bytes
+zeros-bytes = tested-bytes _ refl
+
+context-bytes : (j d : ℕ) → IsLaneCount d → j < d → IsBytes (context j d)
+context-bytes j d (inl e) low = more-bytes (omega arith) (more-bytes (omega arith) zeros-bytes)
+context-bytes j d (inr (inl e)) low = more-bytes (omega arith) (more-bytes (omega arith) zeros-bytes)
+context-bytes j d (inr (inr e)) low = more-bytes (omega arith) (more-bytes (omega arith) zeros-bytes)
+
+-- ---- lists of blocks of bytes
+
+-- each row of a lane, or block of a list, is a list of bytes
+pub record AreRows (s : List (List ℕ)) : Type 0 where
+  pub at : (i : ℕ) → IsBytes (row s i)
+
+no-rows : AreRows []
+no-rows = record { at = λ i. none-bytes }
+
+more-rows : {b : List ℕ} {s : List (List ℕ)} → IsBytes b → AreRows s → AreRows (b ∷ s)
+more-rows {b} {s} is rows = record { at = each }
+  where
+    each : (i : ℕ) → IsBytes (row (b ∷ s) i)
+    each zero = is
+    each (suc i) = rows.at i
+
+step-rows : (family : Family) (s m : List (List ℕ)) → AreRows s → AreRows m → AreRows (step family s m)
+step-rows Aegis128 s m rows input =
+    more-rows (xor-bytes (round-bytes (row s 7) (rows.at 0)) (input.at 0))
+    (more-rows (round-bytes (row s 0) (rows.at 1))
+    (more-rows (round-bytes (row s 1) (rows.at 2))
+    (more-rows (round-bytes (row s 2) (rows.at 3))
+    (more-rows (xor-bytes (round-bytes (row s 3) (rows.at 4)) (input.at 1))
+    (more-rows (round-bytes (row s 4) (rows.at 5))
+    (more-rows (round-bytes (row s 5) (rows.at 6))
+    (more-rows (round-bytes (row s 6) (rows.at 7)) no-rows)))))))
+step-rows Aegis256 s m rows input =
+    more-rows (xor-bytes (round-bytes (row s 5) (rows.at 0)) (input.at 0))
+    (more-rows (round-bytes (row s 0) (rows.at 1))
+    (more-rows (round-bytes (row s 1) (rows.at 2))
+    (more-rows (round-bytes (row s 2) (rows.at 3))
+    (more-rows (round-bytes (row s 3) (rows.at 4))
+    (more-rows (round-bytes (row s 4) (rows.at 5)) no-rows)))))
+
+add_context-rows : (family : Family) (c : List ℕ) (s : List (List ℕ)) → IsBytes c → AreRows s → AreRows (add_context family c s)
+add_context-rows Aegis128 c s is rows =
+    more-rows (rows.at 0) (more-rows (rows.at 1) (more-rows (rows.at 2) (more-rows (xor-bytes (rows.at 3) is)
+    (more-rows (rows.at 4) (more-rows (rows.at 5) (more-rows (rows.at 6) (more-rows (xor-bytes (rows.at 7) is) no-rows)))))))
+add_context-rows Aegis256 c s is rows =
+    more-rows (rows.at 0) (more-rows (rows.at 1) (more-rows (rows.at 2) (more-rows (xor-bytes (rows.at 3) is)
+    (more-rows (rows.at 4) (more-rows (xor-bytes (rows.at 5) is) no-rows)))))
+
+times-rows : (n : ℕ) (f : List (List ℕ) → List (List ℕ)) (s : List (List ℕ))
+    → ((r : List (List ℕ)) → AreRows r → AreRows (f r)) → AreRows s → AreRows (times n f s)
+times-rows zero f s kept rows = rows
+times-rows (suc n) f s kept rows = kept (times n f s) (times-rows n f s kept rows)
+
+first_rows-rows : (family : Family) (key nonce : List ℕ) → IsBytes key → IsBytes nonce → AreRows (first_rows family key nonce)
+first_rows-rows Aegis128 key nonce k n =
+    more-rows (xor-bytes k n) (more-rows c1-bytes (more-rows c0-bytes (more-rows c1-bytes (more-rows (xor-bytes k n)
+    (more-rows (xor-bytes k c0-bytes) (more-rows (xor-bytes k c1-bytes) (more-rows (xor-bytes k c0-bytes) no-rows)))))))
+first_rows-rows Aegis256 key nonce k n =
+    let low = take-bytes 16 key k in
+    let high = drop-bytes 16 key k in
+    more-rows (xor-bytes low (take-bytes 16 nonce n)) (more-rows (xor-bytes high (drop-bytes 16 nonce n))
+    (more-rows c1-bytes (more-rows c0-bytes (more-rows (xor-bytes low c0-bytes) (more-rows (xor-bytes high c1-bytes) no-rows)))))
+
+-- an update of the start in the family 256
+turned-rows : (c b : List ℕ) (s : List (List ℕ)) → IsBytes c → IsBytes b → AreRows s
+    → AreRows (step Aegis256 (add_context Aegis256 c s) (b ∷ []))
+turned-rows c b s is input rows =
+    step-rows Aegis256 (add_context Aegis256 c s) (b ∷ []) (add_context-rows Aegis256 c s is rows) (more-rows input no-rows)
+
+start_turn-rows : (family : Family) (key nonce c : List ℕ) (s : List (List ℕ)) → IsBytes key → IsBytes nonce → IsBytes c
+    → AreRows s → AreRows (start_turn family key nonce c s)
+start_turn-rows Aegis128 key nonce c s k n is rows =
+    step-rows Aegis128 (add_context Aegis128 c s) (nonce ∷ key ∷ []) (add_context-rows Aegis128 c s is rows)
+    (more-rows n (more-rows k no-rows))
+start_turn-rows Aegis256 key nonce c s k n is rows =
+    let low = take-bytes 16 key k in
+    let high = drop-bytes 16 key k in
+    turned-rows c (xor (high_half key) (high_half nonce)) _ is (xor-bytes high (drop-bytes 16 nonce n))
+    (turned-rows c (xor (low_half key) (low_half nonce)) _ is (xor-bytes low (take-bytes 16 nonce n))
+    (turned-rows c (high_half key) _ is high
+    (turned-rows c (low_half key) s is low rows)))
+
+start-rows : (family : Family) (d : ℕ) (key nonce : List ℕ) (j : ℕ) → IsLaneCount d → j < d → IsBytes key → IsBytes nonce
+    → AreRows (start family d key nonce j)
+unfolding start
+start-rows family d key nonce j count inside k n =
+    times-rows (start_turns family) (start_turn family key nonce (context j d)) (first_rows family key nonce)
+    (λ s rows. start_turn-rows family key nonce (context j d) s k n (context-bytes j d count inside) rows)
+    (first_rows-rows family key nonce k n)
+
+share_at-rows : (family : Family) (d j : ℕ) (x : List ℕ) (i : ℕ) → IsBytes x → AreRows (share_at family d j x i)
+share_at-rows Aegis128 d j x i is =
+    more-rows (bytes_at-bytes x (i + 16 * j) 16 is) (more-rows (bytes_at-bytes x (i + 16 * (d + j)) 16 is) no-rows)
+share_at-rows Aegis256 d j x i is = more-rows (bytes_at-bytes x (i + 16 * j) 16 is) no-rows
+
+after-rows : (family : Family) (d : ℕ) (s : List (List ℕ)) (j : ℕ) (x : List ℕ) (n : ℕ) → AreRows s → IsBytes x
+    → AreRows (after family d s j x n)
+unfolding after
+after-rows family d s j x zero rows is = rows
+after-rows family d s j x (suc n) rows is =
+    step-rows family (after family d s j x n) (share_at family d j x (n * rate family d)) (after-rows family d s j x n rows is)
+    (share_at-rows family d j x (n * rate family d) is)
+
+pub lane_before-rows : (family : Family) (d : ℕ) (key nonce ad : List ℕ) (j : ℕ) → IsLaneCount d → j < d
+    → IsBytes key → IsBytes nonce → IsBytes ad → AreRows (lane_before family d key nonce ad j)
+lane_before-rows family d key nonce ad j count inside k n is =
+    after-rows family d (start family d key nonce j) j ad _ (start-rows family d key nonce j count inside k n) is
+
+keystream-rows : (family : Family) (s : List (List ℕ)) → AreRows s → AreRows (keystream family s)
+keystream-rows Aegis128 s rows =
+    more-rows (xor-bytes (xor-bytes (rows.at 6) (rows.at 1)) (and-bytes (rows.at 2) (rows.at 3)))
+    (more-rows (xor-bytes (xor-bytes (rows.at 2) (rows.at 5)) (and-bytes (rows.at 6) (rows.at 7))) no-rows)
+keystream-rows Aegis256 s rows =
+    more-rows (xor-bytes (xor-bytes (rows.at 1) (rows.at 4)) (xor-bytes (rows.at 5) (and-bytes (rows.at 2) (rows.at 3)))) no-rows
+
+-- the keystream along bytes, from lanes of bytes, is bytes
+pub stream_byte-below : (family : Family) (d : ℕ) (lanes : ℕ → List (List ℕ)) (m : List ℕ) (i : ℕ) → IsLaneCount d
+    → ((j : ℕ) → j < d → AreRows (lanes j)) → IsBytes m → stream_byte family d lanes m i < 256
+stream_byte-below family d lanes m i count rows is =
+    let j : ℕ = lane_of d i in
+    let n : ℕ = i / rate family d in
+    let stream : AreRows (keystream family (after family d (lanes j) j m n)) =
+    keystream-rows family (after family d (lanes j) j m n)
+    (after-rows family d (lanes j) j m n (rows j (lane_of-within d i count)) is) in
+    let block : IsBytes (row (keystream family (after family d (lanes j) j m n)) (i % rate family d / 16 / d)) =
+    stream.at (i % rate family d / 16 / d) in
+    block.below (i % 16)
