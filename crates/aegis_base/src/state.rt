@@ -59,7 +59,7 @@ pub trait LaneState: Copy {
             → lane result j ≡ start_turn FAMILY (key_bytes key.now) (key_bytes nonce.now) (context j LANES) (lane self j) }
         ensures updates { updates result ≤ updates self + 4 };
 
-    /// The lanes as they are, with no update counted.
+    /// The lanes as they are, with no update counted. Only the start ends so.
     fn uncounted(self) -> Self
         ensures lanes { (j : ℕ) → j < LANES → lane result j ≡ lane self j }
         ensures updates { updates result ≡ 0 };

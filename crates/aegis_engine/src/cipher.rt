@@ -109,7 +109,7 @@ impl<S: LaneState, V: Variant, const TAG_BYTES: usize> Cipher<S, V, TAG_BYTES> {
             → OnOk result (Opens S.FAMILY S.LANES TAG_BYTES key nonce ad.now mc.old tag.now mc.new) }
         ensures accepted { (key nonce m : List ℕ) → Stands S.FAMILY S.LANES (S.lane self) key nonce
             → Opens S.FAMILY S.LANES TAG_BYTES key nonce ad.now mc.old tag.now m → IsOk result }
-        ensures erased { OnErr result (mc.new ≡ replicate (length mc.old) ERASED) }
+        ensures erased { OnErr result (mc.new ≡ replicate (length mc.old) 0xaa) }
         ensures error { IfErr result (λ e. e ≡ Error.InvalidTag) }
     {
         let expected = self.open_unchecked(mc, ad);
