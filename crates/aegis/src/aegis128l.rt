@@ -18,7 +18,13 @@ pub type Nonce = [u8; 16];
 pub struct Names;
 
 impl Variant for Names {
+    ghost module_name = { codes "aegis128l" };
+
     ghost cipher_name = { codes "Aegis128L" };
+
+    fn module_name() -> &'static str {
+        "aegis128l"
+    }
 
     fn cipher_name() -> &'static str {
         "Aegis128L"
@@ -26,4 +32,7 @@ impl Variant for Names {
 }
 
 /// AEGIS-128L under a key and a nonce. [`Cipher`] has its calls.
-pub type Aegis128L<const TAG_BYTES: usize> = Cipher<State128<AesBlock>, Names, TAG_BYTES>;
+pub type Aegis128L<const TAG_BYTES: usize> = Cipher<State128<AesBlock>, Key, Names, TAG_BYTES>;
+
+/// Seals a message of Aegis128L that comes in chunks; the cipher's `encryptor` starts one.
+pub type Encryptor<const TAG_BYTES: usize> = aegis_engine::Encryptor<State128<AesBlock>, Names, TAG_BYTES>;

@@ -19,7 +19,13 @@ pub type Nonce = [u8; 16];
 pub struct Names;
 
 impl Variant for Names {
+    ghost module_name = { codes "aegis128x2" };
+
     ghost cipher_name = { codes "Aegis128X2" };
+
+    fn module_name() -> &'static str {
+        "aegis128x2"
+    }
 
     fn cipher_name() -> &'static str {
         "Aegis128X2"
@@ -27,4 +33,7 @@ impl Variant for Names {
 }
 
 /// AEGIS-128X2 under a key and a nonce. [`Cipher`] has its calls.
-pub type Aegis128X2<const TAG_BYTES: usize> = Cipher<State128<AesBlock2>, Names, TAG_BYTES>;
+pub type Aegis128X2<const TAG_BYTES: usize> = Cipher<State128<AesBlock2>, Key, Names, TAG_BYTES>;
+
+/// Seals a message of Aegis128X2 that comes in chunks; the cipher's `encryptor` starts one.
+pub type Encryptor<const TAG_BYTES: usize> = aegis_engine::Encryptor<State128<AesBlock2>, Names, TAG_BYTES>;

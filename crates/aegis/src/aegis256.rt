@@ -18,7 +18,13 @@ pub type Nonce = [u8; 32];
 pub struct Names;
 
 impl Variant for Names {
+    ghost module_name = { codes "aegis256" };
+
     ghost cipher_name = { codes "Aegis256" };
+
+    fn module_name() -> &'static str {
+        "aegis256"
+    }
 
     fn cipher_name() -> &'static str {
         "Aegis256"
@@ -26,4 +32,7 @@ impl Variant for Names {
 }
 
 /// AEGIS-256 under a key and a nonce. [`Cipher`] has its calls.
-pub type Aegis256<const TAG_BYTES: usize> = Cipher<State256<AesBlock>, Names, TAG_BYTES>;
+pub type Aegis256<const TAG_BYTES: usize> = Cipher<State256<AesBlock>, Key, Names, TAG_BYTES>;
+
+/// Seals a message of Aegis256 that comes in chunks; the cipher's `encryptor` starts one.
+pub type Encryptor<const TAG_BYTES: usize> = aegis_engine::Encryptor<State256<AesBlock>, Names, TAG_BYTES>;

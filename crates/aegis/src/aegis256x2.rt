@@ -19,7 +19,13 @@ pub type Nonce = [u8; 32];
 pub struct Names;
 
 impl Variant for Names {
+    ghost module_name = { codes "aegis256x2" };
+
     ghost cipher_name = { codes "Aegis256X2" };
+
+    fn module_name() -> &'static str {
+        "aegis256x2"
+    }
 
     fn cipher_name() -> &'static str {
         "Aegis256X2"
@@ -27,4 +33,7 @@ impl Variant for Names {
 }
 
 /// AEGIS-256X2 under a key and a nonce. [`Cipher`] has its calls.
-pub type Aegis256X2<const TAG_BYTES: usize> = Cipher<State256<AesBlock2>, Names, TAG_BYTES>;
+pub type Aegis256X2<const TAG_BYTES: usize> = Cipher<State256<AesBlock2>, Key, Names, TAG_BYTES>;
+
+/// Seals a message of Aegis256X2 that comes in chunks; the cipher's `encryptor` starts one.
+pub type Encryptor<const TAG_BYTES: usize> = aegis_engine::Encryptor<State256<AesBlock2>, Names, TAG_BYTES>;

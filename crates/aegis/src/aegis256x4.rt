@@ -19,7 +19,13 @@ pub type Nonce = [u8; 32];
 pub struct Names;
 
 impl Variant for Names {
+    ghost module_name = { codes "aegis256x4" };
+
     ghost cipher_name = { codes "Aegis256X4" };
+
+    fn module_name() -> &'static str {
+        "aegis256x4"
+    }
 
     fn cipher_name() -> &'static str {
         "Aegis256X4"
@@ -27,4 +33,7 @@ impl Variant for Names {
 }
 
 /// AEGIS-256X4 under a key and a nonce. [`Cipher`] has its calls.
-pub type Aegis256X4<const TAG_BYTES: usize> = Cipher<State256<AesBlock4>, Names, TAG_BYTES>;
+pub type Aegis256X4<const TAG_BYTES: usize> = Cipher<State256<AesBlock4>, Key, Names, TAG_BYTES>;
+
+/// Seals a message of Aegis256X4 that comes in chunks; the cipher's `encryptor` starts one.
+pub type Encryptor<const TAG_BYTES: usize> = aegis_engine::Encryptor<State256<AesBlock4>, Names, TAG_BYTES>;

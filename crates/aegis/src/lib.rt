@@ -9,5 +9,5 @@ pub mod aegis256x2;
 pub mod aegis256x4;
 pub mod aes;
 
-pub use aegis_base::{Error, MAX_AEAD_BYTES, laws};
-pub use aegis_engine::{Cipher, ERASED};
+pub use aegis_base::{Error, MAX_AEAD_BYTES, chunks_len, laws};
+pub use aegis_engine::{Cipher, ERASED, Encryptor};

@@ -1,7 +1,11 @@
+pub mod AppendFacts
 pub mod Bijection
 pub mod Bytes
+pub mod ChunkFacts
+pub mod HeldFacts
 pub mod LaneFacts
 pub mod LaneIndependence
 pub mod MessageFacts
+pub mod RunFacts
 pub mod SealFacts
 pub mod StreamFacts

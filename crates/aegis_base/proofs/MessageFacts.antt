@@ -1,8 +1,8 @@
 -- How the definitions of a message read bytes: rate blocks of two messages that agree, places in a rate block, and
 -- blocks of keystream byte by byte.
 use Rattle.std.proofs.Common.{◌≡◌, ◌∙◌, sym, ap, refl, ℕ, zero, suc, ◌+◌, ◌-◌, ◌*◌, ◌/◌, ◌%◌, ◌<◌, ◌≤◌, List, [], ◌∷◌, length, bit_xor, slice_index, arith, add-one, inl, inr}
-use Rattle.std.proofs.Math.Nat.{div-mul-le_self, lt-div-mul-add}
-use Rattle.std.proofs.lemmas.Nat.{div-mul-add}
+use Rattle.std.proofs.Math.Nat.{div-mul-le_self, le-mul_of_pos_right, lt-div-mul-add}
+use Rattle.std.proofs.lemmas.Nat.{div-mul-add, div_below}
 use Rattle.aegis_aes.specs.Block.{block_at, xor}
 use Rattle.aegis_aes.specs.Lanes.{IsLaneCount}
 use Rattle.aegis_base.specs.Family.{Family, Aegis128, Aegis256, rate, width}
@@ -151,3 +151,12 @@ block_count-whole family d n r e positive whole =
     let floor = div-mul-le_self n r in
     let place : n + (r - 1) ≡ n / r * r + (r - 1) = omega arith in
     rw (← e, place) (div-mul-add (n / r) r (r - 1) (omega arith))
+
+-- no more rate blocks than bytes
+pub block_count-below : (family : Family) (d n : ℕ) → IsLaneCount d → block_count family d n ≤ n
+block_count-below family d n count =
+    let positive = rate-positive family d count in
+    let more : n ≤ n * rate family d = le-mul_of_pos_right n positive in
+    let below : n + (rate family d - 1) < (n + 1) * rate family d = omega arith in
+    let quotient = div_below (n + (rate family d - 1)) (rate family d) (n + 1) positive below in
+    omega arith

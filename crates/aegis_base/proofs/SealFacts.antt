@@ -8,8 +8,8 @@ use Rattle.std.specs.Int.Bits.{xor_zero_l}
 use Rattle.aegis_aes.specs.Lanes.{IsLaneCount, xor_lanes}
 use Rattle.aegis_aes.specs.Block.{xor}
 use Rattle.aegis_base.specs.Family.{Family}
-use Rattle.aegis_base.specs.Lane.{finish, lane_tag}
-use Rattle.aegis_base.specs.Message.{Stands, after_all, block_count, ciphertext, lane_before, stream, stream_byte, tag}
+use Rattle.aegis_base.specs.Lane.{finish, lane_tag, start}
+use Rattle.aegis_base.specs.Message.{after_all, block_count, ciphertext, lane_before, stream, stream_byte, tag, xor_stream}
 use Rattle.aegis_base.proofs.Bijection.{bit_xor-twice, ciphertext-injective, ciphertext-is, ciphertext-reads, ciphertext-same}
 use Rattle.aegis_base.proofs.LaneFacts.{xor_lanes-same}
 use Rattle.aegis_base.proofs.MessageFacts.{after-none, rate-positive}
@@ -19,16 +19,6 @@ use Rattle.aegis_base.proofs.StreamFacts.{length-stream}
 pub record IsBefore (family : Family) (d : ℕ) (lanes : ℕ → List (List ℕ)) (key nonce ad : List ℕ) : Type 0 where
   pub count : IsLaneCount d
   pub before : (j : ℕ) → j < d → lanes j ≡ lane_before family d key nonce ad j
-
--- `lane` reads the lanes of a state; the cipher's value is `value`, and its state inside is that
-pub before-is : {S : Type 0} {inside value absorbed : S} (family : Family) (d : ℕ) (lane : S → ℕ → List (List ℕ)) → inside ≡ value
-    → (key nonce ad : List ℕ) → IsLaneCount d → Stands family d (lane value) key nonce
-    → ((j : ℕ) → j < d → lane absorbed j ≡ after_all family d (lane inside j) j ad)
-    → IsBefore family d (lane absorbed) key nonce ad
-before-is family d lane is key nonce ad count stands absorbed = record {
-  count = count;
-  before = λ j h. absorbed j h ∙ ap (λ (s : List (List ℕ)). after_all family d s j ad) (rw is (stands j h));
-}
 
 -- bytes that are the message's, xored with the keystream along it
 pub sealed-is : (family : Family) (d : ℕ) (lanes : ℕ → List (List ℕ)) (key nonce ad m c : List ℕ) → IsBefore family d lanes key nonce ad
@@ -66,19 +56,19 @@ opened-one family d key nonce ad c m o count e f =
 -- ---- without associated data
 
 pub before-start : (family : Family) (d : ℕ) (lanes : ℕ → List (List ℕ)) (key nonce : List ℕ) → IsLaneCount d
-    → Stands family d lanes key nonce → IsBefore family d lanes key nonce []
-before-start family d lanes key nonce count stands =
+    → ((j : ℕ) → j < d → lanes j ≡ start family d key nonce j) → IsBefore family d lanes key nonce []
+before-start family d lanes key nonce count started =
     let none : block_count family d 0 ≡ 0 = div-eq_of_lt (let positive = rate-positive family d count in omega arith) in
     record {
       count = count;
-      before = λ j h. rw (none, after-none) (stands j h);
+      before = λ j h. rw (none, after-none) (started j h);
     }
 
 -- bytes that are xored with the keystream along zeros are xored with the stream
 pub streamed-is : (family : Family) (d : ℕ) (lanes : ℕ → List (List ℕ)) (key nonce m c : List ℕ) → IsBefore family d lanes key nonce []
     → length c ≡ length m
     → ((i : ℕ) → i < length m → slice_index c i ≡ bit_xor (slice_index m i) (stream_byte family d lanes (replicate (length m) 0) i))
-    → c ≡ xor m (stream family d key nonce (length m))
+    → c ≡ xor_stream family d key nonce m
 streamed-is family d lanes key nonce m c is long xored =
     let zeros = replicate (length m) 0 in
     let s = stream family d key nonce (length m) in

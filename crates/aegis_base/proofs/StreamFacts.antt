@@ -6,8 +6,7 @@ use Rattle.std.proofs.lemmas.Simd.{length-zip2}
 use Rattle.aegis_aes.specs.Block.{xor}
 use Rattle.aegis_aes.specs.Lanes.{IsLaneCount}
 use Rattle.aegis_base.specs.Family.{Family}
-use Rattle.aegis_base.specs.Laws.{xor_stream}
-use Rattle.aegis_base.specs.Message.{ciphertext_from, lane_before, stream, stream_byte}
+use Rattle.aegis_base.specs.Message.{ciphertext_from, lane_before, stream, stream_byte, xor_stream}
 use Rattle.aegis_base.proofs.Bijection.{bit_xor-twice, ciphertext-is, ciphertext-reads, length-ciphertext, stream_byte-before}
 
 pub ciphertext-take : (family : Family) (d : ℕ) (lanes : ℕ → List (List ℕ)) (m : List ℕ) (k : ℕ) → IsLaneCount d → k ≤ length m

@@ -1,9 +1,8 @@
 -- The laws of sealing, of any lane count d: what a ciphertext and the stream of a key and a nonce are, whatever the
 -- inputs.
 use Rattle.std.specs.Prelude.{◌≡◌, ℕ, ◌<◌, ◌≤◌, List, [], length, replicate, slice_index, take}
-use Rattle.aegis_aes.specs.Block.{xor}
 use Rattle.aegis_base.specs.Family.{Family}
-use Rattle.aegis_base.specs.Message.{ciphertext, lane_of, seal, stream}
+use Rattle.aegis_base.specs.Message.{ciphertext, lane_of, seal, stream, xor_stream}
 
 -- a ciphertext is as long as its message
 abbrev pub IsLengthKept : Family → ℕ → Type 0
@@ -43,10 +42,6 @@ AreLanesIndependent family d =
 abbrev pub IsStreamPrefix : Family → ℕ → Type 0
 IsStreamPrefix family d =
     (key nonce : List ℕ) (k n : ℕ) → k ≤ n → stream family d key nonce k ≡ take k (stream family d key nonce n)
-
--- a message xored with the stream of a key and a nonce, as far as the message goes
-abbrev pub xor_stream : Family → ℕ → List ℕ → List ℕ → List ℕ → List ℕ
-xor_stream family d key nonce m = xor m (stream family d key nonce (length m))
 
 -- xoring with the same stream again gives the message back
 abbrev pub IsStreamUndone : Family → ℕ → Type 0

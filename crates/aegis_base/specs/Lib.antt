@@ -1,4 +1,6 @@
+pub mod Chunks
 pub mod Family
 pub mod Lane
 pub mod Laws
 pub mod Message
+pub mod Run

@@ -1,8 +1,8 @@
 -- Sealing and opening: d lanes that run alone over associated data and message, and meet only in the xor of their
 -- tags. Each byte is found from the beginning, by itself. `lanes` is a function from a lane's number to its rows.
-use Rattle.std.specs.Prelude.{◌≡◌, ℕ, zero, suc, ◌+◌, ◌-◌, ◌*◌, ◌/◌, ◌%◌, ◌<◌, List, [], ◌∷◌, bit_xor, length, map, replicate, slice_index}
+use Rattle.std.specs.Prelude.{◌≡◌, ℕ, zero, suc, ◌+◌, ◌-◌, ◌*◌, ◌/◌, ◌%◌, List, [], ◌∷◌, bit_xor, length, map, replicate, slice_index}
 use Rattle.std.specs.List.{range_with_len}
-use Rattle.aegis_aes.specs.Block.{block_at}
+use Rattle.aegis_aes.specs.Block.{block_at, xor}
 use Rattle.aegis_aes.specs.Lanes.{xor_lanes}
 use Rattle.aegis_base.specs.Family.{Family, Aegis128, Aegis256, rate}
 use Rattle.aegis_base.specs.Lane.{finish, keystream, lane_tag, row, start, step}
@@ -63,6 +63,10 @@ ciphertext family d key nonce ad m = ciphertext_from family d (lane_before famil
 abbrev pub stream : Family → ℕ → List ℕ → List ℕ → ℕ → List ℕ
 stream family d key nonce n = ciphertext family d key nonce [] (replicate n 0)
 
+-- a message xored with the keystream of a key and a nonce, as far as the message goes
+abbrev pub xor_stream : Family → ℕ → List ℕ → List ℕ → List ℕ → List ℕ
+xor_stream family d key nonce m = xor m (stream family d key nonce (length m))
+
 -- lane j after the whole message and its end
 abbrev pub lane_end : Family → ℕ → List ℕ → List ℕ → List ℕ → List ℕ → ℕ → List (List ℕ)
 lane_end family d key nonce ad m j =
@@ -79,7 +83,3 @@ seal family d n key nonce ad m = (ciphertext family d key nonce ad m, tag family
 -- sealing m gives this ciphertext and tag
 abbrev pub Opens : Family → ℕ → ℕ → List ℕ → List ℕ → List ℕ → List ℕ → List ℕ → List ℕ → Type 0
 Opens family d n key nonce ad c t m = seal family d n key nonce ad m ≡ (c, t)
-
--- lanes before any associated data or message stand for this key and nonce
-abbrev pub Stands : Family → ℕ → (ℕ → List (List ℕ)) → List ℕ → List ℕ → Type 0
-Stands family d lanes key nonce = (j : ℕ) → j < d → lanes j ≡ start family d key nonce j

@@ -2,13 +2,17 @@
 //! made of, and the laws that follow from the definitions.
 #![tactic(auto)]
 
+mod chunks;
 mod constants;
 mod error;
 pub mod laws;
+mod length;
 mod state;
 mod variant;
 
+pub use chunks::chunks_len;
 pub use constants::{C0, C1, bit_lengths};
 pub use error::{Error, MAX_AEAD_BYTES};
+pub use length::Length;
 pub use state::LaneState;
 pub use variant::{Tag, Variant};

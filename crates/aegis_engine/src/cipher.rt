@@ -1,15 +1,17 @@
 //! Ciphers: a key and a nonce, for one message or one keystream.
 //!
-//! [`Cipher`] is written once, over a state and a marker of names; the six variants are aliases of it. Its calls run
-//! the block engine of `pass` and compare tags by `tag`; nothing here knows a family or a lane count.
+//! [`Cipher`] is written once, over a state and a marker of names; the six variants are aliases of it. Its calls are runs
+//! of one piece over `message` and `run`; nothing here knows a family or a lane count.
 
-ghost use Rattle.std.specs.Prelude.{◌≡◌, ⊤, ℕ, ◌≤◌, ◌⊎◌, ◌++◌, IfErr, IfOk, IsOk, List, OnErr, OnOk, Some, codes, length, replicate};
-ghost use Rattle.aegis_aes.specs.Block.{xor};
-ghost use Rattle.aegis_base.specs.Message.{Opens, Stands, ciphertext, seal, stream, tag};
+ghost use Rattle.std.specs.Prelude.{◌≡◌, ⊤, ◌≤◌, ◌⊎◌, ◌++◌, IfErr, IfOk, IsOk, List, OnErr, OnOk, Some, codes, length, replicate, ℕ, []};
+ghost use Rattle.aegis_base.specs.Message.{Opens, ciphertext, seal, stream, tag, xor_stream};
+ghost use Rattle.aegis_base.specs.Run.{Stands};
 
-use crate::bytes::overwrite;
-use crate::pass::{Pass, absorb_all, pass_all};
-use crate::tag::{finish_tag, same_bytes};
+use crate::encryptor::Encryptor;
+use crate::message::{begin, finish, open_more, seal_more};
+use crate::pass::{Pass, ZEROS};
+use crate::run::pass_all;
+use crate::tag::same_bytes;
 use aegis_base::{Error, LaneState, MAX_AEAD_BYTES, Variant};
 use std::alloc::{AllocError, Allocator};
 use std::fmt;
@@ -18,34 +20,37 @@ use std::marker::{Model, PhantomData};
 /// What a refused opening in place leaves in each byte of the buffer.
 pub const ERASED: u8 = 0xaa;
 
-/// A cipher that has taken in its key and nonce, with tags of `TAG_BYTES` bytes, 16 or 32.
+/// A cipher with tags of `TAG_BYTES` bytes, 16 or 32: a key and a nonce, which is what contracts see of it.
 ///
-/// Each call takes the cipher and makes one message or one keystream; a nonce is for one of them under a key. Contracts
-/// see a cipher as its lanes and speak of each key and nonce that these stand for. The ciphers of more than one lane
-/// are `Copy`.
+/// A nonce is for one message or one keystream under a key. The one-shot calls take the cipher; the chunked calls borrow it
+/// to start. The ciphers of more than one lane are `Copy`.
 ///
 /// Lengths are in bytes. Associated data and a message each have at most [`MAX_AEAD_BYTES`], which is the caller's to
 /// see to; keystreams have no limit. No call takes memory but `encrypt`, `decrypt` and `stream_xor`, which make one
 /// reservation of the message's length before they process a byte.
 #[derive(Copy, Drop)]
-pub struct Cipher<S: LaneState, V: Variant, const TAG_BYTES: usize> {
-    state: S,
-    variant: PhantomData<V>,
+pub struct Cipher<S, K: Copy, V: Variant, const TAG_BYTES: usize> {
+    key: K,
+    nonce: K,
+    variant: PhantomData<(S, V)>,
 }
 
-impl<S: LaneState, V: Variant, const TAG_BYTES: usize> Model for Cipher<S, V, TAG_BYTES> {
+impl<S, K: Copy, V: Variant, const TAG_BYTES: usize> Model for Cipher<S, K, V, TAG_BYTES> {
     ghost use Rattle.std.specs.Prelude.{◌≡◌, ◌⊎◌};
+    ghost use Rattle.aegis_base.specs.Run.{Keys};
 
-    ghost Value = { S };
+    ghost Value = { Keys K };
 
-    ghost view = { λ c. c.state };
+    ghost view = { λ c. record { key = c.key; nonce = c.nonce } };
 
-    ghost invariant = { λ c. ((TAG_BYTES ≡ 16) ⊎ (TAG_BYTES ≡ 32)) × (S.updates c.state ≡ 0) };
+    ghost invariant = { λ c. (TAG_BYTES ≡ 16) ⊎ (TAG_BYTES ≡ 32) };
 
-    ghost inverse = { λ s. record { state = s; variant = record {} } };
+    ghost inverse = { λ keys. record { key = keys.key; nonce = keys.nonce; variant = record {} } };
 }
 
-impl<S: LaneState, V: Variant + Copy, const TAG_BYTES: usize> Clone for Cipher<S, V, TAG_BYTES> {
+impl<S: Copy, K: Copy, V: Variant + Copy, const TAG_BYTES: usize> Clone
+    for Cipher<S, K, V, TAG_BYTES>
+{
     ghost is_clone = { λ x y. y ≡ x };
 
     ghost is_infallible = { λ _. ⊤ };
@@ -55,7 +60,7 @@ impl<S: LaneState, V: Variant + Copy, const TAG_BYTES: usize> Clone for Cipher<S
     }
 }
 
-impl<S: LaneState, V: Variant, const TAG_BYTES: usize> fmt::Debug for Cipher<S, V, TAG_BYTES> {
+impl<S, K: Copy, V: Variant, const TAG_BYTES: usize> fmt::Debug for Cipher<S, K, V, TAG_BYTES> {
     ghost debug_output = { λ _. Some (V.cipher_name ++ codes " { .. }") };
 
     fn fmt<W: fmt::Write>(&self, f: &mut fmt::Formatter<W>) -> fmt::Result {
@@ -64,15 +69,16 @@ impl<S: LaneState, V: Variant, const TAG_BYTES: usize> fmt::Debug for Cipher<S, 
     }
 }
 
-impl<S: LaneState, V: Variant, const TAG_BYTES: usize> Cipher<S, V, TAG_BYTES> {
+impl<S: LaneState<Key = K>, K: Copy, V: Variant, const TAG_BYTES: usize> Cipher<S, K, V, TAG_BYTES> {
     /// The cipher of a key and a nonce. `TAG_BYTES` has to be 16 or 32.
-    pub fn new(key: &S::Key, nonce: &S::Key) -> Self
+    pub fn new(key: &K, nonce: &K) -> Self
         requires { (TAG_BYTES ≡ 16) ⊎ (TAG_BYTES ≡ 32) }
-        ensures stands { Stands S.FAMILY S.LANES (S.lane result) (S.key_bytes key.now) (S.key_bytes nonce.now) }
-        ensures updates { S.updates result ≡ 0 }
+        ensures key { result.key ≡ key.now }
+        ensures nonce { result.nonce ≡ nonce.now }
     {
         Cipher {
-            state: S::new(key, nonce),
+            key: *key,
+            nonce: *nonce,
             variant: PhantomData,
         }
     }
@@ -82,14 +88,24 @@ impl<S: LaneState, V: Variant, const TAG_BYTES: usize> Cipher<S, V, TAG_BYTES> {
     pub fn encrypt_in_place(self, mc: &mut [u8], ad: &[u8]) -> [u8; TAG_BYTES]
         requires message_within { length mc.old ≤ MAX_AEAD_BYTES }
         requires associated_data_within { length ad.now ≤ MAX_AEAD_BYTES }
-        ensures ciphertext { (key nonce : List ℕ) → Stands S.FAMILY S.LANES (S.lane self) key nonce
-            → mc.new ≡ ciphertext S.FAMILY S.LANES key nonce ad.now mc.old }
-        ensures tag { (key nonce : List ℕ) → Stands S.FAMILY S.LANES (S.lane self) key nonce
-            → result ≡ tag S.FAMILY S.LANES TAG_BYTES key nonce ad.now mc.old }
+        ensures { (mc.new, result) ≡ seal S.FAMILY S.LANES TAG_BYTES (S.key_bytes self.key) (S.key_bytes self.nonce) ad.now mc.old }
     {
-        let state = absorb_all(self.state, ad);
-        let state = pass_all(state, Pass::Seal, mc);
-        finish_tag(state, ad.len() as u64, mc.len() as u64)
+        let state = begin::<S>(&self.key, &self.nonce, ad);
+        let mut block = ZEROS;
+        let state = seal_more(state, &mut block, ad.len() as u64, 0, mc);
+        finish(state, &block, ad.len() as u64, mc.len() as u64)
+    }
+
+    // Turns a ciphertext into the message that is sealed to it, and answers that message's tag.
+    fn open_unchecked(self, mc: &mut [u8], ad: &[u8]) -> [u8; TAG_BYTES]
+        requires message_within { length mc.old ≤ MAX_AEAD_BYTES }
+        requires associated_data_within { length ad.now ≤ MAX_AEAD_BYTES }
+        ensures { (mc.old, result) ≡ seal S.FAMILY S.LANES TAG_BYTES (S.key_bytes self.key) (S.key_bytes self.nonce) ad.now mc.new }
+    {
+        let state = begin::<S>(&self.key, &self.nonce, ad);
+        let mut block = ZEROS;
+        let state = open_more(state, &mut block, ad.len() as u64, 0, mc);
+        finish(state, &block, ad.len() as u64, mc.len() as u64)
     }
 
     /// Opens a ciphertext in place (AEGIS, Decrypt): `mc` is the ciphertext before the call and the message after it.
@@ -105,10 +121,11 @@ impl<S: LaneState, V: Variant, const TAG_BYTES: usize> Cipher<S, V, TAG_BYTES> {
     ) -> Result<(), Error>
         requires message_within { length mc.old ≤ MAX_AEAD_BYTES }
         requires associated_data_within { length ad.now ≤ MAX_AEAD_BYTES }
-        ensures opened { (key nonce : List ℕ) → Stands S.FAMILY S.LANES (S.lane self) key nonce
-            → OnOk result (Opens S.FAMILY S.LANES TAG_BYTES key nonce ad.now mc.old tag.now mc.new) }
-        ensures accepted { (key nonce m : List ℕ) → Stands S.FAMILY S.LANES (S.lane self) key nonce
-            → Opens S.FAMILY S.LANES TAG_BYTES key nonce ad.now mc.old tag.now m → IsOk result }
+        ensures opened { OnOk result (Opens S.FAMILY S.LANES TAG_BYTES (S.key_bytes self.key) (S.key_bytes self.nonce) ad.now mc.old tag.now mc.new) }
+        ensures accepted { (m : List ℕ) → Opens S.FAMILY S.LANES TAG_BYTES (S.key_bytes self.key) (S.key_bytes self.nonce) ad.now mc.old tag.now m
+            → IsOk result }
+        ensures only { (m : List ℕ) → Opens S.FAMILY S.LANES TAG_BYTES (S.key_bytes self.key) (S.key_bytes self.nonce) ad.now mc.old tag.now m
+            → mc.new ≡ m }
         ensures erased { OnErr result (mc.new ≡ replicate (length mc.old) 0xaa) }
         ensures error { IfErr result (λ e. e ≡ Error.InvalidTag) }
     {
@@ -116,7 +133,7 @@ impl<S: LaneState, V: Variant, const TAG_BYTES: usize> Cipher<S, V, TAG_BYTES> {
         if same_bytes(&expected, tag) {
             Ok(())
         } else {
-            overwrite(mc, ERASED);
+            mc.fill(ERASED);
             Err(Error::InvalidTag)
         }
     }
@@ -132,8 +149,9 @@ impl<S: LaneState, V: Variant, const TAG_BYTES: usize> Cipher<S, V, TAG_BYTES> {
     ) -> Result<(Vec<u8, A>, [u8; TAG_BYTES]), Error>
         requires message_within { length m.now ≤ MAX_AEAD_BYTES }
         requires associated_data_within { length ad.now ≤ MAX_AEAD_BYTES }
-        ensures sealed { (key nonce : List ℕ) → Stands S.FAMILY S.LANES (S.lane self) key nonce
-            → IfOk result (λ sealed. (sealed.0.items, sealed.1) ≡ seal S.FAMILY S.LANES TAG_BYTES key nonce ad.now m.now) }
+        ensures sealed { IfOk result (λ sealed. (sealed.0.items, sealed.1)
+            ≡ seal S.FAMILY S.LANES TAG_BYTES (S.key_bytes self.key) (S.key_bytes self.nonce) ad.now m.now) }
+        ensures length { IfOk result (λ sealed. length sealed.0.items ≡ length m.now) }
         ensures error { IfErr result (λ e. e ≡ Error.OutOfMemory) }
     {
         let mut c = Vec::from_slice(alloc, m).map_err(|_| Error::OutOfMemory)?;
@@ -155,10 +173,12 @@ impl<S: LaneState, V: Variant, const TAG_BYTES: usize> Cipher<S, V, TAG_BYTES> {
     ) -> Result<Vec<u8, A>, Error>
         requires message_within { length c.now ≤ MAX_AEAD_BYTES }
         requires associated_data_within { length ad.now ≤ MAX_AEAD_BYTES }
-        ensures opened { (key nonce : List ℕ) → Stands S.FAMILY S.LANES (S.lane self) key nonce
-            → IfOk result (λ m. Opens S.FAMILY S.LANES TAG_BYTES key nonce ad.now c.now tag.now m.items) }
-        ensures accepted { (key nonce m : List ℕ) → Stands S.FAMILY S.LANES (S.lane self) key nonce
-            → Opens S.FAMILY S.LANES TAG_BYTES key nonce ad.now c.now tag.now m → result ≡ Err Error.InvalidTag → ⊥ }
+        ensures opened { IfOk result (λ m. Opens S.FAMILY S.LANES TAG_BYTES (S.key_bytes self.key) (S.key_bytes self.nonce) ad.now c.now tag.now m.items) }
+        ensures accepted { (m : List ℕ) → Opens S.FAMILY S.LANES TAG_BYTES (S.key_bytes self.key) (S.key_bytes self.nonce) ad.now c.now tag.now m
+            → result ≡ Err Error.InvalidTag → ⊥ }
+        ensures only { (m : List ℕ) → Opens S.FAMILY S.LANES TAG_BYTES (S.key_bytes self.key) (S.key_bytes self.nonce) ad.now c.now tag.now m
+            → IfOk result (λ opened. opened.items ≡ m) }
+        ensures length { IfOk result (λ m. length m.items ≡ length c.now) }
         ensures error { IfErr result (λ e. (e ≡ Error.InvalidTag) ⊎ (e ≡ Error.OutOfMemory)) }
     {
         let mut m = Vec::from_slice(alloc, c).map_err(|_| Error::OutOfMemory)?;
@@ -170,8 +190,8 @@ impl<S: LaneState, V: Variant, const TAG_BYTES: usize> Cipher<S, V, TAG_BYTES> {
     ///
     /// [`Error::OutOfMemory`] alone, where the reservation was refused.
     pub fn stream_xor<A: Allocator>(self, alloc: A, m: &[u8]) -> Result<Vec<u8, A>, Error>
-        ensures xored { (key nonce : List ℕ) → Stands S.FAMILY S.LANES (S.lane self) key nonce
-            → IfOk result (λ c. c.items ≡ xor m.now (stream S.FAMILY S.LANES key nonce (length m.now))) }
+        ensures xored { IfOk result (λ c. c.items ≡ xor_stream S.FAMILY S.LANES (S.key_bytes self.key) (S.key_bytes self.nonce) m.now) }
+        ensures length { IfOk result (λ c. length c.items ≡ length m.now) }
         ensures error { IfErr result (λ e. e ≡ Error.OutOfMemory) }
     {
         let mut c = Vec::from_slice(alloc, m).map_err(|_| Error::OutOfMemory)?;
@@ -179,35 +199,31 @@ impl<S: LaneState, V: Variant, const TAG_BYTES: usize> Cipher<S, V, TAG_BYTES> {
         Ok(c)
     }
 
-    // Turns a ciphertext into the message that is sealed to it, and answers that message's tag.
-    fn open_unchecked(self, mc: &mut [u8], ad: &[u8]) -> [u8; TAG_BYTES]
-        requires message_within { length mc.old ≤ MAX_AEAD_BYTES }
-        requires associated_data_within { length ad.now ≤ MAX_AEAD_BYTES }
-        ensures message { (key nonce : List ℕ) → Stands S.FAMILY S.LANES (S.lane self) key nonce
-            → ciphertext S.FAMILY S.LANES key nonce ad.now mc.new ≡ mc.old }
-        ensures tag { (key nonce : List ℕ) → Stands S.FAMILY S.LANES (S.lane self) key nonce
-            → result ≡ tag S.FAMILY S.LANES TAG_BYTES key nonce ad.now mc.new }
-    {
-        let state = absorb_all(self.state, ad);
-        let state = pass_all(state, Pass::Open, mc);
-        finish_tag(state, ad.len() as u64, mc.len() as u64)
-    }
-
     /// Fills `out` with the keystream from its beginning, whatever `out` held: the ciphertext of as many zeros, sealed
     /// without associated data. `TAG_BYTES` has no effect on it.
     pub fn stream(self, out: &mut [u8])
-        ensures { (key nonce : List ℕ) → Stands S.FAMILY S.LANES (S.lane self) key nonce
-            → out.new ≡ stream S.FAMILY S.LANES key nonce (length out.old) }
+        ensures { out.new ≡ stream S.FAMILY S.LANES (S.key_bytes self.key) (S.key_bytes self.nonce) (length out.old) }
     {
-        overwrite(out, 0);
-        pass_all(self.state, Pass::Seal, out);
+        out.fill(0);
+        let mut block = ZEROS;
+        seal_more(begin::<S>(&self.key, &self.nonce, &[]), &mut block, 0, 0, out);
     }
 
     /// Xors a message in place with the keystream from its beginning. Done twice, it gives the message back.
     pub fn stream_xor_in_place(self, mc: &mut [u8])
-        ensures { (key nonce : List ℕ) → Stands S.FAMILY S.LANES (S.lane self) key nonce
-            → mc.new ≡ xor mc.old (stream S.FAMILY S.LANES key nonce (length mc.old)) }
+        ensures { mc.new ≡ xor_stream S.FAMILY S.LANES (S.key_bytes self.key) (S.key_bytes self.nonce) mc.old }
     {
-        pass_all(self.state, Pass::Stream, mc);
+        let mut block = ZEROS;
+        pass_all(S::new(&self.key, &self.nonce), &mut block, 0, Pass::Stream, mc);
+    }
+
+    /// Starts to seal a message that comes in chunks, with the associated data `ad`.
+    pub fn encryptor(&self, ad: &[u8]) -> Encryptor<S, V, TAG_BYTES>
+        requires { length ad.now ≤ MAX_AEAD_BYTES }
+        ensures stands { Stands S.FAMILY S.LANES S.lane S.updates result (S.key_bytes self.now.key) (S.key_bytes self.now.nonce) ad.now [] }
+        ensures empty { ciphertext S.FAMILY S.LANES (S.key_bytes self.now.key) (S.key_bytes self.now.nonce) ad.now [] ≡ [] }
+        ensures length { result.message_bytes ≡ 0 }
+    {
+        Encryptor::new(begin::<S>(&self.key, &self.nonce, ad), ad.len() as u64)
     }
 }

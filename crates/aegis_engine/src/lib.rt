@@ -1,10 +1,15 @@
-//! The block engine of AEGIS and the calls over it, once for every family and lane count: `pass` runs a state along
-//! bytes, block by block, `tag` ends it, and `cipher` has the public calls.
+//! The block engine of AEGIS and the calls over it, once for every family and lane count.
+//!
+//! From below: `pass` runs a state along rate blocks, `run` along bytes that come in any pieces, `message` along associated
+//! data and a message; `cipher` and `encryptor` have the public calls.
 #![tactic(auto)]
 
-mod bytes;
 mod cipher;
+mod encryptor;
+mod message;
 mod pass;
+mod run;
 mod tag;
 
 pub use cipher::{Cipher, ERASED};
+pub use encryptor::Encryptor;

@@ -1,12 +1,14 @@
-//! The block engine: a state along associated data and along a buffer, rate block by rate block.
+//! Rate blocks: the lanes of a run along one rate block, a part of one, or many.
 //!
-//! Sealing, opening and the xor with a keystream are one pass: each byte of the buffer is xored with the keystream, and
-//! the lanes take in what the pass says, the bytes before that, the bytes after it, or zeros. The last bytes, which fill
-//! no rate block, are taken in with zeros after them.
+//! Sealing, opening and the xor with a keystream are one pass: each byte of a buffer is xored with the keystream, and
+//! the lanes take in what the pass says, the bytes before that, the bytes after it, or zeros. Associated data and the
+//! input of a MAC are taken in without a buffer. Contracts speak of any bytes `x` that the run goes along, of which
+//! the lanes have taken in those before a place, and which have the bytes of the call from there on.
 
-ghost use Rattle.std.specs.Prelude.{◌≡◌, ℕ, ◌+◌, ◌^◌, ◌<◌, ◌≤◌, bit_xor, length, List, slice_index, replicate};
+ghost use Rattle.std.specs.Prelude.{◌≡◌, ℕ, ◌+◌, ◌*◌, ◌/◌, ◌%◌, ◌^◌, ◌<◌, ◌≤◌, bit_xor, length, List, slice_index, replicate};
 ghost use Rattle.aegis_base.specs.Lane.{step};
-ghost use Rattle.aegis_base.specs.Message.{after_all, block_count, keystream_byte, share_at, stream_byte};
+ghost use Rattle.aegis_base.specs.Message.{keystream_byte, share_at, stream_byte};
+ghost use Rattle.aegis_base.specs.Run.{IsAlong, IsUnopened};
 ghost use Rattle.aegis_engine.specs.Pass.{taken};
 
 use aegis_base::LaneState;
@@ -22,18 +24,21 @@ pub enum Pass {
     Stream,
 }
 
-const ZEROS: [u8; 128] = [0; 128];
+/// A place for one rate block, which has at most 128 bytes.
+pub type Block = [u8; 128];
 
-// The bytes from `at` on, and zeros after them.
-fn padded(bytes: &[u8], at: usize) -> [u8; 128]
-    requires within { at ≤ length bytes.now }
-    requires short { length bytes.now ≤ at + 128 }
-    ensures { (i : ℕ) → slice_index result i ≡ slice_index bytes.now (at + i) }
+/// A block of zeros.
+pub const ZEROS: Block = [0; 128];
+
+/// Copies `count` bytes of `source`, from `from` on, over those of `target` from `at` on.
+pub fn copy_part(target: &mut [u8], at: usize, source: &[u8], from: usize, count: usize)
+    requires target_within { at + count ≤ length target.old }
+    requires source_within { from + count ≤ length source.now }
+    ensures written { (k : ℕ) → k < count → slice_index target.new (at + k) ≡ slice_index source.now (from + k) }
+    ensures below { (i : ℕ) → i < at → slice_index target.new i ≡ slice_index target.old i }
+    ensures above { (i : ℕ) → at + count ≤ i → slice_index target.new i ≡ slice_index target.old i }
 {
-    let mut block = ZEROS;
-    let rest = &bytes[at..];
-    block[..rest.len()].copy_from_slice(rest);
-    block
+    target[at..at + count].copy_from_slice(&source[from..from + count]);
 }
 
 // Xors a rate block of a buffer with the lanes' keystream, byte by byte.
@@ -48,18 +53,94 @@ fn xor_block<S: LaneState>(state: S, buffer: &mut [u8], at: usize)
     state.xor_keystream(buffer, at);
 }
 
-// Xors the last bytes of a buffer, from `at` on, with the lanes' keystream.
-fn xor_tail<S: LaneState>(state: S, buffer: &mut [u8], at: usize)
-    requires within { at ≤ length buffer.old }
-    requires short { length buffer.old < at + S.RATE }
-    ensures written { (k : ℕ) → at + k < length buffer.old
-        → slice_index buffer.new (at + k) ≡ bit_xor (slice_index buffer.old (at + k)) (keystream_byte S.FAMILY S.LANES (S.lane state) k) }
+// Xors `count` bytes of a buffer, from `at` on, with the lanes' keystream behind `total` bytes, within one rate block.
+fn xor_part<S: LaneState>(state: S, total: u64, buffer: &mut [u8], at: usize, count: usize)
+    requires within { at + count ≤ length buffer.old }
+    requires one_block { total % S.RATE + count ≤ S.RATE }
+    ensures written { (lanes : ℕ → List (List ℕ)) (block x : List ℕ) → IsAlong S.FAMILY S.LANES lanes (S.lane state) block x total
+        → (k : ℕ) → k < count
+        → slice_index buffer.new (at + k) ≡ bit_xor (slice_index buffer.old (at + k)) (stream_byte S.FAMILY S.LANES lanes x (total + k)) }
     ensures below { (i : ℕ) → i < at → slice_index buffer.new i ≡ slice_index buffer.old i }
+    ensures above { (i : ℕ) → at + count ≤ i → slice_index buffer.new i ≡ slice_index buffer.old i }
 {
-    let mut block = padded(buffer, at);
-    xor_block(state, &mut block, 0);
-    let rest = buffer.len() - at;
-    buffer[at..].copy_from_slice(&block[..rest]);
+    let place = (total % S::RATE as u64) as usize;
+    let mut part = ZEROS;
+    copy_part(&mut part, place, buffer, at, count);
+    xor_block(state, &mut part, 0);
+    copy_part(buffer, at, &part, place, count);
+}
+
+/// The lanes after `count` bytes, from `at` on, of one rate block. The open block keeps them, and is taken in where they
+/// fill it.
+pub fn absorb_part<S: LaneState>(
+    state: S,
+    block: &mut Block,
+    total: u64,
+    bytes: &[u8],
+    at: usize,
+    count: usize,
+) -> S
+    requires within { at + count ≤ length bytes.now }
+    requires one_block { total % S.RATE + count ≤ S.RATE }
+    requires countable { S.updates state + count < 2 ^ 64 }
+    ensures along { (lanes : ℕ → List (List ℕ)) (x : List ℕ) → IsAlong S.FAMILY S.LANES lanes (S.lane state) block.old x total
+        → ((k : ℕ) → k < count → slice_index x (total + k) ≡ slice_index bytes.now (at + k))
+        → IsAlong S.FAMILY S.LANES lanes (S.lane result) block.new x (total + count) }
+    ensures updates { S.updates result + total / S.RATE ≡ S.updates state + (total + count) / S.RATE }
+    ensures few { S.updates result ≤ S.updates state + count }
+{
+    let place = (total % S::RATE as u64) as usize;
+    copy_part(&mut *block, place, bytes, at, count);
+    if place + count == S::RATE {
+        state.absorb(&*block, 0)
+    } else {
+        state
+    }
+}
+
+/// The lanes after `count` bytes of a buffer, from `at` on, of one rate block: they are xored with the keystream, and the
+/// lanes take in what the pass says.
+pub fn pass_part<S: LaneState>(
+    state: S,
+    block: &mut Block,
+    total: u64,
+    pass: Pass,
+    buffer: &mut [u8],
+    at: usize,
+    count: usize,
+) -> S
+    requires within { at + count ≤ length buffer.old }
+    requires one_block { total % S.RATE + count ≤ S.RATE }
+    requires countable { S.updates state + count < 2 ^ 64 }
+    ensures along { (lanes : ℕ → List (List ℕ)) (x : List ℕ) → IsAlong S.FAMILY S.LANES lanes (S.lane state) block.old x total
+        → ((k : ℕ) → k < count → slice_index x (total + k) ≡ slice_index (taken pass buffer.old buffer.new) (at + k))
+        → IsAlong S.FAMILY S.LANES lanes (S.lane result) block.new x (total + count) }
+    ensures written { (lanes : ℕ → List (List ℕ)) (x : List ℕ) → IsAlong S.FAMILY S.LANES lanes (S.lane state) block.old x total
+        → (k : ℕ) → k < count
+        → slice_index buffer.new (at + k) ≡ bit_xor (slice_index buffer.old (at + k)) (stream_byte S.FAMILY S.LANES lanes x (total + k)) }
+    ensures below { (i : ℕ) → i < at → slice_index buffer.new i ≡ slice_index buffer.old i }
+    ensures above { (i : ℕ) → at + count ≤ i → slice_index buffer.new i ≡ slice_index buffer.old i }
+    ensures updates { S.updates result + total / S.RATE ≡ S.updates state + (total + count) / S.RATE }
+    ensures few { S.updates result ≤ S.updates state + count }
+{
+    if count == 0 {
+        return state;
+    }
+    match pass {
+        Pass::Seal => {
+            let next = absorb_part(state, block, total, buffer, at, count);
+            xor_part(state, total, buffer, at, count);
+            next
+        }
+        Pass::Open => {
+            xor_part(state, total, buffer, at, count);
+            absorb_part(state, block, total, buffer, at, count)
+        }
+        Pass::Stream => {
+            xor_part(state, total, buffer, at, count);
+            absorb_part(state, block, total, &ZEROS, 0, count)
+        }
+    }
 }
 
 // The lanes after they take in the rate block of zeros.
@@ -71,18 +152,6 @@ fn absorb_zeros<S: LaneState>(state: S) -> S
     ensures updates { S.updates result ≡ S.updates state + 1 }
 {
     state.absorb(&ZEROS, 0)
-}
-
-// The lanes after they take in the last bytes, from `at` on, with zeros after them.
-fn absorb_tail<S: LaneState>(state: S, bytes: &[u8], at: usize) -> S
-    requires within { at ≤ length bytes.now }
-    requires short { length bytes.now < at + S.RATE }
-    requires countable { S.updates state + 1 < 2 ^ 64 }
-    ensures lanes { (j : ℕ) → j < S.LANES
-        → S.lane result j ≡ step S.FAMILY (S.lane state j) (share_at S.FAMILY S.LANES j bytes.now at) }
-    ensures updates { S.updates result ≡ S.updates state + 1 }
-{
-    state.absorb(&padded(bytes, at), 0)
 }
 
 // One rate block of a buffer: it is xored with the lanes' keystream, and the lanes take in what the pass says.
@@ -115,73 +184,52 @@ fn pass_block<S: LaneState>(state: S, pass: Pass, buffer: &mut [u8], at: usize) 
     }
 }
 
-// The last bytes of a buffer, from `at` on, which fill no rate block: no keystream past the end enters the lanes.
-fn pass_tail<S: LaneState>(state: S, pass: Pass, buffer: &mut [u8], at: usize) -> S
-    requires within { at ≤ length buffer.old }
-    requires short { length buffer.old < at + S.RATE }
-    requires countable { S.updates state + 1 < 2 ^ 64 }
-    ensures written { (k : ℕ) → at + k < length buffer.old
-        → slice_index buffer.new (at + k) ≡ bit_xor (slice_index buffer.old (at + k)) (keystream_byte S.FAMILY S.LANES (S.lane state) k) }
+/// The lanes after `count` whole rate blocks of `bytes`, from `at` on, where no rate block is open.
+pub fn absorb_whole<S: LaneState>(state: S, bytes: &[u8], at: usize, count: usize) -> S
+    requires within { at + count * S.RATE ≤ length bytes.now }
+    requires countable { S.updates state + count < 2 ^ 64 }
+    ensures along { (lanes : ℕ → List (List ℕ)) (block x : List ℕ) (total : ℕ) → IsUnopened total count S.RATE
+        → IsAlong S.FAMILY S.LANES lanes (S.lane state) block x total
+        → ((k : ℕ) → k < count * S.RATE → slice_index x (total + k) ≡ slice_index bytes.now (at + k))
+        → IsAlong S.FAMILY S.LANES lanes (S.lane result) block x (total + count * S.RATE) }
+    ensures updates { S.updates result ≡ S.updates state + count }
+{
+    let rate = S::RATE;
+    let mut state = state;
+    for i in 0..count {
+        state = state.absorb(bytes, at + i * rate);
+    }
+    state
+}
+
+/// The lanes after `count` whole rate blocks of a buffer, from `at` on, where no rate block is open: each is xored with the
+/// keystream, and the lanes take in what the pass says.
+pub fn pass_whole<S: LaneState>(
+    state: S,
+    pass: Pass,
+    buffer: &mut [u8],
+    at: usize,
+    count: usize,
+) -> S
+    requires within { at + count * S.RATE ≤ length buffer.old }
+    requires countable { S.updates state + count < 2 ^ 64 }
+    ensures along { (lanes : ℕ → List (List ℕ)) (block x : List ℕ) (total : ℕ) → IsUnopened total count S.RATE
+        → IsAlong S.FAMILY S.LANES lanes (S.lane state) block x total
+        → ((k : ℕ) → k < count * S.RATE → slice_index x (total + k) ≡ slice_index (taken pass buffer.old buffer.new) (at + k))
+        → IsAlong S.FAMILY S.LANES lanes (S.lane result) block x (total + count * S.RATE) }
+    ensures written { (lanes : ℕ → List (List ℕ)) (block x : List ℕ) (total : ℕ) → IsUnopened total count S.RATE
+        → IsAlong S.FAMILY S.LANES lanes (S.lane state) block x total
+        → ((k : ℕ) → k < count * S.RATE → slice_index x (total + k) ≡ slice_index (taken pass buffer.old buffer.new) (at + k))
+        → (k : ℕ) → k < count * S.RATE
+        → slice_index buffer.new (at + k) ≡ bit_xor (slice_index buffer.old (at + k)) (stream_byte S.FAMILY S.LANES lanes x (total + k)) }
     ensures below { (i : ℕ) → i < at → slice_index buffer.new i ≡ slice_index buffer.old i }
-    ensures lanes { (j : ℕ) → j < S.LANES
-        → S.lane result j ≡ step S.FAMILY (S.lane state j) (share_at S.FAMILY S.LANES j (taken pass buffer.old buffer.new) at) }
-    ensures updates { S.updates result ≡ S.updates state + 1 }
-{
-    match pass {
-        Pass::Seal => {
-            let next = absorb_tail(state, buffer, at);
-            xor_tail(state, buffer, at);
-            next
-        }
-        Pass::Open => {
-            xor_tail(state, buffer, at);
-            absorb_tail(state, buffer, at)
-        }
-        Pass::Stream => {
-            xor_tail(state, buffer, at);
-            absorb_zeros(state)
-        }
-    }
-}
-
-/// The lanes after associated data, or after a MAC's input: each rate block of `bytes` is taken in, the last one
-/// with zeros after it.
-pub fn absorb_all<S: LaneState>(state: S, bytes: &[u8]) -> S
-    requires { S.updates state + length bytes.now < 2 ^ 64 }
-    ensures lanes { (j : ℕ) → j < S.LANES → S.lane result j ≡ after_all S.FAMILY S.LANES (S.lane state j) j bytes.now }
-    ensures updates { S.updates result ≡ S.updates state + block_count S.FAMILY S.LANES (length bytes.now) }
+    ensures above { (i : ℕ) → at + count * S.RATE ≤ i → slice_index buffer.new i ≡ slice_index buffer.old i }
+    ensures updates { S.updates result ≡ S.updates state + count }
 {
     let rate = S::RATE;
-    let whole = bytes.len() / rate;
     let mut state = state;
-    for n in 0..whole {
-        state = state.absorb(bytes, n * rate);
+    for i in 0..count {
+        state = pass_block(state, pass, buffer, at + i * rate);
     }
-    if whole * rate < bytes.len() {
-        absorb_tail(state, bytes, whole * rate)
-    } else {
-        state
-    }
-}
-
-/// The lanes along a buffer: each byte is xored with the keystream, and the lanes take in what the pass says.
-pub fn pass_all<S: LaneState>(state: S, pass: Pass, buffer: &mut [u8]) -> S
-    requires { S.updates state + length buffer.old < 2 ^ 64 }
-    ensures written { (i : ℕ) → i < length buffer.old
-        → slice_index buffer.new i ≡ bit_xor (slice_index buffer.old i) (stream_byte S.FAMILY S.LANES (S.lane state) (taken pass buffer.old buffer.new) i) }
-    ensures lanes { (j : ℕ) → j < S.LANES
-        → S.lane result j ≡ after_all S.FAMILY S.LANES (S.lane state j) j (taken pass buffer.old buffer.new) }
-    ensures updates { S.updates result ≡ S.updates state + block_count S.FAMILY S.LANES (length buffer.old) }
-{
-    let rate = S::RATE;
-    let whole = buffer.len() / rate;
-    let mut state = state;
-    for n in 0..whole {
-        state = pass_block(state, pass, buffer, n * rate);
-    }
-    if whole * rate < buffer.len() {
-        pass_tail(state, pass, buffer, whole * rate)
-    } else {
-        state
-    }
+    state
 }

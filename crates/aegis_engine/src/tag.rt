@@ -1,11 +1,11 @@
 //! Tags: the end of the lanes, and the comparison of two tags.
 
-ghost use Rattle.std.specs.Prelude.{◌≡◌, ℕ, ◌+◌, ◌*◌, ◌^◌, ◌<◌, ◌≤◌, ◌⊎◌, ◌++◌, ◌↔◌, IsTrue, length};
+ghost use Rattle.std.specs.Prelude.{◌≡◌, ◌⊎◌, ◌++◌, ◌↔◌, IsTrue, length};
 ghost use Rattle.aegis_aes.specs.Lanes.{xor_lanes};
-ghost use Rattle.aegis_base.specs.Lane.{finish, lane_tag};
+ghost use Rattle.aegis_base.specs.Lane.{lane_tag};
 
 use aegis_aes::AesBlock;
-use aegis_base::{LaneState, MAX_AEAD_BYTES};
+use aegis_base::LaneState;
 
 /// Whether two slices of one length have the same bytes. It looks at every byte.
 pub fn same_bytes(a: &[u8], b: &[u8]) -> bool
@@ -29,19 +29,11 @@ fn joined(low: AesBlock, high: AesBlock) -> [u8; 32]
     tag
 }
 
-/// The tag of lanes that have taken in associated data and a message, of these numbers of bytes (AEGIS, Finalize).
-pub fn finish_tag<S: LaneState, const TAG_BYTES: usize>(
-    state: S,
-    ad_len: u64,
-    message_len: u64,
-) -> [u8; TAG_BYTES]
-    requires tag_bytes { (TAG_BYTES ≡ 16) ⊎ (TAG_BYTES ≡ 32) }
-    requires countable { S.updates state + 7 < 2 ^ 64 }
-    requires associated_data_within { ad_len ≤ MAX_AEAD_BYTES }
-    requires message_within { message_len ≤ MAX_AEAD_BYTES }
-    ensures { result ≡ xor_lanes (λ j. lane_tag S.FAMILY TAG_BYTES (finish S.FAMILY (S.lane state j) (8 * ad_len) (8 * message_len))) S.LANES }
+/// The tag of lanes after their end: the xor of the lanes' tags (AEGIS, Finalize).
+pub fn lanes_tag<S: LaneState, const TAG_BYTES: usize>(end: S) -> [u8; TAG_BYTES]
+    requires { (TAG_BYTES ≡ 16) ⊎ (TAG_BYTES ≡ 32) }
+    ensures { result ≡ xor_lanes (λ j. lane_tag S.FAMILY TAG_BYTES (S.lane end j)) S.LANES }
 {
-    let end = state.finish(8 * ad_len, 8 * message_len);
     let mut tag = [0; TAG_BYTES];
     let out = &mut tag[..];
     if TAG_BYTES == 16 {

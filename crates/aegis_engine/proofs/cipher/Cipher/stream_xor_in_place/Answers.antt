@@ -1,8 +1,15 @@
+use Rattle.std.proofs.Common.{◌≡◌, ◌∙◌, ap, refl, ℕ, ◌+◌, length, List, replicate, slice_index, zero-add}
+use Rattle.aegis_base.proofs.AppendFacts.{along-none}
 use Rattle.aegis_base.proofs.SealFacts.{before-start, streamed-is}
 use Rattle.aegis_engine.proofs.cipher.Cipher.stream_xor_in_place.Goals as goal
 
 pub returns : goal.returns
-returns g c key nonce stands =
-    streamed-is _ _ _ key nonce c.args.mc.now c.pass_all.new.buffer
-    (before-start g.S.LaneState.FAMILY g.S.LaneState.LANES (g.S.LaneState.lane c.self.inside.state) key nonce g.met.S.LaneState.one_two_or_four (λ j h. rw c.self.view_is (stands j h)))
-    c.pass_all.auto.buffer c.pass_all.ensures.written
+returns g c =
+    let L = g.S.LaneState in
+    let here = L.lane c.new.result in
+    let zeros : List ℕ = replicate (length c.args.mc.now) 0 in
+    rw (← c.self.view_is)
+    (streamed-is L.FAMILY L.LANES here _ _ c.args.mc.now c.pass_all.new.buffer
+    (before-start L.FAMILY L.LANES here _ _ g.met.S.LaneState.one_two_or_four c.new.ensures.lanes)
+    c.pass_all.auto.buffer
+    (λ i low. rw zero-add at (c.pass_all.ensures.written here zeros (along-none L.FAMILY L.LANES here here _ zeros (λ j inside. refl)) (λ k under. ap (slice_index zeros) (zero-add k)) i low)))

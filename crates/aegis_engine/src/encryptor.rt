@@ -1,0 +1,113 @@
+//! Encryptors: sealing a message that comes in chunks.
+
+ghost use Rattle.std.specs.Prelude.{◌≡◌, ℕ, ◌+◌, ◌-◌, ◌<◌, ◌≤◌, ◌⊎◌, ◌++◌, List, [], Some, codes, length};
+ghost use Rattle.aegis_base.specs.Message.{ciphertext, tag};
+ghost use Rattle.aegis_base.specs.Run.{Stands, held};
+
+use crate::message::{finish, seal_more};
+use crate::pass::{Block, ZEROS};
+use aegis_base::{LaneState, Length, MAX_AEAD_BYTES, Variant};
+use std::fmt;
+use std::marker::{Model, PhantomData};
+
+/// Seals a message that comes in chunks of any lengths: a byte of ciphertext for each byte, and the tag at the end.
+///
+/// `Cipher::encryptor` starts one. Contracts see what it holds, and say which key, nonce, associated data and message so
+/// far that stands for.
+#[derive(Drop)]
+pub struct Encryptor<S: LaneState, V: Variant, const TAG_BYTES: usize> {
+    state: S,
+    block: Block,
+    data_bytes: u64,
+    message_bytes: Length,
+    variant: PhantomData<V>,
+}
+
+impl<S: LaneState, V: Variant, const TAG_BYTES: usize> Model for Encryptor<S, V, TAG_BYTES> {
+    ghost use Rattle.std.specs.Prelude.{◌≡◌, ◌⊎◌, ◌+◌, ◌≤◌};
+    ghost use Rattle.aegis_base.specs.declared.error.TheConstants.{MAX_AEAD_BYTES};
+    ghost use Rattle.aegis_base.specs.Run.{Held, held};
+
+    ghost Value = { Held S };
+
+    ghost view = { λ e. held e.state e.block e.data_bytes e.message_bytes };
+
+    ghost invariant = { λ e. ((TAG_BYTES ≡ 16) ⊎ (TAG_BYTES ≡ 32))
+        × (S.updates e.state ≤ e.data_bytes + e.message_bytes)
+        × (e.data_bytes ≤ MAX_AEAD_BYTES)
+        × (e.message_bytes ≤ MAX_AEAD_BYTES) };
+}
+
+impl<S: LaneState, V: Variant, const TAG_BYTES: usize> fmt::Debug for Encryptor<S, V, TAG_BYTES> {
+    ghost debug_output = { λ _. Some (V.module_name ++ codes "::Encryptor { .. }") };
+
+    fn fmt<W: fmt::Write>(&self, f: &mut fmt::Formatter<W>) -> fmt::Result {
+        f.write_str(V::module_name())?;
+        f.write_str("::Encryptor { .. }")
+    }
+}
+
+impl<S: LaneState, V: Variant, const TAG_BYTES: usize> Encryptor<S, V, TAG_BYTES> {
+    /// An encryptor whose lanes have taken in `data_bytes` of associated data.
+    pub(crate) fn new(state: S, data_bytes: u64) -> Self
+        requires tag_bytes { (TAG_BYTES ≡ 16) ⊎ (TAG_BYTES ≡ 32) }
+        requires counted { S.updates state ≤ data_bytes }
+        requires associated_data_within { data_bytes ≤ MAX_AEAD_BYTES }
+        ensures stands { (key nonce ad : List ℕ)
+            → ((block : List ℕ) → Stands S.FAMILY S.LANES S.lane S.updates (held state block data_bytes 0) key nonce ad [])
+            → Stands S.FAMILY S.LANES S.lane S.updates result key nonce ad [] }
+        ensures length { result.message_bytes ≡ 0 }
+    {
+        Encryptor {
+            state,
+            block: ZEROS,
+            data_bytes,
+            message_bytes: Length::zero(),
+            variant: PhantomData,
+        }
+    }
+
+    /// Seals the next chunk in place: `buffer` is the chunk before the call and its ciphertext after it. The message has at
+    /// most [`MAX_AEAD_BYTES`], which `remaining` tells before.
+    pub fn update_in_place(&mut self, buffer: &mut [u8])
+        requires { self.old.message_bytes + length buffer.old ≤ MAX_AEAD_BYTES }
+        ensures stands { (key nonce ad m : List ℕ) → Stands S.FAMILY S.LANES S.lane S.updates self.old key nonce ad m
+            → Stands S.FAMILY S.LANES S.lane S.updates self.new key nonce ad (m ++ buffer.old) }
+        ensures ciphertext { (key nonce ad m : List ℕ) → Stands S.FAMILY S.LANES S.lane S.updates self.old key nonce ad m
+            → ciphertext S.FAMILY S.LANES key nonce ad (m ++ buffer.old) ≡ ciphertext S.FAMILY S.LANES key nonce ad m ++ buffer.new }
+        ensures length { self.new.message_bytes ≡ self.old.message_bytes + length buffer.old }
+    {
+        let so_far = self.message_bytes.get();
+        self.state = seal_more(self.state, &mut self.block, self.data_bytes, so_far, buffer);
+        let _ = self.message_bytes.add(buffer.len() as u64);
+    }
+
+    /// Seals the next chunk into `out`, which has its length. Otherwise as `update_in_place`.
+    pub fn update(&mut self, plaintext: &[u8], out: &mut [u8])
+        requires lengths { length out.old ≡ length plaintext.now }
+        requires within { self.old.message_bytes + length plaintext.now ≤ MAX_AEAD_BYTES }
+        ensures stands { (key nonce ad m : List ℕ) → Stands S.FAMILY S.LANES S.lane S.updates self.old key nonce ad m
+            → Stands S.FAMILY S.LANES S.lane S.updates self.new key nonce ad (m ++ plaintext.now) }
+        ensures ciphertext { (key nonce ad m : List ℕ) → Stands S.FAMILY S.LANES S.lane S.updates self.old key nonce ad m
+            → ciphertext S.FAMILY S.LANES key nonce ad (m ++ plaintext.now) ≡ ciphertext S.FAMILY S.LANES key nonce ad m ++ out.new }
+        ensures length { self.new.message_bytes ≡ self.old.message_bytes + length plaintext.now }
+    {
+        out.copy_from_slice(plaintext);
+        self.update_in_place(out);
+    }
+
+    /// How many more bytes the message may have.
+    pub fn remaining(&self) -> u64
+        ensures { result ≡ MAX_AEAD_BYTES - self.now.message_bytes }
+    {
+        self.message_bytes.remaining()
+    }
+
+    /// The tag of the message.
+    pub fn finalize(self) -> [u8; TAG_BYTES]
+        ensures { (key nonce ad m : List ℕ) → Stands S.FAMILY S.LANES S.lane S.updates self key nonce ad m
+            → result ≡ tag S.FAMILY S.LANES TAG_BYTES key nonce ad m }
+    {
+        finish(self.state, &self.block, self.data_bytes, self.message_bytes.get())
+    }
+}

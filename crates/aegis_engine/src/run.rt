@@ -1,0 +1,91 @@
+//! Runs: the lanes along bytes that come in any pieces.
+//!
+//! A run is a state, the open block and the number of bytes so far, as plain values. A piece first fills the open block,
+//! then its whole rate blocks are taken in where they stand, and the open block keeps the rest. A call that has all its
+//! bytes at once is a run of one piece.
+
+ghost use Rattle.std.specs.Prelude.{◌≡◌, ℕ, ◌+◌, ◌%◌, ◌/◌, ◌^◌, ◌<◌, ◌≤◌, bit_xor, length, List, slice_index};
+ghost use Rattle.aegis_base.specs.Message.{after_all, block_count, stream_byte};
+ghost use Rattle.aegis_base.specs.Run.{HasFrom, IsAlong};
+ghost use Rattle.aegis_engine.specs.Pass.{taken};
+
+use crate::pass::{Block, Pass, ZEROS, absorb_part, absorb_whole, copy_part, pass_part, pass_whole};
+use aegis_base::LaneState;
+
+// How many of the next `count` bytes fill up the rate block that is open after `total` bytes; none where none is open.
+fn filling<S: LaneState>(total: u64, count: usize) -> usize
+    ensures within { result ≤ count }
+    ensures one_block { total % S.RATE + result ≤ S.RATE }
+    ensures fills { result < count → (total + result) % S.RATE ≡ 0 }
+{
+    let open = (total % S::RATE as u64) as usize;
+    if open == 0 {
+        0
+    } else {
+        count.min(S::RATE - open)
+    }
+}
+
+/// The lanes after `bytes`, behind `total` bytes that they have taken in.
+pub fn absorb_all<S: LaneState>(state: S, block: &mut Block, total: u64, bytes: &[u8]) -> S
+    requires within { total + length bytes.now < 2 ^ 64 }
+    requires countable { S.updates state + length bytes.now < 2 ^ 64 }
+    ensures along { (lanes : ℕ → List (List ℕ)) (x : List ℕ) → IsAlong S.FAMILY S.LANES lanes (S.lane state) block.old x total
+        → HasFrom x total bytes.now
+        → IsAlong S.FAMILY S.LANES lanes (S.lane result) block.new x (total + length bytes.now) }
+    ensures updates { S.updates result + total / S.RATE ≡ S.updates state + (total + length bytes.now) / S.RATE }
+    ensures few { S.updates result ≤ S.updates state + length bytes.now }
+{
+    let first = filling::<S>(total, bytes.len());
+    let whole = (bytes.len() - first) / S::RATE;
+    let last = first + whole * S::RATE;
+    let state = absorb_part(state, block, total, bytes, 0, first);
+    let state = absorb_whole(state, bytes, first, whole);
+    absorb_part(state, block, total + last as u64, bytes, last, bytes.len() - last)
+}
+
+/// The lanes along a buffer, behind `total` bytes that they have taken in: each byte is xored with the keystream, and the
+/// lanes take in what the pass says.
+pub fn pass_all<S: LaneState>(
+    state: S,
+    block: &mut Block,
+    total: u64,
+    pass: Pass,
+    buffer: &mut [u8],
+) -> S
+    requires within { total + length buffer.old < 2 ^ 64 }
+    requires countable { S.updates state + length buffer.old < 2 ^ 64 }
+    ensures along { (lanes : ℕ → List (List ℕ)) (x : List ℕ) → IsAlong S.FAMILY S.LANES lanes (S.lane state) block.old x total
+        → HasFrom x total (taken pass buffer.old buffer.new)
+        → IsAlong S.FAMILY S.LANES lanes (S.lane result) block.new x (total + length buffer.old) }
+    ensures written { (lanes : ℕ → List (List ℕ)) (x : List ℕ) → IsAlong S.FAMILY S.LANES lanes (S.lane state) block.old x total
+        → HasFrom x total (taken pass buffer.old buffer.new)
+        → (i : ℕ) → i < length buffer.old
+        → slice_index buffer.new i ≡ bit_xor (slice_index buffer.old i) (stream_byte S.FAMILY S.LANES lanes x (total + i)) }
+    ensures updates { S.updates result + total / S.RATE ≡ S.updates state + (total + length buffer.old) / S.RATE }
+    ensures few { S.updates result ≤ S.updates state + length buffer.old }
+{
+    let first = filling::<S>(total, buffer.len());
+    let whole = (buffer.len() - first) / S::RATE;
+    let last = first + whole * S::RATE;
+    let rest = buffer.len() - last;
+    let state = pass_part(state, block, total, pass, buffer, 0, first);
+    let state = pass_whole(state, pass, buffer, first, whole);
+    pass_part(state, block, total + last as u64, pass, buffer, last, rest)
+}
+
+/// The lanes after all `total` bytes of a run: where a rate block is open, it is taken in with zeros after its bytes.
+pub fn pad<S: LaneState>(state: S, block: &Block, total: u64) -> S
+    requires { S.updates state + 1 < 2 ^ 64 }
+    ensures lanes { (lanes : ℕ → List (List ℕ)) (x : List ℕ) → length x ≡ total → IsAlong S.FAMILY S.LANES lanes (S.lane state) block.now x total
+        → (j : ℕ) → j < S.LANES → S.lane result j ≡ after_all S.FAMILY S.LANES (lanes j) j x }
+    ensures updates { S.updates result + total / S.RATE ≡ S.updates state + block_count S.FAMILY S.LANES total }
+{
+    let open = (total % S::RATE as u64) as usize;
+    if open == 0 {
+        return state;
+    }
+    let mut last = ZEROS;
+    copy_part(&mut last, 0, block, 0, open);
+    state.absorb(&last, 0)
+}
