@@ -1,7 +1,7 @@
 -- The xor of what lanes have, and bytes that two lists have in common.
-use Rattle.std.proofs.Common.{◌≡◌, ℕ, zero, suc, ◌+◌, ◌<◌, List, [], ◌∷◌, ◌++◌, length, slice_index, refl, sym, ◌∙◌, arith}
+use Rattle.std.proofs.Common.{◌≡◌, ℕ, zero, suc, ◌+◌, ◌<◌, List, [], ◌∷◌, ◌++◌, length, slice_index, refl, sym, ◌∙◌, arith, inl, inr}
 use Rattle.aegis_aes.specs.Block.{bytes_at, xor}
-use Rattle.aegis_aes.specs.Lanes.{xor_lanes}
+use Rattle.aegis_aes.specs.Lanes.{IsLaneCount, xor_lanes}
 use Rattle.aegis_aes.proofs.Places.{bytes_at-is, get_or-bytes_at, length-bytes_at}
 
 -- lanes that have the same have the same xor
@@ -56,3 +56,8 @@ xor_lanes-append f g n (suc (suc d)) long =
     let rest = xor_lanes-append f g n (suc d) before in
     let front : length (xor_lanes f (suc d)) ≡ length (f (suc d)) = length-xor_lanes f n d before ∙ sym (long (suc d) (omega arith)) in
     rw rest (zip2-append (xor_lanes f (suc d)) (f (suc d)) (xor_lanes g (suc d)) (g (suc d)) front)
+
+pub count-positive : (d : ℕ) → IsLaneCount d → 0 < d
+count-positive d (inl one) = omega arith
+count-positive d (inr (inl two)) = omega arith
+count-positive d (inr (inr four)) = omega arith

@@ -1,4 +1,5 @@
 pub mod Family
 pub mod Lane
 pub mod Laws
+pub mod Mac
 pub mod Message

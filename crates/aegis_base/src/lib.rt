@@ -4,11 +4,13 @@
 
 mod constants;
 mod error;
+mod lane_block;
 pub mod laws;
 mod state;
 mod variant;
 
 pub use constants::{C0, C1, bit_lengths};
 pub use error::{Error, MAX_AEAD_BYTES};
+pub use lane_block::block_in_all_lanes;
 pub use state::LaneState;
 pub use variant::{Tag, Variant};
