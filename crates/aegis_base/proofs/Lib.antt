@@ -2,7 +2,9 @@ pub mod Bijection
 pub mod Bytes
 pub mod LaneFacts
 pub mod LaneIndependence
+pub mod Lengths
 pub mod MacFacts
 pub mod MessageFacts
 pub mod SealFacts
+pub mod StartFacts
 pub mod StreamFacts
