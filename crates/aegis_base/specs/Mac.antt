@@ -1,5 +1,6 @@
 -- MACs: d lanes that run alone along an input, and whose tags are then folded into lane 0, whose tag is the answer.
--- `lanes` is a function from a lane's number to its rows.
+-- The order of the fold is what stands here, whatever other implementations do. `lanes` is a function from a lane's
+-- number to its rows.
 use Rattle.std.specs.Prelude.{ℕ, zero, suc, ◌+◌, ◌-◌, ◌*◌, ◌/◌, ◌==◌, List, [], ◌∷◌, if◌then◌else◌, length, replicate}
 use Rattle.aegis_base.specs.Family.{Family, Aegis128, Aegis256, rate}
 use Rattle.aegis_base.specs.Lane.{finish, high_tag, lane_tag, low_tag, short_tag, start, step}

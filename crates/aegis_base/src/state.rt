@@ -154,8 +154,9 @@ pub trait LaneState: Copy {
         )
     }
 
-    /// The lanes after one turn of the fold of the lanes' tags of 16 bytes into lane 0, the only lane that is then
-    /// looked at (AEGIS, MAC).
+    /// The lanes after one turn of the fold of the lanes' tags of 16 bytes into lane 0: an update by the tags of two
+    /// lanes, from lane 0 on, in the family 128, and by the tag of one lane, from lane 1 on, in the family 256. Only
+    /// lane 0 is looked at from then on.
     fn short_fold_turn(self, tags: Self::Row, turn: usize) -> Self
         requires within { turn < SHORT_FOLD_TURNS }
         requires countable { updates self + 1 < 2 ^ 64 }
@@ -169,7 +170,7 @@ pub trait LaneState: Copy {
             → lane result j ≡ step_by_two FAMILY (lane self j) (Self.Row.block first j) (Self.Row.block second j) }
         ensures updates { updates result ≤ updates self + 2 };
 
-    /// The lanes after the fold of the lanes' tags of 16 bytes into lane 0 (AEGIS, MAC).
+    /// The lanes after the fold of the lanes' tags of 16 bytes into lane 0.
     final fn fold_short(self, tags: Self::Row) -> Self
         requires { updates self + 8 < 2 ^ 64 }
         ensures first { lane result 0 ≡ fold_short FAMILY (Self.Row.block tags) (lane self 0) (short_fold_turns FAMILY LANES) }
@@ -182,7 +183,8 @@ pub trait LaneState: Copy {
         state
     }
 
-    /// The lanes after the fold of the halves of the lanes' tags of 32 bytes into lane 0, from lane 1 on (AEGIS, MAC).
+    /// The lanes after the fold of the lanes' tags of 32 bytes into lane 0, from lane 1 on: each by its low and its high
+    /// half.
     final fn fold_long(self, low: Self::Row, high: Self::Row) -> Self
         requires { updates self + 8 < 2 ^ 64 }
         ensures first { lane result 0 ≡ fold_long FAMILY (Self.Row.block low) (Self.Row.block high) (lane self 0) (LANES - 1) }
@@ -198,7 +200,7 @@ pub trait LaneState: Copy {
     }
 
     /// The MAC of 16 bytes, where these are the lanes after their first end: the tag of the one lane, or that of lane 0
-    /// after the fold and a second end, with the number of lanes and 128 bits (AEGIS, MAC).
+    /// after the fold and a second end, with the number of lanes and the MAC's 128 bits.
     final fn short_mac_tag(self) -> AesBlock
         requires { updates self + 16 < 2 ^ 64 }
         ensures { result ≡ mac_tag FAMILY LANES 16 (lane self) }
