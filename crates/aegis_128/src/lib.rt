@@ -4,13 +4,13 @@
 //! lane; only `update` counts.
 #![tactic(auto)]
 
-ghost use Rattle.std.specs.Prelude.{◌≡◌, ℕ, ◌+◌, ◌*◌, ◌^◌, ◌<◌, List, [], ◌∷◌};
+ghost use Rattle.std.specs.Prelude.{◌≡◌, ℕ, ◌+◌, ◌*◌, ◌/◌, ◌^◌, ◌<◌, List, [], ◌∷◌};
 ghost use Rattle.aegis_aes.specs.Lanes.{context};
 ghost use Rattle.aegis_base.specs.Family.{Aegis128};
 ghost use Rattle.aegis_base.specs.Lane.{add_context, first_rows, high_tag, keystream, last_block, low_tag, row, short_tag, start, start_turn, step};
 
 use aegis_aes::{AesBlock, Row};
-use aegis_base::{C0, C1, LaneState, bit_lengths};
+use aegis_base::{C0, C1, LaneState, bit_lengths, block_in_all_lanes};
 
 /// The lanes of AEGIS-128L, 128X2 or 128X4: their rows, each with one block of every lane, and the count of updates since the
 /// start.
@@ -87,6 +87,10 @@ impl<R: Row> LaneState for State128<R> {
     const START_TURNS: usize = 10;
 
     ghost START_TURNS = { 10 };
+
+    const SHORT_FOLD_TURNS: usize = R::LANES / 2;
+
+    ghost SHORT_FOLD_TURNS = { R.LANES / 2 };
 
     const RATE: usize = 32 * R::LANES;
 
@@ -168,9 +172,22 @@ impl<R: Row> LaneState for State128<R> {
         self.s4.xor(self.s5).xor(self.s6.xor(self.s7))
     }
 
+    // Lane 0's own tag is folded in too.
+    fn short_fold_turn(self, tags: R, turn: usize) -> Self {
+        let even = block_in_all_lanes(tags, 2 * turn);
+        let odd = block_in_all_lanes(tags, 2 * turn + 1);
+        self.update(even, odd)
+    }
+
+    fn step_by_two(self, first: R, second: R) -> Self {
+        self.update(first, second)
+    }
+
     ghost lanes_are = { refl };
 
     ghost start_turns_are = { refl };
+
+    ghost short_fold_turns_are = { refl };
 
     ghost one_two_or_four = { R.one_two_or_four };
 

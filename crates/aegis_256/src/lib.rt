@@ -4,13 +4,13 @@
 //! lane; only `update` counts.
 #![tactic(auto)]
 
-ghost use Rattle.std.specs.Prelude.{◌≡◌, ℕ, ◌+◌, ◌*◌, ◌^◌, ◌<◌, List, [], ◌∷◌};
+ghost use Rattle.std.specs.Prelude.{◌≡◌, ℕ, ◌+◌, ◌-◌, ◌*◌, ◌^◌, ◌<◌, List, [], ◌∷◌};
 ghost use Rattle.aegis_aes.specs.Lanes.{context};
 ghost use Rattle.aegis_base.specs.Family.{Aegis256};
 ghost use Rattle.aegis_base.specs.Lane.{add_context, first_rows, high_half, high_tag, keystream, last_block, low_half, low_tag, row, short_tag, start, start_turn, step};
 
 use aegis_aes::{AesBlock, Row};
-use aegis_base::{C0, C1, LaneState, bit_lengths};
+use aegis_base::{C0, C1, LaneState, bit_lengths, block_in_all_lanes};
 
 // The first block of a key or nonce.
 fn low_half(bytes: &[u8; 32]) -> AesBlock
@@ -104,6 +104,10 @@ impl<R: Row> LaneState for State256<R> {
 
     ghost START_TURNS = { 4 };
 
+    const SHORT_FOLD_TURNS: usize = R::LANES - 1;
+
+    ghost SHORT_FOLD_TURNS = { R.LANES - 1 };
+
     const RATE: usize = 16 * R::LANES;
 
     ghost RATE = { 16 * R.LANES };
@@ -175,9 +179,19 @@ impl<R: Row> LaneState for State256<R> {
         self.s3.xor(self.s4).xor(self.s5)
     }
 
+    fn short_fold_turn(self, tags: R, turn: usize) -> Self {
+        self.update(block_in_all_lanes(tags, turn + 1))
+    }
+
+    fn step_by_two(self, first: R, second: R) -> Self {
+        self.update(first).update(second)
+    }
+
     ghost lanes_are = { refl };
 
     ghost start_turns_are = { refl };
+
+    ghost short_fold_turns_are = { refl };
 
     ghost one_two_or_four = { R.one_two_or_four };
 

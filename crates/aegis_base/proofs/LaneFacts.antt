@@ -1,7 +1,7 @@
 -- The xor of what lanes have, and bytes that two lists have in common.
-use Rattle.std.proofs.Common.{◌≡◌, ℕ, zero, suc, ◌+◌, ◌<◌, List, [], ◌∷◌, ◌++◌, length, slice_index, refl, sym, ◌∙◌, arith}
+use Rattle.std.proofs.Common.{◌≡◌, ℕ, zero, suc, ◌+◌, ◌<◌, List, [], ◌∷◌, ◌++◌, length, slice_index, refl, sym, ◌∙◌, arith, inl, inr}
 use Rattle.aegis_aes.specs.Block.{bytes_at, xor}
-use Rattle.aegis_aes.specs.Lanes.{xor_lanes}
+use Rattle.aegis_aes.specs.Lanes.{IsLaneCount, xor_lanes}
 use Rattle.aegis_aes.proofs.Places.{bytes_at-is, get_or-bytes_at, length-bytes_at}
 
 -- lanes that have the same have the same xor
@@ -28,7 +28,7 @@ zip2-append (x ∷ xs) (y ∷ ys) vs ws e =
     let shorter : length xs ≡ length ys = omega (arith, e) in
     rw (zip2-append xs ys vs ws shorter) refl
 
-length-xor : (xs ys : List ℕ) → length xs ≡ length ys → length (xor xs ys) ≡ length ys
+pub length-xor : (xs ys : List ℕ) → length xs ≡ length ys → length (xor xs ys) ≡ length ys
 length-xor [] [] e = refl
 length-xor [] (y ∷ ys) e = absurd (omega (arith, e))
 length-xor (x ∷ xs) [] e = absurd (omega (arith, e))
@@ -37,7 +37,7 @@ length-xor (x ∷ xs) (y ∷ ys) e =
     let rest = length-xor xs ys shorter in omega arith
 
 -- the xor of the first lanes is as long as what each has
-length-xor_lanes : (f : ℕ → List ℕ) (n d : ℕ) → ((j : ℕ) → j < suc d → length (f j) ≡ n) → length (xor_lanes f (suc d)) ≡ n
+pub length-xor_lanes : (f : ℕ → List ℕ) (n d : ℕ) → ((j : ℕ) → j < suc d → length (f j) ≡ n) → length (xor_lanes f (suc d)) ≡ n
 unfolding xor_lanes
 length-xor_lanes f n zero long = long 0 (omega arith)
 length-xor_lanes f n (suc d) long =
@@ -56,3 +56,13 @@ xor_lanes-append f g n (suc (suc d)) long =
     let rest = xor_lanes-append f g n (suc d) before in
     let front : length (xor_lanes f (suc d)) ≡ length (f (suc d)) = length-xor_lanes f n d before ∙ sym (long (suc d) (omega arith)) in
     rw rest (zip2-append (xor_lanes f (suc d)) (f (suc d)) (xor_lanes g (suc d)) (g (suc d)) front)
+
+pub count-positive : (d : ℕ) → IsLaneCount d → 0 < d
+count-positive d (inl one) = omega arith
+count-positive d (inr (inl two)) = omega arith
+count-positive d (inr (inr four)) = omega arith
+
+pub length-xor_lanes-count : (f : ℕ → List ℕ) (n d : ℕ) → IsLaneCount d → ((j : ℕ) → j < d → length (f j) ≡ n) → length (xor_lanes f d) ≡ n
+length-xor_lanes-count f n d (inl one) long = rw one (length-xor_lanes f n 0 (λ j h. long j (omega arith)))
+length-xor_lanes-count f n d (inr (inl two)) long = rw two (length-xor_lanes f n 1 (λ j h. long j (omega arith)))
+length-xor_lanes-count f n d (inr (inr four)) long = rw four (length-xor_lanes f n 3 (λ j h. long j (omega arith)))

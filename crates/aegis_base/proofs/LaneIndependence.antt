@@ -59,7 +59,7 @@ after-in_lane family d s j x y (suc n) count inside agree =
     let taken = share-in_lane family d j n x y count inside agree in
     rw (before, taken) refl
 
-after_all-in_lane : (family : Family) (d : ℕ) (s : List (List ℕ)) (j : ℕ) (x y : List ℕ) → IsLaneCount d → j < d
+pub after_all-in_lane : (family : Family) (d : ℕ) (s : List (List ℕ)) (j : ℕ) (x y : List ℕ) → IsLaneCount d → j < d
     → length x ≡ length y → AgreeInLane d j x y → after_all family d s j x ≡ after_all family d s j y
 after_all-in_lane family d s j x y count inside long agree =
     rw long (after-in_lane family d s j x y _ count inside agree)

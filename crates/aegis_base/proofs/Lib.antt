@@ -5,7 +5,10 @@ pub mod ChunkFacts
 pub mod HeldFacts
 pub mod LaneFacts
 pub mod LaneIndependence
+pub mod Lengths
+pub mod MacFacts
 pub mod MessageFacts
 pub mod RunFacts
 pub mod SealFacts
+pub mod StartFacts
 pub mod StreamFacts

@@ -1,6 +1,6 @@
 -- One lane of AEGIS, alone. A lane is the list of its rows, eight in the family 128 and six in the family 256,
 -- and a row is a block.
-use Rattle.std.specs.Prelude.{ℕ, zero, suc, ◌==◌, List, [], ◌∷◌, ◌++◌, take, drop, if◌then◌else◌, slice_index_or}
+use Rattle.std.specs.Prelude.{◌≡◌, ℕ, zero, suc, ◌==◌, ◌⊎◌, List, [], ◌∷◌, ◌++◌, take, drop, if◌then◌else◌, slice_index_or}
 use Rattle.std.specs.Int.{w64, to_le_bytes}
 use Rattle.aegis_aes.specs.Block.{and, xor}
 use Rattle.aegis_aes.specs.Lanes.{context}
@@ -131,3 +131,7 @@ high_tag Aegis256 s = xor (xor (row s 3) (row s 4)) (row s 5)
 -- the tag of a lane, in n bytes
 abbrev pub lane_tag : Family → ℕ → List (List ℕ) → List ℕ
 lane_tag family n s = if n == 16 then short_tag family s else low_tag family s ++ high_tag family s
+
+-- the lengths of tags, in bytes
+abbrev pub IsTagLength : ℕ → Type 0
+IsTagLength n = (n ≡ 16) ⊎ (n ≡ 32)

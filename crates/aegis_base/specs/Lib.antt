@@ -2,5 +2,6 @@ pub mod Chunks
 pub mod Family
 pub mod Lane
 pub mod Laws
+pub mod Mac
 pub mod Message
 pub mod Run

@@ -5,6 +5,7 @@
 mod chunks;
 mod constants;
 mod error;
+mod lane_block;
 pub mod laws;
 mod length;
 mod state;
@@ -13,6 +14,7 @@ mod variant;
 pub use chunks::chunks_len;
 pub use constants::{C0, C1, bit_lengths};
 pub use error::{Error, MAX_AEAD_BYTES};
+pub use lane_block::block_in_all_lanes;
 pub use length::Length;
 pub use state::LaneState;
 pub use variant::{Tag, Variant};

@@ -1,12 +1,14 @@
 //! The states of a variant: its lanes, side by side, as the block engine uses them.
 
-ghost use Rattle.std.specs.Prelude.{◌≡◌, ℕ, ◌+◌, ◌*◌, ◌^◌, ◌<◌, ◌≤◌, ◌++◌, List, length, slice_index};
+ghost use Rattle.std.specs.Prelude.{◌≡◌, ℕ, ◌+◌, ◌-◌, ◌*◌, ◌^◌, ◌<◌, ◌≤◌, ◌++◌, List, length, slice_index};
 ghost use Rattle.aegis_aes.specs.Block.{block_at, xor};
 ghost use Rattle.aegis_aes.specs.Lanes.{IsLaneCount, context, xor_lanes};
 ghost use Rattle.aegis_base.specs.Family.{Family, rate, width};
 ghost use Rattle.aegis_base.specs.Lane.{finish, first_rows, high_tag, keystream, lane_tag, last_block, last_input, low_tag, row, short_tag, start, start_turn, start_turns, step};
+ghost use Rattle.aegis_base.specs.Mac.{fold_long, fold_short, mac_tag, short_fold_turn, short_fold_turns, step_by_two};
 ghost use Rattle.aegis_base.specs.Message.{share_at};
 
+use crate::lane_block::{block_in_all_lanes, block_of_lane};
 use aegis_aes::{AesBlock, Row};
 
 /// The lanes of one variant, side by side.
@@ -15,8 +17,8 @@ use aegis_aes::{AesBlock, Row};
 /// alone. A state also counts its updates since the start; only the private step that moves every lane counts.
 ///
 /// A family gives the standard's steps; the start, the end and the tags are made of them here, once. The crate of a
-/// family is entered by these calls alone, and the block engine calls `new`, `absorb`, `xor_keystream`, `finish` and
-/// the two tags.
+/// family is entered by these calls alone, and the block engine calls `new`, `absorb`, `xor_keystream`, `finish`, the
+/// two tags and the two MAC tags.
 pub trait LaneState: Copy {
     /// A key. A nonce has as many bytes.
     type Key: Copy;
@@ -28,6 +30,11 @@ pub trait LaneState: Copy {
     const START_TURNS: usize;
 
     ghost START_TURNS: { ℕ };
+
+    /// How many turns the fold of the lanes' tags of 16 bytes has.
+    const SHORT_FOLD_TURNS: usize;
+
+    ghost SHORT_FOLD_TURNS: { ℕ };
 
     /// The bytes of a rate block: what all lanes take in by one update, at most 128.
     const RATE: usize;
@@ -147,9 +154,88 @@ pub trait LaneState: Copy {
         )
     }
 
+    /// The lanes after one turn of the fold of the lanes' tags of 16 bytes into lane 0: an update by the tags of two
+    /// lanes, from lane 0 on, in the family 128, and by the tag of one lane, from lane 1 on, in the family 256. Only
+    /// lane 0 is looked at from then on.
+    fn short_fold_turn(self, tags: Self::Row, turn: usize) -> Self
+        requires within { turn < SHORT_FOLD_TURNS }
+        requires countable { updates self + 1 < 2 ^ 64 }
+        ensures first { lane result 0 ≡ short_fold_turn FAMILY (Self.Row.block tags) turn (lane self 0) }
+        ensures updates { updates result ≡ updates self + 1 };
+
+    /// The lanes after two more blocks: one update by both in the family 128, and an update by each in the family 256.
+    fn step_by_two(self, first: Self::Row, second: Self::Row) -> Self
+        requires { updates self + 2 < 2 ^ 64 }
+        ensures lanes { (j : ℕ) → j < LANES
+            → lane result j ≡ step_by_two FAMILY (lane self j) (Self.Row.block first j) (Self.Row.block second j) }
+        ensures updates { updates result ≤ updates self + 2 };
+
+    /// The lanes after the fold of the lanes' tags of 16 bytes into lane 0.
+    final fn fold_short(self, tags: Self::Row) -> Self
+        requires { updates self + 8 < 2 ^ 64 }
+        ensures first { lane result 0 ≡ fold_short FAMILY (Self.Row.block tags) (lane self 0) (short_fold_turns FAMILY LANES) }
+        ensures updates { updates result ≤ updates self + 8 }
+    {
+        let mut state = self;
+        for turn in 0..Self::SHORT_FOLD_TURNS {
+            state = state.short_fold_turn(tags, turn);
+        }
+        state
+    }
+
+    /// The lanes after the fold of the lanes' tags of 32 bytes into lane 0, from lane 1 on: each by its low and its high
+    /// half.
+    final fn fold_long(self, low: Self::Row, high: Self::Row) -> Self
+        requires { updates self + 8 < 2 ^ 64 }
+        ensures first { lane result 0 ≡ fold_long FAMILY (Self.Row.block low) (Self.Row.block high) (lane self 0) (LANES - 1) }
+        ensures updates { updates result ≤ updates self + 8 }
+    {
+        let mut state = self;
+        for turn in 0..Self::Row::LANES - 1 {
+            let next_low = block_in_all_lanes(low, turn + 1);
+            let next_high = block_in_all_lanes(high, turn + 1);
+            state = state.step_by_two(next_low, next_high);
+        }
+        state
+    }
+
+    /// The MAC of 16 bytes, where these are the lanes after their first end: the tag of the one lane, or that of lane 0
+    /// after the fold and a second end, with the number of lanes and the MAC's 128 bits.
+    final fn short_mac_tag(self) -> AesBlock
+        requires { updates self + 16 < 2 ^ 64 }
+        ensures { result ≡ mac_tag FAMILY LANES 16 (lane self) }
+    {
+        let lanes = Self::Row::LANES;
+        if lanes == 1 {
+            return self.short_tag();
+        }
+        let folded = self.fold_short(self.short_tags());
+        let ended = folded.finish(lanes as u64, 128);
+        block_of_lane(ended.short_tags(), 0)
+    }
+
+    /// The halves of the MAC of 32 bytes, low half first, where these are the lanes after their first end.
+    final fn long_mac_tag(self) -> (AesBlock, AesBlock)
+        requires { updates self + 16 < 2 ^ 64 }
+        ensures { result.0 ++ result.1 ≡ mac_tag FAMILY LANES 32 (lane self) }
+    {
+        let lanes = Self::Row::LANES;
+        if lanes == 1 {
+            return self.long_tag();
+        }
+        let folded = self.fold_long(self.low_tags(), self.high_tags());
+        let ended = folded.finish(lanes as u64, 256);
+        (
+            block_of_lane(ended.low_tags(), 0),
+            block_of_lane(ended.high_tags(), 0),
+        )
+    }
+
     ghost lanes_are: { LANES ≡ Self.Row.LANES };
 
     ghost start_turns_are: { START_TURNS ≡ start_turns FAMILY };
+
+    ghost short_fold_turns_are: { SHORT_FOLD_TURNS ≡ short_fold_turns FAMILY LANES };
 
     ghost one_two_or_four: { IsLaneCount LANES };
 

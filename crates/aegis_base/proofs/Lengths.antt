@@ -1,0 +1,134 @@
+-- The lengths of tags. The rounds of a lane's rows have 16 bytes whatever went in, so that its end, which begins with such
+-- a row, leaves 16 bytes in each row, and its tags have the bytes that they are asked for.
+use Rattle.std.proofs.Common.{◌≡◌, ◌∙◌, sym, ap, ℕ, zero, suc, ◌/◌, ◌%◌, ◌<◌, List, [], ◌∷◌, ◌++◌, length, drop, take, arith, rules, inl, inr}
+use Rattle.std.proofs.Math.Seq.{drop-append_seam, take-append_seam}
+use Rattle.std.proofs.lemmas.List.{length-append}
+use Rattle.std.proofs.lemmas.List.FromFn.{length-map-range_with_len}
+use Rattle.aegis_aes.specs.Block.{xor}
+use Rattle.aegis_aes.specs.Lanes.{IsLaneCount, context}
+use Rattle.aegis_aes.specs.Round.{round, round_byte}
+use Rattle.aegis_base.specs.Family.{Family, Aegis128, Aegis256}
+use Rattle.aegis_base.specs.Lane.{IsTagLength, add_context, bit_lengths, finish, first_rows, high_tag, lane_tag, last_block, last_input, low_tag, row, short_tag, start, start_turn, start_turns, step, times}
+use Rattle.aegis_base.specs.Message.{after, lane_end, tag}
+use Rattle.aegis_base.proofs.LaneFacts.{length-xor, length-xor_lanes-count}
+
+pub length-round : (b k : List ℕ) → length (round b k) ≡ 16
+unfolding round
+length-round b k = length-map-range_with_len (λ n. round_byte b k (n / 4) (n % 4)) 0 16
+
+-- a block of 16 bytes
+record IsBlock (b : List ℕ) : Type 0 where
+  long : length b ≡ 16
+
+round-block : (b k : List ℕ) → IsBlock (round b k)
+round-block b k = record { long = length-round b k }
+
+xor-block : {a b : List ℕ} → IsBlock a → IsBlock b → IsBlock (xor a b)
+xor-block {a} {b} is also = record { long = length-xor a b (is.long ∙ sym also.long) ∙ also.long }
+
+-- ---- a lane after at least one update
+
+-- the row that the block ending a lane is made of
+abbrev end_row : Family → List (List ℕ) → List ℕ
+end_row Aegis128 s = row s 2
+end_row Aegis256 s = row s 3
+
+pub record IsStepped (family : Family) (s : List (List ℕ)) : Type 0 where
+  pub long : length (end_row family s) ≡ 16
+
+pub step-stepped : (family : Family) (s m : List (List ℕ)) → IsStepped family (step family s m)
+step-stepped Aegis128 s m = record { long = length-round (row s 1) (row s 2) }
+step-stepped Aegis256 s m = record { long = length-round (row s 2) (row s 3) }
+
+times-stepped : (family : Family) (n : ℕ) (f : List (List ℕ) → List (List ℕ)) (s : List (List ℕ)) → 0 < n
+    → ((r : List (List ℕ)) → IsStepped family (f r)) → IsStepped family (times n f s)
+times-stepped family zero f s positive kept = absurd (omega arith)
+times-stepped family (suc n) f s positive kept = kept (times n f s)
+
+start_turn-stepped : (family : Family) (key nonce c : List ℕ) (s : List (List ℕ)) → IsStepped family (start_turn family key nonce c s)
+start_turn-stepped Aegis128 key nonce c s = step-stepped Aegis128 (add_context Aegis128 c s) (nonce ∷ key ∷ [])
+start_turn-stepped Aegis256 key nonce c s = search (rules, step-stepped)
+
+start_turns-positive : (family : Family) → 0 < start_turns family
+start_turns-positive Aegis128 = omega arith
+start_turns-positive Aegis256 = omega arith
+
+pub start-stepped : (family : Family) (d : ℕ) (key nonce : List ℕ) (j : ℕ) → IsStepped family (start family d key nonce j)
+unfolding start
+start-stepped family d key nonce j =
+    times-stepped family (start_turns family) (start_turn family key nonce (context j d)) (first_rows family key nonce)
+    (start_turns-positive family) (start_turn-stepped family key nonce (context j d))
+
+pub after-stepped : (family : Family) (d : ℕ) (s : List (List ℕ)) (j : ℕ) (x : List ℕ) (n : ℕ) → IsStepped family s
+    → IsStepped family (after family d s j x n)
+unfolding after
+after-stepped family d s j x zero is = is
+after-stepped family d s j x (suc n) is = step-stepped family _ _
+
+-- ---- a lane after its end
+
+pub record IsWhole (family : Family) (s : List (List ℕ)) : Type 0 where
+  pub short : length (short_tag family s) ≡ 16
+  pub low : length (low_tag family s) ≡ 16
+  pub high : length (high_tag family s) ≡ 16
+
+update-whole : (family : Family) (s : List (List ℕ)) (block : List ℕ) → length block ≡ 16
+    → IsWhole family (step family s (last_input family block))
+update-whole Aegis128 s block e =
+    let r : (i k : ℕ) → IsBlock (round (row s i) (row s k)) = λ i k. round-block (row s i) (row s k) in
+    let input : IsBlock block = record { long = e } in
+    let low = xor-block (xor-block (xor-block (r 7 0) input) (r 0 1)) (xor-block (r 1 2) (r 2 3)) in
+    let fourth = xor-block (xor-block (r 3 4) input) (r 4 5) in
+    let high = xor-block fourth (xor-block (r 5 6) (r 6 7)) in
+    let short = xor-block low (xor-block fourth (r 5 6)) in
+    record { short = short.long; low = low.long; high = high.long }
+update-whole Aegis256 s block e =
+    let r : (i k : ℕ) → IsBlock (round (row s i) (row s k)) = λ i k. round-block (row s i) (row s k) in
+    let input : IsBlock block = record { long = e } in
+    let low = xor-block (xor-block (xor-block (r 5 0) input) (r 0 1)) (r 1 2) in
+    let high = xor-block (xor-block (r 2 3) (r 3 4)) (r 4 5) in
+    let short = xor-block low high in
+    record { short = short.long; low = low.long; high = high.long }
+
+length-last_block : (family : Family) (s : List (List ℕ)) (p q : ℕ) → IsStepped family s → length (last_block family s p q) ≡ 16
+length-last_block Aegis128 s p q is = length-xor (row s 2) (bit_lengths p q) is.long
+length-last_block Aegis256 s p q is = length-xor (row s 3) (bit_lengths p q) is.long
+
+pub finish-whole : (family : Family) (s : List (List ℕ)) (p q : ℕ) → IsStepped family s → IsWhole family (finish family s p q)
+unfolding finish
+finish-whole family s p q is =
+    let block = last_block family s p q in
+    update-whole family (times 6 (λ r. step family r (last_input family block)) s) block (length-last_block family s p q is)
+
+pub finish-stepped : (family : Family) (s : List (List ℕ)) (p q : ℕ) → IsStepped family (finish family s p q)
+unfolding finish
+finish-stepped family s p q = step-stepped family _ _
+
+-- ---- tags
+
+pub length-lane_tag : (family : Family) (n : ℕ) (s : List (List ℕ)) → IsTagLength n → IsWhole family s → length (lane_tag family n s) ≡ n
+length-lane_tag family n s (inl e) whole = rw e whole.short
+length-lane_tag family n s (inr e) whole = rw e (omega (arith, length-append (low_tag family s) (high_tag family s), whole.low, whole.high))
+
+-- tags of 32 bytes that are the same have the same halves
+pub tag-halves : (family : Family) (s t : List (List ℕ)) → IsWhole family s → IsWhole family t
+    → lane_tag family 32 s ≡ lane_tag family 32 t → (low_tag family s ≡ low_tag family t) × (high_tag family s ≡ high_tag family t)
+tag-halves family s t whole also e =
+    let front : (r : List (List ℕ)) → IsWhole family r → take 16 (low_tag family r ++ high_tag family r) ≡ low_tag family r =
+    λ r is. rw (← is.low) (take-append_seam (low_tag family r) (high_tag family r)) in
+    let back : (r : List (List ℕ)) → IsWhole family r → drop 16 (low_tag family r ++ high_tag family r) ≡ high_tag family r =
+    λ r is. rw (← is.low) (drop-append_seam (low_tag family r) (high_tag family r)) in (
+      sym (front s whole) ∙ ap (take 16) e ∙ front t also,
+      sym (back s whole) ∙ ap (drop 16) e ∙ back t also,
+    )
+
+lane_end-whole : (family : Family) (d : ℕ) (key nonce ad m : List ℕ) (j : ℕ) → IsWhole family (lane_end family d key nonce ad m j)
+lane_end-whole family d key nonce ad m j =
+    finish-whole family _ _ _ (after-stepped family d _ j m _ (after-stepped family d _ j ad _ (start-stepped family d key nonce j)))
+
+pub length-tag : (family : Family) (d n : ℕ) (key nonce ad m : List ℕ) → IsLaneCount d → IsTagLength n
+    → length (tag family d n key nonce ad m) ≡ n
+unfolding tag
+length-tag family d n key nonce ad m count is =
+    let tag_of = λ (j : ℕ). lane_tag family n (lane_end family d key nonce ad m j) in
+    length-xor_lanes-count tag_of n d count (λ j low. length-lane_tag family n _ is (lane_end-whole family d key nonce ad m j))
