@@ -1,5 +1,6 @@
 -- The laws of sealing and of MACs, of any lane count d: what ciphertexts, tags and streams are, whatever the inputs.
 use Rattle.std.specs.Prelude.{◌≡◌, ℕ, ◌*◌, ◌/◌, ◌<◌, ◌≤◌, List, [], ◌∷◌, bit_xor, length, replicate, slice_index, take}
+use Rattle.aegis_aes.specs.Block.{xor}
 use Rattle.aegis_base.specs.Family.{Family, Aegis128, Aegis256, rate}
 use Rattle.aegis_base.specs.Lane.{first_rows, high_half, lane_tag, low_half, start, start_turns, step, times}
 use Rattle.aegis_base.specs.Mac.{mac, mac_lane}
