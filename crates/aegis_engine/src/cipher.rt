@@ -213,7 +213,8 @@ impl<S: LaneState<Key = K>, K: Copy, V: Variant, const TAG_BYTES: usize> Cipher<
 
     /// Xors a message in place with the keystream from its beginning. Done twice, it gives the message back.
     pub fn stream_xor_in_place(self, mc: &mut [u8])
-        ensures { mc.new ≡ xor_stream S.FAMILY S.LANES (S.key_bytes self.key) (S.key_bytes self.nonce) mc.old }
+        ensures xored { mc.new ≡ xor_stream S.FAMILY S.LANES (S.key_bytes self.key) (S.key_bytes self.nonce) mc.old }
+        ensures undone { xor_stream S.FAMILY S.LANES (S.key_bytes self.key) (S.key_bytes self.nonce) mc.new ≡ mc.old }
     {
         let mut block = ZEROS;
         pass_all(S::new(&self.key, &self.nonce), &mut block, 0, Pass::Stream, mc);
