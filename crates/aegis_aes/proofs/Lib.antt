@@ -1,4 +1,6 @@
 pub mod Columns
+pub mod Nibbles
+pub mod Mixing
 pub mod Places
 pub mod RoundBytes
 pub mod Rounds

@@ -12,11 +12,13 @@ use std::simd::prelude::*;
 /// is row r of column c. The default is sixteen zeros.
 #[derive(Clone, Copy, Debug)]
 pub struct AesBlock {
-    bytes: u8x16,
+    pub(crate) bytes: u8x16,
 }
 
 impl Model for AesBlock {
     ghost Value = { List ℕ };
+
+    ghost invariant = { λ b. length b.bytes ≡ 16 };
 
     ghost view = { λ b. b.bytes };
 

@@ -4,13 +4,17 @@
 mod block;
 mod block2;
 mod block4;
+
 pub mod field;
+mod permutes;
+mod round;
 mod row;
 #[cfg(test)]
 mod rows_tests;
 mod table;
 #[cfg(test)]
 mod tests;
+mod vectors;
 
 pub use block::AesBlock;
 pub use block2::AesBlock2;
