@@ -2,5 +2,6 @@ pub mod Columns
 pub mod Nibbles
 pub mod Mixing
 pub mod Places
+pub mod Powers
 pub mod RoundBytes
 pub mod Rounds

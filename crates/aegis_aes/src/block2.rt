@@ -8,7 +8,7 @@ ghost use Rattle.aegis_aes.specs.Round.{round};
 
 use crate::block::AesBlock;
 use crate::permutes::repeated;
-use crate::round::round_by_permutes;
+use crate::round::{round_by_field, round_by_permutes};
 use crate::row::{Row, context_block};
 use crate::vectors::{and_each, load, store, xor_each};
 use std::marker::Model;
@@ -81,7 +81,7 @@ impl AesBlock2 {
         ensures { result ≡ each_of_two round self.now key }
     {
         AesBlock2 {
-            bytes: round_by_permutes(self.bytes, key.bytes),
+            bytes: round_by_field(self.bytes, key.bytes),
         }
     }
 }

@@ -9,7 +9,7 @@ ghost use Rattle.aegis_aes.specs.Round.{round};
 use crate::block::AesBlock;
 use crate::block2::AesBlock2;
 use crate::permutes::repeated;
-use crate::round::round_by_permutes;
+use crate::round::{round_by_field, round_by_permutes};
 use crate::row::{Row, context_block};
 use crate::vectors::{and_each, load, store, xor_each};
 use std::marker::Model;
@@ -95,7 +95,7 @@ impl AesBlock4 {
         ensures { result ≡ each_of_four round self.now key }
     {
         AesBlock4 {
-            bytes: round_by_permutes(self.bytes, key.bytes),
+            bytes: round_by_field(self.bytes, key.bytes),
         }
     }
 }

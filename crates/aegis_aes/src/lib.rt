@@ -4,8 +4,8 @@
 mod block;
 mod block2;
 mod block4;
-
 pub mod field;
+mod lanes;
 mod permutes;
 mod round;
 mod row;
