@@ -70,10 +70,10 @@ entry_places t at p = record { each = all at }
 
 -- ---- lists of entries
 pub blocks : (n : ℕ) → IsWidth n → n % 16 ≡ 0
-blocks n width = ⊎_elim (λ e. rw e refl) (λ more. ⊎_elim (λ e. rw e refl) (λ e. rw e refl) more) width
+blocks n width = ⊎_elim (λ e. rw e refl) (λ e. rw e refl) width
 
-pub four_blocks : (n : ℕ) → IsWidth n → (n ≡ 16 → ⊥) → (n ≡ 32 → ⊥) → n ≡ 64
-four_blocks n width not-one not-two = ⊎_elim (λ e. absurd (not-one e)) (λ more. ⊎_elim (λ e. absurd (not-two e)) (λ e. e) more) width
+pub two_blocks : (n : ℕ) → IsWidth n → (n ≡ 16 → ⊥) → n ≡ 32
+two_blocks n width not-one = ⊎_elim (λ e. absurd (not-one e)) (λ e. e) width
 
 pub entries-at : (table from at out : List ℕ) (n : ℕ) → length from ≡ n → length at ≡ n → length out ≡ n
     → ((i : ℕ) → i < n → get_or from i 0 ≡ get_or table (i % 16) 0) → ArePlaces at → IsWidth n
@@ -130,7 +130,7 @@ all_substituted (x ∷ xs) fits =
     λ k. here k ∷ rest k
 
 pub small : (n : ℕ) → IsWidth n → n * 1 < 2 ^ 63
-small n width = ⊎_elim (λ e. omega arith) (λ more. ⊎_elim (λ e. omega arith) (λ e. omega arith) more) width
+small n width = ⊎_elim (λ e. omega arith) (λ e. omega arith) width
 
 -- what each step makes of n bytes
 module _ (xs : List ℕ) (n : ℕ) (long : length xs ≡ n) where

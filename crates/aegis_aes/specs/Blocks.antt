@@ -42,10 +42,3 @@ last xs i long =
 -- the bytes of two blocks are those of the first and then those of the second
 pub two_blocks : (xs : List ℕ) → length xs ≡ 32 → block_at xs 0 ++ block_at xs 16 ≡ xs
 two_blocks xs long = ap (λ t. block_at xs 0 ++ t) (last xs 16 long) ∙ front xs 0 16 (omega (arith, long))
-
--- the same of four
-pub four_blocks : (xs : List ℕ) → length xs ≡ 64 → block_at xs 0 ++ (block_at xs 16 ++ (block_at xs 32 ++ block_at xs 48)) ≡ xs
-four_blocks xs long =
-    ap (λ t. block_at xs 0 ++ (block_at xs 16 ++ (block_at xs 32 ++ t))) (last xs 48 long)
-    ∙ ap (λ t. block_at xs 0 ++ (block_at xs 16 ++ t)) (front xs 32 16 (omega (arith, long)))
-    ∙ ap (λ t. block_at xs 0 ++ t) (front xs 16 16 (omega (arith, long))) ∙ front xs 0 16 (omega (arith, long))

@@ -3,9 +3,9 @@ use Rattle.std.specs.Prelude.{◌≡◌, ◌⊎◌, ℕ, ◌+◌, ◌*◌, ◌/�
 use Rattle.std.specs.Simd.Lanes.{Each1}
 use Rattle.aegis_aes.specs.Round.{mixed}
 
--- the bytes of one, two or four blocks
+-- the bytes of one block, or of two
 abbrev pub IsWidth : ℕ → Type 0
-IsWidth n = (n ≡ 16) ⊎ ((n ≡ 32) ⊎ (n ≡ 64))
+IsWidth n = (n ≡ 16) ⊎ (n ≡ 32)
 
 -- a place in a table of sixteen, or one of 128 or more, where a look-up gives 0
 abbrev pub IsPlace : ℕ → Type 0

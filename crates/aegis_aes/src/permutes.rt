@@ -40,37 +40,32 @@ pub(crate) fn permute<const N: usize>(from: Simd<u8, N>, at: Simd<u8, N>) -> Sim
     if N == 16 {
         let moved = u8x16::from_slice(&from).swizzle_dyn(u8x16::from_slice(&at));
         Simd::from_slice(&moved.to_array())
-    } else if N == 32 {
-        let moved = u8x32::from_slice(&from).swizzle_dyn_within::<16>(u8x32::from_slice(&at));
-        Simd::from_slice(&moved.to_array())
     } else {
-        let moved = u8x64::from_slice(&from).swizzle_dyn_within::<16>(u8x64::from_slice(&at));
+        let moved = u8x32::from_slice(&from).swizzle_dyn_within::<16>(u8x32::from_slice(&at));
         Simd::from_slice(&moved.to_array())
     }
 }
 
-// Sixteen bytes, four times.
 #[inline(always)]
-fn four_times(bytes: [u8; 16]) -> u8x64
-    ensures { (i : ℕ) → i < 64 → slice_index result i ≡ slice_index bytes (i % 16) }
+fn twice(bytes: [u8; 16]) -> u8x32
+    ensures { (i : ℕ) → i < 32 → slice_index result i ≡ slice_index bytes (i % 16) }
 {
     u8x16::from_array(bytes).swizzle([
         0, 1, 2, 3, 4, 5, 6, 7, 8, 9, 10, 11, 12, 13, 14, 15, 0, 1, 2, 3, 4, 5, 6, 7, 8, 9, 10, 11,
-        12, 13, 14, 15, 0, 1, 2, 3, 4, 5, 6, 7, 8, 9, 10, 11, 12, 13, 14, 15, 0, 1, 2, 3, 4, 5, 6,
-        7, 8, 9, 10, 11, 12, 13, 14, 15,
+        12, 13, 14, 15,
     ])
 }
 
-// Sixteen bytes, for each block.
+// The same sixteen bytes in each block.
 #[inline(always)]
 pub(crate) fn repeated<const N: usize>(bytes: [u8; 16]) -> Simd<u8, N>
-    requires { N ≤ 64 }
+    requires { N ≤ 32 }
     ensures long { length result ≡ N }
     ensures each { (i : ℕ) → i < N → slice_index result i ≡ slice_index bytes (i % 16) }
     ensures blocks { (p : ℕ) → p % 16 ≡ 0 → p + 16 ≤ N → block_at result p ≡ bytes }
 {
-    let four = four_times(bytes).to_array();
-    Simd::from_slice(&four)
+    let two = twice(bytes).to_array();
+    Simd::from_slice(&two)
 }
 
 // The entries at these places. At a place of 128 or more it is 0.

@@ -5,4 +5,4 @@ use Rattle.aegis_aes.proofs.permutes.repeated.Goals as goal
 
 pub returns-clause-blocks : goal.returns-clause-blocks
 returns-clause-blocks g c = blocks_of_repeated c.args.bytes _ g.row.N (omega arith) (λ i lt.
-    get_or-chunk 0 g.row.N c.four_times.result i 0 lt ∙ ap (λ (k : ℕ). get_or c.four_times.result k 0) (omega arith) ∙ c.four_times.ensures i (omega arith))
+    get_or-chunk 0 g.row.N c.twice.result i 0 lt ∙ ap (λ (k : ℕ). get_or c.twice.result k 0) (omega arith) ∙ c.twice.ensures i (omega arith))
