@@ -11,6 +11,7 @@ mod round;
 mod row;
 #[cfg(test)]
 mod rows_tests;
+#[cfg(test)]
 mod table;
 #[cfg(test)]
 mod tests;

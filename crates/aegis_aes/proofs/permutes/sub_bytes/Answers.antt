@@ -7,24 +7,24 @@ use Rattle.aegis_aes.proofs.Nibbles.{all_substituted, changed, first, found, hal
 use Rattle.aegis_aes.proofs.permutes.sub_bytes.Goals as goal
 
 pub look-requires-3 : goal.look-requires-3
-look-requires-3 g c = (small g.row.N c.requires, (c.requires, xor_places c.look_for_place-2.ensures.places (xor_places c.low-i.ensures.places c.low-k.ensures.places)))
+look-requires-3 g c = (small g.row.N c.requires, (c.requires, xor_places c.look_for_place-2.ensures.places (xor_places c.low-v.ensures.places c.low-u.ensures.places)))
 
 pub returns : goal.returns
 returns g c =
-    let xs = c.args.xs in
+    let xs = c.args.bytes in
     let n = g.row.N in
-    let long = c.fits-xs.0 in
+    let long = c.fits-bytes.0 in
     let self = themselves xs n long in
     let in-low = found xs n long IN_LOW half (halves xs n long (λ x. x) self c.low.ensures.bits) c.look.ensures in
     let in-high = found xs n long IN_HIGH (λ x. half (x / 2 ^ 4)) (halves xs n long (λ x. x / 2 ^ 4) (shifted xs n long (λ x. x) self) c.low-2.ensures.bits) c.look-2.ensures in
     let both = sum_of xs n long (λ x. entry IN_LOW (half x)) (λ x. entry IN_HIGH (half (x / 2 ^ 4))) in-low in-high in
-    let k = halves xs n long changed both c.low-k.ensures.bits in
-    let i = halves xs n long (λ x. changed x / 2 ^ 4) (shifted xs n long changed both) c.low-i.ensures.bits in
-    let j = sum_of xs n long upper lower i k in
-    let scaled = found xs n long SCALED lower k c.look_for_place-scaled.ensures.entries in
-    let one = found xs n long INVERSE _ (sum_of xs n long _ _ (found xs n long INVERSE upper i c.look_for_place.ensures.entries) scaled) c.look_for_place-2.ensures.entries in
-    let two = found xs n long INVERSE _ (sum_of xs n long _ _ (found xs n long INVERSE total j c.look_for_place-3.ensures.entries) scaled) c.look_for_place-4.ensures.entries in
+    let u = halves xs n long changed both c.low-u.ensures.bits in
+    let v = halves xs n long (λ x. changed x / 2 ^ 4) (shifted xs n long changed both) c.low-v.ensures.bits in
+    let both-sum = sum_of xs n long upper lower v u in
+    let scaled = found xs n long SCALED lower u c.look_for_place-scaled.ensures.entries in
+    let one = found xs n long INVERSE _ (sum_of xs n long _ _ (found xs n long INVERSE upper v c.look_for_place.ensures.entries) scaled) c.look_for_place-2.ensures.entries in
+    let two = found xs n long INVERSE _ (sum_of xs n long _ _ (found xs n long INVERSE total both-sum c.look_for_place-3.ensures.entries) scaled) c.look_for_place-4.ensures.entries in
     sum_of xs n long _ _
-    (sum_of xs n long _ _ (found xs n long OUT_ONE first (sum_of xs n long _ _ one j) c.look-3.ensures) (found xs n long OUT_TWO second (sum_of xs n long _ _ two i) c.look-4.ensures))
+    (sum_of xs n long _ _ (found xs n long OUT_ONE first (sum_of xs n long _ _ one both-sum) c.look-3.ensures) (found xs n long OUT_TWO second (sum_of xs n long _ _ two v) c.look-4.ensures))
     (splat_is_map xs n 99 long)
-    ∙ all_substituted xs c.fits-xs.1
+    ∙ all_substituted xs c.fits-bytes.1
