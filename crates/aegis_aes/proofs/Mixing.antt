@@ -159,15 +159,15 @@ mixed_byte s shifted next across doubles key n width fits l-shifted l-next l-acr
     let l-two = length-zip2 bit_xor next across (l-next ∙ sym l-across) ∙ l-next in
     let l-three = length-zip2 bit_xor (zip2 bit_xor next across) doubles (l-two ∙ sym l-doubles) ∙ l-two in
     let sum-at : (j : ℕ) → j < n → get_or (zip2 bit_xor shifted next) j 0 ≡ bit_xor (get_or s (16 * (j / 16) + row_place 0 (j % 16)) 0) (get_or s (16 * (j / 16) + row_place 1 (j % 16)) 0) = λ j l.
-        get_or-zip2 bit_xor shifted next j 0 0 0 (omega (arith, l-shifted)) (omega (arith, l-next)) ∙ ap₂ bit_xor (e-shifted j l) (e-next j l) in
+    get_or-zip2 bit_xor shifted next j 0 0 0 (omega (arith, l-shifted)) (omega (arith, l-next)) ∙ ap₂ bit_xor (e-shifted j l) (e-next j l) in
     let own : get_or s (16 * (i / 16) + row_place 0 (i % 16)) 0 ≡ row (i % 4) = ap (λ (k : ℕ). get_or s k 0) (omega arith) in
     let after : get_or s (16 * (i / 16) + row_place 1 (i % 16)) 0 ≡ row ((i % 4 + 1) % 4) = ap (λ (k : ℕ). get_or s k 0) (omega arith) in
     let far : get_or across i 0 ≡ bit_xor (row ((i % 4 + 2) % 4)) (row ((i % 4 + 3) % 4)) =
-        e-across i h ∙ sum-at _ there
-        ∙ ap₂ bit_xor (ap (λ (k : ℕ). get_or s k 0) (omega arith)) (ap (λ (k : ℕ). get_or s k 0) (omega arith)) in
+    e-across i h ∙ sum-at _ there
+    ∙ ap₂ bit_xor (ap (λ (k : ℕ). get_or s k 0) (omega arith)) (ap (λ (k : ℕ). get_or s k 0) (omega arith)) in
     let doubled-at : get_or doubles i 0 ≡ xtime (bit_xor (row (i % 4)) (row ((i % 4 + 1) % 4))) =
-        ap (λ l. get_or l i 0) e-doubles ∙ get_or-map xtime (zip2 bit_xor shifted next) i 0 0 (omega (arith, l-sum, l-shifted))
-        ∙ ap xtime (sum-at i h ∙ ap₂ bit_xor own after) in
+    ap (λ l. get_or l i 0) e-doubles ∙ get_or-map xtime (zip2 bit_xor shifted next) i 0 0 (omega (arith, l-sum, l-shifted))
+    ∙ ap xtime (sum-at i h ∙ ap₂ bit_xor own after) in
     get_or-zip2 bit_xor (zip2 bit_xor (zip2 bit_xor next across) doubles) key i 0 0 0 (omega (arith, l-three)) (omega (arith, l-key))
     ∙ ap (λ t. bit_xor t (get_or key i 0))
     (get_or-zip2 bit_xor (zip2 bit_xor next across) doubles i 0 0 0 (omega (arith, l-two)) (omega (arith, l-doubles))
@@ -198,9 +198,9 @@ rounds x keys out n long each p whole room =
     let key = block_at keys p in
     bytes_at-is out p 16 (round block key) (length-map-range_with_len (λ m. round_byte block key (m / 4) (m % 4)) 0 16) (λ m lt.
     let byte : (k : ℕ) → k < 4 → shifted_row (map substitute x) (p + m) k ≡ substitute (get_or block (4 * ((m / 4 + k) % 4) + k) 0) = λ k h.
-        ap (λ (j : ℕ). get_or (map substitute x) j 0) (omega arith)
-        ∙ get_or-map substitute x (p + (4 * ((m / 4 + k) % 4) + k)) 0 0 (omega (arith, long))
-        ∙ ap substitute (sym (get_or-bytes_at x p 16 (4 * ((m / 4 + k) % 4) + k) 0 (omega arith))) in
+    ap (λ (j : ℕ). get_or (map substitute x) j 0) (omega arith)
+    ∙ get_or-map substitute x (p + (4 * ((m / 4 + k) % 4) + k)) 0 0 (omega (arith, long))
+    ∙ ap substitute (sym (get_or-bytes_at x p 16 (4 * ((m / 4 + k) % 4) + k) 0 (omega arith))) in
     each (p + m) (omega arith)
     ∙ ap₂ bit_xor (mixed-same (byte 0 (omega arith)) (byte 1 (omega arith)) (byte 2 (omega arith)) (byte 3 (omega arith)) (omega arith))
     (ap (λ (j : ℕ). get_or keys j 0) (omega arith) ∙ sym (get_or-bytes_at keys p 16 (4 * (m / 4) + m % 4) 0 (omega arith)))

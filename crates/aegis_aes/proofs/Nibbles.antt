@@ -56,6 +56,7 @@ entry-place t p j = either (leb 128 j) (get_or t j 0) (at-place t p.each j)
     either : (b : Bool) (v : ℕ) → IsPlace v → IsPlace (cond b 0 v)
     either true v h = omega arith
     either false v h = h
+
     at-place : (xs : List ℕ) → Each1 IsPlace xs → (n : ℕ) → IsPlace (get_or xs n 0)
     at-place [] h n = omega arith
     at-place (x ∷ xs) h zero = h.0

@@ -48,8 +48,14 @@ pub(crate) fn product<const N: usize>(a: Simd<u8, N>, b: Simd<u8, N>) -> Simd<u8
     let a5 = times_x(a4);
     let a6 = times_x(a5);
     let a7 = times_x(a6);
-    let low = selected(a, b, 0x01) ^ selected(a1, b, 0x02) ^ selected(a2, b, 0x04) ^ selected(a3, b, 0x08);
-    let high = selected(a4, b, 0x10) ^ selected(a5, b, 0x20) ^ selected(a6, b, 0x40) ^ selected(a7, b, 0x80);
+    let low = selected(a, b, 0x01)
+        ^ selected(a1, b, 0x02)
+        ^ selected(a2, b, 0x04)
+        ^ selected(a3, b, 0x08);
+    let high = selected(a4, b, 0x10)
+        ^ selected(a5, b, 0x20)
+        ^ selected(a6, b, 0x40)
+        ^ selected(a7, b, 0x80);
     low ^ high
 }
 

@@ -34,7 +34,10 @@ pub(crate) fn mixed<const N: usize>(s: Simd<u8, N>, key: Simd<u8, N>) -> Simd<u8
 
 /// A round of AES on each block, by byte permutes.
 #[inline(always)]
-pub(crate) fn round_by_permutes<const N: usize>(blocks: Simd<u8, N>, keys: Simd<u8, N>) -> Simd<u8, N>
+pub(crate) fn round_by_permutes<const N: usize>(
+    blocks: Simd<u8, N>,
+    keys: Simd<u8, N>,
+) -> Simd<u8, N>
     requires { IsWidth N }
     ensures long { length result ≡ N }
     ensures each { (p : ℕ) → p % 16 ≡ 0 → p + 16 ≤ N → block_at result p ≡ round (block_at blocks.entry p) (block_at keys.entry p) }

@@ -153,7 +153,10 @@ fn rounds_of_counted_bytes(rt: HostRuntime) {
 fn inverses_and_substitutes(rt: HostRuntime) {
     let known = u8x4::from_array([0x53, 0x01, 0x00, 0xca]);
     assert_eq!(rt; power_254(known).to_array(), [0xca, 0x01, 0x00, 0x53]);
-    assert_eq!(rt; lanes::sub_bytes(known).to_array(), [0xed, 0x7c, 0x63, 0x74]);
+    assert_eq!(rt;
+        lanes::sub_bytes(known).to_array(),
+        [0xed, 0x7c, 0x63, 0x74]
+    );
     let mut bytes = [0; 16];
     bytes[0] = 0x53;
     bytes[1] = 0x01;
@@ -166,7 +169,9 @@ fn inverses_and_substitutes(rt: HostRuntime) {
 // ---- The tower field of the permutes
 
 const GENERATOR: u8 = 0x0d;
+
 const SCALE: u8 = 0x0c;
+
 const ROOT: u8 = 0x34;
 
 // The element of the field of sixteen with these coordinates: bit i is that of the generator's power i.
@@ -222,7 +227,11 @@ fn permutes_are_those_of_the_field(rt: HostRuntime) {
             assert_eq!(rt; SCALED[at], 0x80);
         } else {
             assert_eq!(rt; INVERSE[at], coordinates_of(inverse), "at {n}");
-            assert_eq!(rt; SCALED[at], coordinates_of(product(SCALE, inverse)), "at {n}");
+            assert_eq!(rt;
+                SCALED[at],
+                coordinates_of(product(SCALE, inverse)),
+                "at {n}"
+            );
         }
     }
 }

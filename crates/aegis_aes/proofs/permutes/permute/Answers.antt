@@ -12,7 +12,7 @@ swizzle-moved-else-this-eq16 g c =
 
 pub returns-clause-each : goal.returns-clause-each
 returns-clause-each g c i lt = elim c.if-this-eq16.branch [
-    then-this-eq16 w ↦
+  | then-this-eq16 w ↦
       ap (λ l. get_or l i 0) w.result-is ∙ moved 16 g.row.N c.args.from c.args.at w.if-this-eq16.true c.fits-from.0 c.fits-at.0 i lt
   | else-this-eq16 w ↦
       ap (λ l. get_or l i 0) w.result-is
