@@ -1,9 +1,10 @@
 -- Products, inverses and the affine map on bytes side by side, from those of one byte.
-use Rattle.std.proofs.Common.{◌≡◌, ℕ, zero, suc, ◌+◌, ◌-◌, ◌*◌, ◌/◌, ◌%◌, ◌^◌, ◌<◌, Bool, true, false, cond, eqb, nat_lt, ◌==◌, List, [], ◌∷◌, length, map, bit_and, bit_or, bit_xor, replicate, if◌then◌else◌, w8, Fits, map-id, refl, sym, ap, ap₂, ◌∙◌, arith}
+use Rattle.std.proofs.Common.{◌≡◌, ℕ, zero, suc, ◌+◌, ◌-◌, ◌*◌, ◌/◌, ◌%◌, ◌^◌, ◌<◌, Bool, true, false, not, cond, eqb, nat_lt, ◌==◌, List, [], ◌∷◌, length, map, bit_and, bit_or, bit_xor, replicate, if◌then◌else◌, w8, Fits, map-id, refl, sym, ap, ap₂, ◌∙◌, arith}
 use Rattle.std.proofs.lemmas.Bool.{agree_below, agree_below_at, eqb-true, ltb-true}
 use Rattle.std.proofs.lemmas.List.{length-map}
 use Rattle.std.proofs.lemmas.Simd.{map-map, splat_is_map, zip2_of_maps}
 use Rattle.std.specs.Simd.Lanes.{Each1, sel_l, top, zip2}
+use Rattle.std.specs.Int.Bits.{xor_assoc, xor_zero_r}
 use Rattle.aegis_aes.specs.Field.{inverse, mul, mul_bits, xtime}
 use Rattle.aegis_aes.specs.Round.{affine, substitute}
 
@@ -54,17 +55,51 @@ high_code x y = bit_xor (bit_xor (bit_xor (part 16 (t4 x) y) (part 32 (t5 x) y))
 abbrev pub product_code : ℕ → ℕ → ℕ
 product_code x y = bit_xor (low_code x y) (high_code x y)
 
-all_products : agree_below (λ x. agree_below (λ y. product_code x y == mul x y) (λ _. true) 256) (λ _. true) 256 ≡ true
-unfolding mul mul_bits
-all_products = refl
+-- the test of bit i in the definition of a product
+abbrev is_set : ℕ → ℕ → Bool
+is_set zero y = y % 2 == 1
+is_set (suc i) y = is_set i (y / 2)
 
-pub products : (a b : List ℕ) → Each1 (Fits w8) a → Each1 (Fits w8) b → zip2 product_code a b ≡ zip2 mul a b
-products [] b fa fb = refl
-products (x ∷ a) [] fa fb = refl
-products (x ∷ a) (y ∷ b) fa fb =
-    let here : product_code x y ≡ mul x y = eqb-true _ _ (agree_below_at (λ y. product_code x y == mul x y) (λ _. true) 256 y
-    (agree_below_at (λ x. agree_below (λ y. product_code x y == mul x y) (λ _. true) 256) (λ _. true) 256 x all_products fa.0.fits) fb.0.fits) in
-    let rest = products a b fa.1 fb.1 in
+part-is : (bit i : ℕ) → agree_below (λ y. bit_and y bit == 0) (λ y. not (is_set i y)) 256 ≡ true
+    → (x y : ℕ) → y < 256 → part bit x y ≡ (if is_set i y then x else 0)
+part-is bit i all x y h = either (bit_and y bit == 0) (is_set i y) (agree_below_at (λ y. bit_and y bit == 0) (λ y. not (is_set i y)) 256 y all h)
+  where
+    either : (t u : Bool) → t ≡ not u → (if t then 0 else x) ≡ (if u then x else 0)
+    either t true e = rw e refl
+    either t false e = rw e refl
+
+to-the-right : (a b c d e : ℕ) → bit_xor (bit_xor (bit_xor (bit_xor a b) c) d) e ≡ bit_xor a (bit_xor b (bit_xor c (bit_xor d e)))
+to-the-right a b c d e = xor_assoc (bit_xor (bit_xor a b) c) d e ∙ xor_assoc (bit_xor a b) c (bit_xor d e) ∙ xor_assoc a b (bit_xor c (bit_xor d e))
+
+four : {a b c d a' b' c' d' : ℕ} → a ≡ a' → b ≡ b' → c ≡ c' → d ≡ d' → bit_xor (bit_xor (bit_xor a b) c) d ≡ bit_xor (bit_xor (bit_xor a' b') c') d'
+four p q r s = ap₂ bit_xor (ap₂ bit_xor (ap₂ bit_xor p q) r) s
+
+-- the sum of eight in the order of the code, and in that of the definition
+in-order : (a b c d e f g h : ℕ)
+    → bit_xor (bit_xor (bit_xor (bit_xor a b) c) d) (bit_xor (bit_xor (bit_xor e f) g) h)
+    ≡ bit_xor a (bit_xor b (bit_xor c (bit_xor d (bit_xor e (bit_xor f (bit_xor g (bit_xor h 0)))))))
+in-order a b c d e f g h =
+    to-the-right a b c d (bit_xor (bit_xor (bit_xor e f) g) h)
+    ∙ ap (λ t. bit_xor a (bit_xor b (bit_xor c (bit_xor d t)))) (sym (xor_zero_r (bit_xor (bit_xor (bit_xor e f) g) h)) ∙ to-the-right e f g h 0)
+
+-- the multiple that is taken where bit i is set
+abbrev term : ℕ → ℕ → ℕ → ℕ
+term i x y = if is_set i y then x else 0
+
+product_is : (x y : ℕ) → y < 256 → product_code x y ≡ mul x y
+unfolding mul mul_bits
+product_is x y h =
+    ap₂ bit_xor
+    (four (part-is 1 0 refl x y h) (part-is 2 1 refl (t1 x) y h) (part-is 4 2 refl (t2 x) y h) (part-is 8 3 refl (t3 x) y h))
+    (four (part-is 16 4 refl (t4 x) y h) (part-is 32 5 refl (t5 x) y h) (part-is 64 6 refl (t6 x) y h) (part-is 128 7 refl (t7 x) y h))
+    ∙ in-order (term 0 x y) (term 1 (t1 x) y) (term 2 (t2 x) y) (term 3 (t3 x) y) (term 4 (t4 x) y) (term 5 (t5 x) y) (term 6 (t6 x) y) (term 7 (t7 x) y)
+
+pub products : (a b : List ℕ) → Each1 (Fits w8) b → zip2 product_code a b ≡ zip2 mul a b
+products [] b fb = refl
+products (x ∷ a) [] fb = refl
+products (x ∷ a) (y ∷ b) fb =
+    let here = product_is x y fb.0.fits in
+    let rest = products a b fb.1 in
     λ k. here k ∷ rest k
 
 zip2-xor : (f g : ℕ → ℕ → ℕ) (a b : List ℕ) → zip2 bit_xor (zip2 f a b) (zip2 g a b) ≡ zip2 (λ x y. bit_xor (f x y) (g x y)) a b

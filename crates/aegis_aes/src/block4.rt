@@ -133,6 +133,9 @@ impl Row for AesBlock4 {
         AesBlock4::and(&self, other)
     }
 
+    // Out of line: the rows of four lanes do not fit the registers, and an update of them fills many more with its own
+    // values.
+    #[inline(never)]
     fn round(self, key: AesBlock4) -> AesBlock4 {
         AesBlock4 {
             front: Row::round(self.front, key.front),

@@ -10,4 +10,4 @@ returns g c =
     c.times_x-a1.ensures c.times_x-a2.ensures c.times_x-a3.ensures c.times_x-a4.ensures c.times_x-a5.ensures c.times_x-a6.ensures c.times_x-a7.ensures
     c.selected.ensures c.selected-2.ensures c.selected-3.ensures c.selected-4.ensures
     c.selected-5.ensures c.selected-6.ensures c.selected-7.ensures c.selected-8.ensures
-    ∙ products a b c.fits-a.1 c.fits-b.1
+    ∙ products a b c.fits-b.1
