@@ -1,5 +1,5 @@
 -- Look-ups in tables of sixteen entries, by places that are computed from bytes.
-use Rattle.std.proofs.Common.{◌≡◌, ℕ, zero, suc, ◌+◌, ◌*◌, ◌/◌, ◌%◌, ◌^◌, ◌<◌, ◌≤◌, Bool, true, false, cond, ◌||◌, ◌==◌, T, ltb, leb, List, [], ◌∷◌, length, map, get_or, take, drop, bit_and, bit_xor, replicate, w8, Fits, refl, sym, ap, ◌∙◌, arith, lt→ltb, map-id, ⊎_elim}
+use Rattle.std.proofs.Common.{◌≡◌, ℕ, zero, suc, ◌+◌, ◌*◌, ◌/◌, ◌%◌, ◌^◌, ◌<◌, Bool, true, false, cond, ◌||◌, ◌==◌, T, ltb, leb, List, [], ◌∷◌, length, map, get_or, take, bit_and, bit_xor, replicate, w8, Fits, refl, sym, ap, ◌∙◌, arith, lt→ltb, map-id, ⊎_elim}
 use Rattle.std.proofs.lemmas.Grind.{same_number_lists}
 use Rattle.std.proofs.lemmas.List.{get_or-map, length-map, take_all}
 use Rattle.std.proofs.lemmas.Bool.{agree_below, agree_below_at, eqb-true, leb-false}

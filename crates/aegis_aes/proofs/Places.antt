@@ -1,5 +1,5 @@
 -- Bytes and blocks at places of a list.
-use Rattle.std.proofs.Common.{◌≡◌, ℕ, zero, suc, ◌+◌, ◌-◌, ◌*◌, ◌%◌, ◌<◌, ◌≤◌, List, ◌++◌, length, get_or, take, drop, refl, sym, ap, ap₂, ◌∙◌, arith}
+use Rattle.std.proofs.Common.{◌≡◌, ℕ, zero, suc, ◌+◌, ◌-◌, ◌%◌, ◌<◌, ◌≤◌, List, ◌++◌, length, get_or, take, drop, refl, sym, ap, ap₂, ◌∙◌, arith}
 use Rattle.std.proofs.lemmas.List.{places, same_lists, get_or_default, get_or_append_left, get_or-append_right}
 use Rattle.std.proofs.lemmas.Simd.{get_or-chunk, get_or-put_chunk_at, get_or-zip2, length-zip2}
 use Rattle.std.specs.Simd.Lanes.{chunk, put_chunk, zip2}
@@ -50,18 +50,6 @@ bytes_at-put_mid xs ys i n k long same room =
 pub block_at-kept : (xs ys : List ℕ) (at from : ℕ) (b : List ℕ) → at + 16 ≤ from → ((i : ℕ) → i < from → get_or ys i 0 ≡ get_or xs i 0) → block_at xs at ≡ b → block_at ys at ≡ b
 block_at-kept xs ys at from b room kept was =
     bytes_at-same ys xs at 16 (λ k _ lt. kept k (omega arith)) ∙ was
-
--- what the store of a row of one lane says of its block, at any spelling of the place
-pub block_at-stored : (xs : List ℕ) (at place : ℕ) (b : List ℕ) → place ≡ at → ((j : ℕ) → j < 1 → block_at xs (at + 16 * j) ≡ b) → block_at xs place ≡ b
-block_at-stored xs at place b same written =
-    let first : place ≡ at + 16 * 0 = omega arith in
-    rw first (written 0 (omega arith))
-
--- what holds of lanes 0 and 1 holds of each lane below 2
-pub both_lanes : (P : ℕ → Type 0) → P 0 → P 1 → (j : ℕ) → j < 2 → P j
-both_lanes P p0 p1 zero lt = p0
-both_lanes P p0 p1 (suc zero) lt = p1
-both_lanes P p0 p1 (suc (suc j)) lt = absurd (omega arith)
 
 -- what holds of lanes 0 to 3 holds of each lane below 4
 pub all_four_lanes : (P : ℕ → Type 0) → P 0 → P 1 → P 2 → P 3 → (j : ℕ) → j < 4 → P j

@@ -15,10 +15,10 @@ use std::marker::Model;
 use std::simd::prelude::*;
 
 /// Two blocks of 16 bytes, on which each operation works block by block. As a [`Row`] it has one block of each of two
-/// lanes.
+/// lanes. It is one vector of 32 bytes.
 #[derive(Clone, Copy, Debug)]
 pub struct AesBlock2 {
-    pub(crate) bytes: u8x32,
+    bytes: u8x32,
 }
 
 impl Model for AesBlock2 {

@@ -1,5 +1,5 @@
 -- Each step gives a function of the bytes; their composition is SubBytes by computing all 256.
-use Rattle.std.proofs.Common.{◌/◌, ◌^◌, ◌∙◌}
+use Rattle.std.proofs.Common.{◌/◌, ◌^◌, ◌∙◌, bit_xor}
 use Rattle.std.proofs.lemmas.Simd.{splat_is_map}
 use Rattle.aegis_aes.specs.Permutes.{entry}
 use Rattle.aegis_aes.specs.declared.permutes.TheConstants.{IN_HIGH, IN_LOW, INVERSE, OUT_ONE, OUT_TWO, SCALED}
@@ -22,9 +22,14 @@ returns g c =
     let v = halves xs n long (λ x. changed x / 2 ^ 4) (shifted xs n long changed both) c.low-v.ensures.bits in
     let both-sum = sum_of xs n long upper lower v u in
     let scaled = found xs n long SCALED lower u c.look_for_place-scaled.ensures.entries in
-    let one = found xs n long INVERSE _ (sum_of xs n long _ _ (found xs n long INVERSE upper v c.look_for_place.ensures.entries) scaled) c.look_for_place-2.ensures.entries in
-    let two = found xs n long INVERSE _ (sum_of xs n long _ _ (found xs n long INVERSE total both-sum c.look_for_place-3.ensures.entries) scaled) c.look_for_place-4.ensures.entries in
-    sum_of xs n long _ _
-    (sum_of xs n long _ _ (found xs n long OUT_ONE first (sum_of xs n long _ _ one both-sum) c.look-3.ensures) (found xs n long OUT_TWO second (sum_of xs n long _ _ two v) c.look-4.ensures))
+    let one = found xs n long INVERSE (λ x. bit_xor (entry INVERSE (upper x)) (entry SCALED (lower x)))
+    (sum_of xs n long (λ x. entry INVERSE (upper x)) (λ x. entry SCALED (lower x)) (found xs n long INVERSE upper v c.look_for_place.ensures.entries) scaled) c.look_for_place-2.ensures.entries in
+    let two = found xs n long INVERSE (λ x. bit_xor (entry INVERSE (total x)) (entry SCALED (lower x)))
+    (sum_of xs n long (λ x. entry INVERSE (total x)) (λ x. entry SCALED (lower x)) (found xs n long INVERSE total both-sum c.look_for_place-3.ensures.entries) scaled) c.look_for_place-4.ensures.entries in
+    let first-is = sum_of xs n long (λ x. entry INVERSE (bit_xor (entry INVERSE (upper x)) (entry SCALED (lower x)))) total one both-sum in
+    let second-is = sum_of xs n long (λ x. entry INVERSE (bit_xor (entry INVERSE (total x)) (entry SCALED (lower x)))) upper two v in
+    sum_of xs n long (λ x. bit_xor (entry OUT_ONE (first x)) (entry OUT_TWO (second x))) (λ _. 99)
+    (sum_of xs n long (λ x. entry OUT_ONE (first x)) (λ x. entry OUT_TWO (second x)) (found xs n long OUT_ONE first first-is c.look-3.ensures)
+    (found xs n long OUT_TWO second second-is c.look-4.ensures))
     (splat_is_map xs n 99 long)
     ∙ all_substituted xs c.fits-bytes.1

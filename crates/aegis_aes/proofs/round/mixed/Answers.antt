@@ -1,6 +1,4 @@
-use Rattle.std.proofs.Common.{ℕ, refl, sym, ◌∙◌}
-use Rattle.std.proofs.lemmas.Simd.{length-zip2}
-use Rattle.std.specs.Simd.Lanes.{zip2}
+use Rattle.std.proofs.Common.{refl}
 use Rattle.aegis_aes.specs.declared.round.TheConstants.{SHIFTED, SHIFTED_NEXT, TWO_ROWS_ON}
 use Rattle.aegis_aes.proofs.Mixing.{across_place, mixed_byte, mixed_long, moved_by, row_place}
 use Rattle.aegis_aes.proofs.round.mixed.Goals as goal
