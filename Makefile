@@ -16,8 +16,9 @@ OUT = out
 CC = gcc
 RUSTC = rustc -O --edition 2024
 LINK_RUST = -L native=$(dir $(C_LIBRARY)) -l static=aegis_c
-# The processor level is that of the library's own code; `make bench CPU=x86-64-v3` builds both for that one. Without `no-vectorize-slp` the compiler gathers look-ups
-# into vectors, which makes the four tables that the library is compared with a third slower at four lanes.
+# The processor level of the library and of what it is compared with: `make bench CPU=x86-64-v3` builds both for that
+# one. Without `no-vectorize-slp` the compiler gathers look-ups into vectors, which makes the four tables that the
+# library is compared with a third slower at four lanes.
 CPU = x86-64-v2
 BENCH_FLAGS = -C target-cpu=$(CPU) -C no-vectorize-slp
 
