@@ -106,6 +106,10 @@ impl<R: Row> LaneState for State128<R> {
 
     ghost updates = { λ s. s.updates };
 
+    fn zero_nonce() -> [u8; 16] {
+        [0; 16]
+    }
+
     fn first_rows(key: &[u8; 16], nonce: &[u8; 16]) -> Self {
         let key = AesBlock::from_bytes(key);
         let nonce = AesBlock::from_bytes(nonce);

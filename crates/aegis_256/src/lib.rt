@@ -122,6 +122,10 @@ impl<R: Row> LaneState for State256<R> {
 
     ghost updates = { λ s. s.updates };
 
+    fn zero_nonce() -> [u8; 32] {
+        [0; 32]
+    }
+
     fn first_rows(key: &[u8; 32], nonce: &[u8; 32]) -> Self {
         let c0 = AesBlock::from_bytes(&C0);
         let c1 = AesBlock::from_bytes(&C1);

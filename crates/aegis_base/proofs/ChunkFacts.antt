@@ -23,3 +23,9 @@ joined-within chunks i =
     let all : joined chunks ≡ joined (take i chunks) ++ joined (drop i chunks) =
     ap joined (sym (take-append-drop i chunks)) ∙ joined-append (take i chunks) (drop i chunks) in
     omega (arith, ap length all, length-append (joined (take i chunks)) (joined (drop i chunks)))
+
+-- the first chunks and the next one have no more bytes than all
+pub chunk-within : (chunks : List (Bor (List ℕ))) (i : ℕ) → i < length chunks
+    → length (joined (take i chunks)) + length (get_or chunks i no_chunk).now ≤ length (joined chunks)
+chunk-within chunks i low =
+    omega (arith, ap length (joined-more chunks i low), length-append (joined (take i chunks)) (get_or chunks i no_chunk).now, joined-within chunks (i + 1))

@@ -1,10 +1,13 @@
 -- What a sealed or opened message stands for, after more of it and after its end.
-use Rattle.std.proofs.Common.{◌≡◌, ◌∙◌, sym, ap, refl, ℕ, ◌+◌, ◌/◌, ◌<◌, List, ◌++◌, length, bit_xor, slice_index, arith}
+use Rattle.std.proofs.Common.{◌≡◌, ◌∙◌, sym, ap, refl, ℕ, ◌+◌, ◌/◌, ◌<◌, List, [], ◌++◌, length, bit_xor, slice_index, arith}
+use Rattle.std.proofs.Math.Nat.{div-eq_of_lt}
 use Rattle.std.proofs.lemmas.List.{length-append}
 use Rattle.aegis_aes.specs.Lanes.{IsLaneCount}
 use Rattle.aegis_base.specs.Family.{Family, rate}
-use Rattle.aegis_base.specs.Message.{ciphertext, lane_before, stream_byte}
+use Rattle.aegis_base.specs.Lane.{start}
+use Rattle.aegis_base.specs.Message.{after, block_count, ciphertext, lane_before, stream_byte}
 use Rattle.aegis_base.specs.Run.{HasFrom, IsAlong, Stands, held}
+use Rattle.aegis_base.proofs.MessageFacts.{after-none, rate-positive}
 use Rattle.aegis_base.proofs.AppendFacts.{along-longer, ciphertext-append, has-after}
 
 module _ {S : Type 0} (family : Family) (d : ℕ) (lane : S → ℕ → List (List ℕ)) (updates : S → ℕ) (state : S) (block : List ℕ)
@@ -43,3 +46,17 @@ module _ {S : Type 0} (family : Family) (d : ℕ) (lane : S → ℕ → List (Li
   ciphertext-on c count long xored =
       ciphertext-append family d (lane_before family d key nonce ad) m p c count long
       (λ i low. rw (← is.1) (xored (lane_before family d key nonce ad) (m ++ p) begun follows i low))
+
+-- without associated data the run begins with the start of the lanes
+pub input-along : {S : Type 0} (family : Family) (d : ℕ) (lane : S → ℕ → List (List ℕ)) (updates : S → ℕ) (state : S) (block : List ℕ)
+    (bytes : ℕ) (key nonce x : List ℕ) → IsLaneCount d
+    → Stands family d lane updates (held state block 0 bytes) key nonce [] x
+    → IsAlong family d (start family d key nonce) (lane state) block x (length x)
+unfolding Stands
+input-along family d lane updates state block bytes key nonce x count is =
+    let none : block_count family d 0 ≡ 0 = div-eq_of_lt (let positive = rate-positive family d count in omega arith) in
+    let begun : (j : ℕ) → lane_before family d key nonce [] j ≡ start family d key nonce j = λ j. rw (none, after-none) refl in
+    record {
+      whole = λ j inside. is.3.whole j inside ∙ ap (λ (s : List (List ℕ)). after family d s j x (length x / rate family d)) (begun j);
+      open_block = is.3.open_block;
+    }

@@ -13,3 +13,8 @@ width Aegis256 = 1
 -- the bytes of a rate block of d lanes
 abbrev pub rate : Family → ℕ → ℕ
 rate family d = 16 * (width family * d)
+
+-- the bytes of a key, and of a nonce
+abbrev pub key_length : Family → ℕ
+key_length Aegis128 = 16
+key_length Aegis256 = 32

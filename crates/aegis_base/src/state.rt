@@ -1,9 +1,9 @@
 //! The states of a variant: its lanes, side by side, as the block engine uses them.
 
-ghost use Rattle.std.specs.Prelude.{◌≡◌, ℕ, ◌+◌, ◌-◌, ◌*◌, ◌^◌, ◌<◌, ◌≤◌, ◌++◌, List, length, slice_index};
+ghost use Rattle.std.specs.Prelude.{◌≡◌, ℕ, ◌+◌, ◌-◌, ◌*◌, ◌^◌, ◌<◌, ◌≤◌, ◌++◌, List, length, slice_index, replicate};
 ghost use Rattle.aegis_aes.specs.Block.{block_at, xor};
 ghost use Rattle.aegis_aes.specs.Lanes.{IsLaneCount, context, xor_lanes};
-ghost use Rattle.aegis_base.specs.Family.{Family, rate, width};
+ghost use Rattle.aegis_base.specs.Family.{Family, key_length, rate, width};
 ghost use Rattle.aegis_base.specs.Lane.{finish, first_rows, high_tag, keystream, lane_tag, last_block, last_input, low_tag, row, short_tag, start, start_turn, start_turns, step};
 ghost use Rattle.aegis_base.specs.Mac.{fold_long, fold_short, mac_tag, short_fold_turn, short_fold_turns, step_by_two};
 ghost use Rattle.aegis_base.specs.Message.{share_at};
@@ -53,6 +53,10 @@ pub trait LaneState: Copy {
 
     // how many updates were made since the start
     ghost updates: { Self → ℕ };
+
+    /// The nonce of zeros.
+    fn zero_nonce() -> Self::Key
+        ensures { key_bytes result ≡ replicate (key_length FAMILY) 0 };
 
     /// The lanes before the updates of their start (AEGIS, Init).
     fn first_rows(key: &Self::Key, nonce: &Self::Key) -> Self

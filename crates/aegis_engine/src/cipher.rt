@@ -4,9 +4,11 @@
 //! of one piece over `message` and `run`; nothing here knows a family or a lane count.
 
 ghost use Rattle.std.specs.Prelude.{◌≡◌, ⊤, ◌≤◌, ◌⊎◌, ◌++◌, IfErr, IfOk, IsOk, List, OnErr, OnOk, Some, codes, length, replicate, ℕ, []};
+ghost use Rattle.aegis_base.specs.Chunks.{joined};
 ghost use Rattle.aegis_base.specs.Message.{Opens, ciphertext, seal, stream, tag, xor_stream};
 ghost use Rattle.aegis_base.specs.Run.{Stands};
 
+use crate::chunks::seal_all;
 use crate::encryptor::Encryptor;
 use crate::message::{begin, finish, open_more, seal_more};
 use crate::pass::{Pass, ZEROS};
@@ -225,5 +227,20 @@ impl<S: LaneState<Key = K>, K: Copy, V: Variant, const TAG_BYTES: usize> Cipher<
         ensures length { result.message_bytes ≡ 0 }
     {
         Encryptor::new(begin::<S>(&self.key, &self.nonce, ad), ad.len() as u64)
+    }
+
+    /// Seals a message that comes as chunks, empty ones too, into `out`, which has the chunks' length together
+    /// (`chunks_len` tells it): the ciphertext of the chunks one after the other, and its tag.
+    pub fn seal_chunks(&self, ad: &[u8], chunks: &[&[u8]], out: &mut [u8]) -> [u8; TAG_BYTES]
+        requires associated_data_within { length ad.now ≤ MAX_AEAD_BYTES }
+        requires lengths { length out.old ≡ length (joined chunks.now) }
+        requires message_within { length out.old ≤ MAX_AEAD_BYTES }
+        ensures { (out.new, result)
+            ≡ seal S.FAMILY S.LANES TAG_BYTES (S.key_bytes self.now.key) (S.key_bytes self.now.nonce) ad.now (joined chunks.now) }
+    {
+        let state = begin::<S>(&self.key, &self.nonce, ad);
+        let mut block = ZEROS;
+        let state = seal_all(state, &mut block, ad.len() as u64, chunks, out);
+        finish(state, &block, ad.len() as u64, out.len() as u64)
     }
 }

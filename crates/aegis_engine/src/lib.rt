@@ -1,11 +1,13 @@
 //! The block engine of AEGIS and the calls over it, once for every family and lane count.
 //!
 //! From below: `pass` runs a state along rate blocks, `run` along bytes that come in any pieces, `message` along associated
-//! data and a message; `cipher` and `encryptor` have the public calls.
+//! data and a message; `chunks` along lists of chunks; `cipher`, `encryptor` and `mac` have the public calls.
 #![tactic(auto)]
 
+mod chunks;
 mod cipher;
 mod encryptor;
+mod mac;
 mod message;
 mod pass;
 mod run;
@@ -13,3 +15,4 @@ mod tag;
 
 pub use cipher::{Cipher, ERASED};
 pub use encryptor::Encryptor;
+pub use mac::Mac;

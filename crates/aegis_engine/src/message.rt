@@ -25,6 +25,18 @@ pub fn begin<S: LaneState>(key: &S::Key, nonce: &S::Key, ad: &[u8]) -> S
     pad(state, &block, ad.len() as u64)
 }
 
+/// Takes in the next bytes, with nothing written.
+pub fn absorb_more<S: LaneState>(state: S, block: &mut Block, total: u64, bytes: &[u8]) -> S
+    requires within { total + length bytes.now < 2 ^ 64 }
+    requires countable { S.updates state + length bytes.now < 2 ^ 64 }
+    ensures stands { (key nonce ad x : List ℕ) (data_bytes : ℕ)
+        → Stands S.FAMILY S.LANES S.lane S.updates (held state block.old data_bytes total) key nonce ad x
+        → Stands S.FAMILY S.LANES S.lane S.updates (held result block.new data_bytes (total + length bytes.now)) key nonce ad (x ++ bytes.now) }
+    ensures few { S.updates result ≤ S.updates state + length bytes.now }
+{
+    absorb_all(state, block, total, bytes)
+}
+
 /// Seals the next bytes of a message in place.
 pub fn seal_more<S: LaneState>(
     state: S,

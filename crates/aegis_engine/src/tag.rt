@@ -1,8 +1,9 @@
 //! Tags: the end of the lanes, and the comparison of two tags.
 
-ghost use Rattle.std.specs.Prelude.{◌≡◌, ◌⊎◌, ◌++◌, ◌↔◌, IsTrue, length};
+ghost use Rattle.std.specs.Prelude.{◌≡◌, ◌+◌, ◌^◌, ◌<◌, ◌++◌, ◌↔◌, IsTrue, length};
 ghost use Rattle.aegis_aes.specs.Lanes.{xor_lanes};
-ghost use Rattle.aegis_base.specs.Lane.{lane_tag};
+ghost use Rattle.aegis_base.specs.Lane.{IsTagLength, lane_tag};
+ghost use Rattle.aegis_base.specs.Mac.{mac_tag};
 
 use aegis_aes::AesBlock;
 use aegis_base::LaneState;
@@ -19,6 +20,17 @@ pub fn same_bytes(a: &[u8], b: &[u8]) -> bool
     difference == 0
 }
 
+// A tag of 16 bytes.
+fn short_bytes<const TAG_BYTES: usize>(tag: AesBlock) -> [u8; TAG_BYTES]
+    requires { TAG_BYTES ≡ 16 }
+    ensures { result ≡ tag }
+{
+    let mut bytes = [0; TAG_BYTES];
+    let out = &mut bytes[..];
+    out.copy_from_slice(&tag.to_bytes());
+    bytes
+}
+
 // The halves of a long tag, one after the other.
 fn joined(low: AesBlock, high: AesBlock) -> [u8; 32]
     ensures { result ≡ low ++ high }
@@ -29,18 +41,40 @@ fn joined(low: AesBlock, high: AesBlock) -> [u8; 32]
     tag
 }
 
+// A tag of 32 bytes, from its halves.
+fn long_bytes<const TAG_BYTES: usize>(low: AesBlock, high: AesBlock) -> [u8; TAG_BYTES]
+    requires { TAG_BYTES ≡ 32 }
+    ensures { result ≡ low ++ high }
+{
+    let mut bytes = [0; TAG_BYTES];
+    let out = &mut bytes[..];
+    out.copy_from_slice(&joined(low, high));
+    bytes
+}
+
 /// The tag of lanes after their end: the xor of the lanes' tags (AEGIS, Finalize).
 pub fn lanes_tag<S: LaneState, const TAG_BYTES: usize>(end: S) -> [u8; TAG_BYTES]
-    requires { (TAG_BYTES ≡ 16) ⊎ (TAG_BYTES ≡ 32) }
+    requires { IsTagLength TAG_BYTES }
     ensures { result ≡ xor_lanes (λ j. lane_tag S.FAMILY TAG_BYTES (S.lane end j)) S.LANES }
 {
-    let mut tag = [0; TAG_BYTES];
-    let out = &mut tag[..];
     if TAG_BYTES == 16 {
-        out.copy_from_slice(&end.short_tag().to_bytes());
+        short_bytes(end.short_tag())
     } else {
         let (low, high) = end.long_tag();
-        out.copy_from_slice(&joined(low, high));
+        long_bytes(low, high)
     }
-    tag
+}
+
+/// The MAC of lanes after their end: the tag of the one lane, or that of lane 0 after the lanes' tags are folded into it.
+pub fn folded_tag<S: LaneState, const TAG_BYTES: usize>(end: S) -> [u8; TAG_BYTES]
+    requires tag_bytes { IsTagLength TAG_BYTES }
+    requires countable { S.updates end + 16 < 2 ^ 64 }
+    ensures { result ≡ mac_tag S.FAMILY S.LANES TAG_BYTES (S.lane end) }
+{
+    if TAG_BYTES == 16 {
+        short_bytes(end.short_mac_tag())
+    } else {
+        let (low, high) = end.long_mac_tag();
+        long_bytes(low, high)
+    }
 }
