@@ -1,10 +1,9 @@
 //! AEGIS-128L.
 
-ghost use Rattle.std.specs.Prelude.{◌≡◌, ◌≢◌, ℕ, List, length, replicate};
-ghost use Rattle.aegis_aes.specs.Block.{xor};
+ghost use Rattle.std.specs.Prelude.{length};
 ghost use Rattle.aegis_base.specs.Family.{Aegis128};
-ghost use Rattle.aegis_base.specs.Message.{Opens, seal, stream};
-ghost use Rattle.aegis_c.specs.Answers.{seal_answer, stream_answer};
+ghost use Rattle.aegis_base.specs.Message.{stream, xor_stream};
+ghost use Rattle.aegis_c.specs.Calls.{OpensOrErases, Seals, Streams};
 
 use crate::answer::*;
 use crate::calls::*;
@@ -20,10 +19,7 @@ pub extern "C" fn aegis128l_encrypt_in_place(
     k: &[u8],
     mac: &mut [u8],
 ) -> i32
-    ensures answer { result ≡ seal_answer 16 (length npub.now) (length k.now) (length mc.old) (length ad.now) (length mac.old) }
-    ensures sealed { result ≡ DONE → (mc.new, mac.new) ≡ seal Aegis128 1 (length mac.old) k.now npub.now ad.now mc.old }
-    ensures message_kept { result ≢ DONE → mc.new ≡ mc.old }
-    ensures tag_kept { result ≢ DONE → mac.new ≡ mac.old }
+    ensures { Seals Aegis128 1 16 npub.now k.now ad.now mc.old mc.new mac.old mac.new result }
 {
     encrypt_in_place!(Aegis128L, mc, ad, npub, k, mac)
 }
@@ -37,15 +33,7 @@ pub extern "C" fn aegis128l_decrypt_in_place(
     k: &[u8],
     mac: &[u8],
 ) -> i32
-    ensures answer { result ≢ INVALID_TAG
-        → result ≡ seal_answer 16 (length npub.now) (length k.now) (length mc.old) (length ad.now) (length mac.now) }
-    ensures lengths { result ≡ INVALID_TAG
-        → seal_answer 16 (length npub.now) (length k.now) (length mc.old) (length ad.now) (length mac.now) ≡ DONE }
-    ensures opened { result ≡ DONE → Opens Aegis128 1 (length mac.now) k.now npub.now ad.now mc.old mac.now mc.new }
-    ensures accepted { (m : List ℕ)
-        → Opens Aegis128 1 (length mac.now) k.now npub.now ad.now mc.old mac.now m → result ≢ INVALID_TAG }
-    ensures erased { result ≡ INVALID_TAG → mc.new ≡ replicate (length mc.old) 0xaa }
-    ensures kept { result ≢ DONE → result ≢ INVALID_TAG → mc.new ≡ mc.old }
+    ensures { OpensOrErases Aegis128 1 16 npub.now k.now ad.now mc.old mc.new mac.now result }
 {
     decrypt_in_place!(Aegis128L, mc, ad, npub, k, mac)
 }
@@ -53,9 +41,7 @@ pub extern "C" fn aegis128l_decrypt_in_place(
 /// Writes keystream to `out`, whatever was there.
 #[unsafe(no_mangle)]
 pub extern "C" fn aegis128l_stream(out: &mut [u8], npub: &[u8], k: &[u8]) -> i32
-    ensures answer { result ≡ stream_answer 16 (length npub.now) (length k.now) }
-    ensures written { result ≡ DONE → out.new ≡ stream Aegis128 1 k.now npub.now (length out.old) }
-    ensures kept { result ≢ DONE → out.new ≡ out.old }
+    ensures { Streams 16 npub.now k.now out.old out.new (stream Aegis128 1 k.now npub.now (length out.old)) result }
 {
     stream!(Aegis128L, stream, out, npub, k)
 }
@@ -63,9 +49,7 @@ pub extern "C" fn aegis128l_stream(out: &mut [u8], npub: &[u8], k: &[u8]) -> i32
 /// Xors the bytes at `mc` with keystream.
 #[unsafe(no_mangle)]
 pub extern "C" fn aegis128l_stream_xor_in_place(mc: &mut [u8], npub: &[u8], k: &[u8]) -> i32
-    ensures answer { result ≡ stream_answer 16 (length npub.now) (length k.now) }
-    ensures xored { result ≡ DONE → mc.new ≡ xor mc.old (stream Aegis128 1 k.now npub.now (length mc.old)) }
-    ensures kept { result ≢ DONE → mc.new ≡ mc.old }
+    ensures { Streams 16 npub.now k.now mc.old mc.new (xor_stream Aegis128 1 k.now npub.now mc.old) result }
 {
     stream!(Aegis128L, stream_xor_in_place, mc, npub, k)
 }

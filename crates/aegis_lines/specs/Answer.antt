@@ -1,8 +1,7 @@
 -- The answer of a line.
-use Rattle.std.specs.Prelude.{◌≡◌, ℕ, ◌⊎◌, List, ◌++◌, bit_xor, codes, length, MatchResult}
-use Rattle.std.specs.Simd.Lanes.{zip2}
+use Rattle.std.specs.Prelude.{◌≡◌, ℕ, ◌⊎◌, List, ◌++◌, codes, MatchResult}
 use Rattle.aegis_aes.specs.Round.{round}
-use Rattle.aegis_base.specs.Message.{Opens, seal, stream}
+use Rattle.aegis_base.specs.Message.{Opens, seal, stream, xor_stream}
 use Rattle.aegis_lines.specs.Fault.{text_of_fault}
 use Rattle.aegis_lines.specs.Field.{shown}
 use Rattle.aegis_lines.specs.Request.{Request, Round, Seal, Open, Stream, Xor, request_of}
@@ -25,7 +24,7 @@ IsReply (Round b k) text = text ≡ shown (round b k)
 IsReply (Seal v n key nonce ad m) text = text ≡ shown_pair (seal (family_of v) (lanes_of v) n key nonce ad m)
 IsReply (Open v n key nonce ad c t) text = IsOpeningAnswer (Opens (family_of v) (lanes_of v) n key nonce ad c t) text
 IsReply (Stream v key nonce n) text = text ≡ shown (stream (family_of v) (lanes_of v) key nonce n)
-IsReply (Xor v key nonce m) text = text ≡ shown (zip2 bit_xor m (stream (family_of v) (lanes_of v) key nonce (length m)))
+IsReply (Xor v key nonce m) text = text ≡ shown (xor_stream (family_of v) (lanes_of v) key nonce m)
 
 -- this text is the answer of this line: the answer to what it asks for, or its first fault
 abbrev pub IsAnswer : List ℕ → List ℕ → Type 0

@@ -1,6 +1,6 @@
 -- What the program's values stand for.
 use Rattle.std.specs.Prelude.{ℕ, ◌&&◌, ◌==◌, List, Result, Ok, Err, length, if◌then◌else◌}
-use Rattle.aegis_base.specs.Message.{seal, stream}
+use Rattle.aegis_base.specs.Message.{seal, stream, xor_stream}
 use Rattle.aegis_lines.specs.declared.fault.Fault.{Fault}
 use Rattle.aegis_lines.specs.declared.fault.Fault.TheVariants as faults
 use Rattle.aegis_lines.specs.declared.variant.Variant.{Variant}
@@ -58,6 +58,10 @@ sealed_by cipher n ad m = seal (family_of (variant_of cipher)) (lanes_of (varian
 -- the first n bytes of a cipher's keystream
 abbrev pub stream_of : Cipher → ℕ → List ℕ
 stream_of cipher n = stream (family_of (variant_of cipher)) (lanes_of (variant_of cipher)) (key_of cipher) (nonce_of cipher) n
+
+-- a message, xored with a cipher's keystream
+abbrev pub xored_by : Cipher → List ℕ → List ℕ
+xored_by cipher m = xor_stream (family_of (variant_of cipher)) (lanes_of (variant_of cipher)) (key_of cipher) (nonce_of cipher) m
 
 -- the bytes of a tag
 abbrev pub tag_bytes_of : Tag → List ℕ

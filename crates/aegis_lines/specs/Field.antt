@@ -1,6 +1,6 @@
 -- The fields of a line, and what a field stands for.
 use denote.Ref.{Bor}
-use Rattle.std.specs.Prelude.{ℕ, ◌==◌, ◌&&◌, ◌^◌, nat_le, nat_lt, Bool, List, [], length, map, Result, Ok, Err, codes, if◌then◌else◌, slice_index_or}
+use Rattle.std.specs.Prelude.{ℕ, ◌==◌, ◌&&◌, nat_le, leb, Bool, List, [], length, map, Result, Ok, Err, codes, if◌then◌else◌, slice_index_or}
 use Rattle.std.specs.Char.{is_ascii_digit}
 use Rattle.std.specs.List.{list_all, slice_split}
 use Rattle.std.specs.Result.{result_unwrap_or}
@@ -8,6 +8,7 @@ use Rattle.std.specs.Str.{bytes_eq}
 use Rattle.std.specs.Str.Parse.{digits_value}
 use Rattle.hex.specs.Hex.{decode_of, encode_lower}
 use Rattle.hex.specs.declared.error.FromHexError.{FromHexError}
+use Rattle.aegis_base.specs.declared.error.TheConstants.{MAX_AEAD_BYTES}
 use Rattle.aegis_lines.specs.declared.fault.Fault.{Fault}
 use Rattle.aegis_lines.specs.declared.fault.Fault.TheVariants as faults
 use Rattle.aegis_lines.specs.declared.variant.Variant.{Variant}
@@ -63,9 +64,9 @@ tag_length_in field = result_unwrap_or (tag_length_named field) 0
 abbrev pub count_in : List ℕ → ℕ
 count_in field = result_unwrap_or (stream_length_in field) 0
 
--- whether associated data or a message is no longer than AEGIS allows: 2^61 - 1 bytes
+-- whether associated data or a message is no longer than AEGIS allows
 abbrev pub is_within_limit : List ℕ → Bool
-is_within_limit bytes = nat_lt (length bytes) (2 ^ 61)
+is_within_limit bytes = leb (length bytes) MAX_AEAD_BYTES
 
 -- bytes that are no longer than AEGIS allows, or a length fault
 abbrev pub limited : List ℕ → Result (List ℕ) Fault

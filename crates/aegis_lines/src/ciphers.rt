@@ -1,14 +1,13 @@
 //! The six ciphers, with their keys.
 
-ghost use Rattle.std.specs.Prelude.{◌≡◌, ◌⊎◌, ◌<◌, ◌^◌, ℕ, List, bit_xor, length, IsOk, OnOk};
-ghost use Rattle.std.specs.Simd.Lanes.{zip2};
-ghost use Rattle.aegis_lines.specs.Command.{cipher_with, keys_of_length, parts_of, sealed_by, stream_of, tag_bytes_of, tag_size_of, tag_with};
+ghost use Rattle.std.specs.Prelude.{◌≡◌, ◌⊎◌, ◌≤◌, ℕ, List, length, IsOk, OnOk};
+ghost use Rattle.aegis_lines.specs.Command.{cipher_with, keys_of_length, parts_of, sealed_by, stream_of, tag_bytes_of, tag_size_of, tag_with, xored_by};
 ghost use Rattle.aegis_lines.specs.Fault.{Gives};
 ghost use Rattle.aegis_lines.specs.Variant.{tag_length_of};
 
 use crate::fault::{Fault, Refusal};
 use crate::variant::{TagLength, Variant};
-use aegis::Error;
+use aegis::{Error, MAX_AEAD_BYTES};
 use aegis::aegis128l::Aegis128L;
 use aegis::aegis128x2::Aegis128X2;
 use aegis::aegis128x4::Aegis128X4;
@@ -74,8 +73,7 @@ impl Tag {
     }
 }
 
-// Makes the call on the cipher of the crate `aegis` that has a variant's keys, with tags of so many
-// bytes.
+// Makes the call on the cipher of the crate `aegis` that has a variant's keys, with tags of so many bytes.
 macro_rules! with_cipher {
     ($of:expr, $tag_bytes:tt, $cipher:ident => $call:expr) => {
         match $of {
@@ -129,9 +127,9 @@ impl Cipher {
         buffer: &mut [u8],
     ) -> [u8; TAG_BYTES]
         requires tag { (TAG_BYTES ≡ 16) ⊎ (TAG_BYTES ≡ 32) }
-        requires associated_data { length associated_data.now < 2 ^ 61 }
-        requires message { length buffer.old < 2 ^ 61 }
-        ensures { sealed_by self.now TAG_BYTES associated_data.now buffer.old ≡ (buffer.new, result) }
+        requires associated_data { length associated_data.now ≤ MAX_AEAD_BYTES }
+        requires message { length buffer.old ≤ MAX_AEAD_BYTES }
+        ensures { (buffer.new, result) ≡ sealed_by self.now TAG_BYTES associated_data.now buffer.old }
     {
         with_cipher!(self, TAG_BYTES, cipher => cipher.encrypt_in_place(buffer, associated_data))
     }
@@ -145,8 +143,8 @@ impl Cipher {
         tag: &[u8; TAG_BYTES],
     ) -> Result<(), Error>
         requires tag { (TAG_BYTES ≡ 16) ⊎ (TAG_BYTES ≡ 32) }
-        requires associated_data { length associated_data.now < 2 ^ 61 }
-        requires message { length buffer.old < 2 ^ 61 }
+        requires associated_data { length associated_data.now ≤ MAX_AEAD_BYTES }
+        requires message { length buffer.old ≤ MAX_AEAD_BYTES }
         ensures opened { OnOk result (sealed_by self.now TAG_BYTES associated_data.now buffer.new ≡ (buffer.old, tag.now)) }
         ensures accepted { (m : List ℕ) → sealed_by self.now TAG_BYTES associated_data.now m ≡ (buffer.old, tag.now) → IsOk result }
     {
@@ -162,7 +160,7 @@ impl Cipher {
 
     /// Xors a buffer with the keystream.
     pub fn stream_xor(&self, buffer: &mut [u8])
-        ensures { buffer.new ≡ zip2 bit_xor buffer.old (stream_of self.now (length buffer.old)) }
+        ensures { buffer.new ≡ xored_by self.now buffer.old }
     {
         with_cipher!(self, 16, cipher => cipher.stream_xor_in_place(buffer))
     }

@@ -1,6 +1,7 @@
 //! Bytes that AEGIS takes.
 
-ghost use Rattle.std.specs.Prelude.{◌<◌, ◌^◌, vec_len};
+ghost use Rattle.std.specs.Prelude.{◌≤◌, vec_len};
+ghost use Rattle.aegis_base.specs.declared.error.TheConstants.{MAX_AEAD_BYTES};
 ghost use Rattle.aegis_lines.specs.Fault.{Gives};
 ghost use Rattle.aegis_lines.specs.Field.{limited};
 
@@ -12,7 +13,7 @@ use std::alloc::Allocator;
 #[derive(Drop)]
 pub struct Limited<A: Allocator> {
     pub bytes: Vec<u8, A>,
-    ghost within_limit: { vec_len bytes < 2 ^ 61 },
+    ghost within_limit: { vec_len bytes ≤ MAX_AEAD_BYTES },
 }
 
 impl<A: Allocator> Limited<A> {

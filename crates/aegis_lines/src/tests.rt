@@ -1,5 +1,4 @@
 use crate::answer::answer_line;
-use aegis::Error;
 use std::test::*;
 
 // The first fault of a line, looked for in all of its fields before the next one.
@@ -233,37 +232,4 @@ fn streams(rt: HostRuntime) -> Result<(), Fail> {
         assert_eq!(rt; answer.as_slice(), expected.as_bytes(), "at {line}");
     }
     Ok(())
-}
-
-// Each allocation is refused in turn by `rt try --test --fail-alloc N`: the answer is then the same, or want of memory.
-#[test]
-fn refused_memory(rt: HostRuntime) {
-    for (line, expected) in [
-        (
-            "round 000102030405060708090a0b0c0d0e0f 101112131415161718191a1b1c1d1e1f",
-            "7a7b4e5638782546a8c0477a3b813f43",
-        ),
-        (
-            "seal aegis128x4 32 59454c4c4f57205355424d4152494e45 00000000000000000000000000000000 61 6162",
-            "d09c 12cf164f735d7d350a8b277c9e1e9ed3371c83badebc109e9e70a0879d92f2ff",
-        ),
-        (
-            "open aegis128l 16 59454c4c4f57205355424d4152494e45 00000000000000000000000000000000 436f6d6d656e74206e756d65726f20756e 84b741a6283f2d48f7892fcbb8 9cedcb05fc9534da8316654abe7a3bf0",
-            "ok 41454749532069732066617374",
-        ),
-        (
-            "stream aegis128x2 59454c4c4f57205355424d4152494e45 00000000000000000000000000000000 00033",
-            "683750cad89e86e12669ddbadeadf5020cc1efbe220b9461b863c1bda44f07d18f",
-        ),
-        (
-            "xor aegis256 59454c4c4f57205355424d4152494e4579656c6c6f77207375626d6172696e65 0000000000000000000000000000000000000000000000000000000000000000 41454749532069732066617374",
-            "6e7a593f534e55aa905dd810df",
-        ),
-        ("seal aegis512 24 x x x x", "error variant"),
-    ] {
-        match answer_line(rt.alloc(), line.as_bytes()) {
-            Ok(answer) => assert_eq!(rt; answer.as_slice(), expected.as_bytes(), "at {line}"),
-            Err(error) => assert_eq!(rt; error, Error::OutOfMemory, "at {line}"),
-        }
-    }
 }

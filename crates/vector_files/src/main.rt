@@ -13,7 +13,7 @@ struct VectorFile {
     status: u8,
 }
 
-const FILES: [VectorFile; 7] = [
+const FILES: [VectorFile; 8] = [
     VectorFile {
         name: "published",
         lines: "published.in",
@@ -49,6 +49,12 @@ const FILES: [VectorFile; 7] = [
         lines: "xor.in",
         answers: "xor.out",
         status: 0,
+    },
+    VectorFile {
+        name: "examples",
+        lines: "examples.in",
+        answers: "examples.out",
+        status: 1,
     },
     VectorFile {
         name: "faults",

@@ -7,6 +7,10 @@ use std::test::Fail;
 
 const ANSWER: &str = "error command\n";
 
+const ROUND: &str = "round 00000000000000000000000000000000 00000000000000000000000000000000";
+
+const ROUND_ANSWER: &str = "63636363636363636363636363636363\n";
+
 /// Gives its bytes, and then an error in place of the end.
 #[derive(Drop)]
 struct CutOff<'a> {
@@ -82,18 +86,50 @@ fn answers_each_line(rt: HostRuntime) -> Result<(), Fail> {
     Ok(())
 }
 
+// One carriage return before a line's end is taken off, and nothing else.
+#[test]
+fn takes_line_ends_off(rt: HostRuntime) -> Result<(), Fail> {
+    let cases = [
+        ("", "", ROUND_ANSWER, 0),
+        ("", "\n", ROUND_ANSWER, 0),
+        ("", "\r", ROUND_ANSWER, 0),
+        ("", "\r\n", ROUND_ANSWER, 0),
+        ("", "\r\r\n", "error hex\n", 1),
+        ("", " \n", "error fields\n", 1),
+        (" ", "\n", ANSWER, 1),
+        ("\r", "\n", ANSWER, 1),
+    ];
+    for (before, after, wanted, wanted_status) in cases {
+        let input = format!(in rt.alloc(); "{before}{ROUND}{after}")?;
+        let mut output = Vec::new(rt.alloc());
+        let status = run(rt.alloc(), &mut input.as_bytes(), &mut output);
+        assert_eq!(rt; output.as_slice(), wanted.as_bytes(), "at {input:?}");
+        assert_eq!(rt; status, wanted_status, "at {input:?}");
+    }
+    Ok(())
+}
+
+#[test]
+fn answers_a_byte_that_is_no_text(rt: HostRuntime) {
+    let mut output = Vec::new(rt.alloc());
+    let status = run(rt.alloc(), &mut &b"\xff\n"[..], &mut output);
+    assert_eq!(rt; output.as_slice(), ANSWER.as_bytes());
+    assert_eq!(rt; status, 1);
+}
+
 #[test]
 fn answers_a_thousand_lines(rt: HostRuntime) -> Result<(), Fail> {
     let mut input = String::new(rt.alloc());
-    for i in 0..1000u32 {
-        let line = format!(in rt.alloc(); "line {i}\n")?;
-        input.push_str(line.as_str())?;
+    let mut wanted = String::new(rt.alloc());
+    for _ in 0..1000u32 {
+        input.push_str(ROUND)?;
+        input.push_str("\n")?;
+        wanted.push_str(ROUND_ANSWER)?;
     }
     let mut output = Vec::new(rt.alloc());
     let status = run(rt.alloc(), &mut input.as_bytes(), &mut output);
-    assert!(rt; status <= 1);
-    let feeds = output.iter().filter(|byte| **byte == b'\n').count();
-    assert_eq!(rt; feeds, 1000);
+    assert_eq!(rt; status, 0);
+    assert_eq!(rt; output.as_slice(), wanted.as_bytes());
     Ok(())
 }
 

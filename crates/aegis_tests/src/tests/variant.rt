@@ -1,8 +1,8 @@
 //! The calls of the six variants, under a key and a nonce for each family.
 
-ghost use Rattle.std.specs.Prelude.{◌≡◌, ◌⊎◌, ◌<◌, ◌≤◌, ◌^◌, length};
+ghost use Rattle.std.specs.Prelude.{◌≡◌, ◌⊎◌, ◌≤◌, length};
 
-use aegis::Error;
+use aegis::{Error, MAX_AEAD_BYTES};
 use aegis::aegis128l::Aegis128L;
 use aegis::aegis128x2::Aegis128X2;
 use aegis::aegis128x4::Aegis128X4;
@@ -92,8 +92,8 @@ impl Variant {
         ad: &[u8],
     ) -> [u8; TAG_BYTES]
         requires tag { (TAG_BYTES ≡ 16) ⊎ (TAG_BYTES ≡ 32) }
-        requires message { length mc.old < 2 ^ 61 }
-        requires ad { length ad.now < 2 ^ 61 }
+        requires message { length mc.old ≤ MAX_AEAD_BYTES }
+        requires ad { length ad.now ≤ MAX_AEAD_BYTES }
     {
         with_cipher!(self, TAG_BYTES, cipher => cipher.encrypt_in_place(mc, ad))
     }
@@ -105,8 +105,8 @@ impl Variant {
         ad: &[u8],
     ) -> Result<(), Error>
         requires tag { (TAG_BYTES ≡ 16) ⊎ (TAG_BYTES ≡ 32) }
-        requires message { length mc.old < 2 ^ 61 }
-        requires ad { length ad.now < 2 ^ 61 }
+        requires message { length mc.old ≤ MAX_AEAD_BYTES }
+        requires ad { length ad.now ≤ MAX_AEAD_BYTES }
     {
         with_cipher!(self, TAG_BYTES, cipher => cipher.decrypt_in_place(mc, tag, ad))
     }
@@ -118,8 +118,8 @@ impl Variant {
         ad: &[u8],
     ) -> Result<(Vec<u8, A>, [u8; TAG_BYTES]), Error>
         requires tag { (TAG_BYTES ≡ 16) ⊎ (TAG_BYTES ≡ 32) }
-        requires message { length m.now < 2 ^ 61 }
-        requires ad { length ad.now < 2 ^ 61 }
+        requires message { length m.now ≤ MAX_AEAD_BYTES }
+        requires ad { length ad.now ≤ MAX_AEAD_BYTES }
     {
         with_cipher!(self, TAG_BYTES, cipher => cipher.encrypt(alloc, m, ad))
     }
@@ -132,8 +132,8 @@ impl Variant {
         ad: &[u8],
     ) -> Result<Vec<u8, A>, Error>
         requires tag { (TAG_BYTES ≡ 16) ⊎ (TAG_BYTES ≡ 32) }
-        requires message { length c.now < 2 ^ 61 }
-        requires ad { length ad.now < 2 ^ 61 }
+        requires message { length c.now ≤ MAX_AEAD_BYTES }
+        requires ad { length ad.now ≤ MAX_AEAD_BYTES }
     {
         with_cipher!(self, TAG_BYTES, cipher => cipher.decrypt(alloc, c, tag, ad))
     }
