@@ -5,6 +5,8 @@
 #![tactic(auto)]
 
 mod cipher;
+mod decryptor;
+mod destination;
 mod encryptor;
 mod message;
 mod pass;
@@ -12,4 +14,5 @@ mod run;
 mod tag;
 
 pub use cipher::{Cipher, ERASED};
+pub use decryptor::Decryptor;
 pub use encryptor::Encryptor;
