@@ -2,6 +2,8 @@
 //! crate has no proof file. `docs/CALLING.md` shows them.
 #![tactic(auto)]
 
+pub mod opening;
+
 ghost use Rattle.std.specs.Prelude.{◌≡◌, ◌≤◌, IfOk, IsOk, List, OnErr, OnOk, length, replicate, ℕ};
 ghost use Rattle.aegis_aes.specs.Block.{xor};
 ghost use Rattle.aegis_base.specs.Family.{Aegis128, Aegis256};

@@ -1,10 +1,11 @@
 //! Decryptors: opening a message that comes in chunks.
 
-ghost use Rattle.std.specs.Prelude.{◌≡◌, ℕ, ◌+◌, ◌^◌, ◌<◌, ◌≤◌, ◌⊎◌, ◌↔◌, ◌++◌, ◌||◌, IfErr, IsOk, IsTrue, List, OnErr, OnOk, Some, [], codes, drop, length, nat_eq, replicate, take, true, false};
+ghost use Rattle.std.specs.Prelude.{◌≡◌, ℕ, ◌+◌, ◌^◌, ◌<◌, ◌≤◌, ◌⊎◌, ◌↔◌, ◌++◌, ◌||◌, IfErr, IsOk, IsTrue, List, MatchResult, OnErr, OnOk, Some, [], codes, drop, length, nat_eq, replicate, take, true, false};
+ghost use Rattle.std.specs.Borrow.{Array, LendsIfOk, sem, u8};
 ghost use Rattle.aegis_base.specs.Message.{Opens, ciphertext, tag as tag_of};
 ghost use Rattle.aegis_base.specs.Run.{Stands, held};
 
-use crate::destination::{Settled, counted, erase, erase_unless};
+use crate::destination::{Settled, counted, erase, erase_unless, handed};
 use crate::message::{finish, open_more};
 use crate::pass::{Block, ZEROS};
 use crate::tag::same_bytes;
@@ -192,7 +193,7 @@ impl<'a, S: LaneState, V: Variant, const TAG_BYTES: usize> Decryptor<'a, S, V, T
         ensures written { OnOk result (self.new.written ≡ self.old.written + length chunk.now) }
         ensures room { length self.new.dst.now ≡ length self.old.dst.now }
         ensures front { take self.old.written self.new.dst.now ≡ take self.old.written self.old.dst.now }
-        ensures rest { drop self.new.written self.new.dst.now ≡ drop self.new.written self.old.dst.now }
+        ensures rest { (n : ℕ) → self.new.written ≤ n → drop n self.new.dst.now ≡ drop n self.old.dst.now }
         ensures unchanged { OnErr result ((self.new.dst.now ≡ self.old.dst.now) × (self.new.written ≡ self.old.written) × (self.new.state ≡ self.old.state) × (self.new.block ≡ self.old.block)) }
         ensures data_bytes { self.new.data_bytes ≡ self.old.data_bytes }
     {
@@ -230,6 +231,22 @@ impl<'a, S: LaneState, V: Variant, const TAG_BYTES: usize> Decryptor<'a, S, V, T
             written: written.get() as usize,
             accepted,
         }
+    }
+
+    /// Hands out the message, the written front of the destination, where the tag is right. Otherwise it is
+    /// [`Error::InvalidTag`], and zeros are left in the message's place. The bytes after it stay as they were.
+    pub fn finalize(self, tag: &[u8; TAG_BYTES]) -> Result<&'a mut [u8], Error>
+        ensures* writes_back { sem 𝓛 (LendsIfOk (Array u8 0) (Array u8 0) self.entry.dst result (λ w. w ++ drop self.entry.written self.entry.dst.now) (replicate self.entry.written 0 ++ drop self.entry.written self.entry.dst.now)) }
+        ensures cases { MatchResult result (λ message. message.now ≡ take self.entry.written self.entry.dst.now) (λ e. e ≡ Error.InvalidTag) }
+        ensures tag { (key nonce ad : List ℕ)
+            → Stands S.FAMILY S.LANES S.lane S.updates (held self.entry.state self.entry.block self.entry.data_bytes self.entry.written) key nonce ad (take self.entry.written self.entry.dst.now)
+            → IsOk result ↔ (tag.now ≡ tag_of S.FAMILY S.LANES TAG_BYTES key nonce ad (take self.entry.written self.entry.dst.now)) }
+        ensures accepted { (key nonce ad m : List ℕ)
+            → Stands S.FAMILY S.LANES S.lane S.updates (held self.entry.state self.entry.block self.entry.data_bytes self.entry.written) key nonce ad (take self.entry.written self.entry.dst.now)
+            → Opens S.FAMILY S.LANES TAG_BYTES key nonce ad (ciphertext S.FAMILY S.LANES key nonce ad (take self.entry.written self.entry.dst.now)) tag.now m
+            → IsOk result }
+    {
+        handed(self.settle(tag))
     }
 
     /// Ends the borrow where the tag is right: the message stays in the destination, and the answer is its length.
