@@ -3,6 +3,7 @@
 #![tactic(auto)]
 
 pub mod chunks;
+pub mod opening;
 
 ghost use Rattle.std.specs.Prelude.{◌≡◌, ◌≤◌, IfOk, IsOk, List, OnErr, OnOk, length, replicate, ℕ};
 ghost use Rattle.aegis_base.specs.Family.{Aegis128, Aegis256};

@@ -1,2 +1,5 @@
 pub mod PassFacts
 pub mod TagFacts
+mod DestinationFacts
+mod Prefix
+mod Results

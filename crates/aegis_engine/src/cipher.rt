@@ -3,12 +3,13 @@
 //! [`Cipher`] is written once, over a state and a marker of names; the six variants are aliases of it. Its calls are runs
 //! of one piece over `message` and `run`; nothing here knows a family or a lane count.
 
-ghost use Rattle.std.specs.Prelude.{◌≡◌, ⊤, ◌≤◌, ◌⊎◌, ◌++◌, IfErr, IfOk, IsOk, List, OnErr, OnOk, Some, codes, length, replicate, ℕ, []};
+ghost use Rattle.std.specs.Prelude.{◌≡◌, ⊤, ◌≤◌, ◌⊎◌, ◌++◌, IfErr, IfOk, IsOk, List, OnErr, OnOk, Some, codes, length, replicate, take, ℕ, []};
 ghost use Rattle.aegis_base.specs.Chunks.{joined};
 ghost use Rattle.aegis_base.specs.Message.{Opens, ciphertext, seal, stream, tag, xor_stream};
-ghost use Rattle.aegis_base.specs.Run.{Stands};
+ghost use Rattle.aegis_base.specs.Run.{Stands, held};
 
 use crate::chunks::seal_all;
+use crate::decryptor::Decryptor;
 use crate::encryptor::Encryptor;
 use crate::message::{begin, finish, open_more, seal_more};
 use crate::pass::{Pass, ZEROS};
@@ -243,5 +244,18 @@ impl<S: LaneState<Key = K>, K: Copy, V: Variant, const TAG_BYTES: usize> Cipher<
         let mut block = ZEROS;
         let state = seal_all(state, &mut block, ad.len() as u64, chunks, out);
         finish(state, &block, ad.len() as u64, out.len() as u64)
+    }
+
+    /// Starts to open a message that comes in chunks, with the associated data `ad`, in `plaintext`, which has room for all of
+    /// it.
+    pub fn decryptor<'a>(&self, ad: &[u8], plaintext: &'a mut [u8]) -> Decryptor<'a, S, V, TAG_BYTES>
+        requires { length ad.now ≤ MAX_AEAD_BYTES }
+        ensures same_reference { result.dst.ghost_name ≡ plaintext.entry.ghost_name }
+        ensures unchanged { result.dst.now ≡ plaintext.old }
+        ensures written { result.written ≡ 0 }
+        ensures stands { Stands S.FAMILY S.LANES S.lane S.updates (held result.state result.block result.data_bytes result.written) (S.key_bytes self.now.key) (S.key_bytes self.now.nonce) ad.now (take result.written result.dst.now) }
+        ensures empty { ciphertext S.FAMILY S.LANES (S.key_bytes self.now.key) (S.key_bytes self.now.nonce) ad.now (take result.written result.dst.now) ≡ [] }
+    {
+        Decryptor::new(begin::<S>(&self.key, &self.nonce, ad), ad.len() as u64, plaintext)
     }
 }

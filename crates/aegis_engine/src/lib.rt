@@ -6,6 +6,8 @@
 
 mod chunks;
 mod cipher;
+mod decryptor;
+mod destination;
 mod encryptor;
 mod mac;
 mod message;
@@ -14,5 +16,6 @@ mod run;
 mod tag;
 
 pub use cipher::{Cipher, ERASED};
+pub use decryptor::Decryptor;
 pub use encryptor::Encryptor;
 pub use mac::Mac;
