@@ -9,6 +9,7 @@ mod decryptor;
 mod destination;
 mod encryptor;
 mod message;
+mod opening;
 mod pass;
 mod run;
 mod tag;
