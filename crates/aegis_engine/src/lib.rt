@@ -11,6 +11,7 @@ mod destination;
 mod encryptor;
 mod mac;
 mod message;
+mod opening;
 mod pass;
 mod run;
 mod tag;

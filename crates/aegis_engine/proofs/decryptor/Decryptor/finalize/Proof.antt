@@ -1,4 +1,6 @@
--- The front of the destination is handed out where the tag is right. Assumes `Logic`.
+-- The message is handed out where the tag is right, and what is left of the destination otherwise. By hand, since the
+-- result lends on what a struct holds: the walk makes the two calls, of `settle` and of `handed`, takes the facts of their
+-- contracts, and puts them together in three rewrites, without a look at the lanes. Assumes `Logic`.
 use mathlib.Core.Path.{◌≡◌, refl, sym, ap, subst, ◌∙◌}
 use mathlib.Core.Bool.{Bool, true, false}
 use Prim.Native.Nat.{ℕ, ◌≤◌, ◌<◌, ◌^◌}
@@ -39,6 +41,7 @@ use Rattle.std.specs.Borrow.{name_if_ok}
 use Rattle.std.specs.Prelude.{Result, MatchResult, IsOk, ◌↔◌}
 use lib.Dec.{T}
 use Rattle.std.proofs.mem.Facts.{says_three}
+use Rattle.aegis_engine.proofs.Results.{accepted_ok, ok_accepted, slice_laws, weaken}
 use Rattle.aegis_base.specs.Message.{Opens, ciphertext, tag}
 use Rattle.aegis_base.specs.Run.{Stands, held}
 use Rattle.std.specs.declared.result.Result.TheVariants.{Ok, Err}
@@ -61,24 +64,6 @@ use Rattle.aegis_engine.specs.contracts.destination.handed as h
 use Rattle.aegis_engine.proofs.destination.handed.Met.{met as handed_met}
 use Rattle.aegis_engine.proofs.decryptor.Decryptor.finalize.Statement.{statement}
 use Rattle.aegis_engine.proofs.decryptor.Decryptor.finalize.Code as code
-
--- the laws of a `&mut [u8]`, and of the error
-abbrev slice_laws : (κ : Lft) → Laws (MutSlice (named 0) κ u8)
-slice_laws κ = of_field (mut_slice_field (record { mir = named 0; lft = κ }) u8 tt) (mut_slice_laws (record { mir = named 0; lft = κ }) u8 tt) refl
-    (mut_slice_shared (record { mir = named 0; lft = κ }) u8 tt (row_shared u8 (of_field u8-field u8-laws refl (copy_shared u8-field u8-copy))))
-
-weaken : {A E : Type 0} (o : Result A E) {P P' : A → Type 0} {Q Q' : E → Type 0} → ((x : A) → P x → P' x) → ((e : E) → Q e → Q' e) → MatchResult o P Q → MatchResult o P' Q'
-weaken (Ok x) f g m = f x m
-weaken (Err e) f g m = g e m
-
--- what `handed` answers, by whether the message is accepted
-ok_accepted : {A E : Type 0} {t : Bool} (o : Result A E) → MatchResult o (λ _. t ≡ true) (λ _. t ≡ false) → IsOk o → t ≡ true
-ok_accepted (Ok x) m ok = m
-ok_accepted (Err e) m ok = absurd (subst T (sym ok) tt)
-
-accepted_ok : {A E : Type 0} {t : Bool} (o : Result A E) → MatchResult o (λ _. t ≡ true) (λ _. t ≡ false) → t ≡ true → IsOk o
-accepted_ok (Ok x) m is = refl
-accepted_ok (Err e) m is = absurd (subst T (sym is ∙ m) tt)
 
 pub finalize_spec : {M : Type 1} → statement M
 finalize_spec 𝓤 𝓛 𝓜 𝓡 wired S V n K Rw LS LV fits LK LR CS CK CR gS dS gC dC gKC dKC gR dR gRC dRC gV dV mS mC mKC mR mRC mV =
@@ -137,7 +122,7 @@ finalize_spec 𝓤 𝓛 𝓜 𝓡 wired S V n K Rw LS LV fits LK LR CS CK CR gS 
     rewrite ! 0 (λ (m : ℕ). ‵ (Ends d.dst.ghost_name m (drop_list r.written r.dst.now) o)) count refl $
     rewrite ! 0 (λ (l : List ℕ). ‵ (Ends d.dst.ghost_name d.written l o)) rest refl $
     move ! (2 ∷ []) $ peeks ! Out _ (shows 𝓛 Out) o (u ∷ []) (λ is'.
-    lands_as ! refl refl (((result_laws Lent ER.the_row (slice_laws κ) error_laws).lawful 𝓛).typed o _ is').0 $
+    lands_as ! refl refl (((result_laws Lent ER.the_row (slice_laws (named 0) κ) error_laws).lawful 𝓛).typed o _ is').0 $
     returns ! (look_at ! 0 refl) $ free_all ! refl $
     let by_cases : MatchResult o (λ _. r.accepted ≡ true) (λ _. r.accepted ≡ false) = weaken o (λ x p. p.0) (λ e p. p.0) cases in
     suffices ! _ (ends_at 𝓛 En hs c y u o ((tt, tt), (tt, tt)) (tt, (tt, tt))) $

@@ -1,6 +1,6 @@
 use Rattle.std.proofs.Common.{◌+◌, ◌-◌, ◌≤◌, length, arith}
 use Rattle.std.proofs.lemmas.Slice.{drop-put_mid}
-use Rattle.aegis_engine.proofs.decryptor.append.Goals as goal
+use Rattle.aegis_engine.proofs.opening.append.Goals as goal
 
 pub returns-clause-rest : goal.returns-clause-rest
 returns-clause-rest g c n low =
