@@ -1,3 +1,4 @@
 mod LinesFacts
 mod OutputFacts
+mod PieceFacts
 mod Reading

@@ -1,10 +1,11 @@
 -- The answer of a line.
 use Rattle.std.specs.Prelude.{◌≡◌, ℕ, ◌⊎◌, List, ◌++◌, codes, MatchResult}
 use Rattle.aegis_aes.specs.Round.{round}
+use Rattle.aegis_base.specs.Mac.{mac}
 use Rattle.aegis_base.specs.Message.{Opens, seal, stream, xor_stream}
 use Rattle.aegis_lines.specs.Fault.{text_of_fault}
 use Rattle.aegis_lines.specs.Field.{shown}
-use Rattle.aegis_lines.specs.Request.{Request, Round, Seal, Open, Stream, Xor, request_of}
+use Rattle.aegis_lines.specs.Request.{Request, Round, Seal, Open, Stream, Xor, Mac, request_of}
 use Rattle.aegis_lines.specs.Variant.{family_of, lanes_of}
 
 -- a ciphertext and a tag, as they are printed
@@ -25,6 +26,7 @@ IsReply (Seal v n key nonce ad m) text = text ≡ shown_pair (seal (family_of v)
 IsReply (Open v n key nonce ad c t) text = IsOpeningAnswer (Opens (family_of v) (lanes_of v) n key nonce ad c t) text
 IsReply (Stream v key nonce n) text = text ≡ shown (stream (family_of v) (lanes_of v) key nonce n)
 IsReply (Xor v key nonce m) text = text ≡ shown (xor_stream (family_of v) (lanes_of v) key nonce m)
+IsReply (Mac v n key nonce m) text = text ≡ shown (mac (family_of v) (lanes_of v) n key nonce m)
 
 -- this text is the answer of this line: the answer to what it asks for, or its first fault
 abbrev pub IsAnswer : List ℕ → List ℕ → Type 0

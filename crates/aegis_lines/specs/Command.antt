@@ -1,5 +1,6 @@
 -- What the program's values stand for.
 use Rattle.std.specs.Prelude.{ℕ, ◌&&◌, ◌==◌, List, Result, Ok, Err, length, if◌then◌else◌}
+use Rattle.aegis_base.specs.Mac.{mac}
 use Rattle.aegis_base.specs.Message.{seal, stream, xor_stream}
 use Rattle.aegis_lines.specs.declared.fault.Fault.{Fault}
 use Rattle.aegis_lines.specs.declared.fault.Fault.TheVariants as faults
@@ -11,7 +12,8 @@ use Rattle.aegis_lines.specs.declared.ciphers.Tag.{Tag}
 use Rattle.aegis_lines.specs.declared.ciphers.Tag.TheVariants as tags
 use Rattle.aegis_lines.specs.declared.command.Command.{Command}
 use Rattle.aegis_lines.specs.declared.command.Command.TheVariants as commands
-use Rattle.aegis_lines.specs.Request.{Request, Round, Seal, Open, Stream, Xor}
+use Rattle.aegis_lines.specs.Field.{together}
+use Rattle.aegis_lines.specs.Request.{Request, Round, Seal, Open, Stream, Xor, Mac}
 use Rattle.aegis_lines.specs.Variant.{family_of, key_length_of, lanes_of, tag_length_of}
 
 -- the variant of a cipher, its key and its nonce
@@ -63,6 +65,10 @@ stream_of cipher n = stream (family_of (variant_of cipher)) (lanes_of (variant_o
 abbrev pub xored_by : Cipher → List ℕ → List ℕ
 xored_by cipher m = xor_stream (family_of (variant_of cipher)) (lanes_of (variant_of cipher)) (key_of cipher) (nonce_of cipher) m
 
+-- the MAC of n bytes of a message, under a cipher's key and nonce
+abbrev pub mac_by : Cipher → ℕ → List ℕ → List ℕ
+mac_by cipher n m = mac (family_of (variant_of cipher)) (lanes_of (variant_of cipher)) n (key_of cipher) (nonce_of cipher) m
+
 -- the bytes of a tag
 abbrev pub tag_bytes_of : Tag → List ℕ
 tag_bytes_of (tags.Short bytes) = bytes
@@ -81,8 +87,10 @@ tag_with n bytes = if length bytes == n then Ok (n, bytes) else Err faults.Lengt
 abbrev pub request_from : {A : Type 0} → Command A → Request
 request_from (commands.Round block key) = Round block key
 request_from (commands.Seal cipher tag_length associated_data message) =
-    Seal (variant_of cipher) (tag_length_of tag_length) (key_of cipher) (nonce_of cipher) associated_data.bytes.items message.bytes.items
+    Seal (variant_of cipher) (tag_length_of tag_length) (key_of cipher) (nonce_of cipher) associated_data.bytes.items (together message.pieces.items)
 request_from (commands.Open cipher tag associated_data ciphertext) =
     Open (variant_of cipher) (tag_size_of tag) (key_of cipher) (nonce_of cipher) associated_data.bytes.items ciphertext.bytes.items (tag_bytes_of tag)
 request_from (commands.Stream cipher count) = Stream (variant_of cipher) (key_of cipher) (nonce_of cipher) count
 request_from (commands.Xor cipher message) = Xor (variant_of cipher) (key_of cipher) (nonce_of cipher) message.items
+request_from (commands.Mac cipher tag_length message) =
+    Mac (variant_of cipher) (tag_length_of tag_length) (key_of cipher) (nonce_of cipher) (together message.pieces.items)

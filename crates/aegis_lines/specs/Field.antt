@@ -1,11 +1,13 @@
 -- The fields of a line, and what a field stands for.
 use denote.Ref.{Bor}
-use Rattle.std.specs.Prelude.{ℕ, ◌==◌, ◌&&◌, nat_le, leb, Bool, List, [], length, map, Result, Ok, Err, codes, if◌then◌else◌, slice_index_or}
+use Rattle.std.specs.Prelude.{ℕ, ◌==◌, ◌&&◌, nat_le, leb, Bool, List, [], length, map, Result, Ok, Err, is_err, codes, if◌then◌else◌, slice_index_or}
 use Rattle.std.specs.Char.{is_ascii_digit}
-use Rattle.std.specs.List.{list_all, slice_split}
+use Rattle.std.specs.List.{concat, list_all, list_any, slice_split}
 use Rattle.std.specs.Result.{result_unwrap_or}
 use Rattle.std.specs.Str.{bytes_eq}
 use Rattle.std.specs.Str.Parse.{digits_value}
+use Rattle.std.specs.Vec.{vec_items}
+use Rattle.std.specs.declared.vec.Vec.{Vec}
 use Rattle.hex.specs.Hex.{decode_of, encode_lower}
 use Rattle.hex.specs.declared.error.FromHexError.{FromHexError}
 use Rattle.aegis_base.specs.declared.error.TheConstants.{MAX_AEAD_BYTES}
@@ -15,10 +17,17 @@ use Rattle.aegis_lines.specs.declared.variant.Variant.{Variant}
 use Rattle.aegis_lines.specs.declared.variant.Variant.TheVariants as variants
 use Rattle.aegis_lines.specs.Variant.{tag_length_named, variant_named}
 
--- The fields of a line are the pieces between single spaces. Two spaces together, or one at an end, make an empty
--- field.
+-- The pieces of a text between single separators. Two separators together, or one at an end, make an empty piece.
+abbrev pub cut_at : ℕ → List ℕ → List (List ℕ)
+cut_at separator text = slice_split (λ byte. byte == separator) text
+
+-- the fields of a line, which stand between spaces
 abbrev pub fields_of : List ℕ → List (List ℕ)
-fields_of line = slice_split (λ byte. byte == 32) line
+fields_of line = cut_at 32 line
+
+-- the pieces of a field, which stand between commas
+abbrev pub pieces_of : List ℕ → List (List ℕ)
+pieces_of field = cut_at 44 field
 
 -- the bytes of some fields, without where they lie in memory
 abbrev pub texts : List (Bor (List ℕ)) → List (List ℕ)
@@ -51,9 +60,25 @@ stream_length_in field =
     if nat_le 1 (length field) && nat_le (length field) 5 && list_all is_ascii_digit field && nat_le (digits_value 10 field) 65536
     then Ok (digits_value 10 field) else Err faults.Length
 
--- what a field without a fault says: its bytes, a variant, the length of a tag, or a count
+-- the bytes that a field without a fault says
 abbrev pub bytes_of : List ℕ → List ℕ
 bytes_of field = result_unwrap_or (bytes_in field) []
+
+-- whether a piece has a fault
+abbrev pub is_faulty : List ℕ → Bool
+is_faulty piece = is_err (bytes_in piece)
+
+-- what pieces stand for together: the bytes of each, one after the other
+abbrev pub joined_from : List (List ℕ) → Result (List ℕ) Fault
+joined_from pieces = if list_any is_faulty pieces then Err faults.Hex else Ok (concat (map bytes_of pieces))
+
+-- what a field of pieces stands for
+unfoldable pub joined_in : List ℕ → Result (List ℕ) Fault
+joined_in field = joined_from (pieces_of field)
+
+-- what a field without a fault says: the bytes of its pieces, a variant, the length of a tag, or a count
+abbrev pub joined_of : List ℕ → List ℕ
+joined_of field = result_unwrap_or (joined_in field) []
 
 abbrev pub variant_in : List ℕ → Variant
 variant_in field = result_unwrap_or (variant_named field) variants.Aegis128L
@@ -67,6 +92,10 @@ count_in field = result_unwrap_or (stream_length_in field) 0
 -- whether associated data or a message is no longer than AEGIS allows
 abbrev pub is_within_limit : List ℕ → Bool
 is_within_limit bytes = leb (length bytes) MAX_AEAD_BYTES
+
+-- the bytes of vectors, one after the other
+abbrev pub together : {A : Type 0} → List (Vec ℕ A) → List ℕ
+together pieces = concat (map vec_items pieces)
 
 -- bytes that are no longer than AEGIS allows, or a length fault
 abbrev pub limited : List ℕ → Result (List ℕ) Fault

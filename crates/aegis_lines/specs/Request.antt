@@ -3,7 +3,7 @@ use Rattle.std.specs.Prelude.{ℕ, List, Option, Some, None, Result, Ok, Err}
 use Rattle.aegis_lines.specs.declared.fault.Fault.{Fault}
 use Rattle.aegis_lines.specs.declared.fault.Fault.TheVariants as faults
 use Rattle.aegis_lines.specs.declared.variant.Variant.{Variant}
-use Rattle.aegis_lines.specs.Field.{bytes_of, count_in, field_of, fields_of, tag_length_in, variant_in}
+use Rattle.aegis_lines.specs.Field.{bytes_of, count_in, field_of, fields_of, joined_of, tag_length_in, variant_in}
 use Rattle.aegis_lines.specs.Table.{Name, fault_in, name_of}
 use Rattle.aegis_lines.specs.Table as names
 
@@ -14,13 +14,14 @@ pub data Request : Type 0 where
   Open : (variant : Variant) (tag_length : ℕ) (key nonce associated_data ciphertext tag : List ℕ) → Request
   Stream : (variant : Variant) (key nonce : List ℕ) (count : ℕ) → Request
   Xor : (variant : Variant) (key nonce message : List ℕ) → Request
+  Mac : (variant : Variant) (tag_length : ℕ) (key nonce message : List ℕ) → Request
 
 -- what a line without a fault asks for, field by field
 abbrev pub request_in : Name → List (List ℕ) → Request
 request_in names.Round fields = Round (bytes_of (field_of fields 1)) (bytes_of (field_of fields 2))
 request_in names.Seal fields =
     Seal (variant_in (field_of fields 1)) (tag_length_in (field_of fields 2)) (bytes_of (field_of fields 3))
-    (bytes_of (field_of fields 4)) (bytes_of (field_of fields 5)) (bytes_of (field_of fields 6))
+    (bytes_of (field_of fields 4)) (bytes_of (field_of fields 5)) (joined_of (field_of fields 6))
 request_in names.Open fields =
     Open (variant_in (field_of fields 1)) (tag_length_in (field_of fields 2)) (bytes_of (field_of fields 3))
     (bytes_of (field_of fields 4)) (bytes_of (field_of fields 5)) (bytes_of (field_of fields 6)) (bytes_of (field_of fields 7))
@@ -30,6 +31,9 @@ request_in names.Stream fields =
 request_in names.Xor fields =
     Xor (variant_in (field_of fields 1)) (bytes_of (field_of fields 2)) (bytes_of (field_of fields 3))
     (bytes_of (field_of fields 4))
+request_in names.Mac fields =
+    Mac (variant_in (field_of fields 1)) (tag_length_in (field_of fields 2)) (bytes_of (field_of fields 3))
+    (bytes_of (field_of fields 4)) (joined_of (field_of fields 5))
 
 -- a request, but for a fault
 abbrev pub unless_fault : Option Fault → Request → Result Request Fault

@@ -4,7 +4,7 @@ use Rattle.std.specs.Str.{bytes_eq}
 use Rattle.aegis_lines.specs.declared.fault.Fault.{Fault}
 use Rattle.aegis_lines.specs.declared.fault.Fault.TheVariants as faults
 use Rattle.aegis_lines.specs.declared.variant.Variant.{Variant}
-use Rattle.aegis_lines.specs.Field.{bytes_in, bytes_of, field_of, is_within_limit, stream_length_in, tag_length_in, variant_in}
+use Rattle.aegis_lines.specs.Field.{bytes_in, bytes_of, field_of, is_within_limit, joined_in, joined_of, stream_length_in, tag_length_in, variant_in}
 use Rattle.aegis_lines.specs.Variant.{key_length_of, tag_length_named, variant_named}
 
 -- the commands
@@ -14,6 +14,7 @@ pub data Name : Type 0 where
   Open : Name
   Stream : Name
   Xor : Name
+  Mac : Name
 
 -- the command of a name
 abbrev pub name_of : List ℕ → Option Name
@@ -23,28 +24,31 @@ name_of field =
     else if bytes_eq field (codes "open") then Some Open
     else if bytes_eq field (codes "stream") then Some Stream
     else if bytes_eq field (codes "xor") then Some Xor
+    else if bytes_eq field (codes "mac") then Some Mac
     else None
 
 -- What a field says: the name of a variant, the length of a tag, the count of a stream's bytes, or bytes. Those are a
--- block, a key or a nonce of the line's variant, associated data or a message that AEGIS takes, a tag of the line's
--- length, or any bytes.
+-- block, a key or a nonce of the line's variant, bytes that AEGIS takes, in pieces or as one, a tag of the line's length,
+-- or any bytes.
 pub data Kind : Type 0 where
   VariantName : Kind
   TagLength : Kind
   Count : Kind
   Block : Kind
   Key : Kind
-  Message : Kind
+  Limited : Kind
+  Pieces : Kind
   Tag : Kind
   Bytes : Kind
 
 -- the fields after each command
 abbrev pub kinds_of : Name → List Kind
 kinds_of Round = Block ∷ Block ∷ []
-kinds_of Seal = VariantName ∷ TagLength ∷ Key ∷ Key ∷ Message ∷ Message ∷ []
-kinds_of Open = VariantName ∷ TagLength ∷ Key ∷ Key ∷ Message ∷ Message ∷ Tag ∷ []
+kinds_of Seal = VariantName ∷ TagLength ∷ Key ∷ Key ∷ Limited ∷ Pieces ∷ []
+kinds_of Open = VariantName ∷ TagLength ∷ Key ∷ Key ∷ Limited ∷ Limited ∷ Tag ∷ []
 kinds_of Stream = VariantName ∷ Key ∷ Key ∷ Count ∷ []
 kinds_of Xor = VariantName ∷ Key ∷ Key ∷ Bytes ∷ []
+kinds_of Mac = VariantName ∷ TagLength ∷ Key ∷ Key ∷ Pieces ∷ []
 
 -- whether a field names no variant
 abbrev pub has_variant_fault : Kind → List ℕ → Bool
@@ -56,11 +60,12 @@ abbrev pub has_tag_fault : Kind → List ℕ → Bool
 has_tag_fault TagLength field = is_err (tag_length_named field)
 has_tag_fault kind field = false
 
--- whether a field of bytes is neither `-` nor pairs of hexadecimal digits
+-- whether a field of bytes, or a piece, is neither `-` nor pairs of hexadecimal digits
 abbrev pub has_hex_fault : Kind → List ℕ → Bool
 has_hex_fault VariantName field = false
 has_hex_fault TagLength field = false
 has_hex_fault Count field = false
+has_hex_fault Pieces field = is_err (joined_in field)
 has_hex_fault kind field = is_err (bytes_in field)
 
 -- Whether a field has a length that is not allowed. `variant` and `n` are the variant and the length of a tag that the
@@ -69,7 +74,8 @@ abbrev pub has_length_fault : Variant → ℕ → Kind → List ℕ → Bool
 has_length_fault variant n Count field = is_err (stream_length_in field)
 has_length_fault variant n Block field = not (length (bytes_of field) == 16)
 has_length_fault variant n Key field = not (length (bytes_of field) == key_length_of variant)
-has_length_fault variant n Message field = not (is_within_limit (bytes_of field))
+has_length_fault variant n Limited field = not (is_within_limit (bytes_of field))
+has_length_fault variant n Pieces field = not (is_within_limit (joined_of field))
 has_length_fault variant n Tag field = not (length (bytes_of field) == n)
 has_length_fault variant n kind field = false
 

@@ -1,7 +1,7 @@
 -- The variants' names and sizes.
 use Rattle.std.specs.Prelude.{ℕ, List, Result, Ok, Err, codes, if◌then◌else◌}
 use Rattle.std.specs.Str.{bytes_eq}
-use Rattle.aegis_base.specs.Family.{Family, Aegis128, Aegis256}
+use Rattle.aegis_base.specs.Family.{Family, Aegis128, Aegis256, key_length}
 use Rattle.aegis_lines.specs.declared.fault.Fault.{Fault}
 use Rattle.aegis_lines.specs.declared.fault.Fault.TheVariants as faults
 use Rattle.aegis_lines.specs.declared.variant.Variant.{Variant}
@@ -27,14 +27,9 @@ lanes_of variants.Aegis256 = 1
 lanes_of variants.Aegis256X2 = 2
 lanes_of variants.Aegis256X4 = 4
 
--- how many bytes a key of a family has, and a nonce
-abbrev pub family_key_length : Family → ℕ
-family_key_length Aegis128 = 16
-family_key_length Aegis256 = 32
-
 -- how many bytes a variant's key has, and its nonce
 abbrev pub key_length_of : Variant → ℕ
-key_length_of variant = family_key_length (family_of variant)
+key_length_of variant = key_length (family_of variant)
 
 -- the variant of a name
 abbrev pub variant_named : List ℕ → Result Variant Fault

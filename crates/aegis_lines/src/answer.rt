@@ -3,8 +3,8 @@
 ghost use Rattle.std.specs.Prelude.{◌≡◌, IfErr, IfOk};
 ghost use Rattle.aegis_base.specs.declared.error.Error.TheVariants.{OutOfMemory};
 ghost use Rattle.aegis_lines.specs.Answer.{IsAnswer, IsOpeningAnswer, IsReply, shown_pair};
-ghost use Rattle.aegis_lines.specs.Command.{request_from, sealed_by, tag_bytes_of, tag_size_of};
-ghost use Rattle.aegis_lines.specs.Field.{shown};
+ghost use Rattle.aegis_lines.specs.Command.{mac_by, request_from, sealed_by, tag_bytes_of, tag_size_of};
+ghost use Rattle.aegis_lines.specs.Field.{shown, together};
 ghost use Rattle.aegis_lines.specs.Variant.{tag_length_of};
 
 use crate::ciphers::{Cipher, Tag};
@@ -13,6 +13,7 @@ use crate::fault::Refusal;
 use crate::fields::push_bytes;
 use crate::limited::Limited;
 use crate::parse::parse;
+use crate::pieces::Pieces;
 use crate::variant::TagLength;
 use aegis::Error;
 use std::alloc::{AllocError, Allocator};
@@ -62,6 +63,11 @@ fn reply<A: Allocator + Copy>(alloc: A, command: Command<A>) -> Result<Vec<u8, A
             cipher.stream_xor(&mut buffer);
             shown(alloc, &buffer)
         }
+        Command::Mac {
+            cipher,
+            tag_length,
+            message,
+        } => mac(alloc, cipher, tag_length, message),
     }
 }
 
@@ -95,19 +101,20 @@ fn seal<A: Allocator + Copy>(
     cipher: Cipher,
     tag_length: TagLength,
     associated_data: Limited<A>,
-    message: Limited<A>,
+    message: Pieces<A>,
 ) -> Result<Vec<u8, A>, AllocError>
-    ensures { IfOk result (λ text. text.items ≡ shown_pair (sealed_by cipher (tag_length_of tag_length) associated_data.bytes.items message.bytes.items)) }
+    ensures { IfOk result (λ text. text.items ≡ shown_pair (sealed_by cipher (tag_length_of tag_length) associated_data.bytes.items (together message.pieces.items))) }
 {
-    let mut buffer = message.bytes;
+    let chunks = message.chunks(alloc)?;
+    let mut ciphertext = vec![in alloc; 0u8; message.len]?;
     match tag_length {
         TagLength::Short => {
-            let tag = cipher.seal::<16>(&associated_data.bytes, &mut buffer);
-            shown_pair(alloc, &buffer, &tag)
+            let tag = cipher.seal::<16>(&associated_data.bytes, &chunks, &mut ciphertext);
+            shown_pair(alloc, &ciphertext, &tag)
         }
         TagLength::Long => {
-            let tag = cipher.seal::<32>(&associated_data.bytes, &mut buffer);
-            shown_pair(alloc, &buffer, &tag)
+            let tag = cipher.seal::<32>(&associated_data.bytes, &chunks, &mut ciphertext);
+            shown_pair(alloc, &ciphertext, &tag)
         }
     }
 }
@@ -133,4 +140,20 @@ fn open<A: Allocator + Copy>(
     let mut text = Vec::from_slice(alloc, b"ok ")?;
     push_bytes(alloc, &mut text, &buffer)?;
     Ok(text)
+}
+
+// The answer to the MAC of a message.
+fn mac<A: Allocator + Copy>(
+    alloc: A,
+    cipher: Cipher,
+    tag_length: TagLength,
+    message: Pieces<A>,
+) -> Result<Vec<u8, A>, AllocError>
+    ensures { IfOk result (λ text. text.items ≡ shown (mac_by cipher (tag_length_of tag_length) (together message.pieces.items))) }
+{
+    let chunks = message.chunks(alloc)?;
+    match tag_length {
+        TagLength::Short => shown(alloc, &cipher.mac::<16>(&chunks)),
+        TagLength::Long => shown(alloc, &cipher.mac::<32>(&chunks)),
+    }
 }

@@ -1,19 +1,20 @@
 //! The six ciphers, with their keys.
 
 ghost use Rattle.std.specs.Prelude.{◌≡◌, ◌⊎◌, ◌≤◌, ℕ, List, length, IsOk, OnOk};
-ghost use Rattle.aegis_lines.specs.Command.{cipher_with, keys_of_length, parts_of, sealed_by, stream_of, tag_bytes_of, tag_size_of, tag_with, xored_by};
+ghost use Rattle.aegis_base.specs.Chunks.{joined};
+ghost use Rattle.aegis_lines.specs.Command.{cipher_with, keys_of_length, mac_by, parts_of, sealed_by, stream_of, tag_bytes_of, tag_size_of, tag_with, xored_by};
 ghost use Rattle.aegis_lines.specs.Fault.{Gives};
 ghost use Rattle.aegis_lines.specs.Variant.{tag_length_of};
 
 use crate::fault::{Fault, Refusal};
 use crate::variant::{TagLength, Variant};
+use aegis::aegis128l::{Aegis128L, Aegis128LMac};
+use aegis::aegis128x2::{Aegis128X2, Aegis128X2Mac};
+use aegis::aegis128x4::{Aegis128X4, Aegis128X4Mac};
+use aegis::aegis256::{Aegis256, Aegis256Mac};
+use aegis::aegis256x2::{Aegis256X2, Aegis256X2Mac};
+use aegis::aegis256x4::{Aegis256X4, Aegis256X4Mac};
 use aegis::{Error, MAX_AEAD_BYTES};
-use aegis::aegis128l::Aegis128L;
-use aegis::aegis128x2::Aegis128X2;
-use aegis::aegis128x4::Aegis128X4;
-use aegis::aegis256::Aegis256;
-use aegis::aegis256x2::Aegis256X2;
-use aegis::aegis256x4::Aegis256X4;
 
 /// A key and a nonce, of `N` bytes each.
 #[derive(Clone, Copy, Debug)]
@@ -73,35 +74,55 @@ impl Tag {
     }
 }
 
-// Makes the call on the cipher of the crate `aegis` that has a variant's keys, with tags of so many bytes.
-macro_rules! with_cipher {
-    ($of:expr, $tag_bytes:tt, $cipher:ident => $call:expr) => {
+// Makes the call on what a type of the crate `aegis` makes of a variant's keys. There is a type for each variant.
+macro_rules! with_type {
+    ($a:ident, $b:ident, $c:ident, $d:ident, $e:ident, $f:ident, $tag_bytes:tt, $make:ident, $of:expr, $made:ident => $call:expr) => {
         match $of {
             Cipher::Aegis128L(keys) => {
-                let $cipher = Aegis128L::<$tag_bytes>::new(&keys.key, &keys.nonce);
+                let $made = $a::<$tag_bytes>::$make(&keys.key, &keys.nonce);
                 $call
             }
             Cipher::Aegis128X2(keys) => {
-                let $cipher = Aegis128X2::<$tag_bytes>::new(&keys.key, &keys.nonce);
+                let $made = $b::<$tag_bytes>::$make(&keys.key, &keys.nonce);
                 $call
             }
             Cipher::Aegis128X4(keys) => {
-                let $cipher = Aegis128X4::<$tag_bytes>::new(&keys.key, &keys.nonce);
+                let $made = $c::<$tag_bytes>::$make(&keys.key, &keys.nonce);
                 $call
             }
             Cipher::Aegis256(keys) => {
-                let $cipher = Aegis256::<$tag_bytes>::new(&keys.key, &keys.nonce);
+                let $made = $d::<$tag_bytes>::$make(&keys.key, &keys.nonce);
                 $call
             }
             Cipher::Aegis256X2(keys) => {
-                let $cipher = Aegis256X2::<$tag_bytes>::new(&keys.key, &keys.nonce);
+                let $made = $e::<$tag_bytes>::$make(&keys.key, &keys.nonce);
                 $call
             }
             Cipher::Aegis256X4(keys) => {
-                let $cipher = Aegis256X4::<$tag_bytes>::new(&keys.key, &keys.nonce);
+                let $made = $f::<$tag_bytes>::$make(&keys.key, &keys.nonce);
                 $call
             }
         }
+    };
+}
+
+// Makes the call on the cipher that has a variant's keys, with tags of so many bytes.
+macro_rules! with_cipher {
+    ($of:expr, $tag_bytes:tt, $cipher:ident => $call:expr) => {
+        with_type!(
+            Aegis128L, Aegis128X2, Aegis128X4, Aegis256, Aegis256X2, Aegis256X4,
+            $tag_bytes, new, $of, $cipher => $call
+        )
+    };
+}
+
+// Makes the call on the MAC that has a variant's keys, of so many bytes.
+macro_rules! with_mac {
+    ($of:expr, $tag_bytes:tt, $mac:ident => $call:expr) => {
+        with_type!(
+            Aegis128LMac, Aegis128X2Mac, Aegis128X4Mac, Aegis256Mac, Aegis256X2Mac, Aegis256X4Mac,
+            $tag_bytes, new_with_nonce, $of, $mac => $call
+        )
     };
 }
 
@@ -120,18 +141,20 @@ impl Cipher {
         })
     }
 
-    /// Makes a message its ciphertext, in its place, and returns the tag.
+    /// Writes the ciphertext of a message that comes in chunks, and returns the tag.
     pub fn seal<const TAG_BYTES: usize>(
         &self,
         associated_data: &[u8],
-        buffer: &mut [u8],
+        chunks: &[&[u8]],
+        ciphertext: &mut [u8],
     ) -> [u8; TAG_BYTES]
         requires tag { (TAG_BYTES ≡ 16) ⊎ (TAG_BYTES ≡ 32) }
         requires associated_data { length associated_data.now ≤ MAX_AEAD_BYTES }
-        requires message { length buffer.old ≤ MAX_AEAD_BYTES }
-        ensures { (buffer.new, result) ≡ sealed_by self.now TAG_BYTES associated_data.now buffer.old }
+        requires message { length (joined chunks.now) ≤ MAX_AEAD_BYTES }
+        requires lengths { length ciphertext.old ≡ length (joined chunks.now) }
+        ensures { (ciphertext.new, result) ≡ sealed_by self.now TAG_BYTES associated_data.now (joined chunks.now) }
     {
-        with_cipher!(self, TAG_BYTES, cipher => cipher.encrypt_in_place(buffer, associated_data))
+        with_cipher!(self, TAG_BYTES, cipher => cipher.seal_chunks(associated_data, chunks, ciphertext))
     }
 
     /// Makes a ciphertext the message that seals to it and to the tag. The only error is an invalid
@@ -163,5 +186,14 @@ impl Cipher {
         ensures { buffer.new ≡ xored_by self.now buffer.old }
     {
         with_cipher!(self, 16, cipher => cipher.stream_xor_in_place(buffer))
+    }
+
+    /// The MAC of a message that comes in chunks.
+    pub fn mac<const TAG_BYTES: usize>(&self, chunks: &[&[u8]]) -> [u8; TAG_BYTES]
+        requires tag { (TAG_BYTES ≡ 16) ⊎ (TAG_BYTES ≡ 32) }
+        requires message { length (joined chunks.now) ≤ MAX_AEAD_BYTES }
+        ensures { result ≡ mac_by self.now TAG_BYTES (joined chunks.now) }
+    {
+        with_mac!(self, TAG_BYTES, mac => mac.finalize_chunks(chunks))
     }
 }

@@ -2,6 +2,7 @@
 
 use crate::ciphers::{Cipher, Tag};
 use crate::limited::Limited;
+use crate::pieces::Pieces;
 use crate::variant::TagLength;
 use aegis::aes::AesBlock;
 use std::alloc::Allocator;
@@ -18,7 +19,7 @@ pub enum Command<A: Allocator> {
         cipher: Cipher,
         tag_length: TagLength,
         associated_data: Limited<A>,
-        message: Limited<A>,
+        message: Pieces<A>,
     },
     Open {
         cipher: Cipher,
@@ -35,5 +36,11 @@ pub enum Command<A: Allocator> {
     Xor {
         cipher: Cipher,
         message: Vec<u8, A>,
+    },
+    /// The MAC of a message.
+    Mac {
+        cipher: Cipher,
+        tag_length: TagLength,
+        message: Pieces<A>,
     },
 }

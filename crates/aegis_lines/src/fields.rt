@@ -7,7 +7,7 @@ ghost use Rattle.std.specs.Str.Parse.{digits_value};
 ghost use Rattle.aegis_lines.specs.declared.fault.Fault.TheVariants.{Hex, Length};
 ghost use Rattle.aegis_lines.specs.declared.fault.Refusal.TheVariants.{OutOfMemory};
 ghost use Rattle.aegis_lines.specs.Fault.{Gives};
-ghost use Rattle.aegis_lines.specs.Field.{bytes_in, field_of, fields_of, shown, stream_length_in, texts};
+ghost use Rattle.aegis_lines.specs.Field.{bytes_in, cut_at, field_of, joined_from, joined_in, shown, stream_length_in, texts, together};
 
 use crate::fault::{Fault, Refusal};
 use hex::FromHexError;
@@ -16,11 +16,15 @@ use std::alloc::{AllocError, Allocator};
 /// The longest stream that a line can ask for.
 const MAX_STREAM: usize = 65536;
 
-/// Cuts a line at each single space.
-pub fn split<A: Allocator>(alloc: A, line: &[u8]) -> Result<Vec<&[u8], A>, AllocError>
-    ensures { IfOk result (λ fields. texts fields.items ≡ fields_of line.now) }
+/// Cuts a text at each separator.
+pub fn split<A: Allocator>(
+    alloc: A,
+    text: &[u8],
+    separator: u8,
+) -> Result<Vec<&[u8], A>, AllocError>
+    ensures { IfOk result (λ pieces. texts pieces.items ≡ cut_at separator text.now) }
 {
-    line.split(|byte| *byte == b' ').collect(alloc)
+    text.split(|byte| *byte == separator).collect(alloc)
 }
 
 /// Field `index` of a line; the command is field 0.
@@ -49,6 +53,31 @@ pub fn bytes<A: Allocator>(alloc: A, field: &[u8]) -> Result<Vec<u8, A>, Refusal
         Err(FromHexError::OutOfMemory) => Err(Refusal::OutOfMemory),
         Err(_) => Err(Refusal::Fault(Fault::Hex)),
     }
+}
+
+/// The bytes that the pieces of a field stand for, between single commas. It is a hexadecimal fault where some piece is
+/// neither `-` nor pairs of digits.
+#[tactic(auto, unfolding(crate::specs::Field::joined_in))]
+pub fn pieces<A: Allocator + Copy>(alloc: A, field: &[u8]) -> Result<Vec<Vec<u8, A>, A>, Refusal>
+    ensures value { Gives (λ pieces. together pieces.items) result (joined_in field.now) }
+    ensures refused { IfErr result (λ refusal. (refusal ≡ OutOfMemory) ⊎ (refusal ≡ Refusal.Fault Hex)) }
+{
+    let texts = split(alloc, field, b',')?;
+    bytes_of_each(alloc, &texts)
+}
+
+fn bytes_of_each<A: Allocator + Copy>(
+    alloc: A,
+    pieces: &[&[u8]],
+) -> Result<Vec<Vec<u8, A>, A>, Refusal>
+    ensures value { Gives (λ read. together read.items) result (joined_from (texts pieces.now)) }
+    ensures refused { IfErr result (λ refusal. (refusal ≡ OutOfMemory) ⊎ (refusal ≡ Refusal.Fault Hex)) }
+{
+    let mut read = Vec::new(alloc);
+    for piece in pieces {
+        read.push(bytes(alloc, piece)?)?;
+    }
+    Ok(read)
 }
 
 /// Writes bytes at the end of a text, as a field of them reads: in lower case, and no bytes as `-`.

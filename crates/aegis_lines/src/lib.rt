@@ -10,6 +10,7 @@ mod fields;
 mod limited;
 mod output;
 mod parse;
+mod pieces;
 mod session;
 #[cfg(test)]
 mod tests;

@@ -13,6 +13,7 @@ use crate::command::Command;
 use crate::fault::{Fault, Refusal};
 use crate::fields;
 use crate::limited::Limited;
+use crate::pieces::Pieces;
 use crate::variant::{TagLength, Variant};
 use aegis::aes::AesBlock;
 use std::alloc::Allocator;
@@ -22,7 +23,7 @@ use std::alloc::Allocator;
 pub fn parse<A: Allocator + Copy>(alloc: A, line: &[u8]) -> Result<Command<A>, Refusal>
     ensures { Gives request_from result (request_of line.now) }
 {
-    let fields = fields::split(alloc, line)?;
+    let fields = fields::split(alloc, line, b' ')?;
     command(alloc, fields.as_slice())
 }
 
@@ -43,6 +44,8 @@ fn command<A: Allocator + Copy>(alloc: A, fields: &[&[u8]]) -> Result<Command<A>
         stream(alloc, fields)
     } else if *name == b"xor".as_slice() {
         xor(alloc, fields)
+    } else if *name == b"mac".as_slice() {
+        mac(alloc, fields)
     } else {
         Err(Refusal::Fault(Fault::Command))
     }
@@ -80,12 +83,12 @@ fn seal<A: Allocator + Copy>(alloc: A, fields: &[&[u8]]) -> Result<Command<A>, R
     let key = fields::bytes(alloc, fields::field(fields, 3))?;
     let nonce = fields::bytes(alloc, fields::field(fields, 4))?;
     let associated_data = fields::bytes(alloc, fields::field(fields, 5))?;
-    let message = fields::bytes(alloc, fields::field(fields, 6))?;
+    let message = fields::pieces(alloc, fields::field(fields, 6))?;
     Ok(Command::Seal {
         cipher: Cipher::new(variant, &key, &nonce)?,
         tag_length,
         associated_data: Limited::new(associated_data)?,
-        message: Limited::new(message)?,
+        message: Pieces::new(alloc, message)?,
     })
 }
 
@@ -145,5 +148,25 @@ fn xor<A: Allocator + Copy>(alloc: A, fields: &[&[u8]]) -> Result<Command<A>, Re
     Ok(Command::Xor {
         cipher: Cipher::new(variant, &key, &nonce)?,
         message,
+    })
+}
+
+// `mac V T K N M`
+#[tactic(auto, unfolding(crate::specs::Request::request_of_command))]
+fn mac<A: Allocator + Copy>(alloc: A, fields: &[&[u8]]) -> Result<Command<A>, Refusal>
+    ensures { Gives request_from result (request_of_command names.Mac (texts fields.now)) }
+{
+    if fields.len() != 6 {
+        return Err(Refusal::Fault(Fault::Fields));
+    }
+    let variant = Variant::from_name(fields::field(fields, 1))?;
+    let tag_length = TagLength::from_field(fields::field(fields, 2))?;
+    let key = fields::bytes(alloc, fields::field(fields, 3))?;
+    let nonce = fields::bytes(alloc, fields::field(fields, 4))?;
+    let message = fields::pieces(alloc, fields::field(fields, 5))?;
+    Ok(Command::Mac {
+        cipher: Cipher::new(variant, &key, &nonce)?,
+        tag_length,
+        message: Pieces::new(alloc, message)?,
     })
 }

@@ -1,20 +1,30 @@
+//! Lines and their answers.
+
 use crate::answer::answer_line;
-use std::test::*;
+use std::process::Abort;
+use std::test::Fail;
+
+// Each line has the answer beside it.
+fn answers<R: Abort + AllocGlobal>(rt: &R, cases: &[(&str, &str)]) -> Result<(), Fail> {
+    for (line, expected) in cases {
+        let answer = answer_line(rt.alloc(), line.as_bytes())
+            .ok()
+            .ok_or("there is memory for the answer")?;
+        assert_eq!(rt; answer.as_slice(), expected.as_bytes(), "at {line}");
+    }
+    Ok(())
+}
 
 // The first fault of a line, looked for in all of its fields before the next one.
 #[test]
 fn faults(rt: HostRuntime) -> Result<(), Fail> {
-    for (line, expected) in [
+    let cases = [
         ("", "error command"),
         (
             "Round 00000000000000000000000000000000 00000000000000000000000000000000",
             "error command",
         ),
         ("round00000000000000000000000000000000", "error command"),
-        (
-            "mac aegis128l 16 59454c4c4f57205355424d4152494e45 00000000000000000000000000000000 61",
-            "error command",
-        ),
         ("sealrec a b c d", "error command"),
         ("openrec a b c d", "error command"),
         ("round 00000000000000000000000000000000", "error fields"),
@@ -69,6 +79,14 @@ fn faults(rt: HostRuntime) -> Result<(), Fail> {
         ),
         ("round 00000000000000000000000000000000 -", "error length"),
         (
+            "seal aegis128l 16 59454c4c4f57205355424d4152494e 00000000000000000000000000000000 - -",
+            "error length",
+        ),
+        (
+            "mac aegis128l 16 59454c4c4f57205355424d4152494e45 00000000000000000000000000000000 ,",
+            "error hex",
+        ),
+        (
             "open aegis128l 32 59454c4c4f57205355424d4152494e45 00000000000000000000000000000000 - - 00000000000000000000000000000000",
             "error length",
         ),
@@ -89,19 +107,14 @@ fn faults(rt: HostRuntime) -> Result<(), Fail> {
             "error length",
         ),
         ("stream aegis128l - - 0", "error length"),
-    ] {
-        let answer = answer_line(rt.alloc(), line.as_bytes())
-            .ok()
-            .ok_or("there is memory for the answer")?;
-        assert_eq!(rt; answer.as_slice(), expected.as_bytes(), "at {line}");
-    }
-    Ok(())
+    ];
+    answers(&rt, &cases)
 }
 
 // Rounds of AES.
 #[test]
 fn rounds(rt: HostRuntime) -> Result<(), Fail> {
-    for (line, expected) in [
+    let cases = [
         (
             "round 000102030405060708090a0b0c0d0e0f 101112131415161718191a1b1c1d1e1f",
             "7a7b4e5638782546a8c0477a3b813f43",
@@ -110,19 +123,14 @@ fn rounds(rt: HostRuntime) -> Result<(), Fail> {
             "round 00102030405060708090A0B0C0D0E0F0 d6aa74fdd2af72fadaa678f1d6ab76fe",
             "89d810e8855ace682d1843d8cb128fe4",
         ),
-    ] {
-        let answer = answer_line(rt.alloc(), line.as_bytes())
-            .ok()
-            .ok_or("there is memory for the answer")?;
-        assert_eq!(rt; answer.as_slice(), expected.as_bytes(), "at {line}");
-    }
-    Ok(())
+    ];
+    answers(&rt, &cases)
 }
 
 // Ciphertext and tag.
 #[test]
 fn sealings(rt: HostRuntime) -> Result<(), Fail> {
-    for (line, expected) in [
+    let cases = [
         (
             "seal aegis128l 16 59454c4c4f57205355424d4152494e45 00000000000000000000000000000000 436f6d6d656e74206e756d65726f20756e 41454749532069732066617374",
             "84b741a6283f2d48f7892fcbb8 9cedcb05fc9534da8316654abe7a3bf0",
@@ -147,19 +155,14 @@ fn sealings(rt: HostRuntime) -> Result<(), Fail> {
             "seal aegis256x4 32 59454c4c4f57205355424d4152494e4579656c6c6f77207375626d6172696e65 0000000000000000000000000000000000000000000000000000000000000000 - -",
             "- 1f9d3afb31d832911a51fc20c0fd26803222704eff69ca11dac41556cba3986d",
         ),
-    ] {
-        let answer = answer_line(rt.alloc(), line.as_bytes())
-            .ok()
-            .ok_or("there is memory for the answer")?;
-        assert_eq!(rt; answer.as_slice(), expected.as_bytes(), "at {line}");
-    }
-    Ok(())
+    ];
+    answers(&rt, &cases)
 }
 
 // The message, or that the tag is not its own.
 #[test]
 fn openings(rt: HostRuntime) -> Result<(), Fail> {
-    for (line, expected) in [
+    let cases = [
         (
             "open aegis128l 16 59454c4c4f57205355424d4152494e45 00000000000000000000000000000000 436f6d6d656e74206e756d65726f20756e 84b741a6283f2d48f7892fcbb8 9cedcb05fc9534da8316654abe7a3bf0",
             "ok 41454749532069732066617374",
@@ -192,19 +195,14 @@ fn openings(rt: HostRuntime) -> Result<(), Fail> {
             "open aegis256x4 32 59454c4c4f57205355424d4152494e4579656c6c6f77207375626d6172696e65 0000000000000000000000000000000000000000000000000000000000000000 - - 1f9d3afb31d832911a51fc20c0fd26803222704eff69ca11dac41556cba39860",
             "invalid tag",
         ),
-    ] {
-        let answer = answer_line(rt.alloc(), line.as_bytes())
-            .ok()
-            .ok_or("there is memory for the answer")?;
-        assert_eq!(rt; answer.as_slice(), expected.as_bytes(), "at {line}");
-    }
-    Ok(())
+    ];
+    answers(&rt, &cases)
 }
 
 // Keystreams, and messages under them.
 #[test]
 fn streams(rt: HostRuntime) -> Result<(), Fail> {
-    for (line, expected) in [
+    let cases = [
         (
             "stream aegis128l 59454c4c4f57205355424d4152494e45 00000000000000000000000000000000 0",
             "-",
@@ -225,11 +223,22 @@ fn streams(rt: HostRuntime) -> Result<(), Fail> {
             "xor aegis128l 59454c4c4f57205355424d4152494e45 00000000000000000000000000000000 -",
             "-",
         ),
-    ] {
-        let answer = answer_line(rt.alloc(), line.as_bytes())
-            .ok()
-            .ok_or("there is memory for the answer")?;
-        assert_eq!(rt; answer.as_slice(), expected.as_bytes(), "at {line}");
-    }
-    Ok(())
+    ];
+    answers(&rt, &cases)
+}
+
+// The MAC of pieces is that of the whole.
+#[test]
+fn macs(rt: HostRuntime) -> Result<(), Fail> {
+    let cases = [
+        (
+            "mac aegis128l 16 59454c4c4f57205355424d4152494e45 00000000000000000000000000000000 61",
+            "7b1e31c93ef8a9b70d3a7aae2980d6a0",
+        ),
+        (
+            "mac aegis128l 16 59454c4c4f57205355424d4152494e45 00000000000000000000000000000000 -,61,-",
+            "7b1e31c93ef8a9b70d3a7aae2980d6a0",
+        ),
+    ];
+    answers(&rt, &cases)
 }

@@ -29,7 +29,9 @@ macro_rules! seal_with {
                 $cipher::<16>::new(&$key, &$nonce).encrypt_in_place($buffer, $ad),
                 [0; 16],
             ],
-            TagLength::Long => halves(&$cipher::<32>::new(&$key, &$nonce).encrypt_in_place($buffer, $ad)),
+            TagLength::Long => halves(
+                &$cipher::<32>::new(&$key, &$nonce).encrypt_in_place($buffer, $ad),
+            ),
         }
     };
 }

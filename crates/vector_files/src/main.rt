@@ -5,70 +5,24 @@
 use std::process::ExitCode;
 use std::{fs, io};
 
-/// A file of lines, the file of their answers, and the exit status that the program has for them.
-struct VectorFile {
-    name: &'static str,
-    lines: &'static str,
-    answers: &'static str,
-    status: u8,
-}
-
-const FILES: [VectorFile; 8] = [
-    VectorFile {
-        name: "published",
-        lines: "published.in",
-        answers: "published.out",
-        status: 0,
-    },
-    VectorFile {
-        name: "round",
-        lines: "round.in",
-        answers: "round.out",
-        status: 0,
-    },
-    VectorFile {
-        name: "seal",
-        lines: "seal.in",
-        answers: "seal.out",
-        status: 0,
-    },
-    VectorFile {
-        name: "open",
-        lines: "open.in",
-        answers: "open.out",
-        status: 0,
-    },
-    VectorFile {
-        name: "stream",
-        lines: "stream.in",
-        answers: "stream.out",
-        status: 0,
-    },
-    VectorFile {
-        name: "xor",
-        lines: "xor.in",
-        answers: "xor.out",
-        status: 0,
-    },
-    VectorFile {
-        name: "examples",
-        lines: "examples.in",
-        answers: "examples.out",
-        status: 1,
-    },
-    VectorFile {
-        name: "faults",
-        lines: "faults.in",
-        answers: "faults.out",
-        status: 1,
-    },
+/// The name of a file of lines, without its ending, and the exit status that the program has for them.
+const FILES: [(&str, u8); 10] = [
+    ("published", 0),
+    ("round", 0),
+    ("seal", 0),
+    ("seal-in-pieces", 0),
+    ("open", 0),
+    ("stream", 0),
+    ("xor", 0),
+    ("mac", 0),
+    ("examples", 1),
+    ("faults", 1),
 ];
 
 fn main(rt: HostRuntime) -> io::Result<ExitCode> {
     let mut all_agree = true;
-    for file in &FILES {
-        let name = file.name;
-        if agrees(&rt, file)? {
+    for (name, status) in FILES {
+        if agrees(&rt, name, status)? {
             println!(rt; "{name}: the answers agree")?;
         } else {
             println!(rt; "{name}: an answer differs")?;
@@ -78,11 +32,13 @@ fn main(rt: HostRuntime) -> io::Result<ExitCode> {
     Ok(ExitCode::from(if all_agree { 0 } else { 1 }))
 }
 
-// Whether the lines of a file have the answers that lie beside it.
-fn agrees(rt: &HostRuntime, file: &VectorFile) -> io::Result<bool> {
-    let lines = fs::read(rt, file.lines)?;
-    let expected = fs::read(rt, file.answers)?;
+// Whether the lines of a file have the answers that lie beside it, and this status.
+fn agrees(rt: &HostRuntime, name: &str, status: u8) -> io::Result<bool> {
+    let lines = format!(in rt.alloc(); "{name}.in")?;
+    let answers = format!(in rt.alloc(); "{name}.out")?;
+    let lines = fs::read(rt, lines.as_str())?;
+    let expected = fs::read(rt, answers.as_str())?;
     let mut output = Vec::new(rt.alloc());
-    let status = aegis_lines::run(rt.alloc(), &mut lines.as_slice(), &mut output);
-    Ok(status == file.status && output.as_slice() == expected.as_slice())
+    let answered = aegis_lines::run(rt.alloc(), &mut lines.as_slice(), &mut output);
+    Ok(answered == status && output.as_slice() == expected.as_slice())
 }

@@ -1,0 +1,6 @@
+use Rattle.aegis_lines.specs.Field.{texts, together}
+use Rattle.aegis_lines.proofs.PieceFacts.{AreRead}
+use Rattle.aegis_lines.proofs.fields.bytes_of_each.Given as goal
+
+abbrev pub invariant-loop-piece : goal.invariant-loop-piece
+invariant-loop-piece g l = AreRead (texts l.pieces) l.piece-index (together l.read.items)

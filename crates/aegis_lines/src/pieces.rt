@@ -1,0 +1,52 @@
+//! Bytes that come in pieces.
+
+ghost use Rattle.std.specs.Prelude.{◌≡◌, ◌≤◌, IfOk, length, vec_items};
+ghost use Rattle.aegis_base.specs.Chunks.{joined};
+ghost use Rattle.aegis_base.specs.declared.error.TheConstants.{MAX_AEAD_BYTES};
+ghost use Rattle.aegis_lines.specs.Fault.{Gives};
+ghost use Rattle.aegis_lines.specs.Field.{limited, together};
+
+use crate::fault::{Fault, Refusal};
+use aegis::{MAX_AEAD_BYTES, chunks_len};
+use std::alloc::{AllocError, Allocator};
+
+/// Bytes in pieces, which together are no more than AEGIS takes.
+#[derive(Drop)]
+pub struct Pieces<A: Allocator> {
+    pub pieces: Vec<Vec<u8, A>, A>,
+    pub len: usize,
+    ghost counted: { len ≡ length (together (vec_items pieces)) },
+    ghost within_limit: { len ≤ MAX_AEAD_BYTES },
+}
+
+impl<A: Allocator + Copy> Pieces<A> {
+    /// It is a length fault where there are more bytes together.
+    pub fn new(alloc: A, pieces: Vec<Vec<u8, A>, A>) -> Result<Pieces<A>, Refusal>
+        ensures { Gives (λ limited. together limited.pieces.items) result (limited (together pieces.items)) }
+    {
+        let Some(len) = chunks_len(&chunks(alloc, &pieces)?) else {
+            return Err(Refusal::Fault(Fault::Length));
+        };
+        Ok(Pieces {
+            pieces,
+            len: len as usize,
+        })
+    }
+
+    /// The pieces, as the chunks of a run.
+    pub fn chunks(&self, alloc: A) -> Result<Vec<&[u8], A>, AllocError>
+        ensures { IfOk result (λ chunks. joined chunks.items ≡ together self.now.pieces.items) }
+    {
+        chunks(alloc, &self.pieces)
+    }
+}
+
+fn chunks<A: Allocator + Copy>(alloc: A, pieces: &[Vec<u8, A>]) -> Result<Vec<&[u8], A>, AllocError>
+    ensures { IfOk result (λ chunks. joined chunks.items ≡ together pieces.now) }
+{
+    let mut chunks = Vec::new(alloc);
+    for piece in pieces {
+        chunks.push(piece.as_slice())?;
+    }
+    Ok(chunks)
+}
