@@ -34,7 +34,8 @@ fn turn<R: Runtime>(
     buffer: &mut [u8],
     plaintext: &mut [u8],
 ) -> io::Result<Times> {
-    let buffer = &mut buffer[..buffer.len().min(MESSAGE_BYTES)];
+    let bytes = buffer.len().min(MESSAGE_BYTES);
+    let buffer = &mut buffer[..bytes];
     let start = Instant::now(rt)?;
     let tag = variant.seal(size, buffer);
     let seal = start.elapsed(rt)?;
