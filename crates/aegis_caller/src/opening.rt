@@ -1,6 +1,7 @@
 //! Opening in chunks: into a destination that is borrowed for the whole message.
 
-ghost use Rattle.std.specs.Prelude.{◌≡◌, ℕ, ◌+◌, ◌<◌, ◌≤◌, ◌++◌, IfOk, IsOk, List, OnErr, OnOk, drop, length, replicate, take};
+ghost use Rattle.std.specs.Prelude.{◌≡◌, ℕ, ◌+◌, ◌<◌, ◌≤◌, ◌++◌, IfErr, IsOk, List, OnErr, OnOk, [], drop, length, replicate, take};
+ghost use Rattle.aegis_base.specs.Chunks.{accepted};
 ghost use Rattle.aegis_base.specs.Family.{Aegis128};
 ghost use Rattle.aegis_base.specs.Message.{Opens};
 
@@ -62,4 +63,40 @@ pub fn refuse_a_long_chunk(
     let cipher = Aegis128L::<16>::new(key, nonce);
     let mut decryptor = cipher.decryptor(&[], message);
     decryptor.update(chunk)
+}
+
+/// Opens a list of chunks and answers the message's length.
+pub fn open_in_one_call(
+    key: &[u8; 16],
+    nonce: &[u8; 16],
+    associated_data: &[u8],
+    chunks: &[&[u8]],
+    tag: &[u8; 16],
+    message: &mut [u8],
+) -> Result<usize, Error>
+    requires { length associated_data.now ≤ MAX_AEAD_BYTES }
+    ensures accepted { (m : List ℕ) → Opens Aegis128 1 16 key.now nonce.now associated_data.now (accepted (length message.old) chunks.now) tag.now m → result ≡ Ok (length m) }
+    ensures error { IfErr result (λ e. e ≡ Error.InvalidTag) }
+{
+    let opened = Aegis128L::<16>::new(key, nonce).open_chunks(associated_data, chunks, tag, message)?;
+    Ok(opened.len())
+}
+
+/// Opens a message that is one chunk, and answers the length of what is handed out.
+pub fn open_one_chunk(
+    key: &[u8; 16],
+    nonce: &[u8; 16],
+    chunk: &[u8],
+    tag: &[u8; 16],
+    message: &mut [u8],
+) -> Result<usize, Error>
+    requires message_within { length chunk.now ≤ MAX_AEAD_BYTES }
+    requires room { length chunk.now ≤ length message.old }
+    ensures accepted { (m : List ℕ) → Opens Aegis128 1 16 key.now nonce.now [] chunk.now tag.now m → result ≡ Ok (length chunk.now) }
+    ensures error { IfErr result (λ e. e ≡ Error.InvalidTag) }
+{
+    let mut decryptor = Aegis128L::<16>::new(key, nonce).decryptor(&[], message);
+    decryptor.update(chunk)?;
+    let opened = decryptor.finalize(tag)?;
+    Ok(opened.len())
 }
