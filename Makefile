@@ -16,9 +16,11 @@ OUT = out
 CC = gcc
 RUSTC = rustc -O --edition 2024
 LINK_RUST = -L native=$(dir $(C_LIBRARY)) -l static=aegis_c
-# The processor level is that of the library's own code. Without `no-vectorize-slp` the compiler gathers look-ups
-# into vectors, which makes the four tables that the library is compared with a third slower at four lanes.
-BENCH_FLAGS = -C target-cpu=x86-64-v2 -C no-vectorize-slp
+# The processor level of the library and of what it is compared with: `make bench CPU=x86-64-v3` builds both for that
+# one. Without `no-vectorize-slp` the compiler gathers look-ups into vectors, which makes the four tables that the
+# library is compared with a third slower at four lanes.
+CPU = x86-64-v2
+BENCH_FLAGS = -C target-cpu=$(CPU) -C no-vectorize-slp
 
 # Measures the library beside look-up tables and AES instructions; writes bench/RESULTS.md and bench/results.svg.
 bench: $(OUT)/driver
@@ -43,7 +45,7 @@ example-rust: c-library | $(OUT)
 
 # Proves what changed, and builds the static library.
 c-library:
-	cd crates/aegis_c && rt lib
+	cd crates/aegis_c && rt lib --cpu=$(CPU)
 
 $(OUT)/driver: $(wildcard bench/*.rs) c-library | $(OUT)
 	$(RUSTC) $(BENCH_FLAGS) bench/driver.rs $(LINK_RUST) -o $@

@@ -10,4 +10,4 @@ pub mod aegis256x4;
 pub mod aes;
 
 pub use aegis_base::{Error, MAX_AEAD_BYTES, chunks_len, laws};
-pub use aegis_engine::{Cipher, ERASED, Encryptor, Mac};
+pub use aegis_engine::{Cipher, Decryptor, ERASED, Encryptor, Mac};

@@ -30,21 +30,23 @@ pub struct State128<R: Row> {
 impl<R: Row> State128<R> {
     ghost use Rattle.aegis_128.specs.Rows.{lane};
 
-    // The rows after one update by two rows of blocks, the private step of every lane, which alone counts.
+    // The rows after one update by two rows of blocks, the private step of every lane, which alone counts. The last row comes
+    // first, so that no round waits for the one just made.
+    #[inline(always)]
     fn update(self, m0: R, m1: R) -> Self
         requires { self.updates + 1 < 2 ^ 64 }
         ensures lanes { (j : ℕ) → j < R.LANES → lane R.block result j ≡ step Aegis128 (lane R.block self j) (R.block m0 j ∷ R.block m1 j ∷ []) }
         ensures updates { result.updates ≡ self.updates + 1 }
     {
         State128 {
-            s0: self.s7.round(self.s0).xor(m0),
-            s1: self.s0.round(self.s1),
-            s2: self.s1.round(self.s2),
-            s3: self.s2.round(self.s3),
-            s4: self.s3.round(self.s4).xor(m1),
-            s5: self.s4.round(self.s5),
-            s6: self.s5.round(self.s6),
             s7: self.s6.round(self.s7),
+            s6: self.s5.round(self.s6),
+            s5: self.s4.round(self.s5),
+            s4: self.s3.round(self.s4).xor(m1),
+            s3: self.s2.round(self.s3),
+            s2: self.s1.round(self.s2),
+            s1: self.s0.round(self.s1),
+            s0: self.s7.round(self.s0).xor(m0),
             updates: self.updates + 1,
         }
     }

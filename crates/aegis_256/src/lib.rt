@@ -43,7 +43,8 @@ pub struct State256<R: Row> {
 impl<R: Row> State256<R> {
     ghost use Rattle.aegis_256.specs.Rows.{lane};
 
-    // The rows after one update by a row of blocks, the private step of every lane, which alone counts.
+    // The rows after one update by a row of blocks, the private step of every lane, which alone counts. The last row comes
+    // first, so that no round waits for the one just made.
     #[inline(always)]
     fn update(self, m: R) -> Self
         requires { self.updates + 1 < 2 ^ 64 }
@@ -51,12 +52,12 @@ impl<R: Row> State256<R> {
         ensures updates { result.updates ≡ self.updates + 1 }
     {
         State256 {
-            s0: self.s5.round(self.s0).xor(m),
-            s1: self.s0.round(self.s1),
-            s2: self.s1.round(self.s2),
-            s3: self.s2.round(self.s3),
-            s4: self.s3.round(self.s4),
             s5: self.s4.round(self.s5),
+            s4: self.s3.round(self.s4),
+            s3: self.s2.round(self.s3),
+            s2: self.s1.round(self.s2),
+            s1: self.s0.round(self.s1),
+            s0: self.s5.round(self.s0).xor(m),
             updates: self.updates + 1,
         }
     }

@@ -1,4 +1,5 @@
-pub mod Columns
+pub mod Nibbles
+pub mod Mixing
 pub mod Places
+pub mod Powers
 pub mod RoundBytes
-pub mod Rounds

@@ -1,6 +1,8 @@
 -- Bytes and blocks at places of a list.
-use Rattle.std.proofs.Common.{◌≡◌, ℕ, zero, suc, ◌+◌, ◌-◌, ◌*◌, ◌<◌, ◌≤◌, List, length, get_or, take, drop, refl, sym, ◌∙◌, arith}
-use Rattle.std.proofs.lemmas.List.{places, same_lists, get_or_default}
+use Rattle.std.proofs.Common.{◌≡◌, ℕ, zero, suc, ◌+◌, ◌-◌, ◌%◌, ◌<◌, ◌≤◌, List, ◌++◌, length, get_or, take, drop, refl, sym, ap, ap₂, ◌∙◌, arith}
+use Rattle.std.proofs.lemmas.List.{places, same_lists, get_or_default, get_or_append_left, get_or-append_right}
+use Rattle.std.proofs.lemmas.Simd.{get_or-chunk, get_or-put_chunk_at, get_or-zip2, length-zip2}
+use Rattle.std.specs.Simd.Lanes.{chunk, put_chunk, zip2}
 use borrow.Rule.Slice.PartMut.{put_mid}
 use Rattle.aegis_aes.specs.Block.{block_at, bytes_at}
 
@@ -49,18 +51,6 @@ pub block_at-kept : (xs ys : List ℕ) (at from : ℕ) (b : List ℕ) → at + 1
 block_at-kept xs ys at from b room kept was =
     bytes_at-same ys xs at 16 (λ k _ lt. kept k (omega arith)) ∙ was
 
--- what the store of a row of one lane says of its block, at any spelling of the place
-pub block_at-stored : (xs : List ℕ) (at place : ℕ) (b : List ℕ) → place ≡ at → ((j : ℕ) → j < 1 → block_at xs (at + 16 * j) ≡ b) → block_at xs place ≡ b
-block_at-stored xs at place b same written =
-    let first : place ≡ at + 16 * 0 = omega arith in
-    rw first (written 0 (omega arith))
-
--- what holds of lanes 0 and 1 holds of each lane below 2
-pub both_lanes : (P : ℕ → Type 0) → P 0 → P 1 → (j : ℕ) → j < 2 → P j
-both_lanes P p0 p1 zero lt = p0
-both_lanes P p0 p1 (suc zero) lt = p1
-both_lanes P p0 p1 (suc (suc j)) lt = absurd (omega arith)
-
 -- what holds of lanes 0 to 3 holds of each lane below 4
 pub all_four_lanes : (P : ℕ → Type 0) → P 0 → P 1 → P 2 → P 3 → (j : ℕ) → j < 4 → P j
 all_four_lanes P p0 p1 p2 p3 zero lt = p0
@@ -68,3 +58,47 @@ all_four_lanes P p0 p1 p2 p3 (suc zero) lt = p1
 all_four_lanes P p0 p1 p2 p3 (suc (suc zero)) lt = p2
 all_four_lanes P p0 p1 p2 p3 (suc (suc (suc zero))) lt = p3
 all_four_lanes P p0 p1 p2 p3 (suc (suc (suc (suc j)))) lt = absurd (omega arith)
+
+pub blocks_of_repeated : (bytes out : List ℕ) (n : ℕ) → length bytes ≡ 16
+    → ((i : ℕ) → i < n → get_or out i 0 ≡ get_or bytes (i % 16) 0) → (p : ℕ) → p % 16 ≡ 0 → p + 16 ≤ n → block_at out p ≡ bytes
+blocks_of_repeated bytes out n long each p whole room =
+    bytes_at-is out p 16 bytes long (λ k lt. each (p + k) (omega arith) ∙ ap (λ (j : ℕ). get_or bytes j 0) (omega arith))
+
+-- ---- blocks side by side
+pub block_at-zip2 : (f : ℕ → ℕ → ℕ) (a b : List ℕ) (n p : ℕ) → length a ≡ n → length b ≡ n → p + 16 ≤ n
+    → block_at (zip2 f a b) p ≡ zip2 f (block_at a p) (block_at b p)
+block_at-zip2 f a b n p la lb room =
+    let x = block_at a p in
+    let y = block_at b p in
+    let lx = length-bytes_at a p 16 in
+    let ly = length-bytes_at b p 16 in
+    bytes_at-is (zip2 f a b) p 16 (zip2 f x y) (length-zip2 f x y (lx ∙ sym ly) ∙ lx) (λ k lt.
+    get_or-zip2 f a b (p + k) 0 0 0 (omega (arith, la)) (omega (arith, lb))
+    ∙ ap₂ f (sym (get_or-bytes_at a p 16 k 0 lt)) (sym (get_or-bytes_at b p 16 k 0 lt))
+    ∙ sym (get_or-zip2 f x y k 0 0 0 (omega (arith, lx)) (omega (arith, ly))))
+
+pub block_at-chunk : (xs : List ℕ) (at n p : ℕ) → p + 16 ≤ n → block_at (chunk at n xs) p ≡ block_at xs (at + p)
+block_at-chunk xs at n p room =
+    bytes_at-is (chunk at n xs) p 16 (block_at xs (at + p)) (length-bytes_at xs (at + p) 16) (λ k lt.
+    get_or-chunk at n xs (p + k) 0 (omega arith) ∙ ap (λ (j : ℕ). get_or xs j 0) (omega arith) ∙ sym (get_or-bytes_at xs (at + p) 16 k 0 lt))
+
+pub block_at-put_chunk : (xs ys : List ℕ) (at n p : ℕ) → length ys ≡ n → at + n ≤ length xs → p + 16 ≤ n
+    → block_at (put_chunk at xs ys) (at + p) ≡ block_at ys p
+block_at-put_chunk xs ys at n p long room inside =
+    bytes_at-is (put_chunk at xs ys) (at + p) 16 (block_at ys p) (length-bytes_at ys p 16) (λ k lt.
+    ap (λ (j : ℕ). get_or (put_chunk at xs ys) j 0) (omega arith)
+    ∙ get_or-put_chunk_at at xs ys (p + k) 0 (omega (arith, long)) (omega (arith, long)) ∙ sym (get_or-bytes_at ys p 16 k 0 lt))
+
+-- a block of two lists one after the other
+pub block_at-first : (a b : List ℕ) (p : ℕ) → p + 16 ≤ length a → block_at (a ++ b) p ≡ block_at a p
+block_at-first a b p room =
+    bytes_at-is (a ++ b) p 16 (block_at a p) (length-bytes_at a p 16) (λ k lt.
+    get_or_append_left a b 0 (p + k) (omega arith) ∙ sym (get_or-bytes_at a p 16 k 0 lt))
+
+pub block_at-second : (a b : List ℕ) (n p e : ℕ) → length a ≡ n → e ≡ n + p → block_at (a ++ b) e ≡ block_at b p
+block_at-second a b n p e long place =
+    bytes_at-is (a ++ b) e 16 (block_at b p) (length-bytes_at b p 16) (λ k lt.
+    get_or-append_right a b n (e + k) 0 long (omega arith) ∙ ap (λ (j : ℕ). get_or b j 0) (omega arith) ∙ sym (get_or-bytes_at b p 16 k 0 lt))
+
+pub block_at-all : (a : List ℕ) → length a ≡ 16 → block_at a 0 ≡ a
+block_at-all a long = bytes_at-is a 0 16 a long (λ k lt. ap (λ (j : ℕ). get_or a j 0) (omega arith))

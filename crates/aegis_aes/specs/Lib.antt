@@ -3,3 +3,4 @@ pub mod Block
 pub mod Blocks
 pub mod Round
 pub mod Lanes
+pub mod Permutes

@@ -4,7 +4,7 @@ ghost use Rattle.std.specs.Prelude.{◌≡◌, ℕ, ◌+◌, ◌*◌, ◌<◌, �
 ghost use Rattle.aegis_aes.specs.Block.{and, block_at, xor};
 ghost use Rattle.aegis_aes.specs.Round.{round};
 
-use crate::table::column;
+use crate::round::round_by_field;
 use std::marker::Model;
 use std::simd::prelude::*;
 
@@ -12,11 +12,13 @@ use std::simd::prelude::*;
 /// is row r of column c. The default is sixteen zeros.
 #[derive(Clone, Copy, Debug)]
 pub struct AesBlock {
-    bytes: u8x16,
+    pub(crate) bytes: u8x16,
 }
 
 impl Model for AesBlock {
     ghost Value = { List ℕ };
+
+    ghost invariant = { λ b. length b.bytes ≡ 16 };
 
     ghost view = { λ b. b.bytes };
 
@@ -75,22 +77,11 @@ impl AesBlock {
 
     /// One AES round: SubBytes, ShiftRows, MixColumns, and last the key's bytes added by xor (FIPS 197,
     /// sections 5.1.1 to 5.1.4). AEGIS calls it AESRound.
-    #[inline]
     pub fn round(&self, key: AesBlock) -> AesBlock
         ensures { result ≡ round self.now key }
     {
-        let b = self.to_bytes();
-        // By way of an array, since of a vector alone the proof does not know its length.
-        let key = u8x16::from_array(key.to_bytes());
-        // ShiftRows: row r of column c comes from column c + r.
-        let columns = u32x4::from_array([
-            column(b[0], b[5], b[10], b[15]),
-            column(b[4], b[9], b[14], b[3]),
-            column(b[8], b[13], b[2], b[7]),
-            column(b[12], b[1], b[6], b[11]),
-        ]);
         AesBlock {
-            bytes: columns.to_le_bytes() ^ key,
+            bytes: round_by_field(self.bytes, key.bytes),
         }
     }
 }

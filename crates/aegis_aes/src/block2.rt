@@ -1,29 +1,36 @@
 //! Two blocks of 16 bytes side by side, as parallel lanes of AEGIS have them.
 
-ghost use Rattle.std.proofs.Common.{inl, inr};
-ghost use Rattle.std.specs.Prelude.{◌≡◌, ℕ, ◌+◌, ◌*◌, ◌<◌, ◌≤◌, length, List, refl, replicate, slice_index};
+ghost use Rattle.std.proofs.Common.{ap, inl, inr};
+ghost use Rattle.std.specs.Prelude.{◌≡◌, ℕ, ◌+◌, ◌*◌, ◌<◌, ◌≤◌, ◌++◌, length, List, refl, replicate, slice_index};
 ghost use Rattle.aegis_aes.specs.Block.{and, block_at, xor};
-ghost use Rattle.aegis_aes.specs.Blocks.{block_of_two, each_of_two};
+ghost use Rattle.aegis_aes.specs.Blocks.{block_of_two, each_of_two, two_blocks};
 ghost use Rattle.aegis_aes.specs.Round.{round};
 
 use crate::block::AesBlock;
+use crate::permutes::repeated;
+use crate::round::{round_by_field, round_by_permutes};
 use crate::row::{Row, context_block};
+use crate::vectors::{and_each, load, store, xor_each};
 use std::marker::Model;
+use std::simd::prelude::*;
 
 /// Two blocks of 16 bytes, on which each operation works block by block. As a [`Row`] it has one block of each of two
-/// lanes.
+/// lanes. It is one vector of 32 bytes.
 #[derive(Clone, Copy, Debug)]
 pub struct AesBlock2 {
-    first: AesBlock,
-    second: AesBlock,
+    bytes: u8x32,
 }
 
 impl Model for AesBlock2 {
     ghost Value = { List ℕ × List ℕ };
 
-    ghost view = { λ b. (b.first, b.second) };
+    ghost invariant = { λ b. length b.bytes ≡ 32 };
 
-    ghost inverse = { λ b. record { first = b.0; second = b.1 } };
+    ghost view = { λ b. (block_at b.bytes 0, block_at b.bytes 16) };
+
+    ghost inverse = { λ b. record { bytes = b.0 ++ b.1 } };
+
+    ghost inverse_ok = { λ b long. ap (λ bytes. record { bytes = bytes }) (two_blocks b.bytes long) };
 }
 
 impl AesBlock2 {
@@ -32,8 +39,13 @@ impl AesBlock2 {
         ensures { result ≡ (b0, b1) }
     {
         AesBlock2 {
-            first: b0,
-            second: b1,
+            bytes: b0.bytes.shuffle(
+                b1.bytes,
+                [
+                    0, 1, 2, 3, 4, 5, 6, 7, 8, 9, 10, 11, 12, 13, 14, 15, 16, 17, 18, 19, 20, 21,
+                    22, 23, 24, 25, 26, 27, 28, 29, 30, 31,
+                ],
+            ),
         }
     }
 
@@ -42,7 +54,8 @@ impl AesBlock2 {
         ensures first { result.0 ≡ self.now.0 }
         ensures second { result.1 ≡ self.now.1 }
     {
-        (self.first, self.second)
+        let bytes = self.bytes.to_array();
+        (AesBlock::load(&bytes, 0), AesBlock::load(&bytes, 16))
     }
 
     /// The bitwise xor, block by block.
@@ -50,8 +63,7 @@ impl AesBlock2 {
         ensures { result ≡ each_of_two xor self.now other }
     {
         AesBlock2 {
-            first: self.first.xor(other.first),
-            second: self.second.xor(other.second),
+            bytes: xor_each(self.bytes, other.bytes),
         }
     }
 
@@ -60,8 +72,7 @@ impl AesBlock2 {
         ensures { result ≡ each_of_two and self.now other }
     {
         AesBlock2 {
-            first: self.first.and(other.first),
-            second: self.second.and(other.second),
+            bytes: and_each(self.bytes, other.bytes),
         }
     }
 
@@ -70,8 +81,7 @@ impl AesBlock2 {
         ensures { result ≡ each_of_two round self.now key }
     {
         AesBlock2 {
-            first: self.first.round(key.first),
-            second: self.second.round(key.second),
+            bytes: round_by_field(self.bytes, key.bytes),
         }
     }
 }
@@ -94,7 +104,9 @@ impl Row for AesBlock2 {
     ghost block = { block_of_two };
 
     fn splat(value: AesBlock) -> AesBlock2 {
-        AesBlock2::from_blocks(value, value)
+        AesBlock2 {
+            bytes: repeated(value.to_bytes()),
+        }
     }
 
     fn contexts() -> AesBlock2 {
@@ -102,12 +114,13 @@ impl Row for AesBlock2 {
     }
 
     fn load(bytes: &[u8], at: usize) -> AesBlock2 {
-        AesBlock2::from_blocks(AesBlock::load(bytes, at), AesBlock::load(bytes, at + 16))
+        AesBlock2 {
+            bytes: load(bytes, at),
+        }
     }
 
     fn store(self, out: &mut [u8], at: usize) {
-        self.first.store(out, at);
-        self.second.store(out, at + 16);
+        store(self.bytes, out, at);
     }
 
     fn xor(self, other: AesBlock2) -> AesBlock2 {
@@ -119,12 +132,15 @@ impl Row for AesBlock2 {
     }
 
     fn round(self, key: AesBlock2) -> AesBlock2 {
-        AesBlock2::round(&self, key)
+        AesBlock2 {
+            bytes: round_by_permutes(self.bytes, key.bytes),
+        }
     }
 
     #[tactic(auto, unfolding(crate::specs::Lanes::xor_lanes))]
     fn xor_of_lanes(self) -> AesBlock {
-        self.first.xor(self.second)
+        let (first, second) = self.as_blocks();
+        first.xor(second)
     }
 
     ghost one_two_or_four = { inr (inl refl) };

@@ -7,25 +7,24 @@ ghost use Rattle.aegis_aes.specs.Blocks.{block_of_four, each_of_four};
 ghost use Rattle.aegis_aes.specs.Round.{round};
 
 use crate::block::AesBlock;
+use crate::block2::AesBlock2;
 use crate::row::{Row, context_block};
 use std::marker::Model;
 
 /// Four blocks of 16 bytes, on which each operation works block by block. As a [`Row`] it has one block of each of four
-/// lanes.
+/// lanes. It is two vectors of 32 bytes: the working values of a round on 64 bytes would not fit the registers.
 #[derive(Clone, Copy, Debug)]
 pub struct AesBlock4 {
-    first: AesBlock,
-    second: AesBlock,
-    third: AesBlock,
-    fourth: AesBlock,
+    front: AesBlock2,
+    back: AesBlock2,
 }
 
 impl Model for AesBlock4 {
     ghost Value = { List ℕ × List ℕ × List ℕ × List ℕ };
 
-    ghost view = { λ b. (b.first, b.second, b.third, b.fourth) };
+    ghost view = { λ b. (b.front.0, b.front.1, b.back.0, b.back.1) };
 
-    ghost inverse = { λ b. record { first = b.0; second = b.1; third = b.2; fourth = b.3 } };
+    ghost inverse = { λ b. record { front = (b.0, b.1); back = (b.2, b.3) } };
 }
 
 impl AesBlock4 {
@@ -34,10 +33,8 @@ impl AesBlock4 {
         ensures { result ≡ (b0, b1, b2, b3) }
     {
         AesBlock4 {
-            first: b0,
-            second: b1,
-            third: b2,
-            fourth: b3,
+            front: AesBlock2::from_blocks(b0, b1),
+            back: AesBlock2::from_blocks(b2, b3),
         }
     }
 
@@ -48,7 +45,9 @@ impl AesBlock4 {
         ensures third { result.2 ≡ self.now.2 }
         ensures fourth { result.3 ≡ self.now.3 }
     {
-        (self.first, self.second, self.third, self.fourth)
+        let (b0, b1) = self.front.as_blocks();
+        let (b2, b3) = self.back.as_blocks();
+        (b0, b1, b2, b3)
     }
 
     /// The bitwise xor, block by block.
@@ -56,10 +55,8 @@ impl AesBlock4 {
         ensures { result ≡ each_of_four xor self.now other }
     {
         AesBlock4 {
-            first: self.first.xor(other.first),
-            second: self.second.xor(other.second),
-            third: self.third.xor(other.third),
-            fourth: self.fourth.xor(other.fourth),
+            front: self.front.xor(other.front),
+            back: self.back.xor(other.back),
         }
     }
 
@@ -68,10 +65,8 @@ impl AesBlock4 {
         ensures { result ≡ each_of_four and self.now other }
     {
         AesBlock4 {
-            first: self.first.and(other.first),
-            second: self.second.and(other.second),
-            third: self.third.and(other.third),
-            fourth: self.fourth.and(other.fourth),
+            front: self.front.and(other.front),
+            back: self.back.and(other.back),
         }
     }
 
@@ -80,10 +75,8 @@ impl AesBlock4 {
         ensures { result ≡ each_of_four round self.now key }
     {
         AesBlock4 {
-            first: self.first.round(key.first),
-            second: self.second.round(key.second),
-            third: self.third.round(key.third),
-            fourth: self.fourth.round(key.fourth),
+            front: self.front.round(key.front),
+            back: self.back.round(key.back),
         }
     }
 }
@@ -93,8 +86,10 @@ impl Default for AesBlock4 {
     ghost is_default = { λ b. b ≡ (replicate 16 0, replicate 16 0, replicate 16 0, replicate 16 0) };
 
     fn default() -> AesBlock4 {
-        let zero = AesBlock::from_bytes(&[0; 16]);
-        AesBlock4::from_blocks(zero, zero, zero, zero)
+        AesBlock4 {
+            front: AesBlock2::default(),
+            back: AesBlock2::default(),
+        }
     }
 }
 
@@ -119,19 +114,15 @@ impl Row for AesBlock4 {
     }
 
     fn load(bytes: &[u8], at: usize) -> AesBlock4 {
-        AesBlock4::from_blocks(
-            AesBlock::load(bytes, at),
-            AesBlock::load(bytes, at + 16),
-            AesBlock::load(bytes, at + 32),
-            AesBlock::load(bytes, at + 48),
-        )
+        AesBlock4 {
+            front: AesBlock2::load(bytes, at),
+            back: AesBlock2::load(bytes, at + 32),
+        }
     }
 
     fn store(self, out: &mut [u8], at: usize) {
-        self.first.store(out, at);
-        self.second.store(out, at + 16);
-        self.third.store(out, at + 32);
-        self.fourth.store(out, at + 48);
+        self.front.store(out, at);
+        self.back.store(out, at + 32);
     }
 
     fn xor(self, other: AesBlock4) -> AesBlock4 {
@@ -142,13 +133,20 @@ impl Row for AesBlock4 {
         AesBlock4::and(&self, other)
     }
 
+    // Out of line: the rows of four lanes do not fit the registers, and an update of them fills many more with its own
+    // values.
+    #[inline(never)]
     fn round(self, key: AesBlock4) -> AesBlock4 {
-        AesBlock4::round(&self, key)
+        AesBlock4 {
+            front: Row::round(self.front, key.front),
+            back: Row::round(self.back, key.back),
+        }
     }
 
     #[tactic(auto, unfolding(crate::specs::Lanes::xor_lanes))]
     fn xor_of_lanes(self) -> AesBlock {
-        self.first.xor(self.second).xor(self.third).xor(self.fourth)
+        let (b0, b1, b2, b3) = self.as_blocks();
+        b0.xor(b1).xor(b2).xor(b3)
     }
 
     ghost one_two_or_four = { inr (inr refl) };

@@ -7,6 +7,7 @@ ghost use Rattle.aegis_aes.specs.Round.{round};
 ghost use Rattle.aegis_aes.specs.Lanes.{IsLaneCount, context, xor_lanes};
 
 use crate::block::AesBlock;
+use crate::round::round_by_permutes;
 
 /// One block of each lane of AEGIS, where 1, 2 or 4 lanes run side by side. The lanes are numbered from 0, and
 /// contracts see the block of each by its number.
@@ -103,10 +104,10 @@ impl Row for AesBlock {
         AesBlock::and(&self, other)
     }
 
-    // Inlined into an update, the look-ups of several rounds are gathered into vectors, which is slower.
-    #[inline(never)]
     fn round(self, key: AesBlock) -> AesBlock {
-        AesBlock::round(&self, key)
+        AesBlock {
+            bytes: round_by_permutes(self.bytes, key.bytes),
+        }
     }
 
     #[tactic(auto, unfolding(crate::specs::Lanes::xor_lanes))]

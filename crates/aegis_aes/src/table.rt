@@ -1,7 +1,4 @@
-//! SubBytes and MixColumns of a column, by one table.
-
-ghost use Rattle.std.specs.Prelude.{◌≡◌, ℕ, ◌*◌, ◌/◌, ◌%◌, ◌^◌, ◌<◌};
-ghost use Rattle.aegis_aes.specs.Round.{mixed, substitute};
+//! The round by one table of 256 columns, which the tests compare with the library's two.
 
 // Entry a is the column 2s, s, s, 3s, row 0 in the lowest byte, where s is the substitute of a: what
 // MixColumns makes of a column that has s in row 0 and zeros below it.
@@ -42,14 +39,29 @@ pub(crate) static COLUMNS: [u32; 256] = [
 
 // A column after SubBytes and MixColumns (FIPS 197, sections 5.1.1 and 5.1.3), from the bytes of its
 // rows. Row 0 is the lowest byte.
-#[inline(always)]
-pub(crate) fn column(row0: u8, row1: u8, row2: u8, row3: u8) -> u32
-    ensures { (r : ℕ) → r < 4 →
-        result / 2 ^ (8 * r) % 256 ≡ mixed (substitute row0) (substitute row1) (substitute row2) (substitute row3) r }
-{
+fn column(row0: u8, row1: u8, row2: u8, row3: u8) -> u32 {
     // Each column of MixColumns' matrix is the one before it, rotated by one row.
     COLUMNS[row0 as usize]
         ^ COLUMNS[row1 as usize].rotate_left(8)
         ^ COLUMNS[row2 as usize].rotate_left(16)
         ^ COLUMNS[row3 as usize].rotate_left(24)
+}
+
+/// A round with the key added last (FIPS 197, sections 5.1.1 to 5.1.4).
+pub(crate) fn round_by_table(b: [u8; 16], key: [u8; 16]) -> [u8; 16] {
+    // ShiftRows: row r of column c comes from column c + r.
+    let columns = [
+        column(b[0], b[5], b[10], b[15]),
+        column(b[4], b[9], b[14], b[3]),
+        column(b[8], b[13], b[2], b[7]),
+        column(b[12], b[1], b[6], b[11]),
+    ];
+    let mut end = key;
+    for c in 0..4usize {
+        let rows = columns[c].to_le_bytes();
+        for r in 0..4usize {
+            end[4 * c + r] ^= rows[r];
+        }
+    }
+    end
 }

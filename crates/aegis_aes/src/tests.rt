@@ -1,6 +1,11 @@
 use crate::block::AesBlock;
-use crate::table::COLUMNS;
+use crate::field::power_254;
+use crate::permutes::{IN_HIGH, IN_LOW, INVERSE, OUT_ONE, OUT_TWO, SCALED};
+use crate::row::Row;
+use crate::table::{COLUMNS, round_by_table};
+use crate::{lanes, permutes};
 use std::process::Abort;
+use std::simd::prelude::*;
 
 // The block of the sixteen bytes that a number has, its highest byte first.
 fn block(bytes: u128) -> AesBlock {
@@ -114,27 +119,119 @@ fn plain_round(block: [u8; 16], key: [u8; 16]) -> [u8; 16] {
     end
 }
 
-fn check_plain(rt: &impl Abort, start: [u8; 16], key: [u8; 16]) {
-    let end = AesBlock::from_bytes(&start).round(AesBlock::from_bytes(&key));
-    assert_eq!(rt; end.to_bytes(), plain_round(start, key), "from {start:?}");
+// The plain round, that by the table and the two of the library.
+fn check_rounds(rt: &impl Abort, start: [u8; 16], key: [u8; 16]) {
+    let end = plain_round(start, key);
+    assert_eq!(rt; round_by_table(start, key), end, "from {start:?}");
+    let block = AesBlock::from_bytes(&start);
+    let key = AesBlock::from_bytes(&key);
+    assert_eq!(rt; block.round(key).to_bytes(), end, "from {start:?}");
+    assert_eq!(rt; Row::round(block, key).to_bytes(), end, "from {start:?}");
 }
 
 #[test]
-fn rounds_of_equal_bytes_are_plain(rt: HostRuntime) {
+fn rounds_of_equal_bytes(rt: HostRuntime) {
     for byte in 0..=255 {
-        check_plain(&rt, [byte; 16], [0; 16]);
+        check_rounds(&rt, [byte; 16], [0; 16]);
     }
 }
 
 #[test]
-fn rounds_of_counted_bytes_are_plain(rt: HostRuntime) {
+fn rounds_of_counted_bytes(rt: HostRuntime) {
     let mut counted = 0x000102030405060708090a0b0c0d0e0fu128;
     for _ in 0..16 {
-        check_plain(
+        check_rounds(
             &rt,
             counted.to_be_bytes(),
-            0x0f1e2d3c4b5a69788796a5b4c3d2e1f0u128.to_be_bytes(),
+            0x101112131415161718191a1b1c1d1e1fu128.to_be_bytes(),
         );
         counted = counted.rotate_left(8);
+    }
+}
+
+#[test]
+fn inverses_and_substitutes(rt: HostRuntime) {
+    let known = u8x4::from_array([0x53, 0x01, 0x00, 0xca]);
+    assert_eq!(rt; power_254(known).to_array(), [0xca, 0x01, 0x00, 0x53]);
+    assert_eq!(rt;
+        lanes::sub_bytes(known).to_array(),
+        [0xed, 0x7c, 0x63, 0x74]
+    );
+    let mut bytes = [0; 16];
+    bytes[0] = 0x53;
+    bytes[1] = 0x01;
+    let substitutes = permutes::sub_bytes(u8x16::from_array(bytes)).to_array();
+    assert_eq!(rt; substitutes[0], 0xed);
+    assert_eq!(rt; substitutes[1], 0x7c);
+    assert_eq!(rt; substitutes[2], 0x63);
+}
+
+// ---- The tower field of the permutes
+
+const GENERATOR: u8 = 0x0d;
+
+const SCALE: u8 = 0x0c;
+
+const ROOT: u8 = 0x34;
+
+// The element of the field of sixteen with these coordinates: bit i is that of the generator's power i.
+fn element(coordinates: u8) -> u8 {
+    let mut power = 1;
+    let mut sum = 0;
+    for i in 0..4u32 {
+        if coordinates >> i & 1 == 1 {
+            sum ^= power;
+        }
+        power = product(power, GENERATOR);
+    }
+    sum
+}
+
+// The byte whose coordinates are these: the low four those of u and the high four those of v in u + v * root.
+fn byte_of(coordinates: u8) -> u8 {
+    element(coordinates & 15) ^ product(ROOT, element(coordinates >> 4))
+}
+
+// The coordinates of a byte.
+fn coordinates_of(byte: u8) -> u8 {
+    for coordinates in 0..=255 {
+        if byte_of(coordinates) == byte {
+            return coordinates;
+        }
+    }
+    0
+}
+
+// The linear part of SubBytes' affine map, of the inverse that p and q stand for.
+fn linear(p: u8, q: u8) -> u8 {
+    let scaled = plain_inverse(SCALE);
+    let high = product(p ^ product(p ^ q, scaled), scaled);
+    let b = p ^ product(ROOT, high);
+    b ^ b.rotate_left(1) ^ b.rotate_left(2) ^ b.rotate_left(3) ^ b.rotate_left(4)
+}
+
+#[test]
+fn permutes_are_those_of_the_field(rt: HostRuntime) {
+    // The root and what it is a root of, and the order of the generator.
+    assert_eq!(rt; product(ROOT, ROOT), product(SCALE, ROOT) ^ SCALE);
+    for n in 0..16 {
+        let inverse = plain_inverse(element(n));
+        let at = n as usize;
+        assert_eq!(rt; IN_LOW[at], coordinates_of(n), "at {n}");
+        assert_eq!(rt; IN_HIGH[at], coordinates_of(n << 4), "at {n}");
+        assert_eq!(rt; OUT_ONE[at], linear(inverse, 0), "at {n}");
+        assert_eq!(rt; OUT_TWO[at], linear(0, inverse), "at {n}");
+        if n == 0 {
+            // Infinity.
+            assert_eq!(rt; INVERSE[at], 0x80);
+            assert_eq!(rt; SCALED[at], 0x80);
+        } else {
+            assert_eq!(rt; INVERSE[at], coordinates_of(inverse), "at {n}");
+            assert_eq!(rt;
+                SCALED[at],
+                coordinates_of(product(SCALE, inverse)),
+                "at {n}"
+            );
+        }
     }
 }

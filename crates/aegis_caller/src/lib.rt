@@ -2,10 +2,12 @@
 //! crate has no proof file. `docs/CALLING.md` shows them.
 #![tactic(auto)]
 
+pub mod chunks;
+pub mod opening;
+
 ghost use Rattle.std.specs.Prelude.{◌≡◌, ◌≤◌, IfOk, IsOk, List, OnErr, OnOk, length, replicate, ℕ};
-ghost use Rattle.aegis_aes.specs.Block.{xor};
 ghost use Rattle.aegis_base.specs.Family.{Aegis128, Aegis256};
-ghost use Rattle.aegis_base.specs.Message.{Opens, seal, stream};
+ghost use Rattle.aegis_base.specs.Message.{Opens, seal, stream, xor_stream};
 
 use aegis::aegis128l::{Aegis128L, Error, Tag};
 use aegis::aegis128x2::Aegis128X2;
@@ -118,6 +120,22 @@ pub fn open(
     Aegis128L::<16>::new(key, nonce).decrypt_in_place(buffer, tag, associated_data)
 }
 
+/// Seals a message and opens it again, in place: the opening is `Ok`, and the buffer is as it was.
+pub fn sealed_and_opened(
+    key: &[u8; 16],
+    nonce: &[u8; 16],
+    associated_data: &[u8],
+    buffer: &mut [u8],
+) -> Result<(), Error>
+    requires message_within { length buffer.old ≤ MAX_AEAD_BYTES }
+    requires associated_data_within { length associated_data.now ≤ MAX_AEAD_BYTES }
+    ensures opened { IsOk result }
+    ensures same { buffer.new ≡ buffer.old }
+{
+    let tag = Aegis128L::<16>::new(key, nonce).encrypt_in_place(buffer, associated_data);
+    Aegis128L::<16>::new(key, nonce).decrypt_in_place(buffer, &tag, associated_data)
+}
+
 /// Seals into a fresh vector.
 pub fn seal_to_vec<A: Allocator>(
     alloc: A,
@@ -155,6 +173,24 @@ pub fn open_to_vec<A: Allocator>(
     Ok(message)
 }
 
+/// Seals a message and opens it again, each into a fresh vector: what is handed out is the message.
+pub fn sealed_and_opened_to_vec<A: Allocator + Copy>(
+    alloc: A,
+    key: &[u8; 32],
+    nonce: &[u8; 32],
+    associated_data: &[u8],
+    message: &[u8],
+) -> Result<Vec<u8, A>, Error>
+    requires message_within { length message.now ≤ MAX_AEAD_BYTES }
+    requires associated_data_within { length associated_data.now ≤ MAX_AEAD_BYTES }
+    ensures { IfOk result (λ opened. opened.items ≡ message.now) }
+{
+    let cipher = Aegis256X2::<32>::new(key, nonce);
+    let (ciphertext, tag) = cipher.encrypt(alloc, message, associated_data)?;
+    let opened = cipher.decrypt(alloc, &ciphertext, &tag, associated_data)?;
+    Ok(opened)
+}
+
 /// Fills a buffer with the keystream.
 pub fn keystream(key: &[u8; 16], nonce: &[u8; 16], out: &mut [u8])
     ensures { out.new ≡ stream Aegis128 4 key.now nonce.now (length out.old) }
@@ -164,7 +200,16 @@ pub fn keystream(key: &[u8; 16], nonce: &[u8; 16], out: &mut [u8])
 
 /// Xors a message with the keystream.
 pub fn xor_keystream(key: &[u8; 16], nonce: &[u8; 16], message: &mut [u8])
-    ensures { message.new ≡ xor message.old (stream Aegis128 4 key.now nonce.now (length message.old)) }
+    ensures { message.new ≡ xor_stream Aegis128 4 key.now nonce.now message.old }
 {
     Aegis128X4::<16>::new(key, nonce).stream_xor_in_place(message)
+}
+
+/// Xors a message with the keystream and then again, which gives it back.
+pub fn xored_twice(key: &[u8; 16], nonce: &[u8; 16], message: &mut [u8])
+    ensures { message.new ≡ message.old }
+{
+    let cipher = Aegis128X4::<16>::new(key, nonce);
+    cipher.stream_xor_in_place(message);
+    cipher.stream_xor_in_place(message);
 }

@@ -3,18 +3,22 @@
 //! [`Cipher`] is written once, over a state and a marker of names; the six variants are aliases of it. Its calls are runs
 //! of one piece over `message` and `run`; nothing here knows a family or a lane count.
 
-ghost use Rattle.std.specs.Prelude.{◌≡◌, ⊤, ◌≤◌, ◌⊎◌, ◌++◌, IfErr, IfOk, IsOk, List, OnErr, OnOk, Some, codes, length, replicate, ℕ, []};
-ghost use Rattle.aegis_base.specs.Chunks.{joined};
+ghost use Rattle.std.specs.Prelude.{◌≡◌, ⊤, ◌≤◌, ◌⊎◌, ◌++◌, IfErr, IfOk, IsOk, List, MatchResult, OnErr, OnOk, Some, codes, drop, false, length, replicate, take, true, ℕ, []};
+ghost use Rattle.std.specs.Borrow.{Array, LendsIfOk, sem, u8};
+ghost use Rattle.aegis_base.specs.Chunks.{accepted, joined};
 ghost use Rattle.aegis_base.specs.Message.{Opens, ciphertext, seal, stream, tag, xor_stream};
-ghost use Rattle.aegis_base.specs.Run.{Stands};
+ghost use Rattle.aegis_base.specs.Run.{Stands, held};
 
 use crate::chunks::seal_all;
+use crate::decryptor::Decryptor;
+use crate::destination::{Settled, erase_unless, handed};
 use crate::encryptor::Encryptor;
 use crate::message::{begin, finish, open_more, seal_more};
+use crate::opening::{has_tag, open_all};
 use crate::pass::{Pass, ZEROS};
 use crate::run::pass_all;
 use crate::tag::same_bytes;
-use aegis_base::{Error, LaneState, MAX_AEAD_BYTES, Variant};
+use aegis_base::{Error, LaneState, Length, MAX_AEAD_BYTES, Variant};
 use std::alloc::{AllocError, Allocator};
 use std::fmt;
 use std::marker::{Model, PhantomData};
@@ -213,7 +217,8 @@ impl<S: LaneState<Key = K>, K: Copy, V: Variant, const TAG_BYTES: usize> Cipher<
 
     /// Xors a message in place with the keystream from its beginning. Done twice, it gives the message back.
     pub fn stream_xor_in_place(self, mc: &mut [u8])
-        ensures { mc.new ≡ xor_stream S.FAMILY S.LANES (S.key_bytes self.key) (S.key_bytes self.nonce) mc.old }
+        ensures xored { mc.new ≡ xor_stream S.FAMILY S.LANES (S.key_bytes self.key) (S.key_bytes self.nonce) mc.old }
+        ensures undone { xor_stream S.FAMILY S.LANES (S.key_bytes self.key) (S.key_bytes self.nonce) mc.new ≡ mc.old }
     {
         let mut block = ZEROS;
         pass_all(S::new(&self.key, &self.nonce), &mut block, 0, Pass::Stream, mc);
@@ -242,5 +247,79 @@ impl<S: LaneState<Key = K>, K: Copy, V: Variant, const TAG_BYTES: usize> Cipher<
         let mut block = ZEROS;
         let state = seal_all(state, &mut block, ad.len() as u64, chunks, out);
         finish(state, &block, ad.len() as u64, out.len() as u64)
+    }
+
+    /// Starts to open a message that comes in chunks, with the associated data `ad`, in `plaintext`, which has room for all of
+    /// it.
+    pub fn decryptor<'a>(&self, ad: &[u8], plaintext: &'a mut [u8]) -> Decryptor<'a, S, V, TAG_BYTES>
+        requires { length ad.now ≤ MAX_AEAD_BYTES }
+        ensures same_reference { result.dst.ghost_name ≡ plaintext.entry.ghost_name }
+        ensures unchanged { result.dst.now ≡ plaintext.old }
+        ensures written { result.written ≡ 0 }
+        ensures stands { Stands S.FAMILY S.LANES S.lane S.updates (held result.state result.block result.data_bytes result.written) (S.key_bytes self.now.key) (S.key_bytes self.now.nonce) ad.now (take result.written result.dst.now) }
+        ensures empty { ciphertext S.FAMILY S.LANES (S.key_bytes self.now.key) (S.key_bytes self.now.nonce) ad.now (take result.written result.dst.now) ≡ [] }
+    {
+        Decryptor::new(begin::<S>(&self.key, &self.nonce, ad), ad.len() as u64, plaintext)
+    }
+
+    // Opens chunks, with zeros left in the message's place where the tag is wrong.
+    fn settle_chunks<'a>(
+        &self,
+        ad: &[u8],
+        chunks: &[&[u8]],
+        tag: &[u8; TAG_BYTES],
+        dst: &'a mut [u8],
+    ) -> Settled<'a>
+        requires { length ad.now ≤ MAX_AEAD_BYTES }
+        ensures same_reference { result.dst.ghost_name ≡ dst.entry.ghost_name }
+        ensures within { result.written ≤ length result.dst.now }
+        ensures written { result.written ≡ length (accepted (length dst.old) chunks.now) }
+        ensures erased { result.accepted ≡ false → result.dst.now ≡ replicate result.written 0 ++ drop result.written result.dst.now }
+        ensures rest { drop result.written result.dst.now ≡ drop result.written dst.old }
+        ensures opened { result.accepted ≡ true
+            → Opens S.FAMILY S.LANES TAG_BYTES (S.key_bytes self.now.key) (S.key_bytes self.now.nonce) ad.now (accepted (length dst.old) chunks.now) tag.now (take result.written result.dst.now) }
+        ensures accepted { (m : List ℕ) → Opens S.FAMILY S.LANES TAG_BYTES (S.key_bytes self.now.key) (S.key_bytes self.now.nonce) ad.now (accepted (length dst.old) chunks.now) tag.now m
+            → result.accepted ≡ true }
+        ensures only { (m : List ℕ) → Opens S.FAMILY S.LANES TAG_BYTES (S.key_bytes self.now.key) (S.key_bytes self.now.nonce) ad.now (accepted (length dst.old) chunks.now) tag.now m
+            → take result.written result.dst.now ≡ m }
+    {
+        let mut state = begin::<S>(&self.key, &self.nonce, ad);
+        let mut block = ZEROS;
+        let mut written = Length::zero();
+        let data_bytes = ad.len() as u64;
+        open_all(&mut state, &mut block, data_bytes, &mut written, dst, chunks);
+        let is_right = has_tag(state, &block, data_bytes, written.get(), tag);
+        erase_unless(dst, written.get() as usize, is_right);
+        Settled {
+            dst,
+            written: written.get() as usize,
+            accepted: is_right,
+        }
+    }
+
+    /// Opens a message that comes in chunks, at the front of `dst`.
+    ///
+    /// Each chunk in order is kept where it fits, as `Decryptor::update` would, and is left out whole otherwise. The answer
+    /// is the message that is sealed to the kept chunks and this tag, exactly where there is one. Otherwise it is
+    /// [`Error::InvalidTag`], and zeros are left over as many bytes. The rest of `dst` stays as it was.
+    pub fn open_chunks<'a>(
+        &self,
+        ad: &[u8],
+        chunks: &[&[u8]],
+        tag: &[u8; TAG_BYTES],
+        dst: &'a mut [u8],
+    ) -> Result<&'a mut [u8], Error>
+        requires { length ad.now ≤ MAX_AEAD_BYTES }
+        ensures* writes_back { sem 𝓛 (LendsIfOk (Array u8 0) (Array u8 0) dst.entry result (λ w. w ++ drop (length (accepted (length dst.old) chunks.now)) dst.old)
+            (replicate (length (accepted (length dst.old) chunks.now)) 0 ++ drop (length (accepted (length dst.old) chunks.now)) dst.old)) }
+        ensures cases { MatchResult result
+            (λ m. Opens S.FAMILY S.LANES TAG_BYTES (S.key_bytes self.now.key) (S.key_bytes self.now.nonce) ad.now (accepted (length dst.old) chunks.now) tag.now m.now)
+            (λ e. e ≡ Error.InvalidTag) }
+        ensures accepted { (m : List ℕ) → Opens S.FAMILY S.LANES TAG_BYTES (S.key_bytes self.now.key) (S.key_bytes self.now.nonce) ad.now (accepted (length dst.old) chunks.now) tag.now m
+            → IsOk result }
+        ensures only { (m : List ℕ) → Opens S.FAMILY S.LANES TAG_BYTES (S.key_bytes self.now.key) (S.key_bytes self.now.nonce) ad.now (accepted (length dst.old) chunks.now) tag.now m
+            → IfOk result (λ opened. opened.now ≡ m) }
+    {
+        handed(self.settle_chunks(ad, chunks, tag, dst))
     }
 }

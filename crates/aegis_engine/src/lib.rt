@@ -6,13 +6,17 @@
 
 mod chunks;
 mod cipher;
+mod decryptor;
+mod destination;
 mod encryptor;
 mod mac;
 mod message;
+mod opening;
 mod pass;
 mod run;
 mod tag;
 
 pub use cipher::{Cipher, ERASED};
+pub use decryptor::Decryptor;
 pub use encryptor::Encryptor;
 pub use mac::Mac;

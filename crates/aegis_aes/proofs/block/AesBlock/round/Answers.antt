@@ -1,11 +1,10 @@
-use Rattle.std.proofs.Common.{ap₂, ◌∙◌, rules}
+use Rattle.std.proofs.Common.{ap₂, refl, sym, ◌∙◌, arith}
 use Rattle.aegis_aes.specs.Round.{round}
-use Rattle.aegis_aes.proofs.Rounds.{rounded}
+use Rattle.aegis_aes.proofs.Places.{block_at-all}
 use Rattle.aegis_aes.proofs.block.AesBlock.round.Goals as goal
 
 pub returns : goal.returns
 returns c =
-    rounded c.to_bytes-b.result c.to_bytes-key.result _ _ _ _ (search rules)
-    c.column.type_inv c.column-2.type_inv c.column-3.type_inv c.column-4.type_inv
-    c.column.ensures c.column-2.ensures c.column-3.ensures c.column-4.ensures
-    ∙ ap₂ round c.to_bytes-b.ensures c.to_bytes-key.ensures
+    let all = c.round_by_field.ensures in
+    sym (block_at-all c.round_by_field.result all.long) ∙ all.each 0 refl (omega arith)
+    ∙ ap₂ round (block_at-all c.self.inside.bytes c.self.invariant ∙ c.self.view_is) (block_at-all c.key.inside.bytes c.key.invariant ∙ c.key.view_is)

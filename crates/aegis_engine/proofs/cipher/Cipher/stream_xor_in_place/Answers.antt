@@ -1,10 +1,12 @@
 use Rattle.std.proofs.Common.{◌≡◌, ◌∙◌, ap, refl, ℕ, ◌+◌, length, List, replicate, slice_index, zero-add}
 use Rattle.aegis_base.proofs.AppendFacts.{along-none}
+use Rattle.aegis_base.specs.Message.{xor_stream}
+use Rattle.aegis_base.proofs.StreamFacts.{xor_stream-twice}
 use Rattle.aegis_base.proofs.SealFacts.{before-start, streamed-is}
 use Rattle.aegis_engine.proofs.cipher.Cipher.stream_xor_in_place.Goals as goal
 
-pub returns : goal.returns
-returns g c =
+pub returns-clause-xored : goal.returns-clause-xored
+returns-clause-xored g c =
     let L = g.S.LaneState in
     let here = L.lane c.new.result in
     let zeros : List ℕ = replicate (length c.args.mc.now) 0 in
@@ -13,3 +15,9 @@ returns g c =
     (before-start L.FAMILY L.LANES here _ _ g.met.S.LaneState.one_two_or_four c.new.ensures.lanes)
     c.pass_all.auto.buffer
     (λ i low. rw zero-add at (c.pass_all.ensures.written here zeros (along-none L.FAMILY L.LANES here here _ zeros (λ j inside. refl)) (λ k under. ap (slice_index zeros) (zero-add k)) i low)))
+
+pub returns-clause-undone : goal.returns-clause-undone
+returns-clause-undone g c =
+    let L = g.S.LaneState in
+    ap (xor_stream L.FAMILY L.LANES (L.key_bytes c.args.self.key) (L.key_bytes c.args.self.nonce)) (returns-clause-xored g c)
+    ∙ xor_stream-twice L.FAMILY L.LANES (L.key_bytes c.args.self.key) (L.key_bytes c.args.self.nonce) c.args.mc.now

@@ -1,0 +1,55 @@
+//! ShiftRows, MixColumns and AddRoundKey on the bytes of whole blocks, side by side.
+
+ghost use Rattle.std.specs.Prelude.{◌≡◌, ℕ, ◌+◌, ◌%◌, ◌<◌, ◌≤◌, bit_xor, length, map, slice_index};
+ghost use Rattle.aegis_aes.specs.Permutes.{IsWidth, mixed_at};
+ghost use Rattle.aegis_aes.specs.Block.{block_at};
+ghost use Rattle.aegis_aes.specs.Round.{round};
+
+use crate::field::times_x;
+use crate::permutes::{permute, repeated};
+use crate::{lanes, permutes};
+use std::simd::prelude::*;
+
+// Where ShiftRows finds each byte of a block.
+const SHIFTED: [u8; 16] = [0, 5, 10, 15, 4, 9, 14, 3, 8, 13, 2, 7, 12, 1, 6, 11];
+// Where it finds the byte of the next row of the same column.
+const SHIFTED_NEXT: [u8; 16] = [5, 10, 15, 0, 9, 14, 3, 4, 13, 2, 7, 8, 1, 6, 11, 12];
+// Two rows on in the same column.
+const TWO_ROWS_ON: [u8; 16] = [2, 3, 0, 1, 6, 7, 4, 5, 10, 11, 8, 9, 14, 15, 12, 13];
+
+/// Of bytes that SubBytes has changed: ShiftRows, MixColumns, and the key's bytes added by xor.
+#[inline(always)]
+pub(crate) fn mixed<const N: usize>(s: Simd<u8, N>, key: Simd<u8, N>) -> Simd<u8, N>
+    requires { IsWidth N }
+    ensures long { length result ≡ N }
+    ensures each { (i : ℕ) → i < N → slice_index result i ≡ bit_xor (mixed_at s.entry i) (slice_index key.entry i) }
+{
+    let shifted = permute(s, repeated(SHIFTED));
+    let next = permute(s, repeated(SHIFTED_NEXT));
+    let sum = shifted ^ next;
+    let across = permute(sum, repeated(TWO_ROWS_ON));
+    // Row r is 2a + 3b + c + d, of its own byte a and those of the next rows.
+    next ^ across ^ times_x(sum) ^ key
+}
+
+/// A round of AES on each block, by byte permutes.
+#[inline(always)]
+pub(crate) fn round_by_permutes<const N: usize>(
+    blocks: Simd<u8, N>,
+    keys: Simd<u8, N>,
+) -> Simd<u8, N>
+    requires { IsWidth N }
+    ensures long { length result ≡ N }
+    ensures each { (p : ℕ) → p % 16 ≡ 0 → p + 16 ≤ N → block_at result p ≡ round (block_at blocks.entry p) (block_at keys.entry p) }
+{
+    mixed(permutes::sub_bytes(blocks), keys)
+}
+
+/// The same by the arithmetic of the field.
+pub(crate) fn round_by_field<const N: usize>(blocks: Simd<u8, N>, keys: Simd<u8, N>) -> Simd<u8, N>
+    requires { IsWidth N }
+    ensures long { length result ≡ N }
+    ensures each { (p : ℕ) → p % 16 ≡ 0 → p + 16 ≤ N → block_at result p ≡ round (block_at blocks.entry p) (block_at keys.entry p) }
+{
+    mixed(lanes::sub_bytes(blocks), keys)
+}

@@ -1,0 +1,45 @@
+//! Blocks side by side in one vector, whatever their number.
+
+ghost use Rattle.std.specs.Prelude.{◌≡◌, ℕ, ◌+◌, ◌*◌, ◌<◌, ◌≤◌, length, slice_index};
+ghost use Rattle.aegis_aes.specs.Block.{and, block_at, xor};
+
+use std::simd::prelude::*;
+
+/// The blocks that stand in `bytes` from byte `at` on.
+#[inline(always)]
+pub(crate) fn load<const N: usize>(bytes: &[u8], at: usize) -> Simd<u8, N>
+    requires { at + N ≤ length bytes.now }
+    ensures long { length result ≡ N }
+    ensures each { (p : ℕ) → p + 16 ≤ N → block_at result p ≡ block_at bytes.now (at + p) }
+{
+    Simd::from_slice(&bytes[at..])
+}
+
+/// Writes the blocks into `out` from byte `at` on.
+#[inline(always)]
+pub(crate) fn store<const N: usize>(blocks: Simd<u8, N>, out: &mut [u8], at: usize)
+    requires { at + N ≤ length out.old }
+    ensures written { (p : ℕ) → p + 16 ≤ N → block_at out.new (at + p) ≡ block_at blocks.entry p }
+    ensures below { (i : ℕ) → i < at → slice_index out.new i ≡ slice_index out.old i }
+    ensures above { (i : ℕ) → at + N ≤ i → slice_index out.new i ≡ slice_index out.old i }
+{
+    blocks.copy_to_slice(&mut out[at..]);
+}
+
+/// The bitwise xor, block by block.
+#[inline(always)]
+pub(crate) fn xor_each<const N: usize>(a: Simd<u8, N>, b: Simd<u8, N>) -> Simd<u8, N>
+    ensures long { length result ≡ N }
+    ensures each { (p : ℕ) → p + 16 ≤ N → block_at result p ≡ xor (block_at a.entry p) (block_at b.entry p) }
+{
+    a ^ b
+}
+
+/// The bitwise and, block by block.
+#[inline(always)]
+pub(crate) fn and_each<const N: usize>(a: Simd<u8, N>, b: Simd<u8, N>) -> Simd<u8, N>
+    ensures long { length result ≡ N }
+    ensures each { (p : ℕ) → p + 16 ≤ N → block_at result p ≡ and (block_at a.entry p) (block_at b.entry p) }
+{
+    a & b
+}

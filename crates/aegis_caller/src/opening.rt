@@ -1,0 +1,65 @@
+//! Opening in chunks: into a destination that is borrowed for the whole message.
+
+ghost use Rattle.std.specs.Prelude.{◌≡◌, ℕ, ◌+◌, ◌<◌, ◌≤◌, ◌++◌, IfOk, IsOk, List, OnErr, OnOk, drop, length, replicate, take};
+ghost use Rattle.aegis_base.specs.Family.{Aegis128};
+ghost use Rattle.aegis_base.specs.Message.{Opens};
+
+use aegis::MAX_AEAD_BYTES;
+use aegis::aegis128l::{Aegis128L, Error};
+
+/// Opens a message that comes in two chunks.
+pub fn open_two_chunks(
+    key: &[u8; 16],
+    nonce: &[u8; 16],
+    associated_data: &[u8],
+    first: &[u8],
+    second: &[u8],
+    tag: &[u8; 16],
+    message: &mut [u8],
+) -> Result<usize, Error>
+    requires associated_data_within { length associated_data.now ≤ MAX_AEAD_BYTES }
+    requires message_within { length first.now + length second.now ≤ MAX_AEAD_BYTES }
+    requires room { length first.now + length second.now ≤ length message.old }
+    ensures length { OnOk result (result ≡ Ok (length first.now + length second.now)) }
+    ensures opened { OnOk result (Opens Aegis128 1 16 key.now nonce.now associated_data.now (first.now ++ second.now) tag.now (take (length first.now + length second.now) message.new)) }
+    ensures accepted { (m : List ℕ) → Opens Aegis128 1 16 key.now nonce.now associated_data.now (first.now ++ second.now) tag.now m → IsOk result }
+    ensures erased { OnErr result (message.new ≡ replicate (length first.now + length second.now) 0 ++ drop (length first.now + length second.now) message.old) }
+{
+    let cipher = Aegis128L::<16>::new(key, nonce);
+    let mut decryptor = cipher.decryptor(associated_data, message);
+    decryptor.update(first)?;
+    decryptor.update(second)?;
+    decryptor.finalize_len(tag)
+}
+
+/// Opens a chunk and drops the decryptor before the tag is seen.
+pub fn drop_early(
+    key: &[u8; 16],
+    nonce: &[u8; 16],
+    chunk: &[u8],
+    message: &mut [u8],
+)
+    requires message_within { length chunk.now ≤ MAX_AEAD_BYTES }
+    requires room { length chunk.now ≤ length message.old }
+    ensures { message.new ≡ replicate (length chunk.now) 0 ++ drop (length chunk.now) message.old }
+{
+    let cipher = Aegis128L::<16>::new(key, nonce);
+    let mut decryptor = cipher.decryptor(&[], message);
+    let _ = decryptor.update(chunk);
+}
+
+/// Hands a decryptor a chunk that is longer than its destination.
+pub fn refuse_a_long_chunk(
+    key: &[u8; 16],
+    nonce: &[u8; 16],
+    chunk: &[u8],
+    message: &mut [u8],
+) -> Result<(), Error>
+    requires { length message.old < length chunk.now }
+    ensures refused { result ≡ Err Error.OutputBufferTooSmall }
+    ensures unchanged { message.new ≡ message.old }
+{
+    let cipher = Aegis128L::<16>::new(key, nonce);
+    let mut decryptor = cipher.decryptor(&[], message);
+    decryptor.update(chunk)
+}

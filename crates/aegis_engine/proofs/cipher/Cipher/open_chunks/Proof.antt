@@ -1,0 +1,134 @@
+-- The message of the kept chunks is handed out where there is one, and what is left of the destination otherwise. By hand,
+-- in the same form as a decryptor's `finalize`, with the destination as a parameter: the walk makes the two calls, of
+-- `settle_chunks` and of `handed`, and puts the facts of their contracts together. Assumes `Logic`.
+use mathlib.Core.Path.{◌≡◌, refl, sym, ap, subst, ◌∙◌}
+use mathlib.Core.Bool.{Bool, true, false}
+use Prim.Native.Nat.{ℕ, ◌≤◌, ◌<◌, ◌^◌}
+use mathlib.Core.List.{List, [], ◌∷◌, ◌++◌}
+use lib.ListN.{length, take, drop as drop_list, replicate}
+use seplogic.Ra.Ura.{Ura}
+use mir.Syntax.{named, Args, Fn, Kind, a_type, a_number, dcons, dnil}
+use mir.MapTy.{inst_fn}
+use mir.Val.{Val}
+use base.Logic.{SProp, ent, sep, emp, id⊢}
+use base.Fml.{Fml, Lft, GName, ftrue, flft}
+use types.Logic.{Logic, sem}
+use types.Kit.{‵, ◌⊛◌, raw, some, later, ◌$◌, ◌∵◌, !, qed, by, move, keep, drop, split, split3, join, pick, rewrite, fsplit, fjoin, use0, use1, use2, await, suffices, frame, group, updating, now as at_once, done}
+use types.Run.{no_more, and_then, of_opd, returns, enter}
+use types.ByLocal.{alloc_all, pass_all, free_all, look_at, get, sets, lands_as}
+use contract.Monad.{fact, fact_i}
+use contract.Running.{tables}
+use denote.Builtin.{u8, usize, bool}
+use denote.Exit.{no, yes}
+use denote.Follow.{follows_if}
+use denote.Array.{Array}
+use denote.Laws.{shows}
+use denote.Param.{ArrayAt, param, copied, number, bounded}
+use denote.Param.Laws.{param_laws, copied_laws, copied_copy, copy_told, Told, Laws, of_field, row_shared}
+use denote.RattleType.{RattleType, owns}
+use denote.Ref.{NamedLft, shr_vals, shr_Tells}
+use denote.Signature.{named_lft}
+use denote.Slice.{MutSlice, mut_slice_vals, mut_slice_Tells, ShrSlice, shr_slice_vals, shr_slice_Tells}
+use types.Part.{whole, sub, agg}
+use types.Run.{stop, fld, hop, from, addr}
+use types.ByLocal.{look_in_at, get_in}
+use denote.Steps.{nothing, heard, peeks}
+use denote.Triple.Call.{calls_at}
+use denote.Triple.Clauses.{lasts, Lasts}
+use denote.Triple.Entry.{alive}
+use denote.Triple.Spec.{triple_of}
+use denote.Triple.Table.{framed}
+use denote.Triple.Walked.{Stays, stay_dropped, walk_of, ends_at, says}
+use Rattle.std.proofs.raw_atomic.Walks.{proved}
+use Rattle.std.specs.Borrow.{name_if_ok}
+use Rattle.std.specs.Prelude.{Result, MatchResult}
+use Rattle.std.specs.declared.result.Result.TheVariants.{Ok, Err}
+use Rattle.std.proofs.result.Result.TheLaws.{the_row_laws as result_laws}
+use Rattle.aegis_base.proofs.error.Error.TheLaws.{the_row_laws as error_laws}
+use Rattle.aegis_base.specs.declared.error.Error.{Error}
+use Rattle.aegis_engine.proofs.destination.Settled.TheLaws.{the_row_laws as settled_laws}
+use denote.Struct.Field.{mut_slice_field, u8-field}
+use denote.Struct.Laws.{mut_slice_laws, u8-laws, u8-copy}
+use denote.Param.Shared.{mut_slice_shared, copy_shared}
+use Rattle.std.specs.contracts.result.Result as RS
+use Rattle.aegis_base.specs.contracts.error.Error as ER
+use Rattle.aegis_engine.specs.contracts.destination.Settled as ST
+use Rattle.aegis_engine.specs.contracts.cipher.Cipher as CT
+use Rattle.aegis_base.specs.Chunks.{accepted}
+use Rattle.aegis_base.specs.Message.{Opens}
+use Rattle.std.proofs.mem.Facts.{says_three}
+use Rattle.aegis_engine.proofs.Results.{accepted_ok, slice_laws, weaken}
+use Rattle.aegis_engine.specs.contracts.cipher.Cipher.open_chunks as f
+use Rattle.aegis_engine.specs.contracts.cipher.Cipher.settle_chunks as g
+use Rattle.aegis_engine.proofs.cipher.Cipher.settle_chunks.Met.{met as settle_met}
+use Rattle.aegis_engine.specs.contracts.destination.handed as h
+use Rattle.aegis_engine.proofs.destination.handed.Met.{met as handed_met}
+use Rattle.aegis_engine.proofs.cipher.Cipher.open_chunks.Statement.{statement}
+use Rattle.aegis_engine.proofs.cipher.Cipher.open_chunks.Code as code
+
+pub open_chunks_spec : {M : Type 1} → statement M
+open_chunks_spec 𝓤 𝓛 𝓜 𝓡 wired S K V n Rw LS LK LV fits LR CS CK CR gS dS gC dC gKC dKC gR dR gRC dRC gV dV mS mC mKC mR mRC mV =
+    let N = number n in
+    let En = f.ended S K V N Rw gS dS gC dC gKC dKC gR dR gRC dRC gV dV in
+    let c = f.clauses S K V N Rw gS dS gC dC gKC dKC gR dR gRC dRC gV dV 𝓛 𝓜.mem 𝓡.returns in
+    let G = triple_of 𝓛 (g.signature S K V N Rw gS dS gC dC gKC dKC gR dR gRC dRC gV dV) (g.spec S K V N Rw gS dS gC dC gKC dKC gR dR gRC dRC gV dV 𝓛 𝓜.mem 𝓡.returns) in
+    let Gn = g.ended S K V N Rw gS dS gC dC gKC dKC gR dR gRC dRC gV dV in
+    let I = triple_of 𝓛 h.signature (h.spec 𝓛 𝓜.mem 𝓡.returns) in
+    let args : Args = bounded (a_type ∷ a_type ∷ a_type ∷ a_number ∷ a_type ∷ []) (S, (K, (V, (N, (Rw, tt))))) (dcons dS (dcons dC (dcons dKC (dcons dR (dcons dRC (dcons dV dnil)))))) in
+    let fn : Fn = inst_fn args code.function in
+    let 𝓣 = tables 𝓤 𝓛.H 𝓜 𝓡 𝓡.env in
+    let hs : Stays En.signature.params En.kept = (stay_dropped _ yes, (stay_dropped _ yes, (stay_dropped _ yes, (stay_dropped _ yes, (stay_dropped _ no, tt))))) in
+    let W = walk_of 𝓛 En hs c in
+    let Row : RattleType = CT.the_row (copied 0 S) (copied 1 K) (param 2 V) (param 3 N) gV in
+    proved 𝓛 En hs c 𝓜 𝓡 ((λ κs x w vs ok. 𝓛.laws.⇛_intro (emp 𝓤)), ((λ κs x w vs ok. 𝓛.laws.⇛_intro (emp 𝓤)), ((λ κs x w vs ok. 𝓛.laws.⇛_intro (emp 𝓤)), ((λ κs x w vs ok. 𝓛.laws.⇛_intro (emp 𝓤)), ((λ κs x w vs ok. 𝓛.laws.⇛_intro (emp 𝓤)), tt)))))
+    (f.Key.name args) fn (code.unfolded 𝓤 𝓛.H 𝓜 𝓡 wired (S, (K, (V, (N, (Rw, tt))))) dS dC dKC dR dRC dV)
+    (λ κs. (shr_vals, (shr_slice_vals, (shr_slice_vals, (shr_vals, (mut_slice_vals, tt)))))) 
+    (λ κs. (shr_Tells (named 0) κs.0 Row, (shr_slice_Tells (named 1) κs.1.0 u8, (shr_slice_Tells (named 2) κs.1.1.0 (ShrSlice (named 3) κs.1.1.1.0 u8), (shr_Tells (named 4) κs.1.1.1.1.0 (ArrayAt u8 (param 3 N)), (mut_slice_Tells (named 5) κs.1.1.1.1.1.0 u8, tt)))))) (λ κs qs bounds a _ are.
+    let κ = κs.1.1.1.1.1.0 in let q = qs.1.1.1.1.1.0 in let ad = a.1.0 in let chunks = a.1.1.0 in let tag = a.1.1.1.0 in let d = a.1.1.1.1.0 in
+    let all = accepted (length d.now) chunks.now in let count' = length all in
+    let IsOpened : List ℕ → Type 0 = λ m. Opens gS.FAMILY gS.LANES n (gS.key_bytes a.0.now.key) (gS.key_bytes a.0.now.nonce) ad.now all tag.now m in
+    let y : W.Ghost = ((κs, qs, bounds, a, (shr_vals a.0, (shr_slice_vals ad, (shr_slice_vals chunks, (shr_vals tag, (mut_slice_vals d, tt)))))), tt) in
+    let t0 = ‵ (flft κs.0 qs.0) in let t1 = ‵ (flft κs.1.0 qs.1.0) in let t2 = ‵ (flft κs.1.1.0 qs.1.1.0) in let t3 = ‵ (flft κs.1.1.1.0 qs.1.1.1.0) in let t4 = ‵ (flft κs.1.1.1.1.0 qs.1.1.1.1.0) in
+    let others = ‵ (flft κs.1.1.1.1.1.1.0 qs.1.1.1.1.1.1.0) ⊛ ‵ (flft κs.1.1.1.1.1.1.1.0 qs.1.1.1.1.1.1.1.0) ⊛ ‵ (flft κs.1.1.1.1.1.1.1.1.0 qs.1.1.1.1.1.1.1.1.0) ⊛ ‵ (flft κs.1.1.1.1.1.1.1.1.1.0 qs.1.1.1.1.1.1.1.1.1.0) ⊛ ‵ (flft κs.1.1.1.1.1.1.1.1.1.1.0 qs.1.1.1.1.1.1.1.1.1.1.0) ⊛ ‵ ftrue in
+    let SRow : RattleType = ST.the_row (record { mir = named 5; lft = κ }) in
+    let room = are.1.1.1.1.0.0.1 in
+    qed 𝓛 (raw (G.pre y) ∷ []) ∵ enter ! _ _ _ _ _ $ alloc_all ! (λ l. pass_all ! refl ((tt, tt), ((tt, (tt, (record { fits = are.1.0.0.1.0 }, tt))), ((tt, (tt, (record { fits = are.1.1.0.0.1.0 }, tt))), ((tt, tt), ((tt, (tt, (record { fits = room.0 }, tt))), tt))))) $
+    sets ! (addr ! (from ! (fld ! refl (hop ! (look_in_at ! 5 (sub ! 0 refl (whole !))) (stop !))))) refl (tt, tt) $
+    sets ! (agg ! (and_then ! (get ! refl) (and_then ! (get_in ! (fld ! refl (stop !)) (sub ! 1 refl (whole !))) (no_more !)))) refl (tt, (tt, (record { fits = room.0 }, tt))) $
+    calls_at ! (framed 𝓤 𝓛.H 𝓜 𝓣) G (settle_met 𝓤 𝓛 𝓜 𝓡 (code.calls-aegis_engine::cipher::Cipher::settle_chunks 𝓡.env wired) S K V n Rw LS LK LV fits LR CS CK CR gS dS gC dC gKC dKC gR dR gRC dRC gV dV mS mC mKC mR mRC mV) y
+    (and_then ! (get ! refl) (and_then ! (get ! refl) (and_then ! (get ! refl) (and_then ! (get ! refl) (and_then ! (get ! refl) (no_more !)))))) (λ v.
+    use1 𝓛 (later (some (λ (r : SRow.Denot). ((t0 ⊛ t1 ⊛ t2 ⊛ t3 ⊛ t4 ⊛ ‵ (flft κ q) ⊛ others) ⊛ ‵ (SRow.own_val r (v ∷ []))) ⊛ some (λ (ws : Lasts Gn κs a). ‵ (lasts Gn κs a ws)
+    ⊛ (raw (fact 𝓤 (r.dst.ghost_name ≡ d.ghost_name)) ⊛ raw (fact 𝓤 (r.written ≤ length r.dst.now)) ⊛ raw (fact 𝓤 (r.written ≡ count'))
+    ⊛ raw (fact 𝓤 (r.accepted ≡ false → r.dst.now ≡ replicate r.written 0 ++ drop_list r.written r.dst.now)) ⊛ raw (fact 𝓤 (drop_list r.written r.dst.now ≡ drop_list r.written d.now))
+    ⊛ raw (fact 𝓤 (r.accepted ≡ true → IsOpened (take r.written r.dst.now))) ⊛ raw (fact 𝓤 ((m : List ℕ) → IsOpened m → r.accepted ≡ true)) ⊛ raw (fact 𝓤 ((m : List ℕ) → IsOpened m → take r.written r.dst.now ≡ m))))))) (id⊢ 𝓤 (G.post y v)) $
+    await ! tt $ pick ! (λ r. split ! $ split ! $ move ! (2 ∷ []) $ pick ! (λ ws. split ! $ drop ! $ split ! $ heard ! _ (λ name. split ! $ heard ! _ (λ within. split ! $ heard ! _ (λ count. split ! $ heard ! _ (λ gone. split ! $ heard ! _ (λ rest. split ! $ heard ! _ (λ opened. split ! $ heard ! _ (λ found. heard ! _ (λ only.
+    move ! (1 ∷ []) $ peeks ! SRow _ (shows 𝓛 SRow) r (v ∷ []) (λ is.
+    lands_as ! refl refl (((settled_laws (record { mir = named 5; lft = κ })).lawful 𝓛).typed r _ is).0 $
+    -- [the settled one; the tokens; the locals]
+    let z : I.Ghost = (((κ, tt), (q, tt), tt, (r, tt), (v ∷ [], tt)), tt) in
+    let Lent = MutSlice (named 5) κ u8 in let Out = RS.the_row Lent ER.the_row in
+    let Ends : GName → ℕ → List ℕ → Out.Denot → Fml = λ γ m l o. follows_if (Array u8 0) (Array u8 0) γ (name_if_ok (λ x. x.ghost_name) o) (λ w. w ++ l) (replicate m 0 ++ l) in
+    let Cases : Out.Denot → Type 0 = λ o. MatchResult o (λ x. (r.accepted ≡ true) × (x.now ≡ take r.written r.dst.now)) (λ e. (r.accepted ≡ false) × (e ≡ Error.InvalidTag)) in
+    nothing ! $ move ! (1 ∷ 0 ∷ []) $ join ! $ move ! (1 ∷ []) $ split ! $ move ! (1 ∷ []) $ split ! $ move ! (1 ∷ []) $ split ! $ move ! (1 ∷ []) $ split ! $ move ! (1 ∷ []) $ split ! $ move ! (1 ∷ []) $ split ! $
+    nothing ! $ move ! (1 ∷ 0 ∷ []) $ join ! $ move ! (0 ∷ 7 ∷ []) $ join ! $
+    -- [the settled one with its token; the others; the first, from the last of them on; the locals]
+    use0 𝓛 (raw (fact 𝓤 (r.accepted ≡ false → r.dst.now ≡ replicate r.written 0 ++ drop_list r.written r.dst.now))) (fact_i 𝓤 _ (emp 𝓤) gone) $
+    use0 𝓛 (raw (fact 𝓤 (r.written ≤ length r.dst.now))) (fact_i 𝓤 _ (emp 𝓤) within) $ join ! $ move ! (1 ∷ 0 ∷ []) $ use2 𝓛 (raw (I.pre z)) (id⊢ 𝓤 _) $
+    calls_at ! (framed 𝓤 𝓛.H 𝓜 𝓣) I (handed_met 𝓤 𝓛 𝓜 𝓡 (code.calls-aegis_engine::destination::handed 𝓡.env wired)) z (and_then ! (get ! refl) (no_more !)) (λ u.
+    use1 𝓛 (later (some (λ (o : Out.Denot). ((‵ (flft κ q) ⊛ ‵ ftrue) ⊛ ‵ (Out.own_val o (u ∷ []))) ⊛ some (λ (ws' : Lasts h.ended (κ, tt) (r, tt)). ‵ (lasts h.ended (κ, tt) (r, tt) ws')
+    ⊛ (‵ (Ends r.dst.ghost_name r.written (drop_list r.written r.dst.now) o) ⊛ raw (fact 𝓤 (Cases o))))))) (id⊢ 𝓤 (I.post z u)) $
+    await ! tt $ pick ! (λ o. split ! $ split ! $ move ! (2 ∷ []) $ pick ! (λ ws'. split ! $ drop ! $ split ! $ move ! (1 ∷ []) $ heard ! _ (λ cases.
+    -- [how it ends; the token; the result; the other tokens; the locals]
+    rewrite ! 0 (λ (γ : GName). ‵ (Ends γ r.written (drop_list r.written r.dst.now) o)) name refl $
+    rewrite ! 0 (λ (l : List ℕ). ‵ (Ends d.ghost_name r.written l o)) rest refl $
+    rewrite ! 0 (λ (m : ℕ). ‵ (Ends d.ghost_name m (drop_list m d.now) o)) count refl $
+    move ! (2 ∷ []) $ peeks ! Out _ (shows 𝓛 Out) o (u ∷ []) (λ is'.
+    lands_as ! refl refl (((result_laws Lent ER.the_row (slice_laws (named 5) κ) error_laws).lawful 𝓛).typed o _ is').0 $
+    returns ! (look_at ! 0 refl) $ free_all ! refl $
+    suffices ! _ (ends_at 𝓛 En hs c y u o (tt, (tt, (tt, (tt, (tt, tt))))) (tt, (tt, (tt, (tt, (tt, tt)))))) $
+    nothing ! $ nothing ! $ fjoin ! $ nothing ! $ fjoin ! $ nothing ! $ fjoin ! $ nothing ! $ fjoin ! $ nothing ! $ fjoin ! $ join ! $
+    -- [what is left and the result; how it ends; the token; the others; the first, from the last of them on]
+    move ! (2 ∷ []) $ split ! $ move ! (0 ∷ 4 ∷ []) $ join ! $ move ! (4 ∷ 0 ∷ []) $ join ! $ move ! (4 ∷ 0 ∷ []) $ join ! $ move ! (4 ∷ 0 ∷ []) $ join ! $ move ! (4 ∷ 0 ∷ []) $ join ! $ move ! (4 ∷ 0 ∷ []) $ join ! $ keep ! (0 ∷ 2 ∷ 3 ∷ []) $ join ! $ frame ! $
+    says_three ! (weaken o (λ x p. subst IsOpened (sym p.1) (opened p.0)) (λ e p. p.1) cases,
+    (λ m is. accepted_ok o (weaken o (λ x p. p.0) (λ e p. p.0) cases) (found m is)),
+    (λ m is. weaken o (λ x p. p.1 ∙ only m is) (λ e p. tt) cases)) $ done !)))))))))))))))))))

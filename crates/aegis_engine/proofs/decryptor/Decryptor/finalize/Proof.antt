@@ -1,0 +1,132 @@
+-- The message is handed out where the tag is right, and what is left of the destination otherwise. By hand, since the
+-- result lends on what a struct holds: the walk makes the two calls, of `settle` and of `handed`, takes the facts of their
+-- contracts, and puts them together in three rewrites, without a look at the lanes. Assumes `Logic`.
+use mathlib.Core.Path.{◌≡◌, refl, sym, ap, subst, ◌∙◌}
+use mathlib.Core.Bool.{Bool, true, false}
+use Prim.Native.Nat.{ℕ, ◌≤◌, ◌<◌, ◌^◌}
+use mathlib.Core.List.{List, [], ◌∷◌, ◌++◌}
+use lib.ListN.{length, take, drop as drop_list, replicate}
+use seplogic.Ra.Ura.{Ura}
+use mir.Syntax.{named, Args, Fn, Kind, a_type, a_number, dcons, dnil}
+use mir.MapTy.{inst_fn}
+use mir.Val.{Val}
+use base.Logic.{SProp, ent, sep, emp, id⊢}
+use base.Fml.{Fml, Lft, GName, ftrue, flft}
+use types.Logic.{Logic, sem}
+use types.Kit.{‵, ◌⊛◌, raw, some, later, ◌$◌, ◌∵◌, !, qed, by, move, keep, drop, split, split3, join, pick, rewrite, fsplit, fjoin, use0, use1, use2, await, suffices, frame, group, updating, now as at_once, done}
+use types.Run.{no_more, and_then, of_opd, returns, enter}
+use types.ByLocal.{alloc_all, pass_all, free_all, look_at, get, sets, lands_as}
+use contract.Monad.{fact, fact_i}
+use contract.Running.{tables}
+use denote.Builtin.{u8, usize, bool}
+use denote.Exit.{no, yes}
+use denote.Follow.{follows_if}
+use denote.Array.{Array}
+use denote.Laws.{shows}
+use denote.Param.{ArrayAt, param, copied, number, bounded}
+use denote.Param.Laws.{param_laws, copied_laws, copied_copy, copy_told, Told, Laws, of_field, row_shared}
+use denote.RattleType.{RattleType, owns}
+use denote.Ref.{NamedLft, shr_vals, shr_Tells}
+use denote.Signature.{named_lft}
+use denote.Slice.{MutSlice}
+use denote.Steps.{nothing, heard, peeks}
+use denote.Triple.Call.{calls_at}
+use denote.Triple.Clauses.{lasts, Lasts}
+use denote.Triple.Entry.{alive}
+use denote.Triple.Spec.{triple_of}
+use denote.Triple.Table.{framed}
+use denote.Triple.Walked.{Stays, stay_dropped, walk_of, ends_at, says}
+use Rattle.std.proofs.raw_atomic.Walks.{proved}
+use Rattle.std.specs.Borrow.{name_if_ok}
+use Rattle.std.specs.Prelude.{Result, MatchResult, IsOk, ◌↔◌}
+use lib.Dec.{T}
+use Rattle.std.proofs.mem.Facts.{says_three}
+use Rattle.aegis_engine.proofs.Results.{accepted_ok, ok_accepted, slice_laws, weaken}
+use Rattle.aegis_base.specs.Message.{Opens, ciphertext, tag}
+use Rattle.aegis_base.specs.Run.{Stands, held}
+use Rattle.std.specs.declared.result.Result.TheVariants.{Ok, Err}
+use Rattle.std.proofs.result.Result.TheLaws.{the_row_laws as result_laws}
+use Rattle.aegis_base.proofs.error.Error.TheLaws.{the_row_laws as error_laws}
+use Rattle.aegis_base.specs.declared.error.Error.{Error}
+use Rattle.aegis_engine.proofs.destination.Settled.TheLaws.{the_row_laws as settled_laws}
+use denote.Struct.Field.{mut_slice_field, u8-field}
+use denote.Struct.Laws.{mut_slice_laws, u8-laws, u8-copy}
+use denote.Param.Shared.{mut_slice_shared, copy_shared}
+use Rattle.std.specs.contracts.result.Result as RS
+use Rattle.aegis_base.specs.contracts.error.Error as ER
+use Rattle.aegis_engine.specs.contracts.destination.Settled as ST
+use Rattle.aegis_engine.specs.contracts.decryptor.Decryptor as DT
+use Rattle.aegis_engine.proofs.decryptor.Decryptor.TheLaws as DL
+use Rattle.aegis_engine.specs.contracts.decryptor.Decryptor.finalize as f
+use Rattle.aegis_engine.specs.contracts.decryptor.Decryptor.settle as g
+use Rattle.aegis_engine.proofs.decryptor.Decryptor.settle.Met.{met as settle_met}
+use Rattle.aegis_engine.specs.contracts.destination.handed as h
+use Rattle.aegis_engine.proofs.destination.handed.Met.{met as handed_met}
+use Rattle.aegis_engine.proofs.decryptor.Decryptor.finalize.Statement.{statement}
+use Rattle.aegis_engine.proofs.decryptor.Decryptor.finalize.Code as code
+
+pub finalize_spec : {M : Type 1} → statement M
+finalize_spec 𝓤 𝓛 𝓜 𝓡 wired S V n K Rw LS LV fits LK LR CS CK CR gS dS gC dC gKC dKC gR dR gRC dRC gV dV mS mC mKC mR mRC mV =
+    let N = number n in
+    let En = f.ended S V N K Rw gS dS gC dC gKC dKC gR dR gRC dRC gV dV in
+    let c = f.clauses S V N K Rw gS dS gC dC gKC dKC gR dR gRC dRC gV dV 𝓛 𝓜.mem 𝓡.returns in
+    let G = triple_of 𝓛 (g.signature S V N K Rw gS dS gC dC gKC dKC gR dR gRC dRC gV dV) (g.spec S V N K Rw gS dS gC dC gKC dKC gR dR gRC dRC gV dV 𝓛 𝓜.mem 𝓡.returns) in
+    let Gn = g.ended S V N K Rw gS dS gC dC gKC dKC gR dR gRC dRC gV dV in
+    let I = triple_of 𝓛 h.signature (h.spec 𝓛 𝓜.mem 𝓡.returns) in
+    let args : Args = bounded (a_type ∷ a_type ∷ a_number ∷ a_type ∷ a_type ∷ []) (S, (V, (N, (K, (Rw, tt))))) (dcons dS (dcons dC (dcons dKC (dcons dR (dcons dRC (dcons dV dnil)))))) in
+    let fn : Fn = inst_fn args code.function in
+    let 𝓣 = tables 𝓤 𝓛.H 𝓜 𝓡 𝓡.env in
+    let hs : Stays En.signature.params En.kept = (stay_dropped _ no, (stay_dropped _ yes, tt)) in
+    let W = walk_of 𝓛 En hs c in
+    let Row : NamedLft → RattleType = λ a. DT.the_row a (copied 0 S) (param 1 V) (param 2 N) (copied 3 K) (copied 4 Rw) gS gR gV in
+    let LS' = copied_laws 0 S LS in let LV' = param_laws 1 V LV in let LK' = copied_laws 3 K LK in let LR' = copied_laws 4 Rw LR in
+    let told : (a : NamedLft) → Told (Row a) = λ a. DL.the_told a (copied 0 S) (param 1 V) (param 2 N) (copied 3 K) (copied 4 Rw) gS gR gV LS' LV' refl LK' LR' (copy_told (copied 0 S) (copied_copy 0 S CS)) in
+    let laws : (a : NamedLft) → Laws (Row a) = λ a. DL.the_row_laws a (copied 0 S) (param 1 V) (param 2 N) (copied 3 K) (copied 4 Rw) gS gR gV LS' LV' refl LK' LR' in
+    proved 𝓛 En hs c 𝓜 𝓡 ((λ κs x w vs ok. qed 𝓛 (‵ ftrue ∷ []) ∵ updating ! $ at_once ! $ nothing ! $ fjoin ! $ done !), ((λ κs x w vs ok. 𝓛.laws.⇛_intro (emp 𝓤)), tt))
+    (f.Key.name args) fn (code.unfolded 𝓤 𝓛.H 𝓜 𝓡 wired (S, (V, (N, (K, (Rw, tt))))) dS dC dKC dR dRC dV)
+    (λ κs. ((λ d. (told (named_lft 7 0 tt κs)).val d ∷ []), (shr_vals, tt))) (λ κs. ((told (named_lft 7 0 tt κs)).tells, (shr_Tells (named 1) κs.1.0 (ArrayAt u8 (param 2 N)), tt))) (λ κs qs bounds a _ are.
+    let κ = κs.0 in let q = qs.0 in let d = a.0 in
+    let y : W.Ghost = ((κs, qs, bounds, a, ((told (named_lft 7 0 tt κs)).val d ∷ [], (shr_vals a.1.0, tt))), tt) in
+    let typed = (((laws (named_lft 7 0 tt κs)).lawful 𝓛).typed d _ are.0).0 in
+    let others = ‵ (flft κs.1.0 qs.1.0) ⊛ ‵ (flft κs.1.1.0 qs.1.1.0) ⊛ ‵ (flft κs.1.1.1.0 qs.1.1.1.0) ⊛ ‵ (flft κs.1.1.1.1.0 qs.1.1.1.1.0) ⊛ ‵ (flft κs.1.1.1.1.1.0 qs.1.1.1.1.1.0) ⊛ ‵ (flft κs.1.1.1.1.1.1.0 qs.1.1.1.1.1.1.0) ⊛ ‵ ftrue in
+    let SRow : RattleType = ST.the_row (record { mir = named 0; lft = κ }) in
+    let L = gS in
+    let front = take d.written d.dst.now in
+    let Stood = λ (key nonce ad : List ℕ). Stands L.FAMILY L.LANES L.lane L.updates (held d.state d.block d.data_bytes d.written) key nonce ad front in
+    let IsTagged : Type 0 → Type 0 = λ P. (key nonce ad : List ℕ) → Stood key nonce ad → P ↔ (a.1.0.now ≡ tag L.FAMILY L.LANES n key nonce ad front) in
+    let IsFound : Type 0 → Type 0 = λ P. (key nonce ad m : List ℕ) → Stood key nonce ad → Opens L.FAMILY L.LANES n key nonce ad (ciphertext L.FAMILY L.LANES key nonce ad front) a.1.0.now m → P in
+    qed 𝓛 (raw (G.pre y) ∷ []) ∵ enter ! _ _ _ _ _ $ alloc_all ! (λ l. pass_all ! refl (typed, ((tt, tt), tt)) $
+    sets ! (of_opd ! (get ! refl)) refl typed $
+    calls_at ! (framed 𝓤 𝓛.H 𝓜 𝓣) G (settle_met 𝓤 𝓛 𝓜 𝓡 (code.calls-aegis_engine::decryptor::Decryptor::settle 𝓡.env wired) S V n K Rw LS LV fits LK LR CS CK CR gS dS gC dC gKC dKC gR dR gRC dRC gV dV mS mC mKC mR mRC mV) y
+    (and_then ! (get ! refl) (and_then ! (get ! refl) (no_more !))) (λ v.
+    use1 𝓛 (later (some (λ (r : SRow.Denot). ((‵ (flft κ q) ⊛ others) ⊛ ‵ (SRow.own_val r (v ∷ []))) ⊛ some (λ (ws : Lasts Gn κs a). ‵ (lasts Gn κs a ws)
+    ⊛ (raw (fact 𝓤 (r.dst.ghost_name ≡ d.dst.ghost_name)) ⊛ raw (fact 𝓤 (r.written ≡ d.written)) ⊛ raw (fact 𝓤 (r.written ≤ length r.dst.now)) ⊛ raw (fact 𝓤 (r.accepted ≡ true → r.dst.now ≡ d.dst.now))
+    ⊛ raw (fact 𝓤 (r.accepted ≡ false → r.dst.now ≡ replicate r.written 0 ++ drop_list r.written r.dst.now)) ⊛ raw (fact 𝓤 (drop_list r.written r.dst.now ≡ drop_list d.written d.dst.now)) ⊛ raw (fact 𝓤 (IsTagged (r.accepted ≡ true))) ⊛ raw (fact 𝓤 (IsFound (r.accepted ≡ true)))))))) (id⊢ 𝓤 (G.post y v)) $
+    await ! tt $ pick ! (λ r. split ! $ split ! $ move ! (2 ∷ []) $ pick ! (λ ws. split ! $ drop ! $ split ! $ heard ! _ (λ name. split ! $ heard ! _ (λ count. split ! $ heard ! _ (λ within. split ! $ heard ! _ (λ kept. split ! $ heard ! _ (λ gone. split ! $ heard ! _ (λ rest. split ! $ heard ! _ (λ tagged. heard ! _ (λ found.
+    move ! (1 ∷ []) $ peeks ! SRow _ (shows 𝓛 SRow) r (v ∷ []) (λ is.
+    lands_as ! refl refl (((settled_laws (record { mir = named 0; lft = κ })).lawful 𝓛).typed r _ is).0 $
+    -- [the settled one; the tokens; the locals]
+    let z : I.Ghost = (((κ, tt), (q, tt), tt, (r, tt), (v ∷ [], tt)), tt) in
+    let Lent = MutSlice (named 0) κ u8 in let Out = RS.the_row Lent ER.the_row in
+    let Ends : GName → ℕ → List ℕ → Out.Denot → Fml = λ γ m l o. follows_if (Array u8 0) (Array u8 0) γ (name_if_ok (λ x. x.ghost_name) o) (λ w. w ++ l) (replicate m 0 ++ l) in
+    let Cases : Out.Denot → Type 0 = λ o. MatchResult o (λ x. (r.accepted ≡ true) × (x.now ≡ take r.written r.dst.now)) (λ e. (r.accepted ≡ false) × (e ≡ Error.InvalidTag)) in
+    nothing ! $ move ! (1 ∷ 0 ∷ []) $ join ! $ move ! (1 ∷ []) $ split ! $ nothing ! $ move ! (1 ∷ 0 ∷ []) $ join ! $ move ! (0 ∷ 2 ∷ []) $ join ! $
+    use0 𝓛 (raw (fact 𝓤 (r.accepted ≡ false → r.dst.now ≡ replicate r.written 0 ++ drop_list r.written r.dst.now))) (fact_i 𝓤 _ (emp 𝓤) gone) $
+    use0 𝓛 (raw (fact 𝓤 (r.written ≤ length r.dst.now))) (fact_i 𝓤 _ (emp 𝓤) within) $ join ! $ move ! (1 ∷ 0 ∷ []) $ use2 𝓛 (raw (I.pre z)) (id⊢ 𝓤 _) $
+    calls_at ! (framed 𝓤 𝓛.H 𝓜 𝓣) I (handed_met 𝓤 𝓛 𝓜 𝓡 (code.calls-aegis_engine::destination::handed 𝓡.env wired)) z (and_then ! (get ! refl) (no_more !)) (λ u.
+    use1 𝓛 (later (some (λ (o : Out.Denot). ((‵ (flft κ q) ⊛ ‵ ftrue) ⊛ ‵ (Out.own_val o (u ∷ []))) ⊛ some (λ (ws' : Lasts h.ended (κ, tt) (r, tt)). ‵ (lasts h.ended (κ, tt) (r, tt) ws')
+    ⊛ (‵ (Ends r.dst.ghost_name r.written (drop_list r.written r.dst.now) o) ⊛ raw (fact 𝓤 (Cases o))))))) (id⊢ 𝓤 (I.post z u)) $
+    await ! tt $ pick ! (λ o. split ! $ split ! $ move ! (2 ∷ []) $ pick ! (λ ws'. split ! $ drop ! $ split ! $ move ! (1 ∷ []) $ heard ! _ (λ cases.
+    -- [how it ends; the token; the result; the other tokens; the locals]
+    rewrite ! 0 (λ (γ : GName). ‵ (Ends γ r.written (drop_list r.written r.dst.now) o)) name refl $
+    rewrite ! 0 (λ (m : ℕ). ‵ (Ends d.dst.ghost_name m (drop_list r.written r.dst.now) o)) count refl $
+    rewrite ! 0 (λ (l : List ℕ). ‵ (Ends d.dst.ghost_name d.written l o)) rest refl $
+    move ! (2 ∷ []) $ peeks ! Out _ (shows 𝓛 Out) o (u ∷ []) (λ is'.
+    lands_as ! refl refl (((result_laws Lent ER.the_row (slice_laws (named 0) κ) error_laws).lawful 𝓛).typed o _ is').0 $
+    returns ! (look_at ! 0 refl) $ free_all ! refl $
+    let by_cases : MatchResult o (λ _. r.accepted ≡ true) (λ _. r.accepted ≡ false) = weaken o (λ x p. p.0) (λ e p. p.0) cases in
+    suffices ! _ (ends_at 𝓛 En hs c y u o ((tt, tt), (tt, tt)) (tt, (tt, tt))) $
+    nothing ! $ nothing ! $ fjoin ! $ nothing ! $ fjoin ! $ join ! $ move ! (2 ∷ []) $ split ! $ keep ! (0 ∷ 4 ∷ 2 ∷ 3 ∷ []) $ join ! $ join ! $ frame ! $
+    says_three ! (weaken o (λ x p. p.1 ∙ ap (λ (w : ℕ × List ℕ). take w.0 w.1) (λ i. (count i, kept p.0 i))) (λ e p. p.1) cases,
+    (λ key nonce ad stands. let same = tagged key nonce ad stands in ((λ ok. same.0 (ok_accepted o by_cases ok)), (λ is. accepted_ok o by_cases (same.1 is)))),
+    (λ key nonce ad m stands opens. accepted_ok o by_cases (found key nonce ad m stands opens))) $ done !)))))))))))))))))))

@@ -1,0 +1,7 @@
+use Rattle.std.proofs.Common.{◌+◌, ◌-◌, ◌≤◌, length, arith}
+use Rattle.std.proofs.lemmas.Slice.{drop-put_mid}
+use Rattle.aegis_engine.proofs.opening.append.Goals as goal
+
+pub returns-clause-rest : goal.returns-clause-rest
+returns-clause-rest g c n low =
+    drop-put_mid c.args.written (c.args.written + length c.args.chunk.now - c.args.written) c.args.dst.now c.open_more.new.mc n (omega arith) (omega arith) (omega arith)

@@ -1,0 +1,71 @@
+//! Borrowed destinations: what is written to their front is handed out, or zeros are left there.
+
+ghost use Rattle.std.specs.Prelude.{◌≡◌, ℕ, ◌≤◌, ◌++◌, IfErr, MatchResult, OnErr, OnOk, drop, false, length, replicate, take, true};
+ghost use Rattle.std.specs.Borrow.{Array, LendsIfOk, sem, u8};
+
+use aegis_base::Error;
+
+/// A destination of which the first `written` bytes are a message, which is accepted or not.
+#[derive(Drop)]
+pub struct Settled<'a> {
+    pub dst: &'a mut [u8],
+    pub written: usize,
+    pub accepted: bool,
+}
+
+/// The message, where it is accepted. Otherwise there are zeros in its place already.
+pub fn handed<'a>(settled: Settled<'a>) -> Result<&'a mut [u8], Error>
+    requires within { settled.written ≤ length settled.dst.now }
+    requires erased { settled.accepted ≡ false → settled.dst.now ≡ replicate settled.written 0 ++ drop settled.written settled.dst.now }
+    ensures* writes_back { sem 𝓛 (LendsIfOk (Array u8 0) (Array u8 0) settled.entry.dst result (λ w. w ++ drop settled.entry.written settled.entry.dst.now) (replicate settled.entry.written 0 ++ drop settled.entry.written settled.entry.dst.now)) }
+    ensures cases { MatchResult result (λ message. (settled.entry.accepted ≡ true) × (message.now ≡ take settled.entry.written settled.entry.dst.now)) (λ e. (settled.entry.accepted ≡ false) × (e ≡ Error.InvalidTag)) }
+{
+    let Settled {
+        dst,
+        written,
+        accepted,
+    } = settled;
+    if accepted {
+        Ok(&mut dst[..written])
+    } else {
+        Err(Error::InvalidTag)
+    }
+}
+
+/// Leaves zeros in the place of the first `written` bytes.
+pub fn erase(dst: &mut [u8], written: usize)
+    requires { written ≤ length dst.old }
+    ensures { dst.new ≡ replicate written 0 ++ drop written dst.old }
+{
+    dst[..written].fill(0);
+}
+
+/// Leaves zeros in the place of the first `written` bytes, unless they are accepted.
+#[tactic(auto, using(crate::proofs::DestinationFacts::rest_stays))]
+pub fn erase_unless(dst: &mut [u8], written: usize, accepted: bool)
+    requires { written ≤ length dst.old }
+    ensures kept { accepted ≡ true → dst.new ≡ dst.old }
+    ensures erased { accepted ≡ false → dst.new ≡ replicate written 0 ++ drop written dst.new }
+    ensures rest { drop written dst.new ≡ drop written dst.old }
+{
+    if !accepted {
+        erase(dst, written);
+    }
+}
+
+/// The number of bytes of a message that is accepted. Otherwise zeros are left in its place.
+pub fn counted(dst: &mut [u8], written: usize, accepted: bool) -> Result<usize, Error>
+    requires { written ≤ length dst.old }
+    ensures written { OnOk result (result ≡ Ok written) }
+    ensures message { OnOk result (dst.new ≡ dst.old) }
+    ensures erased { OnErr result (dst.new ≡ replicate written 0 ++ drop written dst.old) }
+    ensures error { IfErr result (λ e. e ≡ Error.InvalidTag) }
+    ensures accepted { MatchResult result (λ _. accepted ≡ true) (λ _. accepted ≡ false) }
+{
+    if accepted {
+        Ok(written)
+    } else {
+        erase(dst, written);
+        Err(Error::InvalidTag)
+    }
+}

@@ -1,0 +1,139 @@
+//! Opening a ciphertext's chunks in a destination, each behind what the ones before it left there.
+//!
+//! As in `message`, what a message is opened by is plain values. The message so far is the front of the destination, and
+//! contracts say which key, nonce and associated data the values stand for, with that message.
+
+ghost use Rattle.std.specs.Prelude.{◌≡◌, ℕ, ◌+◌, ◌^◌, ◌<◌, ◌≤◌, ◌⊎◌, ◌↔◌, ◌++◌, IsOk, List, OnErr, OnOk, drop, length, take, true};
+ghost use Rattle.aegis_base.specs.Chunks.{accepted_after};
+ghost use Rattle.aegis_base.specs.Message.{Opens, ciphertext, tag as tag_of};
+ghost use Rattle.aegis_base.specs.Run.{Stands, held};
+
+use crate::message::{finish, open_more};
+use crate::pass::Block;
+use crate::tag::same_bytes;
+use aegis_base::{Error, LaneState, Length, MAX_AEAD_BYTES};
+
+// Opens the next chunk behind the first `written` bytes of the destination, which has room for it.
+fn append<S: LaneState>(
+    state: S,
+    block: &mut Block,
+    data_bytes: u64,
+    written: usize,
+    dst: &mut [u8],
+    chunk: &[u8],
+) -> S
+    requires within { written + length chunk.now ≤ length dst.old }
+    requires countable { S.updates state + length chunk.now < 2 ^ 64 }
+    ensures stands { (key nonce ad : List ℕ)
+        → Stands S.FAMILY S.LANES S.lane S.updates (held state block.old data_bytes written) key nonce ad (take written dst.old)
+        → Stands S.FAMILY S.LANES S.lane S.updates (held result block.new data_bytes (written + length chunk.now)) key nonce ad (take (written + length chunk.now) dst.new) }
+    ensures ciphertext { (key nonce ad : List ℕ)
+        → Stands S.FAMILY S.LANES S.lane S.updates (held state block.old data_bytes written) key nonce ad (take written dst.old)
+        → ciphertext S.FAMILY S.LANES key nonce ad (take (written + length chunk.now) dst.new) ≡ ciphertext S.FAMILY S.LANES key nonce ad (take written dst.old) ++ chunk.now }
+    ensures length { length dst.new ≡ length dst.old }
+    ensures front { take written dst.new ≡ take written dst.old }
+    ensures rest { (n : ℕ) → written + length chunk.now ≤ n → drop n dst.new ≡ drop n dst.old }
+    ensures few { S.updates result ≤ S.updates state + length chunk.now }
+{
+    let part = &mut dst[written..written + chunk.len()];
+    part.copy_from_slice(chunk);
+    open_more(state, block, data_bytes, written as u64, part)
+}
+
+/// Opens the next chunk behind the first `written` bytes of the destination and counts it, if it has room there and keeps
+/// the message within its limit. Otherwise nothing changes.
+pub fn open_chunk<S: LaneState>(
+    state: &mut S,
+    block: &mut Block,
+    data_bytes: u64,
+    written: &mut Length,
+    dst: &mut [u8],
+    chunk: &[u8],
+) -> Result<(), Error>
+    requires within { written.old ≤ length dst.old }
+    requires associated_data_within { data_bytes ≤ MAX_AEAD_BYTES }
+    requires counted { S.updates state.old ≤ data_bytes + written.old }
+    ensures too_small { (result ≡ Err Error.OutputBufferTooSmall) ↔ (length dst.old < written.old + length chunk.now) }
+    ensures too_long { (result ≡ Err Error.MessageTooLong) ↔ ((written.old + length chunk.now ≤ length dst.old) × (MAX_AEAD_BYTES < written.old + length chunk.now)) }
+    ensures accepted { IsOk result ↔ ((written.old + length chunk.now ≤ length dst.old) × (written.old + length chunk.now ≤ MAX_AEAD_BYTES)) }
+    ensures stands { (key nonce ad : List ℕ)
+        → Stands S.FAMILY S.LANES S.lane S.updates (held state.old block.old data_bytes written.old) key nonce ad (take written.old dst.old)
+        → Stands S.FAMILY S.LANES S.lane S.updates (held state.new block.new data_bytes written.new) key nonce ad (take written.new dst.new) }
+    ensures ciphertext { (key nonce ad : List ℕ)
+        → Stands S.FAMILY S.LANES S.lane S.updates (held state.old block.old data_bytes written.old) key nonce ad (take written.old dst.old)
+        → OnOk result (ciphertext S.FAMILY S.LANES key nonce ad (take written.new dst.new) ≡ ciphertext S.FAMILY S.LANES key nonce ad (take written.old dst.old) ++ chunk.now) }
+    ensures written { OnOk result (written.new ≡ written.old + length chunk.now) }
+    ensures grows { written.old ≤ written.new }
+    ensures within { written.new ≤ length dst.new }
+    ensures length { length dst.new ≡ length dst.old }
+    ensures front { take written.old dst.new ≡ take written.old dst.old }
+    ensures rest { (n : ℕ) → written.new ≤ n → drop n dst.new ≡ drop n dst.old }
+    ensures unchanged { OnErr result ((state.new ≡ state.old) × (block.new ≡ block.old) × (written.new ≡ written.old) × (dst.new ≡ dst.old)) }
+    ensures few { S.updates state.new ≤ data_bytes + written.new }
+{
+    let so_far = written.get() as usize;
+    if chunk.len() > dst.len() - so_far {
+        return Err(Error::OutputBufferTooSmall);
+    }
+    written.add(chunk.len() as u64)?;
+    *state = append(*state, block, data_bytes, so_far, dst, chunk);
+    Ok(())
+}
+
+/// Opens chunks from left to right. One that has no room in the destination, or would take the message past its limit, is
+/// left out whole.
+pub fn open_all<S: LaneState>(
+    state: &mut S,
+    block: &mut Block,
+    data_bytes: u64,
+    written: &mut Length,
+    dst: &mut [u8],
+    chunks: &[&[u8]],
+)
+    requires within { written.old ≤ length dst.old }
+    requires associated_data_within { data_bytes ≤ MAX_AEAD_BYTES }
+    requires counted { S.updates state.old ≤ data_bytes + written.old }
+    ensures stands { (key nonce ad : List ℕ)
+        → Stands S.FAMILY S.LANES S.lane S.updates (held state.old block.old data_bytes written.old) key nonce ad (take written.old dst.old)
+        → Stands S.FAMILY S.LANES S.lane S.updates (held state.new block.new data_bytes written.new) key nonce ad (take written.new dst.new) }
+    ensures ciphertext { (key nonce ad : List ℕ)
+        → Stands S.FAMILY S.LANES S.lane S.updates (held state.old block.old data_bytes written.old) key nonce ad (take written.old dst.old)
+        → ciphertext S.FAMILY S.LANES key nonce ad (take written.new dst.new)
+        ≡ accepted_after (length dst.old) (ciphertext S.FAMILY S.LANES key nonce ad (take written.old dst.old)) chunks.now }
+    ensures written { (kept : List ℕ) → length kept ≡ written.old → written.new ≡ length (accepted_after (length dst.old) kept chunks.now) }
+    ensures within { written.new ≤ length dst.new }
+    ensures rest { (n : ℕ) → written.new ≤ n → drop n dst.new ≡ drop n dst.old }
+    ensures few { S.updates state.new ≤ data_bytes + written.new }
+{
+    for chunk in chunks {
+        let _ = open_chunk(state, block, data_bytes, written, dst, chunk);
+    }
+}
+
+/// Whether this is the tag of the message.
+pub fn has_tag<S: LaneState, const TAG_BYTES: usize>(
+    state: S,
+    block: &Block,
+    data_bytes: u64,
+    message_bytes: u64,
+    tag: &[u8; TAG_BYTES],
+) -> bool
+    requires tag_bytes { (TAG_BYTES ≡ 16) ⊎ (TAG_BYTES ≡ 32) }
+    requires countable { S.updates state + 8 < 2 ^ 64 }
+    requires associated_data_within { data_bytes ≤ MAX_AEAD_BYTES }
+    requires message_within { message_bytes ≤ MAX_AEAD_BYTES }
+    ensures tag { (key nonce ad m : List ℕ)
+        → Stands S.FAMILY S.LANES S.lane S.updates (held state block.now data_bytes message_bytes) key nonce ad m
+        → (result ≡ true) ↔ (tag.now ≡ tag_of S.FAMILY S.LANES TAG_BYTES key nonce ad m) }
+    ensures accepted { (key nonce ad m opened : List ℕ)
+        → Stands S.FAMILY S.LANES S.lane S.updates (held state block.now data_bytes message_bytes) key nonce ad m
+        → Opens S.FAMILY S.LANES TAG_BYTES key nonce ad (ciphertext S.FAMILY S.LANES key nonce ad m) tag.now opened
+        → result ≡ true }
+    ensures only { (key nonce ad m opened : List ℕ)
+        → Stands S.FAMILY S.LANES S.lane S.updates (held state block.now data_bytes message_bytes) key nonce ad m
+        → Opens S.FAMILY S.LANES TAG_BYTES key nonce ad (ciphertext S.FAMILY S.LANES key nonce ad m) tag.now opened
+        → m ≡ opened }
+{
+    let expected: [u8; TAG_BYTES] = finish(state, block, data_bytes, message_bytes);
+    same_bytes(&expected, tag)
+}

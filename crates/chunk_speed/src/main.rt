@@ -1,0 +1,89 @@
+//! The chunked calls beside the one-shot calls, for each variant, on a message of a MiB.
+//!
+//! With a word as its argument it prints a table of speeds, which `make bench` keeps as `bench/CHUNKS.md`. Without one it
+//! seals and opens one message of each variant in chunks.
+#![tactic(auto)]
+
+mod variant;
+
+use std::env;
+use std::io;
+use std::rt::Runtime;
+use std::time::{Duration, Instant};
+use variant::{VARIANTS, Variant};
+
+const MESSAGE_BYTES: usize = 1 << 20;
+
+// Zero stands for all bytes at once.
+const CHUNK_BYTES: [usize; 5] = [0, 16, 100, 1024, 16384];
+
+const TURNS: usize = 20;
+
+/// How long sealing and opening took.
+#[derive(Clone, Copy)]
+struct Times {
+    seal: Duration,
+    open: Duration,
+}
+
+// One message sealed and opened in chunks of `size` bytes. It has to come back.
+fn turn<R: Runtime>(
+    rt: &R,
+    variant: Variant,
+    size: usize,
+    buffer: &mut [u8],
+    plaintext: &mut [u8],
+) -> io::Result<Times> {
+    let buffer = &mut buffer[..buffer.len().min(MESSAGE_BYTES)];
+    let start = Instant::now(rt)?;
+    let tag = variant.seal(size, buffer);
+    let seal = start.elapsed(rt)?;
+    let start = Instant::now(rt)?;
+    let opened = variant.open(size, &tag, buffer, plaintext);
+    let open = start.elapsed(rt)?;
+    if opened {
+        Ok(Times { seal, open })
+    } else {
+        Err(io::Error::from(io::ErrorKind::InvalidData))
+    }
+}
+
+// The shortest times of some turns.
+fn best<R: Runtime>(
+    rt: &R,
+    variant: Variant,
+    size: usize,
+    buffer: &mut [u8],
+    plaintext: &mut [u8],
+) -> io::Result<Times> {
+    let mut best = turn(rt, variant, size, buffer, plaintext)?;
+    for _turn in 0..TURNS {
+        let times = turn(rt, variant, size, buffer, plaintext)?;
+        best = Times {
+            seal: best.seal.min(times.seal),
+            open: best.open.min(times.open),
+        };
+    }
+    Ok(best)
+}
+
+fn main(rt: HostRuntime) -> io::Result<()> {
+    let mut buffer = vec![in rt.alloc(); 0x5au8; MESSAGE_BYTES]?;
+    let mut plaintext = vec![in rt.alloc(); 0u8; MESSAGE_BYTES]?;
+    let measured = env::args(&rt)?.count() > 1;
+    for variant in VARIANTS {
+        let name = variant.name();
+        if !measured {
+            turn(&rt, variant, 1000, &mut buffer, &mut plaintext)?;
+            println!(rt; "{name}: sealed and opened in chunks")?;
+            continue;
+        }
+        for size in CHUNK_BYTES {
+            let times = best(&rt, variant, size, &mut buffer, &mut plaintext)?;
+            let seal = times.seal.as_micros();
+            let open = times.open.as_micros();
+            println!(rt; "| {name} | {size} | {seal} | {open} |")?;
+        }
+    }
+    Ok(())
+}
