@@ -76,7 +76,10 @@ impl Tag {
 
 // Makes the call on what a type of the crate `aegis` makes of a variant's keys. There is a type for each variant.
 macro_rules! with_type {
-    ($a:ident, $b:ident, $c:ident, $d:ident, $e:ident, $f:ident, $tag_bytes:tt, $make:ident, $of:expr, $made:ident => $call:expr) => {
+    (
+        $a:ident, $b:ident, $c:ident, $d:ident, $e:ident, $f:ident,
+        $tag_bytes:tt, $make:ident, $of:expr, $made:ident => $call:expr
+    ) => {
         match $of {
             Cipher::Aegis128L(keys) => {
                 let $made = $a::<$tag_bytes>::$make(&keys.key, &keys.nonce);
@@ -154,7 +157,9 @@ impl Cipher {
         requires lengths { length ciphertext.old ≡ length (joined chunks.now) }
         ensures { (ciphertext.new, result) ≡ sealed_by self.now TAG_BYTES associated_data.now (joined chunks.now) }
     {
-        with_cipher!(self, TAG_BYTES, cipher => cipher.seal_chunks(associated_data, chunks, ciphertext))
+        with_cipher!(self, TAG_BYTES, cipher => {
+            cipher.seal_chunks(associated_data, chunks, ciphertext)
+        })
     }
 
     /// Makes a ciphertext the message that seals to it and to the tag. The only error is an invalid
@@ -171,7 +176,9 @@ impl Cipher {
         ensures opened { OnOk result (sealed_by self.now TAG_BYTES associated_data.now buffer.new ≡ (buffer.old, tag.now)) }
         ensures accepted { (m : List ℕ) → sealed_by self.now TAG_BYTES associated_data.now m ≡ (buffer.old, tag.now) → IsOk result }
     {
-        with_cipher!(self, TAG_BYTES, cipher => cipher.decrypt_in_place(buffer, tag, associated_data))
+        with_cipher!(self, TAG_BYTES, cipher => {
+            cipher.decrypt_in_place(buffer, tag, associated_data)
+        })
     }
 
     /// Writes the keystream over a buffer.

@@ -2,13 +2,13 @@
 
 ghost use Rattle.std.specs.Prelude.{◌≡◌, ◌⊎◌, ◌≤◌, length};
 
-use aegis::{Error, MAX_AEAD_BYTES};
 use aegis::aegis128l::Aegis128L;
 use aegis::aegis128x2::Aegis128X2;
 use aegis::aegis128x4::Aegis128X4;
 use aegis::aegis256::Aegis256;
 use aegis::aegis256x2::Aegis256X2;
 use aegis::aegis256x4::Aegis256X4;
+use aegis::{Error, MAX_AEAD_BYTES};
 use std::alloc::Allocator;
 
 pub const SHORT_KEY: [u8; 16] = *b"YELLOW SUBMARINE";
