@@ -3,6 +3,7 @@
 #![tactic(auto)]
 
 pub mod chunks;
+pub mod headline;
 pub mod opening;
 
 ghost use Rattle.std.specs.Prelude.{◌≡◌, ◌≤◌, IfOk, IsOk, List, OnErr, OnOk, length, replicate, ℕ};

@@ -173,6 +173,9 @@ impl<'a, S: LaneState, V: Variant, const TAG_BYTES: usize> Decryptor<'a, S, V, T
             → Stands S.FAMILY S.LANES S.lane S.updates (held self.entry.state self.entry.block self.entry.data_bytes self.entry.written) key nonce ad (take self.entry.written self.entry.dst.now)
             → Opens S.FAMILY S.LANES TAG_BYTES key nonce ad (ciphertext S.FAMILY S.LANES key nonce ad (take self.entry.written self.entry.dst.now)) tag.now m
             → IsOk result }
+        ensures only { (key nonce ad m : List ℕ)
+            → ciphertext S.FAMILY S.LANES key nonce ad m ≡ ciphertext S.FAMILY S.LANES key nonce ad (take self.entry.written self.entry.dst.now)
+            → m ≡ take self.entry.written self.entry.dst.now }
     {
         let Decryptor {
             dst,
