@@ -22,9 +22,11 @@ LINK_RUST = -L native=$(dir $(C_LIBRARY)) -l static=aegis_c
 CPU = x86-64-v2
 BENCH_FLAGS = -C target-cpu=$(CPU) -C no-vectorize-slp
 
-# Measures the library beside look-up tables and AES instructions; writes bench/RESULTS.md and bench/results.svg.
+# Measures the library beside look-up tables and AES instructions, and the chunked calls beside the one-shot calls; writes
+# bench/RESULTS.md, bench/results.svg and bench/CHUNKS.md.
 bench: $(OUT)/driver
 	$(OUT)/driver bench
+	(cat bench/chunks.md; cd crates/chunk_speed && rt run -- bench | grep '^|') > bench/CHUNKS.md
 
 # The tests of the C interface: its header, both examples, and every call of it against known answers.
 check-c: check-header example-c example-rust $(OUT)/driver
