@@ -87,8 +87,8 @@ impl<'a, S: LaneState, V: Variant, const TAG_BYTES: usize> Decryptor<'a, S, V, T
 
     /// Opens the next chunk of the ciphertext, behind what is written to the destination.
     ///
-    /// [`Error::OutputBufferTooSmall`] exactly where the chunk is longer than the room left. Otherwise
-    /// [`Error::MessageTooLong`] exactly where the message would pass [`MAX_AEAD_BYTES`]. Nothing changes then.
+    /// A chunk that the room left cannot take is [`Error::OutputBufferTooSmall`], and one that fits but makes the message pass
+    /// [`MAX_AEAD_BYTES`] is [`Error::MessageTooLong`]. Neither changes anything, and no other chunk is refused.
     pub fn update(&mut self, chunk: &[u8]) -> Result<(), Error>
         ensures same_reference { self.new.dst.ghost_name ≡ self.old.dst.ghost_name }
         ensures too_small { (result ≡ Err Error.OutputBufferTooSmall) ↔ (length self.old.dst.now < self.old.written + length chunk.now) }

@@ -18,7 +18,7 @@ const UNDERSTOOD: u8 = 0;
 /// Some answer began with `error `.
 const NOT_UNDERSTOOD: u8 = 1;
 
-/// A read, a write or the last flush failed, a write took no byte, or memory was refused.
+/// The input or the output failed, or the allocator did.
 const FAILED: u8 = 2;
 
 /// How many bytes one read may give.
