@@ -1,4 +1,5 @@
 mod LinesFacts
+mod OpenFacts
 mod OutputFacts
 mod PieceFacts
 mod Reading

@@ -89,7 +89,7 @@ request_from (commands.Round block key) = Round block key
 request_from (commands.Seal cipher tag_length associated_data message) =
     Seal (variant_of cipher) (tag_length_of tag_length) (key_of cipher) (nonce_of cipher) associated_data.bytes.items (together message.pieces.items)
 request_from (commands.Open cipher tag associated_data ciphertext) =
-    Open (variant_of cipher) (tag_size_of tag) (key_of cipher) (nonce_of cipher) associated_data.bytes.items ciphertext.bytes.items (tag_bytes_of tag)
+    Open (variant_of cipher) (tag_size_of tag) (key_of cipher) (nonce_of cipher) associated_data.bytes.items (together ciphertext.pieces.items) (tag_bytes_of tag)
 request_from (commands.Stream cipher count) = Stream (variant_of cipher) (key_of cipher) (nonce_of cipher) count
 request_from (commands.Xor cipher message) = Xor (variant_of cipher) (key_of cipher) (nonce_of cipher) message.items
 request_from (commands.Mac cipher tag_length message) =

@@ -24,7 +24,7 @@ request_in names.Seal fields =
     (bytes_of (field_of fields 4)) (bytes_of (field_of fields 5)) (joined_of (field_of fields 6))
 request_in names.Open fields =
     Open (variant_in (field_of fields 1)) (tag_length_in (field_of fields 2)) (bytes_of (field_of fields 3))
-    (bytes_of (field_of fields 4)) (bytes_of (field_of fields 5)) (bytes_of (field_of fields 6)) (bytes_of (field_of fields 7))
+    (bytes_of (field_of fields 4)) (bytes_of (field_of fields 5)) (joined_of (field_of fields 6)) (bytes_of (field_of fields 7))
 request_in names.Stream fields =
     Stream (variant_in (field_of fields 1)) (bytes_of (field_of fields 2)) (bytes_of (field_of fields 3))
     (count_in (field_of fields 4))

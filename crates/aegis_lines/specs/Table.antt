@@ -45,7 +45,7 @@ pub data Kind : Type 0 where
 abbrev pub kinds_of : Name → List Kind
 kinds_of Round = Block ∷ Block ∷ []
 kinds_of Seal = VariantName ∷ TagLength ∷ Key ∷ Key ∷ Limited ∷ Pieces ∷ []
-kinds_of Open = VariantName ∷ TagLength ∷ Key ∷ Key ∷ Limited ∷ Limited ∷ Tag ∷ []
+kinds_of Open = VariantName ∷ TagLength ∷ Key ∷ Key ∷ Limited ∷ Pieces ∷ Tag ∷ []
 kinds_of Stream = VariantName ∷ Key ∷ Key ∷ Count ∷ []
 kinds_of Xor = VariantName ∷ Key ∷ Key ∷ Bytes ∷ []
 kinds_of Mac = VariantName ∷ TagLength ∷ Key ∷ Key ∷ Pieces ∷ []

@@ -1,6 +1,6 @@
 //! The answer of a line.
 
-ghost use Rattle.std.specs.Prelude.{◌≡◌, IfErr, IfOk};
+ghost use Rattle.std.specs.Prelude.{◌≡◌, ◌⊎◌, IfErr, IfOk};
 ghost use Rattle.aegis_base.specs.declared.error.Error.TheVariants.{OutOfMemory};
 ghost use Rattle.aegis_lines.specs.Answer.{IsAnswer, IsOpeningAnswer, IsReply, shown_pair};
 ghost use Rattle.aegis_lines.specs.Command.{mac_by, request_from, sealed_by, tag_bytes_of, tag_size_of};
@@ -125,20 +125,33 @@ fn open<A: Allocator + Copy>(
     cipher: Cipher,
     tag: Tag,
     associated_data: Limited<A>,
-    ciphertext: Limited<A>,
+    ciphertext: Pieces<A>,
 ) -> Result<Vec<u8, A>, AllocError>
-    ensures { IfOk result (λ text. IsOpeningAnswer (λ m. sealed_by cipher (tag_size_of tag) associated_data.bytes.items m ≡ (ciphertext.bytes.items, tag_bytes_of tag)) text.items) }
+    ensures { IfOk result (λ text. IsOpeningAnswer (λ m. sealed_by cipher (tag_size_of tag) associated_data.bytes.items m ≡ (together ciphertext.pieces.items, tag_bytes_of tag)) text.items) }
 {
-    let mut buffer = ciphertext.bytes;
-    let opened = match tag {
-        Tag::Short(bytes) => cipher.open::<16>(&associated_data.bytes, &mut buffer, &bytes),
-        Tag::Long(bytes) => cipher.open::<32>(&associated_data.bytes, &mut buffer, &bytes),
-    };
-    if opened.is_err() {
-        return Vec::from_slice(alloc, b"invalid tag");
+    match tag {
+        Tag::Short(tag) => open_by_tag(alloc, cipher, &tag, &associated_data, &ciphertext),
+        Tag::Long(tag) => open_by_tag(alloc, cipher, &tag, &associated_data, &ciphertext),
     }
+}
+
+fn open_by_tag<A: Allocator + Copy, const TAG_BYTES: usize>(
+    alloc: A,
+    cipher: Cipher,
+    tag: &[u8; TAG_BYTES],
+    associated_data: &Limited<A>,
+    ciphertext: &Pieces<A>,
+) -> Result<Vec<u8, A>, AllocError>
+    requires { (TAG_BYTES ≡ 16) ⊎ (TAG_BYTES ≡ 32) }
+    ensures { IfOk result (λ text. IsOpeningAnswer (λ m. sealed_by cipher TAG_BYTES associated_data.now.bytes.items m ≡ (together ciphertext.now.pieces.items, tag.now)) text.items) }
+{
+    let chunks = ciphertext.chunks(alloc)?;
+    let mut buffer = vec![in alloc; 0u8; ciphertext.len]?;
+    let Ok(message) = cipher.open(&associated_data.bytes, &chunks, tag, &mut buffer) else {
+        return Vec::from_slice(alloc, b"invalid tag");
+    };
     let mut text = Vec::from_slice(alloc, b"ok ")?;
-    push_bytes(alloc, &mut text, &buffer)?;
+    push_bytes(alloc, &mut text, message)?;
     Ok(text)
 }
 

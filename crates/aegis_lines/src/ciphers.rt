@@ -1,7 +1,8 @@
 //! The six ciphers, with their keys.
 
-ghost use Rattle.std.specs.Prelude.{◌≡◌, ◌⊎◌, ◌≤◌, ℕ, List, length, IsOk, OnOk};
+ghost use Rattle.std.specs.Prelude.{◌≡◌, ◌⊎◌, ◌≤◌, ℕ, List, length, IsOk, MatchResult};
 ghost use Rattle.aegis_base.specs.Chunks.{joined};
+ghost use Rattle.aegis_base.specs.Message.{Opens};
 ghost use Rattle.aegis_lines.specs.Command.{cipher_with, keys_of_length, mac_by, parts_of, sealed_by, stream_of, tag_bytes_of, tag_size_of, tag_with, xored_by};
 ghost use Rattle.aegis_lines.specs.Fault.{Gives};
 ghost use Rattle.aegis_lines.specs.Variant.{tag_length_of};
@@ -15,6 +16,7 @@ use aegis::aegis256::{Aegis256, Aegis256Mac};
 use aegis::aegis256x2::{Aegis256X2, Aegis256X2Mac};
 use aegis::aegis256x4::{Aegis256X4, Aegis256X4Mac};
 use aegis::{Error, MAX_AEAD_BYTES};
+use aegis_base::LaneState;
 
 /// A key and a nonce, of `N` bytes each.
 #[derive(Clone, Copy, Debug)]
@@ -129,6 +131,26 @@ macro_rules! with_mac {
     };
 }
 
+// Opens chunks into a destination of their length, which keeps them all.
+fn open_all<'a, S: LaneState, V: aegis_base::Variant, const TAG_BYTES: usize>(
+    cipher: &aegis::Cipher<S, S::Key, V, TAG_BYTES>,
+    associated_data: &[u8],
+    chunks: &[&[u8]],
+    tag: &[u8; TAG_BYTES],
+    message: &'a mut [u8],
+) -> Result<&'a mut [u8], Error>
+    requires associated_data { length associated_data.now ≤ MAX_AEAD_BYTES }
+    requires ciphertext { length (joined chunks.now) ≤ MAX_AEAD_BYTES }
+    requires lengths { length message.old ≡ length (joined chunks.now) }
+    ensures opened { MatchResult result
+        (λ m. Opens S.FAMILY S.LANES TAG_BYTES (S.key_bytes cipher.now.key) (S.key_bytes cipher.now.nonce) associated_data.now (joined chunks.now) tag.now m.now)
+        (λ e. e ≡ Error.InvalidTag) }
+    ensures accepted { (m : List ℕ) → Opens S.FAMILY S.LANES TAG_BYTES (S.key_bytes cipher.now.key) (S.key_bytes cipher.now.nonce)
+        associated_data.now (joined chunks.now) tag.now m → IsOk result }
+{
+    cipher.open_chunks(associated_data, chunks, tag, message)
+}
+
 impl Cipher {
     /// It is a length fault where key or nonce does not have the variant's length.
     pub fn new(variant: Variant, key: &[u8], nonce: &[u8]) -> Result<Cipher, Refusal>
@@ -162,22 +184,26 @@ impl Cipher {
         })
     }
 
-    /// Makes a ciphertext the message that seals to it and to the tag. The only error is an invalid
-    /// tag, where no message does.
-    pub fn open<const TAG_BYTES: usize>(
+    /// Opens a ciphertext that comes in chunks into a destination of its length. The only error is an invalid tag, where
+    /// no message is sealed to the ciphertext and the tag.
+    pub fn open<'a, const TAG_BYTES: usize>(
         &self,
         associated_data: &[u8],
-        buffer: &mut [u8],
+        chunks: &[&[u8]],
         tag: &[u8; TAG_BYTES],
-    ) -> Result<(), Error>
+        message: &'a mut [u8],
+    ) -> Result<&'a mut [u8], Error>
         requires tag { (TAG_BYTES ≡ 16) ⊎ (TAG_BYTES ≡ 32) }
         requires associated_data { length associated_data.now ≤ MAX_AEAD_BYTES }
-        requires message { length buffer.old ≤ MAX_AEAD_BYTES }
-        ensures opened { OnOk result (sealed_by self.now TAG_BYTES associated_data.now buffer.new ≡ (buffer.old, tag.now)) }
-        ensures accepted { (m : List ℕ) → sealed_by self.now TAG_BYTES associated_data.now m ≡ (buffer.old, tag.now) → IsOk result }
+        requires ciphertext { length (joined chunks.now) ≤ MAX_AEAD_BYTES }
+        requires lengths { length message.old ≡ length (joined chunks.now) }
+        ensures opened { MatchResult result
+            (λ m. sealed_by self.now TAG_BYTES associated_data.now m.now ≡ (joined chunks.now, tag.now))
+            (λ e. e ≡ Error.InvalidTag) }
+        ensures accepted { (m : List ℕ) → sealed_by self.now TAG_BYTES associated_data.now m ≡ (joined chunks.now, tag.now) → IsOk result }
     {
         with_cipher!(self, TAG_BYTES, cipher => {
-            cipher.decrypt_in_place(buffer, tag, associated_data)
+            open_all(&cipher, associated_data, chunks, tag, message)
         })
     }
 

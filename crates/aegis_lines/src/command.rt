@@ -25,7 +25,7 @@ pub enum Command<A: Allocator> {
         cipher: Cipher,
         tag: Tag,
         associated_data: Limited<A>,
-        ciphertext: Limited<A>,
+        ciphertext: Pieces<A>,
     },
     /// So many bytes of the keystream.
     Stream {

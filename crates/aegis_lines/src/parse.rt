@@ -105,13 +105,13 @@ fn open<A: Allocator + Copy>(alloc: A, fields: &[&[u8]]) -> Result<Command<A>, R
     let key = fields::bytes(alloc, fields::field(fields, 3))?;
     let nonce = fields::bytes(alloc, fields::field(fields, 4))?;
     let associated_data = fields::bytes(alloc, fields::field(fields, 5))?;
-    let ciphertext = fields::bytes(alloc, fields::field(fields, 6))?;
+    let ciphertext = fields::pieces(alloc, fields::field(fields, 6))?;
     let tag = fields::bytes(alloc, fields::field(fields, 7))?;
     Ok(Command::Open {
         cipher: Cipher::new(variant, &key, &nonce)?,
         tag: Tag::from_slice(tag_length, &tag)?,
         associated_data: Limited::new(associated_data)?,
-        ciphertext: Limited::new(ciphertext)?,
+        ciphertext: Pieces::new(alloc, ciphertext)?,
     })
 }
 

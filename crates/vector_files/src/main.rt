@@ -6,12 +6,13 @@ use std::process::ExitCode;
 use std::{fs, io};
 
 /// The name of a file of lines, without its ending, and the exit status that the program has for them.
-const FILES: [(&str, u8); 10] = [
+const FILES: [(&str, u8); 11] = [
     ("published", 0),
     ("round", 0),
     ("seal", 0),
     ("seal-in-pieces", 0),
     ("open", 0),
+    ("open-in-pieces", 0),
     ("stream", 0),
     ("xor", 0),
     ("mac", 0),
