@@ -234,7 +234,11 @@ impl<S: LaneState<Key = K>, K: Copy, V: Variant, const TAG_BYTES: usize> Cipher<
 
     /// Starts to open a message that comes in chunks, with the associated data `ad`, in `plaintext`, which has room for all of
     /// it.
-    pub fn decryptor<'a>(&self, ad: &[u8], plaintext: &'a mut [u8]) -> Decryptor<'a, S, V, TAG_BYTES>
+    pub fn decryptor<'a>(
+        &self,
+        ad: &[u8],
+        plaintext: &'a mut [u8],
+    ) -> Decryptor<'a, S, V, TAG_BYTES>
         requires { length ad.now ≤ MAX_AEAD_BYTES }
         ensures same_reference { result.dst.ghost_name ≡ plaintext.entry.ghost_name }
         ensures unchanged { result.dst.now ≡ plaintext.old }
@@ -242,7 +246,11 @@ impl<S: LaneState<Key = K>, K: Copy, V: Variant, const TAG_BYTES: usize> Cipher<
         ensures stands { Stands S.FAMILY S.LANES S.lane S.updates (held result.state result.block result.data_bytes result.written) (S.key_bytes self.now.key) (S.key_bytes self.now.nonce) ad.now (take result.written result.dst.now) }
         ensures empty { ciphertext S.FAMILY S.LANES (S.key_bytes self.now.key) (S.key_bytes self.now.nonce) ad.now (take result.written result.dst.now) ≡ [] }
     {
-        Decryptor::new(begin::<S>(&self.key, &self.nonce, ad), ad.len() as u64, plaintext)
+        Decryptor::new(
+            begin::<S>(&self.key, &self.nonce, ad),
+            ad.len() as u64,
+            plaintext,
+        )
     }
 
     // Opens chunks, with zeros left in the message's place where the tag is wrong.
@@ -270,7 +278,14 @@ impl<S: LaneState<Key = K>, K: Copy, V: Variant, const TAG_BYTES: usize> Cipher<
         let mut block = ZEROS;
         let mut written = Length::zero();
         let data_bytes = ad.len() as u64;
-        open_all(&mut state, &mut block, data_bytes, &mut written, dst, chunks);
+        open_all(
+            &mut state,
+            &mut block,
+            data_bytes,
+            &mut written,
+            dst,
+            chunks,
+        );
         let is_right = has_tag(state, &block, data_bytes, written.get(), tag);
         erase_unless(dst, written.get() as usize, is_right);
         Settled {
