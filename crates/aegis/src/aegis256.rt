@@ -35,10 +35,23 @@ impl Variant for Names {
 pub type Aegis256<const TAG_BYTES: usize> = Cipher<State256<AesBlock>, Key, Names, TAG_BYTES>;
 
 /// Seals a message of Aegis256 that comes in chunks; the cipher's `encryptor` starts one.
-pub type Encryptor<const TAG_BYTES: usize> = aegis_engine::Encryptor<State256<AesBlock>, Names, TAG_BYTES>;
+pub type Encryptor<const TAG_BYTES: usize> = aegis_engine::Encryptor<
+    State256<AesBlock>,
+    Names,
+    TAG_BYTES,
+>;
 
 /// Opens a message of Aegis256 that comes in chunks; the cipher's `decryptor` starts one.
-pub type Decryptor<'a, const TAG_BYTES: usize> = aegis_engine::Decryptor<'a, State256<AesBlock>, Names, TAG_BYTES>;
+pub type Decryptor<'a, const TAG_BYTES: usize> = aegis_engine::Decryptor<
+    'a,
+    State256<AesBlock>,
+    Names,
+    TAG_BYTES,
+>;
 
 /// The MAC of Aegis256, of an input that comes in pieces. [`aegis_engine::Mac`] has its calls.
-pub type Aegis256Mac<const TAG_BYTES: usize> = aegis_engine::Mac<State256<AesBlock>, Names, TAG_BYTES>;
+pub type Aegis256Mac<const TAG_BYTES: usize> = aegis_engine::Mac<
+    State256<AesBlock>,
+    Names,
+    TAG_BYTES,
+>;

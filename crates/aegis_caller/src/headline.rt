@@ -73,6 +73,11 @@ pub fn open_from_other_chunks(
     requires sealed { (accepted (length destination.old) pieces.now, tag.now) ≡ seal Aegis256 1 32 key.now nonce.now associated_data.now (joined chunks.now) }
     ensures { result ≡ Ok (length (joined chunks.now)) }
 {
-    let message = Aegis256::<32>::new(key, nonce).open_chunks(associated_data, pieces, tag, destination)?;
+    let message = Aegis256::<32>::new(key, nonce).open_chunks(
+        associated_data,
+        pieces,
+        tag,
+        destination,
+    )?;
     Ok(message.len())
 }

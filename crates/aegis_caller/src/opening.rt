@@ -34,12 +34,7 @@ pub fn open_two_chunks(
 }
 
 /// Opens a chunk and drops the decryptor before the tag is seen.
-pub fn drop_early(
-    key: &[u8; 16],
-    nonce: &[u8; 16],
-    chunk: &[u8],
-    message: &mut [u8],
-)
+pub fn drop_early(key: &[u8; 16], nonce: &[u8; 16], chunk: &[u8], message: &mut [u8])
     requires message_within { length chunk.now ≤ MAX_AEAD_BYTES }
     requires room { length chunk.now ≤ length message.old }
     ensures { message.new ≡ replicate (length chunk.now) 0 ++ drop (length chunk.now) message.old }
@@ -78,7 +73,12 @@ pub fn open_in_one_call(
     ensures accepted { (m : List ℕ) → Opens Aegis128 1 16 key.now nonce.now associated_data.now (accepted (length message.old) chunks.now) tag.now m → result ≡ Ok (length m) }
     ensures error { IfErr result (λ e. e ≡ Error.InvalidTag) }
 {
-    let opened = Aegis128L::<16>::new(key, nonce).open_chunks(associated_data, chunks, tag, message)?;
+    let opened = Aegis128L::<16>::new(key, nonce).open_chunks(
+        associated_data,
+        chunks,
+        tag,
+        message,
+    )?;
     Ok(opened.len())
 }
 

@@ -1,7 +1,7 @@
 -- What a destination keeps of chunks, one chunk further.
-use Rattle.std.proofs.Common.{◌≡◌, ◌∙◌, sym, ap, subst, refl, ℕ, ◌+◌, ◌<◌, ◌≤◌, ◌⊎◌, inl, inr, Bool, true, false, List, [], ◌∷◌, ◌++◌, length, get_or, take, Result, arith}
+use Rattle.std.proofs.Common.{◌≡◌, ◌∙◌, sym, ap, subst, refl, ℕ, ◌+◌, ◌<◌, ◌≤◌, ◌⊎◌, inl, inr, true, false, List, [], ◌∷◌, ◌++◌, length, get_or, take, Result, arith}
 use lib.Dec.{T}
-use Rattle.std.specs.Prelude.{⊤, ◌↔◌, IsOk, OnOk, OnErr, leb}
+use Rattle.std.specs.Prelude.{◌↔◌, IsOk, OnOk, OnErr, leb}
 use Rattle.std.specs.declared.result.Result.TheVariants.{Ok, Err}
 use Rattle.std.specs.Borrow.{Bor}
 use Rattle.std.proofs.lemmas.Bool.{le-leb}

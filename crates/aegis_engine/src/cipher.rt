@@ -55,8 +55,7 @@ impl<S, K: Copy, V: Variant, const TAG_BYTES: usize> Model for Cipher<S, K, V, T
 }
 
 impl<S: Copy, K: Copy, V: Variant + Copy, const TAG_BYTES: usize> Clone
-    for Cipher<S, K, V, TAG_BYTES>
-{
+    for Cipher<S, K, V, TAG_BYTES> {
     ghost is_clone = { λ x y. y ≡ x };
 
     ghost is_infallible = { λ _. ⊤ };
@@ -75,7 +74,12 @@ impl<S, K: Copy, V: Variant, const TAG_BYTES: usize> fmt::Debug for Cipher<S, K,
     }
 }
 
-impl<S: LaneState<Key = K>, K: Copy, V: Variant, const TAG_BYTES: usize> Cipher<S, K, V, TAG_BYTES> {
+impl<S: LaneState<Key = K>, K: Copy, V: Variant, const TAG_BYTES: usize> Cipher<
+    S,
+    K,
+    V,
+    TAG_BYTES,
+> {
     /// The cipher of a key and a nonce. `TAG_BYTES` has to be 16 or 32.
     pub fn new(key: &K, nonce: &K) -> Self
         requires { (TAG_BYTES ≡ 16) ⊎ (TAG_BYTES ≡ 32) }
@@ -212,7 +216,13 @@ impl<S: LaneState<Key = K>, K: Copy, V: Variant, const TAG_BYTES: usize> Cipher<
     {
         out.fill(0);
         let mut block = ZEROS;
-        seal_more(begin::<S>(&self.key, &self.nonce, &[]), &mut block, 0, 0, out);
+        seal_more(
+            begin::<S>(&self.key, &self.nonce, &[]),
+            &mut block,
+            0,
+            0,
+            out,
+        );
     }
 
     /// Xors a message in place with the keystream from its beginning. Done twice, it gives the message back.
@@ -221,7 +231,13 @@ impl<S: LaneState<Key = K>, K: Copy, V: Variant, const TAG_BYTES: usize> Cipher<
         ensures undone { xor_stream S.FAMILY S.LANES (S.key_bytes self.key) (S.key_bytes self.nonce) mc.new ≡ mc.old }
     {
         let mut block = ZEROS;
-        pass_all(S::new(&self.key, &self.nonce), &mut block, 0, Pass::Stream, mc);
+        pass_all(
+            S::new(&self.key, &self.nonce),
+            &mut block,
+            0,
+            Pass::Stream,
+            mc,
+        );
     }
 
     /// Starts to seal a message that comes in chunks, with the associated data `ad`.
@@ -251,7 +267,11 @@ impl<S: LaneState<Key = K>, K: Copy, V: Variant, const TAG_BYTES: usize> Cipher<
 
     /// Starts to open a message that comes in chunks, with the associated data `ad`, in `plaintext`, which has room for all of
     /// it.
-    pub fn decryptor<'a>(&self, ad: &[u8], plaintext: &'a mut [u8]) -> Decryptor<'a, S, V, TAG_BYTES>
+    pub fn decryptor<'a>(
+        &self,
+        ad: &[u8],
+        plaintext: &'a mut [u8],
+    ) -> Decryptor<'a, S, V, TAG_BYTES>
         requires { length ad.now ≤ MAX_AEAD_BYTES }
         ensures same_reference { result.dst.ghost_name ≡ plaintext.entry.ghost_name }
         ensures unchanged { result.dst.now ≡ plaintext.old }
@@ -259,7 +279,11 @@ impl<S: LaneState<Key = K>, K: Copy, V: Variant, const TAG_BYTES: usize> Cipher<
         ensures stands { Stands S.FAMILY S.LANES S.lane S.updates (held result.state result.block result.data_bytes result.written) (S.key_bytes self.now.key) (S.key_bytes self.now.nonce) ad.now (take result.written result.dst.now) }
         ensures empty { ciphertext S.FAMILY S.LANES (S.key_bytes self.now.key) (S.key_bytes self.now.nonce) ad.now (take result.written result.dst.now) ≡ [] }
     {
-        Decryptor::new(begin::<S>(&self.key, &self.nonce, ad), ad.len() as u64, plaintext)
+        Decryptor::new(
+            begin::<S>(&self.key, &self.nonce, ad),
+            ad.len() as u64,
+            plaintext,
+        )
     }
 
     // Opens chunks, with zeros left in the message's place where the tag is wrong.
@@ -287,7 +311,14 @@ impl<S: LaneState<Key = K>, K: Copy, V: Variant, const TAG_BYTES: usize> Cipher<
         let mut block = ZEROS;
         let mut written = Length::zero();
         let data_bytes = ad.len() as u64;
-        open_all(&mut state, &mut block, data_bytes, &mut written, dst, chunks);
+        open_all(
+            &mut state,
+            &mut block,
+            data_bytes,
+            &mut written,
+            dst,
+            chunks,
+        );
         let is_right = has_tag(state, &block, data_bytes, written.get(), tag);
         erase_unless(dst, written.get() as usize, is_right);
         Settled {

@@ -53,7 +53,8 @@ impl<S: LaneState, V: Variant, const TAG_BYTES: usize> Drop for Decryptor<'_, S,
     }
 }
 
-impl<S: LaneState, V: Variant, const TAG_BYTES: usize> fmt::Debug for Decryptor<'_, S, V, TAG_BYTES> {
+impl<S: LaneState, V: Variant, const TAG_BYTES: usize> fmt::Debug
+    for Decryptor<'_, S, V, TAG_BYTES> {
     ghost debug_output = { λ _. Some (V.module_name ++ codes "::Decryptor { .. }") };
 
     fn fmt<W: fmt::Write>(&self, f: &mut fmt::Formatter<W>) -> fmt::Result {
@@ -107,7 +108,14 @@ impl<'a, S: LaneState, V: Variant, const TAG_BYTES: usize> Decryptor<'a, S, V, T
         ensures unchanged { OnErr result ((self.new.dst.now ≡ self.old.dst.now) × (self.new.written ≡ self.old.written) × (self.new.state ≡ self.old.state) × (self.new.block ≡ self.old.block)) }
         ensures data_bytes { self.new.data_bytes ≡ self.old.data_bytes }
     {
-        open_chunk(&mut self.state, &mut self.block, self.data_bytes, &mut self.written, self.dst, chunk)
+        open_chunk(
+            &mut self.state,
+            &mut self.block,
+            self.data_bytes,
+            &mut self.written,
+            self.dst,
+            chunk,
+        )
     }
 
     // Whether the tag is right, with zeros left in the message's place where it is not.

@@ -108,6 +108,11 @@ impl<S: LaneState, V: Variant, const TAG_BYTES: usize> Encryptor<S, V, TAG_BYTES
         ensures { (key nonce ad m : List ℕ) → Stands S.FAMILY S.LANES S.lane S.updates self key nonce ad m
             → result ≡ tag S.FAMILY S.LANES TAG_BYTES key nonce ad m }
     {
-        finish(self.state, &self.block, self.data_bytes, self.message_bytes.get())
+        finish(
+            self.state,
+            &self.block,
+            self.data_bytes,
+            self.message_bytes.get(),
+        )
     }
 }

@@ -9,7 +9,9 @@ ghost use Rattle.aegis_base.specs.Message.{after_all, block_count, stream_byte};
 ghost use Rattle.aegis_base.specs.Run.{HasFrom, IsAlong};
 ghost use Rattle.aegis_engine.specs.Pass.{taken};
 
-use crate::pass::{Block, Pass, ZEROS, absorb_part, absorb_whole, copy_part, pass_part, pass_whole};
+use crate::pass::{
+    Block, Pass, ZEROS, absorb_part, absorb_whole, copy_part, pass_part, pass_whole,
+};
 use aegis_base::LaneState;
 
 // How many of the next `count` bytes fill up the rate block that is open after `total` bytes; none where none is open.
@@ -41,7 +43,14 @@ pub fn absorb_all<S: LaneState>(state: S, block: &mut Block, total: u64, bytes: 
     let last = first + whole * S::RATE;
     let state = absorb_part(state, block, total, bytes, 0, first);
     let state = absorb_whole(state, bytes, first, whole);
-    absorb_part(state, block, total + last as u64, bytes, last, bytes.len() - last)
+    absorb_part(
+        state,
+        block,
+        total + last as u64,
+        bytes,
+        last,
+        bytes.len() - last,
+    )
 }
 
 /// The lanes along a buffer, behind `total` bytes that they have taken in: each byte is xored with the keystream, and the

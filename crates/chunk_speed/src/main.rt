@@ -6,10 +6,9 @@
 
 mod variant;
 
-use std::env;
-use std::io;
 use std::rt::Runtime;
 use std::time::{Duration, Instant};
+use std::{env, io};
 use variant::{VARIANTS, Variant};
 
 const MESSAGE_BYTES: usize = 1 << 20;

@@ -1,13 +1,13 @@
 //! The calls of the six variants, under one key and nonce for each family.
 
+ghost use Rattle.std.specs.Prelude.{◌≤◌, length};
+
 use aegis::aegis128l::Aegis128L;
 use aegis::aegis128x2::Aegis128X2;
 use aegis::aegis128x4::Aegis128X4;
 use aegis::aegis256::Aegis256;
 use aegis::aegis256x2::Aegis256X2;
 use aegis::aegis256x4::Aegis256X4;
-
-ghost use Rattle.std.specs.Prelude.{◌≤◌, length};
 
 const SHORT: [u8; 16] = [7; 16];
 

@@ -5,7 +5,6 @@ use Rattle.aegis_base.specs.declared.error.TheConstants.{MAX_AEAD_BYTES}
 use Rattle.aegis_base.proofs.ChunkFacts.{joined-more, joined-within, no_chunk}
 use Rattle.aegis_base.proofs.chunks.chunks_len.Goals as goal
 
-
 pub returns-then-is_err-clause-within : goal.returns-then-is_err-clause-within
 returns-then-is_err-clause-within c within =
     let more = ap length (joined-more c.args.chunks.now c.loop-chunk.chunk-index c.loop-chunk-test.true)

@@ -1,7 +1,7 @@
 -- The front of a settled destination is handed out where the message is accepted, and nothing otherwise. By hand, since a
 -- slice that a struct holds is lent, which gets no generated proof: the walk takes the struct apart, and each arm ends by
 -- one lemma of `Prefix` and one of `Results`. Assumes `Logic`.
-use mathlib.Core.Path.{◌≡◌, refl, sym, ap, subst, ◌∙◌}
+use mathlib.Core.Path.{◌≡◌, refl, sym, subst, ◌∙◌}
 use mathlib.Core.Bool.{Bool, true, false, not}
 use Prim.Native.Nat.{ℕ, ◌≤◌, ◌<◌, ◌^◌, ◌*◌}
 use native.Mathlib.Omega.{arith}
@@ -10,36 +10,28 @@ use mathlib.Core.List.{List, [], ◌∷◌, ◌++◌}
 use lib.Dec.{T, lit<}
 use lib.ListN.{length, take, drop as drop_list}
 use lib.ListN.{replicate}
-use seplogic.Ra.Ura.{Ura}
-use mir.Syntax.{w64, w8, named}
+use mir.Syntax.{w64, named}
 use mir.Val.{Val, vint, vbool, vstruct, vcons, vnil, of_list}
-use base.Logic.{SProp, ent, sep, emp}
 use base.Stored.{coded_list}
-use base.Fml.{Lft, GName, Share, ftrue, flft, fres, feq}
+use base.Fml.{ftrue, flft, fres}
 use prog.Wp.{Env}
-use types.Logic.{Logic, sem}
 use types.Match.{live}
-use types.Kit.{updating, now as at_once, ‵, ◌⊛◌, raw, some, later, at_ret, ◌$◌, ◌∵◌, !, qed, by, move, keep, drop, split, split3, join, pick, rewrite, fsplit, fjoin, fpick, fpack, feq_i, feq_l, use0, use1, use2, await, suffices, frame, done}
+use types.Kit.{updating, now as at_once, ‵, ◌⊛◌, raw, some, later, at_ret, ◌$◌, ◌∵◌, !, qed, move, keep, drop, split, split3, join, pick, rewrite, fsplit, fjoin, fpick, feq_l, use0, use1, use2, await, suffices, frame, done}
 use types.Part.{whole, sub, agg}
 use types.Run.{stop, fld, hop, from, addr, lit, and_then, no_more, of_opd, first, branches, exec, returns, enter}
 use types.ByLocal.{alloc_all, pass_all, free_all, look_at, look_in_at, get, get_in, sets, sets_last, env}
 use contract.Monad.{fact}
 use contract.Running.{tables}
-use denote.Builtin.{u8, usize, bool}
+use denote.Builtin.{u8}
 use denote.Exit.{no}
 use denote.Plain.{uint_vals, uint_Tells, bool_vals, bool_Tells}
-use denote.RattleType.{RattleType, owns, Valss}
 use denote.Ref.{MutBor}
 use denote.Signature.{plain, named_lft}
 use denote.Slice.{MutSlice, Room, slice_val, mut_slice_vals, mut_slice_Tells}
 use denote.Steps.{nothing, heard}
-use denote.Struct.Struct.{Struct-Tells, within}
+use denote.Struct.Struct.{Struct-Tells}
 use denote.Struct.Declared.{shape}
-use denote.Enum.Row.{tagged_with}
-use denote.Enum.Enum.{form_of, in_a_row}
-use denote.Enum.Declared.{shape as enum_shape}
-use denote.Follow.{follows, follows_by}
-use denote.Triple.Clauses.{Ended}
+use denote.Follow.{follows_by}
 use denote.Triple.Walked.{Stays, stay_dropped, walk_of, ends_at, says}
 use borrow.Table.Elements.{length-take-le}
 use Rattle.std.proofs.raw_atomic.Walks.{proved}

@@ -1,4 +1,4 @@
-use Rattle.std.proofs.Common.{◌+◌, ◌-◌, ◌≤◌, length, arith}
+use Rattle.std.proofs.Common.{◌+◌, ◌-◌, length, arith}
 use Rattle.std.proofs.lemmas.Slice.{drop-put_mid}
 use Rattle.aegis_engine.proofs.opening.append.Goals as goal
 

@@ -1,4 +1,4 @@
-use Rattle.std.proofs.Common.{◌≡◌, ◌∙◌, sym, ap, refl, ℕ, ◌+◌, ◌≤◌, ◌++◌, List, drop, length, take, get_or, arith}
+use Rattle.std.proofs.Common.{◌≡◌, ◌∙◌, sym, ap, refl, ℕ, ◌++◌, List, length, take, get_or, arith}
 use Rattle.std.proofs.lemmas.List.{length-take-le}
 use Rattle.aegis_base.specs.Chunks.{accepted_after}
 use Rattle.aegis_base.specs.Message.{ciphertext, lane_before}

@@ -15,7 +15,7 @@ loop-i-preserved g c =
     let old = c.args.buffer.now in let now = c.loop-i.buffer in let new = c.pass_block-state.new.buffer in
     let rate_is : r ≡ rate L.FAMILY L.LANES = c.RATE-rate.ensures ∙ g.met.S.LaneState.rate_is in
     let kept : (x : List ℕ) (n : ℕ) → ((k : ℕ) → k < (i + 1) * r → slice_index x (n * r + k) ≡ slice_index (taken c.args.pass old new) (c.args.at + k))
-        → (k : ℕ) → k < i * r → slice_index x (n * r + k) ≡ slice_index (taken c.args.pass old now) (c.args.at + k) =
+    → (k : ℕ) → k < i * r → slice_index x (n * r + k) ≡ slice_index (taken c.args.pass old now) (c.args.at + k) =
     λ x n same k low. same k (omega arith)
     ∙ taken-same c.args.pass old old new now (c.args.at + k) refl (c.pass_block-state.ensures.below (c.args.at + k) (omega arith)) in
     record {

@@ -1,33 +1,28 @@
 -- The message of the kept chunks is handed out where there is one, and what is left of the destination otherwise. By hand,
 -- in the same form as a decryptor's `finalize`, with the destination as a parameter: the walk makes the two calls, of
 -- `settle_chunks` and of `handed`, and puts the facts of their contracts together. Assumes `Logic`.
-use mathlib.Core.Path.{◌≡◌, refl, sym, ap, subst, ◌∙◌}
-use mathlib.Core.Bool.{Bool, true, false}
-use Prim.Native.Nat.{ℕ, ◌≤◌, ◌<◌, ◌^◌}
+use mathlib.Core.Path.{◌≡◌, refl, sym, subst, ◌∙◌}
+use mathlib.Core.Bool.{true, false}
+use Prim.Native.Nat.{ℕ, ◌≤◌}
 use mathlib.Core.List.{List, [], ◌∷◌, ◌++◌}
 use lib.ListN.{length, take, drop as drop_list, replicate}
-use seplogic.Ra.Ura.{Ura}
-use mir.Syntax.{named, Args, Fn, Kind, a_type, a_number, dcons, dnil}
+use mir.Syntax.{named, Args, Fn, a_type, a_number, dcons, dnil}
 use mir.MapTy.{inst_fn}
-use mir.Val.{Val}
-use base.Logic.{SProp, ent, sep, emp, id⊢}
-use base.Fml.{Fml, Lft, GName, ftrue, flft}
-use types.Logic.{Logic, sem}
-use types.Kit.{‵, ◌⊛◌, raw, some, later, ◌$◌, ◌∵◌, !, qed, by, move, keep, drop, split, split3, join, pick, rewrite, fsplit, fjoin, use0, use1, use2, await, suffices, frame, group, updating, now as at_once, done}
-use types.Run.{no_more, and_then, of_opd, returns, enter}
+use base.Logic.{emp, id⊢}
+use base.Fml.{Fml, GName, ftrue, flft}
+use types.Kit.{‵, ◌⊛◌, raw, some, later, ◌$◌, ◌∵◌, !, qed, move, keep, drop, split, join, pick, rewrite, fjoin, use0, use1, use2, await, suffices, frame, done}
+use types.Run.{no_more, and_then, returns, enter}
 use types.ByLocal.{alloc_all, pass_all, free_all, look_at, get, sets, lands_as}
 use contract.Monad.{fact, fact_i}
 use contract.Running.{tables}
-use denote.Builtin.{u8, usize, bool}
+use denote.Builtin.{u8}
 use denote.Exit.{no, yes}
 use denote.Follow.{follows_if}
 use denote.Array.{Array}
 use denote.Laws.{shows}
 use denote.Param.{ArrayAt, param, copied, number, bounded}
-use denote.Param.Laws.{param_laws, copied_laws, copied_copy, copy_told, Told, Laws, of_field, row_shared}
-use denote.RattleType.{RattleType, owns}
-use denote.Ref.{NamedLft, shr_vals, shr_Tells}
-use denote.Signature.{named_lft}
+use denote.RattleType.{RattleType}
+use denote.Ref.{shr_vals, shr_Tells}
 use denote.Slice.{MutSlice, mut_slice_vals, mut_slice_Tells, ShrSlice, shr_slice_vals, shr_slice_Tells}
 use types.Part.{whole, sub, agg}
 use types.Run.{stop, fld, hop, from, addr}
@@ -35,21 +30,16 @@ use types.ByLocal.{look_in_at, get_in}
 use denote.Steps.{nothing, heard, peeks}
 use denote.Triple.Call.{calls_at}
 use denote.Triple.Clauses.{lasts, Lasts}
-use denote.Triple.Entry.{alive}
 use denote.Triple.Spec.{triple_of}
 use denote.Triple.Table.{framed}
-use denote.Triple.Walked.{Stays, stay_dropped, walk_of, ends_at, says}
+use denote.Triple.Walked.{Stays, stay_dropped, walk_of, ends_at}
 use Rattle.std.proofs.raw_atomic.Walks.{proved}
 use Rattle.std.specs.Borrow.{name_if_ok}
-use Rattle.std.specs.Prelude.{Result, MatchResult}
-use Rattle.std.specs.declared.result.Result.TheVariants.{Ok, Err}
+use Rattle.std.specs.Prelude.{MatchResult}
 use Rattle.std.proofs.result.Result.TheLaws.{the_row_laws as result_laws}
 use Rattle.aegis_base.proofs.error.Error.TheLaws.{the_row_laws as error_laws}
 use Rattle.aegis_base.specs.declared.error.Error.{Error}
 use Rattle.aegis_engine.proofs.destination.Settled.TheLaws.{the_row_laws as settled_laws}
-use denote.Struct.Field.{mut_slice_field, u8-field}
-use denote.Struct.Laws.{mut_slice_laws, u8-laws, u8-copy}
-use denote.Param.Shared.{mut_slice_shared, copy_shared}
 use Rattle.std.specs.contracts.result.Result as RS
 use Rattle.aegis_base.specs.contracts.error.Error as ER
 use Rattle.aegis_engine.specs.contracts.destination.Settled as ST
@@ -82,7 +72,7 @@ open_chunks_spec 𝓤 𝓛 𝓜 𝓡 wired S K V n Rw LS LK LV fits LR CS CK CR 
     let Row : RattleType = CT.the_row (copied 0 S) (copied 1 K) (param 2 V) (param 3 N) gV in
     proved 𝓛 En hs c 𝓜 𝓡 ((λ κs x w vs ok. 𝓛.laws.⇛_intro (emp 𝓤)), ((λ κs x w vs ok. 𝓛.laws.⇛_intro (emp 𝓤)), ((λ κs x w vs ok. 𝓛.laws.⇛_intro (emp 𝓤)), ((λ κs x w vs ok. 𝓛.laws.⇛_intro (emp 𝓤)), ((λ κs x w vs ok. 𝓛.laws.⇛_intro (emp 𝓤)), tt)))))
     (f.Key.name args) fn (code.unfolded 𝓤 𝓛.H 𝓜 𝓡 wired (S, (K, (V, (N, (Rw, tt))))) dS dC dKC dR dRC dV)
-    (λ κs. (shr_vals, (shr_slice_vals, (shr_slice_vals, (shr_vals, (mut_slice_vals, tt)))))) 
+    (λ κs. (shr_vals, (shr_slice_vals, (shr_slice_vals, (shr_vals, (mut_slice_vals, tt))))))
     (λ κs. (shr_Tells (named 0) κs.0 Row, (shr_slice_Tells (named 1) κs.1.0 u8, (shr_slice_Tells (named 2) κs.1.1.0 (ShrSlice (named 3) κs.1.1.1.0 u8), (shr_Tells (named 4) κs.1.1.1.1.0 (ArrayAt u8 (param 3 N)), (mut_slice_Tells (named 5) κs.1.1.1.1.1.0 u8, tt)))))) (λ κs qs bounds a _ are.
     let κ = κs.1.1.1.1.1.0 in let q = qs.1.1.1.1.1.0 in let ad = a.1.0 in let chunks = a.1.1.0 in let tag = a.1.1.1.0 in let d = a.1.1.1.1.0 in
     let all = accepted (length d.now) chunks.now in let count' = length all in
@@ -129,6 +119,8 @@ open_chunks_spec 𝓤 𝓛 𝓜 𝓡 wired S K V n Rw LS LK LV fits LR CS CK CR 
     nothing ! $ nothing ! $ fjoin ! $ nothing ! $ fjoin ! $ nothing ! $ fjoin ! $ nothing ! $ fjoin ! $ nothing ! $ fjoin ! $ join ! $
     -- [what is left and the result; how it ends; the token; the others; the first, from the last of them on]
     move ! (2 ∷ []) $ split ! $ move ! (0 ∷ 4 ∷ []) $ join ! $ move ! (4 ∷ 0 ∷ []) $ join ! $ move ! (4 ∷ 0 ∷ []) $ join ! $ move ! (4 ∷ 0 ∷ []) $ join ! $ move ! (4 ∷ 0 ∷ []) $ join ! $ move ! (4 ∷ 0 ∷ []) $ join ! $ keep ! (0 ∷ 2 ∷ 3 ∷ []) $ join ! $ frame ! $
-    says_three ! (weaken o (λ x p. subst IsOpened (sym p.1) (opened p.0)) (λ e p. p.1) cases,
-    (λ m is. accepted_ok o (weaken o (λ x p. p.0) (λ e p. p.0) cases) (found m is)),
-    (λ m is. weaken o (λ x p. p.1 ∙ only m is) (λ e p. tt) cases)) $ done !)))))))))))))))))))
+    says_three ! (
+      weaken o (λ x p. subst IsOpened (sym p.1) (opened p.0)) (λ e p. p.1) cases,
+      (λ m is. accepted_ok o (weaken o (λ x p. p.0) (λ e p. p.0) cases) (found m is)),
+      (λ m is. weaken o (λ x p. p.1 ∙ only m is) (λ e p. tt) cases),
+    ) $ done !)))))))))))))))))))

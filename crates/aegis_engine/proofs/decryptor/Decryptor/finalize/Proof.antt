@@ -1,57 +1,48 @@
 -- The message is handed out where the tag is right, and what is left of the destination otherwise. By hand, since the
 -- result lends on what a struct holds: the walk makes the two calls, of `settle` and of `handed`, takes the facts of their
 -- contracts, and puts them together in three rewrites, without a look at the lanes. Assumes `Logic`.
-use mathlib.Core.Path.{◌≡◌, refl, sym, ap, subst, ◌∙◌}
-use mathlib.Core.Bool.{Bool, true, false}
-use Prim.Native.Nat.{ℕ, ◌≤◌, ◌<◌, ◌^◌}
+use mathlib.Core.Path.{◌≡◌, refl, ap, ◌∙◌}
+use mathlib.Core.Bool.{true, false}
+use Prim.Native.Nat.{ℕ, ◌≤◌}
 use mathlib.Core.List.{List, [], ◌∷◌, ◌++◌}
 use lib.ListN.{length, take, drop as drop_list, replicate}
-use seplogic.Ra.Ura.{Ura}
-use mir.Syntax.{named, Args, Fn, Kind, a_type, a_number, dcons, dnil}
+use mir.Syntax.{named, Args, Fn, a_type, a_number, dcons, dnil}
 use mir.MapTy.{inst_fn}
-use mir.Val.{Val}
-use base.Logic.{SProp, ent, sep, emp, id⊢}
-use base.Fml.{Fml, Lft, GName, ftrue, flft}
-use types.Logic.{Logic, sem}
-use types.Kit.{‵, ◌⊛◌, raw, some, later, ◌$◌, ◌∵◌, !, qed, by, move, keep, drop, split, split3, join, pick, rewrite, fsplit, fjoin, use0, use1, use2, await, suffices, frame, group, updating, now as at_once, done}
+use base.Logic.{emp, id⊢}
+use base.Fml.{Fml, GName, ftrue, flft}
+use types.Kit.{‵, ◌⊛◌, raw, some, later, ◌$◌, ◌∵◌, !, qed, move, keep, drop, split, join, pick, rewrite, fjoin, use0, use1, use2, await, suffices, frame, updating, now as at_once, done}
 use types.Run.{no_more, and_then, of_opd, returns, enter}
 use types.ByLocal.{alloc_all, pass_all, free_all, look_at, get, sets, lands_as}
 use contract.Monad.{fact, fact_i}
 use contract.Running.{tables}
-use denote.Builtin.{u8, usize, bool}
+use denote.Builtin.{u8}
 use denote.Exit.{no, yes}
 use denote.Follow.{follows_if}
 use denote.Array.{Array}
 use denote.Laws.{shows}
 use denote.Param.{ArrayAt, param, copied, number, bounded}
-use denote.Param.Laws.{param_laws, copied_laws, copied_copy, copy_told, Told, Laws, of_field, row_shared}
-use denote.RattleType.{RattleType, owns}
+use denote.Param.Laws.{param_laws, copied_laws, copied_copy, copy_told, Told, Laws}
+use denote.RattleType.{RattleType}
 use denote.Ref.{NamedLft, shr_vals, shr_Tells}
 use denote.Signature.{named_lft}
 use denote.Slice.{MutSlice}
 use denote.Steps.{nothing, heard, peeks}
 use denote.Triple.Call.{calls_at}
 use denote.Triple.Clauses.{lasts, Lasts}
-use denote.Triple.Entry.{alive}
 use denote.Triple.Spec.{triple_of}
 use denote.Triple.Table.{framed}
-use denote.Triple.Walked.{Stays, stay_dropped, walk_of, ends_at, says}
+use denote.Triple.Walked.{Stays, stay_dropped, walk_of, ends_at}
 use Rattle.std.proofs.raw_atomic.Walks.{proved}
 use Rattle.std.specs.Borrow.{name_if_ok}
-use Rattle.std.specs.Prelude.{Result, MatchResult, IsOk, ◌↔◌}
-use lib.Dec.{T}
+use Rattle.std.specs.Prelude.{MatchResult, ◌↔◌}
 use Rattle.std.proofs.mem.Facts.{says_three}
 use Rattle.aegis_engine.proofs.Results.{accepted_ok, ok_accepted, slice_laws, weaken}
 use Rattle.aegis_base.specs.Message.{Opens, ciphertext, tag}
 use Rattle.aegis_base.specs.Run.{Stands, held}
-use Rattle.std.specs.declared.result.Result.TheVariants.{Ok, Err}
 use Rattle.std.proofs.result.Result.TheLaws.{the_row_laws as result_laws}
 use Rattle.aegis_base.proofs.error.Error.TheLaws.{the_row_laws as error_laws}
 use Rattle.aegis_base.specs.declared.error.Error.{Error}
 use Rattle.aegis_engine.proofs.destination.Settled.TheLaws.{the_row_laws as settled_laws}
-use denote.Struct.Field.{mut_slice_field, u8-field}
-use denote.Struct.Laws.{mut_slice_laws, u8-laws, u8-copy}
-use denote.Param.Shared.{mut_slice_shared, copy_shared}
 use Rattle.std.specs.contracts.result.Result as RS
 use Rattle.aegis_base.specs.contracts.error.Error as ER
 use Rattle.aegis_engine.specs.contracts.destination.Settled as ST
@@ -127,6 +118,8 @@ finalize_spec 𝓤 𝓛 𝓜 𝓡 wired S V n K Rw LS LV fits LK LR CS CK CR gS 
     let by_cases : MatchResult o (λ _. r.accepted ≡ true) (λ _. r.accepted ≡ false) = weaken o (λ x p. p.0) (λ e p. p.0) cases in
     suffices ! _ (ends_at 𝓛 En hs c y u o ((tt, tt), (tt, tt)) (tt, (tt, tt))) $
     nothing ! $ nothing ! $ fjoin ! $ nothing ! $ fjoin ! $ join ! $ move ! (2 ∷ []) $ split ! $ keep ! (0 ∷ 4 ∷ 2 ∷ 3 ∷ []) $ join ! $ join ! $ frame ! $
-    says_three ! (weaken o (λ x p. p.1 ∙ ap (λ (w : ℕ × List ℕ). take w.0 w.1) (λ i. (count i, kept p.0 i))) (λ e p. p.1) cases,
-    (λ key nonce ad stands. let same = tagged key nonce ad stands in ((λ ok. same.0 (ok_accepted o by_cases ok)), (λ is. accepted_ok o by_cases (same.1 is)))),
-    (λ key nonce ad m stands opens. accepted_ok o by_cases (found key nonce ad m stands opens))) $ done !)))))))))))))))))))
+    says_three ! (
+      weaken o (λ x p. p.1 ∙ ap (λ (w : ℕ × List ℕ). take w.0 w.1) (λ i. (count i, kept p.0 i))) (λ e p. p.1) cases,
+      (λ key nonce ad stands. let same = tagged key nonce ad stands in ((λ ok. same.0 (ok_accepted o by_cases ok)), (λ is. accepted_ok o by_cases (same.1 is)))),
+      (λ key nonce ad m stands opens. accepted_ok o by_cases (found key nonce ad m stands opens)),
+    ) $ done !)))))))))))))))))))
