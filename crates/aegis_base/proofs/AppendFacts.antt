@@ -1,11 +1,11 @@
 -- A message that goes on: its ciphertext and its run.
-use Rattle.std.proofs.Common.{◌≡◌, ◌∙◌, sym, ap, refl, ℕ, ◌+◌, ◌-◌, ◌/◌, ◌%◌, ◌<◌, ◌≤◌, ⊎_elim, List, [], ◌++◌, length, bit_xor, slice_index, arith}
+use Rattle.std.proofs.Common.{◌≡◌, ◌∙◌, sym, ap, refl, ℕ, ◌+◌, ◌-◌, ◌/◌, ◌%◌, ◌<◌, ⊎_elim, List, [], ◌++◌, length, bit_xor, slice_index, arith}
 use Rattle.std.proofs.Math.Nat.{zero-div, zero-mod}
 use Rattle.std.proofs.lemmas.Bool.{cases_lt}
 use Rattle.std.proofs.lemmas.List.{get_or_append_left, get_or-append_right, length-append}
 use Rattle.aegis_aes.specs.Lanes.{IsLaneCount}
 use Rattle.aegis_base.specs.Family.{Family, rate}
-use Rattle.aegis_base.specs.Message.{ciphertext_byte, ciphertext_from, stream_byte}
+use Rattle.aegis_base.specs.Message.{ciphertext_from, stream_byte}
 use Rattle.aegis_base.specs.Run.{HasFrom, IsAlong}
 use Rattle.aegis_base.proofs.Bijection.{ciphertext-is, ciphertext-reads, length-ciphertext, stream_byte-before}
 use Rattle.aegis_base.proofs.MessageFacts.{after-none}

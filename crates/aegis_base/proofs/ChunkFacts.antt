@@ -1,7 +1,6 @@
 -- The bytes of chunks, chunk by chunk.
-use Rattle.std.proofs.Common.{◌≡◌, ◌∙◌, sym, ap, refl, ℕ, ◌+◌, ◌<◌, ◌≤◌, List, [], ◌++◌, length, get_or, map, take, drop, arith}
+use Rattle.std.proofs.Common.{◌≡◌, ◌∙◌, sym, ap, refl, ℕ, ◌+◌, ◌<◌, ◌≤◌, List, [], ◌++◌, length, get_or, take, drop, arith}
 use Rattle.std.specs.Borrow.{Bor}
-use Rattle.std.specs.List.{concat}
 use Rattle.std.proofs.lemmas.List.{take_more, take-append-drop, map-append, append-nil, length-append}
 use Rattle.std.proofs.lemmas.List.Folds.{concat-append}
 use Rattle.aegis_base.specs.Chunks.{joined}

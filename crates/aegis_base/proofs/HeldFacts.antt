@@ -1,5 +1,5 @@
 -- What a sealed or opened message stands for, after more of it and after its end.
-use Rattle.std.proofs.Common.{◌≡◌, ◌∙◌, sym, ap, refl, ℕ, ◌+◌, ◌/◌, ◌<◌, List, [], ◌++◌, length, bit_xor, slice_index, arith}
+use Rattle.std.proofs.Common.{◌≡◌, ◌∙◌, ap, refl, ℕ, ◌+◌, ◌/◌, ◌<◌, List, [], ◌++◌, length, bit_xor, slice_index, arith}
 use Rattle.std.proofs.Math.Nat.{div-eq_of_lt}
 use Rattle.std.proofs.lemmas.List.{length-append}
 use Rattle.aegis_aes.specs.Lanes.{IsLaneCount}

@@ -6,7 +6,7 @@ use Rattle.std.proofs.lemmas.Nat.{div-add-mod', div-mul-add, mod-mul-add, mod_be
 use Rattle.aegis_aes.specs.Lanes.{IsLaneCount}
 use Rattle.aegis_base.specs.Family.{Family, rate}
 use Rattle.aegis_base.specs.Lane.{step}
-use Rattle.aegis_base.specs.Message.{after, after_all, block_count, keystream_byte, share_at, stream_byte}
+use Rattle.aegis_base.specs.Message.{after, after_all, keystream_byte, share_at, stream_byte}
 use Rattle.aegis_base.specs.Run.{IsAlong, IsUnopened}
 use Rattle.aegis_base.proofs.MessageFacts.{after-more, after-same, block_count-part, block_count-whole, keystream_byte-periodic, keystream_byte-same, rate-positive, share_at-same}
 

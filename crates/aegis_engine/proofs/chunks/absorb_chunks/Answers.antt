@@ -1,4 +1,4 @@
-use Rattle.std.proofs.Common.{◌≡◌, ◌≤◌, ◌+◌, ◌∙◌, sym, ap, refl, ℕ, List, take, get_or, length, ◌++◌, append_assoc, arith}
+use Rattle.std.proofs.Common.{◌≡◌, ◌+◌, ◌∙◌, ap, ℕ, take, get_or, length, ◌++◌, append_assoc, arith}
 use Rattle.std.proofs.lemmas.List.{length-append}
 use Rattle.aegis_base.specs.Chunks.{joined}
 use Rattle.aegis_base.proofs.ChunkFacts.{chunk-within, joined-more, no_chunk}

@@ -1,8 +1,6 @@
-use Rattle.std.proofs.Common.{◌≡◌, ◌≤◌, ◌+◌, ◌∙◌, ap, refl, ℕ, List, [], take, get_or, length, arith}
-use Rattle.std.proofs.lemmas.List.{length-append, take_all}
+use Rattle.std.proofs.Common.{◌∙◌, ap, refl, ℕ, take, get_or, length, arith}
+use Rattle.std.proofs.lemmas.List.{length-append}
 use Rattle.aegis_base.specs.Chunks.{joined}
-use Rattle.aegis_base.specs.Message.{ciphertext}
-use Rattle.aegis_base.specs.Run.{Stands, held}
 use Rattle.aegis_base.proofs.AppendFacts.{ciphertext-none}
 use Rattle.aegis_base.proofs.ChunkFacts.{chunk-within, joined-more, no_chunk}
 use Rattle.aegis_engine.proofs.chunks.seal_all.Goals as goal

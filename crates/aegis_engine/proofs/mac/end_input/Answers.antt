@@ -1,4 +1,4 @@
-use Rattle.std.proofs.Common.{◌∙◌, ap, ℕ, ◌*◌, refl}
+use Rattle.std.proofs.Common.{ap, ℕ, ◌*◌, refl}
 use Rattle.aegis_base.specs.Run.{Stands}
 use Rattle.aegis_base.proofs.MacFacts.{mac-is}
 use Rattle.aegis_engine.proofs.mac.end_input.Goals as goal

@@ -1,4 +1,4 @@
-use Rattle.std.proofs.Common.{◌≡◌, ◌<◌, ◌∙◌, sym, ap, subst, refl, ℕ, ◌+◌, ◌/◌, List, [], ◌∷◌, length, replicate, arith}
+use Rattle.std.proofs.Common.{◌≡◌, ◌<◌, ◌∙◌, sym, ap, refl, ℕ, ◌+◌, ◌/◌, List, [], ◌∷◌, length, replicate, arith}
 use Rattle.std.proofs.Math.Nat.{zero-div}
 use Rattle.aegis_base.specs.Family.{rate}
 use Rattle.aegis_base.specs.Lane.{start, step}

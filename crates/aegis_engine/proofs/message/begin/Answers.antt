@@ -1,4 +1,4 @@
-use Rattle.std.proofs.Common.{◌≡◌, ◌∙◌, ap, refl, ℕ, ◌+◌, ◌/◌, length, slice_index, zero-add, [], arith}
+use Rattle.std.proofs.Common.{◌≡◌, ap, refl, ℕ, ◌+◌, ◌/◌, length, slice_index, zero-add, [], arith}
 use Rattle.std.proofs.Math.Nat.{zero-div}
 use Rattle.aegis_base.specs.Family.{rate}
 use Rattle.aegis_base.specs.Lane.{start}

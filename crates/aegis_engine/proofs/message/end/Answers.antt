@@ -1,4 +1,4 @@
-use Rattle.std.proofs.Common.{◌≡◌, ◌∙◌, sym, ap, refl, ℕ, ◌*◌, ◌/◌, ◌+◌, List, length, arith}
+use Rattle.std.proofs.Common.{◌≡◌, ◌∙◌, sym, ap, refl, ℕ, ◌*◌, ◌/◌, List, length, arith}
 use Rattle.aegis_base.specs.Family.{rate}
 use Rattle.aegis_base.specs.Lane.{finish}
 use Rattle.aegis_base.specs.Message.{block_count, lane_before}

@@ -1,4 +1,4 @@
-use Rattle.std.proofs.Common.{◌≡◌, ◌∙◌, sym, ap, ℕ, ◌+◌, bit_xor, slice_index}
+use Rattle.std.proofs.Common.{◌∙◌, sym, ap, ℕ, ◌+◌, bit_xor, slice_index}
 use Rattle.aegis_base.specs.Message.{stream_byte}
 use Rattle.aegis_base.proofs.Bijection.{bit_xor-twice}
 use Rattle.aegis_base.proofs.HeldFacts.{ciphertext-on, stands-on}

@@ -1,4 +1,4 @@
-use Rattle.std.proofs.Common.{◌≡◌, ◌∙◌, sym, ap, ℕ, ◌+◌, ◌*◌, ◌/◌, ◌<◌, slice_index, arith}
+use Rattle.std.proofs.Common.{◌≡◌, ◌∙◌, sym, ap, ℕ, ◌+◌, ◌*◌, ◌/◌, slice_index, arith}
 use Rattle.aegis_base.specs.Family.{rate}
 use Rattle.aegis_base.specs.Message.{after}
 use Rattle.aegis_base.proofs.RunFacts.{along-whole, block-lane, whole-place}

@@ -1,4 +1,4 @@
-use Rattle.std.proofs.Common.{◌≡◌, ◌∙◌, ap, ℕ, ◌+◌, ◌%◌, ◌<◌, bit_xor, arith}
+use Rattle.std.proofs.Common.{◌≡◌, ◌∙◌, ap, ℕ, ◌+◌, ◌%◌, bit_xor, arith}
 use Rattle.aegis_base.specs.Family.{rate}
 use Rattle.aegis_base.specs.Message.{keystream_byte}
 use Rattle.aegis_base.proofs.RunFacts.{along-byte}

@@ -1,7 +1,6 @@
 -- The part that fills the open block, the whole rate blocks and the rest follow each other along the same bytes.
 use Rattle.std.proofs.Common.{◌≡◌, ◌∙◌, sym, ap, ℕ, ◌+◌, ◌-◌, ◌*◌, ◌/◌, ◌<◌, ◌≤◌, slice_index, length, arith}
 use Rattle.std.proofs.Math.Nat.{div-mul-le_self, le-mul_of_pos_right}
-use Rattle.aegis_base.specs.Run.{IsAlong, IsUnopened}
 use Rattle.aegis_base.proofs.MessageFacts.{rate-positive}
 use Rattle.aegis_engine.proofs.PassFacts.{unopened-after, updates-of-parts}
 use Rattle.aegis_engine.proofs.run.absorb_all.Goals as goal

@@ -1,4 +1,4 @@
-use Rattle.std.proofs.Common.{◌≡◌, ◌∙◌, ap, ℕ, ◌+◌, ◌%◌, ◌<◌, slice_index, length, arith}
+use Rattle.std.proofs.Common.{◌≡◌, ◌∙◌, ap, ℕ, ◌+◌, ◌%◌, length, arith}
 use Rattle.aegis_base.specs.Family.{rate}
 use Rattle.aegis_base.proofs.RunFacts.{padded-step}
 use Rattle.aegis_engine.proofs.PassFacts.{zeros-read}

@@ -1,4 +1,4 @@
-use Rattle.std.proofs.Common.{◌≡◌, ◌∙◌, ap, refl, ℕ, ◌+◌, length, List, replicate, slice_index, zero-add}
+use Rattle.std.proofs.Common.{◌∙◌, ap, refl, ℕ, length, List, replicate, slice_index, zero-add}
 use Rattle.aegis_base.proofs.AppendFacts.{along-none}
 use Rattle.aegis_base.specs.Message.{xor_stream}
 use Rattle.aegis_base.proofs.StreamFacts.{xor_stream-twice}

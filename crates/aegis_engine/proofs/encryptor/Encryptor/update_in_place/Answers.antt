@@ -1,4 +1,4 @@
-use Rattle.std.proofs.Common.{◌≡◌, ◌+◌, ap, ℕ, length, arith}
+use Rattle.std.proofs.Common.{◌≡◌, ◌+◌, ap, length, arith}
 use Rattle.aegis_base.specs.Run.{Held}
 use Rattle.aegis_engine.proofs.encryptor.Encryptor.update_in_place.Goals as goal
 
