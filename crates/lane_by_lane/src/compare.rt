@@ -2,7 +2,8 @@
 
 ghost use Rattle.std.specs.Prelude.{◌≤◌};
 
-use crate::library::library_seal;
+use crate::library::{library_mac, library_seal};
+use crate::mac::slow_mac;
 use crate::round::SubstitutionTable;
 use crate::slow::slow_seal;
 use crate::variant::{TagLength, Variant};
@@ -77,8 +78,28 @@ fn compare_one(
     })
 }
 
-/// Compares at each length of message and of associated data up to one byte more than two rate blocks, and returns at
-/// how many.
+fn compare_mac(
+    table: &SubstitutionTable,
+    variant: Variant,
+    tag_length: TagLength,
+    message_bytes: usize,
+) -> Result<(), Difference>
+    requires { message_bytes ≤ 257 }
+{
+    let input = filler(71);
+    let input = &input[..message_bytes];
+    if library_mac(variant, tag_length, input) == slow_mac(table, variant, tag_length, input) {
+        return Ok(());
+    }
+    Err(Difference {
+        what: "MAC",
+        message_bytes,
+        ad_bytes: 0,
+    })
+}
+
+/// Compares at each length of message, of associated data and of a MAC's input up to one byte more than two rate blocks,
+/// and returns at how many.
 pub fn compare(
     table: &SubstitutionTable,
     variant: Variant,
@@ -91,5 +112,8 @@ pub fn compare(
     for ad_bytes in 0..=longest {
         compare_one(table, variant, tag_length, FIXED, ad_bytes)?;
     }
-    Ok(2 * (longest + 1))
+    for message_bytes in 0..=longest {
+        compare_mac(table, variant, tag_length, message_bytes)?;
+    }
+    Ok(3 * (longest + 1))
 }

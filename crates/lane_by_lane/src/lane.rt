@@ -1,6 +1,7 @@
 //! One lane, by itself.
 
 use crate::round::{Block, SubstitutionTable, and, xor};
+use crate::variant::TagLength;
 
 /// The zero block.
 pub const ZERO: Block = [0; 16];
@@ -108,11 +109,11 @@ fn sum(rows: &[Block]) -> Block {
     total
 }
 
-// The numbers of bits of `ad_bytes` and `message_bytes`, each in eight bytes, least first.
-fn bit_lengths(ad_bytes: u32, message_bytes: u32) -> Block {
+// Two numbers, each in eight bytes, least first.
+fn two_numbers(first: u64, second: u64) -> Block {
     let mut block = ZERO;
-    block[..8].copy_from_slice(&(8 * ad_bytes as u64).to_le_bytes());
-    block[8..].copy_from_slice(&(8 * message_bytes as u64).to_le_bytes());
+    block[..8].copy_from_slice(&first.to_le_bytes());
+    block[8..].copy_from_slice(&second.to_le_bytes());
     block
 }
 
@@ -148,13 +149,13 @@ impl Lane {
         }
     }
 
-    /// The lane after associated data and a message of so many bytes.
-    pub fn finish(self, table: &SubstitutionTable, ad_bytes: u32, message_bytes: u32) -> Lane {
+    /// The lane after its end, which takes in two numbers.
+    pub fn finish(self, table: &SubstitutionTable, first: u64, second: u64) -> Lane {
         let row = match self {
             Lane::Aegis128(rows) => rows[2],
             Lane::Aegis256(rows) => rows[3],
         };
-        let last = xor(&row, &bit_lengths(ad_bytes, message_bytes));
+        let last = xor(&row, &two_numbers(first, second));
         let mut lane = self;
         for _ in 0..7u8 {
             lane = lane.update(table, &[last, last]);
@@ -162,16 +163,24 @@ impl Lane {
         lane
     }
 
-    /// The lane's tag of 16 bytes. AEGIS-128 leaves its last row out.
-    pub fn short_tag(&self) -> Block {
+    // The lane's tag of 16 bytes. AEGIS-128 leaves its last row out.
+    fn short_tag(&self) -> Block {
         match self {
             Lane::Aegis128(rows) => sum(&rows[..7]),
             Lane::Aegis256(rows) => sum(rows),
         }
     }
 
-    /// The halves of the lane's tag of 32 bytes.
-    pub fn long_tag(&self) -> Pair {
+    /// The lane's tag. One of 16 bytes comes with zeros behind it.
+    pub fn tag(&self, tag_length: TagLength) -> Pair {
+        match tag_length {
+            TagLength::Short => [self.short_tag(), ZERO],
+            TagLength::Long => self.long_tag(),
+        }
+    }
+
+    // The halves of the lane's tag of 32 bytes.
+    fn long_tag(&self) -> Pair {
         match self {
             Lane::Aegis128(rows) => [sum(&rows[..4]), sum(&rows[4..])],
             Lane::Aegis256(rows) => [sum(&rows[..3]), sum(&rows[3..])],

@@ -1,15 +1,15 @@
-//! Sealing by the library.
+//! Sealing and MACs by the library.
 
 ghost use Rattle.std.specs.Prelude.{◌<◌, ◌^◌, length};
 
 use crate::lane::{Pair, halves};
 use crate::variant::{TagLength, Variant};
-use aegis::aegis128l::Aegis128L;
-use aegis::aegis128x2::Aegis128X2;
-use aegis::aegis128x4::Aegis128X4;
-use aegis::aegis256::Aegis256;
-use aegis::aegis256x2::Aegis256X2;
-use aegis::aegis256x4::Aegis256X4;
+use aegis::aegis128l::{Aegis128L, Aegis128LMac};
+use aegis::aegis128x2::{Aegis128X2, Aegis128X2Mac};
+use aegis::aegis128x4::{Aegis128X4, Aegis128X4Mac};
+use aegis::aegis256::{Aegis256, Aegis256Mac};
+use aegis::aegis256x2::{Aegis256X2, Aegis256X2Mac};
+use aegis::aegis256x4::{Aegis256X4, Aegis256X4Mac};
 
 /// The key and the nonce of the AEGIS-128 ciphers.
 pub const SHORT_KEY: [u8; 16] = *b"lane by lane 128";
@@ -62,5 +62,37 @@ pub fn library_seal(variant: Variant, tag_length: TagLength, ad: &[u8], buffer: 
         Variant::Aegis256 => seal_with!(Aegis256, LONG_KEY, LONG_NONCE, tag_length, buffer, ad),
         Variant::Aegis256X2 => seal_with!(Aegis256X2, LONG_KEY, LONG_NONCE, tag_length, buffer, ad),
         Variant::Aegis256X4 => seal_with!(Aegis256X4, LONG_KEY, LONG_NONCE, tag_length, buffer, ad),
+    }
+}
+
+// A MAC by one type, with tags of either length.
+macro_rules! mac_with {
+    ($mac:ident, $key:expr, $nonce:expr, $tag_length:expr, $input:expr) => {
+        match $tag_length {
+            TagLength::Short => {
+                let mut mac = $mac::<16>::new_with_nonce(&$key, &$nonce);
+                mac.update($input);
+                [mac.finalize(), [0; 16]]
+            }
+            TagLength::Long => {
+                let mut mac = $mac::<32>::new_with_nonce(&$key, &$nonce);
+                mac.update($input);
+                halves(&mac.finalize())
+            }
+        }
+    };
+}
+
+/// The MAC of an input. One of 16 bytes comes with zeros behind it.
+pub fn library_mac(variant: Variant, tag_length: TagLength, input: &[u8]) -> Pair
+    requires { length input.now < 2 ^ 32 }
+{
+    match variant {
+        Variant::Aegis128L => mac_with!(Aegis128LMac, SHORT_KEY, SHORT_NONCE, tag_length, input),
+        Variant::Aegis128X2 => mac_with!(Aegis128X2Mac, SHORT_KEY, SHORT_NONCE, tag_length, input),
+        Variant::Aegis128X4 => mac_with!(Aegis128X4Mac, SHORT_KEY, SHORT_NONCE, tag_length, input),
+        Variant::Aegis256 => mac_with!(Aegis256Mac, LONG_KEY, LONG_NONCE, tag_length, input),
+        Variant::Aegis256X2 => mac_with!(Aegis256X2Mac, LONG_KEY, LONG_NONCE, tag_length, input),
+        Variant::Aegis256X4 => mac_with!(Aegis256X4Mac, LONG_KEY, LONG_NONCE, tag_length, input),
     }
 }

@@ -1,10 +1,11 @@
-//! Seals by a slow function, written from the definitions one lane at a time, and compares what the library gives.
-//! It shares nothing with the library, and only calls it.
+//! Seals and makes MACs by slow functions, written from the definitions one lane at a time, and compares what the library
+//! gives. They share nothing with the library, and only call it.
 #![tactic(auto)]
 
 mod compare;
 mod lane;
 mod library;
+mod mac;
 mod round;
 mod slow;
 mod variant;

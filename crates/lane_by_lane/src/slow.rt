@@ -9,17 +9,17 @@ use crate::variant::{TagLength, Variant};
 
 /// Where the lanes of a cipher find their blocks.
 #[derive(Clone, Copy)]
-struct Layout {
-    lanes: u8,
-    // the bytes that all lanes take in at once
-    rate: usize,
-    // Where the second blocks of the lanes begin, after all the first ones. AEGIS-256 has none.
-    second: Option<u32>,
+pub struct Layout {
+    pub lanes: u8,
+    /// the bytes that all lanes take in at once
+    pub rate: usize,
+    /// Where the second blocks of the lanes begin, after all the first ones. AEGIS-256 has none.
+    pub second: Option<u32>,
     ghost takes_bytes: { 0 < rate },
 }
 
 impl Layout {
-    fn new(variant: Variant) -> Layout {
+    pub fn new(variant: Variant) -> Layout {
         match variant {
             Variant::Aegis128L => Layout {
                 lanes: 1,
@@ -54,8 +54,8 @@ impl Layout {
         }
     }
 
-    // What a lane takes in of a rate block.
-    fn share(&self, index: u8, rate_block: &[u8]) -> Pair {
+    /// What a lane takes in of a rate block.
+    pub fn share(&self, index: u8, rate_block: &[u8]) -> Pair {
         let first = 16 * index as usize;
         let second = match self.second {
             Some(second) => block_at(rate_block, second as usize + first),
@@ -98,7 +98,7 @@ fn xor_at(bytes: &mut [u8], at: usize, block: &Block)
     }
 }
 
-fn keys(variant: Variant) -> Keys {
+pub fn keys(variant: Variant) -> Keys {
     match variant {
         Variant::Aegis128L | Variant::Aegis128X2 | Variant::Aegis128X4 => Keys::Aegis128 {
             key: SHORT_KEY,
@@ -123,8 +123,8 @@ fn seal_lane(
     requires ad { length ad.now < 2 ^ 32 }
     requires message { length buffer.old < 2 ^ 32 }
 {
-    let ad_bytes = ad.len() as u32;
-    let message_bytes = buffer.len() as u32;
+    let ad_bits = 8 * ad.len() as u64;
+    let message_bits = 8 * buffer.len() as u64;
     let mut lane = start;
     for rate_block in ad.chunks(layout.rate) {
         lane = lane.update(table, &layout.share(index, rate_block));
@@ -134,7 +134,7 @@ fn seal_lane(
         layout.xor_share(index, rate_block, &lane.keystream());
         lane = lane.update(table, &plain);
     }
-    lane.finish(table, ad_bytes, message_bytes)
+    lane.finish(table, ad_bits, message_bits)
 }
 
 /// Seals a message in its place. A tag of 16 bytes comes with zeros behind it.
@@ -154,10 +154,7 @@ pub fn slow_seal(
     for index in 0..layout.lanes {
         let start = Lane::start(table, &keys, index, layout.lanes);
         let lane = seal_lane(table, layout, start, index, ad, buffer);
-        let lane_tag = match tag_length {
-            TagLength::Short => [lane.short_tag(), ZERO],
-            TagLength::Long => lane.long_tag(),
-        };
+        let lane_tag = lane.tag(tag_length);
         tag = [xor(&tag[0], &lane_tag[0]), xor(&tag[1], &lane_tag[1])];
     }
     tag

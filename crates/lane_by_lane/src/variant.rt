@@ -46,7 +46,9 @@ impl Variant {
 }
 
 impl TagLength {
-    pub fn bytes(self) -> usize {
+    pub fn bytes(self) -> usize
+        ensures { result ≤ 32 }
+    {
         match self {
             TagLength::Short => 16,
             TagLength::Long => 32,
