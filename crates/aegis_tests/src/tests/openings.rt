@@ -3,8 +3,8 @@
 ghost use Rattle.std.specs.Prelude.{◌≡◌, ◌⊎◌, ◌≤◌, length};
 
 use crate::tests::calls;
-use aegis_variants::{VARIANTS, Variant};
 use aegis::Error;
+use aegis_variants::{VARIANTS, Variant};
 use std::process::Abort;
 use std::test::Fail;
 

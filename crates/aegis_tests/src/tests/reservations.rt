@@ -2,8 +2,8 @@
 
 use crate::memory::{NoMemory, Rationed};
 use crate::tests::calls;
-use aegis_variants::VARIANTS;
 use aegis::Error;
+use aegis_variants::VARIANTS;
 use std::test::Fail;
 
 const MESSAGE: [u8; 300] = [7; 300];
@@ -32,7 +32,11 @@ fn want_of_memory(rt: HostRuntime) {
 fn one_request(rt: HostRuntime) -> Result<(), Fail> {
     for variant in VARIANTS {
         let mut sealed_in_place = MESSAGE;
-        let tag_in_place = calls::encrypt_in_place::<16>(variant, &mut sealed_in_place, &ASSOCIATED_DATA);
+        let tag_in_place = calls::encrypt_in_place::<16>(
+            variant,
+            &mut sealed_in_place,
+            &ASSOCIATED_DATA,
+        );
         let mut xored_in_place = MESSAGE;
         calls::stream_xor_in_place::<16>(variant, &mut xored_in_place);
 
