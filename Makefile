@@ -14,6 +14,7 @@ test:
 C_LIBRARY = crates/aegis_c/out/libaegis_c.a
 OUT = out
 CC = gcc
+C_FLAGS = -Wall -Wextra -Wpedantic -Werror -Iinclude
 RUSTC = rustc -O --edition 2024
 LINK_RUST = -L native=$(dir $(C_LIBRARY)) -l static=aegis_c
 # The processor level of the library and of what it is compared with: `make bench CPU=x86-64-v3` builds both for that
@@ -28,17 +29,17 @@ bench: $(OUT)/driver
 	$(OUT)/driver bench
 	(cat bench/chunks.md; cd crates/chunk_speed && rt run -- bench | grep '^|') > bench/CHUNKS.md
 
-# The tests of the C interface: its header, both examples, and every call of it against known answers.
+# The tests of the C interface: its header, both examples, and every call of it against the stored lines and forgeries.
 check-c: check-header example-c example-rust $(OUT)/driver
 	$(OUT)/driver
 
 # The header stands by itself, as C and as C++.
 check-header:
-	$(CC) -std=c99 -Wall -Wextra -Wpedantic -Werror -fsyntax-only -x c include/aegis.h
-	$(CC) -std=c++11 -Wall -Wextra -Wpedantic -Werror -fsyntax-only -x c++ include/aegis.h
+	echo '#include "hunkravy.h"' | $(CC) -std=c99 $(C_FLAGS) -fsyntax-only -x c -
+	echo '#include "hunkravy.h"' | $(CC) -std=c++11 $(C_FLAGS) -fsyntax-only -x c++ -
 
 example-c: c-library | $(OUT)
-	$(CC) -std=c99 -Wall -Wextra -Werror -O2 -Iinclude examples/c/seal.c $(C_LIBRARY) -o $(OUT)/seal-c
+	$(CC) -std=c99 $(C_FLAGS) -O2 examples/c/seal.c $(C_LIBRARY) -o $(OUT)/seal-c
 	$(OUT)/seal-c
 
 example-rust: c-library | $(OUT)
@@ -49,7 +50,7 @@ example-rust: c-library | $(OUT)
 c-library:
 	cd crates/aegis_c && rt lib --cpu=$(CPU)
 
-$(OUT)/driver: $(wildcard bench/*.rs) c-library | $(OUT)
+$(OUT)/driver: $(wildcard bench/*.rs vectors/*) include/hunkravy.rs c-library | $(OUT)
 	$(RUSTC) $(BENCH_FLAGS) bench/driver.rs $(LINK_RUST) -o $@
 
 $(OUT):
