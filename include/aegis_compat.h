@@ -4,8 +4,8 @@
  *
  * As in libaegis:
  *
- * - A key has NAME_KEYBYTES bytes, a nonce NAME_NPUBBYTES, and a tag, by `maclen`, 16 or 32. What the parameters give no
- *   length of is not checked.
+ * - A key has NAME_KEYBYTES bytes, a nonce NAME_NPUBBYTES, which no parameter says and nothing checks. A tag has 16 or
+ *   32, by `maclen`.
  * - Message and ciphertext may stand at the same place, and otherwise do not overlap.
  * - A refused decryption answers -1 and leaves zeros in the place of the message. (The calls of hunkravy.h leave 0xaa
  *   there; these write zeros over it.)
