@@ -1,4 +1,4 @@
-.PHONY: run test bench c-library check-c check-header example-c example-rust
+.PHONY: run test bench c-library check-c check-header check-install example-c example-libaegis example-rust install
 
 # Proves, builds and runs the line program on what is piped in, or else on its stored first input.
 run:
@@ -14,7 +14,10 @@ test:
 C_LIBRARY = crates/aegis_c/out/libaegis_c.a
 OUT = out
 CC = gcc
+C_FLAGS = -Wall -Wextra -Wpedantic -Werror -Iinclude
 RUSTC = rustc -O --edition 2024
+PREFIX = /usr/local
+VERSION = 0.1.0
 LINK_RUST = -L native=$(dir $(C_LIBRARY)) -l static=aegis_c
 # The processor level of the library and of what it is compared with: `make bench CPU=x86-64-v3` builds both for that
 # one. Without `no-vectorize-slp` the compiler gathers look-ups into vectors, which makes the four tables that the
@@ -28,18 +31,24 @@ bench: $(OUT)/driver
 	$(OUT)/driver bench
 	(cat bench/chunks.md; cd crates/chunk_speed && rt run -- bench | grep '^|') > bench/CHUNKS.md
 
-# The tests of the C interface: its header, both examples, and every call of it against known answers.
-check-c: check-header example-c example-rust $(OUT)/driver
+# The tests of the C interface: its headers, the examples, and every call of it against the stored lines and forgeries.
+check-c: check-header example-c example-libaegis example-rust $(OUT)/driver
 	$(OUT)/driver
 
-# The header stands by itself, as C and as C++.
+# Each header stands by itself, as C and as C++.
 check-header:
-	$(CC) -std=c99 -Wall -Wextra -Wpedantic -Werror -fsyntax-only -x c include/aegis.h
-	$(CC) -std=c++11 -Wall -Wextra -Wpedantic -Werror -fsyntax-only -x c++ include/aegis.h
+	for header in hunkravy.h aegis_compat.h; do \
+		echo "#include \"$$header\"" | $(CC) -std=c99 $(C_FLAGS) -fsyntax-only -x c - && \
+		echo "#include \"$$header\"" | $(CC) -std=c++11 $(C_FLAGS) -fsyntax-only -x c++ - || exit 1; \
+	done
 
 example-c: c-library | $(OUT)
-	$(CC) -std=c99 -Wall -Wextra -Werror -O2 -Iinclude examples/c/seal.c $(C_LIBRARY) -o $(OUT)/seal-c
+	$(CC) -std=c99 $(C_FLAGS) -O2 examples/c/seal.c $(C_LIBRARY) -o $(OUT)/seal-c
 	$(OUT)/seal-c
+
+example-libaegis: c-library | $(OUT)
+	$(CC) -std=c99 $(C_FLAGS) -O2 examples/c/libaegis.c $(C_LIBRARY) -o $(OUT)/libaegis-c
+	$(OUT)/libaegis-c
 
 example-rust: c-library | $(OUT)
 	$(RUSTC) examples/rust/seal.rs $(LINK_RUST) -o $(OUT)/seal-rust
@@ -49,7 +58,23 @@ example-rust: c-library | $(OUT)
 c-library:
 	cd crates/aegis_c && rt lib --cpu=$(CPU)
 
-$(OUT)/driver: $(wildcard bench/*.rs) c-library | $(OUT)
+# Installs the headers, the library and the file that pkg-config reads, for x86-64 Linux.
+install: c-library
+	install -d $(DESTDIR)$(PREFIX)/include $(DESTDIR)$(PREFIX)/lib/pkgconfig
+	install -m 644 include/hunkravy.h include/aegis_compat.h $(DESTDIR)$(PREFIX)/include
+	install -m 644 $(C_LIBRARY) $(DESTDIR)$(PREFIX)/lib/libhunkravy.a
+	sed -e 's|@PREFIX@|$(abspath $(PREFIX))|' -e 's|@VERSION@|$(VERSION)|' include/hunkravy.pc.in \
+		> $(DESTDIR)$(PREFIX)/lib/pkgconfig/hunkravy.pc
+
+# Builds and runs both C examples over what is installed at PREFIX, by what pkg-config says of it.
+check-install: | $(OUT)
+	for example in seal libaegis; do \
+		$(CC) -std=c99 examples/c/$$example.c \
+			$$(PKG_CONFIG_PATH=$(PREFIX)/lib/pkgconfig pkg-config --cflags --libs hunkravy) \
+			-o $(OUT)/$$example-installed && $(OUT)/$$example-installed || exit 1; \
+	done
+
+$(OUT)/driver: $(wildcard bench/*.rs vectors/*) include/hunkravy.rs c-library | $(OUT)
 	$(RUSTC) $(BENCH_FLAGS) bench/driver.rs $(LINK_RUST) -o $@
 
 $(OUT):

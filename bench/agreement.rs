@@ -1,17 +1,13 @@
 //! The check that comes before the measurement: the contenders agree, with one another and with known answers.
 
 use crate::contender::{Calls, Variant};
-use crate::sample::{counted, sample};
+use crate::sample::{counted, hexadecimal, sample};
 use crate::vectors::{DATA_BYTES, KNOWN, Known, MESSAGE_BYTES};
 
 /// Lengths at which a rate block of some variant ends, and those beside them.
 const ODD_SIZES: [usize; 14] = [0, 1, 15, 16, 17, 31, 32, 33, 63, 65, 127, 128, 129, 300];
 const DATA_SIZES: [usize; 3] = [0, 13, 200];
 const TAG_SIZES: [usize; 2] = [16, 32];
-
-fn hexadecimal(bytes: &[u8]) -> String {
-    bytes.iter().map(|byte| format!("{byte:02x}")).collect()
-}
 
 fn check_known(calls: &Calls, key_bytes: usize, known: &Known) {
     let (key, nonce) = (counted(0, key_bytes), counted(16, key_bytes));

@@ -123,11 +123,11 @@ fn variant_256<const D: usize>(name: &'static str, library: Calls) -> Variant {
 /// The six variants.
 pub fn variants() -> [Variant; 6] {
     [
-        variant_128::<1>("AEGIS-128L", library::aegis128l::CALLS),
-        variant_128::<2>("AEGIS-128X2", library::aegis128x2::CALLS),
-        variant_128::<4>("AEGIS-128X4", library::aegis128x4::CALLS),
-        variant_256::<1>("AEGIS-256", library::aegis256::CALLS),
-        variant_256::<2>("AEGIS-256X2", library::aegis256x2::CALLS),
-        variant_256::<4>("AEGIS-256X4", library::aegis256x4::CALLS),
+        variant_128::<1>("AEGIS-128L", library::AEGIS128L),
+        variant_128::<2>("AEGIS-128X2", library::AEGIS128X2),
+        variant_128::<4>("AEGIS-128X4", library::AEGIS128X4),
+        variant_256::<1>("AEGIS-256", library::AEGIS256),
+        variant_256::<2>("AEGIS-256X2", library::AEGIS256X2),
+        variant_256::<4>("AEGIS-256X4", library::AEGIS256X4),
     ]
 }

@@ -1,15 +1,19 @@
 //! Measures the proved library beside the same ciphers over look-up tables and over the processor's AES instructions.
 //!
 //! `driver` checks that all agree, measures, and writes RESULTS.md and results.svg into the folder that it is given.
-//! `driver` with no folder only checks.
+//! `driver` with no folder only checks, every call of the C interface too: by the stored lines, and by what it refuses.
 
 mod agreement;
 mod baseline;
 mod block;
 mod contender;
+#[path = "../include/hunkravy.rs"]
+mod hunkravy;
 mod library;
+mod lines;
 mod measure;
 mod picture;
+mod refusals;
 mod report;
 mod sample;
 mod vectors;
@@ -20,6 +24,9 @@ fn main() -> std::io::Result<()> {
     let variants = contender::variants();
     agreement::check(&variants, &measure::SIZES);
     println!("The contenders agree at each size.");
+    println!("{} stored lines have their answers.", lines::check());
+    refusals::check();
+    println!("What is to be refused is refused.");
     let Some(folder) = std::env::args_os().nth(1) else {
         return Ok(());
     };

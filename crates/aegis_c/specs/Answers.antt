@@ -22,3 +22,7 @@ stream_answer n nonce key = key_answer n nonce key DONE
 -- to the lengths that a message has to do with
 abbrev pub seal_answer : ℕ → ℕ → ℕ → ℕ → ℕ → ℕ → ℤ
 seal_answer n nonce key message ad tag = key_answer n nonce key (message_answer message ad tag)
+
+-- to the lengths that a MAC has to do with: as to a message without associated data
+abbrev pub mac_answer : ℕ → ℕ → ℕ → ℕ → ℕ → ℤ
+mac_answer n nonce key input mac = seal_answer n nonce key input 0 mac

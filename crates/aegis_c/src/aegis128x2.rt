@@ -3,16 +3,16 @@
 ghost use Rattle.std.specs.Prelude.{length};
 ghost use Rattle.aegis_base.specs.Family.{Aegis128};
 ghost use Rattle.aegis_base.specs.Message.{stream, xor_stream};
-ghost use Rattle.aegis_c.specs.Calls.{OpensOrErases, Seals, Streams};
+ghost use Rattle.aegis_c.specs.Calls.{MakesMac, OpensOrErases, Seals, Streams, VerifiesMac};
 
 use crate::answer::*;
 use crate::calls::*;
 use aegis::MAX_AEAD_BYTES;
-use aegis::aegis128x2::Aegis128X2;
+use aegis::aegis128x2::{Aegis128X2, Aegis128X2Mac};
 
 /// Turns the message at `mc` into its ciphertext, and writes its tag to `mac`.
 #[unsafe(no_mangle)]
-pub extern "C" fn aegis128x2_encrypt_in_place(
+pub extern "C" fn hunkravy_aegis128x2_encrypt_in_place_nonnull(
     mc: &mut [u8],
     ad: &[u8],
     npub: &[u8],
@@ -26,7 +26,7 @@ pub extern "C" fn aegis128x2_encrypt_in_place(
 
 /// Turns the ciphertext at `mc` into the message that `mac` is the tag of.
 #[unsafe(no_mangle)]
-pub extern "C" fn aegis128x2_decrypt_in_place(
+pub extern "C" fn hunkravy_aegis128x2_decrypt_in_place_nonnull(
     mc: &mut [u8],
     ad: &[u8],
     npub: &[u8],
@@ -40,7 +40,7 @@ pub extern "C" fn aegis128x2_decrypt_in_place(
 
 /// Writes keystream to `out`, whatever was there.
 #[unsafe(no_mangle)]
-pub extern "C" fn aegis128x2_stream(out: &mut [u8], npub: &[u8], k: &[u8]) -> i32
+pub extern "C" fn hunkravy_aegis128x2_stream_nonnull(out: &mut [u8], npub: &[u8], k: &[u8]) -> i32
     ensures { Streams 16 npub.now k.now out.old out.new (stream Aegis128 2 k.now npub.now (length out.old)) result }
 {
     stream!(Aegis128X2, stream, out, npub, k)
@@ -48,8 +48,38 @@ pub extern "C" fn aegis128x2_stream(out: &mut [u8], npub: &[u8], k: &[u8]) -> i3
 
 /// Xors the bytes at `mc` with keystream.
 #[unsafe(no_mangle)]
-pub extern "C" fn aegis128x2_stream_xor_in_place(mc: &mut [u8], npub: &[u8], k: &[u8]) -> i32
+pub extern "C" fn hunkravy_aegis128x2_stream_xor_in_place_nonnull(
+    mc: &mut [u8],
+    npub: &[u8],
+    k: &[u8],
+) -> i32
     ensures { Streams 16 npub.now k.now mc.old mc.new (xor_stream Aegis128 2 k.now npub.now mc.old) result }
 {
     stream!(Aegis128X2, stream_xor_in_place, mc, npub, k)
+}
+
+/// Writes the MAC of `input` to `mac`.
+#[unsafe(no_mangle)]
+pub extern "C" fn hunkravy_aegis128x2_mac_nonnull(
+    input: &[u8],
+    npub: &[u8],
+    k: &[u8],
+    mac: &mut [u8],
+) -> i32
+    ensures { MakesMac Aegis128 2 16 npub.now k.now input.now mac.old mac.new result }
+{
+    mac!(Aegis128X2Mac, input, npub, k, mac)
+}
+
+/// Whether `mac` is the MAC of `input`.
+#[unsafe(no_mangle)]
+pub extern "C" fn hunkravy_aegis128x2_mac_verify_nonnull(
+    input: &[u8],
+    npub: &[u8],
+    k: &[u8],
+    mac: &[u8],
+) -> i32
+    ensures { VerifiesMac Aegis128 2 16 npub.now k.now input.now mac.now result }
+{
+    mac_verify!(Aegis128X2Mac, input, npub, k, mac)
 }

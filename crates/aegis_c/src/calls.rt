@@ -15,12 +15,18 @@ macro_rules! nonce_and_key {
     }};
 }
 
-// The call ends here where the message or its associated data are too long.
+// The call ends here where the message is too long.
 macro_rules! check_message {
-    ($mc:ident, $ad:ident) => {
+    ($mc:ident) => {
         if $mc.len() as u64 > MAX_AEAD_BYTES {
             return MESSAGE_TOO_LONG;
         }
+    };
+}
+
+// The call ends here where the associated data are too long.
+macro_rules! check_data {
+    ($ad:ident) => {
         if $ad.len() as u64 > MAX_AEAD_BYTES {
             return DATA_TOO_LONG;
         }
@@ -30,7 +36,8 @@ macro_rules! check_message {
 macro_rules! encrypt_in_place {
     ($Cipher:ident, $mc:ident, $ad:ident, $npub:ident, $k:ident, $mac:ident) => {{
         let (nonce, key) = nonce_and_key!($npub, $k);
-        check_message!($mc, $ad);
+        check_message!($mc);
+        check_data!($ad);
         if $mac.len() == 16 {
             $mac.copy_from_slice(&$Cipher::<16>::new(key, nonce).encrypt_in_place($mc, $ad));
             DONE
@@ -46,7 +53,8 @@ macro_rules! encrypt_in_place {
 macro_rules! decrypt_in_place {
     ($Cipher:ident, $mc:ident, $ad:ident, $npub:ident, $k:ident, $mac:ident) => {{
         let (nonce, key) = nonce_and_key!($npub, $k);
-        check_message!($mc, $ad);
+        check_message!($mc);
+        check_data!($ad);
         if let Some(tag) = $mac.as_array() {
             match $Cipher::<16>::new(key, nonce).decrypt_in_place($mc, tag, $ad) {
                 Ok(()) => DONE,
@@ -72,8 +80,57 @@ macro_rules! stream {
     }};
 }
 
+// A MAC that has taken in all of the input.
+macro_rules! mac_of {
+    ($Mac:ident, $bytes:literal, $key:ident, $nonce:ident, $input:ident) => {{
+        let mut mac = $Mac::<$bytes>::new_with_nonce($key, $nonce);
+        mac.update($input);
+        mac
+    }};
+}
+
+macro_rules! mac {
+    ($Mac:ident, $input:ident, $npub:ident, $k:ident, $mac:ident) => {{
+        let (nonce, key) = nonce_and_key!($npub, $k);
+        check_message!($input);
+        if $mac.len() == 16 {
+            $mac.copy_from_slice(&mac_of!($Mac, 16, key, nonce, $input).finalize());
+            DONE
+        } else if $mac.len() == 32 {
+            $mac.copy_from_slice(&mac_of!($Mac, 32, key, nonce, $input).finalize());
+            DONE
+        } else {
+            WRONG_TAG_LENGTH
+        }
+    }};
+}
+
+macro_rules! mac_verify {
+    ($Mac:ident, $input:ident, $npub:ident, $k:ident, $mac:ident) => {{
+        let (nonce, key) = nonce_and_key!($npub, $k);
+        check_message!($input);
+        if let Some(expected) = $mac.as_array() {
+            match mac_of!($Mac, 16, key, nonce, $input).verify(expected) {
+                Ok(()) => DONE,
+                Err(_) => INVALID_TAG,
+            }
+        } else if let Some(expected) = $mac.as_array() {
+            match mac_of!($Mac, 32, key, nonce, $input).verify(expected) {
+                Ok(()) => DONE,
+                Err(_) => INVALID_TAG,
+            }
+        } else {
+            WRONG_TAG_LENGTH
+        }
+    }};
+}
+
+pub(crate) use check_data;
 pub(crate) use check_message;
 pub(crate) use decrypt_in_place;
 pub(crate) use encrypt_in_place;
+pub(crate) use mac;
+pub(crate) use mac_of;
+pub(crate) use mac_verify;
 pub(crate) use nonce_and_key;
 pub(crate) use stream;

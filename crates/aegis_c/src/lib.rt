@@ -1,7 +1,10 @@
-//! The AEGIS ciphers for C, as `include/aegis.h` declares them.
+//! The AEGIS ciphers for C, as `include/hunkravy.h` declares them.
 //!
-//! Each variant has a module with its four calls. A call checks the lengths that it was given and makes one call of
-//! the library, whose clauses it states again; `calls` has the bodies, and `answer` what they answer.
+//! Each variant has a module with its six calls. A call checks the lengths that it was given and makes one call of the
+//! library, or a MAC's three, whose clauses it states again; `calls` has the bodies, and `answer` what they answer.
+//!
+//! A slice comes as a pointer and a length, and the pointer is never null, even before no bytes. The names say so by their
+//! last word; the header hands null pointers on as others, under the names without it.
 #![tactic(auto)]
 
 mod aegis128l;
