@@ -1,13 +1,22 @@
-.PHONY: run test bench c-library check-c check-header check-install example-c example-libaegis example-rust install
+.PHONY: run test check-samples bench c-library check-c check-header check-install example-c example-libaegis example-rust install
 
-# Proves, builds and runs the line program on what is piped in, or else on its stored first input.
+# Proves, builds and runs the line program on what is connected to its standard input, or on its stored first lines where
+# that is a terminal, /dev/null or nothing.
 run:
 	@cd crates/aegis_vectors && \
-	if [ -p /dev/stdin ] || [ -f /dev/stdin ]; then rt run; else rt run < stdin; fi
+	if [ ! -e /dev/stdin ] || [ -c /dev/stdin ]; then \
+		echo 'answering the stored lines of crates/aegis_vectors/stdin' >&2; rt run < stdin; \
+	else \
+		echo 'answering standard input' >&2; rt run; \
+	fi
 
-# The merge gate: every proof from nothing, the must-fail edits, the tests and the programs.
-test:
+# The merge gate: the pages' samples, every proof from nothing, the must-fail edits, the tests and the programs.
+test: check-samples
 	rt ci
+
+# Each Rust sample of the pages is a part of a proved crate.
+check-samples:
+	sh docs/check_samples.sh README.md docs/CALLING.md
 
 # What follows builds with stock gcc and rustc over the static library, and proves nothing but that library.
 
