@@ -84,8 +84,10 @@ static size_t bytes_to_send(uint8_t *message, uint8_t *tag, size_t tag_bytes)
     return seal(message, tag, tag_bytes) == HUNKRAVY_DONE ? MESSAGE_BYTES : 0;
 }
 
-/* A wrong length is answered with which one it is, and nothing changes: the buffer still holds the message, not its
-   ciphertext. So the answer is looked at before the buffer goes anywhere. */
+/*
+ * A wrong length is answered with which one it is, and nothing changes: the buffer still holds the message, not its
+ * ciphertext. So the answer is looked at before the buffer goes anywhere.
+ */
 static void check_lengths(void)
 {
     uint8_t buffer[MESSAGE_BYTES] = "fifteen letters";

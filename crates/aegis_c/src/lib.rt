@@ -3,8 +3,8 @@
 //! Each variant has a module with its six calls. A call checks the lengths that it was given and makes one call of the
 //! library, or a MAC's three, whose clauses it states again; `calls` has the bodies, and `answer` what they answer.
 //!
-//! A slice comes as a pointer and a length, and the pointer is never null, even before no bytes. The names say so by their
-//! last word; the header hands null pointers on as others, under the names without it.
+//! A slice comes as a pointer and a length, and the pointer is not null even before no bytes. The last word of each name
+//! says so; the header's own calls, by the names without it, take null there too.
 #![tactic(auto)]
 
 mod aegis128l;
