@@ -31,6 +31,7 @@ pub type Block = [u8; 128];
 pub const ZEROS: Block = [0; 128];
 
 /// Copies `count` bytes of `source`, from `from` on, over those of `target` from `at` on.
+#[inline(always)]
 pub fn copy_part(target: &mut [u8], at: usize, source: &[u8], from: usize, count: usize)
     requires target_within { at + count ≤ length target.old }
     requires source_within { from + count ≤ length source.now }
@@ -39,6 +40,17 @@ pub fn copy_part(target: &mut [u8], at: usize, source: &[u8], from: usize, count
     ensures above { (i : ℕ) → at + count ≤ i → slice_index target.new i ≡ slice_index target.old i }
 {
     target[at..at + count].copy_from_slice(&source[from..from + count]);
+}
+
+// A copy of the rate block of `bytes` from `at` on.
+#[inline(always)]
+fn copied<S: LaneState>(bytes: &[u8], at: usize) -> Block
+    requires { at + S.RATE ≤ length bytes.now }
+    ensures { (j : ℕ) → j < S.LANES → share_at S.FAMILY S.LANES j result 0 ≡ share_at S.FAMILY S.LANES j bytes.now at }
+{
+    let mut block = ZEROS;
+    copy_part(&mut block, 0, bytes, at, S::RATE);
+    block
 }
 
 // Xors a rate block of a buffer with the lanes' keystream, byte by byte.
@@ -168,10 +180,11 @@ fn pass_block<S: LaneState>(state: S, pass: Pass, buffer: &mut [u8], at: usize) 
     ensures updates { S.updates result ≡ S.updates state + 1 }
 {
     match pass {
+        // The message's block is copied, so that the rows are not needed behind their update.
         Pass::Seal => {
-            let next = state.absorb(buffer, at);
+            let plain = copied::<S>(buffer, at);
             xor_block(state, buffer, at);
-            next
+            state.absorb(&plain, 0)
         }
         Pass::Open => {
             xor_block(state, buffer, at);
