@@ -1,5 +1,4 @@
 mod LinesFacts
-mod OpenFacts
 mod OutputFacts
 mod PieceFacts
 mod Reading

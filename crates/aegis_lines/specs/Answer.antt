@@ -6,7 +6,7 @@ use Rattle.aegis_base.specs.Message.{Opens, seal, stream, xor_stream}
 use Rattle.aegis_lines.specs.Fault.{text_of_fault}
 use Rattle.aegis_lines.specs.Field.{shown}
 use Rattle.aegis_lines.specs.Request.{Request, Round, Seal, Open, Stream, Xor, Mac, request_of}
-use Rattle.aegis_lines.specs.Variant.{family_of, lanes_of}
+use Rattle.aegis_variants.specs.Variant.{family_of, lanes_of}
 
 -- a ciphertext and a tag, as they are printed
 abbrev pub shown_pair : List ℕ × List ℕ → List ℕ

@@ -1,73 +1,20 @@
 -- What the program's values stand for.
 use Rattle.std.specs.Prelude.{ℕ, ◌&&◌, ◌==◌, List, Result, Ok, Err, length, if◌then◌else◌}
-use Rattle.aegis_base.specs.Mac.{mac}
-use Rattle.aegis_base.specs.Message.{seal, stream, xor_stream}
 use Rattle.aegis_lines.specs.declared.fault.Fault.{Fault}
 use Rattle.aegis_lines.specs.declared.fault.Fault.TheVariants as faults
-use Rattle.aegis_lines.specs.declared.variant.Variant.{Variant}
-use Rattle.aegis_lines.specs.declared.variant.Variant.TheVariants as variants
-use Rattle.aegis_lines.specs.declared.ciphers.Cipher.{Cipher}
-use Rattle.aegis_lines.specs.declared.ciphers.Cipher.TheVariants as ciphers
-use Rattle.aegis_lines.specs.declared.ciphers.Tag.{Tag}
-use Rattle.aegis_lines.specs.declared.ciphers.Tag.TheVariants as tags
+use Rattle.aegis_variants.specs.declared.variant.Variant.{Variant}
+use Rattle.aegis_lines.specs.declared.tag.Tag.{Tag}
+use Rattle.aegis_lines.specs.declared.tag.Tag.TheVariants as tags
 use Rattle.aegis_lines.specs.declared.command.Command.{Command}
 use Rattle.aegis_lines.specs.declared.command.Command.TheVariants as commands
 use Rattle.aegis_lines.specs.Field.{together}
 use Rattle.aegis_lines.specs.Request.{Request, Round, Seal, Open, Stream, Xor, Mac}
-use Rattle.aegis_lines.specs.Variant.{family_of, key_length_of, lanes_of, tag_length_of}
-
--- the variant of a cipher, its key and its nonce
-abbrev pub variant_of : Cipher → Variant
-variant_of (ciphers.Aegis128L keys) = variants.Aegis128L
-variant_of (ciphers.Aegis128X2 keys) = variants.Aegis128X2
-variant_of (ciphers.Aegis128X4 keys) = variants.Aegis128X4
-variant_of (ciphers.Aegis256 keys) = variants.Aegis256
-variant_of (ciphers.Aegis256X2 keys) = variants.Aegis256X2
-variant_of (ciphers.Aegis256X4 keys) = variants.Aegis256X4
-
-abbrev pub key_of : Cipher → List ℕ
-key_of (ciphers.Aegis128L keys) = keys.key
-key_of (ciphers.Aegis128X2 keys) = keys.key
-key_of (ciphers.Aegis128X4 keys) = keys.key
-key_of (ciphers.Aegis256 keys) = keys.key
-key_of (ciphers.Aegis256X2 keys) = keys.key
-key_of (ciphers.Aegis256X4 keys) = keys.key
-
-abbrev pub nonce_of : Cipher → List ℕ
-nonce_of (ciphers.Aegis128L keys) = keys.nonce
-nonce_of (ciphers.Aegis128X2 keys) = keys.nonce
-nonce_of (ciphers.Aegis128X4 keys) = keys.nonce
-nonce_of (ciphers.Aegis256 keys) = keys.nonce
-nonce_of (ciphers.Aegis256X2 keys) = keys.nonce
-nonce_of (ciphers.Aegis256X4 keys) = keys.nonce
-
--- a key and a nonce of n bytes each, or a length fault
-abbrev pub keys_of_length : ℕ → List ℕ → List ℕ → Result (List ℕ × List ℕ) Fault
-keys_of_length n k m = if length k == n && length m == n then Ok (k, m) else Err faults.Length
+use Rattle.aegis_variants.specs.Cipher.{key_of, nonce_of, variant_of}
+use Rattle.aegis_variants.specs.Variant.{key_length_of, tag_length_of}
 
 -- a variant with a key and a nonce of its length, or a length fault
 abbrev pub cipher_with : Variant → List ℕ → List ℕ → Result (Variant × List ℕ × List ℕ) Fault
 cipher_with variant k m = if length k == key_length_of variant && length m == key_length_of variant then Ok (variant, k, m) else Err faults.Length
-
--- a cipher's variant, key and nonce
-abbrev pub parts_of : Cipher → Variant × List ℕ × List ℕ
-parts_of cipher = (variant_of cipher, key_of cipher, nonce_of cipher)
-
--- what a cipher seals associated data and a message to
-abbrev pub sealed_by : Cipher → ℕ → List ℕ → List ℕ → List ℕ × List ℕ
-sealed_by cipher n ad m = seal (family_of (variant_of cipher)) (lanes_of (variant_of cipher)) n (key_of cipher) (nonce_of cipher) ad m
-
--- the first n bytes of a cipher's keystream
-abbrev pub stream_of : Cipher → ℕ → List ℕ
-stream_of cipher n = stream (family_of (variant_of cipher)) (lanes_of (variant_of cipher)) (key_of cipher) (nonce_of cipher) n
-
--- a message, xored with a cipher's keystream
-abbrev pub xored_by : Cipher → List ℕ → List ℕ
-xored_by cipher m = xor_stream (family_of (variant_of cipher)) (lanes_of (variant_of cipher)) (key_of cipher) (nonce_of cipher) m
-
--- the MAC of n bytes of a message, under a cipher's key and nonce
-abbrev pub mac_by : Cipher → ℕ → List ℕ → List ℕ
-mac_by cipher n m = mac (family_of (variant_of cipher)) (lanes_of (variant_of cipher)) n (key_of cipher) (nonce_of cipher) m
 
 -- the bytes of a tag
 abbrev pub tag_bytes_of : Tag → List ℕ

@@ -13,8 +13,8 @@ use Rattle.hex.specs.declared.error.FromHexError.{FromHexError}
 use Rattle.aegis_base.specs.declared.error.TheConstants.{MAX_AEAD_BYTES}
 use Rattle.aegis_lines.specs.declared.fault.Fault.{Fault}
 use Rattle.aegis_lines.specs.declared.fault.Fault.TheVariants as faults
-use Rattle.aegis_lines.specs.declared.variant.Variant.{Variant}
-use Rattle.aegis_lines.specs.declared.variant.Variant.TheVariants as variants
+use Rattle.aegis_variants.specs.declared.variant.Variant.{Variant}
+use Rattle.aegis_variants.specs.declared.variant.Variant.TheVariants as variants
 use Rattle.aegis_lines.specs.Variant.{tag_length_named, variant_named}
 
 -- The pieces of a text between single separators. Two separators together, or one at an end, make an empty piece.

@@ -2,7 +2,7 @@
 use Rattle.std.specs.Prelude.{ℕ, List, Option, Some, None, Result, Ok, Err}
 use Rattle.aegis_lines.specs.declared.fault.Fault.{Fault}
 use Rattle.aegis_lines.specs.declared.fault.Fault.TheVariants as faults
-use Rattle.aegis_lines.specs.declared.variant.Variant.{Variant}
+use Rattle.aegis_variants.specs.declared.variant.Variant.{Variant}
 use Rattle.aegis_lines.specs.Field.{bytes_of, count_in, field_of, fields_of, joined_of, tag_length_in, variant_in}
 use Rattle.aegis_lines.specs.Table.{Name, fault_in, name_of}
 use Rattle.aegis_lines.specs.Table as names

@@ -3,9 +3,10 @@ use Rattle.std.specs.Prelude.{ℕ, ◌+◌, ◌==◌, ◌||◌, Bool, false, not
 use Rattle.std.specs.Str.{bytes_eq}
 use Rattle.aegis_lines.specs.declared.fault.Fault.{Fault}
 use Rattle.aegis_lines.specs.declared.fault.Fault.TheVariants as faults
-use Rattle.aegis_lines.specs.declared.variant.Variant.{Variant}
+use Rattle.aegis_variants.specs.declared.variant.Variant.{Variant}
 use Rattle.aegis_lines.specs.Field.{bytes_in, bytes_of, field_of, is_within_limit, joined_in, joined_of, stream_length_in, tag_length_in, variant_in}
-use Rattle.aegis_lines.specs.Variant.{key_length_of, tag_length_named, variant_named}
+use Rattle.aegis_lines.specs.Variant.{tag_length_named, variant_named}
+use Rattle.aegis_variants.specs.Variant.{key_length_of}
 
 -- the commands
 pub data Name : Type 0 where

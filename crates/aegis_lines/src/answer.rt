@@ -3,19 +3,20 @@
 ghost use Rattle.std.specs.Prelude.{◌≡◌, ◌⊎◌, IfErr, IfOk};
 ghost use Rattle.aegis_base.specs.declared.error.Error.TheVariants.{OutOfMemory};
 ghost use Rattle.aegis_lines.specs.Answer.{IsAnswer, IsOpeningAnswer, IsReply, shown_pair};
-ghost use Rattle.aegis_lines.specs.Command.{mac_by, request_from, sealed_by, tag_bytes_of, tag_size_of};
+ghost use Rattle.aegis_lines.specs.Command.{request_from, tag_bytes_of, tag_size_of};
 ghost use Rattle.aegis_lines.specs.Field.{shown, together};
-ghost use Rattle.aegis_lines.specs.Variant.{tag_length_of};
+ghost use Rattle.aegis_variants.specs.Cipher.{mac_by, sealed_by};
+ghost use Rattle.aegis_variants.specs.Variant.{tag_length_of};
 
-use crate::ciphers::{Cipher, Tag};
 use crate::command::Command;
 use crate::fault::Refusal;
 use crate::fields::push_bytes;
 use crate::limited::Limited;
 use crate::parse::parse;
 use crate::pieces::Pieces;
-use crate::variant::TagLength;
+use crate::tag::Tag;
 use aegis::Error;
+use aegis_variants::{Cipher, TagLength};
 use std::alloc::{AllocError, Allocator};
 
 /// The answer of a line, without a line end. The line is any bytes, and a line end in it is a byte

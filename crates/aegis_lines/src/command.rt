@@ -1,9 +1,9 @@
 //! What a line asks for.
 
-use crate::ciphers::{Cipher, Tag};
 use crate::limited::Limited;
 use crate::pieces::Pieces;
-use crate::variant::TagLength;
+use crate::tag::Tag;
+use aegis_variants::{Cipher, TagLength};
 use aegis::aes::AesBlock;
 use std::alloc::Allocator;
 

@@ -3,7 +3,6 @@
 #![tactic(auto)]
 
 mod answer;
-mod ciphers;
 mod command;
 mod fault;
 mod fields;
@@ -12,6 +11,7 @@ mod output;
 mod parse;
 mod pieces;
 mod session;
+mod tag;
 #[cfg(test)]
 mod tests;
 mod variant;

@@ -8,13 +8,13 @@ ghost use Rattle.aegis_lines.specs.Table.{name_of};
 ghost use Rattle.aegis_lines.specs.Table as names;
 ghost use Rattle.aegis_lines.specs.Request.{request_of, request_of_command, request_of_name};
 
-use crate::ciphers::{Cipher, Tag};
 use crate::command::Command;
 use crate::fault::{Fault, Refusal};
 use crate::fields;
 use crate::limited::Limited;
 use crate::pieces::Pieces;
-use crate::variant::{TagLength, Variant};
+use crate::tag::Tag;
+use crate::variant::{cipher_with, tag_length_named, variant_named};
 use aegis::aes::AesBlock;
 use std::alloc::Allocator;
 
@@ -78,14 +78,14 @@ fn seal<A: Allocator + Copy>(alloc: A, fields: &[&[u8]]) -> Result<Command<A>, R
     if fields.len() != 7 {
         return Err(Refusal::Fault(Fault::Fields));
     }
-    let variant = Variant::from_name(fields::field(fields, 1))?;
-    let tag_length = TagLength::from_field(fields::field(fields, 2))?;
+    let variant = variant_named(fields::field(fields, 1))?;
+    let tag_length = tag_length_named(fields::field(fields, 2))?;
     let key = fields::bytes(alloc, fields::field(fields, 3))?;
     let nonce = fields::bytes(alloc, fields::field(fields, 4))?;
     let associated_data = fields::bytes(alloc, fields::field(fields, 5))?;
     let message = fields::pieces(alloc, fields::field(fields, 6))?;
     Ok(Command::Seal {
-        cipher: Cipher::new(variant, &key, &nonce)?,
+        cipher: cipher_with(variant, &key, &nonce)?,
         tag_length,
         associated_data: Limited::new(associated_data)?,
         message: Pieces::new(alloc, message)?,
@@ -100,15 +100,15 @@ fn open<A: Allocator + Copy>(alloc: A, fields: &[&[u8]]) -> Result<Command<A>, R
     if fields.len() != 8 {
         return Err(Refusal::Fault(Fault::Fields));
     }
-    let variant = Variant::from_name(fields::field(fields, 1))?;
-    let tag_length = TagLength::from_field(fields::field(fields, 2))?;
+    let variant = variant_named(fields::field(fields, 1))?;
+    let tag_length = tag_length_named(fields::field(fields, 2))?;
     let key = fields::bytes(alloc, fields::field(fields, 3))?;
     let nonce = fields::bytes(alloc, fields::field(fields, 4))?;
     let associated_data = fields::bytes(alloc, fields::field(fields, 5))?;
     let ciphertext = fields::pieces(alloc, fields::field(fields, 6))?;
     let tag = fields::bytes(alloc, fields::field(fields, 7))?;
     Ok(Command::Open {
-        cipher: Cipher::new(variant, &key, &nonce)?,
+        cipher: cipher_with(variant, &key, &nonce)?,
         tag: Tag::from_slice(tag_length, &tag)?,
         associated_data: Limited::new(associated_data)?,
         ciphertext: Pieces::new(alloc, ciphertext)?,
@@ -123,12 +123,12 @@ fn stream<A: Allocator + Copy>(alloc: A, fields: &[&[u8]]) -> Result<Command<A>,
     if fields.len() != 5 {
         return Err(Refusal::Fault(Fault::Fields));
     }
-    let variant = Variant::from_name(fields::field(fields, 1))?;
+    let variant = variant_named(fields::field(fields, 1))?;
     let key = fields::bytes(alloc, fields::field(fields, 2))?;
     let nonce = fields::bytes(alloc, fields::field(fields, 3))?;
     let count = fields::stream_length(fields::field(fields, 4))?;
     Ok(Command::Stream {
-        cipher: Cipher::new(variant, &key, &nonce)?,
+        cipher: cipher_with(variant, &key, &nonce)?,
         count,
     })
 }
@@ -141,12 +141,12 @@ fn xor<A: Allocator + Copy>(alloc: A, fields: &[&[u8]]) -> Result<Command<A>, Re
     if fields.len() != 5 {
         return Err(Refusal::Fault(Fault::Fields));
     }
-    let variant = Variant::from_name(fields::field(fields, 1))?;
+    let variant = variant_named(fields::field(fields, 1))?;
     let key = fields::bytes(alloc, fields::field(fields, 2))?;
     let nonce = fields::bytes(alloc, fields::field(fields, 3))?;
     let message = fields::bytes(alloc, fields::field(fields, 4))?;
     Ok(Command::Xor {
-        cipher: Cipher::new(variant, &key, &nonce)?,
+        cipher: cipher_with(variant, &key, &nonce)?,
         message,
     })
 }
@@ -159,13 +159,13 @@ fn mac<A: Allocator + Copy>(alloc: A, fields: &[&[u8]]) -> Result<Command<A>, Re
     if fields.len() != 6 {
         return Err(Refusal::Fault(Fault::Fields));
     }
-    let variant = Variant::from_name(fields::field(fields, 1))?;
-    let tag_length = TagLength::from_field(fields::field(fields, 2))?;
+    let variant = variant_named(fields::field(fields, 1))?;
+    let tag_length = tag_length_named(fields::field(fields, 2))?;
     let key = fields::bytes(alloc, fields::field(fields, 3))?;
     let nonce = fields::bytes(alloc, fields::field(fields, 4))?;
     let message = fields::pieces(alloc, fields::field(fields, 5))?;
     Ok(Command::Mac {
-        cipher: Cipher::new(variant, &key, &nonce)?,
+        cipher: cipher_with(variant, &key, &nonce)?,
         tag_length,
         message: Pieces::new(alloc, message)?,
     })

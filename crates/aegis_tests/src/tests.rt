@@ -1,5 +1,6 @@
 //! Worked examples of what the contracts say, and tests of what no contract says.
 
+mod calls;
 mod examples;
 mod keystreams;
 mod lanes;
@@ -7,4 +8,3 @@ mod lines;
 mod openings;
 mod reservations;
 mod texts;
-mod variant;

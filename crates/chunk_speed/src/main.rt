@@ -4,12 +4,12 @@
 //! seals and opens one message of each variant in chunks.
 #![tactic(auto)]
 
-mod variant;
+mod chunks;
 
 use std::rt::Runtime;
 use std::time::{Duration, Instant};
 use std::{env, io};
-use variant::{VARIANTS, Variant};
+use aegis_variants::{Cipher, Keys, VARIANTS};
 
 const MESSAGE_BYTES: usize = 1 << 20;
 
@@ -17,6 +17,16 @@ const MESSAGE_BYTES: usize = 1 << 20;
 const CHUNK_BYTES: [usize; 5] = [0, 16, 100, 1024, 16384];
 
 const TURNS: usize = 20;
+
+const SHORT_KEYS: Keys<16> = Keys {
+    key: [7; 16],
+    nonce: [7; 16],
+};
+
+const LONG_KEYS: Keys<32> = Keys {
+    key: [7; 32],
+    nonce: [7; 32],
+};
 
 /// How long sealing and opening took.
 #[derive(Clone, Copy)]
@@ -28,7 +38,7 @@ struct Times {
 // One message sealed and opened in chunks of `size` bytes. It has to come back.
 fn turn<R: Runtime>(
     rt: &R,
-    variant: Variant,
+    cipher: &Cipher,
     size: usize,
     buffer: &mut [u8],
     plaintext: &mut [u8],
@@ -36,10 +46,10 @@ fn turn<R: Runtime>(
     let bytes = buffer.len().min(MESSAGE_BYTES);
     let buffer = &mut buffer[..bytes];
     let start = Instant::now(rt)?;
-    let tag = variant.seal(size, buffer);
+    let tag = chunks::seal(cipher, size, buffer);
     let seal = start.elapsed(rt)?;
     let start = Instant::now(rt)?;
-    let opened = variant.open(size, &tag, buffer, plaintext);
+    let opened = chunks::open(cipher, size, &tag, buffer, plaintext);
     let open = start.elapsed(rt)?;
     if opened {
         Ok(Times { seal, open })
@@ -51,14 +61,14 @@ fn turn<R: Runtime>(
 // The shortest times of some turns.
 fn best<R: Runtime>(
     rt: &R,
-    variant: Variant,
+    cipher: &Cipher,
     size: usize,
     buffer: &mut [u8],
     plaintext: &mut [u8],
 ) -> io::Result<Times> {
-    let mut best = turn(rt, variant, size, buffer, plaintext)?;
+    let mut best = turn(rt, cipher, size, buffer, plaintext)?;
     for _turn in 0..TURNS {
-        let times = turn(rt, variant, size, buffer, plaintext)?;
+        let times = turn(rt, cipher, size, buffer, plaintext)?;
         best = Times {
             seal: best.seal.min(times.seal),
             open: best.open.min(times.open),
@@ -73,13 +83,14 @@ fn main(rt: HostRuntime) -> io::Result<()> {
     let measured = env::args(&rt)?.count() > 1;
     for variant in VARIANTS {
         let name = variant.name();
+        let cipher = Cipher::with_keys(variant, SHORT_KEYS, LONG_KEYS);
         if !measured {
-            turn(&rt, variant, 1000, &mut buffer, &mut plaintext)?;
+            turn(&rt, &cipher, 1000, &mut buffer, &mut plaintext)?;
             println!(rt; "{name}: sealed and opened in chunks")?;
             continue;
         }
         for size in CHUNK_BYTES {
-            let times = best(&rt, variant, size, &mut buffer, &mut plaintext)?;
+            let times = best(&rt, &cipher, size, &mut buffer, &mut plaintext)?;
             let seal = times.seal.as_micros();
             let open = times.open.as_micros();
             println!(rt; "| {name} | {size} | {seal} | {open} |")?;

@@ -6,7 +6,7 @@ use crate::library::{library_mac, library_seal};
 use crate::mac::slow_mac;
 use crate::round::SubstitutionTable;
 use crate::slow::slow_seal;
-use crate::variant::{TagLength, Variant};
+use aegis_variants::{TagLength, Variant};
 use std::fmt;
 
 // The longest message or associated data: one byte more than two rate blocks of 128 bytes.

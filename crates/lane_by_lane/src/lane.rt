@@ -1,7 +1,7 @@
 //! One lane, by itself.
 
 use crate::round::{Block, SubstitutionTable, and, xor};
-use crate::variant::TagLength;
+use aegis_variants::TagLength;
 
 /// The zero block.
 pub const ZERO: Block = [0; 16];

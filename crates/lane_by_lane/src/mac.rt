@@ -5,7 +5,7 @@ ghost use Rattle.std.specs.Prelude.{◌<◌, ◌^◌, length};
 use crate::lane::{Keys, Lane, Pair, ZERO};
 use crate::round::SubstitutionTable;
 use crate::slow::{Layout, keys};
-use crate::variant::{TagLength, Variant};
+use aegis_variants::{TagLength, Variant};
 
 // What the lanes of a MAC share.
 #[derive(Drop)]

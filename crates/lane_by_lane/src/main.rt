@@ -8,24 +8,12 @@ mod library;
 mod mac;
 mod round;
 mod slow;
-mod variant;
 
 use compare::compare;
 use round::SubstitutionTable;
 use std::io;
 use std::process::ExitCode;
-use variant::{TagLength, Variant};
-
-const VARIANTS: [Variant; 6] = [
-    Variant::Aegis128L,
-    Variant::Aegis128X2,
-    Variant::Aegis128X4,
-    Variant::Aegis256,
-    Variant::Aegis256X2,
-    Variant::Aegis256X4,
-];
-
-const TAG_LENGTHS: [TagLength; 2] = [TagLength::Short, TagLength::Long];
+use aegis_variants::{TAG_LENGTHS, VARIANTS};
 
 fn main(rt: HostRuntime) -> io::Result<ExitCode> {
     let table = SubstitutionTable::new();

@@ -3,9 +3,9 @@
 ghost use Rattle.std.specs.Prelude.{◌<◌, ◌^◌, length};
 
 use crate::lane::{Keys, Lane, Pair, ZERO};
-use crate::library::{LONG_KEY, LONG_NONCE, SHORT_KEY, SHORT_NONCE};
+use crate::library::{LONG_KEYS, SHORT_KEYS};
 use crate::round::{Block, SubstitutionTable, xor};
-use crate::variant::{TagLength, Variant};
+use aegis_variants::{TagLength, Variant};
 
 /// Where the lanes of a cipher find their blocks.
 #[derive(Clone, Copy)]
@@ -101,12 +101,12 @@ fn xor_at(bytes: &mut [u8], at: usize, block: &Block)
 pub fn keys(variant: Variant) -> Keys {
     match variant {
         Variant::Aegis128L | Variant::Aegis128X2 | Variant::Aegis128X4 => Keys::Aegis128 {
-            key: SHORT_KEY,
-            nonce: SHORT_NONCE,
+            key: SHORT_KEYS.key,
+            nonce: SHORT_KEYS.nonce,
         },
         Variant::Aegis256 | Variant::Aegis256X2 | Variant::Aegis256X4 => Keys::Aegis256 {
-            key: LONG_KEY,
-            nonce: LONG_NONCE,
+            key: LONG_KEYS.key,
+            nonce: LONG_KEYS.nonce,
         },
     }
 }

@@ -2,7 +2,8 @@
 
 ghost use Rattle.std.specs.Prelude.{◌≡◌, ◌⊎◌};
 
-use crate::tests::variant::{VARIANTS, Variant};
+use crate::tests::calls;
+use aegis_variants::{VARIANTS, Variant};
 use std::process::Abort;
 use std::test::Fail;
 
@@ -17,19 +18,19 @@ fn check_keystream<R: Abort + AllocGlobal, const TAG_BYTES: usize>(
     requires { (TAG_BYTES ≡ 16) ⊎ (TAG_BYTES ≡ 32) }
 {
     let mut stream = [0xa5; 515];
-    variant.stream::<TAG_BYTES>(&mut stream);
+    calls::stream::<TAG_BYTES>(variant, &mut stream);
     let mut sealed = [0; 515];
-    variant.encrypt_in_place::<TAG_BYTES>(&mut sealed, &[]);
+    calls::encrypt_in_place::<TAG_BYTES>(variant, &mut sealed, &[]);
     assert_eq!(rt; stream.as_slice(), sealed.as_slice(), "{variant:?}");
 
     let mut buffer = MESSAGE;
-    variant.stream_xor_in_place::<TAG_BYTES>(&mut buffer);
+    calls::stream_xor_in_place::<TAG_BYTES>(variant, &mut buffer);
     for i in 0..13usize {
         assert_eq!(rt; buffer[i], MESSAGE[i] ^ stream[i], "{variant:?} at {i}");
     }
-    let xored = variant.stream_xor::<_, TAG_BYTES>(rt.alloc(), &MESSAGE)?;
+    let xored = calls::stream_xor::<_, TAG_BYTES>(variant, rt.alloc(), &MESSAGE)?;
     assert_eq!(rt; xored.as_slice(), buffer.as_slice(), "{variant:?}");
-    variant.stream_xor_in_place::<TAG_BYTES>(&mut buffer);
+    calls::stream_xor_in_place::<TAG_BYTES>(variant, &mut buffer);
     assert_eq!(rt; buffer, MESSAGE, "{variant:?}");
     Ok(())
 }

@@ -2,7 +2,8 @@
 
 ghost use Rattle.std.specs.Prelude.{◌≡◌, ◌⊎◌, ◌≤◌, length};
 
-use crate::tests::variant::{VARIANTS, Variant};
+use crate::tests::calls;
+use aegis_variants::{VARIANTS, Variant};
 use aegis::Error;
 use std::process::Abort;
 use std::test::Fail;
@@ -35,16 +36,16 @@ fn opens<R: Abort + AllocGlobal, const TAG_BYTES: usize>(
     requires ad { length ad.now ≤ 257 }
 {
     let mut buffer = Vec::from_slice(rt.alloc(), message)?;
-    let tag = variant.encrypt_in_place::<TAG_BYTES>(&mut buffer, ad);
-    let (sealed, tag_of_vector) = variant.encrypt::<_, TAG_BYTES>(rt.alloc(), message, ad)?;
+    let tag = calls::encrypt_in_place::<TAG_BYTES>(variant, &mut buffer, ad);
+    let (sealed, tag_of_vector) = calls::encrypt::<_, TAG_BYTES>(variant, rt.alloc(), message, ad)?;
     assert_eq!(rt; sealed.as_slice(), buffer.as_slice(), "{variant:?}");
     assert_eq!(rt; tag_of_vector, tag, "{variant:?}");
 
     assert_eq!(rt; sealed.len(), message.len());
-    let opened = variant.decrypt(rt.alloc(), &sealed, &tag, ad)?;
+    let opened = calls::decrypt(variant, rt.alloc(), &sealed, &tag, ad)?;
     assert_eq!(rt; opened.as_slice(), message, "{variant:?}");
     assert_eq!(rt; buffer.len(), message.len());
-    variant.decrypt_in_place(&mut buffer, &tag, ad)?;
+    calls::decrypt_in_place(variant, &mut buffer, &tag, ad)?;
     assert_eq!(rt; buffer.as_slice(), message, "{variant:?}");
     Ok(())
 }
@@ -77,7 +78,7 @@ fn refuses<R: Abort + AllocGlobal, const TAG_BYTES: usize>(
     requires tag { (TAG_BYTES ≡ 16) ⊎ (TAG_BYTES ≡ 32) }
     requires message { length message.now ≤ 257 }
 {
-    let (sealed, tag) = variant.encrypt::<_, TAG_BYTES>(rt.alloc(), message, &SHORT_DATA)?;
+    let (sealed, tag) = calls::encrypt::<_, TAG_BYTES>(variant, rt.alloc(), message, &SHORT_DATA)?;
     assert_eq!(rt; sealed.len(), message.len());
     for index in 0..TAG_BYTES {
         let mut wrong = tag;
@@ -85,7 +86,7 @@ fn refuses<R: Abort + AllocGlobal, const TAG_BYTES: usize>(
         let mut buffer = filler(0);
         let buffer = &mut buffer[..message.len()];
         buffer.copy_from_slice(&sealed);
-        let refused = variant.decrypt_in_place(buffer, &wrong, &SHORT_DATA);
+        let refused = calls::decrypt_in_place(variant, buffer, &wrong, &SHORT_DATA);
         assert_eq!(rt;
             refused,
             Err(Error::InvalidTag),
@@ -94,7 +95,7 @@ fn refuses<R: Abort + AllocGlobal, const TAG_BYTES: usize>(
         for byte in buffer.iter() {
             assert_eq!(rt; *byte, 0xaa, "{variant:?}");
         }
-        let refused = variant.decrypt(rt.alloc(), &sealed, &wrong, &SHORT_DATA);
+        let refused = calls::decrypt(variant, rt.alloc(), &sealed, &wrong, &SHORT_DATA);
         assert_eq!(rt;
             refused.err(),
             Some(Error::InvalidTag),

@@ -1,7 +1,8 @@
 //! What is reserved: the vector that is answered, at once, and nothing else.
 
 use crate::memory::{NoMemory, Rationed};
-use crate::tests::variant::VARIANTS;
+use crate::tests::calls;
+use aegis_variants::VARIANTS;
 use aegis::Error;
 use std::test::Fail;
 
@@ -14,14 +15,14 @@ const ASSOCIATED_DATA: [u8; 17] = *b"Comment numero un";
 fn want_of_memory(rt: HostRuntime) {
     for variant in VARIANTS {
         let mut sealed = MESSAGE;
-        let tag = variant.encrypt_in_place::<16>(&mut sealed, &ASSOCIATED_DATA);
-        let refused = variant.encrypt::<_, 16>(NoMemory, &MESSAGE, &ASSOCIATED_DATA);
+        let tag = calls::encrypt_in_place::<16>(variant, &mut sealed, &ASSOCIATED_DATA);
+        let refused = calls::encrypt::<_, 16>(variant, NoMemory, &MESSAGE, &ASSOCIATED_DATA);
         assert_eq!(rt; refused.err(), Some(Error::OutOfMemory), "{variant:?}");
-        let refused = variant.decrypt(NoMemory, &sealed, &tag, &ASSOCIATED_DATA);
+        let refused = calls::decrypt(variant, NoMemory, &sealed, &tag, &ASSOCIATED_DATA);
         assert_eq!(rt; refused.err(), Some(Error::OutOfMemory), "{variant:?}");
-        let refused = variant.decrypt(NoMemory, &sealed, &tag, &[]);
+        let refused = calls::decrypt(variant, NoMemory, &sealed, &tag, &[]);
         assert_eq!(rt; refused.err(), Some(Error::OutOfMemory), "{variant:?}");
-        let refused = variant.stream_xor::<_, 16>(NoMemory, &MESSAGE);
+        let refused = calls::stream_xor::<_, 16>(variant, NoMemory, &MESSAGE);
         assert_eq!(rt; refused.err(), Some(Error::OutOfMemory), "{variant:?}");
     }
 }
@@ -31,12 +32,12 @@ fn want_of_memory(rt: HostRuntime) {
 fn one_request(rt: HostRuntime) -> Result<(), Fail> {
     for variant in VARIANTS {
         let mut sealed_in_place = MESSAGE;
-        let tag_in_place = variant.encrypt_in_place::<16>(&mut sealed_in_place, &ASSOCIATED_DATA);
+        let tag_in_place = calls::encrypt_in_place::<16>(variant, &mut sealed_in_place, &ASSOCIATED_DATA);
         let mut xored_in_place = MESSAGE;
-        variant.stream_xor_in_place::<16>(&mut xored_in_place);
+        calls::stream_xor_in_place::<16>(variant, &mut xored_in_place);
 
         let heap = Rationed::new(rt.alloc(), 1);
-        let (sealed, tag) = variant.encrypt::<_, 16>(&heap, &MESSAGE, &ASSOCIATED_DATA)?;
+        let (sealed, tag) = calls::encrypt::<_, 16>(variant, &heap, &MESSAGE, &ASSOCIATED_DATA)?;
         assert_eq!(rt; heap.left(), 0, "{variant:?}");
         assert_eq!(rt;
             sealed.as_slice(),
@@ -44,17 +45,17 @@ fn one_request(rt: HostRuntime) -> Result<(), Fail> {
             "{variant:?}"
         );
         assert_eq!(rt; tag, tag_in_place, "{variant:?}");
-        let refused = variant.stream_xor::<_, 16>(&heap, &MESSAGE);
+        let refused = calls::stream_xor::<_, 16>(variant, &heap, &MESSAGE);
         assert_eq!(rt; refused.err(), Some(Error::OutOfMemory), "{variant:?}");
 
         let heap = Rationed::new(rt.alloc(), 1);
-        let opened = variant.decrypt(&heap, &sealed_in_place, &tag, &ASSOCIATED_DATA)?;
+        let opened = calls::decrypt(variant, &heap, &sealed_in_place, &tag, &ASSOCIATED_DATA)?;
         assert_eq!(rt; opened.as_slice(), MESSAGE.as_slice(), "{variant:?}");
         let heap = Rationed::new(rt.alloc(), 1);
-        let refused = variant.decrypt(&heap, &sealed_in_place, &tag, &[]);
+        let refused = calls::decrypt(variant, &heap, &sealed_in_place, &tag, &[]);
         assert_eq!(rt; refused.err(), Some(Error::InvalidTag), "{variant:?}");
         let heap = Rationed::new(rt.alloc(), 1);
-        let xored = variant.stream_xor::<_, 16>(&heap, &MESSAGE)?;
+        let xored = calls::stream_xor::<_, 16>(variant, &heap, &MESSAGE)?;
         assert_eq!(rt; xored.as_slice(), xored_in_place.as_slice(), "{variant:?}");
     }
     Ok(())

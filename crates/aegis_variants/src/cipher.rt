@@ -1,20 +1,13 @@
-//! The six ciphers, with their keys.
+//! A cipher of any variant, with its key and nonce.
 
 ghost use Rattle.std.specs.Prelude.{◌≡◌, ◌⊎◌, ◌≤◌, ℕ, List, length, IsOk, MatchResult};
 ghost use Rattle.aegis_base.specs.Chunks.{joined};
 ghost use Rattle.aegis_base.specs.Message.{Opens};
-ghost use Rattle.aegis_lines.specs.Command.{cipher_with, keys_of_length, mac_by, parts_of, sealed_by, stream_of, tag_bytes_of, tag_size_of, tag_with, xored_by};
-ghost use Rattle.aegis_lines.specs.Fault.{Gives};
-ghost use Rattle.aegis_lines.specs.Variant.{tag_length_of};
+ghost use Rattle.aegis_base.specs.Family.{Aegis128, Aegis256};
+ghost use Rattle.aegis_variants.specs.Cipher.{IsCipherOf, IsKeys, key_of, mac_by, nonce_of, sealed_by, stream_of, variant_of, xored_by};
+ghost use Rattle.aegis_variants.specs.Variant.{family_of};
 
-use crate::fault::{Fault, Refusal};
-use crate::variant::{TagLength, Variant};
-use aegis::aegis128l::{Aegis128L, Aegis128LMac};
-use aegis::aegis128x2::{Aegis128X2, Aegis128X2Mac};
-use aegis::aegis128x4::{Aegis128X4, Aegis128X4Mac};
-use aegis::aegis256::{Aegis256, Aegis256Mac};
-use aegis::aegis256x2::{Aegis256X2, Aegis256X2Mac};
-use aegis::aegis256x4::{Aegis256X4, Aegis256X4Mac};
+use crate::variant::Variant;
 use aegis::{Error, MAX_AEAD_BYTES};
 use aegis_base::LaneState;
 
@@ -26,17 +19,14 @@ pub struct Keys<const N: usize> {
 }
 
 impl<const N: usize> Keys<N> {
-    /// It is a length fault where key or nonce has another length.
-    fn from_slices(key: &[u8], nonce: &[u8]) -> Result<Keys<N>, Refusal>
-        ensures { Gives (λ keys. (keys.key, keys.nonce)) result (keys_of_length N key.now nonce.now) }
+    /// None where key or nonce has another length.
+    pub fn from_slices(key: &[u8], nonce: &[u8]) -> Option<Keys<N>>
+        ensures { IsKeys N key.now nonce.now result }
     {
-        let Ok(key) = <[u8; N]>::try_from(key) else {
-            return Err(Refusal::Fault(Fault::Length));
-        };
-        let Ok(nonce) = <[u8; N]>::try_from(nonce) else {
-            return Err(Refusal::Fault(Fault::Length));
-        };
-        Ok(Keys { key, nonce })
+        Some(Keys {
+            key: <[u8; N]>::try_from(key).ok()?,
+            nonce: <[u8; N]>::try_from(nonce).ok()?,
+        })
     }
 }
 
@@ -51,80 +41,58 @@ pub enum Cipher {
     Aegis256X4(Keys<32>),
 }
 
-/// A tag, of either length.
-#[derive(Clone, Copy, Debug)]
-pub enum Tag {
-    Short([u8; 16]),
-    Long([u8; 32]),
-}
-
-impl Tag {
-    /// It is a length fault where the tag has another length.
-    pub fn from_slice(length: TagLength, bytes: &[u8]) -> Result<Tag, Refusal>
-        ensures { Gives (λ tag. (tag_size_of tag, tag_bytes_of tag)) result (tag_with (tag_length_of length) bytes.now) }
-    {
-        match length {
-            TagLength::Short => match <[u8; 16]>::try_from(bytes) {
-                Ok(bytes) => Ok(Tag::Short(bytes)),
-                Err(_) => Err(Refusal::Fault(Fault::Length)),
-            },
-            TagLength::Long => match <[u8; 32]>::try_from(bytes) {
-                Ok(bytes) => Ok(Tag::Long(bytes)),
-                Err(_) => Err(Refusal::Fault(Fault::Length)),
-            },
-        }
-    }
-}
-
-// Makes the call on what a type of the crate `aegis` makes of a variant's keys. There is a type for each variant.
+/// Makes the call on what a type of the crate `aegis` makes of a variant's keys. There is a type for each variant.
+#[macro_export]
 macro_rules! with_type {
     (
         $a:ident, $b:ident, $c:ident, $d:ident, $e:ident, $f:ident,
         $tag_bytes:tt, $make:ident, $of:expr, $made:ident => $call:expr
     ) => {
         match $of {
-            Cipher::Aegis128L(keys) => {
-                let $made = $a::<$tag_bytes>::$make(&keys.key, &keys.nonce);
+            $crate::Cipher::Aegis128L(keys) => {
+                let $made = $crate::types::$a::<$tag_bytes>::$make(&keys.key, &keys.nonce);
                 $call
             }
-            Cipher::Aegis128X2(keys) => {
-                let $made = $b::<$tag_bytes>::$make(&keys.key, &keys.nonce);
+            $crate::Cipher::Aegis128X2(keys) => {
+                let $made = $crate::types::$b::<$tag_bytes>::$make(&keys.key, &keys.nonce);
                 $call
             }
-            Cipher::Aegis128X4(keys) => {
-                let $made = $c::<$tag_bytes>::$make(&keys.key, &keys.nonce);
+            $crate::Cipher::Aegis128X4(keys) => {
+                let $made = $crate::types::$c::<$tag_bytes>::$make(&keys.key, &keys.nonce);
                 $call
             }
-            Cipher::Aegis256(keys) => {
-                let $made = $d::<$tag_bytes>::$make(&keys.key, &keys.nonce);
+            $crate::Cipher::Aegis256(keys) => {
+                let $made = $crate::types::$d::<$tag_bytes>::$make(&keys.key, &keys.nonce);
                 $call
             }
-            Cipher::Aegis256X2(keys) => {
-                let $made = $e::<$tag_bytes>::$make(&keys.key, &keys.nonce);
+            $crate::Cipher::Aegis256X2(keys) => {
+                let $made = $crate::types::$e::<$tag_bytes>::$make(&keys.key, &keys.nonce);
                 $call
             }
-            Cipher::Aegis256X4(keys) => {
-                let $made = $f::<$tag_bytes>::$make(&keys.key, &keys.nonce);
+            $crate::Cipher::Aegis256X4(keys) => {
+                let $made = $crate::types::$f::<$tag_bytes>::$make(&keys.key, &keys.nonce);
                 $call
             }
         }
     };
 }
 
-// Makes the call on the cipher that has a variant's keys, with tags of so many bytes.
+/// Makes the call on the cipher that has a variant's keys, with tags of so many bytes.
+#[macro_export]
 macro_rules! with_cipher {
     ($of:expr, $tag_bytes:tt, $cipher:ident => $call:expr) => {
-        with_type!(
+        $crate::with_type!(
             Aegis128L, Aegis128X2, Aegis128X4, Aegis256, Aegis256X2, Aegis256X4,
             $tag_bytes, new, $of, $cipher => $call
         )
     };
 }
 
-// Makes the call on the MAC that has a variant's keys, of so many bytes.
+/// Makes the call on the MAC that has a variant's keys, of so many bytes.
+#[macro_export]
 macro_rules! with_mac {
     ($of:expr, $tag_bytes:tt, $mac:ident => $call:expr) => {
-        with_type!(
+        $crate::with_type!(
             Aegis128LMac, Aegis128X2Mac, Aegis128X4Mac, Aegis256Mac, Aegis256X2Mac, Aegis256X4Mac,
             $tag_bytes, new_with_nonce, $of, $mac => $call
         )
@@ -152,11 +120,11 @@ fn open_all<'a, S: LaneState, V: aegis_base::Variant, const TAG_BYTES: usize>(
 }
 
 impl Cipher {
-    /// It is a length fault where key or nonce does not have the variant's length.
-    pub fn new(variant: Variant, key: &[u8], nonce: &[u8]) -> Result<Cipher, Refusal>
-        ensures { Gives parts_of result (cipher_with variant key.now nonce.now) }
+    /// None where key or nonce does not have the variant's length.
+    pub fn from_slices(variant: Variant, key: &[u8], nonce: &[u8]) -> Option<Cipher>
+        ensures { IsCipherOf variant key.now nonce.now result }
     {
-        Ok(match variant {
+        Some(match variant {
             Variant::Aegis128L => Cipher::Aegis128L(Keys::from_slices(key, nonce)?),
             Variant::Aegis128X2 => Cipher::Aegis128X2(Keys::from_slices(key, nonce)?),
             Variant::Aegis128X4 => Cipher::Aegis128X4(Keys::from_slices(key, nonce)?),
@@ -164,6 +132,22 @@ impl Cipher {
             Variant::Aegis256X2 => Cipher::Aegis256X2(Keys::from_slices(key, nonce)?),
             Variant::Aegis256X4 => Cipher::Aegis256X4(Keys::from_slices(key, nonce)?),
         })
+    }
+
+    /// The cipher of a variant, by the keys of its family.
+    pub fn with_keys(variant: Variant, short: Keys<16>, long: Keys<32>) -> Cipher
+        ensures variant { variant_of result ≡ variant }
+        ensures short { family_of variant ≡ Aegis128 → (key_of result, nonce_of result) ≡ (short.key, short.nonce) }
+        ensures long { family_of variant ≡ Aegis256 → (key_of result, nonce_of result) ≡ (long.key, long.nonce) }
+    {
+        match variant {
+            Variant::Aegis128L => Cipher::Aegis128L(short),
+            Variant::Aegis128X2 => Cipher::Aegis128X2(short),
+            Variant::Aegis128X4 => Cipher::Aegis128X4(short),
+            Variant::Aegis256 => Cipher::Aegis256(long),
+            Variant::Aegis256X2 => Cipher::Aegis256X2(long),
+            Variant::Aegis256X4 => Cipher::Aegis256X4(long),
+        }
     }
 
     /// Writes the ciphertext of a message that comes in chunks, and returns the tag.

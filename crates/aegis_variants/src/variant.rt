@@ -1,8 +1,10 @@
 //! The six variants and the two lengths of tags.
 
-ghost use Rattle.std.specs.Prelude.{◌≤◌};
+ghost use Rattle.std.specs.Prelude.{◌≡◌, ◌≤◌};
+ghost use Rattle.aegis_variants.specs.Variant.{rate_of, tag_length_of};
 
-#[derive(Clone, Copy)]
+/// A variant of AEGIS.
+#[derive(Clone, Copy, Debug)]
 pub enum Variant {
     Aegis128L,
     Aegis128X2,
@@ -12,13 +14,18 @@ pub enum Variant {
     Aegis256X4,
 }
 
-#[derive(Clone, Copy)]
-pub enum TagLength {
-    Short,
-    Long,
-}
+/// All variants.
+pub const VARIANTS: [Variant; 6] = [
+    Variant::Aegis128L,
+    Variant::Aegis128X2,
+    Variant::Aegis128X4,
+    Variant::Aegis256,
+    Variant::Aegis256X2,
+    Variant::Aegis256X4,
+];
 
 impl Variant {
+    /// The name of its module.
     pub fn name(self) -> &'static str {
         match self {
             Variant::Aegis128L => "aegis128l",
@@ -30,9 +37,11 @@ impl Variant {
         }
     }
 
-    /// The bytes that all lanes take in at once.
+    /// How many bytes all lanes take in at once.
     pub fn rate(self) -> usize
-        ensures { result ≤ 128 }
+        ensures rate { result ≡ rate_of self }
+        ensures least { 16 ≤ result }
+        ensures most { result ≤ 128 }
     {
         match self {
             Variant::Aegis128L => 32,
@@ -45,9 +54,22 @@ impl Variant {
     }
 }
 
+/// The length of a tag.
+#[derive(Clone, Copy, Debug)]
+pub enum TagLength {
+    /// 16 bytes.
+    Short,
+    /// 32 bytes.
+    Long,
+}
+
+/// Both lengths.
+pub const TAG_LENGTHS: [TagLength; 2] = [TagLength::Short, TagLength::Long];
+
 impl TagLength {
+    /// How many bytes a tag has.
     pub fn bytes(self) -> usize
-        ensures { result ≤ 32 }
+        ensures { result ≡ tag_length_of self }
     {
         match self {
             TagLength::Short => 16,

@@ -1,7 +1,7 @@
 -- What is accepted is all of the chunks.
 use Rattle.std.proofs.Common.{length}
-use Rattle.aegis_lines.proofs.OpenFacts.{whole_accepted}
-use Rattle.aegis_lines.proofs.ciphers.open_all.Goals as goal
+use Rattle.aegis_variants.proofs.OpenFacts.{whole_accepted}
+use Rattle.aegis_variants.proofs.cipher.open_all.Goals as goal
 
 pub returns-clause-opened : goal.returns-clause-opened
 returns-clause-opened g c =
