@@ -2,6 +2,8 @@
 use denote.Ref.{Bor}
 use Rattle.std.proofs.Common.{◌≡◌, ℕ, zero, suc, ◌+◌, ◌<◌, ◌≤◌, List, [], ◌∷◌, ◌++◌, length, take, slice_index_or, add-one, refl, sym, ap, ◌∙◌, arith}
 use Rattle.std.specs.Int.{w32, to_le_bytes}
+use Rattle.std.specs.Prelude.{Err, IfOk, Ok, Result, Vec}
+use Rattle.aegis_record.specs.declared.error.RecordError.{RecordError}
 use Rattle.std.proofs.lemmas.List.{length-append}
 use Rattle.aegis_record.specs.declared.version.Version.{Version}
 use Rattle.aegis_record.specs.declared.version.Version.TheVariants.{First}
@@ -51,3 +53,9 @@ frames_length-within [] zero = omega arith
 frames_length-within [] (suc i) = omega arith
 frames_length-within (m ∷ ms) zero = omega arith
 frames_length-within (m ∷ ms) (suc i) = let rest = frames_length-within ms i in omega arith
+
+-- a stream that was sealed
+pub sealed_length : {A : Type 0} (sealing : Sealing) → IsSealing sealing → (v : Version) (ms : List (List ℕ)) (r : Result (Vec ℕ A) RecordError)
+    → IfOk r (λ stream. IsStream sealing v ms stream.items) → IfOk r (λ stream. length stream.items ≡ stream_length ms)
+sealed_length sealing is v ms (Ok stream) p = length-stream sealing is v ms stream.items p
+sealed_length sealing is v ms (Err e) p = tt

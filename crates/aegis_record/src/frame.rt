@@ -7,7 +7,7 @@ ghost use Rattle.aegis_record.specs.Fault.{parts};
 use crate::error::RecordError;
 use crate::version::Version;
 
-/// How many bytes the length of a message takes.
+// How many bytes the length of a message takes.
 const LENGTH_BYTES: usize = 4;
 
 /// How many bytes the tag of a record has.

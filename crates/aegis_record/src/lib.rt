@@ -19,4 +19,5 @@ mod version;
 pub use error::RecordError;
 pub use length::records_len;
 pub use open::open_records;
-pub use seal::seal_records;
+pub use seal::{MAX_MESSAGE_BYTES, seal_records};
+pub use sealer::MAX_CONTEXT_BYTES;

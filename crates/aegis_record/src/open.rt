@@ -8,7 +8,7 @@ ghost use Rattle.aegis_record.specs.Stream.{header};
 
 use crate::error::RecordError;
 use crate::frame::Frame;
-use crate::sealer::{Place, Sealer};
+use crate::sealer::{MAX_CONTEXT_BYTES, Place, Sealer};
 use crate::version::Version;
 use aegis_modules::aegis256::Key;
 use std::alloc::Allocator;
@@ -39,7 +39,7 @@ fn open_record<'a, A: Allocator>(
     before: u64,
     bytes: &'a [u8],
 ) -> Result<(Frame<'a>, Vec<u8, A>), RecordError>
-    requires { length sealer.now.context.now ≤ 65535 }
+    requires { length sealer.now.context.now ≤ MAX_CONTEXT_BYTES }
     ensures opened { IfOk result (λ found. IsRecord (sealing_of sealer.now) version number before found.0.flag found.1.items found.0.rest.now bytes.now) }
     ensures refused { IfErr result (λ e. (e ≡ RecordError.OutOfMemory)
         ⊎ HasFault (sealing_of sealer.now) version number before (parts version bytes.now) e) }
@@ -61,7 +61,7 @@ fn open_all<A: Allocator + Copy>(
     sealer: &Sealer<'_>,
     bytes: &[u8],
 ) -> Result<Vec<Vec<u8, A>, A>, RecordError>
-    requires { length sealer.now.context.now ≤ 65535 }
+    requires { length sealer.now.context.now ≤ MAX_CONTEXT_BYTES }
     ensures opened { IfOk result (λ ms. (v : Version)
         × AreRecords v sealer.now.key.now sealer.now.prefix.now sealer.now.context.now (messages ms.items) bytes.now) }
     ensures refused { IfErr result (λ e. (e ≡ RecordError.OutOfMemory)
@@ -101,7 +101,8 @@ fn open_all<A: Allocator + Copy>(
 /// bytes, read from the front; [`RecordError::Damaged`] has the number of a record that no message is sealed to. With a
 /// refusal nothing is handed out, not even the messages of the records before it.
 ///
-/// The context has at most 65,535 bytes. Memory is taken for the associated data, once, and for each message its vector.
+/// The context has at most [`MAX_CONTEXT_BYTES`]. Memory is taken for the messages, a vector each, for the list of them, and
+/// once for the associated data.
 pub fn open_records<A: Allocator + Copy>(
     alloc: A,
     key: &Key,
@@ -109,7 +110,7 @@ pub fn open_records<A: Allocator + Copy>(
     context: &[u8],
     bytes: &[u8],
 ) -> Result<Vec<Vec<u8, A>, A>, RecordError>
-    requires { length context.now ≤ 65535 }
+    requires { length context.now ≤ MAX_CONTEXT_BYTES }
     ensures opened { IfOk result (λ ms. (v : Version) × AreRecords v key.now prefix.now context.now (messages ms.items) bytes.now) }
     ensures accepted { (v : Version) (ms : List (List ℕ)) → AreRecords v key.now prefix.now context.now ms bytes.now → OpensTo ms result }
     ensures refused { IfErr result (λ e. (e ≡ RecordError.OutOfMemory) ⊎ IsFault key.now prefix.now context.now bytes.now e) }

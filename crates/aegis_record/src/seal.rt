@@ -9,13 +9,16 @@ ghost use Rattle.aegis_record.specs.declared.version.Version.TheVariants.{First}
 
 use crate::error::RecordError;
 use crate::length::records_len;
-use crate::sealer::{Place, Sealer};
+use crate::sealer::{MAX_CONTEXT_BYTES, Place, Sealer};
 use crate::version::Version;
 use aegis_modules::aegis256::Key;
 use std::alloc::Allocator;
 
 /// The version that is written.
 const WRITTEN: Version = Version::First;
+
+/// How many bytes a message may have.
+pub const MAX_MESSAGE_BYTES: usize = 65_536;
 
 // Appends a record. Its message is sealed where it then stands.
 fn seal_record<A: Allocator>(
@@ -25,7 +28,7 @@ fn seal_record<A: Allocator>(
     place: Place,
     message: &[u8],
 ) -> Result<(), RecordError>
-    requires context { length sealer.now.context.now ≤ 65535 }
+    requires context { length sealer.now.context.now ≤ MAX_CONTEXT_BYTES }
     requires within { length message.now ≤ limit place.version }
     ensures ok { OnOk result (out.new.items
         ≡ out.old.items ++ frame (sealing_of sealer.now) place.version place.number place.before place.flag message.now) }
@@ -46,7 +49,7 @@ fn seal_all<A: Allocator + Copy>(
     sealer: &Sealer<'_>,
     messages: &[&[u8]],
 ) -> Result<Vec<u8, A>, RecordError>
-    requires context { length sealer.now.context.now ≤ 65535 }
+    requires context { length sealer.now.context.now ≤ MAX_CONTEXT_BYTES }
     requires some { 0 < length messages.now }
     requires within { AreWithin WRITTEN (texts messages.now) }
     requires fits { stream_length (texts messages.now) ≤ MAX_AEAD_BYTES }
@@ -73,7 +76,11 @@ fn seal_all<A: Allocator + Copy>(
     Ok(out)
 }
 
-/// The stream of the messages.
+/// The stream of the messages, of which there is one at least, under a key, a prefix and a context.
+///
+/// A message has at most [`MAX_MESSAGE_BYTES`] and the context [`MAX_CONTEXT_BYTES`], and [`records_len`] has to give a number,
+/// which is the length of the stream. [`RecordError::OutOfMemory`] is the only refusal. Memory is taken twice: for the whole
+/// stream, in which the messages are sealed where they stand, and for the associated data.
 pub fn seal_records<A: Allocator + Copy>(
     alloc: A,
     key: &Key,
@@ -83,9 +90,10 @@ pub fn seal_records<A: Allocator + Copy>(
 ) -> Result<Vec<u8, A>, RecordError>
     requires some { 0 < length messages.now }
     requires within { AreWithin First (texts messages.now) }
-    requires context_within { length context.now ≤ 65535 }
+    requires context_within { length context.now ≤ MAX_CONTEXT_BYTES }
     requires fits { stream_length (texts messages.now) ≤ MAX_AEAD_BYTES }
     ensures sealed { IfOk result (λ stream. AreRecords First key.now prefix.now context.now (texts messages.now) stream.items) }
+    ensures length { IfOk result (λ stream. length stream.items ≡ stream_length (texts messages.now)) }
     ensures error { IfErr result (λ e. e ≡ RecordError.OutOfMemory) }
 {
     seal_all(alloc, &Sealer { key, prefix, context }, messages)

@@ -11,6 +11,9 @@ use crate::version::Version;
 use aegis_modules::aegis256::{Aegis256, Error, Key, Nonce};
 use std::alloc::Allocator;
 
+/// How many bytes the context of a stream may have.
+pub const MAX_CONTEXT_BYTES: usize = 65_535;
+
 /// What all records of a stream are sealed under.
 #[derive(Clone, Copy)]
 pub struct Sealer<'a> {
@@ -72,7 +75,7 @@ impl Sealer<'_> {
         place: Place,
         message: &mut [u8],
     ) -> Result<[u8; 32], RecordError>
-        requires context { length self.now.context.now ≤ 65535 }
+        requires context { length self.now.context.now ≤ MAX_CONTEXT_BYTES }
         requires within { length message.old ≤ limit place.version }
         ensures ok { IfOk result (λ tag. message.new ++ tag ≡ sealed_at self.now place message.old) }
         ensures err { IfErr result (λ e. e ≡ RecordError.OutOfMemory) }
@@ -90,7 +93,7 @@ impl Sealer<'_> {
         place: Place,
         sealed: &[u8],
     ) -> Result<Vec<u8, A>, RecordError>
-        requires context { length self.now.context.now ≤ 65535 }
+        requires context { length self.now.context.now ≤ MAX_CONTEXT_BYTES }
         requires long { 32 ≤ length sealed.now }
         requires within { length sealed.now ≤ limit place.version + 32 }
         ensures opened { IfOk result (λ m. sealed_at self.now place m.items ≡ sealed.now) }
