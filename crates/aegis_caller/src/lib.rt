@@ -5,6 +5,7 @@
 pub mod chunks;
 pub mod headline;
 pub mod opening;
+pub mod records;
 
 ghost use Rattle.std.specs.Prelude.{◌≡◌, ◌≤◌, IfOk, IsOk, List, OnErr, OnOk, length, replicate, ℕ};
 ghost use Rattle.aegis_base.specs.Family.{Aegis128, Aegis256};

@@ -6,7 +6,7 @@ use Rattle.aegis_record.specs.declared.error.RecordError.{RecordError}
 use Rattle.aegis_record.specs.declared.error.RecordError.TheVariants as errors
 use Rattle.aegis_record.specs.declared.version.Version.{Version}
 use Rattle.aegis_record.specs.declared.version.Version.TheVariants.{First}
-use Rattle.aegis_record.specs.Calls.{OpensTo, messages}
+use Rattle.aegis_record.specs.Calls.{IsRefused, OpensTo, messages}
 use Rattle.aegis_record.specs.Fault.{AtEnd, AtHeader, AtRecord, HasFault, IsFaultOf, IsOneFault, parts}
 use Rattle.aegis_record.specs.Stream.{AreWithin, IsOneStream, IsSealing, IsStream, Sealing, frame, frames, front, header, limit, total}
 use Rattle.aegis_record.proofs.Frames.{IsStop, Fronts, Fronts-one, Splits, split, frame_one, frame_sound}
@@ -174,3 +174,11 @@ pub only : {A : Type 0} (sealing : Sealing) → IsSealing sealing → (v : Versi
 only sealing is v ms bytes (Ok found) p good bad = (one_stream sealing is good.0 v (messages found.items) ms bytes bytes [] [] good.1 p refl).1
 only sealing is v ms bytes (Err e) p good (inl memory) = memory
 only sealing is v ms bytes (Err e) p good (inr fault) = absurd (not_both sealing is bytes v ms e p fault)
+
+-- a fault is what is answered
+pub refused_by : {A : Type 0} (sealing : Sealing) → IsSealing sealing → (bytes : List ℕ) (r : Result (Vec (Vec ℕ A) A) RecordError) (e : RecordError)
+    → IsFaultOf sealing bytes e → IfOk r (λ found. (w : Version) × IsStream sealing w (messages found.items) bytes)
+    → IfErr r (λ d. (d ≡ errors.OutOfMemory) ⊎ IsFaultOf sealing bytes d) → IsRefused e r
+refused_by sealing is bytes (Ok found) e fault good bad = not_both sealing is bytes good.0 (messages found.items) e good.1 fault
+refused_by sealing is bytes (Err d) e fault good (inl memory) = inr memory
+refused_by sealing is bytes (Err d) e fault good (inr other) = inl (fault_one sealing is bytes d e other fault)

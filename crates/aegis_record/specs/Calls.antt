@@ -1,6 +1,6 @@
 -- What the code's values stand for.
 use denote.Ref.{Bor}
-use Rattle.std.specs.Prelude.{◌≡◌, ℕ, ◌≤◌, List, ◌++◌, length, map, Result, Ok, Err}
+use Rattle.std.specs.Prelude.{◌≡◌, ℕ, ◌≤◌, ◌⊎◌, List, ◌++◌, length, map, Result, Ok, Err}
 use Rattle.std.specs.declared.vec.Vec.{Vec}
 use Rattle.aegis_record.specs.declared.error.RecordError.{RecordError}
 use Rattle.aegis_record.specs.declared.error.RecordError.TheVariants as errors
@@ -23,6 +23,11 @@ messages vectors = map (λ vector. vector.items) vectors
 abbrev pub OpensTo : {A : Type 0} → List (List ℕ) → Result (Vec (Vec ℕ A) A) RecordError → Type 0
 OpensTo ms (Ok opened) = messages opened.items ≡ ms
 OpensTo ms (Err e) = e ≡ errors.OutOfMemory
+
+-- the answer is this refusal, unless memory ran out
+abbrev pub IsRefused : {A : Type 0} → RecordError → Result (Vec (Vec ℕ A) A) RecordError → Type 0
+IsRefused fault (Ok opened) = ⊥
+IsRefused fault (Err e) = (e ≡ fault) ⊎ (e ≡ errors.OutOfMemory)
 
 -- what a reader of one record answers is its parts, or their fault
 abbrev pub AreParts : Result Frame RecordError → Result Parts RecordError → Type 0

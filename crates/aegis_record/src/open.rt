@@ -1,7 +1,7 @@
 //! Opening a stream.
 
 ghost use Rattle.std.specs.Prelude.{◌≡◌, ◌≢◌, ◌≤◌, ◌⊎◌, ◌++◌, IfErr, IfNone, IfOk, IfSome, List, length, take, ℕ};
-ghost use Rattle.aegis_record.specs.Calls.{IsRecord, OpensTo, messages, sealing_of};
+ghost use Rattle.aegis_record.specs.Calls.{IsRecord, IsRefused, OpensTo, messages, sealing_of};
 ghost use Rattle.aegis_record.specs.Fault.{HasFault, parts};
 ghost use Rattle.aegis_record.specs.Records.{AreRecords, IsFault};
 ghost use Rattle.aegis_record.specs.Stream.{header};
@@ -114,6 +114,7 @@ pub fn open_records<A: Allocator + Copy>(
     ensures opened { IfOk result (λ ms. (v : Version) × AreRecords v key.now prefix.now context.now (messages ms.items) bytes.now) }
     ensures accepted { (v : Version) (ms : List (List ℕ)) → AreRecords v key.now prefix.now context.now ms bytes.now → OpensTo ms result }
     ensures refused { IfErr result (λ e. (e ≡ RecordError.OutOfMemory) ⊎ IsFault key.now prefix.now context.now bytes.now e) }
+    ensures faults { (e : RecordError) → IsFault key.now prefix.now context.now bytes.now e → IsRefused e result }
 {
     open_all(alloc, &Sealer { key, prefix, context }, bytes)
 }
