@@ -41,7 +41,11 @@ impl<A: Allocator> StreamKeys<A> {
         if context.len() > MAX_CONTEXT_BYTES {
             return Err(Refusal::Fault(Fault::Length));
         }
-        Ok(StreamKeys { key, prefix, context })
+        Ok(StreamKeys {
+            key,
+            prefix,
+            context,
+        })
     }
 }
 
@@ -110,7 +114,10 @@ pub fn open_stream<A: Allocator + Copy>(
 }
 
 // Messages, as they are printed after an opening.
-fn opened_text<A: Allocator + Copy>(alloc: A, messages: &[Vec<u8, A>]) -> Result<Vec<u8, A>, AllocError>
+fn opened_text<A: Allocator + Copy>(
+    alloc: A,
+    messages: &[Vec<u8, A>],
+) -> Result<Vec<u8, A>, AllocError>
     ensures { IfOk result (λ text. text.items ≡ codes "ok " ++ shown_messages (map vec_items messages.now)) }
 {
     let mut text = Vec::from_slice(alloc, b"ok ")?;

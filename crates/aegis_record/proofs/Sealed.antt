@@ -59,8 +59,13 @@ sealed-is key prefix context = record { long = long; one = one }
     long v k o flag m =
         let n = nonce prefix k in
         let ad = associated_data v k o flag context in
-        omega (arith, length-append (ciphertext Aegis256 1 key n ad m) (tag Aegis256 1 32 key n ad m), tag_long key n ad m,
-        length-ciphertext Aegis256 1 (lane_before Aegis256 1 key n ad) m)
+        omega (
+          arith,
+          length-append (ciphertext Aegis256 1 key n ad m) (tag Aegis256 1 32 key n ad m),
+          tag_long key n ad m,
+          length-ciphertext Aegis256 1 (lane_before Aegis256 1 key n ad) m,
+        )
+
     one : (v : Version) (k o flag : ℕ) (m n : List ℕ) → sealed key prefix context v k o flag m ≡ sealed key prefix context v k o flag n → m ≡ n
     one v k o flag m n e =
         let nc = nonce prefix k in

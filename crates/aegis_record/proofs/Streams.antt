@@ -103,10 +103,15 @@ ended sealing bytes e (AtRecord v ms rest within are fault) =
 ended sealing bytes e (AtEnd v ms stream rest records are some is) =
     let s = closes sealing v ms stream records in
     let sc : Closes sealing v ms stream s.0 s.1 = s.2 in
-    inr (v, s.0, frame sealing v (length s.0) (total s.0) 1 s.1 ++ rest, record {
-      fronts = subst (λ (l : List ℕ). Fronts sealing v s.0 (frame sealing v (length s.0) (total s.0) 1 s.1 ++ rest) l) (sym are) (sc.fronts rest);
-      tail = inr (s.1, rest, sc.last, refl, some, is);
-    })
+    inr (
+      v,
+      s.0,
+      frame sealing v (length s.0) (total s.0) 1 s.1 ++ rest,
+      record {
+        fronts = subst (λ (l : List ℕ). Fronts sealing v s.0 (frame sealing v (length s.0) (total s.0) 1 s.1 ++ rest) l) (sym are) (sc.fronts rest);
+        tail = inr (s.1, rest, sc.last, refl, some, is);
+      },
+    )
 
 pub header_size : (v : Version) → length (header v) ≡ 4
 header_size First = refl

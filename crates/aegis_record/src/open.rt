@@ -116,5 +116,13 @@ pub fn open_records<A: Allocator + Copy>(
     ensures refused { IfErr result (λ e. (e ≡ RecordError.OutOfMemory) ⊎ IsFault key.now prefix.now context.now bytes.now e) }
     ensures faults { (e : RecordError) → IsFault key.now prefix.now context.now bytes.now e → IsRefused e result }
 {
-    open_all(alloc, &Sealer { key, prefix, context }, bytes)
+    open_all(
+        alloc,
+        &Sealer {
+            key,
+            prefix,
+            context,
+        },
+        bytes,
+    )
 }

@@ -96,5 +96,13 @@ pub fn seal_records<A: Allocator + Copy>(
     ensures length { IfOk result (λ stream. length stream.items ≡ stream_length (texts messages.now)) }
     ensures error { IfErr result (λ e. e ≡ RecordError.OutOfMemory) }
 {
-    seal_all(alloc, &Sealer { key, prefix, context }, messages)
+    seal_all(
+        alloc,
+        &Sealer {
+            key,
+            prefix,
+            context,
+        },
+        messages,
+    )
 }

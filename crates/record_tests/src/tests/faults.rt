@@ -26,7 +26,11 @@ fn a_byte_behind_the_last_record_is_refused(rt: HostRuntime) -> Result<(), Fail>
     for byte in 0..=255 {
         let mut stream = Vec::from_slice(rt.alloc(), &STREAM)?;
         stream.push(byte)?;
-        assert_eq!(rt; refusal(&rt, &stream), Some(RecordError::Trailing), "{byte}");
+        assert_eq!(rt;
+            refusal(&rt, &stream),
+            Some(RecordError::Trailing),
+            "{byte}"
+        );
     }
     Ok(())
 }
@@ -53,7 +57,11 @@ fn each_changed_byte_is_refused(rt: HostRuntime) {
     for place in 0..STREAM.len() {
         let mut stream = STREAM;
         stream[place] ^= 1;
-        assert_eq!(rt; refusal(&rt, &stream), Some(refusal_of_changed(place)), "{place}");
+        assert_eq!(rt;
+            refusal(&rt, &stream),
+            Some(refusal_of_changed(place)),
+            "{place}"
+        );
     }
 }
 

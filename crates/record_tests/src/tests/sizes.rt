@@ -1,24 +1,30 @@
 //! Long messages, and many.
 
+ghost use Rattle.std.specs.Prelude.{◌≤◌, length};
+
 use crate::tests::streams::{CONTEXT, KEY, PREFIX};
-use aegis::record::{MAX_MESSAGE_BYTES, open_records, records_len, seal_records};
+use aegis::record::{MAX_MESSAGE_BYTES, open_records, seal_records};
+use std::alloc::Allocator;
 use std::test::Fail;
 
-// Seals one message of so many bytes, and opens it again.
-fn one_message(rt: &HostRuntime, length: usize) -> Result<(), Fail>
-    requires { length ≤ MAX_MESSAGE_BYTES }
+// Whether a message is sealed to a stream of its length, and opened again.
+fn opens_again<A: Allocator + Copy>(alloc: A, message: &[u8]) -> Result<bool, Fail>
+    requires { length message.now ≤ MAX_MESSAGE_BYTES }
 {
-    let message = vec![in rt.alloc(); 0x5au8; length]?;
-    let stream = seal_records(rt.alloc(), &KEY, &PREFIX, &CONTEXT, &[&message])?;
-    assert_eq!(rt; stream.len(), 4 + 37 + length);
-    let opened = open_records(rt.alloc(), &KEY, &PREFIX, &CONTEXT, &stream)?;
-    assert_eq!(rt; opened.len(), 1);
-    assert!(rt; opened[0].as_slice() == message.as_slice());
-    Ok(())
+    let messages = [message];
+    let stream = seal_records(alloc, &KEY, &PREFIX, &CONTEXT, &messages)?;
+    let opened = open_records(alloc, &KEY, &PREFIX, &CONTEXT, &stream)?;
+    Ok(
+        stream.len() == 4 + 37 + message.len()
+            && opened.len() == 1
+            && opened[0].as_slice() == message,
+    )
 }
 
 #[test]
-fn the_longest_message(rt: HostRuntime) -> Result<(), Fail> {
-    one_message(&rt, 65_535)?;
-    one_message(&rt, MAX_MESSAGE_BYTES)
+fn long_messages(rt: HostRuntime) -> Result<(), Fail> {
+    let message = vec![in rt.alloc(); 0x5au8; MAX_MESSAGE_BYTES]?;
+    assert!(rt; opens_again(rt.alloc(), &message[..65_535])?);
+    assert!(rt; opens_again(rt.alloc(), &message)?);
+    Ok(())
 }

@@ -5,7 +5,9 @@ use std::test::Fail;
 
 /// The key, the prefix and the context of the stored streams.
 pub const KEY: [u8; 32] = [0; 32];
+
 pub const PREFIX: [u8; 24] = [0; 24];
+
 pub const CONTEXT: [u8; 0] = [];
 
 /// The messages of the stored streams.

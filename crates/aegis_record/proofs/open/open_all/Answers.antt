@@ -46,8 +46,11 @@ returns-then-frame-eq1-clause-opened g c =
     rw c.in_ok-push.ensures.items (map_push _ c.records.found.items c.in_ok-frame.message) in
     let ends = stream_ends (sealing_of c.args.sealer.now) v c.len.result c.records.before f.flag ms m f.rest.now c.records.rest.now c.args.bytes.now
     c.records.invariant.front (omega (arith, length-map c.records.found.items (λ m. m.items))) c.records.invariant.before c.if-frame-eq1.true c.in_ok-frame.ensures.opened in
-    rw pushed (v, all_read (sealing_of c.args.sealer.now) v (ms ++ m ∷ []) f.rest.now c.args.bytes.now ends.0 ends.1
-    (none_left f.rest.now c.is_empty.result c.is_empty.ensures c.if-not-is_empty.false))
+    rw pushed (
+      v,
+      all_read (sealing_of c.args.sealer.now) v (ms ++ m ∷ []) f.rest.now c.args.bytes.now ends.0 ends.1
+          (none_left f.rest.now c.is_empty.result c.is_empty.ensures c.if-not-is_empty.false),
+    )
 
 pub records-preserved : goal.records-preserved
 records-preserved g c =
@@ -67,7 +70,7 @@ records-preserved g c =
     let so_far = c.records.invariant.bound in
     record {
       front = rw pushed (AtFront-more (sealing_of s) v c.len.result c.records.before f.flag ms m f.rest.now c.records.rest.now c.args.bytes.now
-      c.records.invariant.front number now c.if-frame-eq1.false is_record);
+          c.records.invariant.front number now c.if-frame-eq1.false is_record);
       before = rw (pushed, total_push ms m) (omega arith);
       bound = omega arith;
     }

@@ -34,8 +34,8 @@ records-preserved g c =
     ] in
     record {
       sealed = rw c.in_ok-seal_record.ensures.ok (frames_next (sealing_of c.args.sealer.now) First c.records.number c.records.before (length ms) c.if-number-messages.flag c.records.out.items
-      (front (sealing_of c.args.sealer.now) First 1 (texts ms)) m (drop (c.records.number + 1) (texts ms)) flag
-      (omega (arith, length-drop (c.records.number + 1) (texts ms), length-map ms (λ t. t.now))) (rw (← next) c.records.invariant.sealed));
+          (front (sealing_of c.args.sealer.now) First 1 (texts ms)) m (drop (c.records.number + 1) (texts ms)) flag
+          (omega (arith, length-drop (c.records.number + 1) (texts ms), length-map ms (λ t. t.now))) (rw (← next) c.records.invariant.sealed));
       before = omega arith;
     }
 

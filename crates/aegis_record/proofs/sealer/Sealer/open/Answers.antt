@@ -22,6 +22,9 @@ returns-in-Err-InvalidTag-clause-refused g c =
     let ad = c.deref.ensures.value ∙ c.in_ok-write_data.ensures.ok in
     let key = c.new-cipher.ensures.key in
     let number = c.new-cipher.ensures.nonce ∙ c.nonce.ensures in
-    inr (λ m e. rw (ad, key, number) at c.in-Err-InvalidTag.ensures.accepted m
-    (opens s.key.now s.prefix.now s.context.now p.version p.number p.before p.flag m c.args.sealed.now c.unwrap.result.0.now c.unwrap.result.1.now e parts.0 parts.1)
-    (rw c.in-Err-InvalidTag.field-0-is refl), refl)
+    inr (
+      λ m e. rw (ad, key, number) at c.in-Err-InvalidTag.ensures.accepted m
+          (opens s.key.now s.prefix.now s.context.now p.version p.number p.before p.flag m c.args.sealed.now c.unwrap.result.0.now c.unwrap.result.1.now e parts.0 parts.1)
+          (rw c.in-Err-InvalidTag.field-0-is refl),
+      refl,
+    )
