@@ -8,7 +8,7 @@ use Rattle.std.proofs.lemmas.Nat.{from_le_bytes-to_le_bytes_4}
 use Rattle.aegis_record.specs.declared.error.RecordError.{RecordError}
 use Rattle.aegis_record.specs.declared.error.RecordError.TheVariants as errors
 use Rattle.aegis_record.specs.declared.version.Version.{Version}
-use Rattle.aegis_record.specs.declared.version.Version.TheVariants.{First}
+use Rattle.aegis_record.specs.declared.version.Version.TheVariants.{First, Second}
 use Rattle.aegis_record.specs.Fault.{HasFault, IsDamaged, length_at, parts, parts_after}
 use Rattle.aegis_record.specs.Stream.{AreWithin, IsSealing, IsStream, Sealing, flag_before, frame, frames, front, header, limit, total}
 
@@ -16,6 +16,7 @@ use Rattle.aegis_record.specs.Stream.{AreWithin, IsSealing, IsStream, Sealing, f
 
 limit_fits : (v : Version) → limit v < 2 ^ 32
 limit_fits First = omega arith
+limit_fits Second = omega arith
 
 parts_whole : (v : Version) (flag n : ℕ) (four body x : List ℕ) → flag ≤ 1 → length four ≡ 4 → from_le_bytes w32 four ≡ n → n ≤ limit v
     → length body ≡ n + 32 → parts_after v flag (four ++ (body ++ x)) ≡ Ok (flag, body, x)
@@ -113,8 +114,14 @@ one_front sealing is v k o K O K' O' (m ∷ ms) (n ∷ ns) x y mw nw a b c d p q
 
 -- ---- streams
 
+differ : (n : ℕ) → n ≡ 49 → n ≡ 50 → ⊥
+differ n a b = absurd (omega arith)
+
 header_one : (v w : Version) (a b : List ℕ) → header v ++ a ≡ header w ++ b → (v ≡ w) × (a ≡ b)
 header_one First First a b e = (refl, append_cancel_left (header First) a b e)
+header_one Second Second a b e = (refl, append_cancel_left (header Second) a b e)
+header_one First Second a b e = absurd (differ 49 refl (ap (λ (l : List ℕ). get_or l 3 0) e))
+header_one Second First a b e = absurd (differ 50 (ap (λ (l : List ℕ). get_or l 3 0) e) refl)
 
 -- a front of records with flag 0, and what stands behind it
 pub record Fronts (sealing : Sealing) (v : Version) (ms : List (List ℕ)) (x bytes : List ℕ) : Type 0 where

@@ -6,12 +6,13 @@ use Rattle.std.specs.Prelude.{Err, IfOk, Ok, Result, Vec}
 use Rattle.aegis_record.specs.declared.error.RecordError.{RecordError}
 use Rattle.std.proofs.lemmas.List.{length-append}
 use Rattle.aegis_record.specs.declared.version.Version.{Version}
-use Rattle.aegis_record.specs.declared.version.Version.TheVariants.{First}
+use Rattle.aegis_record.specs.declared.version.Version.TheVariants.{First, Second}
 use Rattle.aegis_record.specs.Calls.{texts}
 use Rattle.aegis_record.specs.Stream.{IsSealing, IsStream, Sealing, flag_before, frame, frames, frames_length, header, stream_length, total}
 
 header_long : (v : Version) → length (header v) ≡ 4
 header_long First = refl
+header_long Second = refl
 
 length-frames : (sealing : Sealing) → IsSealing sealing → (v : Version) (last k o : ℕ) (ms : List (List ℕ))
     → length (frames sealing v last k o ms) ≡ frames_length ms

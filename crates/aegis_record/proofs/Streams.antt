@@ -5,7 +5,7 @@ use Rattle.std.proofs.lemmas.List.{append-nil, take_at}
 use Rattle.aegis_record.specs.declared.error.RecordError.{RecordError}
 use Rattle.aegis_record.specs.declared.error.RecordError.TheVariants as errors
 use Rattle.aegis_record.specs.declared.version.Version.{Version}
-use Rattle.aegis_record.specs.declared.version.Version.TheVariants.{First}
+use Rattle.aegis_record.specs.declared.version.Version.TheVariants.{First, Second}
 use Rattle.aegis_record.specs.Calls.{IsRefused, OpensTo, messages}
 use Rattle.aegis_record.specs.Fault.{AtEnd, AtHeader, AtRecord, HasFault, IsFaultOf, IsOneFault, parts}
 use Rattle.aegis_record.specs.Stream.{AreWithin, IsOneStream, IsSealing, IsStream, Sealing, frame, frames, front, header, limit, total}
@@ -115,6 +115,7 @@ ended sealing bytes e (AtEnd v ms stream rest records are some is) =
 
 pub header_size : (v : Version) → length (header v) ≡ 4
 header_size First = refl
+header_size Second = refl
 
 known : (sealing : Sealing) (v : Version) (ms : List (List ℕ)) (x bytes : List ℕ) → Fronts sealing v ms x bytes → take 4 bytes ≡ header v
 known sealing v ms x bytes p = ap (take 4) p.are ∙ take_at (header v) (frames sealing v 0 0 0 ms ++ x) 4 (header_size v)

@@ -8,8 +8,9 @@ use Rattle.aegis_record.specs.declared.frame.Frame.{Frame}
 use Rattle.aegis_record.specs.declared.sealer.Place.{Place}
 use Rattle.aegis_record.specs.declared.sealer.Sealer.{Sealer}
 use Rattle.aegis_record.specs.declared.version.Version.{Version}
+use Rattle.aegis_record.specs.declared.version.Version.TheVariants.{Second}
 use Rattle.aegis_record.specs.Fault.{Parts}
-use Rattle.aegis_record.specs.Records.{sealed}
+use Rattle.aegis_record.specs.Records.{AreRecords, sealed}
 use Rattle.aegis_record.specs.Stream.{Sealing, frame, limit}
 
 -- the bytes of slices and of vectors, without where they lie in memory
@@ -23,6 +24,11 @@ messages vectors = map (λ vector. vector.items) vectors
 abbrev pub OpensTo : {A : Type 0} → List (List ℕ) → Result (Vec (Vec ℕ A) A) RecordError → Type 0
 OpensTo ms (Ok opened) = messages opened.items ≡ ms
 OpensTo ms (Err e) = e ≡ errors.OutOfMemory
+
+-- the answer is the stream of these messages in version 2, unless memory ran out
+abbrev pub MigratesTo : {A : Type 0} → List ℕ → List ℕ → List ℕ → List (List ℕ) → Result (Vec ℕ A) RecordError → Type 0
+MigratesTo key prefix context ms (Ok stream) = AreRecords Second key prefix context ms stream.items
+MigratesTo key prefix context ms (Err e) = e ≡ errors.OutOfMemory
 
 -- the answer is this refusal, unless memory ran out
 abbrev pub IsRefused : {A : Type 0} → RecordError → Result (Vec (Vec ℕ A) A) RecordError → Type 0

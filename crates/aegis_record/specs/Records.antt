@@ -5,7 +5,7 @@ use Rattle.aegis_base.specs.Family.{Aegis256}
 use Rattle.aegis_base.specs.Message.{ciphertext, tag}
 use Rattle.aegis_record.specs.declared.error.RecordError.{RecordError}
 use Rattle.aegis_record.specs.declared.version.Version.{Version}
-use Rattle.aegis_record.specs.declared.version.Version.TheVariants.{First}
+use Rattle.aegis_record.specs.declared.version.Version.TheVariants.{First, Second}
 use Rattle.aegis_record.specs.Fault.{IsFaultOf}
 use Rattle.aegis_record.specs.Stream.{IsStream, Sealing, front, header}
 
@@ -13,9 +13,11 @@ use Rattle.aegis_record.specs.Stream.{IsStream, Sealing, front, header}
 abbrev pub nonce : List ℕ → ℕ → List ℕ
 nonce prefix k = prefix ++ to_le_bytes w64 k
 
--- The associated data of a record: the header, the record's number, its flag, and the stream's context.
+-- The associated data of a record: the header, the record's number, in version 2 how many bytes the messages before it have,
+-- its flag, and the stream's context.
 abbrev pub associated_data : Version → ℕ → ℕ → ℕ → List ℕ → List ℕ
 associated_data First k o flag context = header First ++ to_le_bytes w64 k ++ flag ∷ context
+associated_data Second k o flag context = header Second ++ to_le_bytes w64 k ++ to_le_bytes w64 o ++ flag ∷ context
 
 -- a record's ciphertext and tag
 unfoldable pub sealed : List ℕ → List ℕ → List ℕ → Sealing

@@ -4,15 +4,17 @@ use Rattle.std.specs.Prelude.{◌≡◌, ℕ, ◌+◌, ◌<◌, ◌≤◌, List,
 use Rattle.std.specs.Int.{w32, to_le_bytes}
 use Rattle.std.specs.List.{AllByRecursion}
 use Rattle.aegis_record.specs.declared.version.Version.{Version}
-use Rattle.aegis_record.specs.declared.version.Version.TheVariants.{First}
+use Rattle.aegis_record.specs.declared.version.Version.TheVariants.{First, Second}
 
 -- the bytes that a stream begins with
 abbrev pub header : Version → List ℕ
 header First = codes "AGR1"
+header Second = codes "AGR2"
 
 -- how many bytes a record's message may have
 abbrev pub limit : Version → ℕ
 limit First = 65536
+limit Second = 16777216
 
 -- What the message of a record is sealed to, its ciphertext and then its tag: from the version, the record's number, how many
 -- bytes the messages before it have together, its flag, and the message.

@@ -11,6 +11,7 @@ mod error;
 mod frame;
 pub mod laws;
 mod length;
+mod migration;
 mod open;
 mod seal;
 mod sealer;
@@ -18,6 +19,7 @@ mod version;
 
 pub use error::RecordError;
 pub use length::records_len;
+pub use migration::migrate;
 pub use open::open_records;
 pub use seal::{MAX_MESSAGE_BYTES, seal_records};
 pub use sealer::MAX_CONTEXT_BYTES;

@@ -24,6 +24,8 @@ fn version_of(bytes: &[u8]) -> Option<(Version, &[u8])>
     let (front, rest) = bytes.split_at(4);
     if front == b"AGR1".as_slice() {
         Some((Version::First, rest))
+    } else if front == b"AGR2".as_slice() {
+        Some((Version::Second, rest))
     } else {
         None
     }

@@ -5,7 +5,7 @@ ghost use Rattle.aegis_base.specs.declared.error.TheConstants.{MAX_AEAD_BYTES};
 ghost use Rattle.aegis_record.specs.Calls.{sealing_of, texts};
 ghost use Rattle.aegis_record.specs.Records.{AreRecords};
 ghost use Rattle.aegis_record.specs.Stream.{AreWithin, frame, limit, stream_length};
-ghost use Rattle.aegis_record.specs.declared.version.Version.TheVariants.{First};
+ghost use Rattle.aegis_record.specs.declared.version.Version.TheVariants.{Second};
 
 use crate::error::RecordError;
 use crate::length::records_len;
@@ -15,10 +15,10 @@ use aegis_modules::aegis256::Key;
 use std::alloc::Allocator;
 
 /// The version that is written.
-const WRITTEN: Version = Version::First;
+const WRITTEN: Version = Version::Second;
 
 /// How many bytes a message may have.
-pub const MAX_MESSAGE_BYTES: usize = 65_536;
+pub const MAX_MESSAGE_BYTES: usize = 16_777_216;
 
 // Appends a record. Its message is sealed where it then stands.
 fn seal_record<A: Allocator>(
@@ -76,7 +76,7 @@ fn seal_all<A: Allocator + Copy>(
     Ok(out)
 }
 
-/// The stream of the messages, of which there is one at least, under a key, a prefix and a context.
+/// The stream of the messages, of which there is one at least, in version 2, under a key, a prefix and a context.
 ///
 /// A message has at most [`MAX_MESSAGE_BYTES`] and the context [`MAX_CONTEXT_BYTES`], and [`records_len`] has to give a number,
 /// which is the length of the stream. [`RecordError::OutOfMemory`] is the only refusal. Memory is taken twice: for the whole
@@ -89,10 +89,10 @@ pub fn seal_records<A: Allocator + Copy>(
     messages: &[&[u8]],
 ) -> Result<Vec<u8, A>, RecordError>
     requires some { 0 < length messages.now }
-    requires within { AreWithin First (texts messages.now) }
+    requires within { AreWithin Second (texts messages.now) }
     requires context_within { length context.now ≤ MAX_CONTEXT_BYTES }
     requires fits { stream_length (texts messages.now) ≤ MAX_AEAD_BYTES }
-    ensures sealed { IfOk result (λ stream. AreRecords First key.now prefix.now context.now (texts messages.now) stream.items) }
+    ensures sealed { IfOk result (λ stream. AreRecords Second key.now prefix.now context.now (texts messages.now) stream.items) }
     ensures length { IfOk result (λ stream. length stream.items ≡ stream_length (texts messages.now)) }
     ensures error { IfErr result (λ e. e ≡ RecordError.OutOfMemory) }
 {

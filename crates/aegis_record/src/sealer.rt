@@ -45,8 +45,8 @@ fn nonce(prefix: &[u8; 24], number: u64) -> Nonce
 }
 
 impl Place {
-    /// How many bytes the associated data has at most, but for the context: a header, a number and a flag.
-    pub const DATA_BYTES: usize = 4 + 8 + 1;
+    /// How many bytes the associated data has at most, but for the context: a header, a number, a sum of lengths and a flag.
+    pub const DATA_BYTES: usize = 4 + 8 + 8 + 1;
 
     // Writes the associated data of the record over what `ad` holds.
     fn write_data<A: Allocator>(
@@ -60,6 +60,9 @@ impl Place {
         ad.clear();
         ad.extend_from_slice(self.version.header())?;
         ad.extend_from_slice(&self.number.to_le_bytes())?;
+        if let Version::Second = self.version {
+            ad.extend_from_slice(&self.before.to_le_bytes())?;
+        }
         ad.push(self.flag)?;
         ad.extend_from_slice(context)?;
         Ok(())

@@ -8,6 +8,8 @@ ghost use Rattle.aegis_record.specs.Stream.{header, limit};
 pub enum Version {
     /// `AGR1`.
     First,
+    /// `AGR2`.
+    Second,
 }
 
 impl Version {
@@ -17,6 +19,7 @@ impl Version {
     {
         match self {
             Version::First => b"AGR1",
+            Version::Second => b"AGR2",
         }
     }
 
@@ -26,6 +29,7 @@ impl Version {
     {
         match self {
             Version::First => 65_536,
+            Version::Second => 16_777_216,
         }
     }
 }

@@ -2,14 +2,14 @@ use Rattle.std.proofs.Common.{◌≡◌, ◌==◌, ◌+◌, ◌∷◌, ◌++◌,
 use Rattle.std.proofs.lemmas.List.{length-drop, length-map}
 use Rattle.aegis_record.specs.Calls.{sealing_of, texts}
 use Rattle.aegis_record.specs.Stream.{front, total}
-use Rattle.aegis_record.specs.declared.version.Version.TheVariants.{First}
+use Rattle.aegis_record.specs.declared.version.Version.TheVariants.{Second}
 use Rattle.aegis_record.proofs.Lengths.{total-below}
 use Rattle.aegis_record.proofs.Writing.{IsFlag, drop_texts, frames_next, frames_past, within_at}
 use Rattle.aegis_record.proofs.seal.seal_all.Goals.{then-number-messages, else-number-messages}
 use Rattle.aegis_record.proofs.seal.seal_all.Goals as goal
 
 pub seal_record-requires-clause-within : goal.seal_record-requires-clause-within
-seal_record-requires-clause-within g c = within_at First c.args.messages.now c.records.number _ c.records-test.true c.requires.within
+seal_record-requires-clause-within g c = within_at Second c.args.messages.now c.records.number _ c.records-test.true c.requires.within
 
 pub overflow_add-before : goal.overflow_add-before
 overflow_add-before g c =
@@ -33,8 +33,8 @@ records-preserved g c =
       | else-number-messages w ↦ inr (w.if-number-messages.false, w.flag-is)
     ] in
     record {
-      sealed = rw c.in_ok-seal_record.ensures.ok (frames_next (sealing_of c.args.sealer.now) First c.records.number c.records.before (length ms) c.if-number-messages.flag c.records.out.items
-          (front (sealing_of c.args.sealer.now) First 1 (texts ms)) m (drop (c.records.number + 1) (texts ms)) flag
+      sealed = rw c.in_ok-seal_record.ensures.ok (frames_next (sealing_of c.args.sealer.now) Second c.records.number c.records.before (length ms) c.if-number-messages.flag c.records.out.items
+          (front (sealing_of c.args.sealer.now) Second 1 (texts ms)) m (drop (c.records.number + 1) (texts ms)) flag
           (omega (arith, length-drop (c.records.number + 1) (texts ms), length-map ms (λ t. t.now))) (rw (← next) c.records.invariant.sealed));
       before = omega arith;
     }
@@ -45,6 +45,6 @@ returns-clause-sealed g c =
     record {
       some = omega (arith, length-map ms (λ t. t.now));
       within = c.requires.within;
-      are = frames_past (sealing_of c.args.sealer.now) First c.records.number c.records.before (texts ms) c.records.out.items (front (sealing_of c.args.sealer.now) First 1 (texts ms))
+      are = frames_past (sealing_of c.args.sealer.now) Second c.records.number c.records.before (texts ms) c.records.out.items (front (sealing_of c.args.sealer.now) Second 1 (texts ms))
           (omega (arith, length-map ms (λ t. t.now))) c.records.invariant.sealed;
     }
