@@ -2,3 +2,4 @@ mod LinesFacts
 mod OutputFacts
 mod PieceFacts
 mod Reading
+mod RecordFacts

@@ -1,5 +1,6 @@
 -- What the program's values stand for.
-use Rattle.std.specs.Prelude.{ℕ, ◌&&◌, ◌==◌, List, Result, Ok, Err, length, if◌then◌else◌}
+use Rattle.std.specs.Prelude.{ℕ, ◌&&◌, ◌==◌, List, Result, Ok, Err, length, map, if◌then◌else◌}
+use Rattle.std.specs.Vec.{vec_items}
 use Rattle.aegis_lines.specs.declared.fault.Fault.{Fault}
 use Rattle.aegis_lines.specs.declared.fault.Fault.TheVariants as faults
 use Rattle.aegis_variants.specs.declared.variant.Variant.{Variant}
@@ -8,7 +9,7 @@ use Rattle.aegis_lines.specs.declared.tag.Tag.TheVariants as tags
 use Rattle.aegis_lines.specs.declared.command.Command.{Command}
 use Rattle.aegis_lines.specs.declared.command.Command.TheVariants as commands
 use Rattle.aegis_lines.specs.Field.{together}
-use Rattle.aegis_lines.specs.Request.{Request, Round, Seal, Open, Stream, Xor, Mac}
+use Rattle.aegis_lines.specs.Request.{Request, Round, Seal, Open, Stream, Xor, Mac, SealRecords, OpenRecords}
 use Rattle.aegis_variants.specs.Cipher.{key_of, nonce_of, variant_of}
 use Rattle.aegis_variants.specs.Variant.{key_length_of, tag_length_of}
 
@@ -41,3 +42,6 @@ request_from (commands.Stream cipher count) = Stream (variant_of cipher) (key_of
 request_from (commands.Xor cipher message) = Xor (variant_of cipher) (key_of cipher) (nonce_of cipher) message.items
 request_from (commands.Mac cipher tag_length message) =
     Mac (variant_of cipher) (tag_length_of tag_length) (key_of cipher) (nonce_of cipher) (together message.pieces.items)
+request_from (commands.SealRecords keys messages) =
+    SealRecords keys.key keys.prefix keys.context.items (map vec_items messages.messages.items)
+request_from (commands.OpenRecords keys bytes) = OpenRecords keys.key keys.prefix keys.context.items bytes.items

@@ -4,6 +4,7 @@ pub mod Fault
 pub mod Field
 pub mod Lines
 pub mod Output
+pub mod Record
 pub mod Request
 pub mod Table
 pub mod Variant

@@ -4,6 +4,7 @@ use Rattle.aegis_lines.specs.declared.fault.Fault.{Fault}
 use Rattle.aegis_lines.specs.declared.fault.Fault.TheVariants as faults
 use Rattle.aegis_variants.specs.declared.variant.Variant.{Variant}
 use Rattle.aegis_lines.specs.Field.{bytes_of, count_in, field_of, fields_of, joined_of, tag_length_in, variant_in}
+use Rattle.aegis_lines.specs.Record.{messages_of}
 use Rattle.aegis_lines.specs.Table.{Name, fault_in, name_of}
 use Rattle.aegis_lines.specs.Table as names
 
@@ -15,6 +16,8 @@ pub data Request : Type 0 where
   Stream : (variant : Variant) (key nonce : List ℕ) (count : ℕ) → Request
   Xor : (variant : Variant) (key nonce message : List ℕ) → Request
   Mac : (variant : Variant) (tag_length : ℕ) (key nonce message : List ℕ) → Request
+  SealRecords : (key prefix context : List ℕ) (messages : List (List ℕ)) → Request
+  OpenRecords : (key prefix context bytes : List ℕ) → Request
 
 -- what a line without a fault asks for, field by field
 abbrev pub request_in : Name → List (List ℕ) → Request
@@ -34,6 +37,12 @@ request_in names.Xor fields =
 request_in names.Mac fields =
     Mac (variant_in (field_of fields 1)) (tag_length_in (field_of fields 2)) (bytes_of (field_of fields 3))
     (bytes_of (field_of fields 4)) (joined_of (field_of fields 5))
+request_in names.SealRecords fields =
+    SealRecords (bytes_of (field_of fields 1)) (bytes_of (field_of fields 2)) (bytes_of (field_of fields 3))
+    (messages_of (field_of fields 4))
+request_in names.OpenRecords fields =
+    OpenRecords (bytes_of (field_of fields 1)) (bytes_of (field_of fields 2)) (bytes_of (field_of fields 3))
+    (bytes_of (field_of fields 4))
 
 -- a request, but for a fault
 abbrev pub unless_fault : Option Fault → Request → Result Request Fault

@@ -4,6 +4,7 @@ use Rattle.std.specs.Str.{bytes_eq}
 use Rattle.aegis_lines.specs.declared.fault.Fault.{Fault}
 use Rattle.aegis_lines.specs.declared.fault.Fault.TheVariants as faults
 use Rattle.aegis_variants.specs.declared.variant.Variant.{Variant}
+use Rattle.aegis_lines.specs.Record.{have_stream, is_context, is_key, is_prefix, messages_in, messages_of}
 use Rattle.aegis_lines.specs.Field.{bytes_in, bytes_of, field_of, is_within_limit, joined_in, joined_of, stream_length_in, tag_length_in, variant_in}
 use Rattle.aegis_lines.specs.Variant.{tag_length_named, variant_named}
 use Rattle.aegis_variants.specs.Variant.{key_length_of}
@@ -16,6 +17,8 @@ pub data Name : Type 0 where
   Stream : Name
   Xor : Name
   Mac : Name
+  SealRecords : Name
+  OpenRecords : Name
 
 -- the command of a name
 abbrev pub name_of : List ℕ → Option Name
@@ -26,11 +29,13 @@ name_of field =
     else if bytes_eq field (codes "stream") then Some Stream
     else if bytes_eq field (codes "xor") then Some Xor
     else if bytes_eq field (codes "mac") then Some Mac
+    else if bytes_eq field (codes "sealrec") then Some SealRecords
+    else if bytes_eq field (codes "openrec") then Some OpenRecords
     else None
 
 -- What a field says: the name of a variant, the length of a tag, the count of a stream's bytes, or bytes. Those are a
 -- block, a key or a nonce of the line's variant, bytes that AEGIS takes, in pieces or as one, a tag of the line's length,
--- or any bytes.
+-- or any bytes; or the key, the prefix, the context or the messages of a record stream.
 pub data Kind : Type 0 where
   VariantName : Kind
   TagLength : Kind
@@ -41,6 +46,10 @@ pub data Kind : Type 0 where
   Pieces : Kind
   Tag : Kind
   Bytes : Kind
+  RecordKey : Kind
+  Prefix : Kind
+  Context : Kind
+  Messages : Kind
 
 -- the fields after each command
 abbrev pub kinds_of : Name → List Kind
@@ -50,6 +59,8 @@ kinds_of Open = VariantName ∷ TagLength ∷ Key ∷ Key ∷ Limited ∷ Pieces
 kinds_of Stream = VariantName ∷ Key ∷ Key ∷ Count ∷ []
 kinds_of Xor = VariantName ∷ Key ∷ Key ∷ Bytes ∷ []
 kinds_of Mac = VariantName ∷ TagLength ∷ Key ∷ Key ∷ Pieces ∷ []
+kinds_of SealRecords = RecordKey ∷ Prefix ∷ Context ∷ Messages ∷ []
+kinds_of OpenRecords = RecordKey ∷ Prefix ∷ Context ∷ Bytes ∷ []
 
 -- whether a field names no variant
 abbrev pub has_variant_fault : Kind → List ℕ → Bool
@@ -67,6 +78,7 @@ has_hex_fault VariantName field = false
 has_hex_fault TagLength field = false
 has_hex_fault Count field = false
 has_hex_fault Pieces field = is_err (joined_in field)
+has_hex_fault Messages field = is_err (messages_in field)
 has_hex_fault kind field = is_err (bytes_in field)
 
 -- Whether a field has a length that is not allowed. `variant` and `n` are the variant and the length of a tag that the
@@ -78,6 +90,10 @@ has_length_fault variant n Key field = not (length (bytes_of field) == key_lengt
 has_length_fault variant n Limited field = not (is_within_limit (bytes_of field))
 has_length_fault variant n Pieces field = not (is_within_limit (joined_of field))
 has_length_fault variant n Tag field = not (length (bytes_of field) == n)
+has_length_fault variant n RecordKey field = not (is_key (bytes_of field))
+has_length_fault variant n Prefix field = not (is_prefix (bytes_of field))
+has_length_fault variant n Context field = not (is_context (bytes_of field))
+has_length_fault variant n Messages field = not (have_stream (messages_of field))
 has_length_fault variant n kind field = false
 
 -- whether some field has a fault, where the kinds are those of the fields from field i on

@@ -14,6 +14,7 @@ use crate::fields::push_bytes;
 use crate::limited::Limited;
 use crate::parse::parse;
 use crate::pieces::Pieces;
+use crate::records::{open_stream, seal_stream};
 use crate::tag::Tag;
 use aegis::Error;
 use aegis_variants::{Cipher, TagLength};
@@ -69,11 +70,13 @@ fn reply<A: Allocator + Copy>(alloc: A, command: Command<A>) -> Result<Vec<u8, A
             tag_length,
             message,
         } => mac(alloc, cipher, tag_length, message),
+        Command::SealRecords { keys, messages } => seal_stream(alloc, &keys, &messages),
+        Command::OpenRecords { keys, bytes } => open_stream(alloc, &keys, &bytes),
     }
 }
 
-// Bytes, as they are printed.
-fn shown<A: Allocator + Copy>(alloc: A, bytes: &[u8]) -> Result<Vec<u8, A>, AllocError>
+/// Bytes, as they are printed.
+pub fn shown<A: Allocator + Copy>(alloc: A, bytes: &[u8]) -> Result<Vec<u8, A>, AllocError>
     ensures { IfOk result (λ text. text.items ≡ shown bytes.now) }
 {
     let mut text = Vec::new(alloc);

@@ -2,6 +2,7 @@
 
 use crate::limited::Limited;
 use crate::pieces::Pieces;
+use crate::records::{Messages, StreamKeys};
 use crate::tag::Tag;
 use aegis::aes::AesBlock;
 use aegis_variants::{Cipher, TagLength};
@@ -42,5 +43,15 @@ pub enum Command<A: Allocator> {
         cipher: Cipher,
         tag_length: TagLength,
         message: Pieces<A>,
+    },
+    /// The stream of some messages.
+    SealRecords {
+        keys: StreamKeys<A>,
+        messages: Messages<A>,
+    },
+    /// The messages of a stream.
+    OpenRecords {
+        keys: StreamKeys<A>,
+        bytes: Vec<u8, A>,
     },
 }

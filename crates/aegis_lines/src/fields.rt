@@ -1,12 +1,13 @@
 //! Fields of a line, and what they stand for.
 
-ghost use Rattle.std.specs.Prelude.{◌≡◌, ◌+◌, ◌<◌, ◌≤◌, ◌++◌, List, ℕ, true, length, map, ◌⊎◌, IfErr, IfOk, OnOk};
+ghost use Rattle.std.specs.Prelude.{◌≡◌, ◌+◌, ◌<◌, ◌≤◌, ◌++◌, List, ℕ, true, length, map, vec_items, vec_len, ◌⊎◌, IfErr, IfOk, OnOk};
 ghost use Rattle.std.specs.Char.{is_ascii_digit};
 ghost use Rattle.std.specs.List.{list_all};
 ghost use Rattle.std.specs.Str.Parse.{digits_value};
 ghost use Rattle.aegis_lines.specs.declared.fault.Fault.TheVariants.{Hex, Length};
 ghost use Rattle.aegis_lines.specs.declared.fault.Refusal.TheVariants.{OutOfMemory};
 ghost use Rattle.aegis_lines.specs.Fault.{Gives};
+ghost use Rattle.aegis_lines.specs.Record.{each_from, messages_in};
 ghost use Rattle.aegis_lines.specs.Field.{bytes_in, cut_at, field_of, joined_from, joined_in, shown, stream_length_in, texts, together};
 
 use crate::fault::{Fault, Refusal};
@@ -55,11 +56,13 @@ pub fn bytes<A: Allocator>(alloc: A, field: &[u8]) -> Result<Vec<u8, A>, Refusal
     }
 }
 
-/// The bytes that the pieces of a field stand for, between single commas. It is a hexadecimal fault where some piece is
-/// neither `-` nor pairs of digits.
-#[tactic(auto, unfolding(crate::specs::Field::joined_in))]
+/// The bytes that each of the pieces of a field stands for, between single commas; there is one piece at least. It is a
+/// hexadecimal fault where some piece is neither `-` nor pairs of digits.
+#[tactic(auto, unfolding(crate::specs::Field::joined_in, crate::specs::Record::messages_in))]
 pub fn pieces<A: Allocator + Copy>(alloc: A, field: &[u8]) -> Result<Vec<Vec<u8, A>, A>, Refusal>
     ensures value { Gives (λ pieces. together pieces.items) result (joined_in field.now) }
+    ensures each { Gives (λ pieces. map vec_items pieces.items) result (messages_in field.now) }
+    ensures some { IfOk result (λ pieces. 0 < vec_len pieces) }
     ensures refused { IfErr result (λ refusal. (refusal ≡ OutOfMemory) ⊎ (refusal ≡ Refusal.Fault Hex)) }
 {
     let texts = split(alloc, field, b',')?;
@@ -70,7 +73,9 @@ fn bytes_of_each<A: Allocator + Copy>(
     alloc: A,
     pieces: &[&[u8]],
 ) -> Result<Vec<Vec<u8, A>, A>, Refusal>
-    ensures value { Gives (λ read. together read.items) result (joined_from (texts pieces.now)) }
+    ensures value { Gives (λ read. map vec_items read.items) result (each_from (texts pieces.now)) }
+    ensures joined { Gives (λ read. together read.items) result (joined_from (texts pieces.now)) }
+    ensures count { IfOk result (λ read. vec_len read ≡ length pieces.now) }
     ensures refused { IfErr result (λ refusal. (refusal ≡ OutOfMemory) ⊎ (refusal ≡ Refusal.Fault Hex)) }
 {
     let mut read = Vec::new(alloc);

@@ -10,6 +10,7 @@ mod limited;
 mod output;
 mod parse;
 mod pieces;
+mod records;
 mod session;
 mod tag;
 #[cfg(test)]

@@ -13,6 +13,7 @@ use crate::fault::{Fault, Refusal};
 use crate::fields;
 use crate::limited::Limited;
 use crate::pieces::Pieces;
+use crate::records::{Messages, StreamKeys};
 use crate::tag::Tag;
 use crate::variant::{cipher_with, tag_length_named, variant_named};
 use aegis::aes::AesBlock;
@@ -46,6 +47,10 @@ fn command<A: Allocator + Copy>(alloc: A, fields: &[&[u8]]) -> Result<Command<A>
         xor(alloc, fields)
     } else if *name == b"mac".as_slice() {
         mac(alloc, fields)
+    } else if *name == b"sealrec".as_slice() {
+        seal_records(alloc, fields)
+    } else if *name == b"openrec".as_slice() {
+        open_records(alloc, fields)
     } else {
         Err(Refusal::Fault(Fault::Command))
     }
@@ -168,5 +173,41 @@ fn mac<A: Allocator + Copy>(alloc: A, fields: &[&[u8]]) -> Result<Command<A>, Re
         cipher: cipher_with(variant, &key, &nonce)?,
         tag_length,
         message: Pieces::new(alloc, message)?,
+    })
+}
+
+// `sealrec K P X M`
+#[tactic(auto, unfolding(crate::specs::Request::request_of_command))]
+fn seal_records<A: Allocator + Copy>(alloc: A, fields: &[&[u8]]) -> Result<Command<A>, Refusal>
+    ensures { Gives request_from result (request_of_command names.SealRecords (texts fields.now)) }
+{
+    if fields.len() != 5 {
+        return Err(Refusal::Fault(Fault::Fields));
+    }
+    let key = fields::bytes(alloc, fields::field(fields, 1))?;
+    let prefix = fields::bytes(alloc, fields::field(fields, 2))?;
+    let context = fields::bytes(alloc, fields::field(fields, 3))?;
+    let messages = fields::pieces(alloc, fields::field(fields, 4))?;
+    Ok(Command::SealRecords {
+        keys: StreamKeys::new(&key, &prefix, context)?,
+        messages: Messages::new(alloc, messages)?,
+    })
+}
+
+// `openrec K P X B`
+#[tactic(auto, unfolding(crate::specs::Request::request_of_command))]
+fn open_records<A: Allocator + Copy>(alloc: A, fields: &[&[u8]]) -> Result<Command<A>, Refusal>
+    ensures { Gives request_from result (request_of_command names.OpenRecords (texts fields.now)) }
+{
+    if fields.len() != 5 {
+        return Err(Refusal::Fault(Fault::Fields));
+    }
+    let key = fields::bytes(alloc, fields::field(fields, 1))?;
+    let prefix = fields::bytes(alloc, fields::field(fields, 2))?;
+    let context = fields::bytes(alloc, fields::field(fields, 3))?;
+    let bytes = fields::bytes(alloc, fields::field(fields, 4))?;
+    Ok(Command::OpenRecords {
+        keys: StreamKeys::new(&key, &prefix, context)?,
+        bytes,
     })
 }

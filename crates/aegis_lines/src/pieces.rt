@@ -1,10 +1,10 @@
 //! Bytes that come in pieces.
 
-ghost use Rattle.std.specs.Prelude.{◌≡◌, ◌≤◌, IfOk, length, vec_items};
+ghost use Rattle.std.specs.Prelude.{◌≡◌, ◌≤◌, IfOk, length, map, vec_items};
 ghost use Rattle.aegis_base.specs.Chunks.{joined};
 ghost use Rattle.aegis_base.specs.declared.error.TheConstants.{MAX_AEAD_BYTES};
 ghost use Rattle.aegis_lines.specs.Fault.{Gives};
-ghost use Rattle.aegis_lines.specs.Field.{limited, together};
+ghost use Rattle.aegis_lines.specs.Field.{limited, texts, together};
 
 use crate::fault::{Fault, Refusal};
 use aegis::{MAX_AEAD_BYTES, chunks_len};
@@ -24,7 +24,7 @@ impl<A: Allocator + Copy> Pieces<A> {
     pub fn new(alloc: A, pieces: Vec<Vec<u8, A>, A>) -> Result<Pieces<A>, Refusal>
         ensures { Gives (λ limited. together limited.pieces.items) result (limited (together pieces.items)) }
     {
-        let Some(len) = chunks_len(&chunks(alloc, &pieces)?) else {
+        let Some(len) = chunks_len(&slices(alloc, &pieces)?) else {
             return Err(Refusal::Fault(Fault::Length));
         };
         Ok(Pieces {
@@ -37,16 +37,21 @@ impl<A: Allocator + Copy> Pieces<A> {
     pub fn chunks(&self, alloc: A) -> Result<Vec<&[u8], A>, AllocError>
         ensures { IfOk result (λ chunks. joined chunks.items ≡ together self.now.pieces.items) }
     {
-        chunks(alloc, &self.pieces)
+        slices(alloc, &self.pieces)
     }
 }
 
-fn chunks<A: Allocator + Copy>(alloc: A, pieces: &[Vec<u8, A>]) -> Result<Vec<&[u8], A>, AllocError>
-    ensures { IfOk result (λ chunks. joined chunks.items ≡ together pieces.now) }
+/// Vectors, as slices.
+pub fn slices<A: Allocator + Copy>(
+    alloc: A,
+    pieces: &[Vec<u8, A>],
+) -> Result<Vec<&[u8], A>, AllocError>
+    ensures each { IfOk result (λ slices. texts slices.items ≡ map vec_items pieces.now) }
+    ensures joined { IfOk result (λ slices. joined slices.items ≡ together pieces.now) }
 {
-    let mut chunks = Vec::new(alloc);
+    let mut slices = Vec::new(alloc);
     for piece in pieces {
-        chunks.push(piece.as_slice())?;
+        slices.push(piece.as_slice())?;
     }
-    Ok(chunks)
+    Ok(slices)
 }

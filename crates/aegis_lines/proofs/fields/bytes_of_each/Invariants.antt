@@ -1,6 +1,7 @@
-use Rattle.aegis_lines.specs.Field.{texts, together}
+use Rattle.std.proofs.Common.{map, vec_items}
+use Rattle.aegis_lines.specs.Field.{texts}
 use Rattle.aegis_lines.proofs.PieceFacts.{AreRead}
 use Rattle.aegis_lines.proofs.fields.bytes_of_each.Given as goal
 
 abbrev pub invariant-loop-piece : goal.invariant-loop-piece
-invariant-loop-piece g l = AreRead (texts l.pieces) l.piece-index (together l.read.items)
+invariant-loop-piece g l = AreRead (texts l.pieces) l.piece-index (map vec_items l.read.items)

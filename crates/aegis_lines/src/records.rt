@@ -1,0 +1,151 @@
+//! Record streams, as lines ask for them.
+
+ghost use Rattle.std.specs.Prelude.{◌≡◌, ◌<◌, ◌≤◌, ◌++◌, IfOk, codes, length, map, true, vec_items, vec_len};
+ghost use Rattle.aegis_base.specs.declared.error.TheConstants.{MAX_AEAD_BYTES};
+ghost use Rattle.aegis_lines.specs.Fault.{Gives};
+ghost use Rattle.aegis_lines.specs.Field.{shown};
+ghost use Rattle.aegis_lines.specs.Record.{IsRefusal, IsStreamAnswer, are_within, keys_with, messages_with, shown_messages};
+ghost use Rattle.aegis_record.specs.Records.{records};
+ghost use Rattle.aegis_record.specs.Stream.{stream_length};
+ghost use Rattle.aegis_record.specs.declared.version.Version.TheVariants.{First};
+
+use crate::answer::shown;
+use crate::fault::{Fault, Refusal};
+use crate::fields::push_bytes;
+use crate::pieces::slices;
+use aegis::record::{
+    MAX_CONTEXT_BYTES, MAX_MESSAGE_BYTES, RecordError, open_records, records_len, seal_records,
+};
+use std::alloc::{AllocError, Allocator};
+
+/// The key, the prefix and the context of a stream.
+#[derive(Drop)]
+pub struct StreamKeys<A: Allocator> {
+    pub key: [u8; 32],
+    pub prefix: [u8; 24],
+    pub context: Vec<u8, A>,
+    ghost within_limit: { vec_len context ≤ 65535 },
+}
+
+impl<A: Allocator> StreamKeys<A> {
+    /// It is a length fault where one of them has a length that is not allowed.
+    pub fn new(key: &[u8], prefix: &[u8], context: Vec<u8, A>) -> Result<StreamKeys<A>, Refusal>
+        ensures { Gives (λ keys. (keys.key, keys.prefix, keys.context.items)) result (keys_with key.now prefix.now context.items) }
+    {
+        let Ok(key) = <[u8; 32]>::try_from(key) else {
+            return Err(Refusal::Fault(Fault::Length));
+        };
+        let Ok(prefix) = <[u8; 24]>::try_from(prefix) else {
+            return Err(Refusal::Fault(Fault::Length));
+        };
+        if context.len() > MAX_CONTEXT_BYTES {
+            return Err(Refusal::Fault(Fault::Length));
+        }
+        Ok(StreamKeys {
+            key,
+            prefix,
+            context,
+        })
+    }
+}
+
+/// The messages of a stream, of which there is one at least.
+#[derive(Drop)]
+pub struct Messages<A: Allocator> {
+    pub messages: Vec<Vec<u8, A>, A>,
+    ghost some: { 0 < vec_len messages },
+    ghost within: { are_within (map vec_items (vec_items messages)) ≡ true },
+    ghost fits: { stream_length (map vec_items (vec_items messages)) ≤ MAX_AEAD_BYTES },
+}
+
+impl<A: Allocator + Copy> Messages<A> {
+    /// It is a length fault where a message is longer than a record's may be, or the whole stream is too long.
+    pub fn new(alloc: A, messages: Vec<Vec<u8, A>, A>) -> Result<Messages<A>, Refusal>
+        requires { 0 < vec_len messages }
+        ensures { Gives (λ some. map vec_items some.messages.items) result (messages_with (map vec_items messages.items)) }
+    {
+        if !all_within(&messages) || records_len(&slices(alloc, &messages)?).is_none() {
+            return Err(Refusal::Fault(Fault::Length));
+        }
+        Ok(Messages { messages })
+    }
+}
+
+// Whether no message is longer than a record's may be.
+fn all_within<A: Allocator>(messages: &[Vec<u8, A>]) -> bool
+    ensures { result ≡ are_within (map vec_items messages.now) }
+{
+    for message in messages {
+        if message.len() > MAX_MESSAGE_BYTES {
+            return false;
+        }
+    }
+    true
+}
+
+/// The answer to a sealing of messages.
+pub fn seal_stream<A: Allocator + Copy>(
+    alloc: A,
+    keys: &StreamKeys<A>,
+    messages: &Messages<A>,
+) -> Result<Vec<u8, A>, AllocError>
+    ensures { IfOk result (λ text. text.items
+        ≡ shown (records First keys.now.key keys.now.prefix keys.now.context.items (map vec_items messages.now.messages.items))) }
+{
+    let slices = slices(alloc, &messages.messages)?;
+    match seal_records(alloc, &keys.key, &keys.prefix, &keys.context, &slices) {
+        Ok(stream) => shown(alloc, &stream),
+        Err(_) => Err(AllocError),
+    }
+}
+
+/// The answer to an opening of a stream.
+pub fn open_stream<A: Allocator + Copy>(
+    alloc: A,
+    keys: &StreamKeys<A>,
+    bytes: &[u8],
+) -> Result<Vec<u8, A>, AllocError>
+    ensures { IfOk result (λ text. IsStreamAnswer keys.now.key keys.now.prefix keys.now.context.items bytes.now text.items) }
+{
+    match open_records(alloc, &keys.key, &keys.prefix, &keys.context, bytes) {
+        Ok(messages) => opened_text(alloc, &messages),
+        Err(error) => refusal_text(alloc, error),
+    }
+}
+
+// Messages, as they are printed after an opening.
+fn opened_text<A: Allocator + Copy>(
+    alloc: A,
+    messages: &[Vec<u8, A>],
+) -> Result<Vec<u8, A>, AllocError>
+    ensures { IfOk result (λ text. text.items ≡ codes "ok " ++ shown_messages (map vec_items messages.now)) }
+{
+    let mut text = Vec::from_slice(alloc, b"ok ")?;
+    let Some((first, others)) = messages.split_first() else {
+        return Ok(text);
+    };
+    push_bytes(alloc, &mut text, first)?;
+    for message in others {
+        text.push(b',')?;
+        push_bytes(alloc, &mut text, message)?;
+    }
+    Ok(text)
+}
+
+// What is printed for a stream that is refused, but for want of memory.
+fn refusal_text<A: Allocator + Copy>(alloc: A, error: RecordError) -> Result<Vec<u8, A>, AllocError>
+    ensures { IfOk result (λ text. IsRefusal error text.items) }
+{
+    match error {
+        RecordError::Header => Vec::from_slice(alloc, b"refused header"),
+        RecordError::Truncated => Vec::from_slice(alloc, b"refused truncated"),
+        RecordError::Flag => Vec::from_slice(alloc, b"refused flag"),
+        RecordError::TooLong => Vec::from_slice(alloc, b"refused too long"),
+        RecordError::Damaged(number) => {
+            let text = format!(in alloc; "refused damaged {number}")?;
+            Ok(text.into_bytes())
+        }
+        RecordError::Trailing => Vec::from_slice(alloc, b"refused trailing"),
+        RecordError::OutOfMemory => Err(AllocError),
+    }
+}

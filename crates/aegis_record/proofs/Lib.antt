@@ -1,0 +1,7 @@
+pub mod Frames
+pub mod Lengths
+pub mod Reading
+pub mod Sealed
+pub mod Slices
+pub mod Streams
+pub mod Writing

@@ -1,0 +1,25 @@
+//! Laws of record streams: functions that do nothing, whose contracts say what holds of the definitions that the other
+//! contracts cite.
+
+ghost use Rattle.std.specs.Prelude.{◌≡◌, List, length, ℕ};
+ghost use Rattle.aegis_record.specs.Fault.{IsOneFault};
+ghost use Rattle.aegis_record.specs.Records.{AreRecords, sealed};
+ghost use Rattle.aegis_record.specs.Stream.{IsOneStream, stream_length};
+ghost use Rattle.aegis_record.specs.declared.version.Version.{Version};
+
+/// Under one key, prefix and context no bytes are the streams of two lists of messages or of two versions, and no stream is a
+/// proper front of another.
+pub fn one_stream()
+    ensures { (key prefix context : List ℕ) → IsOneStream (sealed key prefix context) }
+{}
+
+/// Under one key, prefix and context bytes have at most one fault, and a stream has none.
+pub fn one_fault()
+    ensures { (key prefix context : List ℕ) → IsOneFault (sealed key prefix context) }
+{}
+
+/// A stream has 4 bytes, and for each message 37 and its length.
+pub fn stream_lengths()
+    ensures { (v : Version) (key prefix context : List ℕ) (ms : List (List ℕ)) (bytes : List ℕ)
+        → AreRecords v key prefix context ms bytes → length bytes ≡ stream_length ms }
+{}

@@ -1,0 +1,115 @@
+//! The cipher of a stream's records.
+
+ghost use Rattle.std.specs.Prelude.{◌≡◌, ◌≢◌, ◌≤◌, ◌⊎◌, ◌+◌, ◌++◌, IfErr, IfOk, List, OnOk, length, ℕ};
+ghost use Rattle.aegis_record.specs.Calls.{sealed_at};
+ghost use Rattle.aegis_record.specs.Records.{associated_data, nonce};
+ghost use Rattle.aegis_record.specs.Stream.{limit};
+
+use crate::error::RecordError;
+use crate::frame::TAG_BYTES;
+use crate::version::Version;
+use aegis_modules::aegis256::{Aegis256, Error, Key, Nonce};
+use std::alloc::Allocator;
+
+/// How many bytes the context of a stream may have.
+pub const MAX_CONTEXT_BYTES: usize = 65_535;
+
+/// What all records of a stream are sealed under.
+#[derive(Clone, Copy)]
+pub struct Sealer<'a> {
+    pub key: &'a Key,
+    pub prefix: &'a [u8; 24],
+    pub context: &'a [u8],
+}
+
+/// Where a record stands in its stream.
+#[derive(Clone, Copy)]
+pub struct Place {
+    pub version: Version,
+    /// The record's number, from 0.
+    pub number: u64,
+    /// How many bytes the messages before it have.
+    pub before: u64,
+    /// 1 for the last record, and otherwise 0.
+    pub flag: u8,
+}
+
+// The nonce of a record.
+fn nonce(prefix: &[u8; 24], number: u64) -> Nonce
+    ensures { result ≡ nonce prefix.now number }
+{
+    let mut nonce = [0; 32];
+    nonce[..24].copy_from_slice(prefix);
+    nonce[24..].copy_from_slice(&number.to_le_bytes());
+    nonce
+}
+
+impl Place {
+    /// How many bytes the associated data has at most, but for the context: a header, a number, a sum of lengths and a flag.
+    pub const DATA_BYTES: usize = 4 + 8 + 8 + 1;
+
+    // Writes the associated data of the record over what `ad` holds.
+    fn write_data<A: Allocator>(
+        self,
+        ad: &mut Vec<u8, A>,
+        context: &[u8],
+    ) -> Result<(), RecordError>
+        ensures ok { OnOk result (ad.new.items ≡ associated_data self.version self.number self.before self.flag context.now) }
+        ensures err { IfErr result (λ e. e ≡ RecordError.OutOfMemory) }
+    {
+        ad.clear();
+        ad.extend_from_slice(self.version.header())?;
+        ad.extend_from_slice(&self.number.to_le_bytes())?;
+        if let Version::Second = self.version {
+            ad.extend_from_slice(&self.before.to_le_bytes())?;
+        }
+        ad.push(self.flag)?;
+        ad.extend_from_slice(context)?;
+        Ok(())
+    }
+}
+
+impl Sealer<'_> {
+    /// Seals the message of a record where it stands, and answers the tag. `ad` holds the associated data meanwhile.
+    #[tactic(auto, unfolding(crate::specs::Records::sealed))]
+    pub fn seal<A: Allocator>(
+        &self,
+        ad: &mut Vec<u8, A>,
+        place: Place,
+        message: &mut [u8],
+    ) -> Result<[u8; 32], RecordError>
+        requires context { length self.now.context.now ≤ MAX_CONTEXT_BYTES }
+        requires within { length message.old ≤ limit place.version }
+        ensures ok { IfOk result (λ tag. message.new ++ tag ≡ sealed_at self.now place message.old) }
+        ensures err { IfErr result (λ e. e ≡ RecordError.OutOfMemory) }
+    {
+        place.write_data(ad, self.context)?;
+        let cipher = Aegis256::<TAG_BYTES>::new(self.key, &nonce(self.prefix, place.number));
+        Ok(cipher.encrypt_in_place(message, ad))
+    }
+
+    /// The message that is sealed to the bytes of a record, ciphertext and tag, in a fresh vector.
+    pub fn open<A: Allocator>(
+        &self,
+        alloc: A,
+        ad: &mut Vec<u8, A>,
+        place: Place,
+        sealed: &[u8],
+    ) -> Result<Vec<u8, A>, RecordError>
+        requires context { length self.now.context.now ≤ MAX_CONTEXT_BYTES }
+        requires long { 32 ≤ length sealed.now }
+        requires within { length sealed.now ≤ limit place.version + 32 }
+        ensures opened { IfOk result (λ m. sealed_at self.now place m.items ≡ sealed.now) }
+        ensures refused { IfErr result (λ e. (e ≡ RecordError.OutOfMemory)
+            ⊎ (((m : List ℕ) → sealed_at self.now place m ≢ sealed.now) × (e ≡ RecordError.Damaged place.number))) }
+    {
+        let (ciphertext, tag) = sealed.split_last_chunk::<TAG_BYTES>().unwrap();
+        place.write_data(ad, self.context)?;
+        let cipher = Aegis256::<TAG_BYTES>::new(self.key, &nonce(self.prefix, place.number));
+        match cipher.decrypt(alloc, ciphertext, tag, ad) {
+            Ok(message) => Ok(message),
+            Err(Error::InvalidTag) => Err(RecordError::Damaged(place.number)),
+            Err(_) => Err(RecordError::OutOfMemory),
+        }
+    }
+}

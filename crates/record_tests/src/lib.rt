@@ -1,0 +1,5 @@
+//! Tests of record streams: what no contract says.
+#![tactic(auto)]
+
+#[cfg(test)]
+mod tests;
