@@ -3,8 +3,12 @@
 #![tactic(auto)]
 
 pub mod chunks;
+pub mod encrypted_file;
 pub mod headline;
 pub mod opening;
+pub mod record_protocol;
+pub mod session_token;
+pub mod stored_value;
 
 ghost use Rattle.std.specs.Prelude.{◌≡◌, ◌≤◌, IfOk, IsOk, List, OnErr, OnOk, length, replicate, ℕ};
 ghost use Rattle.aegis_base.specs.Family.{Aegis128, Aegis256};

@@ -1,8 +1,9 @@
 -- What the program writes, and the status that it ends with.
-use Rattle.std.specs.Prelude.{◌≡◌, ℕ, Bool, ◌||◌, ◌==◌, List, [], ◌∷◌, ◌++◌, Option, codes, flat_map, if◌then◌else◌}
+use Rattle.std.specs.Prelude.{◌≡◌, ℕ, Bool, true, ◌||◌, ◌==◌, List, [], ◌∷◌, ◌++◌, Option, Some, codes, flat_map, if◌then◌else◌}
 use Rattle.std.specs.List.{list_any, starts_with}
-use Rattle.std.specs.Io.KnownBytes.{Appends}
+use Rattle.std.specs.Io.KnownBytes.{Appends, Consumes, IsAtEnd}
 use Rattle.aegis_lines.specs.Answer.{IsAnswer}
+use Rattle.aegis_lines.specs.Lines.{lines_of}
 
 -- each text answers its line, in order
 abbrev pub AreAnswers : List (List ℕ) → List (List ℕ) → Type 0
@@ -46,6 +47,15 @@ pub record AnswersSome (lines : List (List ℕ)) (old new : Option (List ℕ)) :
   pub answers : AreAnswers first texts
   pub begins : output_of texts ≡ begun ++ missing
   pub written : Appends old new begun
+
+-- Of a reader's bytes all were read but those that are left. What was written, from old to new, is a beginning of what
+-- answers the first of the lines read; a line that no line feed ended is one of them only where the reader was at its end.
+pub record AnswersRead (bytes : List ℕ) (left old new : Option (List ℕ)) : Type 0 where
+  pub read : List ℕ
+  pub ends : Bool
+  pub split : Consumes (Some bytes) left read
+  pub at_end : ends ≡ true → IsAtEnd left
+  pub written : AnswersSome (lines_of ends read) old new
 
 -- Of the lines `before` all but the lines `after` were answered: what was written, from old to new, and whether an
 -- answer began with `error `, from saw to sees.

@@ -3,8 +3,8 @@
 use crate::limited::Limited;
 use crate::pieces::Pieces;
 use crate::tag::Tag;
-use aegis_variants::{Cipher, TagLength};
 use aegis::aes::AesBlock;
+use aegis_variants::{Cipher, TagLength};
 use std::alloc::Allocator;
 
 /// A command, with what its fields stand for.

@@ -1,10 +1,10 @@
 //! The whole program, over a reader and a writer.
 
-ghost use Rattle.std.specs.Prelude.{◌≡◌, ◌≤◌, ℕ, List, [], ◌∷◌, ◌++◌, false, IfOk, IfSome, OnErr, OnOk};
+ghost use Rattle.std.specs.Prelude.{◌≡◌, ◌≤◌, ℕ, Bool, List, [], ◌∷◌, ◌++◌, true, false, IfOk, IfSome, OnErr, OnOk};
 ghost use Rattle.std.specs.Io.BufRead.{strip_last};
 ghost use Rattle.std.specs.Io.KnownBytes.{IsAtEnd};
 ghost use Rattle.aegis_lines.specs.Lines.{lines, lines_after};
-ghost use Rattle.aegis_lines.specs.Output.{Answers, AnswersAll, AnswersSome};
+ghost use Rattle.aegis_lines.specs.Output.{Answers, AnswersAll, AnswersRead, AnswersSome};
 
 use crate::answer::answer_line;
 use crate::output::write_whole;
@@ -33,9 +33,9 @@ pub fn run<R: Read, W: Write, A: Allocator + Copy>(alloc: A, input: &mut R, outp
     ensures answered { result ≤ 1 → IfSome (R.remaining input.old)
         (λ bytes. AnswersAll (lines bytes) (W.contents output.old) (W.contents output.new) result) }
 
-    // With the status 2 the output is a beginning of the answers.
+    // With the status 2 the output is a beginning of the answers of the lines that were read.
     ensures failed { result ≡ 2 → IfSome (R.remaining input.old)
-        (λ bytes. AnswersSome (lines bytes) (W.contents output.old) (W.contents output.new)) }
+        (λ bytes. AnswersRead bytes (R.remaining input.new) (W.contents output.old) (W.contents output.new)) }
 {
     match answer_all(alloc, input, output) {
         Ok(false) => UNDERSTOOD,
@@ -54,7 +54,7 @@ fn answer_all<R: Read, W: Write, A: Allocator + Copy>(
     ensures ok { IfOk result (λ saw_error. IfSome (R.remaining input.old)
         (λ bytes. Answers (lines bytes) [] false saw_error (W.contents output.old) (W.contents output.new))) }
     ensures err { OnErr result (IfSome (R.remaining input.old)
-        (λ bytes. AnswersSome (lines bytes) (W.contents output.old) (W.contents output.new))) }
+        (λ bytes. AnswersRead bytes (R.remaining input.new) (W.contents output.old) (W.contents output.new))) }
 {
     let mut chunk = [0u8; CHUNK];
     let mut session = Session::new(alloc);
@@ -94,11 +94,11 @@ impl<A: Allocator + Copy> Session<A> {
 
     // Answers the lines that the bytes end.
     fn take<W: Write>(&mut self, bytes: &[u8], output: &mut W) -> io::Result<()>
-        ensures ok { OnOk result ((more : List ℕ) → Answers
-            (lines_after self.old.line.items (bytes.now ++ more)) (lines_after self.new.line.items more)
+        ensures ok { OnOk result ((ends : Bool) (more : List ℕ) → Answers
+            (lines_after ends self.old.line.items (bytes.now ++ more)) (lines_after ends self.new.line.items more)
             self.old.saw_error self.new.saw_error (W.contents output.old) (W.contents output.new)) }
-        ensures err { OnErr result ((more : List ℕ) → AnswersSome
-            (lines_after self.old.line.items (bytes.now ++ more)) (W.contents output.old) (W.contents output.new)) }
+        ensures err { OnErr result ((ends : Bool) (more : List ℕ) → AnswersSome
+            (lines_after ends self.old.line.items (bytes.now ++ more)) (W.contents output.old) (W.contents output.new)) }
     {
         for byte in bytes {
             self.take_byte(*byte, output)?;
@@ -107,11 +107,11 @@ impl<A: Allocator + Copy> Session<A> {
     }
 
     fn take_byte<W: Write>(&mut self, byte: u8, output: &mut W) -> io::Result<()>
-        ensures ok { OnOk result ((more : List ℕ) → Answers
-            (lines_after self.old.line.items (byte ∷ more)) (lines_after self.new.line.items more)
+        ensures ok { OnOk result ((ends : Bool) (more : List ℕ) → Answers
+            (lines_after ends self.old.line.items (byte ∷ more)) (lines_after ends self.new.line.items more)
             self.old.saw_error self.new.saw_error (W.contents output.old) (W.contents output.new)) }
-        ensures err { OnErr result ((more : List ℕ) → AnswersSome
-            (lines_after self.old.line.items (byte ∷ more)) (W.contents output.old) (W.contents output.new)) }
+        ensures err { OnErr result ((ends : Bool) (more : List ℕ) → AnswersSome
+            (lines_after ends self.old.line.items (byte ∷ more)) (W.contents output.old) (W.contents output.new)) }
     {
         if byte == b'\n' {
             self.answer(output)
@@ -123,10 +123,10 @@ impl<A: Allocator + Copy> Session<A> {
 
     // Answers the last line, where no line feed ends it.
     fn end<W: Write>(&mut self, output: &mut W) -> io::Result<()>
-        ensures ok { OnOk result (Answers (lines_after self.old.line.items []) []
+        ensures ok { OnOk result (Answers (lines_after true self.old.line.items []) []
             self.old.saw_error self.new.saw_error (W.contents output.old) (W.contents output.new)) }
         ensures err { OnErr result (AnswersSome
-            (lines_after self.old.line.items []) (W.contents output.old) (W.contents output.new)) }
+            (lines_after true self.old.line.items []) (W.contents output.old) (W.contents output.new)) }
     {
         if self.line.is_empty() {
             return Ok(());

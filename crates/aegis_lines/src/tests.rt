@@ -43,6 +43,8 @@ fn faults(rt: HostRuntime) -> Result<(), Fail> {
         ("seal aegis512 24 x x x", "error fields"),
         ("stream aegis512 x x", "error fields"),
         ("seal aegis512 24 x x x x", "error variant"),
+        ("seal Aegis128L 16 x x - -", "error variant"),
+        ("seal aegis128l 016 x x - -", "error tag"),
         ("xor Aegis128L x x x", "error variant"),
         ("open aegis128 16 x x x x x", "error variant"),
         ("seal aegis128l 24 x x x x", "error tag"),

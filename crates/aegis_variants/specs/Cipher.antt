@@ -1,5 +1,5 @@
 -- What a cipher of a variant stands for, and what it gives.
-use Rattle.std.specs.Prelude.{◌≡◌, ℕ, ◌&&◌, ◌==◌, List, Option, Some, None, length, if◌then◌else◌, option_map}
+use Rattle.std.specs.Prelude.{◌≡◌, ℕ, ◌&&◌, ◌==◌, List, Option, Some, None, length, false}
 use Rattle.aegis_base.specs.Mac.{mac}
 use Rattle.aegis_base.specs.Message.{seal, stream, xor_stream}
 use Rattle.aegis_variants.specs.declared.variant.Variant.{Variant}

@@ -137,8 +137,8 @@ impl Cipher {
     /// The cipher of a variant, by the keys of its family.
     pub fn with_keys(variant: Variant, short: Keys<16>, long: Keys<32>) -> Cipher
         ensures variant { variant_of result ≡ variant }
-        ensures short { family_of variant ≡ Aegis128 → (key_of result, nonce_of result) ≡ (short.key, short.nonce) }
-        ensures long { family_of variant ≡ Aegis256 → (key_of result, nonce_of result) ≡ (long.key, long.nonce) }
+        ensures short { family_of variant ≡ Aegis128 → (key_of result ≡ short.key) × (nonce_of result ≡ short.nonce) }
+        ensures long { family_of variant ≡ Aegis256 → (key_of result ≡ long.key) × (nonce_of result ≡ long.nonce) }
     {
         match variant {
             Variant::Aegis128L => Cipher::Aegis128L(short),

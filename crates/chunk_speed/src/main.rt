@@ -6,10 +6,10 @@
 
 mod chunks;
 
+use aegis_variants::{Cipher, Keys, VARIANTS};
 use std::rt::Runtime;
 use std::time::{Duration, Instant};
 use std::{env, io};
-use aegis_variants::{Cipher, Keys, VARIANTS};
 
 const MESSAGE_BYTES: usize = 1 << 20;
 

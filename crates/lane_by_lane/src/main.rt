@@ -9,11 +9,11 @@ mod mac;
 mod round;
 mod slow;
 
+use aegis_variants::{TAG_LENGTHS, VARIANTS};
 use compare::compare;
 use round::SubstitutionTable;
 use std::io;
 use std::process::ExitCode;
-use aegis_variants::{TAG_LENGTHS, VARIANTS};
 
 fn main(rt: HostRuntime) -> io::Result<ExitCode> {
     let table = SubstitutionTable::new();

@@ -11,6 +11,11 @@ const ROUND: &str = "round 00000000000000000000000000000000 00000000000000000000
 
 const ROUND_ANSWER: &str = "63636363636363636363636363636363\n";
 
+const STREAM: &str =
+    "stream aegis128l 59454c4c4f57205355424d4152494e45 00000000000000000000000000000000 0";
+
+const STREAM_ANSWER: &str = "-\n";
+
 /// Gives its bytes, and then an error in place of the end.
 #[derive(Drop)]
 struct CutOff<'a> {
@@ -66,6 +71,7 @@ impl Write for Narrow {
 fn answers_each_line(rt: HostRuntime) -> Result<(), Fail> {
     let cases = [
         ("", 0),
+        ("\n", 1),
         ("a\n", 1),
         ("a\nb\n", 2),
         ("a\r\nb\r\n", 2),
@@ -98,6 +104,7 @@ fn takes_line_ends_off(rt: HostRuntime) -> Result<(), Fail> {
         ("", " \n", "error fields\n", 1),
         (" ", "\n", ANSWER, 1),
         ("\r", "\n", ANSWER, 1),
+        (" ", " \n", ANSWER, 1),
     ];
     for (before, after, wanted, wanted_status) in cases {
         let input = format!(in rt.alloc(); "{before}{ROUND}{after}")?;
@@ -133,50 +140,80 @@ fn answers_a_thousand_lines(rt: HostRuntime) -> Result<(), Fail> {
     Ok(())
 }
 
+// Three lines, and what answers them.
+fn three_lines<R: AllocGlobal>(rt: &R) -> Result<(String, String), Fail> {
+    let input = format!(in rt.alloc(); "{ROUND}\n{STREAM}\r\n{ROUND}\n")?;
+    let wanted = format!(in rt.alloc(); "{ROUND_ANSWER}{STREAM_ANSWER}{ROUND_ANSWER}")?;
+    Ok((input, wanted))
+}
+
+// The answers of the lines that are read, and none of a line that is cut off.
 #[test]
-fn stops_at_a_failed_read(rt: HostRuntime) -> Result<(), Fail> {
-    let wanted = format!(in rt.alloc(); "{ANSWER}{ANSWER}")?;
-    for error in [ErrorKind::Other, ErrorKind::Interrupted] {
-        let mut input = CutOff {
-            left: b"a\nb\ncut off",
-            error,
-        };
-        let mut output = Vec::new(rt.alloc());
-        let status = run(rt.alloc(), &mut input, &mut output);
-        assert_eq!(rt; status, 2);
-        assert_eq!(rt; output.as_slice(), wanted.as_bytes());
+fn stops_where_a_read_fails(rt: HostRuntime) -> Result<(), Fail> {
+    let (input, wanted) = three_lines(&rt)?;
+    let input = input.as_bytes();
+    for count in 0..input.len() {
+        let read = &input[..count];
+        let ended = read.iter().filter(|byte| **byte == b'\n').count();
+        let answers = wanted.as_bytes().split(|byte| *byte == b'\n').take(ended);
+        let mut expected = Vec::new(rt.alloc());
+        for answer in answers {
+            expected.extend_from_slice(answer)?;
+            expected.push(b'\n')?;
+        }
+        for error in [ErrorKind::Other, ErrorKind::Interrupted] {
+            let mut reader = CutOff { left: read, error };
+            let mut output = Vec::new(rt.alloc());
+            let status = run(rt.alloc(), &mut reader, &mut output);
+            assert_eq!(rt; status, 2, "after {count} bytes");
+            assert_eq!(rt;
+                output.as_slice(),
+                expected.as_slice(),
+                "after {count} bytes"
+            );
+        }
     }
     Ok(())
 }
 
+// A writer that has room for some bytes, and then fails or takes none, holds just these.
+#[test]
+fn stops_where_a_write_fails(rt: HostRuntime) -> Result<(), Fail> {
+    let (input, wanted) = three_lines(&rt)?;
+    for room in 0..wanted.len() {
+        for error in [None, Some(ErrorKind::Other), Some(ErrorKind::Interrupted)] {
+            let mut output = Narrow {
+                taken: Vec::new(rt.alloc()),
+                room,
+                error,
+                flushes: true,
+            };
+            let status = run(rt.alloc(), &mut input.as_bytes(), &mut output);
+            assert_eq!(rt; status, 2, "with room {room}");
+            assert_eq!(rt; output.taken.len(), room, "with room {room}");
+            assert!(rt;
+                wanted.as_bytes().starts_with(&output.taken),
+                "with room {room}"
+            );
+        }
+    }
+    Ok(())
+}
+
+// A writer that takes a byte at a time gets the whole output, also where its flush then fails.
 #[test]
 fn writes_a_byte_at_a_time(rt: HostRuntime) -> Result<(), Fail> {
-    let wanted = format!(in rt.alloc(); "{ANSWER}{ANSWER}")?;
-    let whole = wanted.len();
-    let cases = [
-        (1000, None, true, 1, whole),
-        (1000, None, false, 2, whole),
-        (whole, None, true, 1, whole),
-        (17, None, true, 2, 17),
-        (0, None, true, 2, 0),
-        (17, Some(ErrorKind::Other), true, 2, 17),
-        (17, Some(ErrorKind::Interrupted), true, 2, 17),
-    ];
-    for (room, error, flushes, wanted_status, written) in cases {
-        let taken = Vec::new(rt.alloc());
+    let (input, wanted) = three_lines(&rt)?;
+    for (flushes, expected) in [(true, 0), (false, 2)] {
         let mut output = Narrow {
-            taken,
-            room,
-            error,
+            taken: Vec::new(rt.alloc()),
+            room: wanted.len(),
+            error: None,
             flushes,
         };
-        let status = run(rt.alloc(), &mut "a\nb\n".as_bytes(), &mut output);
-        assert_eq!(rt; status, wanted_status, "with room {room}");
-        assert_eq!(rt; output.taken.len(), written, "with room {room}");
-        assert!(rt;
-            wanted.as_bytes().starts_with(output.taken.as_slice()),
-            "with room {room}"
-        );
+        let status = run(rt.alloc(), &mut input.as_bytes(), &mut output);
+        assert_eq!(rt; status, expected);
+        assert_eq!(rt; output.taken.as_slice(), wanted.as_bytes());
     }
     Ok(())
 }

@@ -1,5 +1,6 @@
 -- What was read, and what was written, after one more chunk, at the end of the input, and where a read failed.
 use Rattle.std.proofs.Common.{◌<◌, length, rules}
+use Rattle.std.proofs.KnownBytes.{Keeps-refl}
 use Rattle.std.proofs.lemmas.Result.{err_from_is_err_and}
 use Rattle.aegis_lines.proofs.OutputFacts.{all_beginning}
 use Rattle.aegis_lines.proofs.Reading.{Reads-begin, Reads-more, Reads-end, Reads-fail, Reads-stop, Reads-stop_at_end}
@@ -11,7 +12,7 @@ reads-init g c = Reads-begin _ _ _ _ c.new-session.ensures.line c.new-session.en
 pub returns-in_err-count-clause-err : goal.returns-in_err-count-clause-err
 returns-in_err-count-clause-err g c =
     let p = err_from_is_err_and c.from_residual.result c.from_residual.ensures.1 in
-    rw p.1 (Reads-fail _ _ _ _ _ _ c.reads.invariant)
+    rw p.1 (Reads-fail _ _ _ _ _ _ _ c.reads.invariant c.in_err-count.ensures.bytes)
 
 pub returns-in_err-end-clause-err : goal.returns-in_err-end-clause-err
 returns-in_err-end-clause-err g c =
@@ -46,4 +47,4 @@ pub reads-preserved : goal.reads-preserved
 reads-preserved g c = Reads-more _ _ _ _ _ _ _ _ _ _ _ c.reads.invariant c.in_ok-count.ensures.bytes.0 c.in_ok-take.ensures.ok
 
 pub returns-clause-err : goal.returns-clause-err
-returns-clause-err g c = Reads-fail _ _ _ _ _ _ c.reads.invariant
+returns-clause-err g c = Reads-fail _ _ _ _ _ _ _ c.reads.invariant (Keeps-refl _)

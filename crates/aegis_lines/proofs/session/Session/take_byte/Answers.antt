@@ -8,7 +8,7 @@ use Rattle.aegis_lines.proofs.session.Session.take_byte.Goals as goal
 pub returns-in_err-push-clause-err : goal.returns-in_err-push-clause-err
 returns-in_err-push-clause-err g c =
     let p = err_from_is_err_and c.from_residual.result c.from_residual.ensures.1 in
-    rw p.1 (λ more. no_beginning _ _ _ (Appends-nil _))
+    rw p.1 (λ ends more. no_beginning _ _ _ (Appends-nil _))
 
 pub returns-then-byte-eq10-clause-ok : goal.returns-then-byte-eq10-clause-ok
 returns-then-byte-eq10-clause-ok g c =
@@ -24,4 +24,4 @@ returns-then-byte-eq10-clause-err g c =
     on_err_weaker _ (ended_line_fails c.args.self.now.line.items c.args.byte (contents c.args.output.now) (contents c.answer.new.output) c.if-byte-eq10.true) c.answer.ensures.err
 
 pub returns-in_ok-push-clause-ok : goal.returns-in_ok-push-clause-ok
-returns-in_ok-push-clause-ok g c = λ more. longer_line _ _ more _ _ _ c.if-byte-eq10.false c.in_ok-push.ensures.items
+returns-in_ok-push-clause-ok g c = λ ends more. longer_line ends _ _ more _ _ _ c.if-byte-eq10.false c.in_ok-push.ensures.items
