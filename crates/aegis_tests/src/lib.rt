@@ -1,6 +1,5 @@
-//! Tests of the ciphers of the crate `aegis`, and the allocators that they need.
+//! Tests of the ciphers of the crate `aegis`.
 #![tactic(auto)]
 
-pub mod memory;
 #[cfg(test)]
 mod tests;

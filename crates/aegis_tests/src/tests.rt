@@ -1,10 +1,8 @@
 //! Worked examples of what the contracts say, and tests of what no contract says.
 
-mod calls;
 mod examples;
 mod keystreams;
 mod lanes;
 mod lines;
 mod openings;
-mod reservations;
 mod texts;

@@ -100,14 +100,16 @@ fn xor_at(bytes: &mut [u8], at: usize, block: &Block)
 
 pub fn keys(variant: Variant) -> Keys {
     match variant {
-        Variant::Aegis128L | Variant::Aegis128X2 | Variant::Aegis128X4 => Keys::Aegis128 {
-            key: SHORT_KEYS.key,
-            nonce: SHORT_KEYS.nonce,
-        },
-        Variant::Aegis256 | Variant::Aegis256X2 | Variant::Aegis256X4 => Keys::Aegis256 {
-            key: LONG_KEYS.key,
-            nonce: LONG_KEYS.nonce,
-        },
+        Variant::Aegis128L | Variant::Aegis128X2 | Variant::Aegis128X4 => {
+            let key = SHORT_KEYS.key;
+            let nonce = SHORT_KEYS.nonce;
+            Keys::Aegis128 { key, nonce }
+        }
+        Variant::Aegis256 | Variant::Aegis256X2 | Variant::Aegis256X4 => {
+            let key = LONG_KEYS.key;
+            let nonce = LONG_KEYS.nonce;
+            Keys::Aegis256 { key, nonce }
+        }
     }
 }
 

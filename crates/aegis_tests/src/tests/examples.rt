@@ -1,30 +1,13 @@
 //! Worked examples, whose ciphertexts and tags were not made by the library.
 
+use test_tools::calls::{LONG_KEY, SHORT_KEY};
+use test_tools::worked::{AEGIS128L_CIPHERTEXT, AEGIS128L_TAG, AEGIS256_CIPHERTEXT, AEGIS256_TAG, ASSOCIATED_DATA, MESSAGE};
 use aegis::Error;
 use aegis::aegis128l::Aegis128L;
 use aegis::aegis256::Aegis256;
 use hex::FromHex;
 use std::process::Abort;
 use std::test::Fail;
-
-const MESSAGE: [u8; 114] =
-    *b"Ladies and Gentlemen of the class of '99: If I could offer you only one tip for the future, sunscreen would be it.";
-
-const ASSOCIATED_DATA: [u8; 17] = *b"Comment numero un";
-
-const SHORT_KEY: [u8; 16] = *b"YELLOW SUBMARINE";
-
-const LONG_KEY: [u8; 32] = *b"YELLOW SUBMARINEyellow submarine";
-
-const AEGIS128L_CIPHERTEXT: &str =
-    "899362861e6c645ab98b6effa9c962e88a9fa647a95060cd026d1665478ae74f82949faf8394a6c8b49f8b8a5068bc325935cc6f0cd4c48f6219817684735f0de8a70d3b138f3a3b2aceee8b02fbc2deb93b8f74e7afe943e50bdb7fa0d759d96d594ce16676455efc0245cdfb419fb10365";
-
-const AEGIS128L_TAG: &str = "10f485a74c28388806eb3d8bfc073996";
-
-const AEGIS256_CIPHERTEXT: &str =
-    "3e5a155af5b611d637667c0c8c054ee94f860a1d6769e9c5ee31dd6d2cf52a652bccfafb096f0406be6aeebe50640ccba81bfaf0de329bfaf74c1ae9e41211bb34e59f420c3e78ff2a5a0e32f394c56bc29fba5f45785563d4c18e434ac222c409879476d7272c4792f1f748323c10349ce2";
-
-const AEGIS256_TAG: &str = "59c6e5d51fdf2bc7c147043fc97281b0";
 
 fn aegis128l() -> Aegis128L<16> {
     Aegis128L::new(&SHORT_KEY, &[0; 16])

@@ -2,7 +2,7 @@
 
 ghost use Rattle.std.specs.Prelude.{◌≡◌, ◌⊎◌};
 
-use crate::tests::calls;
+use test_tools::calls;
 use aegis_variants::{VARIANTS, Variant};
 use std::process::Abort;
 use std::test::Fail;
@@ -17,20 +17,21 @@ fn check_keystream<R: Abort + AllocGlobal, const TAG_BYTES: usize>(
 ) -> Result<(), Fail>
     requires { (TAG_BYTES ≡ 16) ⊎ (TAG_BYTES ≡ 32) }
 {
+    let cipher = calls::keyed(variant);
     let mut stream = [0xa5; 515];
-    calls::stream::<TAG_BYTES>(variant, &mut stream);
+    calls::stream::<TAG_BYTES>(&cipher, &mut stream);
     let mut sealed = [0; 515];
-    calls::encrypt_in_place::<TAG_BYTES>(variant, &mut sealed, &[]);
+    calls::encrypt_in_place::<TAG_BYTES>(&cipher, &mut sealed, &[]);
     assert_eq!(rt; stream.as_slice(), sealed.as_slice(), "{variant:?}");
 
     let mut buffer = MESSAGE;
-    calls::stream_xor_in_place::<TAG_BYTES>(variant, &mut buffer);
+    calls::stream_xor_in_place::<TAG_BYTES>(&cipher, &mut buffer);
     for i in 0..13usize {
         assert_eq!(rt; buffer[i], MESSAGE[i] ^ stream[i], "{variant:?} at {i}");
     }
-    let xored = calls::stream_xor::<_, TAG_BYTES>(variant, rt.alloc(), &MESSAGE)?;
+    let xored = calls::stream_xor::<_, TAG_BYTES>(&cipher, rt.alloc(), &MESSAGE)?;
     assert_eq!(rt; xored.as_slice(), buffer.as_slice(), "{variant:?}");
-    calls::stream_xor_in_place::<TAG_BYTES>(variant, &mut buffer);
+    calls::stream_xor_in_place::<TAG_BYTES>(&cipher, &mut buffer);
     assert_eq!(rt; buffer, MESSAGE, "{variant:?}");
     Ok(())
 }

@@ -1,6 +1,6 @@
 //! Lanes that do not see one another, and ciphers of several lanes, which are copied.
 
-use crate::tests::calls::{LONG_KEY, LONG_NONCE, SHORT_KEY, SHORT_NONCE};
+use test_tools::calls::{LONG_KEY, LONG_NONCE, SHORT_KEY, SHORT_NONCE};
 use aegis::aegis128x2::Aegis128X2;
 use aegis::aegis128x4::Aegis128X4;
 use aegis::aegis256x2::Aegis256X2;

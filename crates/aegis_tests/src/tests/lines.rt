@@ -1,6 +1,6 @@
 //! Want of memory in the line program: each of its allocations refused in turn.
 
-use crate::memory::Rationed;
+use test_tools::memory::Rationed;
 use aegis::Error;
 use aegis_lines::{answer_line, run};
 use std::test::Fail;

@@ -1,6 +1,6 @@
 //! Printed texts.
 
-use crate::tests::calls::{LONG_KEY, LONG_NONCE, SHORT_KEY, SHORT_NONCE};
+use test_tools::calls::{LONG_KEY, LONG_NONCE, SHORT_KEY, SHORT_NONCE};
 use aegis::Error;
 use aegis::aegis128l::Aegis128L;
 use aegis::aegis128x2::Aegis128X2;

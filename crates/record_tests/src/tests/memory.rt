@@ -2,7 +2,7 @@
 
 use crate::tests::streams::{CONTEXT, KEY, MESSAGES, PREFIX, STREAM};
 use aegis::record::{RecordError, open_records, seal_records};
-use aegis_tests::memory::Rationed;
+use test_tools::memory::Rationed;
 use std::test::Fail;
 
 // More requests than the calls below make.

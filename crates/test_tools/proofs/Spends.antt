@@ -17,7 +17,7 @@ use denote.Steps.{nothing, only}
 use denote.Triple.Statement.{Contract}
 use denote.Triple.Spec.{triple_of}
 use Rattle.std.specs.contracts.cell.Cell as CE
-use Rattle.aegis_tests.specs.contracts.memory.is_spent as IS
+use Rattle.test_tools.specs.contracts.memory.is_spent as IS
 
 abbrev Left : RattleType
 Left = CE.the_row u64

@@ -38,11 +38,11 @@ use denote.RawPtr.{Ptr, block_ptr, null_ptr, ptr_val, rawptr_vals, rawptr_Tells}
 use denote.Builtin.{usize, RawPtr, RefOf}
 use denote.Triple.Call.{calls_at}
 use Rattle.std.proofs.alloc.Calls.{Al, α, seen, token, gives_key, Gives, at_gives, Gives-goes, Gives-Gives}
-use Rattle.aegis_tests.specs.contracts.memory.Rationed as wrapper
-use Rattle.aegis_tests.specs.contracts.memory.RationedAllocator.deallocate as F
-use Rattle.aegis_tests.specs.contracts.memory.RationedAllocator.deallocate.Key as key
-use Rattle.aegis_tests.proofs.memory.RationedAllocator.deallocate.Statement as stated
-use Rattle.aegis_tests.proofs.memory.RationedAllocator.deallocate.Code as code
+use Rattle.test_tools.specs.contracts.memory.Rationed as wrapper
+use Rattle.test_tools.specs.contracts.memory.RationedAllocator.deallocate as F
+use Rattle.test_tools.specs.contracts.memory.RationedAllocator.deallocate.Key as key
+use Rattle.test_tools.proofs.memory.RationedAllocator.deallocate.Statement as stated
+use Rattle.test_tools.proofs.memory.RationedAllocator.deallocate.Code as code
 
 module _ (Z : Al) where
   abbrev args : Args

@@ -1,4 +1,4 @@
-//! The calls of the six variants, under a key and a nonce for each family.
+//! The one-shot calls of a cipher, whichever its variant, and a key and a nonce for each family.
 
 ghost use Rattle.std.specs.Prelude.{◌≡◌, ◌⊎◌, ◌≤◌, length};
 
@@ -6,15 +6,20 @@ use aegis::{Error, MAX_AEAD_BYTES};
 use aegis_variants::{Cipher, Keys, Variant, with_cipher};
 use std::alloc::Allocator;
 
+/// What the AEGIS-128 ciphers are keyed with.
 pub const SHORT_KEY: [u8; 16] = *b"YELLOW SUBMARINE";
 
+/// Their nonce.
 pub const SHORT_NONCE: [u8; 16] = *b"used only once..";
 
+/// What the AEGIS-256 ciphers are keyed with.
 pub const LONG_KEY: [u8; 32] = *b"YELLOW SUBMARINEyellow submarine";
 
+/// Their nonce.
 pub const LONG_NONCE: [u8; 32] = *b"a longer nonce, used only once..";
 
-fn keyed(variant: Variant) -> Cipher {
+/// The cipher of a variant, under the key and the nonce of its family.
+pub fn keyed(variant: Variant) -> Cipher {
     let short = Keys {
         key: SHORT_KEY,
         nonce: SHORT_NONCE,
@@ -26,8 +31,9 @@ fn keyed(variant: Variant) -> Cipher {
     Cipher::with_keys(variant, short, long)
 }
 
+/// Seals a message in place and returns the tag.
 pub fn encrypt_in_place<const TAG_BYTES: usize>(
-    variant: Variant,
+    cipher: &Cipher,
     mc: &mut [u8],
     ad: &[u8],
 ) -> [u8; TAG_BYTES]
@@ -35,11 +41,12 @@ pub fn encrypt_in_place<const TAG_BYTES: usize>(
     requires message { length mc.old ≤ MAX_AEAD_BYTES }
     requires ad { length ad.now ≤ MAX_AEAD_BYTES }
 {
-    with_cipher!(keyed(variant), TAG_BYTES, cipher => cipher.encrypt_in_place(mc, ad))
+    with_cipher!(cipher, TAG_BYTES, cipher => cipher.encrypt_in_place(mc, ad))
 }
 
+/// Opens a ciphertext in place.
 pub fn decrypt_in_place<const TAG_BYTES: usize>(
-    variant: Variant,
+    cipher: &Cipher,
     mc: &mut [u8],
     tag: &[u8; TAG_BYTES],
     ad: &[u8],
@@ -48,11 +55,12 @@ pub fn decrypt_in_place<const TAG_BYTES: usize>(
     requires message { length mc.old ≤ MAX_AEAD_BYTES }
     requires ad { length ad.now ≤ MAX_AEAD_BYTES }
 {
-    with_cipher!(keyed(variant), TAG_BYTES, cipher => cipher.decrypt_in_place(mc, tag, ad))
+    with_cipher!(cipher, TAG_BYTES, cipher => cipher.decrypt_in_place(mc, tag, ad))
 }
 
+/// Seals a message into a fresh vector.
 pub fn encrypt<A: Allocator, const TAG_BYTES: usize>(
-    variant: Variant,
+    cipher: &Cipher,
     alloc: A,
     m: &[u8],
     ad: &[u8],
@@ -61,11 +69,12 @@ pub fn encrypt<A: Allocator, const TAG_BYTES: usize>(
     requires message { length m.now ≤ MAX_AEAD_BYTES }
     requires ad { length ad.now ≤ MAX_AEAD_BYTES }
 {
-    with_cipher!(keyed(variant), TAG_BYTES, cipher => cipher.encrypt(alloc, m, ad))
+    with_cipher!(cipher, TAG_BYTES, cipher => cipher.encrypt(alloc, m, ad))
 }
 
+/// Opens a ciphertext into a fresh vector.
 pub fn decrypt<A: Allocator, const TAG_BYTES: usize>(
-    variant: Variant,
+    cipher: &Cipher,
     alloc: A,
     c: &[u8],
     tag: &[u8; TAG_BYTES],
@@ -75,27 +84,41 @@ pub fn decrypt<A: Allocator, const TAG_BYTES: usize>(
     requires message { length c.now ≤ MAX_AEAD_BYTES }
     requires ad { length ad.now ≤ MAX_AEAD_BYTES }
 {
-    with_cipher!(keyed(variant), TAG_BYTES, cipher => cipher.decrypt(alloc, c, tag, ad))
+    with_cipher!(cipher, TAG_BYTES, cipher => cipher.decrypt(alloc, c, tag, ad))
 }
 
-pub fn stream<const TAG_BYTES: usize>(variant: Variant, out: &mut [u8])
+/// Writes the keystream over a buffer.
+pub fn stream<const TAG_BYTES: usize>(cipher: &Cipher, out: &mut [u8])
     requires { (TAG_BYTES ≡ 16) ⊎ (TAG_BYTES ≡ 32) }
 {
-    with_cipher!(keyed(variant), TAG_BYTES, cipher => cipher.stream(out))
+    with_cipher!(cipher, TAG_BYTES, cipher => cipher.stream(out))
 }
 
-pub fn stream_xor_in_place<const TAG_BYTES: usize>(variant: Variant, mc: &mut [u8])
+/// Xors a buffer with the keystream.
+pub fn stream_xor_in_place<const TAG_BYTES: usize>(cipher: &Cipher, mc: &mut [u8])
     requires { (TAG_BYTES ≡ 16) ⊎ (TAG_BYTES ≡ 32) }
 {
-    with_cipher!(keyed(variant), TAG_BYTES, cipher => cipher.stream_xor_in_place(mc))
+    with_cipher!(cipher, TAG_BYTES, cipher => cipher.stream_xor_in_place(mc))
 }
 
+/// A message xored with the keystream, in a fresh vector.
 pub fn stream_xor<A: Allocator, const TAG_BYTES: usize>(
-    variant: Variant,
+    cipher: &Cipher,
     alloc: A,
     m: &[u8],
 ) -> Result<Vec<u8, A>, Error>
     requires { (TAG_BYTES ≡ 16) ⊎ (TAG_BYTES ≡ 32) }
 {
-    with_cipher!(keyed(variant), TAG_BYTES, cipher => cipher.stream_xor(alloc, m))
+    with_cipher!(cipher, TAG_BYTES, cipher => cipher.stream_xor(alloc, m))
+}
+
+/// Bytes that count up from `first`, and start over after 255.
+pub fn counting<const N: usize>(first: u8) -> [u8; N] {
+    let mut bytes = [0; N];
+    let mut next = first;
+    for byte in bytes.iter_mut() {
+        *byte = next;
+        next = next.wrapping_add(1);
+    }
+    bytes
 }
