@@ -11,16 +11,16 @@ use Rattle.std.proofs.lemmas.List.Folds.{list_all-append}
 use Rattle.aegis_lines.specs.Field.{shown}
 use Rattle.aegis_lines.specs.Record.{are_within, shown_messages}
 use Rattle.aegis_record.specs.Stream.{AreWithin, limit}
-use Rattle.aegis_record.specs.declared.version.Version.TheVariants.{First}
+use Rattle.aegis_record.specs.declared.version.Version.TheVariants.{Second}
 
 and_parts : (a b : Bool) → (a && b) ≡ true → (a ≡ true) × (b ≡ true)
 and_parts true b e = (refl, e)
 and_parts false b e = absurd cc
 
-pub within_all : (ms : List (List ℕ)) → are_within ms ≡ true → AreWithin First ms
+pub within_all : (ms : List (List ℕ)) → are_within ms ≡ true → AreWithin Second ms
 within_all [] e = tt
 within_all (m ∷ ms) e =
-    let both = and_parts (leb (length m) (limit First)) (are_within ms) e in
+    let both = and_parts (leb (length m) (limit Second)) (are_within ms) e in
     (leb-true _ _ both.0, within_all ms both.1)
 
 and_false : (b : Bool) → (b && false) ≡ false
@@ -29,14 +29,14 @@ and_false false = refl
 
 -- a message that is too long
 pub one_past : {A : Type 0} (messages : List (Vec ℕ A)) (i : ℕ) (d : Vec ℕ A) → i < length messages
-    → limit First < length (vec_items (get_or messages i d)) → false ≡ are_within (map vec_items messages)
+    → limit Second < length (vec_items (get_or messages i d)) → false ≡ are_within (map vec_items messages)
 one_past [] i d low past = absurd (omega arith)
 one_past (m ∷ ms) zero d low past = rw (lt-leb _ _ past) refl
 one_past (m ∷ ms) (suc i) d low past = rw (← one_past ms i d (omega arith) past, and_false) refl
 
 -- one more message that is not
 pub one_within : {A : Type 0} (messages : List (Vec ℕ A)) (i : ℕ) (d : Vec ℕ A) → i < length messages
-    → length (vec_items (get_or messages i d)) ≤ limit First → are_within (map vec_items (take i messages)) ≡ true
+    → length (vec_items (get_or messages i d)) ≤ limit Second → are_within (map vec_items (take i messages)) ≡ true
     → are_within (map vec_items (take (i + 1) messages)) ≡ true
 one_within messages i d low within before =
     rw (take_more messages i d low, map-append, list_all-append, before, le-leb _ _ within) refl

@@ -8,7 +8,7 @@ use Rattle.aegis_lines.specs.Field.{shown}
 use Rattle.aegis_lines.specs.Record.{IsStreamAnswer}
 use Rattle.aegis_lines.specs.Request.{Request, Round, Seal, Open, Stream, Xor, Mac, SealRecords, OpenRecords, request_of}
 use Rattle.aegis_variants.specs.Variant.{family_of, lanes_of}
-use Rattle.aegis_record.specs.declared.version.Version.TheVariants.{First}
+use Rattle.aegis_record.specs.declared.version.Version.TheVariants.{Second}
 use Rattle.aegis_record.specs.Records.{records}
 
 -- a ciphertext and a tag, as they are printed
@@ -30,7 +30,7 @@ IsReply (Open v n key nonce ad c t) text = IsOpeningAnswer (Opens (family_of v) 
 IsReply (Stream v key nonce n) text = text ≡ shown (stream (family_of v) (lanes_of v) key nonce n)
 IsReply (Xor v key nonce m) text = text ≡ shown (xor_stream (family_of v) (lanes_of v) key nonce m)
 IsReply (Mac v n key nonce m) text = text ≡ shown (mac (family_of v) (lanes_of v) n key nonce m)
-IsReply (SealRecords key prefix context ms) text = text ≡ shown (records First key prefix context ms)
+IsReply (SealRecords key prefix context ms) text = text ≡ shown (records Second key prefix context ms)
 IsReply (OpenRecords key prefix context bytes) text = IsStreamAnswer key prefix context bytes text
 
 -- this text is the answer of this line: the answer to what it asks for, or its first fault

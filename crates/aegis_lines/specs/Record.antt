@@ -9,7 +9,7 @@ use Rattle.aegis_lines.specs.Field.{bytes_of, is_faulty, pieces_of, shown}
 use Rattle.aegis_record.specs.declared.error.RecordError.{RecordError}
 use Rattle.aegis_record.specs.declared.error.RecordError.TheVariants as errors
 use Rattle.aegis_record.specs.declared.version.Version.{Version}
-use Rattle.aegis_record.specs.declared.version.Version.TheVariants.{First}
+use Rattle.aegis_record.specs.declared.version.Version.TheVariants.{Second}
 use Rattle.aegis_record.specs.Records.{AreRecords, IsFault}
 use Rattle.aegis_record.specs.Stream.{limit, stream_length}
 
@@ -27,7 +27,7 @@ messages_of field = result_unwrap_or (messages_in field) []
 
 -- whether no message is longer than a record's may be
 abbrev pub are_within : List (List ℕ) → Bool
-are_within ms = list_all (λ m. leb (length m) (limit First)) ms
+are_within ms = list_all (λ m. leb (length m) (limit Second)) ms
 
 -- whether neither a message nor the whole stream is too long
 abbrev pub have_stream : List (List ℕ) → Bool

@@ -7,7 +7,7 @@ ghost use Rattle.aegis_lines.specs.Field.{shown};
 ghost use Rattle.aegis_lines.specs.Record.{IsRefusal, IsStreamAnswer, are_within, keys_with, messages_with, shown_messages};
 ghost use Rattle.aegis_record.specs.Records.{records};
 ghost use Rattle.aegis_record.specs.Stream.{stream_length};
-ghost use Rattle.aegis_record.specs.declared.version.Version.TheVariants.{First};
+ghost use Rattle.aegis_record.specs.declared.version.Version.TheVariants.{Second};
 
 use crate::answer::shown;
 use crate::fault::{Fault, Refusal};
@@ -90,7 +90,7 @@ pub fn seal_stream<A: Allocator + Copy>(
     messages: &Messages<A>,
 ) -> Result<Vec<u8, A>, AllocError>
     ensures { IfOk result (λ text. text.items
-        ≡ shown (records First keys.now.key keys.now.prefix keys.now.context.items (map vec_items messages.now.messages.items))) }
+        ≡ shown (records Second keys.now.key keys.now.prefix keys.now.context.items (map vec_items messages.now.messages.items))) }
 {
     let slices = slices(alloc, &messages.messages)?;
     match seal_records(alloc, &keys.key, &keys.prefix, &keys.context, &slices) {

@@ -1,9 +1,9 @@
 //! Want of memory: each request refused in turn.
 
-use crate::tests::streams::{CONTEXT, KEY, MESSAGES, PREFIX, STREAM};
-use aegis::record::{RecordError, open_records, seal_records};
-use test_tools::memory::Rationed;
+use crate::tests::streams::{CONTEXT, KEY, MESSAGES, MIGRATED, NEW_PREFIX, PREFIX, SECOND};
+use aegis::record::{RecordError, migrate, open_records, seal_records};
 use std::test::Fail;
+use test_tools::memory::Rationed;
 
 // More requests than the calls below make.
 const REQUESTS: u64 = 20;
@@ -18,7 +18,7 @@ fn sealing_makes_two_requests(rt: HostRuntime) -> Result<(), Fail> {
     }
     let heap = Rationed::new(rt.alloc(), 2);
     let stream = seal_records(&heap, &KEY, &PREFIX, &CONTEXT, &MESSAGES)?;
-    assert_eq!(rt; stream.as_slice(), STREAM.as_slice());
+    assert_eq!(rt; stream.as_slice(), SECOND.as_slice());
     assert_eq!(rt; heap.left(), 0);
     Ok(())
 }
@@ -29,8 +29,25 @@ fn opening_with_each_request_refused(rt: HostRuntime) {
     let mut refused = 0;
     for requests in 0..REQUESTS {
         let heap = Rationed::new(rt.alloc(), requests);
-        match open_records(&heap, &KEY, &PREFIX, &CONTEXT, &STREAM) {
+        match open_records(&heap, &KEY, &PREFIX, &CONTEXT, &SECOND) {
             Ok(messages) => assert_eq!(rt; messages.len(), MESSAGES.len(), "{requests}"),
+            Err(error) => {
+                assert_eq!(rt; error, RecordError::OutOfMemory, "{requests}");
+                assert_eq!(rt; refused, requests);
+                refused += 1;
+            }
+        }
+    }
+    assert!(rt; 0 < refused && refused < REQUESTS);
+}
+
+#[test]
+fn migrating_with_each_request_refused(rt: HostRuntime) {
+    let mut refused = 0;
+    for requests in 0..REQUESTS {
+        let heap = Rationed::new(rt.alloc(), requests);
+        match migrate(&heap, &KEY, &PREFIX, &NEW_PREFIX, &CONTEXT, &SECOND) {
+            Ok(stream) => assert_eq!(rt; stream.as_slice(), MIGRATED.as_slice(), "{requests}"),
             Err(error) => {
                 assert_eq!(rt; error, RecordError::OutOfMemory, "{requests}");
                 assert_eq!(rt; refused, requests);

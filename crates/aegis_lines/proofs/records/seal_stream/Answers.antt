@@ -3,10 +3,10 @@ use Rattle.std.proofs.Common.{◌≡◌, ◌∙◌, ap, map, subst, sym, vec_ite
 use Rattle.aegis_lines.specs.Field.{texts}
 use Rattle.aegis_lines.proofs.RecordFacts.{within_all}
 use Rattle.aegis_record.specs.Stream.{AreWithin}
-use Rattle.aegis_record.specs.declared.version.Version.TheVariants.{First}
+use Rattle.aegis_record.specs.declared.version.Version.TheVariants.{Second}
 use Rattle.aegis_lines.proofs.records.seal_stream.Goals as goal
 
 pub seal_records-requires-clause-within : goal.seal_records-requires-clause-within
 seal_records-requires-clause-within g c =
     let same = ap texts c.deref-3.ensures.value ∙ c.in_ok-slices.ensures.each ∙ ap (map vec_items) c.deref.ensures.value in
-    subst (AreWithin First) (sym same) (within_all _ c.args.messages.now.within)
+    subst (AreWithin Second) (sym same) (within_all _ c.args.messages.now.within)
