@@ -3,14 +3,24 @@
 ghost use Rattle.std.specs.Prelude.{◌≤◌};
 
 use crate::library::{library_mac, library_seal};
-use crate::mac::slow_mac;
-use crate::round::SubstitutionTable;
-use crate::slow::slow_seal;
-use aegis_variants::{TagLength, Variant};
+use aegis_variants::{Cipher, Keys, TagLength, Variant};
+use slow_lanes::{SubstitutionTable, slow_mac, slow_seal};
 use std::fmt;
 
 // The longest message or associated data: one byte more than two rate blocks of 128 bytes.
 const LONGEST: usize = 257;
+
+// What the AEGIS-128 ciphers are keyed with.
+const SHORT_KEYS: Keys<16> = Keys {
+    key: *b"lane by lane 128",
+    nonce: *b"one nonce, once.",
+};
+
+// What the AEGIS-256 ciphers are keyed with.
+const LONG_KEYS: Keys<32> = Keys {
+    key: *b"lane by lane, one after another.",
+    nonce: *b"a longer nonce, also used once..",
+};
 
 // How long the message is while the associated data grows, and the other way round.
 const FIXED: usize = 17;
@@ -48,7 +58,7 @@ fn filler(seed: u16) -> [u8; LONGEST] {
 
 fn compare_one(
     table: &SubstitutionTable,
-    variant: Variant,
+    cipher: &Cipher,
     tag_length: TagLength,
     message_bytes: usize,
     ad_bytes: usize,
@@ -62,8 +72,8 @@ fn compare_one(
     let expected = &mut expected[..message_bytes];
     let mut sealed = filler(71);
     let sealed = &mut sealed[..message_bytes];
-    let expected_tag = slow_seal(table, variant, tag_length, ad, expected);
-    let tag = library_seal(variant, tag_length, ad, sealed);
+    let expected_tag = slow_seal(table, cipher, tag_length, ad, expected);
+    let tag = library_seal(cipher, tag_length, ad, sealed);
     let what = if *sealed != *expected {
         "ciphertext"
     } else if tag != expected_tag {
@@ -80,7 +90,7 @@ fn compare_one(
 
 fn compare_mac(
     table: &SubstitutionTable,
-    variant: Variant,
+    cipher: &Cipher,
     tag_length: TagLength,
     message_bytes: usize,
 ) -> Result<(), Difference>
@@ -88,7 +98,7 @@ fn compare_mac(
 {
     let input = filler(71);
     let input = &input[..message_bytes];
-    if library_mac(variant, tag_length, input) == slow_mac(table, variant, tag_length, input) {
+    if library_mac(cipher, tag_length, input) == slow_mac(table, cipher, tag_length, input) {
         return Ok(());
     }
     Err(Difference {
@@ -105,15 +115,16 @@ pub fn compare(
     variant: Variant,
     tag_length: TagLength,
 ) -> Result<usize, Difference> {
+    let cipher = Cipher::with_keys(variant, SHORT_KEYS, LONG_KEYS);
     let longest = 2 * variant.rate() + 1;
     for message_bytes in 0..=longest {
-        compare_one(table, variant, tag_length, message_bytes, FIXED)?;
+        compare_one(table, &cipher, tag_length, message_bytes, FIXED)?;
     }
     for ad_bytes in 0..=longest {
-        compare_one(table, variant, tag_length, FIXED, ad_bytes)?;
+        compare_one(table, &cipher, tag_length, FIXED, ad_bytes)?;
     }
     for message_bytes in 0..=longest {
-        compare_mac(table, variant, tag_length, message_bytes)?;
+        compare_mac(table, &cipher, tag_length, message_bytes)?;
     }
     Ok(3 * (longest + 1))
 }

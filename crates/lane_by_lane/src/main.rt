@@ -1,17 +1,12 @@
-//! Seals and makes MACs by slow functions, written from the definitions one lane at a time, and compares what the library
-//! gives. They share nothing with the library, and only call it.
+//! Seals and makes MACs by the slow functions of `slow_lanes`, and compares what the library gives.
 #![tactic(auto)]
 
 mod compare;
-mod lane;
 mod library;
-mod mac;
-mod round;
-mod slow;
 
 use aegis_variants::{TAG_LENGTHS, VARIANTS};
 use compare::compare;
-use round::SubstitutionTable;
+use slow_lanes::SubstitutionTable;
 use std::io;
 use std::process::ExitCode;
 

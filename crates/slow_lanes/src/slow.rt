@@ -1,11 +1,10 @@
-//! Sealing, one lane after the other.
+//! Sealing and opening, one lane after the other.
 
 ghost use Rattle.std.specs.Prelude.{◌<◌, ◌^◌, length};
 
 use crate::lane::{Keys, Lane, Pair, ZERO};
-use crate::library::{LONG_KEYS, SHORT_KEYS};
 use crate::round::{Block, SubstitutionTable, xor};
-use aegis_variants::{TagLength, Variant};
+use aegis_variants::{Cipher, TagLength};
 
 /// Where the lanes of a cipher find their blocks.
 #[derive(Clone, Copy)]
@@ -19,34 +18,34 @@ pub struct Layout {
 }
 
 impl Layout {
-    pub fn new(variant: Variant) -> Layout {
-        match variant {
-            Variant::Aegis128L => Layout {
+    pub fn new(cipher: &Cipher) -> Layout {
+        match cipher {
+            Cipher::Aegis128L(_) => Layout {
                 lanes: 1,
                 rate: 32,
                 second: Some(16),
             },
-            Variant::Aegis128X2 => Layout {
+            Cipher::Aegis128X2(_) => Layout {
                 lanes: 2,
                 rate: 64,
                 second: Some(32),
             },
-            Variant::Aegis128X4 => Layout {
+            Cipher::Aegis128X4(_) => Layout {
                 lanes: 4,
                 rate: 128,
                 second: Some(64),
             },
-            Variant::Aegis256 => Layout {
+            Cipher::Aegis256(_) => Layout {
                 lanes: 1,
                 rate: 16,
                 second: None,
             },
-            Variant::Aegis256X2 => Layout {
+            Cipher::Aegis256X2(_) => Layout {
                 lanes: 2,
                 rate: 32,
                 second: None,
             },
-            Variant::Aegis256X4 => Layout {
+            Cipher::Aegis256X4(_) => Layout {
                 lanes: 4,
                 rate: 64,
                 second: None,
@@ -98,28 +97,39 @@ fn xor_at(bytes: &mut [u8], at: usize, block: &Block)
     }
 }
 
-pub fn keys(variant: Variant) -> Keys {
-    match variant {
-        Variant::Aegis128L | Variant::Aegis128X2 | Variant::Aegis128X4 => {
-            let key = SHORT_KEYS.key;
-            let nonce = SHORT_KEYS.nonce;
-            Keys::Aegis128 { key, nonce }
+/// The key and the nonce of a cipher.
+pub fn keys(cipher: &Cipher) -> Keys {
+    match cipher {
+        Cipher::Aegis128L(keys) | Cipher::Aegis128X2(keys) | Cipher::Aegis128X4(keys) => {
+            Keys::Aegis128 {
+                key: keys.key,
+                nonce: keys.nonce,
+            }
         }
-        Variant::Aegis256 | Variant::Aegis256X2 | Variant::Aegis256X4 => {
-            let key = LONG_KEYS.key;
-            let nonce = LONG_KEYS.nonce;
-            Keys::Aegis256 { key, nonce }
+        Cipher::Aegis256(keys) | Cipher::Aegis256X2(keys) | Cipher::Aegis256X4(keys) => {
+            Keys::Aegis256 {
+                key: keys.key,
+                nonce: keys.nonce,
+            }
         }
     }
 }
 
-// Seals the bytes of one lane in their places, and returns the lane at its end.
-fn seal_lane(
+// What the bytes of a buffer are.
+#[derive(Clone, Copy)]
+enum Bytes {
+    Message,
+    Ciphertext,
+}
+
+// Seals or opens the bytes of one lane in their places, and returns the lane at its end. It takes in the message.
+fn pass_lane(
     table: &SubstitutionTable,
     layout: Layout,
     start: Lane,
     index: u8,
     ad: &[u8],
+    bytes: Bytes,
     buffer: &mut [u8],
 ) -> Lane
     requires ad { length ad.now < 2 ^ 32 }
@@ -132,17 +142,44 @@ fn seal_lane(
         lane = lane.update(table, &layout.share(index, rate_block));
     }
     for rate_block in buffer.chunks_mut(layout.rate) {
-        let plain = layout.share(index, rate_block);
+        let before = layout.share(index, rate_block);
         layout.xor_share(index, rate_block, &lane.keystream());
+        let plain = match bytes {
+            Bytes::Message => before,
+            Bytes::Ciphertext => layout.share(index, rate_block),
+        };
         lane = lane.update(table, &plain);
     }
     lane.finish(table, ad_bits, message_bits)
 }
 
+fn pass(
+    table: &SubstitutionTable,
+    cipher: &Cipher,
+    tag_length: TagLength,
+    ad: &[u8],
+    bytes: Bytes,
+    buffer: &mut [u8],
+) -> Pair
+    requires ad { length ad.now < 2 ^ 32 }
+    requires message { length buffer.old < 2 ^ 32 }
+{
+    let layout = Layout::new(cipher);
+    let keys = keys(cipher);
+    let mut tag = [ZERO; 2];
+    for index in 0..layout.lanes {
+        let start = Lane::start(table, &keys, index, layout.lanes);
+        let lane = pass_lane(table, layout, start, index, ad, bytes, buffer);
+        let lane_tag = lane.tag(tag_length);
+        tag = [xor(&tag[0], &lane_tag[0]), xor(&tag[1], &lane_tag[1])];
+    }
+    tag
+}
+
 /// Seals a message in its place. A tag of 16 bytes comes with zeros behind it.
 pub fn slow_seal(
     table: &SubstitutionTable,
-    variant: Variant,
+    cipher: &Cipher,
     tag_length: TagLength,
     ad: &[u8],
     buffer: &mut [u8],
@@ -150,14 +187,19 @@ pub fn slow_seal(
     requires ad { length ad.now < 2 ^ 32 }
     requires message { length buffer.old < 2 ^ 32 }
 {
-    let layout = Layout::new(variant);
-    let keys = keys(variant);
-    let mut tag = [ZERO; 2];
-    for index in 0..layout.lanes {
-        let start = Lane::start(table, &keys, index, layout.lanes);
-        let lane = seal_lane(table, layout, start, index, ad, buffer);
-        let lane_tag = lane.tag(tag_length);
-        tag = [xor(&tag[0], &lane_tag[0]), xor(&tag[1], &lane_tag[1])];
-    }
-    tag
+    pass(table, cipher, tag_length, ad, Bytes::Message, buffer)
+}
+
+/// Turns a ciphertext in its place into the message that is sealed to it, whose tag is returned as by `slow_seal`.
+pub fn slow_open(
+    table: &SubstitutionTable,
+    cipher: &Cipher,
+    tag_length: TagLength,
+    ad: &[u8],
+    buffer: &mut [u8],
+) -> Pair
+    requires ad { length ad.now < 2 ^ 32 }
+    requires message { length buffer.old < 2 ^ 32 }
+{
+    pass(table, cipher, tag_length, ad, Bytes::Ciphertext, buffer)
 }

@@ -5,7 +5,7 @@ ghost use Rattle.std.specs.Prelude.{◌<◌, ◌^◌, length};
 use crate::lane::{Keys, Lane, Pair, ZERO};
 use crate::round::SubstitutionTable;
 use crate::slow::{Layout, keys};
-use aegis_variants::{TagLength, Variant};
+use aegis_variants::{Cipher, TagLength};
 
 // What the lanes of a MAC share.
 #[derive(Drop)]
@@ -66,15 +66,15 @@ fn fold_single(table: &SubstitutionTable, lane: Lane, input: &Input) -> Lane {
 /// The MAC of an input. One of 16 bytes comes with zeros behind it.
 pub fn slow_mac(
     table: &SubstitutionTable,
-    variant: Variant,
+    cipher: &Cipher,
     tag_length: TagLength,
     bytes: &[u8],
 ) -> Pair
     requires { length bytes.now < 2 ^ 32 }
 {
     let input = Input {
-        layout: Layout::new(variant),
-        keys: keys(variant),
+        layout: Layout::new(cipher),
+        keys: keys(cipher),
         tag_length,
         bytes,
     };
