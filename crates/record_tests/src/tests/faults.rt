@@ -9,26 +9,37 @@ fn refusal(rt: &HostRuntime, bytes: &[u8]) -> Option<RecordError> {
     open_records(rt.alloc(), &KEY, &PREFIX, &CONTEXT, bytes).err()
 }
 
-#[test]
-fn each_front_is_refused(rt: HostRuntime) {
-    for stream in [FIRST, SECOND] {
-        for length in 0..stream.len() {
-            let expected = if length < 4 {
-                RecordError::Header
-            } else {
-                RecordError::Truncated
-            };
-            assert_eq!(rt; refusal(&rt, &stream[..length]), Some(expected), "{length}");
+// The number of a front that is refused otherwise than it should.
+fn wrong_front(rt: &HostRuntime, stream: &[u8]) -> Option<usize> {
+    for length in 0..stream.len() {
+        let expected = if length < 4 {
+            RecordError::Header
+        } else {
+            RecordError::Truncated
+        };
+        if refusal(rt, &stream[..length]) != Some(expected) {
+            return Some(length);
         }
     }
+    None
+}
+
+#[test]
+fn each_front_is_refused(rt: HostRuntime) {
+    assert_eq!(rt; wrong_front(&rt, &FIRST), None);
+    assert_eq!(rt; wrong_front(&rt, &SECOND), None);
 }
 
 #[test]
 fn a_byte_behind_the_last_record_is_refused(rt: HostRuntime) -> Result<(), Fail> {
     for byte in 0..=255 {
-        let mut stream = Vec::from_slice(rt.alloc(), if byte < 128 { &FIRST } else { &SECOND })?;
+        let mut stream = Vec::from_slice(rt.alloc(), &SECOND)?;
         stream.push(byte)?;
-        assert_eq!(rt; refusal(&rt, &stream), Some(RecordError::Trailing), "{byte}");
+        assert_eq!(rt;
+            refusal(&rt, &stream),
+            Some(RecordError::Trailing),
+            "{byte}"
+        );
     }
     Ok(())
 }
@@ -56,16 +67,22 @@ fn refusal_of_changed(place: usize, is_first_version: bool) -> RecordError {
     }
 }
 
-#[test]
-fn each_changed_byte_is_refused(rt: HostRuntime) {
-    for (sealed, is_first_version) in [(FIRST, true), (SECOND, false)] {
-        for place in 0..sealed.len() {
-            let mut stream = sealed;
-            stream[place] ^= 1;
-            let expected = refusal_of_changed(place, is_first_version);
-            assert_eq!(rt; refusal(&rt, &stream), Some(expected), "{place}");
+// The place of a changed byte that is refused otherwise than it should.
+fn wrong_change(rt: &HostRuntime, sealed: &[u8; 81], is_first_version: bool) -> Option<usize> {
+    for place in 0..81 {
+        let mut stream = *sealed;
+        stream[place] ^= 1;
+        if refusal(rt, &stream) != Some(refusal_of_changed(place, is_first_version)) {
+            return Some(place);
         }
     }
+    None
+}
+
+#[test]
+fn each_changed_byte_is_refused(rt: HostRuntime) {
+    assert_eq!(rt; wrong_change(&rt, &FIRST, true), None);
+    assert_eq!(rt; wrong_change(&rt, &SECOND, false), None);
 }
 
 #[test]

@@ -1,7 +1,7 @@
 //! Want of memory: each request refused in turn.
 
-use crate::tests::streams::{CONTEXT, KEY, MESSAGES, MIGRATED, NEW_PREFIX, PREFIX, SECOND};
-use aegis::record::{RecordError, migrate, open_records, seal_records};
+use crate::tests::streams::{CONTEXT, KEY, MESSAGES, MIGRATED, PREFIX, SECOND, migrated};
+use aegis::record::{RecordError, open_records, seal_records};
 use std::test::Fail;
 use test_tools::memory::Rationed;
 
@@ -46,7 +46,7 @@ fn migrating_with_each_request_refused(rt: HostRuntime) {
     let mut refused = 0;
     for requests in 0..REQUESTS {
         let heap = Rationed::new(rt.alloc(), requests);
-        match migrate(&heap, &KEY, &PREFIX, &NEW_PREFIX, &CONTEXT, &SECOND) {
+        match migrated(&heap, &SECOND) {
             Ok(stream) => assert_eq!(rt; stream.as_slice(), MIGRATED.as_slice(), "{requests}"),
             Err(error) => {
                 assert_eq!(rt; error, RecordError::OutOfMemory, "{requests}");

@@ -2,8 +2,8 @@
 
 ghost use Rattle.std.specs.Prelude.{◌≤◌, length};
 
-use crate::tests::streams::{CONTEXT, KEY, NEW_PREFIX, PREFIX};
-use aegis::record::{MAX_MESSAGE_BYTES, RecordError, migrate, open_records, seal_records};
+use crate::tests::streams::{CONTEXT, KEY, PREFIX, migrated};
+use aegis::record::{MAX_MESSAGE_BYTES, RecordError, open_records, seal_records};
 use aegis_lines::answer_line;
 use std::alloc::Allocator;
 use std::test::Fail;
@@ -18,17 +18,26 @@ fn opens_again<A: Allocator + Copy>(alloc: A, message: &[u8]) -> Result<bool, Re
     let messages = [message];
     let stream = seal_records(alloc, &KEY, &PREFIX, &CONTEXT, &messages)?;
     let opened = open_records(alloc, &KEY, &PREFIX, &CONTEXT, &stream)?;
-    Ok(stream.len() == 4 + 37 + message.len()
-        && opened.len() == 1
-        && opened[0].as_slice() == message)
+    Ok(
+        stream.len() == 4 + 37 + message.len()
+            && opened.len() == 1
+            && opened[0].as_slice() == message,
+    )
+}
+
+// Whether a message of so many bytes is.
+fn length_opens_again<A: Allocator + Copy>(alloc: A, length: usize) -> Result<bool, RecordError>
+    requires { length ≤ MAX_MESSAGE_BYTES }
+{
+    let message = vec![in alloc; 0x5au8; length]?;
+    opens_again(alloc, &message)
 }
 
 #[test]
 fn long_messages(rt: HostRuntime) -> Result<(), Fail> {
-    let message = vec![in rt.alloc(); 0x5au8; MAX_MESSAGE_BYTES]?;
-    assert!(rt; opens_again(rt.alloc(), &message[..65_536])?);
-    assert!(rt; opens_again(rt.alloc(), &message[..65_537])?);
-    assert!(rt; opens_again(rt.alloc(), &message)?);
+    assert!(rt; length_opens_again(rt.alloc(), 65_536)?);
+    assert!(rt; length_opens_again(rt.alloc(), 65_537)?);
+    assert!(rt; length_opens_again(rt.alloc(), MAX_MESSAGE_BYTES)?);
     Ok(())
 }
 
@@ -38,8 +47,8 @@ fn migrates<A: Allocator + Copy>(alloc: A, message: &[u8]) -> Result<(usize, usi
 {
     let messages = [message];
     let stream = seal_records(alloc, &KEY, &PREFIX, &CONTEXT, &messages)?;
-    let migrated = migrate(alloc, &KEY, &PREFIX, &NEW_PREFIX, &CONTEXT, &stream)?;
-    Ok((stream.len(), migrated.len()))
+    let new = migrated(alloc, &stream)?;
+    Ok((stream.len(), new.len()))
 }
 
 #[test]
