@@ -1,13 +1,16 @@
 //! Worked examples, whose ciphertexts and tags were not made by the library.
 
-use test_tools::calls::{LONG_KEY, SHORT_KEY};
-use test_tools::worked::{AEGIS128L_CIPHERTEXT, AEGIS128L_TAG, AEGIS256_CIPHERTEXT, AEGIS256_TAG, ASSOCIATED_DATA, MESSAGE};
 use aegis::Error;
 use aegis::aegis128l::Aegis128L;
 use aegis::aegis256::Aegis256;
 use hex::FromHex;
 use std::process::Abort;
 use std::test::Fail;
+use test_tools::calls::{LONG_KEY, SHORT_KEY};
+use test_tools::worked::{
+    AEGIS128L_CIPHERTEXT, AEGIS128L_TAG, AEGIS256_CIPHERTEXT, AEGIS256_TAG, ASSOCIATED_DATA,
+    MESSAGE,
+};
 
 fn aegis128l() -> Aegis128L<16> {
     Aegis128L::new(&SHORT_KEY, &[0; 16])

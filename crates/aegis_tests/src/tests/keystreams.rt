@@ -2,10 +2,10 @@
 
 ghost use Rattle.std.specs.Prelude.{◌≡◌, ◌⊎◌};
 
-use test_tools::calls;
 use aegis_variants::{VARIANTS, Variant};
 use std::process::Abort;
 use std::test::Fail;
+use test_tools::calls;
 
 const MESSAGE: [u8; 13] = *b"AEGIS is fast";
 

@@ -1,11 +1,11 @@
 //! Lanes that do not see one another, and ciphers of several lanes, which are copied.
 
-use test_tools::calls::{LONG_KEY, LONG_NONCE, SHORT_KEY, SHORT_NONCE};
 use aegis::aegis128x2::Aegis128X2;
 use aegis::aegis128x4::Aegis128X4;
 use aegis::aegis256x2::Aegis256X2;
 use aegis::aegis256x4::Aegis256X4;
 use std::test::Fail;
+use test_tools::calls::{LONG_KEY, LONG_NONCE, SHORT_KEY, SHORT_NONCE};
 
 // The first byte of a message is in the first of four lanes.
 #[test]

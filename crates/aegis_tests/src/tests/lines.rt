@@ -1,9 +1,9 @@
 //! Want of memory in the line program: each of its allocations refused in turn.
 
-use test_tools::memory::Rationed;
 use aegis::Error;
 use aegis_lines::{answer_line, run};
 use std::test::Fail;
+use test_tools::memory::Rationed;
 
 // More requests than the lines below make.
 const REQUESTS: u64 = 120;

@@ -2,10 +2,10 @@
 
 ghost use Rattle.std.specs.Prelude.{◌≡◌, ◌⊎◌, ◌≤◌, length};
 
-use test_tools::calls;
 use aegis_variants::{VARIANTS, Variant};
 use std::process::Abort;
 use std::test::Fail;
+use test_tools::calls;
 
 // One byte more than two rate blocks of 128 bytes.
 const LONGEST: usize = 257;
