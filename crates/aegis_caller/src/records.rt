@@ -1,11 +1,11 @@
 //! Record streams.
 
 ghost use Rattle.std.specs.Prelude.{◌≡◌, ◌<◌, ◌≤◌, List, length, ℕ};
-ghost use Rattle.aegis_record.specs.Calls.{IsRefused, OpensTo, texts};
-ghost use Rattle.aegis_record.specs.Records.{AreRecords, IsFault};
+ghost use Rattle.aegis_record.specs.Calls.{OpensTo, texts};
+ghost use Rattle.aegis_record.specs.Records.{AreRecords};
 ghost use Rattle.aegis_record.specs.Stream.{AreWithin, stream_length};
 ghost use Rattle.aegis_record.specs.declared.version.Version.{Version};
-ghost use Rattle.aegis_record.specs.declared.version.Version.TheVariants.{First};
+ghost use Rattle.aegis_record.specs.declared.version.Version.TheVariants.{Second};
 
 use aegis::MAX_AEAD_BYTES;
 use aegis::record::{MAX_CONTEXT_BYTES, RecordError, open_records, seal_records};
@@ -20,7 +20,7 @@ pub fn sealed_and_opened_records<A: Allocator + Copy>(
     messages: &[&[u8]],
 ) -> Result<Vec<Vec<u8, A>, A>, RecordError>
     requires some { 0 < length messages.now }
-    requires within { AreWithin First (texts messages.now) }
+    requires within { AreWithin Second (texts messages.now) }
     requires context_within { length context.now ≤ MAX_CONTEXT_BYTES }
     requires fits { stream_length (texts messages.now) ≤ MAX_AEAD_BYTES }
     ensures { OpensTo (texts messages.now) result }
@@ -43,20 +43,4 @@ pub fn open_known_records<A: Allocator + Copy>(
     ensures { OpensTo sealed result }
 {
     open_records(alloc, key, prefix, context, stream)
-}
-
-/// Opens bytes that are the stream of no list: the answer is their fault.
-pub fn open_faulty_bytes<A: Allocator + Copy>(
-    alloc: A,
-    key: &[u8; 32],
-    prefix: &[u8; 24],
-    context: &[u8],
-    bytes: &[u8],
-) -> Result<Vec<Vec<u8, A>, A>, RecordError>
-    ghost fault: { RecordError }
-    requires context_within { length context.now ≤ MAX_CONTEXT_BYTES }
-    requires fault { IsFault key.now prefix.now context.now bytes.now fault }
-    ensures { IsRefused fault result }
-{
-    open_records(alloc, key, prefix, context, bytes)
 }
