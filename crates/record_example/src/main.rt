@@ -40,7 +40,10 @@ fn main(rt: HostRuntime) -> io::Result<()> {
     };
     match opened(rt.alloc(), &stream) {
         Ok(bytes) if bytes == input => {
-            println!(rt; "{} blocks sealed to {length} bytes, and opened again", blocks.len())
+            println!(rt;
+                "{} blocks sealed to {length} bytes, and opened again",
+                blocks.len()
+            )
         }
         Ok(_) => println!(rt; "other blocks were opened"),
         Err(error) => println!(rt; "not opened: {error}"),
