@@ -8,7 +8,7 @@ mod blocks;
 
 use aegis::record::{MAX_CONTEXT_BYTES, RecordError, open_records, records_len, seal_records};
 use blocks::blocks_of;
-use std::alloc::{AllocError, Allocator};
+use std::alloc::Allocator;
 use std::io;
 use std::io::Read;
 
