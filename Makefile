@@ -34,10 +34,13 @@ LINK_RUST = -L native=$(dir $(C_LIBRARY)) -l static=aegis_c
 CPU = x86-64-v2
 BENCH_FLAGS = -C target-cpu=$(CPU) -C no-vectorize-slp
 
+BENCH_FOLDER = $(if $(filter x86-64-v2,$(CPU)),bench,bench/$(CPU))
+
 # Measures the library beside look-up tables and AES instructions, and the chunked calls beside the one-shot calls; writes
-# bench/RESULTS.md, bench/results.svg and bench/CHUNKS.md.
+# RESULTS.md and results.svg, in bench/ or its folder for another processor level, and bench/CHUNKS.md.
 bench: $(OUT)/driver
-	$(OUT)/driver bench
+	mkdir -p $(BENCH_FOLDER)
+	$(OUT)/driver $(BENCH_FOLDER)
 	(cat bench/chunks.md; cd crates/chunk_speed && rt run -- bench | grep '^|') > bench/CHUNKS.md
 
 # The tests of the C interface: its headers, the examples, and every call of it against the stored lines and forgeries.
@@ -84,7 +87,7 @@ check-install: | $(OUT)
 	done
 
 $(OUT)/driver: $(wildcard bench/*.rs vectors/*) include/hunkravy.rs c-library | $(OUT)
-	$(RUSTC) $(BENCH_FLAGS) bench/driver.rs $(LINK_RUST) -o $@
+	CPU=$(CPU) $(RUSTC) $(BENCH_FLAGS) bench/driver.rs $(LINK_RUST) -o $@
 
 $(OUT):
 	mkdir -p $@

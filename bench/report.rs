@@ -63,6 +63,12 @@ fn processor() -> String {
     })
 }
 
+// The processor level, from the variable of that name in the Makefile.
+const LEVEL: &str = match option_env!("CPU") {
+    Some(level) => level,
+    None => "x86-64-v2",
+};
+
 /// The page of results.
 pub fn page(table: &str) -> String {
     format!(
@@ -80,7 +86,7 @@ The library is called through its C interface. The three others are the driver's
 the number of lanes like the library: the tables have their AES round by four look-up tables of 256 words, the one
 rotated table has it by the first of these, whose entries it rotates by 8, 16 and 24 bits for the other rows, and the
 third has it by the processor's AES instructions, one block each, which the library does not use. The library and all
-the tables are built for the same processor level, x86-64-v2, and the tables with `-C no-vectorize-slp`, which makes the
+the tables are built for the same processor level, {LEVEL}, and the tables with `-C no-vectorize-slp`, which makes the
 four faster, and the one mostly slower.
 
 Each call does all of its work on one message with no associated data, from the key to the tag of 16 bytes, in place.
