@@ -33,7 +33,7 @@ pub fn run<R: Read, W: Write, A: Allocator + Copy>(alloc: A, input: &mut R, outp
     ensures answered { result ≤ 1 → IfSome (R.remaining input.old)
         (λ bytes. AnswersAll (lines bytes) (W.contents output.old) (W.contents output.new) result) }
 
-    // With the status 2 the output is a beginning of the answers of the lines that were read.
+    // With the status 2 as many bytes of the answers as could be written, for no line that was not read.
     ensures failed { result ≡ 2 → IfSome (R.remaining input.old)
         (λ bytes. AnswersRead bytes (R.remaining input.new) (W.contents output.old) (W.contents output.new)) }
 {

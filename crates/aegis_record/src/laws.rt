@@ -7,8 +7,8 @@ ghost use Rattle.aegis_record.specs.Records.{AreRecords, sealed};
 ghost use Rattle.aegis_record.specs.Stream.{IsOneStream, stream_length};
 ghost use Rattle.aegis_record.specs.declared.version.Version.{Version};
 
-/// Under one key, prefix and context no bytes are the streams of two lists of messages or of two versions, and no stream is a
-/// proper front of another.
+/// Two lists of messages, or two versions, never have one stream where key, prefix and context are the same, nor is a stream
+/// the front of a longer one.
 pub fn one_stream()
     ensures { (key prefix context : List ℕ) → IsOneStream (sealed key prefix context) }
 {}
