@@ -25,8 +25,8 @@ fn faults(rt: HostRuntime) -> Result<(), Fail> {
             "error command",
         ),
         ("round00000000000000000000000000000000", "error command"),
-        ("sealrec a b c d", "error command"),
-        ("openrec a b c d", "error command"),
+        ("sealrec a b c d", "error hex"),
+        ("openrec a b c d", "error hex"),
         ("round 00000000000000000000000000000000", "error fields"),
         (
             "round 00000000000000000000000000000000  00000000000000000000000000000000",
