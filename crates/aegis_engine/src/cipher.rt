@@ -274,6 +274,7 @@ impl<S: LaneState<Key = K>, K: Copy, V: Variant, const TAG_BYTES: usize> Cipher<
     ) -> Decryptor<'a, S, V, TAG_BYTES>
         requires { length ad.now ≤ MAX_AEAD_BYTES }
         ensures same_reference { result.dst.ghost_name ≡ plaintext.entry.ghost_name }
+        ensures same_place { result.dst.ref_ptr ≡ plaintext.entry.ref_ptr }
         ensures unchanged { result.dst.now ≡ plaintext.old }
         ensures written { result.written ≡ 0 }
         ensures stands { Stands S.FAMILY S.LANES S.lane S.updates (held result.state result.block result.data_bytes result.written) (S.key_bytes self.now.key) (S.key_bytes self.now.nonce) ad.now (take result.written result.dst.now) }
@@ -296,6 +297,7 @@ impl<S: LaneState<Key = K>, K: Copy, V: Variant, const TAG_BYTES: usize> Cipher<
     ) -> Settled<'a>
         requires { length ad.now ≤ MAX_AEAD_BYTES }
         ensures same_reference { result.dst.ghost_name ≡ dst.entry.ghost_name }
+        ensures same_place { result.dst.ref_ptr ≡ dst.entry.ref_ptr }
         ensures within { result.written ≤ length result.dst.now }
         ensures written { result.written ≡ length (accepted (length dst.old) chunks.now) }
         ensures erased { result.accepted ≡ false → result.dst.now ≡ replicate result.written 0 ++ drop result.written result.dst.now }
@@ -328,7 +330,7 @@ impl<S: LaneState<Key = K>, K: Copy, V: Variant, const TAG_BYTES: usize> Cipher<
         }
     }
 
-    /// Opens a message that comes in chunks, at the front of `dst`.
+    /// Opens a message that comes in chunks, at the front of `dst` itself.
     ///
     /// Each chunk in order is kept where it fits, as `Decryptor::update` would, and is left out whole otherwise. The answer
     /// is the message that is sealed to the kept chunks and this tag, exactly where there is one. Otherwise it is
@@ -346,6 +348,7 @@ impl<S: LaneState<Key = K>, K: Copy, V: Variant, const TAG_BYTES: usize> Cipher<
         ensures cases { MatchResult result
             (λ m. Opens S.FAMILY S.LANES TAG_BYTES (S.key_bytes self.now.key) (S.key_bytes self.now.nonce) ad.now (accepted (length dst.old) chunks.now) tag.now m.now)
             (λ e. e ≡ Error.InvalidTag) }
+        ensures place { IfOk result (λ m. m.ref_ptr ≡ dst.entry.ref_ptr) }
         ensures accepted { (m : List ℕ) → Opens S.FAMILY S.LANES TAG_BYTES (S.key_bytes self.now.key) (S.key_bytes self.now.nonce) ad.now (accepted (length dst.old) chunks.now) tag.now m
             → IsOk result }
         ensures only { (m : List ℕ) → Opens S.FAMILY S.LANES TAG_BYTES (S.key_bytes self.now.key) (S.key_bytes self.now.nonce) ad.now (accepted (length dst.old) chunks.now) tag.now m

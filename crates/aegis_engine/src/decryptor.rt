@@ -1,6 +1,6 @@
 //! Decryptors: opening a message that comes in chunks.
 
-ghost use Rattle.std.specs.Prelude.{◌≡◌, ℕ, ◌+◌, ◌<◌, ◌≤◌, ◌⊎◌, ◌↔◌, ◌++◌, ◌||◌, IfErr, IsOk, IsTrue, List, MatchResult, OnErr, OnOk, Some, [], codes, drop, length, nat_eq, replicate, take, true, false};
+ghost use Rattle.std.specs.Prelude.{◌≡◌, ℕ, ◌+◌, ◌<◌, ◌≤◌, ◌⊎◌, ◌↔◌, ◌++◌, ◌||◌, IfErr, IfOk, IsOk, IsTrue, List, MatchResult, OnErr, OnOk, Some, [], codes, drop, length, nat_eq, replicate, take, true, false};
 ghost use Rattle.std.specs.Borrow.{Array, LendsIfOk, sem, u8};
 ghost use Rattle.aegis_base.specs.Message.{Opens, ciphertext, tag as tag_of};
 ghost use Rattle.aegis_base.specs.Run.{Stands, held};
@@ -70,6 +70,7 @@ impl<'a, S: LaneState, V: Variant, const TAG_BYTES: usize> Decryptor<'a, S, V, T
         requires counted { S.updates state ≤ data_bytes }
         requires associated_data_within { data_bytes ≤ MAX_AEAD_BYTES }
         ensures same_reference { result.dst.ghost_name ≡ dst.entry.ghost_name }
+        ensures same_place { result.dst.ref_ptr ≡ dst.entry.ref_ptr }
         ensures unchanged { result.dst.now ≡ dst.old }
         ensures written { result.written ≡ 0 }
         ensures stands { (key nonce ad : List ℕ)
@@ -92,6 +93,7 @@ impl<'a, S: LaneState, V: Variant, const TAG_BYTES: usize> Decryptor<'a, S, V, T
     /// [`MAX_AEAD_BYTES`] is [`Error::MessageTooLong`]. Neither changes anything, and no other chunk is refused.
     pub fn update(&mut self, chunk: &[u8]) -> Result<(), Error>
         ensures same_reference { self.new.dst.ghost_name ≡ self.old.dst.ghost_name }
+        ensures same_place { self.new.dst.ref_ptr ≡ self.old.dst.ref_ptr }
         ensures too_small { (result ≡ Err Error.OutputBufferTooSmall) ↔ (length self.old.dst.now < self.old.written + length chunk.now) }
         ensures too_long { (result ≡ Err Error.MessageTooLong) ↔ ((self.old.written + length chunk.now ≤ length self.old.dst.now) × (MAX_AEAD_BYTES < self.old.written + length chunk.now)) }
         ensures accepted { IsOk result ↔ ((self.old.written + length chunk.now ≤ length self.old.dst.now) × (self.old.written + length chunk.now ≤ MAX_AEAD_BYTES)) }
@@ -121,6 +123,7 @@ impl<'a, S: LaneState, V: Variant, const TAG_BYTES: usize> Decryptor<'a, S, V, T
     // Whether the tag is right, with zeros left in the message's place where it is not.
     fn settle(self, tag: &[u8; TAG_BYTES]) -> Settled<'a>
         ensures same_reference { result.dst.ghost_name ≡ self.entry.dst.ghost_name }
+        ensures same_place { result.dst.ref_ptr ≡ self.entry.dst.ref_ptr }
         ensures written { result.written ≡ self.entry.written }
         ensures within { result.written ≤ length result.dst.now }
         ensures kept { result.accepted ≡ true → result.dst.now ≡ self.entry.dst.now }
@@ -151,11 +154,12 @@ impl<'a, S: LaneState, V: Variant, const TAG_BYTES: usize> Decryptor<'a, S, V, T
         }
     }
 
-    /// Hands out the message, the written front of the destination, where the tag is right. Otherwise it is
+    /// Hands out the message, the written front of the destination itself, where the tag is right. Otherwise it is
     /// [`Error::InvalidTag`], and zeros are left in the message's place. The bytes after it stay as they were.
     pub fn finalize(self, tag: &[u8; TAG_BYTES]) -> Result<&'a mut [u8], Error>
         ensures* writes_back { sem 𝓛 (LendsIfOk (Array u8 0) (Array u8 0) self.entry.dst result (λ w. w ++ drop self.entry.written self.entry.dst.now) (replicate self.entry.written 0 ++ drop self.entry.written self.entry.dst.now)) }
         ensures cases { MatchResult result (λ message. message.now ≡ take self.entry.written self.entry.dst.now) (λ e. e ≡ Error.InvalidTag) }
+        ensures place { IfOk result (λ message. message.ref_ptr ≡ self.entry.dst.ref_ptr) }
         ensures tag { (key nonce ad : List ℕ)
             → Stands S.FAMILY S.LANES S.lane S.updates (held self.entry.state self.entry.block self.entry.data_bytes self.entry.written) key nonce ad (take self.entry.written self.entry.dst.now)
             → IsOk result ↔ (tag.now ≡ tag_of S.FAMILY S.LANES TAG_BYTES key nonce ad (take self.entry.written self.entry.dst.now)) }

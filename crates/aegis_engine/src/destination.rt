@@ -18,7 +18,7 @@ pub fn handed<'a>(settled: Settled<'a>) -> Result<&'a mut [u8], Error>
     requires within { settled.written ≤ length settled.dst.now }
     requires erased { settled.accepted ≡ false → settled.dst.now ≡ replicate settled.written 0 ++ drop settled.written settled.dst.now }
     ensures* writes_back { sem 𝓛 (LendsIfOk (Array u8 0) (Array u8 0) settled.entry.dst result (λ w. w ++ drop settled.entry.written settled.entry.dst.now) (replicate settled.entry.written 0 ++ drop settled.entry.written settled.entry.dst.now)) }
-    ensures cases { MatchResult result (λ message. (settled.entry.accepted ≡ true) × (message.now ≡ take settled.entry.written settled.entry.dst.now)) (λ e. (settled.entry.accepted ≡ false) × (e ≡ Error.InvalidTag)) }
+    ensures cases { MatchResult result (λ message. (settled.entry.accepted ≡ true) × (message.now ≡ take settled.entry.written settled.entry.dst.now) × (message.ref_ptr ≡ settled.entry.dst.ref_ptr)) (λ e. (settled.entry.accepted ≡ false) × (e ≡ Error.InvalidTag)) }
 {
     let Settled {
         dst,

@@ -111,7 +111,8 @@ pub fn absorb_part<S: LaneState>(
 }
 
 /// The lanes after `count` bytes of a buffer, from `at` on, of one rate block: they are xored with the keystream, and the
-/// lanes take in what the pass says.
+/// lanes take in what the pass says. It is inlined, so that no state is copied where there are no bytes.
+#[inline(always)]
 pub fn pass_part<S: LaneState>(
     state: S,
     block: &mut Block,

@@ -13,8 +13,6 @@ mod pieces;
 mod records;
 mod session;
 mod tag;
-#[cfg(test)]
-mod tests;
 mod variant;
 
 pub use answer::answer_line;

@@ -160,6 +160,3 @@ fn without_carriage_return(line: &[u8]) -> &[u8]
 {
     line.strip_suffix(b"\r").unwrap_or(line)
 }
-
-#[cfg(test)]
-mod tests;

@@ -3,6 +3,5 @@
 mod examples;
 mod keystreams;
 mod lanes;
-mod lines;
 mod openings;
 mod texts;

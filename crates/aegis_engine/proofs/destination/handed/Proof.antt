@@ -103,7 +103,7 @@ handed_spec 𝓤 𝓛 𝓜 𝓡 wired =
     rewrite ! 0 (λ (k : ℕ). ‵ (Lent.own_val x (slice_val (b, o) k ∷ []))) lf refl $
     use1 𝓛 (‵ ((RS.the_row Lent ER.the_row).own_val (Ok x) (live 0 (of_list (v ∷ [])) ∷ []))) (ok_made Lent ER.the_row 𝓛 x v) $
     suffices ! _ (ends_at 𝓛 f.ended stayed c y (live 0 (of_list (v ∷ []))) (Ok x) ((tt, tt), tt) (tt, tt)) $
-    nothing ! $ nothing ! $ fjoin ! $ join ! $ nothing ! $ move ! (2 ∷ 0 ∷ []) $ join ! $ join ! $ frame ! $ says ! (is_true s.accepted t, refl) $ done !))
+    nothing ! $ nothing ! $ fjoin ! $ join ! $ nothing ! $ move ! (2 ∷ 0 ∷ []) $ join ! $ join ! $ frame ! $ says ! (is_true s.accepted t, refl, refl) $ done !))
     (λ t. sets ! (agg ! (and_then ! (lit ! tt) (no_more !))) refl (tt, (record { fits = lit< tt }, tt)) $
     sets_last ! (agg ! (and_then ! (lit ! tt) (and_then ! (get ! refl) (no_more !)))) refl (tt, (record { fits = lit< tt }, ((record { fits = lit< tt }, tt), tt))) $
     exec ! 𝓣.C 𝓣.Λ (En l) code.Mir.t-6 (at_ret (En l) Post) $

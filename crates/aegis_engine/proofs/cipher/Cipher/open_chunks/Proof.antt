@@ -46,8 +46,7 @@ use Rattle.aegis_engine.specs.contracts.destination.Settled as ST
 use Rattle.aegis_engine.specs.contracts.cipher.Cipher as CT
 use Rattle.aegis_base.specs.Chunks.{accepted}
 use Rattle.aegis_base.specs.Message.{Opens}
-use Rattle.std.proofs.mem.Facts.{says_three}
-use Rattle.aegis_engine.proofs.Results.{accepted_ok, slice_laws, weaken}
+use Rattle.aegis_engine.proofs.Results.{accepted_ok, says_four, slice_laws, weaken}
 use Rattle.aegis_engine.specs.contracts.cipher.Cipher.open_chunks as f
 use Rattle.aegis_engine.specs.contracts.cipher.Cipher.settle_chunks as g
 use Rattle.aegis_engine.proofs.cipher.Cipher.settle_chunks.Met.{met as settle_met}
@@ -88,17 +87,17 @@ open_chunks_spec 𝓤 𝓛 𝓜 𝓡 wired S K V n Rw LS LK LV fits LR CS CK CR 
     calls_at ! (framed 𝓤 𝓛.H 𝓜 𝓣) G (settle_met 𝓤 𝓛 𝓜 𝓡 (code.calls-aegis_engine::cipher::Cipher::settle_chunks 𝓡.env wired) S K V n Rw LS LK LV fits LR CS CK CR gS dS gC dC gKC dKC gR dR gRC dRC gV dV mS mC mKC mR mRC mV) y
     (and_then ! (get ! refl) (and_then ! (get ! refl) (and_then ! (get ! refl) (and_then ! (get ! refl) (and_then ! (get ! refl) (no_more !)))))) (λ v.
     use1 𝓛 (later (some (λ (r : SRow.Denot). ((t0 ⊛ t1 ⊛ t2 ⊛ t3 ⊛ t4 ⊛ ‵ (flft κ q) ⊛ others) ⊛ ‵ (SRow.own_val r (v ∷ []))) ⊛ some (λ (ws : Lasts Gn κs a). ‵ (lasts Gn κs a ws)
-    ⊛ (raw (fact 𝓤 (r.dst.ghost_name ≡ d.ghost_name)) ⊛ raw (fact 𝓤 (r.written ≤ length r.dst.now)) ⊛ raw (fact 𝓤 (r.written ≡ count'))
+    ⊛ (raw (fact 𝓤 (r.dst.ghost_name ≡ d.ghost_name)) ⊛ raw (fact 𝓤 (r.dst.ref_ptr ≡ d.ref_ptr)) ⊛ raw (fact 𝓤 (r.written ≤ length r.dst.now)) ⊛ raw (fact 𝓤 (r.written ≡ count'))
     ⊛ raw (fact 𝓤 (r.accepted ≡ false → r.dst.now ≡ replicate r.written 0 ++ drop_list r.written r.dst.now)) ⊛ raw (fact 𝓤 (drop_list r.written r.dst.now ≡ drop_list r.written d.now))
     ⊛ raw (fact 𝓤 (r.accepted ≡ true → IsOpened (take r.written r.dst.now))) ⊛ raw (fact 𝓤 ((m : List ℕ) → IsOpened m → r.accepted ≡ true)) ⊛ raw (fact 𝓤 ((m : List ℕ) → IsOpened m → take r.written r.dst.now ≡ m))))))) (id⊢ 𝓤 (G.post y v)) $
-    await ! tt $ pick ! (λ r. split ! $ split ! $ move ! (2 ∷ []) $ pick ! (λ ws. split ! $ drop ! $ split ! $ heard ! _ (λ name. split ! $ heard ! _ (λ within. split ! $ heard ! _ (λ count. split ! $ heard ! _ (λ gone. split ! $ heard ! _ (λ rest. split ! $ heard ! _ (λ opened. split ! $ heard ! _ (λ found. heard ! _ (λ only.
+    await ! tt $ pick ! (λ r. split ! $ split ! $ move ! (2 ∷ []) $ pick ! (λ ws. split ! $ drop ! $ split ! $ heard ! _ (λ name. split ! $ heard ! _ (λ place. split ! $ heard ! _ (λ within. split ! $ heard ! _ (λ count. split ! $ heard ! _ (λ gone. split ! $ heard ! _ (λ rest. split ! $ heard ! _ (λ opened. split ! $ heard ! _ (λ found. heard ! _ (λ only.
     move ! (1 ∷ []) $ peeks ! SRow _ (shows 𝓛 SRow) r (v ∷ []) (λ is.
     lands_as ! refl refl (((settled_laws (record { mir = named 5; lft = κ })).lawful 𝓛).typed r _ is).0 $
     -- [the settled one; the tokens; the locals]
     let z : I.Ghost = (((κ, tt), (q, tt), tt, (r, tt), (v ∷ [], tt)), tt) in
     let Lent = MutSlice (named 5) κ u8 in let Out = RS.the_row Lent ER.the_row in
     let Ends : GName → ℕ → List ℕ → Out.Denot → Fml = λ γ m l o. follows_if (Array u8 0) (Array u8 0) γ (name_if_ok (λ x. x.ghost_name) o) (λ w. w ++ l) (replicate m 0 ++ l) in
-    let Cases : Out.Denot → Type 0 = λ o. MatchResult o (λ x. (r.accepted ≡ true) × (x.now ≡ take r.written r.dst.now)) (λ e. (r.accepted ≡ false) × (e ≡ Error.InvalidTag)) in
+    let Cases : Out.Denot → Type 0 = λ o. MatchResult o (λ x. (r.accepted ≡ true) × (x.now ≡ take r.written r.dst.now) × (x.ref_ptr ≡ r.dst.ref_ptr)) (λ e. (r.accepted ≡ false) × (e ≡ Error.InvalidTag)) in
     nothing ! $ move ! (1 ∷ 0 ∷ []) $ join ! $ move ! (1 ∷ []) $ split ! $ move ! (1 ∷ []) $ split ! $ move ! (1 ∷ []) $ split ! $ move ! (1 ∷ []) $ split ! $ move ! (1 ∷ []) $ split ! $ move ! (1 ∷ []) $ split ! $
     nothing ! $ move ! (1 ∷ 0 ∷ []) $ join ! $ move ! (0 ∷ 7 ∷ []) $ join ! $
     -- [the settled one with its token; the others; the first, from the last of them on; the locals]
@@ -119,8 +118,9 @@ open_chunks_spec 𝓤 𝓛 𝓜 𝓡 wired S K V n Rw LS LK LV fits LR CS CK CR 
     nothing ! $ nothing ! $ fjoin ! $ nothing ! $ fjoin ! $ nothing ! $ fjoin ! $ nothing ! $ fjoin ! $ nothing ! $ fjoin ! $ join ! $
     -- [what is left and the result; how it ends; the token; the others; the first, from the last of them on]
     move ! (2 ∷ []) $ split ! $ move ! (0 ∷ 4 ∷ []) $ join ! $ move ! (4 ∷ 0 ∷ []) $ join ! $ move ! (4 ∷ 0 ∷ []) $ join ! $ move ! (4 ∷ 0 ∷ []) $ join ! $ move ! (4 ∷ 0 ∷ []) $ join ! $ move ! (4 ∷ 0 ∷ []) $ join ! $ keep ! (0 ∷ 2 ∷ 3 ∷ []) $ join ! $ frame ! $
-    says_three ! (
+    says_four ! (
       weaken o (λ x p. subst IsOpened (sym p.1) (opened p.0)) (λ e p. p.1) cases,
+      weaken o (λ x p. p.2 ∙ place) (λ e p. tt) cases,
       (λ m is. accepted_ok o (weaken o (λ x p. p.0) (λ e p. p.0) cases) (found m is)),
       (λ m is. weaken o (λ x p. p.1 ∙ only m is) (λ e p. tt) cases),
-    ) $ done !)))))))))))))))))))
+    ) $ done !))))))))))))))))))))

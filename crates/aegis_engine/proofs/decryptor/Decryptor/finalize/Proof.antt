@@ -35,8 +35,7 @@ use denote.Triple.Walked.{Stays, stay_dropped, walk_of, ends_at}
 use Rattle.std.proofs.raw_atomic.Walks.{proved}
 use Rattle.std.specs.Borrow.{name_if_ok}
 use Rattle.std.specs.Prelude.{MatchResult, ◌↔◌}
-use Rattle.std.proofs.mem.Facts.{says_three}
-use Rattle.aegis_engine.proofs.Results.{accepted_ok, ok_accepted, slice_laws, weaken}
+use Rattle.aegis_engine.proofs.Results.{accepted_ok, ok_accepted, says_four, slice_laws, weaken}
 use Rattle.aegis_base.specs.Message.{Opens, ciphertext, tag}
 use Rattle.aegis_base.specs.Run.{Stands, held}
 use Rattle.std.proofs.result.Result.TheLaws.{the_row_laws as result_laws}
@@ -91,16 +90,16 @@ finalize_spec 𝓤 𝓛 𝓜 𝓡 wired S V n K Rw LS LV fits LK LR CS CK CR gS 
     calls_at ! (framed 𝓤 𝓛.H 𝓜 𝓣) G (settle_met 𝓤 𝓛 𝓜 𝓡 (code.calls-aegis_engine::decryptor::Decryptor::settle 𝓡.env wired) S V n K Rw LS LV fits LK LR CS CK CR gS dS gC dC gKC dKC gR dR gRC dRC gV dV mS mC mKC mR mRC mV) y
     (and_then ! (get ! refl) (and_then ! (get ! refl) (no_more !))) (λ v.
     use1 𝓛 (later (some (λ (r : SRow.Denot). ((‵ (flft κ q) ⊛ others) ⊛ ‵ (SRow.own_val r (v ∷ []))) ⊛ some (λ (ws : Lasts Gn κs a). ‵ (lasts Gn κs a ws)
-    ⊛ (raw (fact 𝓤 (r.dst.ghost_name ≡ d.dst.ghost_name)) ⊛ raw (fact 𝓤 (r.written ≡ d.written)) ⊛ raw (fact 𝓤 (r.written ≤ length r.dst.now)) ⊛ raw (fact 𝓤 (r.accepted ≡ true → r.dst.now ≡ d.dst.now))
+    ⊛ (raw (fact 𝓤 (r.dst.ghost_name ≡ d.dst.ghost_name)) ⊛ raw (fact 𝓤 (r.dst.ref_ptr ≡ d.dst.ref_ptr)) ⊛ raw (fact 𝓤 (r.written ≡ d.written)) ⊛ raw (fact 𝓤 (r.written ≤ length r.dst.now)) ⊛ raw (fact 𝓤 (r.accepted ≡ true → r.dst.now ≡ d.dst.now))
     ⊛ raw (fact 𝓤 (r.accepted ≡ false → r.dst.now ≡ replicate r.written 0 ++ drop_list r.written r.dst.now)) ⊛ raw (fact 𝓤 (drop_list r.written r.dst.now ≡ drop_list d.written d.dst.now)) ⊛ raw (fact 𝓤 (IsTagged (r.accepted ≡ true))) ⊛ raw (fact 𝓤 (IsFound (r.accepted ≡ true)))))))) (id⊢ 𝓤 (G.post y v)) $
-    await ! tt $ pick ! (λ r. split ! $ split ! $ move ! (2 ∷ []) $ pick ! (λ ws. split ! $ drop ! $ split ! $ heard ! _ (λ name. split ! $ heard ! _ (λ count. split ! $ heard ! _ (λ within. split ! $ heard ! _ (λ kept. split ! $ heard ! _ (λ gone. split ! $ heard ! _ (λ rest. split ! $ heard ! _ (λ tagged. heard ! _ (λ found.
+    await ! tt $ pick ! (λ r. split ! $ split ! $ move ! (2 ∷ []) $ pick ! (λ ws. split ! $ drop ! $ split ! $ heard ! _ (λ name. split ! $ heard ! _ (λ place. split ! $ heard ! _ (λ count. split ! $ heard ! _ (λ within. split ! $ heard ! _ (λ kept. split ! $ heard ! _ (λ gone. split ! $ heard ! _ (λ rest. split ! $ heard ! _ (λ tagged. heard ! _ (λ found.
     move ! (1 ∷ []) $ peeks ! SRow _ (shows 𝓛 SRow) r (v ∷ []) (λ is.
     lands_as ! refl refl (((settled_laws (record { mir = named 0; lft = κ })).lawful 𝓛).typed r _ is).0 $
     -- [the settled one; the tokens; the locals]
     let z : I.Ghost = (((κ, tt), (q, tt), tt, (r, tt), (v ∷ [], tt)), tt) in
     let Lent = MutSlice (named 0) κ u8 in let Out = RS.the_row Lent ER.the_row in
     let Ends : GName → ℕ → List ℕ → Out.Denot → Fml = λ γ m l o. follows_if (Array u8 0) (Array u8 0) γ (name_if_ok (λ x. x.ghost_name) o) (λ w. w ++ l) (replicate m 0 ++ l) in
-    let Cases : Out.Denot → Type 0 = λ o. MatchResult o (λ x. (r.accepted ≡ true) × (x.now ≡ take r.written r.dst.now)) (λ e. (r.accepted ≡ false) × (e ≡ Error.InvalidTag)) in
+    let Cases : Out.Denot → Type 0 = λ o. MatchResult o (λ x. (r.accepted ≡ true) × (x.now ≡ take r.written r.dst.now) × (x.ref_ptr ≡ r.dst.ref_ptr)) (λ e. (r.accepted ≡ false) × (e ≡ Error.InvalidTag)) in
     nothing ! $ move ! (1 ∷ 0 ∷ []) $ join ! $ move ! (1 ∷ []) $ split ! $ nothing ! $ move ! (1 ∷ 0 ∷ []) $ join ! $ move ! (0 ∷ 2 ∷ []) $ join ! $
     use0 𝓛 (raw (fact 𝓤 (r.accepted ≡ false → r.dst.now ≡ replicate r.written 0 ++ drop_list r.written r.dst.now))) (fact_i 𝓤 _ (emp 𝓤) gone) $
     use0 𝓛 (raw (fact 𝓤 (r.written ≤ length r.dst.now))) (fact_i 𝓤 _ (emp 𝓤) within) $ join ! $ move ! (1 ∷ 0 ∷ []) $ use2 𝓛 (raw (I.pre z)) (id⊢ 𝓤 _) $
@@ -118,8 +117,9 @@ finalize_spec 𝓤 𝓛 𝓜 𝓡 wired S V n K Rw LS LV fits LK LR CS CK CR gS 
     let by_cases : MatchResult o (λ _. r.accepted ≡ true) (λ _. r.accepted ≡ false) = weaken o (λ x p. p.0) (λ e p. p.0) cases in
     suffices ! _ (ends_at 𝓛 En hs c y u o ((tt, tt), (tt, tt)) (tt, (tt, tt))) $
     nothing ! $ nothing ! $ fjoin ! $ nothing ! $ fjoin ! $ join ! $ move ! (2 ∷ []) $ split ! $ keep ! (0 ∷ 4 ∷ 2 ∷ 3 ∷ []) $ join ! $ join ! $ frame ! $
-    says_three ! (
+    says_four ! (
       weaken o (λ x p. p.1 ∙ ap (λ (w : ℕ × List ℕ). take w.0 w.1) (λ i. (count i, kept p.0 i))) (λ e p. p.1) cases,
+      weaken o (λ x p. p.2 ∙ place) (λ e p. tt) cases,
       (λ key nonce ad stands. let same = tagged key nonce ad stands in ((λ ok. same.0 (ok_accepted o by_cases ok)), (λ is. accepted_ok o by_cases (same.1 is)))),
       (λ key nonce ad m stands opens. accepted_ok o by_cases (found key nonce ad m stands opens)),
-    ) $ done !)))))))))))))))))))
+    ) $ done !))))))))))))))))))))

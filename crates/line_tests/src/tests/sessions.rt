@@ -1,6 +1,6 @@
 //! The program over readers and writers in memory.
 
-use super::run;
+use aegis_lines::run;
 use std::io;
 use std::io::{ErrorKind, Read, Write};
 use std::test::Fail;

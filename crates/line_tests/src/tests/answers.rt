@@ -1,6 +1,6 @@
 //! Lines and their answers.
 
-use crate::answer::answer_line;
+use aegis_lines::answer_line;
 use std::process::Abort;
 use std::test::Fail;
 
