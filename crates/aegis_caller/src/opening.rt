@@ -1,6 +1,6 @@
 //! Opening in chunks: into a destination that is borrowed for the whole message.
 
-ghost use Rattle.std.specs.Prelude.{◌≡◌, ℕ, ◌+◌, ◌<◌, ◌≤◌, ◌++◌, IfErr, IsOk, List, OnErr, OnOk, [], drop, length, replicate, take};
+ghost use Rattle.std.specs.Prelude.{◌≡◌, ℕ, ◌+◌, ◌<◌, ◌≤◌, ◌++◌, IfErr, IfOk, IsOk, List, OnErr, OnOk, [], drop, length, replicate, take};
 ghost use Rattle.aegis_base.specs.Chunks.{accepted};
 ghost use Rattle.aegis_base.specs.Family.{Aegis128};
 ghost use Rattle.aegis_base.specs.Message.{Opens};
@@ -99,4 +99,19 @@ pub fn open_one_chunk(
     decryptor.update(chunk)?;
     let opened = decryptor.finalize(tag)?;
     Ok(opened.len())
+}
+
+/// Opens a message that is one chunk: what is handed out begins where the destination does.
+pub fn open_in_place<'a>(
+    key: &[u8; 16],
+    nonce: &[u8; 16],
+    chunk: &[u8],
+    tag: &[u8; 16],
+    destination: &'a mut [u8],
+) -> Result<&'a mut [u8], Error>
+    ensures { IfOk result (λ message. message.ref_ptr ≡ destination.entry.ref_ptr) }
+{
+    let mut decryptor = Aegis128L::<16>::new(key, nonce).decryptor(&[], destination);
+    decryptor.update(chunk)?;
+    decryptor.finalize(tag)
 }

@@ -1,6 +1,6 @@
 -- What a pass takes in, place by place, and how a piece is cut into the part that fills the open block, whole rate blocks
 -- and a rest.
-use Rattle.std.proofs.Common.{◌≡◌, ◌∙◌, sym, ap, refl, ℕ, zero, suc, ◌+◌, ◌-◌, ◌*◌, ◌/◌, ◌%◌, ◌<◌, ◌≤◌, ⊎_elim, List, length, replicate, slice_index, arith}
+use Rattle.std.proofs.Common.{◌≡◌, ◌∙◌, sym, ap, subst, refl, ℕ, zero, suc, ◌+◌, ◌-◌, ◌*◌, ◌/◌, ◌%◌, ◌<◌, ◌≤◌, ⊎_elim, List, length, replicate, slice_index, arith}
 use Rattle.std.proofs.Math.Nat.{zero-div}
 use Rattle.std.proofs.lemmas.Bool.{cases_lt}
 use Rattle.std.proofs.lemmas.List.{length-replicate}
@@ -35,6 +35,12 @@ unopened-after t first len r q fills some =
     (λ (all : len ≤ first). let none : len - first ≡ 0 = omega arith in
     let zero_blocks : (len - first) / r ≡ 0 = ap (λ (n : ℕ). n / r) none ∙ zero-div r in absurd (omega arith))
     (cases_lt first len)
+
+-- a piece with no byte before or after its whole rate blocks
+pub only-blocks : (t first n len r : ℕ) → n * r ≤ len - first → first + (len - (first + n * r)) ≡ 0 → IsUnopened (t + first) n r
+    → (n * r ≡ len) × IsUnopened t n r
+only-blocks t first n len r fits none unopened =
+    let here : t + first ≡ t = omega arith in (omega arith, subst (λ (m : ℕ). IsUnopened m n r) here unopened)
 
 -- the updates of the three parts of a piece of len bytes
 pub updates-of-parts : (t first n len r u v w x : ℕ) → 0 < r → IsUnopened (t + first) n r → first + n * r ≤ len

@@ -111,8 +111,7 @@ pub fn absorb_part<S: LaneState>(
 }
 
 /// The lanes after `count` bytes of a buffer, from `at` on, of one rate block: they are xored with the keystream, and the
-/// lanes take in what the pass says. It is inlined, so that no state is copied where there are no bytes.
-#[inline(always)]
+/// lanes take in what the pass says.
 pub fn pass_part<S: LaneState>(
     state: S,
     block: &mut Block,
@@ -218,6 +217,7 @@ pub fn absorb_whole<S: LaneState>(state: S, bytes: &[u8], at: usize, count: usiz
 
 /// The lanes after `count` whole rate blocks of a buffer, from `at` on, where no rate block is open: each is xored with the
 /// keystream, and the lanes take in what the pass says.
+#[inline(always)]
 pub fn pass_whole<S: LaneState>(
     state: S,
     pass: Pass,

@@ -55,6 +55,7 @@ pub fn absorb_all<S: LaneState>(state: S, block: &mut Block, total: u64, bytes: 
 
 /// The lanes along a buffer, behind `total` bytes that they have taken in: each byte is xored with the keystream, and the
 /// lanes take in what the pass says.
+#[inline(always)]
 pub fn pass_all<S: LaneState>(
     state: S,
     block: &mut Block,
@@ -78,6 +79,10 @@ pub fn pass_all<S: LaneState>(
     let whole = (buffer.len() - first) / S::RATE;
     let last = first + whole * S::RATE;
     let rest = buffer.len() - last;
+    // Most chunks are whole rate blocks alone, which go without a copy of the state between parts.
+    if first + rest == 0 {
+        return pass_whole(state, pass, buffer, 0, whole);
+    }
     let state = pass_part(state, block, total, pass, buffer, 0, first);
     let state = pass_whole(state, pass, buffer, first, whole);
     pass_part(state, block, total + last as u64, pass, buffer, last, rest)

@@ -4,10 +4,10 @@ use Rattle.std.proofs.Common.{◌≡◌, ◌∙◌, sym, ap, refl, ℕ, ◌+◌,
 use Rattle.std.proofs.Math.Nat.{div-mul-le_self, le-mul_of_pos_right}
 use Rattle.std.proofs.lemmas.Bool.{cases_lt}
 use Rattle.aegis_base.specs.Message.{stream_byte}
-use Rattle.aegis_base.specs.Run.{HasFrom, IsAlong}
+use Rattle.aegis_base.specs.Run.{HasFrom, IsAlong, IsUnopened}
 use Rattle.aegis_base.proofs.MessageFacts.{rate-positive}
 use Rattle.aegis_engine.specs.Pass.{taken}
-use Rattle.aegis_engine.proofs.PassFacts.{length-taken, taken-same, unopened-after, updates-of-parts}
+use Rattle.aegis_engine.proofs.PassFacts.{length-taken, only-blocks, taken-same, unopened-after, updates-of-parts}
 use Rattle.aegis_engine.proofs.run.pass_all.Goals as goal
 
 -- the three parts: what each takes in of x, and where the run is after the first two
@@ -121,3 +121,39 @@ returns-clause-few g c =
     let more : n ≤ n * c.RATE.result = le-mul_of_pos_right n positive in
     let same : n * c.RATE-2.result ≡ n * c.RATE.result = ap (λ (r : ℕ). n * r) (read2 ∙ sym read) in
     omega arith
+
+-- a piece of whole rate blocks alone: how many bytes they have, where the run is, and what they take in of x
+record AreBlocks (g : _) (c : goal.After-slice_known-then-first-rest-eq0-1 g) (x : List ℕ) : Type 0 where
+  all : (length c.args.buffer.now - c.filling-first.result) / c.RATE.result * g.S.LaneState.RATE ≡ length c.args.buffer.now
+  unopened : IsUnopened c.args.total ((length c.args.buffer.now - c.filling-first.result) / c.RATE.result) g.S.LaneState.RATE
+  whole : (k : ℕ) → k < (length c.args.buffer.now - c.filling-first.result) / c.RATE.result * g.S.LaneState.RATE
+      → slice_index x (c.args.total + k) ≡ slice_index (taken c.args.pass c.args.buffer.now c.pass_whole.new.buffer) (0 + k)
+
+blocks-alone : (g : _) (c : goal.After-slice_known-then-first-rest-eq0-1 g) (x : List ℕ)
+    → HasFrom x c.args.total (taken c.args.pass c.args.buffer.now c.pass_whole.new.buffer) → AreBlocks g c x
+blocks-alone g c x same =
+    let L = g.S.LaneState in let t : ℕ = c.args.total in let len : ℕ = length c.args.buffer.now in
+    let first : ℕ = c.filling-first.result in let n : ℕ = (len - first) / c.RATE.result in
+    let taken_in : List ℕ = taken c.args.pass c.args.buffer.now c.pass_whole.new.buffer in
+    let floor : n * c.RATE.result ≤ len - first = div-mul-le_self (len - first) c.RATE.result in
+    let fits : n * L.RATE ≤ len - first = rw (← c.RATE.ensures) floor in
+    let last : n * c.RATE-2.result ≡ n * L.RATE = ap (λ (r : ℕ). n * r) c.RATE-2.ensures in
+    let none : first + (len - (first + n * L.RATE)) ≡ 0 = rw (← last) c.if-first-rest-eq0.true in
+    let are = only-blocks t first n len L.RATE fits none (unopened-after t first len c.RATE.result L.RATE c.filling-first.ensures.fills) in
+    let all : n * L.RATE ≡ len = are.0 in
+    let long : length taken_in ≡ len = length-taken c.args.pass c.args.buffer.now c.pass_whole.new.buffer (omega arith) in
+    record { all = all; unopened = are.1; whole = λ k low. same k (omega arith) ∙ ap (slice_index taken_in) (omega arith) }
+
+pub returns-then-first-rest-eq0-clause-along : goal.returns-then-first-rest-eq0-clause-along
+returns-then-first-rest-eq0-clause-along g c lanes x along same =
+    let are = blocks-alone g c x same in
+    let end : c.args.total + (length c.args.buffer.now - c.filling-first.result) / c.RATE.result * g.S.LaneState.RATE ≡ c.args.total + length c.args.buffer.now
+    = ap (λ (m : ℕ). c.args.total + m) are.all in
+    rw end at (c.pass_whole.ensures.along lanes c.args.block.now x c.args.total are.unopened along are.whole)
+
+pub returns-then-first-rest-eq0-clause-written : goal.returns-then-first-rest-eq0-clause-written
+returns-then-first-rest-eq0-clause-written g c lanes x along same i low =
+    let are = blocks-alone g c x same in
+    let all = are.all in
+    let here : 0 + i ≡ i = omega arith in
+    rw here at (c.pass_whole.ensures.written lanes c.args.block.now x c.args.total are.unopened along are.whole i (omega arith))
