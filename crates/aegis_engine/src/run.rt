@@ -41,16 +41,14 @@ pub fn absorb_all<S: LaneState>(state: S, block: &mut Block, total: u64, bytes: 
     let first = filling::<S>(total, bytes.len());
     let whole = (bytes.len() - first) / S::RATE;
     let last = first + whole * S::RATE;
+    let rest = bytes.len() - last;
+    // As in `pass_all`; no associated data is no rate block.
+    if first + rest == 0 {
+        return absorb_whole(state, bytes, 0, whole);
+    }
     let state = absorb_part(state, block, total, bytes, 0, first);
     let state = absorb_whole(state, bytes, first, whole);
-    absorb_part(
-        state,
-        block,
-        total + last as u64,
-        bytes,
-        last,
-        bytes.len() - last,
-    )
+    absorb_part(state, block, total + last as u64, bytes, last, rest)
 }
 
 /// The lanes along a buffer, behind `total` bytes that they have taken in: each byte is xored with the keystream, and the
