@@ -38,6 +38,7 @@ pub fn absorb_more<S: LaneState>(state: S, block: &mut Block, total: u64, bytes:
 }
 
 /// Seals the next bytes of a message in place.
+#[inline(always)]
 pub fn seal_more<S: LaneState>(
     state: S,
     block: &mut Block,
@@ -59,6 +60,7 @@ pub fn seal_more<S: LaneState>(
 }
 
 /// Opens the next bytes of a ciphertext in place.
+#[inline(always)]
 pub fn open_more<S: LaneState>(
     state: S,
     block: &mut Block,

@@ -14,6 +14,7 @@ use crate::tag::same_bytes;
 use aegis_base::{Error, LaneState, Length, MAX_AEAD_BYTES};
 
 // Opens the next chunk behind the first `written` bytes of the destination, which has room for it.
+#[inline(always)]
 fn append<S: LaneState>(
     state: S,
     block: &mut Block,

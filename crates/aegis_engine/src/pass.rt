@@ -66,6 +66,7 @@ fn xor_block<S: LaneState>(state: S, buffer: &mut [u8], at: usize)
 }
 
 // Xors `count` bytes of a buffer, from `at` on, with the lanes' keystream behind `total` bytes, within one rate block.
+#[inline(never)]
 fn xor_part<S: LaneState>(state: S, total: u64, buffer: &mut [u8], at: usize, count: usize)
     requires within { at + count ≤ length buffer.old }
     requires one_block { total % S.RATE + count ≤ S.RATE }
@@ -84,6 +85,7 @@ fn xor_part<S: LaneState>(state: S, total: u64, buffer: &mut [u8], at: usize, co
 
 /// The lanes after `count` bytes, from `at` on, of one rate block. The open block keeps them, and is taken in where they
 /// fill it.
+#[inline(never)]
 pub fn absorb_part<S: LaneState>(
     state: S,
     block: &mut Block,
@@ -218,6 +220,7 @@ pub fn absorb_whole<S: LaneState>(state: S, bytes: &[u8], at: usize, count: usiz
 
 /// The lanes after `count` whole rate blocks of a buffer, from `at` on, where no rate block is open: each is xored with the
 /// keystream, and the lanes take in what the pass says.
+#[inline(always)]
 pub fn pass_whole<S: LaneState>(
     state: S,
     pass: Pass,

@@ -55,6 +55,7 @@ pub fn absorb_all<S: LaneState>(state: S, block: &mut Block, total: u64, bytes: 
 
 /// The lanes along a buffer, behind `total` bytes that they have taken in: each byte is xored with the keystream, and the
 /// lanes take in what the pass says.
+#[inline(always)]
 pub fn pass_all<S: LaneState>(
     state: S,
     block: &mut Block,
