@@ -38,26 +38,28 @@ pub fn absorb_more<S: LaneState>(state: S, block: &mut Block, total: u64, bytes:
     absorb_all(state, block, total, bytes)
 }
 
-/// Seals the next bytes of a message in place.
+/// Seals the next bytes of a message: those of a source, which has the buffer's length, or the buffer's own.
 #[inline(always)]
 pub fn seal_more<S: LaneState>(
     state: S,
     block: &mut Block,
     data_bytes: u64,
     message_bytes: u64,
+    source: Option<&[u8]>,
     mc: &mut [u8],
 ) -> S
     requires within { message_bytes + length mc.old < 2 ^ 64 }
+    requires lengths { length (given source mc.old) ≡ length mc.old }
     requires countable { S.updates state + length mc.old < 2 ^ 64 }
     ensures stands { (key nonce ad m : List ℕ)
         → Stands S.FAMILY S.LANES S.lane S.updates (held state block.old data_bytes message_bytes) key nonce ad m
-        → Stands S.FAMILY S.LANES S.lane S.updates (held result block.new data_bytes (message_bytes + length mc.old)) key nonce ad (m ++ mc.old) }
+        → Stands S.FAMILY S.LANES S.lane S.updates (held result block.new data_bytes (message_bytes + length mc.old)) key nonce ad (m ++ given source.entry mc.old) }
     ensures ciphertext { (key nonce ad m : List ℕ)
         → Stands S.FAMILY S.LANES S.lane S.updates (held state block.old data_bytes message_bytes) key nonce ad m
-        → ciphertext S.FAMILY S.LANES key nonce ad (m ++ mc.old) ≡ ciphertext S.FAMILY S.LANES key nonce ad m ++ mc.new }
+        → ciphertext S.FAMILY S.LANES key nonce ad (m ++ given source.entry mc.old) ≡ ciphertext S.FAMILY S.LANES key nonce ad m ++ mc.new }
     ensures few { S.updates result ≤ S.updates state + length mc.old }
 {
-    pass_all(state, block, message_bytes, Pass::Seal, None, mc)
+    pass_all(state, block, message_bytes, Pass::Seal, source, mc)
 }
 
 /// Opens the next bytes of a ciphertext: those of a source, which has the buffer's length, or the buffer's own.
