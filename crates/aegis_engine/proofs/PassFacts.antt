@@ -1,12 +1,14 @@
--- What a pass takes in, place by place, and how a piece is cut into the part that fills the open block, whole rate blocks
+-- What a pass is given and takes in, place by place, and how a piece is cut into the part that fills the open block, whole rate blocks
 -- and a rest.
 use Rattle.std.proofs.Common.{◌≡◌, ◌∙◌, sym, ap, subst, refl, ℕ, zero, suc, ◌+◌, ◌-◌, ◌*◌, ◌/◌, ◌%◌, ◌<◌, ◌≤◌, ⊎_elim, List, length, replicate, slice_index, arith}
+use Rattle.std.specs.Prelude.{Option, Some, None}
+use Rattle.std.specs.Borrow.{Bor}
 use Rattle.std.proofs.Math.Nat.{zero-div}
 use Rattle.std.proofs.lemmas.Bool.{cases_lt}
 use Rattle.std.proofs.lemmas.List.{length-replicate}
 use Rattle.aegis_base.specs.Run.{IsUnopened}
 use Rattle.aegis_base.proofs.RunFacts.{whole-quotient}
-use Rattle.aegis_engine.specs.Pass.{taken}
+use Rattle.aegis_engine.specs.Pass.{given, taken}
 use Rattle.aegis_engine.specs.declared.pass.Pass.{Pass}
 use Rattle.aegis_engine.specs.declared.pass.Pass.TheVariants.{Seal, Open, Stream}
 
@@ -16,7 +18,13 @@ zeros-read zero i = refl
 zeros-read (suc n) zero = refl
 zeros-read (suc n) (suc i) = zeros-read n i
 
--- what a pass takes in at a place depends on the buffers there alone
+-- what a pass is given at a place depends on the buffer there alone
+pub given-same : (source : Option (Bor (List ℕ))) (old old2 : List ℕ) (i : ℕ) → slice_index old i ≡ slice_index old2 i
+    → slice_index (given source old) i ≡ slice_index (given source old2) i
+given-same None old old2 i e = e
+given-same (Some bytes) old old2 i e = refl
+
+-- what a pass takes in at a place depends on the bytes there alone
 pub taken-same : (pass : Pass) (old old2 new new2 : List ℕ) (i : ℕ) → slice_index old i ≡ slice_index old2 i → slice_index new i ≡ slice_index new2 i
     → slice_index (taken pass old new) i ≡ slice_index (taken pass old2 new2) i
 taken-same Seal old old2 new new2 i e f = e

@@ -30,8 +30,7 @@ fn seal_chunk<S: LaneState>(
     ensures few { S.updates result ≤ S.updates state + length chunk.now }
 {
     let part = &mut out[at..at + chunk.len()];
-    part.copy_from_slice(chunk);
-    seal_more(state, block, data_bytes, at as u64, part)
+    seal_more(state, block, data_bytes, at as u64, Some(chunk), part)
 }
 
 /// Seals a message's chunks into `out`, one after the other.

@@ -102,7 +102,7 @@ impl<S: LaneState<Key = K>, K: Copy, V: Variant, const TAG_BYTES: usize> Cipher<
     {
         let state = begin::<S>(&self.key, &self.nonce, ad);
         let mut block = ZEROS;
-        let state = seal_more(state, &mut block, ad.len() as u64, 0, mc);
+        let state = seal_more(state, &mut block, ad.len() as u64, 0, None, mc);
         finish(state, &block, ad.len() as u64, mc.len() as u64)
     }
 
@@ -114,7 +114,7 @@ impl<S: LaneState<Key = K>, K: Copy, V: Variant, const TAG_BYTES: usize> Cipher<
     {
         let state = begin::<S>(&self.key, &self.nonce, ad);
         let mut block = ZEROS;
-        let state = open_more(state, &mut block, ad.len() as u64, 0, mc);
+        let state = open_more(state, &mut block, ad.len() as u64, 0, None, mc);
         finish(state, &block, ad.len() as u64, mc.len() as u64)
     }
 
@@ -221,6 +221,7 @@ impl<S: LaneState<Key = K>, K: Copy, V: Variant, const TAG_BYTES: usize> Cipher<
             &mut block,
             0,
             0,
+            None,
             out,
         );
     }
@@ -236,6 +237,7 @@ impl<S: LaneState<Key = K>, K: Copy, V: Variant, const TAG_BYTES: usize> Cipher<
             &mut block,
             0,
             Pass::Stream,
+            None,
             mc,
         );
     }

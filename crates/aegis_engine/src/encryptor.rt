@@ -78,7 +78,14 @@ impl<S: LaneState, V: Variant, const TAG_BYTES: usize> Encryptor<S, V, TAG_BYTES
         ensures length { self.new.message_bytes ≡ self.old.message_bytes + length buffer.old }
     {
         let so_far = self.message_bytes.get();
-        self.state = seal_more(self.state, &mut self.block, self.data_bytes, so_far, buffer);
+        self.state = seal_more(
+            self.state,
+            &mut self.block,
+            self.data_bytes,
+            so_far,
+            None,
+            buffer,
+        );
         let _ = self.message_bytes.add(buffer.len() as u64);
     }
 

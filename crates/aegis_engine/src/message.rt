@@ -6,6 +6,7 @@
 ghost use Rattle.std.specs.Prelude.{◌≡◌, ℕ, ◌+◌, ◌*◌, ◌^◌, ◌<◌, ◌≤◌, ◌⊎◌, ◌++◌, length, List, []};
 ghost use Rattle.aegis_base.specs.Message.{block_count, ciphertext, lane_end, tag};
 ghost use Rattle.aegis_base.specs.Run.{Stands, held};
+ghost use Rattle.aegis_engine.specs.Pass.{given};
 
 use crate::pass::{Block, Pass, ZEROS};
 use crate::run::{absorb_all, pad, pass_all};
@@ -37,48 +38,52 @@ pub fn absorb_more<S: LaneState>(state: S, block: &mut Block, total: u64, bytes:
     absorb_all(state, block, total, bytes)
 }
 
-/// Seals the next bytes of a message in place.
+/// Seals the next bytes of a message: those of a source, which has the buffer's length, or the buffer's own.
 #[inline(always)]
 pub fn seal_more<S: LaneState>(
     state: S,
     block: &mut Block,
     data_bytes: u64,
     message_bytes: u64,
+    source: Option<&[u8]>,
     mc: &mut [u8],
 ) -> S
     requires within { message_bytes + length mc.old < 2 ^ 64 }
+    requires lengths { length (given source mc.old) ≡ length mc.old }
     requires countable { S.updates state + length mc.old < 2 ^ 64 }
     ensures stands { (key nonce ad m : List ℕ)
         → Stands S.FAMILY S.LANES S.lane S.updates (held state block.old data_bytes message_bytes) key nonce ad m
-        → Stands S.FAMILY S.LANES S.lane S.updates (held result block.new data_bytes (message_bytes + length mc.old)) key nonce ad (m ++ mc.old) }
+        → Stands S.FAMILY S.LANES S.lane S.updates (held result block.new data_bytes (message_bytes + length mc.old)) key nonce ad (m ++ given source.entry mc.old) }
     ensures ciphertext { (key nonce ad m : List ℕ)
         → Stands S.FAMILY S.LANES S.lane S.updates (held state block.old data_bytes message_bytes) key nonce ad m
-        → ciphertext S.FAMILY S.LANES key nonce ad (m ++ mc.old) ≡ ciphertext S.FAMILY S.LANES key nonce ad m ++ mc.new }
+        → ciphertext S.FAMILY S.LANES key nonce ad (m ++ given source.entry mc.old) ≡ ciphertext S.FAMILY S.LANES key nonce ad m ++ mc.new }
     ensures few { S.updates result ≤ S.updates state + length mc.old }
 {
-    pass_all(state, block, message_bytes, Pass::Seal, mc)
+    pass_all(state, block, message_bytes, Pass::Seal, source, mc)
 }
 
-/// Opens the next bytes of a ciphertext in place.
+/// Opens the next bytes of a ciphertext: those of a source, which has the buffer's length, or the buffer's own.
 #[inline(always)]
 pub fn open_more<S: LaneState>(
     state: S,
     block: &mut Block,
     data_bytes: u64,
     message_bytes: u64,
+    source: Option<&[u8]>,
     mc: &mut [u8],
 ) -> S
     requires within { message_bytes + length mc.old < 2 ^ 64 }
+    requires lengths { length (given source mc.old) ≡ length mc.old }
     requires countable { S.updates state + length mc.old < 2 ^ 64 }
     ensures stands { (key nonce ad m : List ℕ)
         → Stands S.FAMILY S.LANES S.lane S.updates (held state block.old data_bytes message_bytes) key nonce ad m
         → Stands S.FAMILY S.LANES S.lane S.updates (held result block.new data_bytes (message_bytes + length mc.old)) key nonce ad (m ++ mc.new) }
     ensures ciphertext { (key nonce ad m : List ℕ)
         → Stands S.FAMILY S.LANES S.lane S.updates (held state block.old data_bytes message_bytes) key nonce ad m
-        → ciphertext S.FAMILY S.LANES key nonce ad (m ++ mc.new) ≡ ciphertext S.FAMILY S.LANES key nonce ad m ++ mc.old }
+        → ciphertext S.FAMILY S.LANES key nonce ad (m ++ mc.new) ≡ ciphertext S.FAMILY S.LANES key nonce ad m ++ given source.entry mc.old }
     ensures few { S.updates result ≤ S.updates state + length mc.old }
 {
-    pass_all(state, block, message_bytes, Pass::Open, mc)
+    pass_all(state, block, message_bytes, Pass::Open, source, mc)
 }
 
 // The lanes after the end of a message (AEGIS, Finalize).

@@ -37,8 +37,7 @@ fn append<S: LaneState>(
     ensures few { S.updates result ≤ S.updates state + length chunk.now }
 {
     let part = &mut dst[written..written + chunk.len()];
-    part.copy_from_slice(chunk);
-    open_more(state, block, data_bytes, written as u64, part)
+    open_more(state, block, data_bytes, written as u64, Some(chunk), part)
 }
 
 /// Opens the next chunk behind the first `written` bytes of the destination and counts it, if it has room there and keeps

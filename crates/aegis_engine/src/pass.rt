@@ -2,14 +2,15 @@
 //!
 //! Sealing, opening and the xor with a keystream are one pass: each byte of a buffer is xored with the keystream, and
 //! the lanes take in what the pass says, the bytes before that, the bytes after it, or zeros. Associated data and the
-//! input of a MAC are taken in without a buffer. Contracts speak of any bytes `x` that the run goes along, of which
+//! input of a MAC are taken in without a buffer. A pass may have a source, which has the buffer's length: it goes along the
+//! bytes of that, and what the buffer held is lost. Contracts speak of any bytes `x` that the run goes along, of which
 //! the lanes have taken in those before a place, and which have the bytes of the call from there on.
 
 ghost use Rattle.std.specs.Prelude.{◌≡◌, ℕ, ◌+◌, ◌*◌, ◌/◌, ◌%◌, ◌^◌, ◌<◌, ◌≤◌, bit_xor, length, List, slice_index, replicate};
 ghost use Rattle.aegis_base.specs.Lane.{step};
 ghost use Rattle.aegis_base.specs.Message.{keystream_byte, share_at, stream_byte};
 ghost use Rattle.aegis_base.specs.Run.{IsAlong, IsUnopened};
-ghost use Rattle.aegis_engine.specs.Pass.{taken};
+ghost use Rattle.aegis_engine.specs.Pass.{given, taken};
 
 use aegis_base::LaneState;
 
@@ -42,6 +43,20 @@ pub fn copy_part(target: &mut [u8], at: usize, source: &[u8], from: usize, count
     target[at..at + count].copy_from_slice(&source[from..from + count]);
 }
 
+/// Copies `count` bytes of a pass's source, from `at` on, to the same places of the buffer. Without a source nothing changes.
+#[inline(always)]
+pub fn copy_given(source: Option<&[u8]>, buffer: &mut [u8], at: usize, count: usize)
+    requires within { at + count ≤ length buffer.old }
+    requires source_within { at + count ≤ length (given source buffer.old) }
+    ensures written { (k : ℕ) → k < count → slice_index buffer.new (at + k) ≡ slice_index (given source.entry buffer.old) (at + k) }
+    ensures below { (i : ℕ) → i < at → slice_index buffer.new i ≡ slice_index buffer.old i }
+    ensures above { (i : ℕ) → at + count ≤ i → slice_index buffer.new i ≡ slice_index buffer.old i }
+{
+    if let Some(bytes) = source {
+        copy_part(buffer, at, bytes, at, count);
+    }
+}
+
 // A copy of the rate block of `bytes` from `at` on.
 #[inline(always)]
 fn copied<S: LaneState>(bytes: &[u8], at: usize) -> Block
@@ -66,6 +81,7 @@ fn xor_block<S: LaneState>(state: S, buffer: &mut [u8], at: usize)
 }
 
 // Xors `count` bytes of a buffer, from `at` on, with the lanes' keystream behind `total` bytes, within one rate block.
+#[inline(never)]
 fn xor_part<S: LaneState>(state: S, total: u64, buffer: &mut [u8], at: usize, count: usize)
     requires within { at + count ≤ length buffer.old }
     requires one_block { total % S.RATE + count ≤ S.RATE }
@@ -84,6 +100,7 @@ fn xor_part<S: LaneState>(state: S, total: u64, buffer: &mut [u8], at: usize, co
 
 /// The lanes after `count` bytes, from `at` on, of one rate block. The open block keeps them, and is taken in where they
 /// fill it.
+#[inline(never)]
 pub fn absorb_part<S: LaneState>(
     state: S,
     block: &mut Block,
@@ -216,26 +233,29 @@ pub fn absorb_whole<S: LaneState>(state: S, bytes: &[u8], at: usize, count: usiz
 }
 
 /// The lanes after `count` whole rate blocks of a buffer, from `at` on, where no rate block is open: each is xored with the
-/// keystream, and the lanes take in what the pass says.
+/// keystream, and the lanes take in what the pass says. A block of a source is copied right before that, so that memory is
+/// waited for beside the rounds and not before the first.
 #[inline(always)]
 pub fn pass_whole<S: LaneState>(
     state: S,
     pass: Pass,
+    source: Option<&[u8]>,
     buffer: &mut [u8],
     at: usize,
     count: usize,
 ) -> S
     requires within { at + count * S.RATE ≤ length buffer.old }
+    requires source_within { at + count * S.RATE ≤ length (given source buffer.old) }
     requires countable { S.updates state + count < 2 ^ 64 }
     ensures along { (lanes : ℕ → List (List ℕ)) (block x : List ℕ) (total : ℕ) → IsUnopened total count S.RATE
         → IsAlong S.FAMILY S.LANES lanes (S.lane state) block x total
-        → ((k : ℕ) → k < count * S.RATE → slice_index x (total + k) ≡ slice_index (taken pass buffer.old buffer.new) (at + k))
+        → ((k : ℕ) → k < count * S.RATE → slice_index x (total + k) ≡ slice_index (taken pass (given source.entry buffer.old) buffer.new) (at + k))
         → IsAlong S.FAMILY S.LANES lanes (S.lane result) block x (total + count * S.RATE) }
     ensures written { (lanes : ℕ → List (List ℕ)) (block x : List ℕ) (total : ℕ) → IsUnopened total count S.RATE
         → IsAlong S.FAMILY S.LANES lanes (S.lane state) block x total
-        → ((k : ℕ) → k < count * S.RATE → slice_index x (total + k) ≡ slice_index (taken pass buffer.old buffer.new) (at + k))
+        → ((k : ℕ) → k < count * S.RATE → slice_index x (total + k) ≡ slice_index (taken pass (given source.entry buffer.old) buffer.new) (at + k))
         → (k : ℕ) → k < count * S.RATE
-        → slice_index buffer.new (at + k) ≡ bit_xor (slice_index buffer.old (at + k)) (stream_byte S.FAMILY S.LANES lanes x (total + k)) }
+        → slice_index buffer.new (at + k) ≡ bit_xor (slice_index (given source.entry buffer.old) (at + k)) (stream_byte S.FAMILY S.LANES lanes x (total + k)) }
     ensures below { (i : ℕ) → i < at → slice_index buffer.new i ≡ slice_index buffer.old i }
     ensures above { (i : ℕ) → at + count * S.RATE ≤ i → slice_index buffer.new i ≡ slice_index buffer.old i }
     ensures updates { S.updates result ≡ S.updates state + count }
@@ -243,6 +263,7 @@ pub fn pass_whole<S: LaneState>(
     let rate = S::RATE;
     let mut state = state;
     for i in 0..count {
+        copy_given(source, buffer, at + i * rate, rate);
         state = pass_block(state, pass, buffer, at + i * rate);
     }
     state

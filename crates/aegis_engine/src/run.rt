@@ -7,10 +7,10 @@
 ghost use Rattle.std.specs.Prelude.{◌≡◌, ℕ, ◌+◌, ◌%◌, ◌/◌, ◌^◌, ◌<◌, ◌≤◌, bit_xor, length, List, slice_index};
 ghost use Rattle.aegis_base.specs.Message.{after_all, block_count, stream_byte};
 ghost use Rattle.aegis_base.specs.Run.{HasFrom, IsAlong};
-ghost use Rattle.aegis_engine.specs.Pass.{taken};
+ghost use Rattle.aegis_engine.specs.Pass.{given, taken};
 
 use crate::pass::{
-    Block, Pass, ZEROS, absorb_part, absorb_whole, copy_part, pass_part, pass_whole,
+    Block, Pass, ZEROS, absorb_part, absorb_whole, copy_given, copy_part, pass_part, pass_whole,
 };
 use aegis_base::LaneState;
 
@@ -52,24 +52,26 @@ pub fn absorb_all<S: LaneState>(state: S, block: &mut Block, total: u64, bytes: 
 }
 
 /// The lanes along a buffer, behind `total` bytes that they have taken in: each byte is xored with the keystream, and the
-/// lanes take in what the pass says.
+/// lanes take in what the pass says. Where there is a source, which has the buffer's length, the bytes are its.
 #[inline(always)]
 pub fn pass_all<S: LaneState>(
     state: S,
     block: &mut Block,
     total: u64,
     pass: Pass,
+    source: Option<&[u8]>,
     buffer: &mut [u8],
 ) -> S
     requires within { total + length buffer.old < 2 ^ 64 }
+    requires lengths { length (given source buffer.old) ≡ length buffer.old }
     requires countable { S.updates state + length buffer.old < 2 ^ 64 }
     ensures along { (lanes : ℕ → List (List ℕ)) (x : List ℕ) → IsAlong S.FAMILY S.LANES lanes (S.lane state) block.old x total
-        → HasFrom x total (taken pass buffer.old buffer.new)
+        → HasFrom x total (taken pass (given source.entry buffer.old) buffer.new)
         → IsAlong S.FAMILY S.LANES lanes (S.lane result) block.new x (total + length buffer.old) }
     ensures written { (lanes : ℕ → List (List ℕ)) (x : List ℕ) → IsAlong S.FAMILY S.LANES lanes (S.lane state) block.old x total
-        → HasFrom x total (taken pass buffer.old buffer.new)
+        → HasFrom x total (taken pass (given source.entry buffer.old) buffer.new)
         → (i : ℕ) → i < length buffer.old
-        → slice_index buffer.new i ≡ bit_xor (slice_index buffer.old i) (stream_byte S.FAMILY S.LANES lanes x (total + i)) }
+        → slice_index buffer.new i ≡ bit_xor (slice_index (given source.entry buffer.old) i) (stream_byte S.FAMILY S.LANES lanes x (total + i)) }
     ensures updates { S.updates result + total / S.RATE ≡ S.updates state + (total + length buffer.old) / S.RATE }
     ensures few { S.updates result ≤ S.updates state + length buffer.old }
 {
@@ -79,10 +81,12 @@ pub fn pass_all<S: LaneState>(
     let rest = buffer.len() - last;
     // Most chunks are whole rate blocks alone, which go without a copy of the state between parts.
     if first + rest == 0 {
-        return pass_whole(state, pass, buffer, 0, whole);
+        return pass_whole(state, pass, source, buffer, 0, whole);
     }
+    copy_given(source, buffer, 0, first);
     let state = pass_part(state, block, total, pass, buffer, 0, first);
-    let state = pass_whole(state, pass, buffer, first, whole);
+    let state = pass_whole(state, pass, source, buffer, first, whole);
+    copy_given(source, buffer, last, rest);
     pass_part(state, block, total + last as u64, pass, buffer, last, rest)
 }
 

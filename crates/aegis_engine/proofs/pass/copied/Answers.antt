@@ -1,5 +1,5 @@
 -- The bytes of the copy are those of the block, so its shares are.
-use Rattle.std.proofs.Common.{◌≡◌, ◌∙◌}
+use Rattle.std.proofs.Common.{◌∙◌}
 use Rattle.aegis_base.proofs.MessageFacts.{share_at-same}
 use Rattle.aegis_engine.proofs.pass.copied.Goals as goal
 

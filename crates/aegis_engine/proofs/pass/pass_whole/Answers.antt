@@ -5,46 +5,53 @@ use Rattle.aegis_base.specs.Family.{rate}
 use Rattle.aegis_base.specs.Message.{after, stream_byte}
 use Rattle.aegis_base.proofs.RunFacts.{along-whole, block-byte, block-lane, whole-place}
 use Rattle.aegis_base.proofs.MessageFacts.{rate-positive}
-use Rattle.aegis_engine.specs.Pass.{taken}
-use Rattle.aegis_engine.proofs.PassFacts.{taken-same}
+use Rattle.aegis_engine.specs.Pass.{given, taken}
+use Rattle.aegis_engine.proofs.PassFacts.{given-same, taken-same}
 use Rattle.aegis_engine.proofs.pass.pass_whole.Goals as goal
 
 pub loop-i-preserved : goal.loop-i-preserved
 loop-i-preserved g c =
     let L = g.S.LaneState in let r = c.RATE-rate.result in let i = c.loop-i.i in let inv = c.loop-i.invariant in
-    let old = c.args.buffer.now in let now = c.loop-i.buffer in let new = c.pass_block-state.new.buffer in
+    let here = c.args.at + i * r in
+    let old = given c.args.source c.args.buffer.now in let now = c.loop-i.buffer in
+    let block = c.copy_given.new.buffer in let new = c.pass_block-state.new.buffer in
     let rate_is : r ≡ rate L.FAMILY L.LANES = c.RATE-rate.ensures ∙ g.met.S.LaneState.rate_is in
+    let below : (q : ℕ) → q < here → slice_index new q ≡ slice_index now q =
+    λ q low. c.pass_block-state.ensures.below q low ∙ c.copy_given.ensures.below q low in
+    let brought : (k : ℕ) → k < r → slice_index block (here + k) ≡ slice_index old (here + k) =
+    λ k low. c.copy_given.ensures.written k low ∙ given-same c.args.source now c.args.buffer.now (here + k) (inv.above (here + k) (omega arith)) in
     let kept : (x : List ℕ) (n : ℕ) → ((k : ℕ) → k < (i + 1) * r → slice_index x (n * r + k) ≡ slice_index (taken c.args.pass old new) (c.args.at + k))
     → (k : ℕ) → k < i * r → slice_index x (n * r + k) ≡ slice_index (taken c.args.pass old now) (c.args.at + k) =
     λ x n same k low. same k (omega arith)
-    ∙ taken-same c.args.pass old old new now (c.args.at + k) refl (c.pass_block-state.ensures.below (c.args.at + k) (omega arith)) in
+    ∙ taken-same c.args.pass old old new now (c.args.at + k) refl (below (c.args.at + k) (omega arith)) in
     record {
       updates = omega arith;
       lanes = λ lanes x n begin same j inside.
           c.pass_block-state.ensures.lanes j inside
-          ∙ block-lane L.FAMILY L.LANES lanes (L.lane c.loop-i.state) x (n + i) (inv.lanes lanes x n begin (kept x n same)) (taken c.args.pass now new) (c.args.at + i * r) j inside
+          ∙ block-lane L.FAMILY L.LANES lanes (L.lane c.loop-i.state) x (n + i) (inv.lanes lanes x n begin (kept x n same)) (taken c.args.pass block new) here j inside
           (λ k low.
-          let here : c.args.at + i * r + k ≡ c.args.at + (i * r + k) = omega arith in
+          let place : here + k ≡ c.args.at + (i * r + k) = omega arith in
           let there : n * r + (i * r + k) ≡ (n + i) * r + k = omega arith in
-          taken-same c.args.pass now old new new (c.args.at + i * r + k) (inv.above (c.args.at + i * r + k) (omega arith)) refl
-          ∙ ap (slice_index (taken c.args.pass old new)) here ∙ sym (same (i * r + k) (omega arith)) ∙ ap (slice_index x) there
+          taken-same c.args.pass block old new new (here + k) (brought k (omega arith)) refl
+          ∙ ap (slice_index (taken c.args.pass old new)) place ∙ sym (same (i * r + k) (omega arith)) ∙ ap (slice_index x) there
           ∙ ap (λ (q : ℕ). slice_index x ((n + i) * q + k)) rate_is)
           ∙ ap (after L.FAMILY L.LANES (lanes j) j x) (omega arith);
       written = λ lanes x n begin same k low.
           ⊎_elim
-          (λ front. c.pass_block-state.ensures.below (c.args.at + k) (omega arith) ∙ inv.written lanes x n begin (kept x n same) k front)
+          (λ front. below (c.args.at + k) (omega arith) ∙ inv.written lanes x n begin (kept x n same) k front)
           (λ back.
           let p : ℕ = k - i * r in
           let under : p < rate L.FAMILY L.LANES = omega arith in
-          let here : c.args.at + i * r + p ≡ c.args.at + k = omega arith in
+          let place : here + p ≡ c.args.at + k = omega arith in
           let there : (n + i) * r + p ≡ n * r + k = omega arith in
           let byte = block-byte L.FAMILY L.LANES lanes (L.lane c.loop-i.state) x (n + i) (inv.lanes lanes x n begin (kept x n same)) p g.met.S.LaneState.one_two_or_four under in
           let stream = ap (stream_byte L.FAMILY L.LANES lanes x) (sym there ∙ ap (λ (q : ℕ). (n + i) * q + p) rate_is) ∙ byte in
-          let old_byte = inv.above (c.args.at + k) (omega arith) in
-          rw (stream, ← old_byte) (rw here at (c.pass_block-state.ensures.written p (omega (arith, g.met.S.LaneState.rate_is)))))
+          let old_byte = rw place at (brought p (omega arith)) in
+          rw (stream, ← old_byte) (rw place at (c.pass_block-state.ensures.written p (omega (arith, g.met.S.LaneState.rate_is)))))
           (cases_lt k (i * r));
-      below = λ q low. c.pass_block-state.ensures.below q (omega arith) ∙ inv.below q low;
-      above = λ q high. c.pass_block-state.ensures.above q (rw (← c.RATE-rate.ensures) (omega arith)) ∙ inv.above q (omega arith);
+      below = λ q low. below q (omega arith) ∙ inv.below q low;
+      above = λ q high.
+          c.pass_block-state.ensures.above q (rw (← c.RATE-rate.ensures) (omega arith)) ∙ c.copy_given.ensures.above q (omega arith) ∙ inv.above q (omega arith);
     }
 
 pub returns-clause-along : goal.returns-clause-along
@@ -73,5 +80,5 @@ returns-clause-written g c lanes block x total unopened along same k low =
     c.loop-i.invariant.written lanes x (total / r) along.whole
     (λ q under. rw (c.RATE-rate.ensures, rate_is) (ap (slice_index x) (place q (rw (done, ← rate_is, ← c.RATE-rate.ensures) under)) ∙ same q (rw (done, ← c.RATE-rate.ensures) under)))
     k (rw (← done, c.RATE-rate.ensures) low)
-    ∙ ap (λ (q : ℕ). bit_xor (slice_index c.args.buffer.now (c.args.at + k)) (stream_byte L.FAMILY L.LANES lanes x q))
+    ∙ ap (λ (q : ℕ). bit_xor (slice_index (given c.args.source c.args.buffer.now) (c.args.at + k)) (stream_byte L.FAMILY L.LANES lanes x q))
     (ap (λ (q : ℕ). total / r * q + k) (c.RATE-rate.ensures ∙ rate_is) ∙ there)
