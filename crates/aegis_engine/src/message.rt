@@ -14,6 +14,7 @@ use crate::tag::lanes_tag;
 use aegis_base::{LaneState, MAX_AEAD_BYTES};
 
 /// The lanes after their start and associated data; the open block of a message that follows holds nothing yet.
+#[inline(never)]
 pub fn begin<S: LaneState>(key: &S::Key, nonce: &S::Key, ad: &[u8]) -> S
     requires { length ad.now ≤ MAX_AEAD_BYTES }
     ensures stands { (block : List ℕ) → Stands S.FAMILY S.LANES S.lane S.updates (held result block (length ad.now) 0)

@@ -215,6 +215,7 @@ fn pass_block<S: LaneState>(state: S, pass: Pass, buffer: &mut [u8], at: usize) 
 }
 
 /// The lanes after `count` whole rate blocks of `bytes`, from `at` on, where no rate block is open.
+#[inline(always)]
 pub fn absorb_whole<S: LaneState>(state: S, bytes: &[u8], at: usize, count: usize) -> S
     requires within { at + count * S.RATE ≤ length bytes.now }
     requires countable { S.updates state + count < 2 ^ 64 }

@@ -29,6 +29,7 @@ fn filling<S: LaneState>(total: u64, count: usize) -> usize
 }
 
 /// The lanes after `bytes`, behind `total` bytes that they have taken in.
+#[inline(always)]
 pub fn absorb_all<S: LaneState>(state: S, block: &mut Block, total: u64, bytes: &[u8]) -> S
     requires within { total + length bytes.now < 2 ^ 64 }
     requires countable { S.updates state + length bytes.now < 2 ^ 64 }
@@ -91,6 +92,7 @@ pub fn pass_all<S: LaneState>(
 }
 
 /// The lanes after all `total` bytes of a run: where a rate block is open, it is taken in with zeros after its bytes.
+#[inline(always)]
 pub fn pad<S: LaneState>(state: S, block: &Block, total: u64) -> S
     requires { S.updates state + 1 < 2 ^ 64 }
     ensures lanes { (lanes : ℕ → List (List ℕ)) (x : List ℕ) → length x ≡ total → IsAlong S.FAMILY S.LANES lanes (S.lane state) block.now x total
