@@ -1,16 +1,15 @@
 -- A record is read as itself, so no bytes have two longest fronts of whole records.
-use Rattle.std.proofs.Common.{◌≡◌, ◌⊎◌, ℕ, zero, suc, ◌+◌, ◌<◌, ◌≤◌, ◌^◌, List, [], ◌∷◌, ◌++◌, length, take, drop, get_or, Result, Ok, Err, refl, sym, ap, subst, ◌∙◌, append_assoc, arith, inl, inr, ltb, cond, true, false}
+use Rattle.std.proofs.Common.{◌≡◌, ◌⊎◌, ℕ, ◌+◌, ◌<◌, ◌≤◌, ◌^◌, List, [], ◌∷◌, ◌++◌, length, get_or, Result, Ok, refl, sym, ap, subst, ◌∙◌, append_assoc, arith, inl, inr, ltb, false}
 use Rattle.std.specs.Int.{w32, from_le_bytes, to_le_bytes}
 use Rattle.std.proofs.lemmas.Bool.{le-ltb}
 use Rattle.std.proofs.lemmas.List.{append_cancel_left, append-nil, drop_at, length-append, take_at}
 use Rattle.std.proofs.Math.Nat.{add-zero}
 use Rattle.std.proofs.lemmas.Nat.{from_le_bytes-to_le_bytes_4}
 use Rattle.aegis_record.specs.declared.error.RecordError.{RecordError}
-use Rattle.aegis_record.specs.declared.error.RecordError.TheVariants as errors
 use Rattle.aegis_record.specs.declared.version.Version.{Version}
 use Rattle.aegis_record.specs.declared.version.Version.TheVariants.{First, Second}
-use Rattle.aegis_record.specs.Fault.{HasFault, IsDamaged, length_at, parts, parts_after}
-use Rattle.aegis_record.specs.Stream.{AreWithin, IsSealing, IsStream, Sealing, flag_before, frame, frames, front, header, limit, total}
+use Rattle.aegis_record.specs.Fault.{HasFault, parts, parts_after}
+use Rattle.aegis_record.specs.Stream.{AreWithin, IsSealing, Sealing, flag_before, frame, frames, header, limit, total}
 
 -- ---- one record
 

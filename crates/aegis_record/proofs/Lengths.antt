@@ -1,6 +1,6 @@
 -- The length of a stream, as a sum over its messages.
 use denote.Ref.{Bor}
-use Rattle.std.proofs.Common.{◌≡◌, ℕ, zero, suc, ◌+◌, ◌<◌, ◌≤◌, List, [], ◌∷◌, ◌++◌, length, take, slice_index_or, add-one, refl, sym, ap, ◌∙◌, arith}
+use Rattle.std.proofs.Common.{◌≡◌, ℕ, zero, suc, ◌+◌, ◌<◌, ◌≤◌, List, [], ◌∷◌, ◌++◌, length, take, slice_index_or, add-one, refl, ap, arith}
 use Rattle.std.specs.Int.{w32, to_le_bytes}
 use Rattle.std.specs.Prelude.{Err, IfOk, Ok, Result, Vec}
 use Rattle.aegis_record.specs.declared.error.RecordError.{RecordError}
@@ -8,7 +8,7 @@ use Rattle.std.proofs.lemmas.List.{length-append}
 use Rattle.aegis_record.specs.declared.version.Version.{Version}
 use Rattle.aegis_record.specs.declared.version.Version.TheVariants.{First, Second}
 use Rattle.aegis_record.specs.Calls.{texts}
-use Rattle.aegis_record.specs.Stream.{IsSealing, IsStream, Sealing, flag_before, frame, frames, frames_length, header, stream_length, total}
+use Rattle.aegis_record.specs.Stream.{IsSealing, IsStream, Sealing, flag_before, frames, frames_length, header, stream_length, total}
 
 header_long : (v : Version) → length (header v) ≡ 4
 header_long First = refl

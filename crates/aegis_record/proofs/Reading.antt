@@ -10,7 +10,7 @@ use Rattle.aegis_record.specs.declared.error.RecordError.{RecordError}
 use Rattle.aegis_record.specs.declared.error.RecordError.TheVariants as errors
 use Rattle.aegis_record.specs.declared.version.Version.{Version}
 use Rattle.aegis_record.specs.Calls.{IsRecord}
-use Rattle.aegis_record.specs.Fault.{AtEnd, AtHeader, AtRecord, HasFault, IsDamaged, IsFaultOf, length_at, parts, parts_after}
+use Rattle.aegis_record.specs.Fault.{AtEnd, AtRecord, HasFault, IsFaultOf, length_at, parts, parts_after}
 use Rattle.aegis_record.specs.Stream.{AreWithin, IsSealing, IsStream, Sealing, flag_before, frame, frames, front, header, limit, total}
 
 abbrev Parts : Type 0

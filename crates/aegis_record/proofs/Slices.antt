@@ -1,7 +1,7 @@
 -- Vectors as slices, and messages that were opened and are to be sealed again.
 use denote.Ref.{Bor}
-use Rattle.std.proofs.Common.{◌≡◌, ◌∙◌, ◌+◌, ◌<◌, ◌≤◌, ℕ, List, [], ◌∷◌, ◌++◌, get_or, length, map, take, refl, sym, ap, subst, arith}
-use Rattle.std.specs.Prelude.{Err, IfOk, Ok, Result, Vec, vec_items}
+use Rattle.std.proofs.Common.{◌≡◌, ◌∙◌, ◌+◌, ◌<◌, ◌≤◌, ℕ, List, [], ◌∷◌, ◌++◌, get_or, length, take, refl, ap, arith}
+use Rattle.std.specs.Prelude.{Vec, vec_items}
 use Rattle.std.proofs.lemmas.List.{map-append, take_all, take_more}
 use Rattle.aegis_record.specs.declared.version.Version.{Version}
 use Rattle.aegis_record.specs.declared.version.Version.TheVariants.{First, Second}

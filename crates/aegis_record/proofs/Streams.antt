@@ -8,8 +8,8 @@ use Rattle.aegis_record.specs.declared.version.Version.{Version}
 use Rattle.aegis_record.specs.declared.version.Version.TheVariants.{First, Second}
 use Rattle.aegis_record.specs.Calls.{IsRefused, OpensTo, messages}
 use Rattle.aegis_record.specs.Fault.{AtEnd, AtHeader, AtRecord, HasFault, IsFaultOf, IsOneFault, parts}
-use Rattle.aegis_record.specs.Stream.{AreWithin, IsOneStream, IsSealing, IsStream, Sealing, frame, frames, front, header, limit, total}
-use Rattle.aegis_record.proofs.Frames.{IsStop, Fronts, Fronts-one, Splits, split, frame_one, frame_sound}
+use Rattle.aegis_record.specs.Stream.{IsOneStream, IsSealing, IsStream, Sealing, frame, frames, header, limit, total}
+use Rattle.aegis_record.proofs.Frames.{Fronts, Fronts-one, Splits, split, frame_one, frame_sound}
 
 -- the last record of a stream and the front before it, whatever follows
 pub record Closes (sealing : Sealing) (v : Version) (ms : List (List ℕ)) (a : List ℕ) (before : List (List ℕ)) (m : List ℕ) : Type 0 where

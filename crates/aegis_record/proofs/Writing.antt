@@ -1,10 +1,10 @@
 -- What a writer that goes from record to record knows.
 use denote.Ref.{Bor}
-use Rattle.std.proofs.Common.{◌≡◌, ◌≢◌, ◌⊎◌, ℕ, zero, suc, ◌+◌, ◌<◌, ◌≤◌, List, [], ◌∷◌, ◌++◌, length, drop, slice_index_or, refl, sym, ap, subst, ◌∙◌, add-one, append_assoc, arith, inl, inr}
-use Rattle.std.proofs.lemmas.List.{append-nil, length-drop, length-map}
+use Rattle.std.proofs.Common.{◌≡◌, ◌≢◌, ◌⊎◌, ℕ, zero, suc, ◌+◌, ◌<◌, ◌≤◌, List, [], ◌∷◌, ◌++◌, length, drop, slice_index_or, refl, sym, ap, ◌∙◌, append_assoc, arith, inl, inr}
+use Rattle.std.proofs.lemmas.List.{append-nil}
 use Rattle.aegis_record.specs.declared.version.Version.{Version}
 use Rattle.aegis_record.specs.Calls.{texts}
-use Rattle.aegis_record.specs.Stream.{AreWithin, Sealing, flag_before, frame, frames, front, limit, total}
+use Rattle.aegis_record.specs.Stream.{AreWithin, Sealing, flag_before, frame, frames, limit}
 
 pub drop_texts : (ms : List (Bor (List ℕ))) (i : ℕ) (d : Bor (List ℕ)) → i < length ms
     → drop i (texts ms) ≡ (slice_index_or ms i d).now ∷ drop (suc i) (texts ms)

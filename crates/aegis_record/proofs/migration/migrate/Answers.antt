@@ -1,5 +1,5 @@
 -- The opened messages, as slices, have a stream of the length of the old one.
-use Rattle.std.proofs.Common.{◌≡◌, ◌≤◌, ◌∙◌, ℕ, ap, arith, length, subst, sym}
+use Rattle.std.proofs.Common.{◌≡◌, ◌∙◌, ℕ, ap, arith, length, subst, sym}
 use Rattle.std.specs.Prelude.{IfOk}
 use Rattle.aegis_record.specs.Calls.{messages, texts}
 use Rattle.aegis_record.specs.Records.{sealed}

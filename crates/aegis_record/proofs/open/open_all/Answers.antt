@@ -1,9 +1,9 @@
-use Rattle.std.proofs.Common.{◌≡◌, ◌∷◌, ◌++◌, ◌≤◌, ◌+◌, [], ap, sym, ◌∙◌, refl, arith, inl, inr, length, map}
+use Rattle.std.proofs.Common.{◌≡◌, ◌∷◌, ◌++◌, ◌≤◌, ◌+◌, [], ap, ◌∙◌, refl, arith, inr, length}
 use Rattle.std.proofs.lemmas.Result.{err_from_is_err_and}
 use Rattle.std.proofs.lemmas.List.{map_push, length-append, length-map}
 use Rattle.aegis_record.specs.Calls.{messages, sealing_of}
-use Rattle.aegis_record.specs.Stream.{header, total}
-use Rattle.aegis_record.proofs.Reading.{AtFront, AtFront-more, AtFront-none, all_read, none_left, or_fault, record_shorter, some_left, stream_ends, total_push, trailing_fault}
+use Rattle.aegis_record.specs.Stream.{header}
+use Rattle.aegis_record.proofs.Reading.{AtFront-more, AtFront-none, all_read, none_left, or_fault, record_shorter, some_left, stream_ends, total_push, trailing_fault}
 use Rattle.aegis_record.proofs.Sealed.{sealed-is}
 use Rattle.aegis_record.proofs.open.open_all.Goals as goal
 

@@ -1,6 +1,6 @@
 use Rattle.std.proofs.Common.{arith}
 use Rattle.aegis_record.specs.Calls.{sealing_of}
-use Rattle.aegis_record.proofs.Reading.{Parted, parts_sound, record_sound}
+use Rattle.aegis_record.proofs.Reading.{parts_sound, record_sound}
 use Rattle.aegis_record.proofs.Sealed.{sealed-is}
 use Rattle.aegis_record.proofs.open.open_record.Goals as goal
 

@@ -1,4 +1,4 @@
-use Rattle.std.proofs.Common.{◌≡◌, ◌==◌, ◌+◌, ◌∷◌, ◌++◌, [], add-one, ap, sym, ◌∙◌, refl, arith, inl, inr, length, drop, slice_index_or}
+use Rattle.std.proofs.Common.{◌≡◌, ◌+◌, ◌∷◌, [], add-one, ap, arith, inl, inr, length, drop, slice_index_or}
 use Rattle.std.proofs.lemmas.List.{length-drop, length-map}
 use Rattle.aegis_record.specs.Calls.{sealing_of, texts}
 use Rattle.aegis_record.specs.Stream.{front, total}

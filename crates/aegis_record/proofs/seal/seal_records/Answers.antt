@@ -1,4 +1,3 @@
-use Rattle.std.specs.Prelude.{Ok, Err, Result}
 use Rattle.aegis_record.specs.Calls.{texts}
 use Rattle.aegis_record.specs.Records.{sealed}
 use Rattle.aegis_record.proofs.Lengths.{sealed_length}

@@ -1,5 +1,4 @@
-use Rattle.std.proofs.Common.{◌≡◌, refl, sym, ◌∙◌, ap, inr}
-use Rattle.aegis_record.specs.Records.{nonce}
+use Rattle.std.proofs.Common.{refl, ◌∙◌, inr}
 use Rattle.aegis_record.proofs.Sealed.{opened, opens}
 use Rattle.aegis_record.proofs.sealer.Sealer.open.Goals as goal
 
