@@ -36,12 +36,15 @@ BENCH_FLAGS = -C target-cpu=$(CPU) -C no-vectorize-slp
 
 BENCH_FOLDER = $(if $(filter x86-64-v2,$(CPU)),bench,bench/$(CPU))
 
-# Measures the library beside look-up tables and AES instructions, and the chunked calls beside the one-shot calls; writes
-# RESULTS.md and results.svg, in bench/ or its folder for another processor level, and bench/CHUNKS.md.
+# Measures the library beside look-up tables and AES instructions, and the chunked calls and record streams beside the
+# one-shot calls; writes RESULTS.md and results.svg, in bench/ or its folder for another processor level, and
+# bench/CHUNKS.md and bench/RECORDS.md.
 bench: $(OUT)/driver
 	mkdir -p $(BENCH_FOLDER)
 	$(OUT)/driver $(BENCH_FOLDER)
-	(cat bench/chunks.md; cd crates/chunk_speed && rt run -- bench | grep '^|') > bench/CHUNKS.md
+	cd crates/chunk_speed && rt run -- bench > ../../$(OUT)/speeds
+	(cat bench/chunks.md; grep '^| aegis' $(OUT)/speeds) > bench/CHUNKS.md
+	(cat bench/records.md; grep '^| 16 MiB' $(OUT)/speeds) > bench/RECORDS.md
 
 # The tests of the C interface: its headers, the examples, and every call of it against the stored lines and forgeries.
 check-c: check-header example-c example-libaegis example-rust $(OUT)/driver

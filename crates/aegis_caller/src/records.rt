@@ -1,8 +1,8 @@
 //! Record streams.
 
 ghost use Rattle.std.specs.Prelude.{◌≡◌, ◌<◌, ◌≤◌, List, length, ℕ};
-ghost use Rattle.aegis_record.specs.Calls.{OpensTo, texts};
-ghost use Rattle.aegis_record.specs.Records.{AreRecords};
+ghost use Rattle.aegis_record.specs.Calls.{IsRefused, OpensTo, texts};
+ghost use Rattle.aegis_record.specs.Records.{AreRecords, IsFault};
 ghost use Rattle.aegis_record.specs.Stream.{AreWithin, stream_length};
 ghost use Rattle.aegis_record.specs.declared.version.Version.{Version};
 ghost use Rattle.aegis_record.specs.declared.version.Version.TheVariants.{Second};
@@ -41,6 +41,22 @@ pub fn open_known_records<A: Allocator + Copy>(
     requires context_within { length context.now ≤ MAX_CONTEXT_BYTES }
     requires stream { (v : Version) × AreRecords v key.now prefix.now context.now sealed stream.now }
     ensures { OpensTo sealed result }
+{
+    open_records(alloc, key, prefix, context, stream)
+}
+
+/// Opens bytes of which a caller knows what is wrong: the answer is this fault and no other, unless memory runs out.
+pub fn open_faulty_records<A: Allocator + Copy>(
+    alloc: A,
+    key: &[u8; 32],
+    prefix: &[u8; 24],
+    context: &[u8],
+    stream: &[u8],
+) -> Result<Vec<Vec<u8, A>, A>, RecordError>
+    ghost fault: { RecordError }
+    requires context_within { length context.now ≤ MAX_CONTEXT_BYTES }
+    requires stream { IsFault key.now prefix.now context.now stream.now fault }
+    ensures { IsRefused fault result }
 {
     open_records(alloc, key, prefix, context, stream)
 }

@@ -92,7 +92,9 @@ fn shown_pair<A: Allocator + Copy>(
 ) -> Result<Vec<u8, A>, AllocError>
     ensures { IfOk result (λ text. text.items ≡ shown_pair (ciphertext.now, tag.now)) }
 {
-    let mut text = Vec::new(alloc);
+    let bytes = ciphertext.len().saturating_add(tag.len());
+    // Room for the whole text: one that grows would take twice its length for a while.
+    let mut text = Vec::with_capacity(alloc, bytes.saturating_mul(2).saturating_add(1))?;
     push_bytes(alloc, &mut text, ciphertext)?;
     text.push(b' ')?;
     push_bytes(alloc, &mut text, tag)?;

@@ -170,6 +170,7 @@ all_read sealing v ms after bytes p e none =
 
 pub record_fault : (sealing : Sealing) (v : Version) (k o : ℕ) (ms : List (List ℕ)) (rest bytes : List ℕ) (e : RecordError) → AtFront sealing v ms rest bytes
     → k ≡ length ms → o ≡ total ms → HasFault sealing v k o (parts v rest) e → IsFaultOf sealing bytes e
+unfolding IsFaultOf
 record_fault sealing v k o ms rest bytes e p ke oe fault = AtRecord v ms rest p.within p.are (rw (← ke, ← oe) fault)
 
 -- the two ways in which a reader is refused at a record
@@ -182,6 +183,7 @@ or_fault sealing v k o ms rest bytes e p ke oe (inr fault) = inr (record_fault s
 -- bytes behind the last record
 pub trailing_fault : (sealing : Sealing) (v : Version) (ms : List (List ℕ)) (after bytes : List ℕ) → IsStream sealing v ms (front sealing v 1 ms)
     → bytes ≡ front sealing v 1 ms ++ after → 0 < length after → IsFaultOf sealing bytes errors.Trailing
+unfolding IsFaultOf
 trailing_fault sealing v ms after bytes p e some = AtEnd v ms (front sealing v 1 ms) after p e some refl
 
 pub record_shorter : (sealing : Sealing) (v : Version) (k o flag : ℕ) (m after rest : List ℕ) → IsSealing sealing → IsRecord sealing v k o flag m after rest

@@ -97,6 +97,7 @@ abbrev IsUnknown : List ℕ → Type 0
 IsUnknown bytes = (v : Version) → take 4 bytes ≢ header v
 
 ended : (sealing : Sealing) (bytes : List ℕ) (e : RecordError) → IsFaultOf sealing bytes e → (IsUnknown bytes × (e ≡ errors.Header)) ⊎ IsEnded sealing bytes e
+unfolding IsFaultOf
 ended sealing bytes e (AtHeader unknown is) = inl (unknown, is)
 ended sealing bytes e (AtRecord v ms rest within are fault) =
     inr (v, ms, rest, record { fronts = record { within = within; stops = inl (e, fault); are = are ∙ append_assoc (header v) (frames sealing v 0 0 0 ms) rest }; tail = inl fault })

@@ -37,15 +37,19 @@ abbrev pub HasFault : Sealing → Version → ℕ → ℕ → Result Parts Recor
 HasFault sealing v k o (Err fault) e = e ≡ fault
 HasFault sealing v k o (Ok found) e = IsDamaged sealing v k o found.0 found.1 × (e ≡ errors.Damaged k)
 
--- The fault of bytes: they begin with no header; or behind a header and whole records with the flag 0 the next record has a
--- fault; or bytes follow a stream. The records in the second case are as many as there are, since where the next one has a
--- fault there is no whole one.
-pub data IsFaultOf (sealing : Sealing) (bytes : List ℕ) (e : RecordError) : Type 0 where
-  AtHeader : ((v : Version) → take 4 bytes ≢ header v) → e ≡ errors.Header → IsFaultOf sealing bytes e
+-- The fault of bytes, by where it is: they begin with no header; or behind a header and whole records with the flag 0 the next
+-- record has a fault; or bytes follow a stream. The records in the second case are as many as there are, since where the next
+-- one has a fault there is no whole one.
+pub data FirstFault (sealing : Sealing) (bytes : List ℕ) (e : RecordError) : Type 0 where
+  AtHeader : ((v : Version) → take 4 bytes ≢ header v) → e ≡ errors.Header → FirstFault sealing bytes e
   AtRecord : (v : Version) (ms : List (List ℕ)) (rest : List ℕ) → AreWithin v ms → bytes ≡ front sealing v 0 ms ++ rest
-      → HasFault sealing v (length ms) (total ms) (parts v rest) e → IsFaultOf sealing bytes e
+      → HasFault sealing v (length ms) (total ms) (parts v rest) e → FirstFault sealing bytes e
   AtEnd : (v : Version) (ms : List (List ℕ)) (stream rest : List ℕ) → IsStream sealing v ms stream → bytes ≡ stream ++ rest
-      → 0 < length rest → e ≡ errors.Trailing → IsFaultOf sealing bytes e
+      → 0 < length rest → e ≡ errors.Trailing → FirstFault sealing bytes e
+
+-- the fault of bytes, as one fact: a tactic that is handed it does not take it apart, and so finds what follows from the whole
+unfoldable pub IsFaultOf : Sealing → List ℕ → RecordError → Type 0
+IsFaultOf sealing bytes e = FirstFault sealing bytes e
 
 -- bytes have one fault at most, and a stream has none
 abbrev pub IsOneFault : Sealing → Type 0

@@ -58,6 +58,7 @@ fn open_record<'a, A: Allocator>(
 }
 
 // The messages of a stream, read from record to record.
+#[tactic(auto, unfolding(crate::specs::Fault::IsFaultOf))]
 fn open_all<A: Allocator + Copy>(
     alloc: A,
     sealer: &Sealer<'_>,

@@ -1,17 +1,24 @@
-//! The chunked calls beside the one-shot calls, for each variant, on a message of a MiB.
+//! The chunked calls beside the one-shot calls, for each variant, on a message of a MiB; and streams of records beside the
+//! one-shot calls, on 16 MiB.
 //!
-//! With a word as its argument it prints a table of speeds, which `make bench` keeps as `bench/CHUNKS.md`. Without one it
-//! seals and opens one message of each variant in chunks.
+//! With a word as its argument it prints two tables of speeds, which `make bench` keeps as `bench/CHUNKS.md` and
+//! `bench/RECORDS.md`. Without one it seals and opens one message of each variant in chunks, and one small stream.
 #![tactic(auto)]
 
 mod chunks;
+mod records;
 
 use aegis_variants::{Cipher, Keys, VARIANTS};
+use std::alloc::Allocator;
 use std::rt::Runtime;
 use std::time::{Duration, Instant};
 use std::{env, io};
 
 const MESSAGE_BYTES: usize = 1 << 20;
+
+const STREAM_BYTES: usize = 1 << 24;
+
+const SMALL_STREAM_BYTES: usize = 100_000;
 
 // Zero stands for all bytes at once.
 const CHUNK_BYTES: [usize; 5] = [0, 16, 100, 1024, 16384];
@@ -33,6 +40,16 @@ const LONG_KEYS: Keys<32> = Keys {
 struct Times {
     seal: Duration,
     open: Duration,
+}
+
+impl Times {
+    // The shorter ones of both.
+    fn min(self, other: Times) -> Times {
+        Times {
+            seal: self.seal.min(other.seal),
+            open: self.open.min(other.open),
+        }
+    }
 }
 
 // One message sealed and opened in chunks of `size` bytes. It has to come back.
@@ -68,13 +85,26 @@ fn best<R: Runtime>(
 ) -> io::Result<Times> {
     let mut best = turn(rt, cipher, size, buffer, plaintext)?;
     for _turn in 0..TURNS {
-        let times = turn(rt, cipher, size, buffer, plaintext)?;
-        best = Times {
-            seal: best.seal.min(times.seal),
-            open: best.open.min(times.open),
-        };
+        best = best.min(turn(rt, cipher, size, buffer, plaintext)?);
     }
     Ok(best)
+}
+
+// The shortest times of some turns at a stream of 16 MiB, and at the same bytes in place.
+fn print_streams<R: Runtime, A: Allocator + Copy>(rt: &R, alloc: A) -> io::Result<()> {
+    let mut message = vec![in alloc; 0x5au8; STREAM_BYTES]?;
+    let mut in_records = records::turn(rt, alloc, &message)?;
+    let mut in_place = records::turn_in_place(rt, &mut message)?;
+    for _turn in 0..TURNS {
+        in_records = in_records.min(records::turn(rt, alloc, &message)?);
+        in_place = in_place.min(records::turn_in_place(rt, &mut message)?);
+    }
+    for (name, times) in [("in records", in_records), ("in place", in_place)] {
+        let seal = times.seal.as_micros();
+        let open = times.open.as_micros();
+        println!(rt; "| 16 MiB {name} | {seal} | {open} |")?;
+    }
+    Ok(())
 }
 
 fn main(rt: HostRuntime) -> io::Result<()> {
@@ -96,5 +126,10 @@ fn main(rt: HostRuntime) -> io::Result<()> {
             println!(rt; "| {name} | {size} | {seal} | {open} |")?;
         }
     }
-    Ok(())
+    if measured {
+        return print_streams(&rt, rt.alloc());
+    }
+    let message = vec![in rt.alloc(); 0x5au8; SMALL_STREAM_BYTES]?;
+    records::turn(&rt, rt.alloc(), &message)?;
+    println!(rt; "records: sealed and opened")
 }

@@ -1,11 +1,8 @@
-//! Runs the lines of `vectors/` through the line program's `run`, and compares the answers with those that lie beside
-//! them. It prints a line for each file, and its exit status is 1 where some answer differs.
-#![tactic(auto)]
+//! The lines of `vectors/`, whose answers lie beside them.
 
-use std::process::ExitCode;
 use std::{fs, io};
 
-/// The name of a file of lines, without its ending, and the exit status that the program has for them.
+// The name of a file of lines, without its ending, and the exit status that the program has for them.
 const FILES: [(&str, u8); 14] = [
     ("published", 0),
     ("round", 0),
@@ -23,17 +20,19 @@ const FILES: [(&str, u8); 14] = [
     ("faults", 1),
 ];
 
-fn main(rt: HostRuntime) -> io::Result<ExitCode> {
+/// Runs the lines of each file through the line program's `run`, and prints whether the answers agree with those that lie
+/// beside them: whether all do.
+pub fn all_agree(rt: &HostRuntime) -> io::Result<bool> {
     let mut all_agree = true;
     for (name, status) in FILES {
-        if agrees(&rt, name, status)? {
+        if agrees(rt, name, status)? {
             println!(rt; "{name}: the answers agree")?;
         } else {
             println!(rt; "{name}: an answer differs")?;
             all_agree = false;
         }
     }
-    Ok(ExitCode::from(if all_agree { 0 } else { 1 }))
+    Ok(all_agree)
 }
 
 // Whether the lines of a file have the answers that lie beside it, and this status.
