@@ -3,3 +3,4 @@ mod OutputFacts
 mod PieceFacts
 mod Reading
 mod RecordFacts
+mod RequestFacts

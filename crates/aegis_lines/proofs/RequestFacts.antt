@@ -1,0 +1,67 @@
+-- What a command refuses where its first fields do.
+use Rattle.std.proofs.Common.{◌≡◌, ℕ, List, Ok, length, arith}
+use Rattle.std.proofs.lemmas.List.{length-map}
+use Rattle.std.specs.Borrow.{Bor}
+use Rattle.aegis_lines.specs.Command.{cipher_with}
+use Rattle.aegis_lines.specs.Fault.{Refuses}
+use Rattle.aegis_lines.specs.Field.{bytes_in, field_of, texts}
+use Rattle.aegis_lines.specs.Keys.{AreTaggedKeys, keys_in, stream_keys_in, tagged_keys_in, texts_in}
+use Rattle.aegis_lines.specs.Request.{request_of_command}
+use Rattle.aegis_lines.specs.Table as names
+use Rattle.aegis_lines.specs.declared.fault.Refusal.{Refusal}
+use Rattle.aegis_lines.specs.declared.fault.Refusal.TheVariants as refusals
+use Rattle.aegis_variants.specs.declared.variant.Variant.{Variant}
+
+pub count_texts : (fields : List (Bor (List ℕ))) (n : ℕ) → length fields ≡ n → length (texts fields) ≡ n
+count_texts fields n count = rw length-map count
+
+pub seal_refused : (fields : List (List ℕ)) (refusal : Refusal) → length fields ≡ 7 → Refuses refusal (tagged_keys_in fields)
+    → Refuses refusal (request_of_command names.Seal fields)
+unfolding request_of_command
+seal_refused fields refusals.OutOfMemory count is = tt
+seal_refused fields (refusals.Fault fault) count is = grind arith
+
+pub open_refused : (fields : List (List ℕ)) (refusal : Refusal) → length fields ≡ 8 → Refuses refusal (tagged_keys_in fields)
+    → Refuses refusal (request_of_command names.Open fields)
+unfolding request_of_command
+open_refused fields refusals.OutOfMemory count is = tt
+open_refused fields (refusals.Fault fault) count is = grind arith
+
+pub mac_refused : (fields : List (List ℕ)) (refusal : Refusal) → length fields ≡ 6 → Refuses refusal (tagged_keys_in fields)
+    → Refuses refusal (request_of_command names.Mac fields)
+unfolding request_of_command
+mac_refused fields refusals.OutOfMemory count is = tt
+mac_refused fields (refusals.Fault fault) count is = grind arith
+
+pub stream_refused : (fields : List (List ℕ)) (refusal : Refusal) → length fields ≡ 5 → Refuses refusal (keys_in fields)
+    → Refuses refusal (request_of_command names.Stream fields)
+unfolding request_of_command
+stream_refused fields refusals.OutOfMemory count is = tt
+stream_refused fields (refusals.Fault fault) count is = grind arith
+
+pub xor_refused : (fields : List (List ℕ)) (refusal : Refusal) → length fields ≡ 5 → Refuses refusal (keys_in fields)
+    → Refuses refusal (request_of_command names.Xor fields)
+unfolding request_of_command
+xor_refused fields refusals.OutOfMemory count is = tt
+xor_refused fields (refusals.Fault fault) count is = grind arith
+
+pub seal_records_refused : (fields : List (List ℕ)) (refusal : Refusal) → length fields ≡ 5 → Refuses refusal (stream_keys_in fields)
+    → Refuses refusal (request_of_command names.SealRecords fields)
+unfolding request_of_command
+seal_records_refused fields refusals.OutOfMemory count is = tt
+seal_records_refused fields (refusals.Fault fault) count is = grind arith
+
+pub open_records_refused : (fields : List (List ℕ)) (refusal : Refusal) → length fields ≡ 5 → Refuses refusal (stream_keys_in fields)
+    → Refuses refusal (request_of_command names.OpenRecords fields)
+unfolding request_of_command
+open_records_refused fields refusals.OutOfMemory count is = tt
+open_records_refused fields (refusals.Fault fault) count is = grind arith
+
+-- the keys are read, and the texts behind them refused
+pub open_texts_refused : (fields : List (List ℕ)) (refusal : Refusal) (variant : Variant) (n : ℕ) (key nonce tag : List ℕ) → length fields ≡ 8
+    → AreTaggedKeys variant n key nonce fields → bytes_in (field_of fields 7) ≡ Ok tag
+    → Refuses refusal (texts_in (cipher_with variant key nonce) (field_of fields 5) (field_of fields 6))
+    → Refuses refusal (request_of_command names.Open fields)
+unfolding request_of_command
+open_texts_refused fields refusals.OutOfMemory variant n key nonce tag count keys tag-is is = tt
+open_texts_refused fields (refusals.Fault fault) variant n key nonce tag count keys tag-is is = grind arith
