@@ -58,6 +58,13 @@ open_records_refused fields refusals.OutOfMemory count is = tt
 open_records_refused fields (refusals.Fault fault) count is = grind arith
 
 -- the keys are read, and the texts behind them refused
+pub seal_texts_refused : (fields : List (List ℕ)) (refusal : Refusal) (variant : Variant) (n : ℕ) (key nonce : List ℕ) → length fields ≡ 7
+    → AreTaggedKeys variant n key nonce fields → Refuses refusal (texts_in (cipher_with variant key nonce) (field_of fields 5) (field_of fields 6))
+    → Refuses refusal (request_of_command names.Seal fields)
+unfolding request_of_command
+seal_texts_refused fields refusals.OutOfMemory variant n key nonce count keys is = tt
+seal_texts_refused fields (refusals.Fault fault) variant n key nonce count keys is = grind arith
+
 pub open_texts_refused : (fields : List (List ℕ)) (refusal : Refusal) (variant : Variant) (n : ℕ) (key nonce tag : List ℕ) → length fields ≡ 8
     → AreTaggedKeys variant n key nonce fields → bytes_in (field_of fields 7) ≡ Ok tag
     → Refuses refusal (texts_in (cipher_with variant key nonce) (field_of fields 5) (field_of fields 6))
