@@ -1,3 +1,4 @@
+mod KeyFacts
 mod LinesFacts
 mod OutputFacts
 mod PieceFacts

@@ -1,13 +1,14 @@
 -- What a command refuses where its first fields do.
-use Rattle.std.proofs.Common.{◌≡◌, ℕ, List, Ok, length, arith}
+use Rattle.std.proofs.Common.{◌≡◌, ◌⊎◌, ℕ, List, Ok, length, arith}
 use Rattle.std.proofs.lemmas.List.{length-map}
 use Rattle.std.specs.Borrow.{Bor}
-use Rattle.aegis_lines.specs.Command.{cipher_with}
+use Rattle.aegis_lines.specs.Command.{cipher_with, tag_with}
 use Rattle.aegis_lines.specs.Fault.{Refuses}
-use Rattle.aegis_lines.specs.Field.{bytes_in, field_of, texts}
-use Rattle.aegis_lines.specs.Keys.{AreTaggedKeys, keys_in, stream_keys_in, tagged_keys_in, texts_in}
-use Rattle.aegis_lines.specs.Request.{request_of_command}
+use Rattle.aegis_lines.specs.Field.{bytes_in, field_of, joined_in, limited, texts}
+use Rattle.aegis_lines.specs.Keys.{AreTaggedKeys, AreTexts, keys_in, stream_keys_in, tagged_keys_in, texts_in}
+use Rattle.aegis_lines.specs.Request.{Mac, Open, Seal, request_of_command}
 use Rattle.aegis_lines.specs.Table as names
+use Rattle.aegis_lines.specs.declared.fault.Fault.TheVariants as faults
 use Rattle.aegis_lines.specs.declared.fault.Refusal.{Refusal}
 use Rattle.aegis_lines.specs.declared.fault.Refusal.TheVariants as refusals
 use Rattle.aegis_variants.specs.declared.variant.Variant.{Variant}
@@ -72,3 +73,63 @@ pub open_texts_refused : (fields : List (List ℕ)) (refusal : Refusal) (variant
 unfolding request_of_command
 open_texts_refused fields refusals.OutOfMemory variant n key nonce tag count keys tag-is is = tt
 open_texts_refused fields (refusals.Fault fault) variant n key nonce tag count keys tag-is is = grind arith
+
+-- the keys of a MAC are read, and the message refused: its digits, the keys' lengths, its length
+pub mac_digits_refused : (fields : List (List ℕ)) (refusal : Refusal) (variant : Variant) (n : ℕ) (key nonce : List ℕ) → length fields ≡ 6
+    → AreTaggedKeys variant n key nonce fields → Refuses refusal (joined_in (field_of fields 5))
+    → (refusal ≡ refusals.OutOfMemory) ⊎ (refusal ≡ refusals.Fault faults.Hex)
+    → Refuses refusal (request_of_command names.Mac fields)
+unfolding request_of_command
+mac_digits_refused fields refusals.OutOfMemory variant n key nonce count keys is which = tt
+mac_digits_refused fields (refusals.Fault fault) variant n key nonce count keys is which = grind arith
+
+pub mac_cipher_refused : (fields : List (List ℕ)) (refusal : Refusal) (variant : Variant) (n : ℕ) (key nonce m : List ℕ) → length fields ≡ 6
+    → AreTaggedKeys variant n key nonce fields → joined_in (field_of fields 5) ≡ Ok m → Refuses refusal (cipher_with variant key nonce)
+    → Refuses refusal (request_of_command names.Mac fields)
+unfolding request_of_command
+mac_cipher_refused fields refusals.OutOfMemory variant n key nonce m count keys m-is is = tt
+mac_cipher_refused fields (refusals.Fault fault) variant n key nonce m count keys m-is is = grind arith
+
+pub mac_length_refused : (fields : List (List ℕ)) (refusal : Refusal) (variant : Variant) (n : ℕ) (key nonce m : List ℕ)
+    (cipher : Variant × List ℕ × List ℕ) → length fields ≡ 6 → AreTaggedKeys variant n key nonce fields → joined_in (field_of fields 5) ≡ Ok m
+    → cipher_with variant key nonce ≡ Ok cipher → Refuses refusal (limited m) → Refuses refusal (request_of_command names.Mac fields)
+unfolding request_of_command
+mac_length_refused fields refusals.OutOfMemory variant n key nonce m cipher count keys m-is cipher-is is = tt
+mac_length_refused fields (refusals.Fault fault) variant n key nonce m cipher count keys m-is cipher-is is = grind arith
+
+-- the keys of an opening are read, and the tag refused: its digits, its length
+pub open_digits_refused : (fields : List (List ℕ)) (refusal : Refusal) (variant : Variant) (n : ℕ) (key nonce : List ℕ) → length fields ≡ 8
+    → AreTaggedKeys variant n key nonce fields → Refuses refusal (bytes_in (field_of fields 7))
+    → (refusal ≡ refusals.OutOfMemory) ⊎ (refusal ≡ refusals.Fault faults.Hex)
+    → Refuses refusal (request_of_command names.Open fields)
+unfolding request_of_command
+open_digits_refused fields refusals.OutOfMemory variant n key nonce count keys is which = tt
+open_digits_refused fields (refusals.Fault fault) variant n key nonce count keys is which = grind arith
+
+pub open_length_refused : (fields : List (List ℕ)) (refusal : Refusal) (variant : Variant) (n : ℕ) (key nonce tag ad m : List ℕ)
+    (cipher : Variant × List ℕ × List ℕ) → length fields ≡ 8 → AreTaggedKeys variant n key nonce fields → bytes_in (field_of fields 7) ≡ Ok tag
+    → AreTexts (cipher_with variant key nonce) cipher ad m (field_of fields 5) (field_of fields 6) → Refuses refusal (tag_with n tag)
+    → Refuses refusal (request_of_command names.Open fields)
+unfolding request_of_command
+open_length_refused fields refusals.OutOfMemory variant n key nonce tag ad m cipher count keys tag-is are is = tt
+open_length_refused fields (refusals.Fault fault) variant n key nonce tag ad m cipher count keys tag-is are is = grind arith
+
+-- nothing is refused
+pub seal_granted : (fields : List (List ℕ)) (variant v : Variant) (n : ℕ) (key nonce ad m k o : List ℕ) → length fields ≡ 7
+    → AreTaggedKeys variant n key nonce fields → AreTexts (cipher_with variant key nonce) (v, k, o) ad m (field_of fields 5) (field_of fields 6)
+    → request_of_command names.Seal fields ≡ Ok (Seal v n k o ad m)
+unfolding request_of_command
+seal_granted fields variant v n key nonce ad m k o count keys are = grind arith
+
+pub open_granted : (fields : List (List ℕ)) (variant v : Variant) (n size : ℕ) (key nonce tag ad m k o bytes : List ℕ) → length fields ≡ 8
+    → AreTaggedKeys variant n key nonce fields → bytes_in (field_of fields 7) ≡ Ok tag
+    → AreTexts (cipher_with variant key nonce) (v, k, o) ad m (field_of fields 5) (field_of fields 6) → tag_with n tag ≡ Ok (size, bytes)
+    → request_of_command names.Open fields ≡ Ok (Open v size k o ad m bytes)
+unfolding request_of_command
+open_granted fields variant v n size key nonce tag ad m k o bytes count keys tag-is are is = grind arith
+
+pub mac_granted : (fields : List (List ℕ)) (variant v : Variant) (n : ℕ) (key nonce m same k o : List ℕ) → length fields ≡ 6
+    → AreTaggedKeys variant n key nonce fields → joined_in (field_of fields 5) ≡ Ok m → cipher_with variant key nonce ≡ Ok (v, k, o)
+    → limited m ≡ Ok same → request_of_command names.Mac fields ≡ Ok (Mac v n k o same)
+unfolding request_of_command
+mac_granted fields variant v n key nonce m same k o count keys m-is cipher-is is = grind arith

@@ -1,7 +1,7 @@
 -- What the first fields refuse, the command refuses, and what the texts behind them refuse.
 use Rattle.std.proofs.Common.{arith}
 use Rattle.std.proofs.lemmas.Result.{err_from_is_err_and}
-use Rattle.aegis_lines.proofs.RequestFacts.{count_texts, seal_refused, seal_texts_refused}
+use Rattle.aegis_lines.proofs.RequestFacts.{count_texts, seal_granted, seal_refused, seal_texts_refused}
 use Rattle.aegis_lines.proofs.parse.seal.Goals as goal
 
 pub returns-in_err-keys : goal.returns-in_err-keys
@@ -14,3 +14,8 @@ returns-in_err-cipher g c =
     let p = err_from_is_err_and c.from_residual-in_err-cipher.result c.from_residual-in_err-cipher.ensures.1 in
     let refused = rw (c.field.ensures, c.field-2.ensures) at c.in_err-cipher.ensures.refused in
     rw (p.1, p.2) (seal_texts_refused _ _ _ _ _ _ (count_texts _ _ (omega arith)) c.in_ok-keys.ensures.read refused)
+
+pub returns : goal.returns
+returns g c =
+    let are = rw (c.field.ensures, c.field-2.ensures) at c.in_ok-cipher.ensures.read in
+    seal_granted _ _ _ _ _ _ _ _ _ _ (count_texts _ _ (omega arith)) c.in_ok-keys.ensures.read are
