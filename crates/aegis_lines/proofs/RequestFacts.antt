@@ -5,8 +5,9 @@ use Rattle.std.specs.Borrow.{Bor}
 use Rattle.aegis_lines.specs.Command.{cipher_with, tag_with}
 use Rattle.aegis_lines.specs.Fault.{Refuses}
 use Rattle.aegis_lines.specs.Field.{bytes_in, field_of, joined_in, limited, texts}
-use Rattle.aegis_lines.specs.Keys.{AreTaggedKeys, AreTexts, keys_in, stream_keys_in, tagged_keys_in, texts_in}
-use Rattle.aegis_lines.specs.Request.{Mac, Open, Seal, request_of_command}
+use Rattle.aegis_lines.specs.Keys.{AreStreamKeys, AreTaggedKeys, AreTexts, keys_in, stream_keys_in, tagged_keys_in, texts_in}
+use Rattle.aegis_lines.specs.Record.{keys_with, messages_in, messages_with}
+use Rattle.aegis_lines.specs.Request.{Mac, Open, OpenRecords, Seal, SealRecords, request_of_command}
 use Rattle.aegis_lines.specs.Table as names
 use Rattle.aegis_lines.specs.declared.fault.Fault.TheVariants as faults
 use Rattle.aegis_lines.specs.declared.fault.Refusal.{Refusal}
@@ -133,3 +134,57 @@ pub mac_granted : (fields : List (List ℕ)) (variant v : Variant) (n : ℕ) (ke
     → limited m ≡ Ok same → request_of_command names.Mac fields ≡ Ok (Mac v n k o same)
 unfolding request_of_command
 mac_granted fields variant v n key nonce m same k o count keys m-is cipher-is is = grind arith
+
+-- the key, the prefix and the context of a stream are read, and the messages refused, or a length
+pub messages_digits_refused : (fields : List (List ℕ)) (refusal : Refusal) (key prefix context : List ℕ) → length fields ≡ 5
+    → AreStreamKeys key prefix context fields → Refuses refusal (messages_in (field_of fields 4))
+    → (refusal ≡ refusals.OutOfMemory) ⊎ (refusal ≡ refusals.Fault faults.Hex)
+    → Refuses refusal (request_of_command names.SealRecords fields)
+unfolding request_of_command
+messages_digits_refused fields refusals.OutOfMemory key prefix context count keys is which = tt
+messages_digits_refused fields (refusals.Fault fault) key prefix context count keys is which = grind arith
+
+pub seal_keys_refused : (fields : List (List ℕ)) (refusal : Refusal) (key prefix context : List ℕ) (ms : List (List ℕ)) → length fields ≡ 5
+    → AreStreamKeys key prefix context fields → messages_in (field_of fields 4) ≡ Ok ms
+    → Refuses refusal (keys_with key prefix context)
+    → Refuses refusal (request_of_command names.SealRecords fields)
+unfolding request_of_command
+seal_keys_refused fields refusals.OutOfMemory key prefix context ms count keys ms-is is = tt
+seal_keys_refused fields (refusals.Fault fault) key prefix context ms count keys ms-is is = grind arith
+
+pub messages_length_refused : (fields : List (List ℕ)) (refusal : Refusal) (key prefix context : List ℕ) (ms : List (List ℕ)) (all : List ℕ × List ℕ × List ℕ) → length fields ≡ 5
+    → AreStreamKeys key prefix context fields → messages_in (field_of fields 4) ≡ Ok ms → keys_with key prefix context ≡ Ok all
+    → Refuses refusal (messages_with ms)
+    → Refuses refusal (request_of_command names.SealRecords fields)
+unfolding request_of_command
+messages_length_refused fields refusals.OutOfMemory key prefix context ms all count keys ms-is all-is is = tt
+messages_length_refused fields (refusals.Fault fault) key prefix context ms all count keys ms-is all-is is = grind arith
+
+pub seal_records_granted : (fields : List (List ℕ)) (key prefix context k p x : List ℕ) (ms same : List (List ℕ)) → length fields ≡ 5
+    → AreStreamKeys key prefix context fields → messages_in (field_of fields 4) ≡ Ok ms → keys_with key prefix context ≡ Ok (k, p, x)
+    → messages_with ms ≡ Ok same → request_of_command names.SealRecords fields ≡ Ok (SealRecords k p x same)
+unfolding request_of_command
+seal_records_granted fields key prefix context k p x ms same count keys ms-is all-is is = grind arith
+
+-- likewise of a stream's bytes
+pub open_records_digits_refused : (fields : List (List ℕ)) (refusal : Refusal) (key prefix context : List ℕ) → length fields ≡ 5
+    → AreStreamKeys key prefix context fields → Refuses refusal (bytes_in (field_of fields 4))
+    → (refusal ≡ refusals.OutOfMemory) ⊎ (refusal ≡ refusals.Fault faults.Hex)
+    → Refuses refusal (request_of_command names.OpenRecords fields)
+unfolding request_of_command
+open_records_digits_refused fields refusals.OutOfMemory key prefix context count keys is which = tt
+open_records_digits_refused fields (refusals.Fault fault) key prefix context count keys is which = grind arith
+
+pub open_keys_refused : (fields : List (List ℕ)) (refusal : Refusal) (key prefix context : List ℕ) (bytes : List ℕ) → length fields ≡ 5
+    → AreStreamKeys key prefix context fields → bytes_in (field_of fields 4) ≡ Ok bytes
+    → Refuses refusal (keys_with key prefix context)
+    → Refuses refusal (request_of_command names.OpenRecords fields)
+unfolding request_of_command
+open_keys_refused fields refusals.OutOfMemory key prefix context bytes count keys bytes-is is = tt
+open_keys_refused fields (refusals.Fault fault) key prefix context bytes count keys bytes-is is = grind arith
+
+pub open_records_granted : (fields : List (List ℕ)) (key prefix context k p x bytes : List ℕ) → length fields ≡ 5
+    → AreStreamKeys key prefix context fields → bytes_in (field_of fields 4) ≡ Ok bytes → keys_with key prefix context ≡ Ok (k, p, x)
+    → request_of_command names.OpenRecords fields ≡ Ok (OpenRecords k p x bytes)
+unfolding request_of_command
+open_records_granted fields key prefix context k p x bytes count keys bytes-is all-is = grind arith
