@@ -1,5 +1,7 @@
+mod KeyFacts
 mod LinesFacts
 mod OutputFacts
 mod PieceFacts
 mod Reading
 mod RecordFacts
+mod RequestFacts

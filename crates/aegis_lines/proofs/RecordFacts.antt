@@ -1,6 +1,5 @@
 -- Messages of a stream: whether they are within the limit, and how they are printed.
 use Rattle.std.proofs.Common.{◌≡◌, ℕ, zero, suc, ◌+◌, ◌<◌, ◌≤◌, ◌&&◌, Bool, true, false, List, [], ◌∷◌, ◌++◌, get_or, leb, length, map, take, add-one, append_assoc, arith, refl, sym, ap, ◌∙◌}
-use Rattle.std.specs.List.{list_all}
 use Rattle.std.specs.Prelude.{flat_map}
 use Rattle.std.specs.Vec.{vec_items}
 use Rattle.std.specs.declared.vec.Vec.{Vec}

@@ -2,6 +2,7 @@ pub mod Answer
 pub mod Command
 pub mod Fault
 pub mod Field
+pub mod Keys
 pub mod Lines
 pub mod Output
 pub mod Record

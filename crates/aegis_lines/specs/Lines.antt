@@ -1,5 +1,5 @@
 -- The lines of a text. What stands behind its last line feed is a line only where the text ends there.
-use Rattle.std.specs.Prelude.{ℕ, Bool, true, false, ◌==◌, List, [], ◌∷◌, map, if◌then◌else◌}
+use Rattle.std.specs.Prelude.{ℕ, Bool, true, ◌==◌, List, [], ◌∷◌, map, if◌then◌else◌}
 use Rattle.std.specs.Io.BufRead.{strip_last}
 
 -- The first of the pieces with a byte before it. Where there are no pieces it is the byte alone, if the text ends.

@@ -7,7 +7,7 @@ use Rattle.aegis_variants.specs.declared.variant.Variant.{Variant}
 use Rattle.aegis_variants.specs.declared.variant.Variant.TheVariants as variants
 
 -- the variant of a name
-abbrev pub variant_named : List ℕ → Result Variant Fault
+unfoldable pub variant_named : List ℕ → Result Variant Fault
 variant_named name =
     if bytes_eq name (codes "aegis128l") then Ok variants.Aegis128L
     else if bytes_eq name (codes "aegis128x2") then Ok variants.Aegis128X2
@@ -18,7 +18,7 @@ variant_named name =
     else Err faults.Variant
 
 -- the length of a tag, from its field
-abbrev pub tag_length_named : List ℕ → Result ℕ Fault
+unfoldable pub tag_length_named : List ℕ → Result ℕ Fault
 tag_length_named field =
     if bytes_eq field (codes "16") then Ok 16
     else if bytes_eq field (codes "32") then Ok 32

@@ -6,6 +6,7 @@ mod answer;
 mod command;
 mod fault;
 mod fields;
+mod keys;
 mod limited;
 mod output;
 mod parse;

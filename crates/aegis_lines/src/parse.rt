@@ -11,11 +11,11 @@ ghost use Rattle.aegis_lines.specs.Request.{request_of, request_of_command, requ
 use crate::command::Command;
 use crate::fault::{Fault, Refusal};
 use crate::fields;
-use crate::limited::Limited;
+use crate::keys::{Keys, TaggedKeys, stream_keys};
 use crate::pieces::Pieces;
 use crate::records::{Messages, StreamKeys};
 use crate::tag::Tag;
-use crate::variant::{cipher_with, tag_length_named, variant_named};
+use crate::variant::cipher_with;
 use aegis::aes::AesBlock;
 use std::alloc::Allocator;
 
@@ -83,17 +83,17 @@ fn seal<A: Allocator + Copy>(alloc: A, fields: &[&[u8]]) -> Result<Command<A>, R
     if fields.len() != 7 {
         return Err(Refusal::Fault(Fault::Fields));
     }
-    let variant = variant_named(fields::field(fields, 1))?;
-    let tag_length = tag_length_named(fields::field(fields, 2))?;
-    let key = fields::bytes(alloc, fields::field(fields, 3))?;
-    let nonce = fields::bytes(alloc, fields::field(fields, 4))?;
-    let associated_data = fields::bytes(alloc, fields::field(fields, 5))?;
-    let message = fields::pieces(alloc, fields::field(fields, 6))?;
+    let keys = TaggedKeys::read(alloc, fields)?;
+    let (cipher, associated_data, message) = keys.texts(
+        alloc,
+        fields::field(fields, 5),
+        fields::field(fields, 6),
+    )?;
     Ok(Command::Seal {
-        cipher: cipher_with(variant, &key, &nonce)?,
-        tag_length,
-        associated_data: Limited::new(associated_data)?,
-        message: Pieces::new(alloc, message)?,
+        cipher,
+        tag_length: keys.tag_length,
+        associated_data,
+        message,
     })
 }
 
@@ -105,18 +105,18 @@ fn open<A: Allocator + Copy>(alloc: A, fields: &[&[u8]]) -> Result<Command<A>, R
     if fields.len() != 8 {
         return Err(Refusal::Fault(Fault::Fields));
     }
-    let variant = variant_named(fields::field(fields, 1))?;
-    let tag_length = tag_length_named(fields::field(fields, 2))?;
-    let key = fields::bytes(alloc, fields::field(fields, 3))?;
-    let nonce = fields::bytes(alloc, fields::field(fields, 4))?;
-    let associated_data = fields::bytes(alloc, fields::field(fields, 5))?;
-    let ciphertext = fields::pieces(alloc, fields::field(fields, 6))?;
+    let keys = TaggedKeys::read(alloc, fields)?;
     let tag = fields::bytes(alloc, fields::field(fields, 7))?;
+    let (cipher, associated_data, ciphertext) = keys.texts(
+        alloc,
+        fields::field(fields, 5),
+        fields::field(fields, 6),
+    )?;
     Ok(Command::Open {
-        cipher: cipher_with(variant, &key, &nonce)?,
-        tag: Tag::from_slice(tag_length, &tag)?,
-        associated_data: Limited::new(associated_data)?,
-        ciphertext: Pieces::new(alloc, ciphertext)?,
+        cipher,
+        tag: Tag::from_slice(keys.tag_length, &tag)?,
+        associated_data,
+        ciphertext,
     })
 }
 
@@ -128,12 +128,10 @@ fn stream<A: Allocator + Copy>(alloc: A, fields: &[&[u8]]) -> Result<Command<A>,
     if fields.len() != 5 {
         return Err(Refusal::Fault(Fault::Fields));
     }
-    let variant = variant_named(fields::field(fields, 1))?;
-    let key = fields::bytes(alloc, fields::field(fields, 2))?;
-    let nonce = fields::bytes(alloc, fields::field(fields, 3))?;
+    let keys = Keys::read(alloc, fields)?;
     let count = fields::stream_length(fields::field(fields, 4))?;
     Ok(Command::Stream {
-        cipher: cipher_with(variant, &key, &nonce)?,
+        cipher: cipher_with(keys.variant, &keys.key, &keys.nonce)?,
         count,
     })
 }
@@ -146,12 +144,10 @@ fn xor<A: Allocator + Copy>(alloc: A, fields: &[&[u8]]) -> Result<Command<A>, Re
     if fields.len() != 5 {
         return Err(Refusal::Fault(Fault::Fields));
     }
-    let variant = variant_named(fields::field(fields, 1))?;
-    let key = fields::bytes(alloc, fields::field(fields, 2))?;
-    let nonce = fields::bytes(alloc, fields::field(fields, 3))?;
+    let keys = Keys::read(alloc, fields)?;
     let message = fields::bytes(alloc, fields::field(fields, 4))?;
     Ok(Command::Xor {
-        cipher: cipher_with(variant, &key, &nonce)?,
+        cipher: cipher_with(keys.variant, &keys.key, &keys.nonce)?,
         message,
     })
 }
@@ -164,14 +160,11 @@ fn mac<A: Allocator + Copy>(alloc: A, fields: &[&[u8]]) -> Result<Command<A>, Re
     if fields.len() != 6 {
         return Err(Refusal::Fault(Fault::Fields));
     }
-    let variant = variant_named(fields::field(fields, 1))?;
-    let tag_length = tag_length_named(fields::field(fields, 2))?;
-    let key = fields::bytes(alloc, fields::field(fields, 3))?;
-    let nonce = fields::bytes(alloc, fields::field(fields, 4))?;
+    let keys = TaggedKeys::read(alloc, fields)?;
     let message = fields::pieces(alloc, fields::field(fields, 5))?;
     Ok(Command::Mac {
-        cipher: cipher_with(variant, &key, &nonce)?,
-        tag_length,
+        cipher: cipher_with(keys.variant, &keys.key, &keys.nonce)?,
+        tag_length: keys.tag_length,
         message: Pieces::new(alloc, message)?,
     })
 }
@@ -184,9 +177,7 @@ fn seal_records<A: Allocator + Copy>(alloc: A, fields: &[&[u8]]) -> Result<Comma
     if fields.len() != 5 {
         return Err(Refusal::Fault(Fault::Fields));
     }
-    let key = fields::bytes(alloc, fields::field(fields, 1))?;
-    let prefix = fields::bytes(alloc, fields::field(fields, 2))?;
-    let context = fields::bytes(alloc, fields::field(fields, 3))?;
+    let (key, prefix, context) = stream_keys(alloc, fields)?;
     let messages = fields::pieces(alloc, fields::field(fields, 4))?;
     Ok(Command::SealRecords {
         keys: StreamKeys::new(&key, &prefix, context)?,
@@ -202,9 +193,7 @@ fn open_records<A: Allocator + Copy>(alloc: A, fields: &[&[u8]]) -> Result<Comma
     if fields.len() != 5 {
         return Err(Refusal::Fault(Fault::Fields));
     }
-    let key = fields::bytes(alloc, fields::field(fields, 1))?;
-    let prefix = fields::bytes(alloc, fields::field(fields, 2))?;
-    let context = fields::bytes(alloc, fields::field(fields, 3))?;
+    let (key, prefix, context) = stream_keys(alloc, fields)?;
     let bytes = fields::bytes(alloc, fields::field(fields, 4))?;
     Ok(Command::OpenRecords {
         keys: StreamKeys::new(&key, &prefix, context)?,

@@ -1,5 +1,7 @@
 //! Variants, lengths of tags and ciphers from the fields of a line.
 
+ghost use Rattle.std.specs.Prelude.{◌≡◌, IfErr};
+ghost use Rattle.aegis_lines.specs.declared.fault.Fault.TheVariants as faults;
 ghost use Rattle.aegis_lines.specs.Command.{cipher_with};
 ghost use Rattle.aegis_lines.specs.Fault.{Gives};
 ghost use Rattle.aegis_lines.specs.Variant.{tag_length_named, variant_named};
@@ -10,8 +12,10 @@ use crate::fault::{Fault, Refusal};
 use aegis_variants::{Cipher, TagLength, Variant};
 
 /// The variant of this name, in lower case. It is a variant fault where there is none.
+#[tactic(auto, unfolding(crate::specs::Variant::variant_named))]
 pub fn variant_named(name: &[u8]) -> Result<Variant, Refusal>
-    ensures { Gives (λ variant. variant) result (variant_named name.now) }
+    ensures value { Gives (λ variant. variant) result (variant_named name.now) }
+    ensures refused { IfErr result (λ refusal. refusal ≡ Refusal.Fault faults.Variant) }
 {
     if name == b"aegis128l".as_slice() {
         Ok(Variant::Aegis128L)
@@ -31,8 +35,10 @@ pub fn variant_named(name: &[u8]) -> Result<Variant, Refusal>
 }
 
 /// The length that is written so. It is a tag fault where the field is neither `16` nor `32`.
+#[tactic(auto, unfolding(crate::specs::Variant::tag_length_named))]
 pub fn tag_length_named(field: &[u8]) -> Result<TagLength, Refusal>
-    ensures { Gives tag_length_of result (tag_length_named field.now) }
+    ensures value { Gives tag_length_of result (tag_length_named field.now) }
+    ensures refused { IfErr result (λ refusal. refusal ≡ Refusal.Fault faults.Tag) }
 {
     match field {
         b"16" => Ok(TagLength::Short),

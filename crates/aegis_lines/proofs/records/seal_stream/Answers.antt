@@ -1,5 +1,5 @@
 -- The messages are within the limit, as slices too.
-use Rattle.std.proofs.Common.{◌≡◌, ◌∙◌, ap, map, subst, sym, vec_items}
+use Rattle.std.proofs.Common.{◌∙◌, ap, map, subst, sym, vec_items}
 use Rattle.aegis_lines.specs.Field.{texts}
 use Rattle.aegis_lines.proofs.RecordFacts.{within_all}
 use Rattle.aegis_record.specs.Stream.{AreWithin}
