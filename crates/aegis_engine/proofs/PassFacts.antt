@@ -1,5 +1,5 @@
--- What a pass is given and takes in, place by place, and how a piece is cut into the part that fills the open block, whole rate blocks
--- and a rest.
+-- What a pass is given and takes in, place by place, and how a piece is cut into the part that fills the open block, whole
+-- rate blocks and a rest.
 use Rattle.std.proofs.Common.{◌≡◌, ◌∙◌, sym, ap, subst, refl, ℕ, zero, suc, ◌+◌, ◌-◌, ◌*◌, ◌/◌, ◌%◌, ◌<◌, ◌≤◌, ⊎_elim, List, length, replicate, slice_index, arith}
 use Rattle.std.specs.Prelude.{Option, Some, None}
 use Rattle.std.specs.Borrow.{Bor}

@@ -21,7 +21,7 @@ given-whole g c i high =
 abbrev end_of : (g : _) → goal.After-slice_known-6-1 g → ℕ
 end_of g c = c.filling-first.result + (length c.args.buffer.now - c.filling-first.result) / c.RATE.result * c.RATE-2.result
 
--- behind them too, and the last part goes along a copy of that
+-- behind the whole rate blocks too, and the last part goes along a copy of that
 given-last : (g : _) → (c : goal.After-slice_known-6-1 g) (k : ℕ) → k < length c.args.buffer.now - end_of g c
     → slice_index c.copy_given-2.new.buffer (end_of g c + k) ≡ slice_index (given c.args.source c.args.buffer.now) (end_of g c + k)
 given-last g c k low =
