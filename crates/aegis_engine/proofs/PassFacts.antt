@@ -3,7 +3,7 @@
 use Rattle.std.proofs.Common.{◌≡◌, ◌∙◌, sym, ap, subst, refl, ℕ, zero, suc, ◌+◌, ◌-◌, ◌*◌, ◌/◌, ◌%◌, ◌<◌, ◌≤◌, ⊎_elim, List, length, replicate, slice_index, arith}
 use Rattle.std.specs.Prelude.{Option, Some, None}
 use Rattle.std.specs.Borrow.{Bor}
-use Rattle.std.proofs.Math.Nat.{zero-div}
+use Rattle.std.proofs.Math.Nat.{div-mul-le_self, zero-div}
 use Rattle.std.proofs.lemmas.Bool.{cases_lt}
 use Rattle.std.proofs.lemmas.List.{length-replicate}
 use Rattle.aegis_base.specs.Run.{IsUnopened}
@@ -44,11 +44,16 @@ unopened-after t first len r q fills some =
     let zero_blocks : (len - first) / r ≡ 0 = ap (λ (n : ℕ). n / r) none ∙ zero-div r in absurd (omega arith))
     (cases_lt first len)
 
--- a piece with no byte before or after its whole rate blocks
-pub only-blocks : (t first n len r : ℕ) → n * r ≤ len - first → first + (len - (first + n * r)) ≡ 0 → IsUnopened (t + first) n r
-    → (n * r ≡ len) × IsUnopened t n r
-only-blocks t first n len r fits none unopened =
-    let here : t + first ≡ t = omega arith in (omega arith, subst (λ (m : ℕ). IsUnopened m n r) here unopened)
+-- a piece with no byte before or after its whole rate blocks; r and v are the rate q, as it was read
+pub only-blocks : (t first len r v q : ℕ) → r ≡ q → v ≡ q → first + (len - (first + (len - first) / r * v)) ≡ 0 → (first < len → (t + first) % q ≡ 0)
+    → ((len - first) / r * q ≡ len) × IsUnopened t ((len - first) / r) q
+only-blocks t first len r v q read again none fills =
+    let n : ℕ = (len - first) / r in
+    let floor : n * r ≤ len - first = div-mul-le_self (len - first) r in
+    let fits : n * q ≤ len - first = rw (← read) floor in
+    let last : n * v ≡ n * q = ap (λ (m : ℕ). n * m) again in
+    let here : t + first ≡ t = omega arith in
+    (omega arith, subst (λ (m : ℕ). IsUnopened m n q) here (unopened-after t first len r q fills))
 
 -- the updates of the three parts of a piece of len bytes
 pub updates-of-parts : (t first n len r u v w x : ℕ) → 0 < r → IsUnopened (t + first) n r → first + n * r ≤ len

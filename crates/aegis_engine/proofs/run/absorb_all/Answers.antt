@@ -28,11 +28,7 @@ pub returns-then-first-rest-eq0-clause-along : goal.returns-then-first-rest-eq0-
 returns-then-first-rest-eq0-clause-along g c lanes x along same =
     let L = g.S.LaneState in let t : ℕ = c.args.total in let len : ℕ = length c.args.bytes.now in
     let first : ℕ = c.filling-first.result in let n : ℕ = (len - first) / c.RATE.result in
-    let floor : n * c.RATE.result ≤ len - first = div-mul-le_self (len - first) c.RATE.result in
-    let fits : n * L.RATE ≤ len - first = rw (← c.RATE.ensures) floor in
-    let last : n * c.RATE-2.result ≡ n * L.RATE = ap (λ (r : ℕ). n * r) c.RATE-2.ensures in
-    let none : first + (len - (first + n * L.RATE)) ≡ 0 = rw (← last) c.if-first-rest-eq0.true in
-    let are = only-blocks t first n len L.RATE fits none (unopened-after t first len c.RATE.result L.RATE c.filling-first.ensures.fills) in
+    let are = only-blocks t first len c.RATE.result c.RATE-2.result L.RATE c.RATE.ensures c.RATE-2.ensures c.if-first-rest-eq0.true c.filling-first.ensures.fills in
     let all : n * L.RATE ≡ len = are.0 in
     let end : t + n * L.RATE ≡ t + len = ap (λ (m : ℕ). t + m) all in
     rw end at (c.absorb_whole.ensures.along lanes c.args.block.now x t are.1 along (λ k low. same k (omega arith) ∙ ap (slice_index c.args.bytes.now) (omega arith)))

@@ -160,11 +160,7 @@ blocks-alone g c x same =
     let L = g.S.LaneState in let t : ℕ = c.args.total in let len : ℕ = length c.args.buffer.now in
     let first : ℕ = c.filling-first.result in let n : ℕ = (len - first) / c.RATE.result in
     let source : List ℕ = given c.args.source c.args.buffer.now in let taken_in : List ℕ = taken c.args.pass source c.pass_whole.new.buffer in
-    let floor : n * c.RATE.result ≤ len - first = div-mul-le_self (len - first) c.RATE.result in
-    let fits : n * L.RATE ≤ len - first = rw (← c.RATE.ensures) floor in
-    let last : n * c.RATE-2.result ≡ n * L.RATE = ap (λ (r : ℕ). n * r) c.RATE-2.ensures in
-    let none : first + (len - (first + n * L.RATE)) ≡ 0 = rw (← last) c.if-first-rest-eq0.true in
-    let are = only-blocks t first n len L.RATE fits none (unopened-after t first len c.RATE.result L.RATE c.filling-first.ensures.fills) in
+    let are = only-blocks t first len c.RATE.result c.RATE-2.result L.RATE c.RATE.ensures c.RATE-2.ensures c.if-first-rest-eq0.true c.filling-first.ensures.fills in
     let all : n * L.RATE ≡ len = are.0 in
     let long : length taken_in ≡ length source = length-taken c.args.pass source c.pass_whole.new.buffer (omega arith) in
     let as_long = c.requires.lengths in
