@@ -3,12 +3,14 @@ use Rattle.std.specs.Prelude.{ℕ, ℤ, ◌==◌, ◌||◌, leb, if◌then◌els
 use Rattle.aegis_base.specs.declared.error.TheConstants.{MAX_AEAD_BYTES}
 use Rattle.aegis_c.specs.declared.answer.TheConstants.{DONE, WRONG_NONCE_LENGTH, WRONG_KEY_LENGTH, MESSAGE_TOO_LONG, DATA_TOO_LONG, WRONG_TAG_LENGTH}
 
--- to a message, its associated data and its tag
-abbrev pub message_answer : ℕ → ℕ → ℕ → ℤ
-message_answer message ad tag =
-    if leb message MAX_AEAD_BYTES then
-    (if leb ad MAX_AEAD_BYTES then (if tag == 16 || tag == 32 then DONE else WRONG_TAG_LENGTH) else DATA_TOO_LONG)
-    else MESSAGE_TOO_LONG
+-- to a tag
+abbrev pub tag_answer : ℕ → ℤ
+tag_answer tag = if tag == 16 || tag == 32 then DONE else WRONG_TAG_LENGTH
+
+-- to a message and its associated data, and then the answer to the rest
+abbrev pub message_answer : ℕ → ℕ → ℤ → ℤ
+message_answer message ad rest =
+    if leb message MAX_AEAD_BYTES then (if leb ad MAX_AEAD_BYTES then rest else DATA_TOO_LONG) else MESSAGE_TOO_LONG
 
 -- to a nonce and a key, of a variant whose nonces and keys have n bytes, and then the answer to the rest
 abbrev pub key_answer : ℕ → ℕ → ℕ → ℤ → ℤ
@@ -21,7 +23,7 @@ stream_answer n nonce key = key_answer n nonce key DONE
 
 -- to the lengths that a message has to do with
 abbrev pub seal_answer : ℕ → ℕ → ℕ → ℕ → ℕ → ℕ → ℤ
-seal_answer n nonce key message ad tag = key_answer n nonce key (message_answer message ad tag)
+seal_answer n nonce key message ad tag = key_answer n nonce key (message_answer message ad (tag_answer tag))
 
 -- to the lengths that a MAC has to do with: as to a message without associated data
 abbrev pub mac_answer : ℕ → ℕ → ℕ → ℕ → ℕ → ℤ

@@ -7,7 +7,6 @@ ghost use Rattle.aegis_c.specs.Calls.{MakesMac, OpensOrErases, Seals, Streams, V
 
 use crate::answer::*;
 use crate::calls::*;
-use aegis::MAX_AEAD_BYTES;
 use aegis::aegis128x2::{Aegis128X2, Aegis128X2Mac};
 
 /// Turns the message at `mc` into its ciphertext, and writes its tag to `mac`.

@@ -1,43 +1,73 @@
-//! The bodies of the calls, each written once for all variants: a macro's arguments are the variant's cipher and the
-//! parameters of the call. A name in a macro is looked up where it is called, so the variants' modules import the
-//! answers.
+//! What the calls share: a look at the lengths, and the bodies, each written once for all variants. A macro's arguments are
+//! the variant's cipher and the parameters of the call. A name in a macro is looked up where it is called, so the
+//! variants' modules import the answers.
 
-// The nonce and the key as arrays of the lengths that they are used at. The call ends here where they have others.
-macro_rules! nonce_and_key {
-    ($npub:ident, $k:ident) => {{
-        let Some(nonce) = $npub.as_array() else {
-            return WRONG_NONCE_LENGTH;
-        };
-        let Some(key) = $k.as_array() else {
-            return WRONG_KEY_LENGTH;
-        };
-        (nonce, key)
-    }};
-}
+ghost use Rattle.std.specs.Prelude.{◌≡◌, ◌≢◌, ◌≤◌, ℕ, ℤ, IfErr, IfOk, length};
+ghost use Rattle.aegis_c.specs.Answers.{key_answer, message_answer};
 
-// The call ends here where the message is too long.
-macro_rules! check_message {
-    ($mc:ident) => {
-        if $mc.len() as u64 > MAX_AEAD_BYTES {
-            return MESSAGE_TOO_LONG;
-        }
+use crate::answer::*;
+use aegis::MAX_AEAD_BYTES;
+
+/// The nonce and the key as arrays of the length that they are used at. Where one has another, what the call answers.
+pub fn nonce_and_key<'a, const N: usize>(
+    npub: &'a [u8],
+    k: &'a [u8],
+) -> Result<(&'a [u8; N], &'a [u8; N]), i32>
+    ensures nonce { IfOk result (λ keys. keys.0.now ≡ npub.now) }
+    ensures key { IfOk result (λ keys. keys.1.now ≡ k.now) }
+    ensures right { IfOk result (λ keys. (rest : ℤ) → key_answer N (length npub.now) (length k.now) rest ≡ rest) }
+    ensures wrong { IfErr result (λ answer. (rest : ℤ) → key_answer N (length npub.now) (length k.now) rest ≡ answer) }
+    ensures not_done { IfErr result (λ answer. answer ≢ DONE) }
+    ensures not_invalid { IfErr result (λ answer. answer ≢ INVALID_TAG) }
+{
+    let Some(nonce) = npub.as_array() else {
+        return Err(WRONG_NONCE_LENGTH);
     };
+    let Some(key) = k.as_array() else {
+        return Err(WRONG_KEY_LENGTH);
+    };
+    Ok((nonce, key))
 }
 
-// The call ends here where the associated data are too long.
-macro_rules! check_data {
-    ($ad:ident) => {
-        if $ad.len() as u64 > MAX_AEAD_BYTES {
-            return DATA_TOO_LONG;
+/// As `nonce_and_key`, but where the message or its associated data are too long the call ends, too.
+pub fn message_keys<'a, const N: usize>(
+    npub: &'a [u8],
+    k: &'a [u8],
+    message: usize,
+    ad: usize,
+) -> Result<(&'a [u8; N], &'a [u8; N]), i32>
+    ensures nonce { IfOk result (λ keys. keys.0.now ≡ npub.now) }
+    ensures key { IfOk result (λ keys. keys.1.now ≡ k.now) }
+    ensures message { IfOk result (λ keys. message ≤ MAX_AEAD_BYTES) }
+    ensures ad { IfOk result (λ keys. ad ≤ MAX_AEAD_BYTES) }
+    ensures right { IfOk result (λ keys. (rest : ℤ) → key_answer N (length npub.now) (length k.now) (message_answer message ad rest) ≡ rest) }
+    ensures wrong { IfErr result (λ answer. (rest : ℤ) → key_answer N (length npub.now) (length k.now) (message_answer message ad rest) ≡ answer) }
+    ensures not_done { IfErr result (λ answer. answer ≢ DONE) }
+    ensures not_invalid { IfErr result (λ answer. answer ≢ INVALID_TAG) }
+{
+    let keys = nonce_and_key(npub, k)?;
+    if message as u64 > MAX_AEAD_BYTES {
+        return Err(MESSAGE_TOO_LONG);
+    }
+    if ad as u64 > MAX_AEAD_BYTES {
+        return Err(DATA_TOO_LONG);
+    }
+    Ok(keys)
+}
+
+// What is found, or the call ends with the answer.
+macro_rules! or_return {
+    ($found:expr) => {
+        match $found {
+            Ok(found) => found,
+            Err(answer) => return answer,
         }
     };
 }
 
 macro_rules! encrypt_in_place {
     ($Cipher:ident, $mc:ident, $ad:ident, $npub:ident, $k:ident, $mac:ident) => {{
-        let (nonce, key) = nonce_and_key!($npub, $k);
-        check_message!($mc);
-        check_data!($ad);
+        let (nonce, key) = or_return!(message_keys($npub, $k, $mc.len(), $ad.len()));
         if $mac.len() == 16 {
             $mac.copy_from_slice(&$Cipher::<16>::new(key, nonce).encrypt_in_place($mc, $ad));
             DONE
@@ -52,9 +82,7 @@ macro_rules! encrypt_in_place {
 
 macro_rules! decrypt_in_place {
     ($Cipher:ident, $mc:ident, $ad:ident, $npub:ident, $k:ident, $mac:ident) => {{
-        let (nonce, key) = nonce_and_key!($npub, $k);
-        check_message!($mc);
-        check_data!($ad);
+        let (nonce, key) = or_return!(message_keys($npub, $k, $mc.len(), $ad.len()));
         if let Some(tag) = $mac.as_array() {
             match $Cipher::<16>::new(key, nonce).decrypt_in_place($mc, tag, $ad) {
                 Ok(()) => DONE,
@@ -74,7 +102,7 @@ macro_rules! decrypt_in_place {
 // The bodies of both calls that have a keystream and no tag, whose length then makes no difference.
 macro_rules! stream {
     ($Cipher:ident, $call:ident, $buffer:ident, $npub:ident, $k:ident) => {{
-        let (nonce, key) = nonce_and_key!($npub, $k);
+        let (nonce, key) = or_return!(nonce_and_key($npub, $k));
         $Cipher::<16>::new(key, nonce).$call($buffer);
         DONE
     }};
@@ -91,13 +119,12 @@ macro_rules! mac_of {
 
 macro_rules! mac {
     ($Mac:ident, $input:ident, $npub:ident, $k:ident, $mac:ident) => {{
-        let (nonce, key) = nonce_and_key!($npub, $k);
-        check_message!($input);
+        let (nonce, key) = or_return!(message_keys($npub, $k, $input.len(), 0));
         if $mac.len() == 16 {
-            $mac.copy_from_slice(&mac_of!($Mac, 16, key, nonce, $input).finalize());
+            $mac.copy_from_slice(&$Mac::<16>::new_with_nonce(key, nonce).finalize_chunks(&[$input]));
             DONE
         } else if $mac.len() == 32 {
-            $mac.copy_from_slice(&mac_of!($Mac, 32, key, nonce, $input).finalize());
+            $mac.copy_from_slice(&$Mac::<32>::new_with_nonce(key, nonce).finalize_chunks(&[$input]));
             DONE
         } else {
             WRONG_TAG_LENGTH
@@ -107,8 +134,7 @@ macro_rules! mac {
 
 macro_rules! mac_verify {
     ($Mac:ident, $input:ident, $npub:ident, $k:ident, $mac:ident) => {{
-        let (nonce, key) = nonce_and_key!($npub, $k);
-        check_message!($input);
+        let (nonce, key) = or_return!(message_keys($npub, $k, $input.len(), 0));
         if let Some(expected) = $mac.as_array() {
             match mac_of!($Mac, 16, key, nonce, $input).verify(expected) {
                 Ok(()) => DONE,
@@ -125,12 +151,10 @@ macro_rules! mac_verify {
     }};
 }
 
-pub(crate) use check_data;
-pub(crate) use check_message;
 pub(crate) use decrypt_in_place;
 pub(crate) use encrypt_in_place;
 pub(crate) use mac;
 pub(crate) use mac_of;
 pub(crate) use mac_verify;
-pub(crate) use nonce_and_key;
+pub(crate) use or_return;
 pub(crate) use stream;
