@@ -67,3 +67,9 @@ more_shown messages others first i d is low =
     let one : take (i + 1 + 1) (first ∷ others) ≡ first ∷ take (i + 1) others = rw add-one refl in
     let two : take (i + 1) (first ∷ others) ≡ first ∷ take i others = rw add-one refl in
     rw (is, one, two) (more_of others first i d low)
+
+-- a text behind its first bytes, with a comma and one more message
+pub more_text : (first before next text separated new all : List ℕ) → text ≡ first ++ before → separated ≡ text ++ 44 ∷ []
+    → new ≡ separated ++ next → all ≡ before ++ 44 ∷ next → new ≡ first ++ all
+more_text first before next text separated new all is comma longer more =
+    rw (longer, comma, is, more) (append_assoc (first ++ before) (44 ∷ []) next ∙ append_assoc first before (44 ∷ next))

@@ -10,7 +10,7 @@ ghost use Rattle.aegis_variants.specs.Variant.{tag_length_of};
 
 use crate::command::Command;
 use crate::fault::Refusal;
-use crate::fields::push_bytes;
+use crate::fields::{push_bytes, text_for};
 use crate::limited::Limited;
 use crate::parse::parse;
 use crate::pieces::Pieces;
@@ -79,8 +79,8 @@ fn reply<A: Allocator + Copy>(alloc: A, command: Command<A>) -> Result<Vec<u8, A
 pub fn shown<A: Allocator + Copy>(alloc: A, bytes: &[u8]) -> Result<Vec<u8, A>, AllocError>
     ensures { IfOk result (λ text. text.items ≡ shown bytes.now) }
 {
-    let mut text = Vec::new(alloc);
-    push_bytes(alloc, &mut text, bytes)?;
+    let mut text = text_for(alloc, bytes.len())?;
+    push_bytes(&mut text, bytes)?;
     Ok(text)
 }
 
@@ -92,12 +92,10 @@ fn shown_pair<A: Allocator + Copy>(
 ) -> Result<Vec<u8, A>, AllocError>
     ensures { IfOk result (λ text. text.items ≡ shown_pair (ciphertext.now, tag.now)) }
 {
-    let bytes = ciphertext.len().saturating_add(tag.len());
-    // Room for the whole text: one that grows would take twice its length for a while.
-    let mut text = Vec::with_capacity(alloc, bytes.saturating_mul(2).saturating_add(1))?;
-    push_bytes(alloc, &mut text, ciphertext)?;
+    let mut text = text_for(alloc, ciphertext.len().saturating_add(tag.len()))?;
+    push_bytes(&mut text, ciphertext)?;
     text.push(b' ')?;
-    push_bytes(alloc, &mut text, tag)?;
+    push_bytes(&mut text, tag)?;
     Ok(text)
 }
 
@@ -156,8 +154,9 @@ fn open_by_tag<A: Allocator + Copy, const TAG_BYTES: usize>(
     let Ok(message) = cipher.open(&associated_data.bytes, &chunks, tag, &mut buffer) else {
         return Vec::from_slice(alloc, b"invalid tag");
     };
-    let mut text = Vec::from_slice(alloc, b"ok ")?;
-    push_bytes(alloc, &mut text, message)?;
+    let mut text = text_for(alloc, message.len())?;
+    text.extend_from_slice(b"ok ")?;
+    push_bytes(&mut text, message)?;
     Ok(text)
 }
 

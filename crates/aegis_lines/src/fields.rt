@@ -1,6 +1,6 @@
 //! Fields of a line, and what they stand for.
 
-ghost use Rattle.std.specs.Prelude.{◌≡◌, ◌+◌, ◌<◌, ◌≤◌, ◌++◌, List, ℕ, true, length, map, vec_items, vec_len, ◌⊎◌, IfErr, IfOk, OnOk};
+ghost use Rattle.std.specs.Prelude.{◌≡◌, ◌+◌, ◌<◌, ◌≤◌, ◌++◌, List, [], ℕ, true, length, map, vec_items, vec_len, ◌⊎◌, IfErr, IfOk, OnOk};
 ghost use Rattle.std.specs.Char.{is_ascii_digit};
 ghost use Rattle.std.specs.List.{list_all};
 ghost use Rattle.std.specs.Str.Parse.{digits_value};
@@ -16,6 +16,9 @@ use std::alloc::{AllocError, Allocator};
 
 /// The longest stream that a line can ask for.
 const MAX_STREAM: usize = 65536;
+
+/// Room for what stands around the digits of an answer, as `ok -` and a line feed.
+const AROUND_DIGITS: usize = 8;
 
 /// Cuts a text at each separator.
 pub fn split<A: Allocator>(
@@ -85,20 +88,32 @@ fn bytes_of_each<A: Allocator + Copy>(
     Ok(read)
 }
 
+/// An empty text with room for so many bytes in digits, for what stands around them, and for a line feed.
+pub fn text_for<A: Allocator>(alloc: A, bytes: usize) -> Result<Vec<u8, A>, AllocError>
+    ensures { IfOk result (λ text. text.items ≡ []) }
+{
+    // A text that grew would take up to three times its length for a while.
+    Vec::with_capacity(alloc, bytes.saturating_mul(2).saturating_add(AROUND_DIGITS))
+}
+
 /// Writes bytes at the end of a text, as a field of them reads: in lower case, and no bytes as `-`.
 #[tactic(auto, unfolding(crate::specs::Field::shown))]
-pub fn push_bytes<A: Allocator + Copy>(
-    alloc: A,
-    text: &mut Vec<u8, A>,
-    bytes: &[u8],
-) -> Result<(), AllocError>
+pub fn push_bytes<A: Allocator>(text: &mut Vec<u8, A>, bytes: &[u8]) -> Result<(), AllocError>
     ensures { OnOk result (text.new.items ≡ text.old.items ++ shown bytes.now) }
 {
     if bytes.is_empty() {
         return text.extend_from_slice(b"-");
     }
-    let digits = hex::encode(alloc, bytes)?;
-    text.extend_from_slice(digits.as_bytes())
+    let start = text.len();
+    let Some(end) = start.checked_add(2 * bytes.len()) else {
+        return Err(AllocError);
+    };
+    text.resize(end, 0)?;
+    // The digits are written in their place: a text of them would take their length once more.
+    match hex::encode_to_slice(bytes, &mut text[start..]) {
+        Ok(()) => Ok(()),
+        Err(_) => Err(AllocError),
+    }
 }
 
 /// The length that one to five decimal digits say. It is a length fault where the field is something

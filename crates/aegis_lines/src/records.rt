@@ -11,7 +11,7 @@ ghost use Rattle.aegis_record.specs.declared.version.Version.TheVariants.{Second
 
 use crate::answer::shown;
 use crate::fault::{Fault, Refusal};
-use crate::fields::push_bytes;
+use crate::fields::{push_bytes, text_for};
 use crate::pieces::slices;
 use aegis::record::{
     MAX_CONTEXT_BYTES, MAX_MESSAGE_BYTES, RecordError, open_records, records_len, seal_records,
@@ -108,26 +108,28 @@ pub fn open_stream<A: Allocator + Copy>(
     ensures { IfOk result (λ text. IsStreamAnswer keys.now.key keys.now.prefix keys.now.context.items bytes.now text.items) }
 {
     match open_records(alloc, &keys.key, &keys.prefix, &keys.context, bytes) {
-        Ok(messages) => opened_text(alloc, &messages),
+        Ok(messages) => opened_text(alloc, &messages, bytes.len()),
         Err(error) => refusal_text(alloc, error),
     }
 }
 
-// Messages, as they are printed after an opening.
+// Messages, as they are printed after the opening of a stream of so many bytes, which is longer than they are.
 fn opened_text<A: Allocator + Copy>(
     alloc: A,
     messages: &[Vec<u8, A>],
+    bytes: usize,
 ) -> Result<Vec<u8, A>, AllocError>
     ensures { IfOk result (λ text. text.items ≡ codes "ok " ++ shown_messages (map vec_items messages.now)) }
 {
-    let mut text = Vec::from_slice(alloc, b"ok ")?;
+    let mut text = text_for(alloc, bytes)?;
+    text.extend_from_slice(b"ok ")?;
     let Some((first, others)) = messages.split_first() else {
         return Ok(text);
     };
-    push_bytes(alloc, &mut text, first)?;
+    push_bytes(&mut text, first)?;
     for message in others {
         text.push(b',')?;
-        push_bytes(alloc, &mut text, message)?;
+        push_bytes(&mut text, message)?;
     }
     Ok(text)
 }

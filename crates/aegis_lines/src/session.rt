@@ -8,7 +8,7 @@ ghost use Rattle.aegis_lines.specs.Output.{Answers, AnswersAll, AnswersRead, Ans
 
 use crate::answer::answer_line;
 use crate::output::write_whole;
-use std::alloc::Allocator;
+use std::alloc::{AllocError, Allocator};
 use std::io;
 use std::io::{ErrorKind, Read, Write};
 
@@ -116,7 +116,7 @@ impl<A: Allocator + Copy> Session<A> {
         if byte == b'\n' {
             self.answer(output)
         } else {
-            self.line.push(byte)?;
+            push_byte(&mut self.line, byte)?;
             Ok(())
         }
     }
@@ -159,4 +159,16 @@ fn without_carriage_return(line: &[u8]) -> &[u8]
     ensures { result.now ≡ strip_last 13 line.now }
 {
     line.strip_suffix(b"\r").unwrap_or(line)
+}
+
+// Makes the line longer. A line that is full grows by an eighth, and not to twice its length, so that the longest line
+// leaves more of the memory to its answer.
+fn push_byte<A: Allocator>(line: &mut Vec<u8, A>, byte: u8) -> Result<(), AllocError>
+    ensures { OnOk result (line.new.items ≡ line.old.items ++ byte ∷ []) }
+{
+    if line.len() == line.capacity() {
+        line.reserve_exact(line.len() / 8 + CHUNK)?;
+    }
+    line.push(byte)?;
+    Ok(())
 }

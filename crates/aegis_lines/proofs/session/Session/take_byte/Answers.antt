@@ -5,8 +5,8 @@ use Rattle.aegis_lines.proofs.OutputFacts.{no_beginning, on_ok_both}
 use Rattle.aegis_lines.proofs.Reading.{ended_line, ended_line_fails, longer_line}
 use Rattle.aegis_lines.proofs.session.Session.take_byte.Goals as goal
 
-pub returns-in_err-push-clause-err : goal.returns-in_err-push-clause-err
-returns-in_err-push-clause-err g c =
+pub returns-in_err-push_byte-clause-err : goal.returns-in_err-push_byte-clause-err
+returns-in_err-push_byte-clause-err g c =
     let p = err_from_is_err_and c.from_residual.result c.from_residual.ensures.1 in
     rw p.1 (λ ends more. no_beginning _ _ _ (Appends-nil _))
 
@@ -23,5 +23,5 @@ returns-then-byte-eq10-clause-err g c =
     let contents = g.W.Write.contents in
     on_err_weaker _ (ended_line_fails c.args.self.now.line.items c.args.byte (contents c.args.output.now) (contents c.answer.new.output) c.if-byte-eq10.true) c.answer.ensures.err
 
-pub returns-in_ok-push-clause-ok : goal.returns-in_ok-push-clause-ok
-returns-in_ok-push-clause-ok g c = λ ends more. longer_line ends _ _ more _ _ _ c.if-byte-eq10.false c.in_ok-push.ensures.items
+pub returns-in_ok-push_byte-clause-ok : goal.returns-in_ok-push_byte-clause-ok
+returns-in_ok-push_byte-clause-ok g c = λ ends more. longer_line ends _ _ more _ _ _ c.if-byte-eq10.false c.in_ok-push_byte.ensures
