@@ -1,7 +1,0 @@
-//! Worked examples of what the contracts say, and tests of what no contract says.
-
-mod examples;
-mod keystreams;
-mod lanes;
-mod openings;
-mod texts;

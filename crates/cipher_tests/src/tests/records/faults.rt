@@ -1,0 +1,138 @@
+//! The first fault of bytes that are no stream.
+
+use crate::tests::records::streams::{CONTEXT, FIRST, KEY, PREFIX, SECOND};
+use aegis::record::{RecordError, open_records};
+use std::test::Fail;
+
+// Why bytes are refused.
+fn refusal(rt: &HostRuntime, bytes: &[u8]) -> Option<RecordError> {
+    open_records(rt.alloc(), &KEY, &PREFIX, &CONTEXT, bytes).err()
+}
+
+// The number of a front that is refused otherwise than it should.
+fn wrong_front(rt: &HostRuntime, stream: &[u8]) -> Option<usize> {
+    for length in 0..stream.len() {
+        let expected = if length < 4 {
+            RecordError::Header
+        } else {
+            RecordError::Truncated
+        };
+        if refusal(rt, &stream[..length]) != Some(expected) {
+            return Some(length);
+        }
+    }
+    None
+}
+
+#[test]
+fn each_front_is_refused(rt: HostRuntime) {
+    assert_eq!(rt; wrong_front(&rt, &FIRST), None);
+    assert_eq!(rt; wrong_front(&rt, &SECOND), None);
+}
+
+#[test]
+fn a_byte_behind_the_last_record_is_refused(rt: HostRuntime) -> Result<(), Fail> {
+    for byte in 0..=255 {
+        let mut stream = Vec::from_slice(rt.alloc(), &SECOND)?;
+        stream.push(byte)?;
+        assert_eq!(rt;
+            refusal(&rt, &stream),
+            Some(RecordError::Trailing),
+            "{byte}"
+        );
+    }
+    Ok(())
+}
+
+// What is refused where the byte at this place has another last bit.
+fn refusal_of_changed(place: usize, is_first_version: bool) -> RecordError {
+    match place {
+        0..4 => RecordError::Header,
+        // The length of the first message would be 256 or 65,536.
+        6 | 7 => RecordError::Truncated,
+        // It would be 16,777,216, or the length of the second 65,539.
+        8 | 44 => {
+            if is_first_version {
+                RecordError::TooLong
+            } else {
+                RecordError::Truncated
+            }
+        }
+        4..41 => RecordError::Damaged(0),
+        // The length of the second message would be 259.
+        43 => RecordError::Truncated,
+        // It would be 16,777,219.
+        45 => RecordError::TooLong,
+        _ => RecordError::Damaged(1),
+    }
+}
+
+// The place of a changed byte that is refused otherwise than it should.
+fn wrong_change(rt: &HostRuntime, sealed: &[u8; 81], is_first_version: bool) -> Option<usize> {
+    for place in 0..81 {
+        let mut stream = *sealed;
+        stream[place] ^= 1;
+        if refusal(rt, &stream) != Some(refusal_of_changed(place, is_first_version)) {
+            return Some(place);
+        }
+    }
+    None
+}
+
+#[test]
+fn each_changed_byte_is_refused(rt: HostRuntime) {
+    assert_eq!(rt; wrong_change(&rt, &FIRST, true), None);
+    assert_eq!(rt; wrong_change(&rt, &SECOND, false), None);
+}
+
+#[test]
+fn the_first_damaged_record_is_told(rt: HostRuntime) {
+    let mut stream = FIRST;
+    stream[80] ^= 1;
+    assert_eq!(rt; refusal(&rt, &stream), Some(RecordError::Damaged(1)));
+    stream[9] ^= 1;
+    assert_eq!(rt; refusal(&rt, &stream), Some(RecordError::Damaged(0)));
+}
+
+#[test]
+fn another_flag_is_refused(rt: HostRuntime) {
+    for flag in 2..=255 {
+        let mut stream = FIRST;
+        stream[4] = flag;
+        assert_eq!(rt; refusal(&rt, &stream), Some(RecordError::Flag), "{flag}");
+    }
+}
+
+// Each version has its own limit, and it is asked for before the bytes are counted.
+#[test]
+fn a_length_past_the_limit_is_refused(rt: HostRuntime) {
+    let past_first = b"AGR1\x01\x01\x00\x01\x00";
+    assert_eq!(rt; refusal(&rt, past_first), Some(RecordError::TooLong));
+    let within_second = b"AGR2\x01\x01\x00\x01\x00";
+    assert_eq!(rt; refusal(&rt, within_second), Some(RecordError::Truncated));
+    let past_second = b"AGR2\x01\x01\x00\x00\x01";
+    assert_eq!(rt; refusal(&rt, past_second), Some(RecordError::TooLong));
+    let mut stream = FIRST;
+    stream[5..9].copy_from_slice(&[1, 0, 1, 0]);
+    assert_eq!(rt; refusal(&rt, &stream), Some(RecordError::TooLong));
+}
+
+#[test]
+fn another_header_is_refused(rt: HostRuntime) {
+    for digit in [b'0', b'3'] {
+        let mut stream = FIRST;
+        stream[3] = digit;
+        assert_eq!(rt; refusal(&rt, &stream), Some(RecordError::Header), "{digit}");
+    }
+}
+
+// The header is bound by each tag, so neither version's records pass as the other's.
+#[test]
+fn the_other_versions_header_is_refused(rt: HostRuntime) {
+    let mut stream = FIRST;
+    stream[3] = b'2';
+    assert_eq!(rt; refusal(&rt, &stream), Some(RecordError::Damaged(0)));
+    let mut stream = SECOND;
+    stream[3] = b'1';
+    assert_eq!(rt; refusal(&rt, &stream), Some(RecordError::Damaged(0)));
+}

@@ -1,0 +1,86 @@
+//! Long messages, and many.
+
+ghost use Rattle.std.specs.Prelude.{◌≤◌, length};
+
+use crate::tests::records::streams::{CONTEXT, KEY, PREFIX, migrated};
+use aegis::record::{MAX_MESSAGE_BYTES, RecordError, open_records, seal_records};
+use aegis_lines::answer_line;
+use std::alloc::Allocator;
+use std::test::Fail;
+
+/// How many records there are where there are many.
+const MANY: usize = 10_000;
+
+// Whether a message is sealed to a stream of its length, and opened again.
+fn opens_again<A: Allocator + Copy>(alloc: A, message: &[u8]) -> Result<bool, RecordError>
+    requires { length message.now ≤ MAX_MESSAGE_BYTES }
+{
+    let messages = [message];
+    let stream = seal_records(alloc, &KEY, &PREFIX, &CONTEXT, &messages)?;
+    let opened = open_records(alloc, &KEY, &PREFIX, &CONTEXT, &stream)?;
+    Ok(
+        stream.len() == 4 + 37 + message.len()
+            && opened.len() == 1
+            && opened[0].as_slice() == message,
+    )
+}
+
+// Whether a message of so many bytes is.
+fn length_opens_again<A: Allocator + Copy>(alloc: A, length: usize) -> Result<bool, RecordError>
+    requires { length ≤ MAX_MESSAGE_BYTES }
+{
+    let message = vec![in alloc; 0x5au8; length]?;
+    opens_again(alloc, &message)
+}
+
+#[test]
+fn long_messages(rt: HostRuntime) -> Result<(), Fail> {
+    assert!(rt; length_opens_again(rt.alloc(), 65_536)?);
+    assert!(rt; length_opens_again(rt.alloc(), 65_537)?);
+    assert!(rt; length_opens_again(rt.alloc(), MAX_MESSAGE_BYTES)?);
+    Ok(())
+}
+
+// How long the streams of a message are, before and after a migration.
+fn migrates<A: Allocator + Copy>(alloc: A, message: &[u8]) -> Result<(usize, usize), RecordError>
+    requires { length message.now ≤ MAX_MESSAGE_BYTES }
+{
+    let messages = [message];
+    let stream = seal_records(alloc, &KEY, &PREFIX, &CONTEXT, &messages)?;
+    let new = migrated(alloc, &stream)?;
+    Ok((stream.len(), new.len()))
+}
+
+#[test]
+fn a_long_message_migrates(rt: HostRuntime) -> Result<(), Fail> {
+    let message = vec![in rt.alloc(); 0x5au8; 65_537]?;
+    assert_eq!(rt; migrates(rt.alloc(), &message)?, (65_578, 65_578));
+    Ok(())
+}
+
+// The answer to a line under zero keys and no context.
+fn answer<A: Allocator + Copy>(alloc: A, command: &[u8], field: &[u8]) -> Result<Vec<u8, A>, Fail> {
+    let mut line = Vec::from_slice(alloc, command)?;
+    line.push(b' ')?;
+    line.extend_from_slice(&[b'0'; 64])?;
+    line.push(b' ')?;
+    line.extend_from_slice(&[b'0'; 48])?;
+    line.extend_from_slice(b" - ")?;
+    line.extend_from_slice(field)?;
+    Ok(answer_line(alloc, &line)?)
+}
+
+#[test]
+fn many_records(rt: HostRuntime) -> Result<(), Fail> {
+    let mut messages = Vec::from_slice(rt.alloc(), b"6d")?;
+    for _message in 1..MANY {
+        messages.extend_from_slice(b",6d")?;
+    }
+    let sealed = answer(rt.alloc(), b"sealrec", &messages)?;
+    assert_eq!(rt; sealed.len(), 2 * (4 + 38 * MANY));
+    let opened = answer(rt.alloc(), b"openrec", &sealed)?;
+    assert!(rt; opened.as_slice().starts_with(b"ok "));
+    assert!(rt; opened.as_slice().ends_with(&messages));
+    assert_eq!(rt; opened.len(), 3 + messages.len());
+    Ok(())
+}
