@@ -14,7 +14,7 @@ use crate::decryptor::Decryptor;
 use crate::destination::{Settled, erase_unless, handed};
 use crate::encryptor::Encryptor;
 use crate::message::{begin, finish, open_more, seal_more};
-use crate::opening::{has_tag, open_all};
+use crate::opening::{has_tag, open_all, open_copied};
 use crate::pass::{Pass, ZEROS};
 use crate::run::pass_all;
 use crate::tag::same_bytes;
@@ -191,9 +191,19 @@ impl<S: LaneState<Key = K>, K: Copy, V: Variant, const TAG_BYTES: usize> Cipher<
         ensures length { IfOk result (λ m. length m.items ≡ length c.now) }
         ensures error { IfErr result (λ e. (e ≡ Error.InvalidTag) ⊎ (e ≡ Error.OutOfMemory)) }
     {
-        let mut m = Vec::from_slice(alloc, c).map_err(|_| Error::OutOfMemory)?;
-        self.decrypt_in_place(&mut m, tag, ad)?;
-        Ok(m)
+        let mut m = Vec::with_capacity(alloc, c.len()).map_err(|_| Error::OutOfMemory)?;
+        let state = begin::<S>(&self.key, &self.nonce, ad);
+        let mut block = ZEROS;
+        let data_bytes = ad.len() as u64;
+        let state = open_copied(state, &mut block, data_bytes, c, &mut m).map_err(
+            |_| Error::OutOfMemory,
+        )?;
+        if has_tag(state, &block, data_bytes, c.len() as u64, tag) {
+            Ok(m)
+        } else {
+            m.fill(ERASED);
+            Err(Error::InvalidTag)
+        }
     }
 
     /// A message xored with the keystream, in a fresh vector.

@@ -3,7 +3,7 @@
 //! As in `message`, what a message is opened by is plain values. The message so far is the front of the destination, and
 //! contracts say which key, nonce and associated data the values stand for, with that message.
 
-ghost use Rattle.std.specs.Prelude.{◌≡◌, ℕ, ◌+◌, ◌^◌, ◌<◌, ◌≤◌, ◌⊎◌, ◌↔◌, ◌++◌, IsOk, List, OnErr, OnOk, drop, length, take, true};
+ghost use Rattle.std.specs.Prelude.{◌≡◌, ℕ, ◌+◌, ◌^◌, ◌<◌, ◌≤◌, ◌⊎◌, ◌↔◌, ◌++◌, [], IfOk, IsOk, List, OnErr, OnOk, drop, length, take, true};
 ghost use Rattle.aegis_base.specs.Chunks.{accepted_after};
 ghost use Rattle.aegis_base.specs.Message.{Opens, ciphertext, tag as tag_of};
 ghost use Rattle.aegis_base.specs.Run.{Stands, held};
@@ -12,6 +12,11 @@ use crate::message::{finish, open_more};
 use crate::pass::Block;
 use crate::tag::same_bytes;
 use aegis_base::{Error, LaneState, Length, MAX_AEAD_BYTES};
+use std::alloc::{AllocError, Allocator};
+
+// A ciphertext is copied and opened in pieces of so many bytes: few enough that a copy waits for memory while rounds run, and
+// of 256 to 4096 the fastest.
+const PIECE_BYTES: usize = 512;
 
 // Opens the next chunk behind the first `written` bytes of the destination, which has room for it.
 #[inline(always)]
@@ -108,6 +113,37 @@ pub fn open_all<S: LaneState>(
     for chunk in chunks {
         let _ = open_chunk(state, block, data_bytes, written, dst, chunk);
     }
+}
+
+/// Opens a ciphertext into an empty vector: each piece of it is copied behind the ones before, and opened there. A vector
+/// with room for all of it takes no memory.
+#[inline(never)]
+pub fn open_copied<S: LaneState, A: Allocator>(
+    state: S,
+    block: &mut Block,
+    data_bytes: u64,
+    c: &[u8],
+    m: &mut Vec<u8, A>,
+) -> Result<S, AllocError>
+    requires empty { m.old.items ≡ [] }
+    requires within { length c.now ≤ MAX_AEAD_BYTES }
+    requires countable { S.updates state + length c.now < 2 ^ 64 }
+    ensures stands { (key nonce ad : List ℕ)
+        → Stands S.FAMILY S.LANES S.lane S.updates (held state block.old data_bytes 0) key nonce ad []
+        → IfOk result (λ after. Stands S.FAMILY S.LANES S.lane S.updates (held after block.new data_bytes (length c.now)) key nonce ad m.new.items) }
+    ensures ciphertext { (key nonce ad : List ℕ)
+        → Stands S.FAMILY S.LANES S.lane S.updates (held state block.old data_bytes 0) key nonce ad []
+        → OnOk result (ciphertext S.FAMILY S.LANES key nonce ad m.new.items ≡ c.now) }
+    ensures length { OnOk result (length m.new.items ≡ length c.now) }
+    ensures few { IfOk result (λ after. S.updates after ≤ S.updates state + length c.now) }
+{
+    let mut state = state;
+    for piece in c.chunks(PIECE_BYTES) {
+        let at = m.len();
+        m.extend_from_slice(piece)?;
+        state = open_more(state, block, data_bytes, at as u64, None, &mut m[at..]);
+    }
+    Ok(state)
 }
 
 /// Whether this is the tag of the message.

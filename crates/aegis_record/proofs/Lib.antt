@@ -1,5 +1,6 @@
 pub mod Frames
 pub mod Lengths
+mod Pieces
 pub mod Reading
 pub mod Sealed
 pub mod Slices

@@ -10,7 +10,7 @@ use Rattle.aegis_record.specs.declared.version.Version.{Version}
 use Rattle.aegis_record.specs.Records.{associated_data, nonce, sealed}
 use Rattle.aegis_record.specs.Stream.{IsSealing}
 
-drop-past : (k : ℕ) (xs : List ℕ) → length xs ≤ k → drop k xs ≡ []
+pub drop-past : (k : ℕ) (xs : List ℕ) → length xs ≤ k → drop k xs ≡ []
 drop-past zero [] h = refl
 drop-past (suc k) [] h = refl
 drop-past zero (x ∷ xs) h = absurd (omega arith)

@@ -20,7 +20,7 @@ const WRITTEN: Version = Version::Second;
 /// How many bytes a message may have.
 pub const MAX_MESSAGE_BYTES: usize = 16_777_216;
 
-// Appends a record. Its message is sealed where it then stands.
+// Appends a record.
 fn seal_record<A: Allocator>(
     out: &mut Vec<u8, A>,
     ad: &mut Vec<u8, A>,
@@ -36,11 +36,7 @@ fn seal_record<A: Allocator>(
 {
     out.push(place.flag)?;
     out.extend_from_slice(&(message.len() as u32).to_le_bytes())?;
-    let start = out.len();
-    out.extend_from_slice(message)?;
-    let tag = sealer.seal(ad, place, &mut out[start..])?;
-    out.extend_from_slice(&tag)?;
-    Ok(())
+    sealer.seal(out, ad, place, message)
 }
 
 // The stream of messages in the version that is written.

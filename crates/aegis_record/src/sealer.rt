@@ -14,6 +14,10 @@ use std::alloc::Allocator;
 /// How many bytes the context of a stream may have.
 pub const MAX_CONTEXT_BYTES: usize = 65_535;
 
+// A message is copied and sealed in pieces of so many bytes: few enough that a copy waits for memory while rounds run, and of
+// 128 to 16384 the fastest.
+const PIECE_BYTES: usize = 512;
+
 /// What all records of a stream are sealed under.
 #[derive(Clone, Copy)]
 pub struct Sealer<'a> {
@@ -70,22 +74,29 @@ impl Place {
 }
 
 impl Sealer<'_> {
-    /// Seals the message of a record where it stands, and answers the tag. `ad` holds the associated data meanwhile.
-    #[tactic(auto, unfolding(crate::specs::Records::sealed))]
+    /// Appends the ciphertext and the tag of a record to a stream. `ad` holds the associated data meanwhile.
     pub fn seal<A: Allocator>(
         &self,
+        out: &mut Vec<u8, A>,
         ad: &mut Vec<u8, A>,
         place: Place,
-        message: &mut [u8],
-    ) -> Result<[u8; 32], RecordError>
+        message: &[u8],
+    ) -> Result<(), RecordError>
         requires context { length self.now.context.now ≤ MAX_CONTEXT_BYTES }
-        requires within { length message.old ≤ limit place.version }
-        ensures ok { IfOk result (λ tag. message.new ++ tag ≡ sealed_at self.now place message.old) }
+        requires within { length message.now ≤ limit place.version }
+        ensures ok { OnOk result (out.new.items ≡ out.old.items ++ sealed_at self.now place message.now) }
         ensures err { IfErr result (λ e. e ≡ RecordError.OutOfMemory) }
     {
         place.write_data(ad, self.context)?;
         let cipher = Aegis256::<TAG_BYTES>::new(self.key, &nonce(self.prefix, place.number));
-        Ok(cipher.encrypt_in_place(message, ad))
+        let mut encryptor = cipher.encryptor(ad);
+        for piece in message.chunks(PIECE_BYTES) {
+            let start = out.len();
+            out.extend_from_slice(piece)?;
+            encryptor.update_in_place(&mut out[start..]);
+        }
+        out.extend_from_slice(&encryptor.finalize())?;
+        Ok(())
     }
 
     /// The message that is sealed to the bytes of a record, ciphertext and tag, in a fresh vector.
