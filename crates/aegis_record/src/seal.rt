@@ -76,7 +76,7 @@ fn seal_all<A: Allocator + Copy>(
 ///
 /// A message has at most [`MAX_MESSAGE_BYTES`] and the context [`MAX_CONTEXT_BYTES`], and [`records_len`] has to give a number,
 /// which is the length of the stream. [`RecordError::OutOfMemory`] is the only refusal. Memory is taken twice: for the whole
-/// stream, in which the messages are sealed where they stand, and for the associated data.
+/// stream, in which the messages are sealed piece by piece, and for the associated data.
 pub fn seal_records<A: Allocator + Copy>(
     alloc: A,
     key: &Key,
