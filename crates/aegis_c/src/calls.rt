@@ -2,7 +2,7 @@
 //! the variant's cipher and the parameters of the call. A name in a macro is looked up where it is called, so the
 //! variants' modules import the answers.
 
-ghost use Rattle.std.specs.Prelude.{◌≡◌, ◌≢◌, ◌≤◌, ℕ, ℤ, IfErr, IfOk, length};
+ghost use Rattle.std.specs.Prelude.{◌≡◌, ◌≢◌, ◌≤◌, ℤ, IfErr, IfOk, length};
 ghost use Rattle.aegis_c.specs.Answers.{key_answer, message_answer};
 
 use crate::answer::*;
