@@ -29,7 +29,8 @@ pub fn nonce_and_key<'a, const N: usize>(
     Ok((nonce, key))
 }
 
-/// As `nonce_and_key`, but where the message or its associated data are too long the call ends, too.
+/// As `nonce_and_key`, but also where the message or its associated data have too many bytes, which are counted here, it is
+/// what the call answers.
 pub fn message_keys<'a, const N: usize>(
     npub: &'a [u8],
     k: &'a [u8],

@@ -1,4 +1,5 @@
-//! Opening a ciphertext's chunks in a destination, each behind what the ones before it left there.
+//! Opening a ciphertext's chunks in a destination, each behind what the ones before it left there, or a whole ciphertext into
+//! a fresh vector.
 //!
 //! As in `message`, what a message is opened by is plain values. The message so far is the front of the destination, and
 //! contracts say which key, nonce and associated data the values stand for, with that message.
