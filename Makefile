@@ -12,7 +12,11 @@ run:
 
 # The merge gate: the pages' samples, every proof from nothing, the must-fail edits, the tests and the programs.
 test: check-samples
-	rt ci
+	RT_JOBS=$(CHECKS) rt ci
+
+# How many checks run side by side: one on each processor, where each has 4 GiB of memory. A check that several processors
+# share takes nearly half more of their time.
+CHECKS = $(shell awk -v most=$$(nproc) '/^MemAvailable/ { n = int($$2 / 4194304); print n < 1 ? 1 : n < most ? n : most }' /proc/meminfo)
 
 # Each Rust sample of the pages is a part of a proved crate.
 check-samples:

@@ -13,12 +13,6 @@ mod lanes;
 mod permutes;
 mod round;
 mod row;
-#[cfg(test)]
-mod rows_tests;
-#[cfg(test)]
-mod table;
-#[cfg(test)]
-mod tests;
 mod vectors;
 
 pub use block::AesBlock;

@@ -13,11 +13,10 @@ use crate::chunks::seal_all;
 use crate::decryptor::Decryptor;
 use crate::destination::{Settled, erase_unless, handed};
 use crate::encryptor::Encryptor;
-use crate::message::{begin, finish, open_more, seal_more};
-use crate::opening::{has_tag, open_all, open_copied};
+use crate::message::{begin, finish, seal_more};
+use crate::opening::{has_tag, open_all, open_copied, open_in_place};
 use crate::pass::{Pass, ZEROS};
 use crate::run::pass_all;
-use crate::tag::same_bytes;
 use aegis_base::{Error, LaneState, Length, MAX_AEAD_BYTES, Variant};
 use std::alloc::{AllocError, Allocator};
 use std::fmt;
@@ -106,16 +105,47 @@ impl<S: LaneState<Key = K>, K: Copy, V: Variant, const TAG_BYTES: usize> Cipher<
         finish(state, &block, ad.len() as u64, mc.len() as u64)
     }
 
-    // Turns a ciphertext into the message that is sealed to it, and answers that message's tag.
-    fn open_unchecked(self, mc: &mut [u8], ad: &[u8]) -> [u8; TAG_BYTES]
+    // Opens a ciphertext in place, and answers whether this is its tag.
+    fn open_unchecked(self, mc: &mut [u8], tag: &[u8; TAG_BYTES], ad: &[u8]) -> bool
         requires message_within { length mc.old ≤ MAX_AEAD_BYTES }
         requires associated_data_within { length ad.now ≤ MAX_AEAD_BYTES }
-        ensures { (mc.old, result) ≡ seal S.FAMILY S.LANES TAG_BYTES (S.key_bytes self.key) (S.key_bytes self.nonce) ad.now mc.new }
+        ensures opened { result ≡ true → Opens S.FAMILY S.LANES TAG_BYTES (S.key_bytes self.key) (S.key_bytes self.nonce) ad.now mc.old tag.now mc.new }
+        ensures accepted { (m : List ℕ) → Opens S.FAMILY S.LANES TAG_BYTES (S.key_bytes self.key) (S.key_bytes self.nonce) ad.now mc.old tag.now m
+            → result ≡ true }
+        ensures only { (m : List ℕ) → Opens S.FAMILY S.LANES TAG_BYTES (S.key_bytes self.key) (S.key_bytes self.nonce) ad.now mc.old tag.now m
+            → mc.new ≡ m }
+        ensures length { length mc.new ≡ length mc.old }
     {
+        let bytes = mc.len() as u64;
         let state = begin::<S>(&self.key, &self.nonce, ad);
         let mut block = ZEROS;
-        let state = open_more(state, &mut block, ad.len() as u64, 0, None, mc);
-        finish(state, &block, ad.len() as u64, mc.len() as u64)
+        let state = open_in_place(state, &mut block, ad.len() as u64, mc);
+        has_tag(state, &block, ad.len() as u64, bytes, tag)
+    }
+
+    // The same into a fresh vector, which is reserved before a byte is processed.
+    fn open_copied_unchecked<A: Allocator>(
+        self,
+        alloc: A,
+        c: &[u8],
+        tag: &[u8; TAG_BYTES],
+        ad: &[u8],
+    ) -> Result<(Vec<u8, A>, bool), AllocError>
+        requires message_within { length c.now ≤ MAX_AEAD_BYTES }
+        requires associated_data_within { length ad.now ≤ MAX_AEAD_BYTES }
+        ensures opened { IfOk result (λ read. read.1 ≡ true → Opens S.FAMILY S.LANES TAG_BYTES (S.key_bytes self.key) (S.key_bytes self.nonce) ad.now c.now tag.now read.0.items) }
+        ensures accepted { (m : List ℕ) → Opens S.FAMILY S.LANES TAG_BYTES (S.key_bytes self.key) (S.key_bytes self.nonce) ad.now c.now tag.now m
+            → IfOk result (λ read. read.1 ≡ true) }
+        ensures only { (m : List ℕ) → Opens S.FAMILY S.LANES TAG_BYTES (S.key_bytes self.key) (S.key_bytes self.nonce) ad.now c.now tag.now m
+            → IfOk result (λ read. read.0.items ≡ m) }
+        ensures length { IfOk result (λ read. length read.0.items ≡ length c.now) }
+    {
+        let mut m = Vec::with_capacity(alloc, c.len())?;
+        let state = begin::<S>(&self.key, &self.nonce, ad);
+        let mut block = ZEROS;
+        let state = open_copied(state, &mut block, ad.len() as u64, c, &mut m)?;
+        let is_right = has_tag(state, &block, ad.len() as u64, c.len() as u64, tag);
+        Ok((m, is_right))
     }
 
     /// Opens a ciphertext in place (AEGIS, Decrypt): `mc` is the ciphertext before the call and the message after it.
@@ -139,8 +169,7 @@ impl<S: LaneState<Key = K>, K: Copy, V: Variant, const TAG_BYTES: usize> Cipher<
         ensures erased { OnErr result (mc.new ≡ replicate (length mc.old) 0xaa) }
         ensures error { IfErr result (λ e. e ≡ Error.InvalidTag) }
     {
-        let expected = self.open_unchecked(mc, ad);
-        if same_bytes(&expected, tag) {
+        if self.open_unchecked(mc, tag, ad) {
             Ok(())
         } else {
             mc.fill(ERASED);
@@ -191,14 +220,10 @@ impl<S: LaneState<Key = K>, K: Copy, V: Variant, const TAG_BYTES: usize> Cipher<
         ensures length { IfOk result (λ m. length m.items ≡ length c.now) }
         ensures error { IfErr result (λ e. (e ≡ Error.InvalidTag) ⊎ (e ≡ Error.OutOfMemory)) }
     {
-        let mut m = Vec::with_capacity(alloc, c.len()).map_err(|_| Error::OutOfMemory)?;
-        let state = begin::<S>(&self.key, &self.nonce, ad);
-        let mut block = ZEROS;
-        let data_bytes = ad.len() as u64;
-        let state = open_copied(state, &mut block, data_bytes, c, &mut m).map_err(
-            |_| Error::OutOfMemory,
-        )?;
-        if has_tag(state, &block, data_bytes, c.len() as u64, tag) {
+        let (mut m, is_right) = self
+            .open_copied_unchecked(alloc, c, tag, ad)
+            .map_err(|_| Error::OutOfMemory)?;
+        if is_right {
             Ok(m)
         } else {
             m.fill(ERASED);

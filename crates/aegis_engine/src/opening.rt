@@ -116,6 +116,22 @@ pub fn open_all<S: LaneState>(
     }
 }
 
+/// Opens a whole ciphertext in its own place.
+#[inline(always)]
+pub fn open_in_place<S: LaneState>(state: S, block: &mut Block, data_bytes: u64, mc: &mut [u8]) -> S
+    requires within { length mc.old ≤ MAX_AEAD_BYTES }
+    requires countable { S.updates state + length mc.old < 2 ^ 64 }
+    ensures stands { (key nonce ad : List ℕ)
+        → Stands S.FAMILY S.LANES S.lane S.updates (held state block.old data_bytes 0) key nonce ad []
+        → Stands S.FAMILY S.LANES S.lane S.updates (held result block.new data_bytes (length mc.old)) key nonce ad mc.new }
+    ensures ciphertext { (key nonce ad : List ℕ)
+        → Stands S.FAMILY S.LANES S.lane S.updates (held state block.old data_bytes 0) key nonce ad []
+        → ciphertext S.FAMILY S.LANES key nonce ad mc.new ≡ mc.old }
+    ensures few { S.updates result ≤ S.updates state + length mc.old }
+{
+    open_more(state, block, data_bytes, 0, None, mc)
+}
+
 /// Opens a ciphertext into an empty vector: each piece of it is copied behind the ones before, and opened there. A vector
 /// with room for all of it takes no memory.
 #[inline(never)]

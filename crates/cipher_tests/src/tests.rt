@@ -4,6 +4,8 @@ mod chunks;
 mod hostile;
 mod one_shot;
 mod records;
+mod rounds;
+mod rows;
 
 use aegis::Error;
 use std::fmt::Debug;

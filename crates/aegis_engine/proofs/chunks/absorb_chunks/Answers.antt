@@ -1,4 +1,5 @@
 use Rattle.std.proofs.Common.{◌≡◌, ◌+◌, ◌∙◌, ap, ℕ, take, get_or, length, ◌++◌, append_assoc, arith}
+use Rattle.std.proofs.lemmas.Grind.{common_steps}
 use Rattle.std.proofs.lemmas.List.{length-append}
 use Rattle.aegis_base.specs.Chunks.{joined}
 use Rattle.aegis_base.proofs.ChunkFacts.{chunk-within, joined-more, no_chunk}
@@ -24,3 +25,10 @@ loop-chunk-preserved g c =
           let next = c.absorb_more-state.ensures.stands key nonce ad (x ++ joined (take i chunks)) data_bytes (rw read so_far) in
           rw (more, sum, ← append_assoc) (rw read at next);
     }
+
+-- What `search` looks for long and does not find.
+pub returns-clause-stands : goal.returns-clause-stands
+returns-clause-stands g c = grind (arith, common_steps)
+
+pub returns-clause-length : goal.returns-clause-length
+returns-clause-length g c = grind (arith, common_steps)

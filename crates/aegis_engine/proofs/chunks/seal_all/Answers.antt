@@ -1,4 +1,5 @@
 use Rattle.std.proofs.Common.{◌∙◌, ap, refl, ℕ, take, get_or, length, arith}
+use Rattle.std.proofs.lemmas.Grind.{common_steps}
 use Rattle.std.proofs.lemmas.List.{length-append}
 use Rattle.aegis_base.specs.Chunks.{joined}
 use Rattle.aegis_base.proofs.AppendFacts.{ciphertext-none}
@@ -42,3 +43,13 @@ pub overflow_add-at : goal.overflow_add-at
 overflow_add-at g c =
     let more = chunk-within c.args.chunks.now c.loop-chunk.chunk-index c.loop-chunk-test.true in
     omega (arith, c.loop-chunk.invariant.at)
+
+-- What `search` looks for long and does not find.
+pub returns-clause-stands : goal.returns-clause-stands
+returns-clause-stands g c = grind (arith, common_steps)
+
+pub returns-clause-ciphertext : goal.returns-clause-ciphertext
+returns-clause-ciphertext g c = grind (arith, common_steps)
+
+pub returns-clause-few : goal.returns-clause-few
+returns-clause-few g c = grind (arith, common_steps)

@@ -1,4 +1,5 @@
 use Rattle.std.proofs.Common.{◌≡◌, ◌∙◌, sym, ap, refl, ℕ, ◌++◌, List, length, take, get_or, arith}
+use Rattle.std.proofs.lemmas.Grind.{common_steps}
 use Rattle.std.proofs.lemmas.List.{length-take-le}
 use Rattle.aegis_base.specs.Chunks.{accepted_after}
 use Rattle.aegis_base.specs.Message.{ciphertext, lane_before}
@@ -44,3 +45,10 @@ loop-chunk-preserved g c =
           ∙ ap length (sym (accepted-more room kept chunks i c.loop-chunk-test.true));
       rest = λ n low. said.rest n low ∙ before.rest n (omega (arith, said.grows, low));
     }
+
+-- What `search` looks for long and does not find.
+pub returns-clause-ciphertext : goal.returns-clause-ciphertext
+returns-clause-ciphertext g c = grind (arith, common_steps)
+
+pub returns-clause-written : goal.returns-clause-written
+returns-clause-written g c = grind (arith, common_steps)

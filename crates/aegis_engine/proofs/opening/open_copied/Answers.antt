@@ -1,4 +1,5 @@
 use Rattle.std.proofs.Common.{◌≡◌, arith, rules}
+use Rattle.std.proofs.lemmas.Grind.{common_steps}
 use Rattle.std.specs.Slice.Iter.{chunks_rest}
 use Rattle.aegis_base.specs.Message.{lane_before}
 use Rattle.aegis_base.proofs.AppendFacts.{ciphertext-none}
@@ -16,3 +17,10 @@ loop-piece-init g c =
       stands = λ key nonce ad is. rw c.requires.empty is;
       opened = λ key nonce ad is. rw (c.requires.empty, ciphertext-none L.FAMILY L.LANES (lane_before L.FAMILY L.LANES key nonce ad)) rest;
     }
+
+-- What `search` looks for long and does not find.
+pub loop-piece-preserved : goal.loop-piece-preserved
+loop-piece-preserved g c = grind (arith, common_steps)
+
+pub returns-clause-ciphertext : goal.returns-clause-ciphertext
+returns-clause-ciphertext g c = grind (arith, common_steps)

@@ -1,4 +1,5 @@
 use Rattle.std.proofs.Common.{◌≡◌, ◌∙◌, ap, ℕ, ◌+◌, ◌%◌, length, arith}
+use Rattle.std.proofs.lemmas.Grind.{common_steps}
 use Rattle.aegis_base.specs.Family.{rate}
 use Rattle.aegis_base.proofs.RunFacts.{padded-step}
 use Rattle.aegis_engine.proofs.PassFacts.{zeros-read}
@@ -16,3 +17,7 @@ returns-clause-lanes g c lanes x long along j inside =
     (λ k low. let same : 0 + k ≡ k = omega arith in rw same at (c.copy_part.ensures.written k (omega arith)))
     (λ k high. c.copy_part.ensures.above k (omega arith) ∙ zeros-read 128 k)
     j inside
+
+-- What `search` looks for long and does not find.
+pub returns-then-open-eq0-clause-lanes : goal.returns-then-open-eq0-clause-lanes
+returns-then-open-eq0-clause-lanes g c = grind (arith, common_steps)

@@ -2,7 +2,7 @@
 
 // Entry a is the column 2s, s, s, 3s, row 0 in the lowest byte, where s is the substitute of a: what
 // MixColumns makes of a column that has s in row 0 and zeros below it.
-pub(crate) static COLUMNS: [u32; 256] = [
+pub static COLUMNS: [u32; 256] = [
     0xa56363c6, 0x847c7cf8, 0x997777ee, 0x8d7b7bf6, 0x0df2f2ff, 0xbd6b6bd6, 0xb16f6fde, 0x54c5c591,
     0x50303060, 0x03010102, 0xa96767ce, 0x7d2b2b56, 0x19fefee7, 0x62d7d7b5, 0xe6abab4d, 0x9a7676ec,
     0x45caca8f, 0x9d82821f, 0x40c9c989, 0x877d7dfa, 0x15fafaef, 0xeb5959b2, 0xc947478e, 0x0bf0f0fb,
@@ -48,7 +48,7 @@ fn column(row0: u8, row1: u8, row2: u8, row3: u8) -> u32 {
 }
 
 /// A round with the key added last (FIPS 197, sections 5.1.1 to 5.1.4).
-pub(crate) fn round_by_table(b: [u8; 16], key: [u8; 16]) -> [u8; 16] {
+pub fn round_by_table(b: [u8; 16], key: [u8; 16]) -> [u8; 16] {
     // ShiftRows: row r of column c comes from column c + r.
     let columns = [
         column(b[0], b[5], b[10], b[15]),

@@ -1,11 +1,10 @@
-use crate::block::AesBlock;
-use crate::field::power_254;
-use crate::permutes::{IN_HIGH, IN_LOW, INVERSE, OUT_ONE, OUT_TWO, SCALED};
-use crate::row::Row;
-use crate::table::{COLUMNS, round_by_table};
-use crate::{lanes, permutes};
+//! The round: known blocks, and the library's two rounds beside a plain one and one by a table.
+
+mod table;
+
+use aegis_aes::{AesBlock, Row};
 use std::process::Abort;
-use std::simd::prelude::*;
+use table::{COLUMNS, round_by_table};
 
 // The block of the sixteen bytes that a number has, its highest byte first.
 fn block(bytes: u128) -> AesBlock {
@@ -146,92 +145,5 @@ fn rounds_of_counted_bytes(rt: HostRuntime) {
             0x101112131415161718191a1b1c1d1e1fu128.to_be_bytes(),
         );
         counted = counted.rotate_left(8);
-    }
-}
-
-#[test]
-fn inverses_and_substitutes(rt: HostRuntime) {
-    let known = u8x4::from_array([0x53, 0x01, 0x00, 0xca]);
-    assert_eq!(rt; power_254(known).to_array(), [0xca, 0x01, 0x00, 0x53]);
-    assert_eq!(rt;
-        lanes::sub_bytes(known).to_array(),
-        [0xed, 0x7c, 0x63, 0x74]
-    );
-    let mut bytes = [0; 16];
-    bytes[0] = 0x53;
-    bytes[1] = 0x01;
-    let substitutes = permutes::sub_bytes(u8x16::from_array(bytes)).to_array();
-    assert_eq!(rt; substitutes[0], 0xed);
-    assert_eq!(rt; substitutes[1], 0x7c);
-    assert_eq!(rt; substitutes[2], 0x63);
-}
-
-// ---- The tower field of the permutes
-
-const GENERATOR: u8 = 0x0d;
-
-const SCALE: u8 = 0x0c;
-
-const ROOT: u8 = 0x34;
-
-// The element of the field of sixteen with these coordinates: bit i is that of the generator's power i.
-fn element(coordinates: u8) -> u8 {
-    let mut power = 1;
-    let mut sum = 0;
-    for i in 0..4u32 {
-        if coordinates >> i & 1 == 1 {
-            sum ^= power;
-        }
-        power = product(power, GENERATOR);
-    }
-    sum
-}
-
-// The byte whose coordinates are these: the low four those of u and the high four those of v in u + v * root.
-fn byte_of(coordinates: u8) -> u8 {
-    element(coordinates & 15) ^ product(ROOT, element(coordinates >> 4))
-}
-
-// The coordinates of a byte.
-fn coordinates_of(byte: u8) -> u8 {
-    for coordinates in 0..=255 {
-        if byte_of(coordinates) == byte {
-            return coordinates;
-        }
-    }
-    0
-}
-
-// The linear part of SubBytes' affine map, of the inverse that p and q stand for.
-fn linear(p: u8, q: u8) -> u8 {
-    let scaled = plain_inverse(SCALE);
-    let high = product(p ^ product(p ^ q, scaled), scaled);
-    let b = p ^ product(ROOT, high);
-    b ^ b.rotate_left(1) ^ b.rotate_left(2) ^ b.rotate_left(3) ^ b.rotate_left(4)
-}
-
-#[test]
-fn permutes_are_those_of_the_field(rt: HostRuntime) {
-    // The root and what it is a root of, and the order of the generator.
-    assert_eq!(rt; product(ROOT, ROOT), product(SCALE, ROOT) ^ SCALE);
-    for n in 0..16 {
-        let inverse = plain_inverse(element(n));
-        let at = n as usize;
-        assert_eq!(rt; IN_LOW[at], coordinates_of(n), "at {n}");
-        assert_eq!(rt; IN_HIGH[at], coordinates_of(n << 4), "at {n}");
-        assert_eq!(rt; OUT_ONE[at], linear(inverse, 0), "at {n}");
-        assert_eq!(rt; OUT_TWO[at], linear(0, inverse), "at {n}");
-        if n == 0 {
-            // Infinity.
-            assert_eq!(rt; INVERSE[at], 0x80);
-            assert_eq!(rt; SCALED[at], 0x80);
-        } else {
-            assert_eq!(rt; INVERSE[at], coordinates_of(inverse), "at {n}");
-            assert_eq!(rt;
-                SCALED[at],
-                coordinates_of(product(SCALE, inverse)),
-                "at {n}"
-            );
-        }
     }
 }

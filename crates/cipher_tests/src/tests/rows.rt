@@ -1,9 +1,8 @@
+//! Rows of one, two and four blocks: each operation, lane by lane.
+
 ghost use Rattle.std.specs.Prelude.{ℕ, ◌+◌, ◌*◌, ◌<◌, ◌≤◌};
 
-use crate::block::AesBlock;
-use crate::block2::AesBlock2;
-use crate::block4::AesBlock4;
-use crate::row::Row;
+use aegis_aes::{AesBlock, AesBlock2, AesBlock4, Row};
 use std::process::Abort;
 
 fn filled(byte: u8) -> AesBlock {
