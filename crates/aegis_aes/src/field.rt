@@ -60,7 +60,7 @@ pub(crate) fn product<const N: usize>(a: Simd<u8, N>, b: Simd<u8, N>) -> Simd<u8
 }
 
 /// The inverse of each byte, and 0 for 0: the power 254, since each byte but 0 has 1 as its power 255.
-pub(crate) fn power_254<const N: usize>(a: Simd<u8, N>) -> Simd<u8, N>
+pub fn power_254<const N: usize>(a: Simd<u8, N>) -> Simd<u8, N>
     ensures { result ≡ map inverse a.entry }
 {
     let a2 = product(a, a);

@@ -10,7 +10,7 @@ mod block2;
 mod block4;
 pub mod field;
 mod lanes;
-mod permutes;
+pub mod permutes;
 mod round;
 mod row;
 mod vectors;

@@ -10,6 +10,8 @@
 //!
 //! Then the inverse of the byte is 1 / p + t * (1 / p + (1 / p + 1 / q) / a) / a, and its part from p and that from q are
 //! looked up with the linear part of the affine map applied.
+//!
+//! The constants are public for the tests, which derive them anew from the field.
 
 ghost use Rattle.std.specs.Prelude.{◌≡◌, ℕ, ◌+◌, ◌%◌, ◌<◌, ◌≤◌, bit_and, length, map, replicate, slice_index};
 ghost use Rattle.std.specs.Simd.Lanes.{zip2};
@@ -19,28 +21,28 @@ ghost use Rattle.aegis_aes.specs.Round.{substitute};
 
 use std::simd::prelude::*;
 
-// The coordinates of a byte's low half: those of u in the low four bits, and those of v above.
-const IN_LOW: [u8; 16] = [
+/// The coordinates of a byte's low half: those of u in the low four bits, and those of v above.
+pub const IN_LOW: [u8; 16] = [
     0x00, 0x01, 0x27, 0x26, 0xc0, 0xc1, 0xe7, 0xe6, 0xc3, 0xc2, 0xe4, 0xe5, 0x03, 0x02, 0x24, 0x25,
 ];
-// The same of its high half.
-const IN_HIGH: [u8; 16] = [
+/// The same of its high half.
+pub const IN_HIGH: [u8; 16] = [
     0x00, 0xaa, 0x7a, 0xd0, 0xaf, 0x05, 0xd5, 0x7f, 0xd8, 0x72, 0xa2, 0x08, 0x77, 0xdd, 0x0d, 0xa7,
 ];
-// 1 / n.
-const INVERSE: [u8; 16] = [
+/// 1 / n.
+pub const INVERSE: [u8; 16] = [
     0x80, 0x01, 0x0c, 0x08, 0x06, 0x0f, 0x04, 0x0e, 0x03, 0x0d, 0x0b, 0x0a, 0x02, 0x09, 0x07, 0x05,
 ];
-// a / n.
-const SCALED: [u8; 16] = [
+/// a / n.
+pub const SCALED: [u8; 16] = [
     0x80, 0x03, 0x0d, 0x01, 0x0a, 0x08, 0x0c, 0x0b, 0x05, 0x0e, 0x04, 0x07, 0x06, 0x02, 0x09, 0x0f,
 ];
-// The part of the result from p.
-const OUT_ONE: [u8; 16] = [
+/// The part of the result from p.
+pub const OUT_ONE: [u8; 16] = [
     0x00, 0xfa, 0x35, 0x6a, 0x2b, 0xbb, 0x5f, 0x41, 0x8e, 0xcf, 0xe4, 0x1e, 0x74, 0x90, 0xd1, 0xa5,
 ];
-// The part of the result from q.
-const OUT_TWO: [u8; 16] = [
+/// The part of the result from q.
+pub const OUT_TWO: [u8; 16] = [
     0x00, 0x81, 0x99, 0x76, 0x0a, 0xfd, 0xef, 0x7c, 0x64, 0x18, 0x12, 0x93, 0xe5, 0xf7, 0x8b, 0x6e,
 ];
 

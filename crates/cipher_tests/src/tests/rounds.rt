@@ -1,9 +1,12 @@
 //! The round: known blocks, and the library's two rounds beside a plain one and one by a table.
 
+mod permutes;
 mod table;
 
+use aegis_aes::field::power_254;
 use aegis_aes::{AesBlock, Row};
 use std::process::Abort;
+use std::simd::prelude::*;
 use table::{COLUMNS, round_by_table};
 
 // The block of the sixteen bytes that a number has, its highest byte first.
@@ -145,5 +148,18 @@ fn rounds_of_counted_bytes(rt: HostRuntime) {
             0x101112131415161718191a1b1c1d1e1fu128.to_be_bytes(),
         );
         counted = counted.rotate_left(8);
+    }
+}
+
+#[test]
+fn inverses_and_substitutes_of_known_bytes(rt: HostRuntime) {
+    let known = u8x4::from_array([0x53, 0x01, 0x00, 0xca]);
+    assert_eq!(rt; power_254(known).to_array(), [0xca, 0x01, 0x00, 0x53]);
+    for (byte, substitute) in [(0x53, 0xed), (0x01, 0x7c), (0x00, 0x63)] {
+        // MixColumns leaves a column of equal bytes as it is.
+        let start = AesBlock::from_bytes(&[byte; 16]);
+        let key = AesBlock::default();
+        assert_eq!(rt; start.round(key).to_bytes(), [substitute; 16]);
+        assert_eq!(rt; Row::round(start, key).to_bytes(), [substitute; 16]);
     }
 }

@@ -1,0 +1,72 @@
+//! The constants of the byte permutes, derived anew from the tower field.
+
+use super::{plain_inverse, product};
+use aegis_aes::permutes::{IN_HIGH, IN_LOW, INVERSE, OUT_ONE, OUT_TWO, SCALED};
+
+const GENERATOR: u8 = 0x0d;
+
+const SCALE: u8 = 0x0c;
+
+const ROOT: u8 = 0x34;
+
+// The element of the field of sixteen with these coordinates: bit i is that of the generator's power i.
+fn element(coordinates: u8) -> u8 {
+    let mut power = 1;
+    let mut sum = 0;
+    for i in 0..4u32 {
+        if coordinates >> i & 1 == 1 {
+            sum ^= power;
+        }
+        power = product(power, GENERATOR);
+    }
+    sum
+}
+
+// The byte whose coordinates are these: the low four those of u and the high four those of v in u + v * root.
+fn byte_of(coordinates: u8) -> u8 {
+    element(coordinates & 15) ^ product(ROOT, element(coordinates >> 4))
+}
+
+// The coordinates of a byte.
+fn coordinates_of(byte: u8) -> u8 {
+    for coordinates in 0..=255 {
+        if byte_of(coordinates) == byte {
+            return coordinates;
+        }
+    }
+    0
+}
+
+// The linear part of SubBytes' affine map, of the inverse that p and q stand for.
+fn linear(p: u8, q: u8) -> u8 {
+    let scaled = plain_inverse(SCALE);
+    let high = product(p ^ product(p ^ q, scaled), scaled);
+    let b = p ^ product(ROOT, high);
+    b ^ b.rotate_left(1) ^ b.rotate_left(2) ^ b.rotate_left(3) ^ b.rotate_left(4)
+}
+
+#[test]
+fn permutes_are_those_of_the_field(rt: HostRuntime) {
+    // The root and what it is a root of, and the order of the generator.
+    assert_eq!(rt; product(ROOT, ROOT), product(SCALE, ROOT) ^ SCALE);
+    for n in 0..16 {
+        let inverse = plain_inverse(element(n));
+        let at = n as usize;
+        assert_eq!(rt; IN_LOW[at], coordinates_of(n), "at {n}");
+        assert_eq!(rt; IN_HIGH[at], coordinates_of(n << 4), "at {n}");
+        assert_eq!(rt; OUT_ONE[at], linear(inverse, 0), "at {n}");
+        assert_eq!(rt; OUT_TWO[at], linear(0, inverse), "at {n}");
+        if n == 0 {
+            // Infinity.
+            assert_eq!(rt; INVERSE[at], 0x80);
+            assert_eq!(rt; SCALED[at], 0x80);
+        } else {
+            assert_eq!(rt; INVERSE[at], coordinates_of(inverse), "at {n}");
+            assert_eq!(rt;
+                SCALED[at],
+                coordinates_of(product(SCALE, inverse)),
+                "at {n}"
+            );
+        }
+    }
+}
