@@ -3,6 +3,7 @@
 mod permutes;
 mod table;
 
+use crate::tests::assert_bytes;
 use aegis_aes::field::power_254;
 use aegis_aes::{AesBlock, Row};
 use std::process::Abort;
@@ -65,10 +66,15 @@ fn rounds_of_known_blocks(rt: HostRuntime) {
 
 #[test]
 fn known_table_entries(rt: HostRuntime) {
-    assert_eq!(rt; COLUMNS[0x00].to_le_bytes(), [0xc6, 0x63, 0x63, 0xa5]);
-    assert_eq!(rt; COLUMNS[0x01].to_le_bytes(), [0xf8, 0x7c, 0x7c, 0x84]);
-    assert_eq!(rt; COLUMNS[0x53].to_le_bytes(), [0xc1, 0xed, 0xed, 0x2c]);
-    assert_eq!(rt; COLUMNS[0xff].to_le_bytes(), [0x2c, 0x16, 0x16, 0x3a]);
+    let known = [
+        (0x00u8, [0xc6, 0x63, 0x63, 0xa5]),
+        (0x01, [0xf8, 0x7c, 0x7c, 0x84]),
+        (0x53, [0xc1, 0xed, 0xed, 0x2c]),
+        (0xff, [0x2c, 0x16, 0x16, 0x3a]),
+    ];
+    for (byte, column) in known {
+        assert_bytes(&rt, &COLUMNS[byte as usize].to_le_bytes(), &column, &byte);
+    }
 }
 
 // The product of two bytes (FIPS 197, section 4.2).
@@ -153,13 +159,15 @@ fn rounds_of_counted_bytes(rt: HostRuntime) {
 
 #[test]
 fn inverses_and_substitutes_of_known_bytes(rt: HostRuntime) {
-    let known = u8x4::from_array([0x53, 0x01, 0x00, 0xca]);
-    assert_eq!(rt; power_254(known).to_array(), [0xca, 0x01, 0x00, 0x53]);
+    let known = [0x53, 0x01, 0x00, 0xca];
+    let inverses = power_254(u8x4::from_array(known)).to_array();
+    assert_bytes(&rt, &inverses, &[0xca, 0x01, 0x00, 0x53], &known);
     for (byte, substitute) in [(0x53, 0xed), (0x01, 0x7c), (0x00, 0x63)] {
         // MixColumns leaves a column of equal bytes as it is.
         let start = AesBlock::from_bytes(&[byte; 16]);
         let key = AesBlock::default();
-        assert_eq!(rt; start.round(key).to_bytes(), [substitute; 16]);
-        assert_eq!(rt; Row::round(start, key).to_bytes(), [substitute; 16]);
+        for end in [start.round(key), Row::round(start, key)] {
+            assert_bytes(&rt, &end.to_bytes(), &[substitute; 16], &byte);
+        }
     }
 }

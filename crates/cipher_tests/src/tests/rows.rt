@@ -2,6 +2,7 @@
 
 ghost use Rattle.std.specs.Prelude.{ℕ, ◌+◌, ◌*◌, ◌<◌, ◌≤◌};
 
+use crate::tests::assert_bytes;
 use aegis_aes::{AesBlock, AesBlock2, AesBlock4, Row};
 use std::process::Abort;
 
@@ -100,27 +101,22 @@ fn rows_work_lane_by_lane(rt: HostRuntime) {
 
 #[test]
 fn two_blocks_keep_their_places(rt: HostRuntime) {
-    let blocks = AesBlock2::from_blocks(filled(1), filled(2));
-    let (b0, b1) = blocks.as_blocks();
-    assert_eq!(rt; b0.to_bytes(), [1; 16]);
-    assert_eq!(rt; b1.to_bytes(), [2; 16]);
-
-    let (b0, b1) = AesBlock2::default().as_blocks();
-    assert_eq!(rt; b0.to_bytes(), [0; 16]);
-    assert_eq!(rt; b1.to_bytes(), [0; 16]);
+    let (b0, b1) = AesBlock2::from_blocks(filled(1), filled(2)).as_blocks();
+    let (zero0, zero1) = AesBlock2::default().as_blocks();
+    for (block, byte) in [(b0, 1), (b1, 2), (zero0, 0), (zero1, 0)] {
+        assert_bytes(&rt, &block.to_bytes(), &[byte; 16], &byte);
+    }
 }
 
 #[test]
 fn four_blocks_keep_their_places(rt: HostRuntime) {
     let blocks = AesBlock4::from_blocks(filled(1), filled(2), filled(3), filled(4));
     let (b0, b1, b2, b3) = blocks.as_blocks();
-    assert_eq!(rt; b0.to_bytes(), [1; 16]);
-    assert_eq!(rt; b1.to_bytes(), [2; 16]);
-    assert_eq!(rt; b2.to_bytes(), [3; 16]);
-    assert_eq!(rt; b3.to_bytes(), [4; 16]);
-
-    let (b0, b1, b2, b3) = AesBlock4::default().as_blocks();
-    for block in [b0, b1, b2, b3] {
-        assert_eq!(rt; block.to_bytes(), [0; 16]);
+    let (zero0, zero1, zero2, zero3) = AesBlock4::default().as_blocks();
+    for (block, byte) in [(b0, 1), (b1, 2), (b2, 3), (b3, 4)] {
+        assert_bytes(&rt, &block.to_bytes(), &[byte; 16], &byte);
+    }
+    for zero in [zero0, zero1, zero2, zero3] {
+        assert_bytes(&rt, &zero.to_bytes(), &[0; 16], &0);
     }
 }

@@ -1,6 +1,7 @@
 //! The constants of the byte permutes, derived anew from the tower field.
 
 use super::{plain_inverse, product};
+use crate::tests::assert_bytes;
 use aegis_aes::permutes::{IN_HIGH, IN_LOW, INVERSE, OUT_ONE, OUT_TWO, SCALED};
 
 const GENERATOR: u8 = 0x0d;
@@ -8,6 +9,9 @@ const GENERATOR: u8 = 0x0d;
 const SCALE: u8 = 0x0c;
 
 const ROOT: u8 = 0x34;
+
+// What stands for 1 / 0.
+const INFINITY: u8 = 0x80;
 
 // The element of the field of sixteen with these coordinates: bit i is that of the generator's power i.
 fn element(coordinates: u8) -> u8 {
@@ -47,26 +51,38 @@ fn linear(p: u8, q: u8) -> u8 {
 
 #[test]
 fn permutes_are_those_of_the_field(rt: HostRuntime) {
-    // The root and what it is a root of, and the order of the generator.
+    // The root and what it is a root of.
     assert_eq!(rt; product(ROOT, ROOT), product(SCALE, ROOT) ^ SCALE);
-    for n in 0..16 {
+    for n in 0..16u8 {
         let inverse = plain_inverse(element(n));
-        let at = n as usize;
-        assert_eq!(rt; IN_LOW[at], coordinates_of(n), "at {n}");
-        assert_eq!(rt; IN_HIGH[at], coordinates_of(n << 4), "at {n}");
-        assert_eq!(rt; OUT_ONE[at], linear(inverse, 0), "at {n}");
-        assert_eq!(rt; OUT_TWO[at], linear(0, inverse), "at {n}");
-        if n == 0 {
-            // Infinity.
-            assert_eq!(rt; INVERSE[at], 0x80);
-            assert_eq!(rt; SCALED[at], 0x80);
+        let (inverted, scaled) = if n == 0 {
+            (INFINITY, INFINITY)
         } else {
-            assert_eq!(rt; INVERSE[at], coordinates_of(inverse), "at {n}");
-            assert_eq!(rt;
-                SCALED[at],
+            (
+                coordinates_of(inverse),
                 coordinates_of(product(SCALE, inverse)),
-                "at {n}"
-            );
-        }
+            )
+        };
+        let at = n as usize;
+        assert_bytes(
+            &rt,
+            &[
+                IN_LOW[at],
+                IN_HIGH[at],
+                INVERSE[at],
+                SCALED[at],
+                OUT_ONE[at],
+                OUT_TWO[at],
+            ],
+            &[
+                coordinates_of(n),
+                coordinates_of(n << 4),
+                inverted,
+                scaled,
+                linear(inverse, 0),
+                linear(0, inverse),
+            ],
+            &n,
+        );
     }
 }
