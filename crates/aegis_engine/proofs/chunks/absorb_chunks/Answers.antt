@@ -26,7 +26,7 @@ loop-chunk-preserved g c =
           rw (more, sum, ← append_assoc) (rw read at next);
     }
 
--- What `search` looks for long and does not find.
+-- What `search` does not find.
 pub returns-clause-stands : goal.returns-clause-stands
 returns-clause-stands g c = grind (arith, common_steps)
 

@@ -44,7 +44,7 @@ overflow_add-at g c =
     let more = chunk-within c.args.chunks.now c.loop-chunk.chunk-index c.loop-chunk-test.true in
     omega (arith, c.loop-chunk.invariant.at)
 
--- What `search` looks for long and does not find.
+-- What `search` does not find.
 pub returns-clause-stands : goal.returns-clause-stands
 returns-clause-stands g c = grind (arith, common_steps)
 

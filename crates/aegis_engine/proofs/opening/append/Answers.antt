@@ -7,7 +7,7 @@ pub returns-clause-rest : goal.returns-clause-rest
 returns-clause-rest g c n low =
     drop-put_mid c.args.written (c.args.written + length c.args.chunk.now - c.args.written) c.args.dst.now c.open_more.new.mc n (omega arith) (omega arith) (omega arith)
 
--- What `search` looks for long and does not find.
+-- What `search` does not find.
 pub returns-clause-stands : goal.returns-clause-stands
 returns-clause-stands g c = grind (arith, common_steps)
 

@@ -46,7 +46,7 @@ loop-chunk-preserved g c =
       rest = λ n low. said.rest n low ∙ before.rest n (omega (arith, said.grows, low));
     }
 
--- What `search` looks for long and does not find.
+-- What `search` does not find.
 pub returns-clause-ciphertext : goal.returns-clause-ciphertext
 returns-clause-ciphertext g c = grind (arith, common_steps)
 

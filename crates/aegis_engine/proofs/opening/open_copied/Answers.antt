@@ -18,7 +18,7 @@ loop-piece-init g c =
       opened = λ key nonce ad is. rw (c.requires.empty, ciphertext-none L.FAMILY L.LANES (lane_before L.FAMILY L.LANES key nonce ad)) rest;
     }
 
--- What `search` looks for long and does not find.
+-- What `search` does not find.
 pub loop-piece-preserved : goal.loop-piece-preserved
 loop-piece-preserved g c = grind (arith, common_steps)
 

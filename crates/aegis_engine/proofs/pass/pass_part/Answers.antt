@@ -8,7 +8,7 @@ returns-in-Stream-clause-along g c lanes x along same =
     c.absorb_part-in-Stream.ensures.along lanes x along
     (λ k low. rw c.in-Stream.is at (same k low) ∙ zeros-read (length c.args.buffer.now) (c.args.at + k) ∙ sym (zeros-read 128 (0 + k)))
 
--- What `search` looks for long and does not find.
+-- What `search` does not find.
 pub returns-in-Seal-clause-along : goal.returns-in-Seal-clause-along
 returns-in-Seal-clause-along g c = grind (arith, common_steps)
 

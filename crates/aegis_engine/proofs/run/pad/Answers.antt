@@ -18,6 +18,6 @@ returns-clause-lanes g c lanes x long along j inside =
     (λ k high. c.copy_part.ensures.above k (omega arith) ∙ zeros-read 128 k)
     j inside
 
--- What `search` looks for long and does not find.
+-- What `search` does not find.
 pub returns-then-open-eq0-clause-lanes : goal.returns-then-open-eq0-clause-lanes
 returns-then-open-eq0-clause-lanes g c = grind (arith, common_steps)

@@ -1,4 +1,4 @@
--- What `search` looks for long and does not find.
+-- What `search` does not find.
 use Rattle.std.proofs.Common.{arith}
 use Rattle.std.proofs.lemmas.Grind.{common_steps}
 use Rattle.aegis_engine.proofs.cipher.Cipher.seal_chunks.Goals as goal
