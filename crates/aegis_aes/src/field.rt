@@ -59,7 +59,8 @@ pub(crate) fn product<const N: usize>(a: Simd<u8, N>, b: Simd<u8, N>) -> Simd<u8
     low ^ high
 }
 
-/// The inverse of each byte, and 0 for 0: the power 254, since each byte but 0 has 1 as its power 255.
+/// The inverse of each byte, and 0 for 0 (FIPS 197, sections 4.2 and 5.1.1): the power 254, since each byte but 0 has 1 as its
+/// power 255.
 pub fn power_254<const N: usize>(a: Simd<u8, N>) -> Simd<u8, N>
     ensures { result ≡ map inverse a.entry }
 {

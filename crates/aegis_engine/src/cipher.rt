@@ -105,7 +105,7 @@ impl<S: LaneState<Key = K>, K: Copy, V: Variant, const TAG_BYTES: usize> Cipher<
         finish(state, &block, ad.len() as u64, mc.len() as u64)
     }
 
-    // Opens a ciphertext in place, and answers whether this is its tag.
+    // Opens a ciphertext in place whatever its tag, and answers whether this is it. Where it is not, the caller erases.
     fn open_unchecked(self, mc: &mut [u8], tag: &[u8; TAG_BYTES], ad: &[u8]) -> bool
         requires message_within { length mc.old ≤ MAX_AEAD_BYTES }
         requires associated_data_within { length ad.now ≤ MAX_AEAD_BYTES }
