@@ -1,58 +1,88 @@
-.PHONY: run test check-samples bench c-library check-c check-header check-install example-c example-libaegis example-rust install
+.PHONY: run test check-pages bench bench-peers c-library check-c check-header check-install install
+.SECONDARY:
 
-# Proves, builds and runs the line program on what is connected to its standard input, or on its stored first lines where
-# that is a terminal, /dev/null or nothing.
-run:
-	@cd crates/aegis_vectors && \
-	if [ ! -e /dev/stdin ] || [ -c /dev/stdin ]; then \
-		echo 'answering the stored lines of crates/aegis_vectors/stdin' >&2; rt run < stdin; \
-	else \
-		echo 'answering standard input' >&2; rt run; \
-	fi
+SHELL = /bin/bash
+.SHELLFLAGS = -eu -o pipefail -c
 
-# The merge gate: the pages' samples, every proof from nothing, the must-fail edits, the tests and the programs.
-test: check-samples
-	RT_JOBS=$(CHECKS) rt ci
-
-# How many checks run side by side: one on each processor, where each has 4 GiB of memory. A check that several processors
-# share takes nearly half more of their time.
+# How many checks run side by side: one on each processor, as far as each has 4 GiB of memory. A check that several
+# processors share takes nearly half more of their time.
 CHECKS = $(shell awk -v most=$$(nproc) '/^MemAvailable/ { n = int($$2 / 4194304); print n < 1 ? 1 : n < most ? n : most }' /proc/meminfo)
 
-# Each Rust sample of the pages is a part of a proved crate.
-check-samples:
-	sh docs/check_samples.sh README.md docs/CALLING.md
+# What is built outside the crates.
+OUT = out
 
-# What follows builds with stock gcc and rustc over the static library, and proves nothing but that library.
+# ---- The two commands
+
+# Proves, builds and runs the line program on what is connected to its standard input, or on its stored first lines if
+# that is a terminal, /dev/null or nothing.
+run: $(OUT)/line-program
+	@cd crates/aegis_vectors && \
+	if [ ! -e /dev/stdin ] || [ -c /dev/stdin ]; then \
+		echo 'the stored lines of crates/aegis_vectors/stdin:' >&2; rt run < stdin; \
+	else \
+		rt run; \
+	fi
+
+# The line program's crates, two side by side if neither waits for the other; each is named once it is proved.
+RUN_CRATES = aegis_aes aegis_base aegis_128 aegis_256 aegis_engine aegis aegis_variants aegis_lines aegis_vectors
+RUN_SOURCES = $(shell find $(addprefix crates/,$(RUN_CRATES)) -name out -prune -o -type f -print)
+
+$(OUT)/line-program: $(RUN_SOURCES) crates.txt | $(OUT)
+	@echo 'proving the $(words $(RUN_CRATES)) crates of the line program' >&2
+	@cd crates/aegis_vectors && rt all check | tee $(abspath $@).log | { n=0; \
+	while IFS= read -r line; do case "$$line" in "== aegis"*) n=$$((n + 1)); \
+		echo "$$n of $(words $(RUN_CRATES)): $${line#== } is proved" >&2;; esac; done; } || \
+	{ cat $(abspath $@).log; exit 1; }
+	@touch $@
+
+# The merge gate: the pages, every proof from nothing, the must-fail edits, the tests and the programs.
+test: check-pages
+	RT_JOBS=$(CHECKS) rt ci
+
+# Each Rust sample of the pages is a part of a proved crate, and no line of a contract is longer than 100 columns.
+check-pages:
+	sh docs/check_samples.sh README.md docs/CALLING.md
+	python3 docs/check_clauses.py
+
+# ---- The C library, for x86-64 Linux. What follows builds with stock gcc and rustc, and proves nothing but that library.
 
 C_LIBRARY = crates/aegis_c/out/libaegis_c.a
-OUT = out
 CC = gcc
 C_FLAGS = -Wall -Wextra -Wpedantic -Werror -Iinclude
 RUSTC = rustc -O --edition 2024
 PREFIX = /usr/local
 VERSION = 0.1.0
-LINK_RUST = -L native=$(dir $(C_LIBRARY)) -l static=aegis_c
-# The processor level of the library and of what it is compared with: `make bench CPU=x86-64-v3` builds both for that
-# one. Without `no-vectorize-slp` the compiler gathers look-ups into vectors, which makes the four tables that the
-# library is compared with a third slower at four lanes.
-CPU = x86-64-v2
-BENCH_FLAGS = -C target-cpu=$(CPU) -C no-vectorize-slp
 
-BENCH_FOLDER = $(if $(filter x86-64-v2,$(CPU)),bench,bench/$(CPU))
+# The processor level. If none is given the library has the builds for both levels, and each name is bound to the
+# best that the processor has when a program is loaded.
+CPU =
+LEVELS = x86-64-v2 x86-64-v3
+LIBRARY = $(OUT)/$(or $(CPU),both)/libhunkravy.a
 
-# Measures the library beside look-up tables and AES instructions, and the chunked calls and record streams beside the
-# one-shot calls; writes RESULTS.md and results.svg, in bench/ or its folder for another processor level, and
-# bench/CHUNKS.md and bench/RECORDS.md.
-bench: $(OUT)/driver
-	mkdir -p $(BENCH_FOLDER)
-	$(OUT)/driver $(BENCH_FOLDER)
-	cd crates/chunk_speed && rt run -- bench > ../../$(OUT)/speeds
-	(cat bench/chunks.md; grep '^| aegis' $(OUT)/speeds) > bench/CHUNKS.md
-	(cat bench/records.md; grep '^| 16 MiB' $(OUT)/speeds) > bench/RECORDS.md
+C_SOURCES = $(shell find $(addprefix crates/,aegis_aes aegis_base aegis_128 aegis_256 aegis_engine aegis aegis_c) -name out -prune -o -type f -print)
 
-# The tests of the C interface: its headers, the examples, and every call of it against the stored lines and forgeries.
-check-c: check-header example-c example-libaegis example-rust $(OUT)/driver
-	$(OUT)/driver
+c-library: $(LIBRARY)
+
+$(OUT)/both/libhunkravy.a: $(LEVELS:%=$(OUT)/%/aegis_c.a) levels/join.sh levels/choose.c
+	mkdir -p $(@D)
+	levels/join.sh $@ $(LEVELS:%=$(OUT)/%/aegis_c.a)
+
+$(OUT)/%/libhunkravy.a: $(OUT)/%/aegis_c.a levels/join.sh levels/choose.c
+	LEVEL=$(patsubst x86-64-v%,%,$*) levels/join.sh $@ $<
+
+# Both levels are built in one folder, so one after the other.
+$(OUT)/x86-64-v3/aegis_c.a: | $(if $(CPU),,$(OUT)/x86-64-v2/aegis_c.a)
+
+$(OUT)/%/aegis_c.a: $(C_SOURCES) crates.txt
+	mkdir -p $(@D)
+	cd crates/aegis_c && rt lib --cpu=$*
+	cp $(C_LIBRARY) $@
+
+# The tests of the C interface: its headers, and over the library with both levels and over each level alone the
+# examples, every call of it against the stored lines, and forgeries. A level that this processor lacks is left out.
+RUNNABLE = $(if $(shell grep -m1 -w avx2 /proc/cpuinfo),$(LEVELS),x86-64-v2)
+
+check-c: check-header $(addprefix check-c-,both $(RUNNABLE))
 
 # Each header stands by itself, as C and as C++.
 check-header:
@@ -61,27 +91,20 @@ check-header:
 		echo "#include \"$$header\"" | $(CC) -std=c++11 $(C_FLAGS) -fsyntax-only -x c++ - || exit 1; \
 	done
 
-example-c: c-library | $(OUT)
-	$(CC) -std=c99 $(C_FLAGS) -O2 examples/c/seal.c $(C_LIBRARY) -o $(OUT)/seal-c
-	$(OUT)/seal-c
+check-c-%: $(OUT)/%/libhunkravy.a $(OUT)/%/driver
+	$(CC) -std=c99 $(C_FLAGS) -O2 examples/c/seal.c $< -o $(OUT)/$*/seal-c
+	$(OUT)/$*/seal-c
+	$(CC) -std=c99 $(C_FLAGS) -O2 examples/c/libaegis.c $< -o $(OUT)/$*/libaegis-c
+	$(OUT)/$*/libaegis-c
+	$(RUSTC) examples/rust/seal.rs -L native=$(OUT)/$* -l static=hunkravy -o $(OUT)/$*/seal-rust
+	$(OUT)/$*/seal-rust
+	$(OUT)/$*/driver
 
-example-libaegis: c-library | $(OUT)
-	$(CC) -std=c99 $(C_FLAGS) -O2 examples/c/libaegis.c $(C_LIBRARY) -o $(OUT)/libaegis-c
-	$(OUT)/libaegis-c
-
-example-rust: c-library | $(OUT)
-	$(RUSTC) examples/rust/seal.rs $(LINK_RUST) -o $(OUT)/seal-rust
-	$(OUT)/seal-rust
-
-# Proves what changed, and builds the static library.
-c-library:
-	cd crates/aegis_c && rt lib --cpu=$(CPU)
-
-# Installs the headers, the library and the file that pkg-config reads, for x86-64 Linux.
-install: c-library
+# Installs the headers, the library and the file that pkg-config reads.
+install: $(LIBRARY)
 	install -d $(DESTDIR)$(PREFIX)/include $(DESTDIR)$(PREFIX)/lib/pkgconfig
 	install -m 644 include/hunkravy.h include/aegis_compat.h $(DESTDIR)$(PREFIX)/include
-	install -m 644 $(C_LIBRARY) $(DESTDIR)$(PREFIX)/lib/libhunkravy.a
+	install -m 644 $(LIBRARY) $(DESTDIR)$(PREFIX)/lib/libhunkravy.a
 	sed -e 's|@PREFIX@|$(abspath $(PREFIX))|' -e 's|@VERSION@|$(VERSION)|' include/hunkravy.pc.in \
 		> $(DESTDIR)$(PREFIX)/lib/pkgconfig/hunkravy.pc
 
@@ -93,8 +116,36 @@ check-install: | $(OUT)
 			-o $(OUT)/$$example-installed && $(OUT)/$$example-installed || exit 1; \
 	done
 
-$(OUT)/driver: $(wildcard bench/*.rs vectors/*) include/hunkravy.rs c-library | $(OUT)
-	CPU=$(CPU) $(RUSTC) $(BENCH_FLAGS) bench/driver.rs $(LINK_RUST) -o $@
+# ---- Speed
+
+# One level is measured, x86-64-v2 if CPU gives none, and what the library is compared with is built for it too. Without
+# `no-vectorize-slp` the compiler gathers look-ups into vectors, which makes the four tables a third slower at four lanes.
+BENCH_CPU = $(or $(CPU),x86-64-v2)
+BENCH_FOLDER = $(if $(filter x86-64-v2,$(BENCH_CPU)),bench,bench/$(BENCH_CPU))
+
+$(OUT)/%/driver: $(wildcard bench/*.rs vectors/*) include/hunkravy.rs $(OUT)/%/libhunkravy.a
+	CPU=$* $(RUSTC) $(if $(filter x86-64%,$*),-C target-cpu=$*) -C no-vectorize-slp bench/driver.rs \
+		-L native=$(OUT)/$* -l static=hunkravy -o $@
+
+# Measures the library beside look-up tables and AES instructions, beside libsodium if it is installed, and the chunked calls
+# and record streams beside the one-shot calls. Writes the tables of BENCH_FOLDER and of bench/.
+bench: $(OUT)/$(BENCH_CPU)/driver bench-peers
+	mkdir -p $(BENCH_FOLDER)
+	$< $(BENCH_FOLDER)
+	cd crates/bench_calls && rt run -- bench > ../../$(OUT)/speeds
+	(cat bench/calls.md; grep '^| aegis' $(OUT)/speeds) > bench/CALLS.md
+	(cat bench/records.md; grep '^| 16 MiB' $(OUT)/speeds) > bench/RECORDS.md
+
+bench-peers: $(OUT)/$(BENCH_CPU)/libhunkravy.a
+	if pkg-config --exists libsodium; then \
+		$(CC) -std=c11 -O2 $(C_FLAGS) bench/peers.c $< $$(pkg-config --cflags --libs libsodium) -o $(OUT)/$(BENCH_CPU)/peers && \
+		$(OUT)/$(BENCH_CPU)/peers > $(OUT)/$(BENCH_CPU)/peers.md && \
+		cat bench/peers.md $(OUT)/$(BENCH_CPU)/peers.md > $(BENCH_FOLDER)/PEERS.md && \
+		$(RUSTC) bench/peers_picture.rs -o $(OUT)/peers-picture && \
+		$(OUT)/peers-picture $(BENCH_CPU) < $(BENCH_FOLDER)/PEERS.md > $(BENCH_FOLDER)/peers.svg; \
+	else \
+		echo 'libsodium is not installed, so it is not measured'; \
+	fi
 
 $(OUT):
 	mkdir -p $@

@@ -1,19 +1,17 @@
 /*
  * Hunkravy: the six AEGIS ciphers and their MACs, with no allocation. For x86-64 Linux.
  *
- * The library behind this header is proved; nothing checks its C callers. So each call needs these of its caller:
+ * The library is proved; nothing checks its C callers. Each call needs these of its caller:
  *
- * - Each pointer points to as many bytes as the length after it says, all of them initialised, readable and, where
- *   the pointer is not const, writable. Where the length is 0 the pointer may be anything, null too.
- * - What a pointer that is not const points to overlaps with nothing that another pointer of the call points to.
- * - Nothing else reads or writes the bytes of a pointer that is not const, nor writes those of a const one, until
- *   the call returns.
- * - Under one key no nonce seals two messages, and none serves for a keystream and a message. The key of a MAC
- *   serves for nothing else.
+ * - Each pointer points to as many bytes as the length after it says, all of them initialised, readable and, if the
+ *   pointer is not const, writable. If the length is 0 the pointer may be anything, null too.
+ * - Output buffers must not overlap any other argument.
+ * - No other thread reads or writes an output buffer, or writes an input, until the call returns.
+ * - Under one key no nonce seals two messages, and none is used for a keystream and a message. The key of a MAC is
+ *   used for nothing else.
  *
- * The lengths are checked. A call that does not like one of them says which by its answer, the first of the
- * list below that fits, and changes nothing. So after a refused length a buffer that was to be sealed still
- * holds the message: look at the answer before the buffer goes anywhere.
+ * The lengths are checked. On a bad length the call returns the first matching code below and changes nothing. So a
+ * buffer that was to be sealed still holds the message then: look at the code before the buffer goes anywhere.
  */
 #ifndef HUNKRAVY_H
 #define HUNKRAVY_H
@@ -25,7 +23,7 @@
 extern "C" {
 #endif
 
-/* The call did what it is for. */
+/* Success. */
 #define HUNKRAVY_DONE 0
 /* The tag is not that of the message, or the MAC not that of the input. Every byte of a message's buffer is 0xaa. */
 #define HUNKRAVY_INVALID_TAG (-1)
@@ -52,7 +50,7 @@ extern "C" {
 /* The most bytes of a message, of associated data, and of the input of a MAC. A keystream may have any length. */
 #define HUNKRAVY_MAX_BYTES ((UINT64_C(1) << 61) - 1)
 
-/* No answer is to be passed over: gcc and clang warn where one is. */
+/* The code must be used: gcc and clang warn if it is not. */
 #if defined(__GNUC__) || defined(__clang__)
 #define HUNKRAVY_ANSWERS __attribute__((warn_unused_result))
 #else
@@ -68,46 +66,49 @@ extern "C" {
  *                                    uint8_t *mac, size_t maclen);
  *
  *     Turns the message at `mc` into its ciphertext, and writes the tag of `maclen` bytes to `mac`.
- *     Answers: all of the above but HUNKRAVY_INVALID_TAG. After any other than HUNKRAVY_DONE the message
- *     still stands at `mc`, unencrypted.
+ *     Returns all of the above but HUNKRAVY_INVALID_TAG. After any code but HUNKRAVY_DONE the message
+ *     is still at `mc`, unencrypted.
  *
  * int hunkravy_NAME_decrypt_in_place(uint8_t *mc, size_t mclen, const uint8_t *ad, size_t adlen,
  *                                    const uint8_t *npub, size_t npublen, const uint8_t *k, size_t klen,
  *                                    const uint8_t *mac, size_t maclen);
  *
  *     Turns the ciphertext at `mc` into its message, if `mac` is the tag of that message.
- *     Answers: all of the above. After HUNKRAVY_INVALID_TAG every byte at `mc` is 0xaa, and after a refused
- *     length the ciphertext still stands there.
+ *     Returns all of the above. After HUNKRAVY_INVALID_TAG every byte at `mc` is 0xaa, and after a bad
+ *     length the ciphertext is still there.
  *
  * int hunkravy_NAME_stream(uint8_t *out, size_t len, const uint8_t *npub, size_t npublen,
  *                          const uint8_t *k, size_t klen);
  *
  *     Writes `len` bytes of keystream to `out`, whatever was there.
- *     Answers: HUNKRAVY_DONE, HUNKRAVY_WRONG_NONCE_LENGTH, HUNKRAVY_WRONG_KEY_LENGTH. After the last two
- *     `out` holds what it held.
+ *     Returns HUNKRAVY_DONE, HUNKRAVY_WRONG_NONCE_LENGTH or HUNKRAVY_WRONG_KEY_LENGTH. After the last two
+ *     `out` is as it was.
  *
  * int hunkravy_NAME_stream_xor_in_place(uint8_t *mc, size_t mclen, const uint8_t *npub, size_t npublen,
  *                                       const uint8_t *k, size_t klen);
  *
- *     Xors the bytes at `mc` with that keystream. The same answers. After any other than HUNKRAVY_DONE the
- *     bytes still stand at `mc` as they were.
+ *     Xors the bytes at `mc` with that keystream. Returns the same codes. After any code but HUNKRAVY_DONE
+ *     the bytes at `mc` are as they were.
  *
  * int hunkravy_NAME_mac(const uint8_t *input, size_t inputlen, const uint8_t *npub, size_t npublen,
  *                       const uint8_t *k, size_t klen, uint8_t *mac, size_t maclen);
  *
- *     Writes the MAC of `maclen` bytes of the input to `mac`. A nonce of zeros stands for none.
- *     Answers: all of the above but HUNKRAVY_INVALID_TAG and HUNKRAVY_DATA_TOO_LONG.
+ *     Writes the MAC of `maclen` bytes of the input to `mac`. For no nonce pass one of zeros.
+ *     Returns all of the above but HUNKRAVY_INVALID_TAG and HUNKRAVY_DATA_TOO_LONG.
  *
  * int hunkravy_NAME_mac_verify(const uint8_t *input, size_t inputlen, const uint8_t *npub, size_t npublen,
  *                              const uint8_t *k, size_t klen, const uint8_t *mac, size_t maclen);
  *
- *     HUNKRAVY_DONE exactly where `mac` is that MAC. Answers: all of the above but HUNKRAVY_DATA_TOO_LONG.
+ *     Returns HUNKRAVY_DONE exactly if `mac` is that MAC, or any of the above but HUNKRAVY_DATA_TOO_LONG.
  *
  * These are inline. The library exports each with `_nonnull` at the end of its name, for programs in other
- * languages; there a pointer is not null, even before a length of 0.
+ * languages; a pointer that is passed to an export must not be null, even with a length of 0.
  */
 
-/* Where a pointer with no bytes points to, for the library. Nothing is read or written there. */
+/* The processor level whose build of the library runs: 3 for x86-64-v3, 2 for x86-64-v2, and 0 for any other. */
+int hunkravy_level(void);
+
+/* The address for a pointer with no bytes. Nothing is read or written there. */
 static inline uint8_t *hunkravy_no_bytes(void)
 {
     static uint8_t none[1];
@@ -124,7 +125,7 @@ static inline uint8_t *hunkravy_writable(uint8_t *bytes, size_t length)
     return length == 0 ? hunkravy_no_bytes() : bytes;
 }
 
-/* A pointer and its length, as the library wants them. */
+/* A pointer and its length, as the exports take them. */
 #define HUNKRAVY_IN(bytes, length) hunkravy_readable(bytes, length), length
 #define HUNKRAVY_OUT(bytes, length) hunkravy_writable(bytes, length), length
 

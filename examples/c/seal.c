@@ -193,6 +193,6 @@ int main(void)
     check_nothing();
     check_keystream();
     check_mac();
-    puts("AEGIS-128L sealed and opened, and every answer was right.");
+    printf("AEGIS-128L sealed and opened at level %d, and every answer was right.\n", hunkravy_level());
     return EXIT_SUCCESS;
 }

@@ -1,10 +1,16 @@
-//! The AEGIS family of authenticated ciphers.
+//! The AEGIS family of authenticated ciphers: six variants, a module each, streams of sealed records, and the laws that follow
+//! from the definitions.
 #![tactic(auto)]
 
+pub mod aegis128l;
+pub mod aegis128x2;
+pub mod aegis128x4;
+pub mod aegis256;
+pub mod aegis256x2;
+pub mod aegis256x4;
 pub mod aes;
 pub mod laws;
+pub mod record;
 
 pub use aegis_base::{Error, MAX_AEAD_BYTES, chunks_len};
 pub use aegis_engine::{Cipher, Decryptor, ERASED, Encryptor, Mac};
-pub use aegis_modules::{aegis128l, aegis128x2, aegis128x4, aegis256, aegis256x2, aegis256x4};
-pub use aegis_record as record;

@@ -2,7 +2,8 @@
 use Rattle.std.specs.Prelude.{ℕ, List, [], ◌∷◌}
 use Rattle.aegis_128.specs.declared.State128.{State128}
 
--- the rows of lane j, where `block` gives the block of a lane in a row
-abbrev pub lane : {R : Type 0} → (R → ℕ → List ℕ) → State128 R → ℕ → List (List ℕ)
+-- the rows of lane j, where `block` gives the block of a lane in the first or second row of a pair
+abbrev pub lane : {P : Type 0} → (P → ℕ → ℕ → List ℕ) → State128 P → ℕ → List (List ℕ)
 lane block s j =
-    block s.s0 j ∷ block s.s1 j ∷ block s.s2 j ∷ block s.s3 j ∷ block s.s4 j ∷ block s.s5 j ∷ block s.s6 j ∷ block s.s7 j ∷ []
+    block s.s04 0 j ∷ block s.s15 0 j ∷ block s.s26 0 j ∷ block s.s37 0 j
+    ∷ block s.s04 1 j ∷ block s.s15 1 j ∷ block s.s26 1 j ∷ block s.s37 1 j ∷ []

@@ -2,7 +2,7 @@
 use Rattle.std.specs.Prelude.{ℕ, List, [], ◌∷◌}
 use Rattle.aegis_256.specs.declared.State256.{State256}
 
--- the rows of lane j, where `block` gives the block of a lane in a row
-abbrev pub lane : {R : Type 0} → (R → ℕ → List ℕ) → State256 R → ℕ → List (List ℕ)
+-- the rows of lane j, where `block` gives the block of a lane in the first or second row of a pair
+abbrev pub lane : {P : Type 0} → (P → ℕ → ℕ → List ℕ) → State256 P → ℕ → List (List ℕ)
 lane block s j =
-    block s.s0 j ∷ block s.s1 j ∷ block s.s2 j ∷ block s.s3 j ∷ block s.s4 j ∷ block s.s5 j ∷ []
+    block s.s03 0 j ∷ block s.s14 0 j ∷ block s.s25 0 j ∷ block s.s03 1 j ∷ block s.s14 1 j ∷ block s.s25 1 j ∷ []

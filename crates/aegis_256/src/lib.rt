@@ -4,23 +4,25 @@
 //! lane; only `update` counts.
 #![tactic(auto)]
 
-ghost use Rattle.std.specs.Prelude.{◌≡◌, ℕ, ◌+◌, ◌-◌, ◌*◌, ◌^◌, ◌<◌, List, [], ◌∷◌};
+ghost use Rattle.std.specs.Prelude.{◌≡◌, ℕ, ◌+◌, ◌-◌, ◌*◌, ◌^◌, ◌<◌, List, [], ◌∷◌, length};
 ghost use Rattle.aegis_aes.specs.Lanes.{context};
-ghost use Rattle.aegis_base.specs.Family.{Aegis256};
-ghost use Rattle.aegis_base.specs.Lane.{add_context, first_rows, high_half, high_tag, keystream, last_block, low_half, low_tag, row, short_tag, start, start_turn, step};
+ghost use Rattle.aegis_base.specs.Variant.{Family256};
+ghost use Rattle.aegis_base.specs.Lane.{add_context, first_blocks, high_half, high_tag, keystream_blocks, last_block, low_half, low_tag, block_in, short_tag, start, start_turn, step};
 
-use aegis_aes::{AesBlock, Row};
+use aegis_aes::{AesBlock, Pair, Row};
 use aegis_base::{C0, C1, LaneState, bit_lengths, block_in_all_lanes};
 
 // The first block of a key or nonce.
-fn low_half(bytes: &[u8; 32]) -> AesBlock
+fn low_half(bytes: &[u8]) -> AesBlock
+    requires { length bytes.now ≡ 32 }
     ensures { result ≡ low_half bytes.now }
 {
     AesBlock::from_bytes(&bytes[..16])
 }
 
 // The second block of a key or nonce.
-fn high_half(bytes: &[u8; 32]) -> AesBlock
+fn high_half(bytes: &[u8]) -> AesBlock
+    requires { length bytes.now ≡ 32 }
     ensures { result ≡ high_half bytes.now }
 {
     let (_, high) = bytes.split_at(16);
@@ -29,47 +31,49 @@ fn high_half(bytes: &[u8; 32]) -> AesBlock
 
 /// The lanes of AEGIS-256, 256X2 or 256X4: their rows, each with one block of every lane, and the count of updates since the
 /// start.
+///
+/// Rows 0 to 2 lie in pairs with rows 3 to 5, so the rows that an update makes of one pair are the next pair, and those of
+/// the last pair are the first one exchanged.
 #[derive(Clone, Copy)]
-pub struct State256<R: Row> {
-    s0: R,
-    s1: R,
-    s2: R,
-    s3: R,
-    s4: R,
-    s5: R,
+pub struct State256<P> {
+    s03: P,
+    s14: P,
+    s25: P,
     updates: u64,
 }
 
-impl<R: Row> State256<R> {
+impl<P: Pair> State256<P> {
     ghost use Rattle.aegis_256.specs.Rows.{lane};
 
-    // The rows after one update by a row of blocks, the private step of every lane, which alone counts. The last row comes
+    // The rows after one update by a row of blocks, the private step of every lane, which alone counts. The last rows come
     // first, so that no round waits for the one just made.
     #[inline(always)]
-    fn update(self, m: R) -> Self
+    fn update(self, m: P::Row) -> Self
         requires { self.updates + 1 < 2 ^ 64 }
-        ensures lanes { (j : ℕ) → j < R.LANES → lane R.block result j ≡ step Aegis256 (lane R.block self j) (R.block m j ∷ []) }
+        ensures lanes { (j : ℕ) → j < P.Row.LANES
+            → lane P.block result j
+            ≡ step Family256 (lane P.block self j) (P.Row.block m j ∷ []) }
         ensures updates { result.updates ≡ self.updates + 1 }
     {
         State256 {
-            s5: self.s4.round(self.s5),
-            s4: self.s3.round(self.s4),
-            s3: self.s2.round(self.s3),
-            s2: self.s1.round(self.s2),
-            s1: self.s0.round(self.s1),
-            s0: self.s5.round(self.s0).xor(m),
+            s25: self.s14.round_pair(self.s25),
+            s14: self.s03.round_pair(self.s14),
+            s03: self.s25.swap().round_pair(self.s03).xor_first_row(m),
             updates: self.updates + 1,
         }
     }
 
     // The rows with the context blocks xored in.
     fn add_contexts(self) -> Self
-        ensures lanes { (j : ℕ) → j < R.LANES → lane R.block result j ≡ add_context Aegis256 (context j R.LANES) (lane R.block self j) }
+        ensures lanes { (j : ℕ) → j < P.Row.LANES
+            → lane P.block result j
+            ≡ add_context Family256 (context j P.Row.LANES) (lane P.block self j) }
         ensures updates { result.updates ≡ self.updates }
     {
+        let contexts = P::Row::contexts();
         State256 {
-            s3: self.s3.xor(R::contexts()),
-            s5: self.s5.xor(R::contexts()),
+            s03: P::of(self.s03.first(), self.s03.second().xor_row(contexts)),
+            s25: P::of(self.s25.first(), self.s25.second().xor_row(contexts)),
             ..self
         }
     }
@@ -77,75 +81,100 @@ impl<R: Row> State256<R> {
     // One update of the start.
     fn start_update(self, block: AesBlock) -> Self
         requires { self.updates + 1 < 2 ^ 64 }
-        ensures lanes { (j : ℕ) → j < R.LANES → lane R.block result j ≡ step Aegis256 (add_context Aegis256 (context j R.LANES) (lane R.block self j)) (block ∷ []) }
+        ensures lanes { (j : ℕ) → j < P.Row.LANES
+            → lane P.block result j
+            ≡ step Family256 (add_context Family256 (context j P.Row.LANES) (lane P.block self j))
+            (block ∷ []) }
         ensures updates { result.updates ≡ self.updates + 1 }
     {
-        self.add_contexts().update(R::splat(block))
+        self.add_contexts().update(P::Row::splat(block))
     }
 
     // The row of keystream blocks.
     #[inline(always)]
-    fn keystream(self) -> R
-        ensures { (j : ℕ) → j < R.LANES → R.block result j ≡ row (keystream Aegis256 (lane R.block self j)) 0 }
+    fn keystream_blocks(self) -> P::Row
+        ensures { (j : ℕ) → j < P.Row.LANES
+            → P.Row.block result j
+            ≡ block_in (keystream_blocks Family256 (lane P.block self j)) 0 }
     {
-        let front = self.s1.xor(self.s4);
-        front.xor(self.s5.xor(self.s2.and(self.s3)))
+        let front = self.s14.first().xor_row(self.s14.second());
+        let masked = self.s25.first().and_row(self.s03.second());
+        front.xor_row(self.s25.second().xor_row(masked))
+    }
+
+    // The sums of rows 0 to 2, and of rows 3 to 5.
+    fn sums(self) -> P
+        ensures low { (j : ℕ) → j < P.Row.LANES
+            → P.block result 0 j ≡ low_tag Family256 (lane P.block self j) }
+        ensures high { (j : ℕ) → j < P.Row.LANES
+            → P.block result 1 j ≡ high_tag Family256 (lane P.block self j) }
+    {
+        self.s03.xor_pair(self.s14).xor_pair(self.s25)
     }
 }
 
-impl<R: Row> LaneState for State256<R> {
+impl<P: Pair> LaneState for State256<P> {
     ghost use Rattle.aegis_256.specs.Rows.{lane};
     ghost use Rattle.std.proofs.Common.{refl, rules};
 
-    type Key = [u8; 32];
-
-    type Row = R;
+    type Row = P::Row;
 
     const START_TURNS: usize = 4;
 
     ghost START_TURNS = { 4 };
 
-    const SHORT_FOLD_TURNS: usize = R::LANES - 1;
+    const SHORT_FOLD_TURNS: usize = P::Row::LANES - 1;
 
-    ghost SHORT_FOLD_TURNS = { R.LANES - 1 };
+    ghost SHORT_FOLD_TURNS = { P.Row.LANES - 1 };
 
-    const RATE: usize = 16 * R::LANES;
+    const RATE: usize = 16 * P::Row::LANES;
 
-    ghost RATE = { 16 * R.LANES };
+    ghost RATE = { 16 * P.Row.LANES };
 
-    ghost FAMILY = { Aegis256 };
+    ghost VARIANT = { record { family = Family256; lanes = P.Row.LANES } };
 
-    ghost LANES = { R.LANES };
-
-    ghost key_bytes = { λ key. key };
-
-    ghost lane = { λ s j. lane R.block s j };
+    ghost lane = { λ s j. lane P.block s j };
 
     ghost updates = { λ s. s.updates };
 
-    fn zero_nonce() -> [u8; 32] {
-        [0; 32]
-    }
-
-    fn first_rows(key: &[u8; 32], nonce: &[u8; 32]) -> Self {
+    fn first_blocks(key: &[u8], nonce: &[u8]) -> Self {
         let c0 = AesBlock::from_bytes(&C0);
         let c1 = AesBlock::from_bytes(&C1);
+        let low = P::Row::splat(low_half(key).xor(low_half(nonce)));
+        let high = P::Row::splat(high_half(key).xor(high_half(nonce)));
         State256 {
-            s0: R::splat(low_half(key).xor(low_half(nonce))),
-            s1: R::splat(high_half(key).xor(high_half(nonce))),
-            s2: R::splat(c1),
-            s3: R::splat(c0),
-            s4: R::splat(low_half(key).xor(c0)),
-            s5: R::splat(high_half(key).xor(c1)),
+            s03: P::of(low, P::Row::splat(c0)),
+            s14: P::of(high, P::Row::splat(low_half(key).xor(c0))),
+            s25: P::of(P::Row::splat(c1), P::Row::splat(high_half(key).xor(c1))),
             updates: 0,
         }
     }
 
-    fn start_turn(self, key: &[u8; 32], nonce: &[u8; 32]) -> Self {
-        let by_low = self.start_update(low_half(key));
-        let by_high = by_low.start_update(high_half(key));
-        let by_low_nonce = by_high.start_update(low_half(key).xor(low_half(nonce)));
-        by_low_nonce.start_update(high_half(key).xor(high_half(nonce)))
+    fn start_turn(self, key: &[u8], nonce: &[u8]) -> Self {
+        let low = low_half(key);
+        let high = high_half(key);
+        let blocks = [
+            low,
+            high,
+            low.xor(low_half(nonce)),
+            high.xor(high_half(nonce)),
+        ];
+        let mut state = self;
+        for i in 0..4usize {
+            state = state.start_update(blocks[i]);
+        }
+        state
+    }
+
+    fn zeros() -> Self {
+        let zero = P::Row::splat(AesBlock::default());
+        let zeros = P::of(zero, zero);
+        State256 {
+            s03: zeros,
+            s14: zeros,
+            s25: zeros,
+            updates: 0,
+        }
     }
 
     fn uncounted(self) -> Self {
@@ -154,41 +183,43 @@ impl<R: Row> LaneState for State256<R> {
 
     #[inline(always)]
     fn absorb(self, bytes: &[u8], at: usize) -> Self {
-        self.update(R::load(bytes, at))
+        self.update(P::Row::load(bytes, at))
     }
 
     #[inline(always)]
     fn xor_keystream(self, buffer: &mut [u8], at: usize) {
-        R::load(buffer, at).xor(self.keystream()).store(buffer, at);
+        P::Row::load(buffer, at)
+            .xor_row(self.keystream_blocks())
+            .store(buffer, at);
     }
 
-    fn last_blocks(self, first_bits: u64, second_bits: u64) -> R {
+    fn last_blocks(self, first_bits: u64, second_bits: u64) -> P::Row {
         let lengths = AesBlock::from_bytes(&bit_lengths(first_bits, second_bits));
-        self.s3.xor(R::splat(lengths))
+        self.s03.second().xor_row(P::Row::splat(lengths))
     }
 
     #[inline(always)]
-    fn end_update(self, last: R) -> Self {
+    fn end_update(self, last: P::Row) -> Self {
         self.update(last)
     }
 
-    fn short_tags(self) -> R {
-        self.low_tags().xor(self.high_tags())
+    fn short_tags(self) -> P::Row {
+        self.low_tags().xor_row(self.high_tags())
     }
 
-    fn low_tags(self) -> R {
-        self.s0.xor(self.s1).xor(self.s2)
+    fn low_tags(self) -> P::Row {
+        self.sums().first()
     }
 
-    fn high_tags(self) -> R {
-        self.s3.xor(self.s4).xor(self.s5)
+    fn high_tags(self) -> P::Row {
+        self.sums().second()
     }
 
-    fn short_fold_turn(self, tags: R, turn: usize) -> Self {
+    fn short_fold_turn(self, tags: P::Row, turn: usize) -> Self {
         self.update(block_in_all_lanes(tags, turn + 1))
     }
 
-    fn step_by_two(self, first: R, second: R) -> Self {
+    fn step_by_two(self, first: P::Row, second: P::Row) -> Self {
         self.update(first).update(second)
     }
 
@@ -198,7 +229,7 @@ impl<R: Row> LaneState for State256<R> {
 
     ghost short_fold_turns_are = { refl };
 
-    ghost one_two_or_four = { R.one_two_or_four };
+    ghost one_two_or_four = { P.Row.one_two_or_four };
 
     ghost rate_is = { Prim.search rules };
 }

@@ -1,10 +1,11 @@
 -- Bytes and blocks at places of a list.
-use Rattle.std.proofs.Common.{◌≡◌, ℕ, zero, suc, ◌+◌, ◌-◌, ◌%◌, ◌<◌, ◌≤◌, List, ◌++◌, length, get_or, take, drop, refl, sym, ap, ap₂, ◌∙◌, arith}
+use Rattle.std.proofs.Common.{◌≡◌, ℕ, zero, suc, ◌+◌, ◌-◌, ◌%◌, ◌<◌, ◌≤◌, List, [], ◌∷◌, ◌++◌, length, get_or, replicate, take, drop, refl, sym, ap, ap₂, ◌∙◌, arith}
 use Rattle.std.proofs.lemmas.List.{places, same_lists, get_or_default, get_or_append_left, get_or-append_right}
 use Rattle.std.proofs.lemmas.Simd.{get_or-chunk, get_or-put_chunk_at, get_or-zip2, length-zip2}
 use Rattle.std.specs.Simd.Lanes.{chunk, put_chunk, zip2}
 use borrow.Rule.Slice.PartMut.{put_mid}
-use Rattle.aegis_aes.specs.Block.{block_at, bytes_at}
+use Rattle.std.specs.Int.Bits.{xor_zero_r}
+use Rattle.aegis_aes.specs.Block.{block_at, bytes_at, xor}
 
 -- n bytes are taken, also past the end of the list
 pub length-bytes_at : (xs : List ℕ) (i n : ℕ) → length (bytes_at xs i n) ≡ n
@@ -102,3 +103,8 @@ block_at-second a b n p e long place =
 
 pub block_at-all : (a : List ℕ) → length a ≡ 16 → block_at a 0 ≡ a
 block_at-all a long = bytes_at-is a 0 16 a long (λ k lt. ap (λ (j : ℕ). get_or a j 0) (omega arith))
+
+pub xor-zeros : (b : List ℕ) (n : ℕ) → length b ≤ n → xor b (replicate n 0) ≡ b
+xor-zeros [] n long = refl
+xor-zeros (x ∷ b) zero long = absurd (omega arith)
+xor-zeros (x ∷ b) (suc n) long = ap₂ (λ (y : ℕ) (t : List ℕ). y ∷ t) (xor_zero_r x) (xor-zeros b n (omega arith))

@@ -4,3 +4,4 @@ pub mod Blocks
 pub mod Round
 pub mod Lanes
 pub mod Permutes
+pub mod Pairs

@@ -54,8 +54,25 @@ impl AesBlock2 {
         ensures first { result.0 ≡ self.now.0 }
         ensures second { result.1 ≡ self.now.1 }
     {
-        let bytes = self.bytes.to_array();
-        (AesBlock::load(&bytes, 0), AesBlock::load(&bytes, 16))
+        let first = self
+            .bytes
+            .swizzle([0, 1, 2, 3, 4, 5, 6, 7, 8, 9, 10, 11, 12, 13, 14, 15]);
+        let second = self.bytes.swizzle([
+            16, 17, 18, 19, 20, 21, 22, 23, 24, 25, 26, 27, 28, 29, 30, 31,
+        ]);
+        (AesBlock { bytes: first }, AesBlock { bytes: second })
+    }
+
+    /// The second block and then the first.
+    pub fn exchanged(&self) -> AesBlock2
+        ensures { result ≡ (self.now.1, self.now.0) }
+    {
+        AesBlock2 {
+            bytes: self.bytes.swizzle([
+                16, 17, 18, 19, 20, 21, 22, 23, 24, 25, 26, 27, 28, 29, 30, 31, 0, 1, 2, 3, 4, 5,
+                6, 7, 8, 9, 10, 11, 12, 13, 14, 15,
+            ]),
+        }
     }
 
     /// The bitwise xor, block by block.
@@ -64,6 +81,16 @@ impl AesBlock2 {
     {
         AesBlock2 {
             bytes: xor_each(self.bytes, other.bytes),
+        }
+    }
+
+    /// The bitwise xor of the first block and another. The second stays.
+    pub fn xor_first(&self, block: AesBlock) -> AesBlock2
+        ensures { result ≡ (xor self.now.0 block, self.now.1) }
+    {
+        let both = AesBlock2::from_blocks(block, AesBlock::default());
+        AesBlock2 {
+            bytes: xor_each(self.bytes, both.bytes),
         }
     }
 
@@ -123,15 +150,15 @@ impl Row for AesBlock2 {
         store(self.bytes, out, at);
     }
 
-    fn xor(self, other: AesBlock2) -> AesBlock2 {
+    fn xor_row(self, other: AesBlock2) -> AesBlock2 {
         AesBlock2::xor(&self, other)
     }
 
-    fn and(self, other: AesBlock2) -> AesBlock2 {
+    fn and_row(self, other: AesBlock2) -> AesBlock2 {
         AesBlock2::and(&self, other)
     }
 
-    fn round(self, key: AesBlock2) -> AesBlock2 {
+    fn round_row(self, key: AesBlock2) -> AesBlock2 {
         AesBlock2 {
             bytes: round_by_permutes(self.bytes, key.bytes),
         }

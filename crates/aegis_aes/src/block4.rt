@@ -125,21 +125,18 @@ impl Row for AesBlock4 {
         self.back.store(out, at + 32);
     }
 
-    fn xor(self, other: AesBlock4) -> AesBlock4 {
+    fn xor_row(self, other: AesBlock4) -> AesBlock4 {
         AesBlock4::xor(&self, other)
     }
 
-    fn and(self, other: AesBlock4) -> AesBlock4 {
+    fn and_row(self, other: AesBlock4) -> AesBlock4 {
         AesBlock4::and(&self, other)
     }
 
-    // Out of line: the rows of four lanes do not fit the registers, and an update of them fills many more with its own
-    // values.
-    #[inline(never)]
-    fn round(self, key: AesBlock4) -> AesBlock4 {
+    fn round_row(self, key: AesBlock4) -> AesBlock4 {
         AesBlock4 {
-            front: Row::round(self.front, key.front),
-            back: Row::round(self.back, key.back),
+            front: self.front.round_row(key.front),
+            back: self.back.round_row(key.back),
         }
     }
 

@@ -52,7 +52,8 @@ pub(crate) fn permute<const N: usize>(from: Simd<u8, N>, at: Simd<u8, N>) -> Sim
     requires width { IsWidth N }
     requires places { ArePlaces at }
     ensures long { length result ≡ N }
-    ensures each { (i : ℕ) → i < N → slice_index result i ≡ entry_beside from.entry i (slice_index at.entry i) }
+    ensures each { (i : ℕ) → i < N
+        → slice_index result i ≡ entry_beside from.entry i (slice_index at.entry i) }
 {
     let from = from.to_array();
     let at = at.to_array();

@@ -22,7 +22,8 @@ const TWO_ROWS_ON: [u8; 16] = [2, 3, 0, 1, 6, 7, 4, 5, 10, 11, 8, 9, 14, 15, 12,
 pub(crate) fn mixed<const N: usize>(s: Simd<u8, N>, key: Simd<u8, N>) -> Simd<u8, N>
     requires { IsWidth N }
     ensures long { length result ≡ N }
-    ensures each { (i : ℕ) → i < N → slice_index result i ≡ bit_xor (mixed_at s.entry i) (slice_index key.entry i) }
+    ensures each { (i : ℕ) → i < N
+        → slice_index result i ≡ bit_xor (mixed_at s.entry i) (slice_index key.entry i) }
 {
     let shifted = permute(s, repeated(SHIFTED));
     let next = permute(s, repeated(SHIFTED_NEXT));
@@ -40,7 +41,8 @@ pub(crate) fn round_by_permutes<const N: usize>(
 ) -> Simd<u8, N>
     requires { IsWidth N }
     ensures long { length result ≡ N }
-    ensures each { (p : ℕ) → p % 16 ≡ 0 → p + 16 ≤ N → block_at result p ≡ round (block_at blocks.entry p) (block_at keys.entry p) }
+    ensures each { (p : ℕ) → p % 16 ≡ 0 → p + 16 ≤ N
+        → block_at result p ≡ round (block_at blocks.entry p) (block_at keys.entry p) }
 {
     mixed(permutes::sub_bytes(blocks), keys)
 }
@@ -49,7 +51,8 @@ pub(crate) fn round_by_permutes<const N: usize>(
 pub(crate) fn round_by_field<const N: usize>(blocks: Simd<u8, N>, keys: Simd<u8, N>) -> Simd<u8, N>
     requires { IsWidth N }
     ensures long { length result ≡ N }
-    ensures each { (p : ℕ) → p % 16 ≡ 0 → p + 16 ≤ N → block_at result p ≡ round (block_at blocks.entry p) (block_at keys.entry p) }
+    ensures each { (p : ℕ) → p % 16 ≡ 0 → p + 16 ≤ N
+        → block_at result p ≡ round (block_at blocks.entry p) (block_at keys.entry p) }
 {
     mixed(lanes::sub_bytes(blocks), keys)
 }

@@ -2,7 +2,7 @@
 
 ghost use Rattle.std.proofs.Common.{inl};
 ghost use Rattle.std.specs.Prelude.{◌≡◌, ℕ, ◌+◌, ◌*◌, ◌<◌, ◌≤◌, length, List, refl, slice_index};
-ghost use Rattle.aegis_aes.specs.Block.{and, block_at, xor};
+ghost use Rattle.aegis_aes.specs.Block.{IsSameBefore, IsSameFrom, and, block_at, xor};
 ghost use Rattle.aegis_aes.specs.Round.{round};
 ghost use Rattle.aegis_aes.specs.Lanes.{IsLaneCount, context, xor_lanes};
 
@@ -38,21 +38,25 @@ pub trait Row: Copy {
     /// `out` stay as they were.
     fn store(self, out: &mut [u8], at: usize)
         requires { at + 16 * LANES ≤ length out.old }
-        ensures written { (j : ℕ) → j < LANES → block_at out.new (at + 16 * j) ≡ block self j }
-        ensures below { (i : ℕ) → i < at → slice_index out.new i ≡ slice_index out.old i }
-        ensures above { (i : ℕ) → at + 16 * LANES ≤ i → slice_index out.new i ≡ slice_index out.old i };
+        ensures written { (j : ℕ) → j < LANES
+            → block_at out.new (at + 16 * j) ≡ block self j }
+        ensures below { IsSameBefore at out.old out.new }
+        ensures above { IsSameFrom (at + 16 * LANES) out.old out.new };
 
     /// The bitwise xor, lane by lane.
-    fn xor(self, other: Self) -> Self
-        ensures { (j : ℕ) → j < LANES → block result j ≡ xor (block self j) (block other j) };
+    fn xor_row(self, other: Self) -> Self
+        ensures { (j : ℕ) → j < LANES
+            → block result j ≡ xor (block self j) (block other j) };
 
     /// The bitwise and, lane by lane.
-    fn and(self, other: Self) -> Self
-        ensures { (j : ℕ) → j < LANES → block result j ≡ and (block self j) (block other j) };
+    fn and_row(self, other: Self) -> Self
+        ensures { (j : ℕ) → j < LANES
+            → block result j ≡ and (block self j) (block other j) };
 
     /// A round of AES (FIPS 197, section 5) on each lane's block, with the block of `key` at that lane as its key.
-    fn round(self, key: Self) -> Self
-        ensures { (j : ℕ) → j < LANES → block result j ≡ round (block self j) (block key j) };
+    fn round_row(self, key: Self) -> Self
+        ensures { (j : ℕ) → j < LANES
+            → block result j ≡ round (block self j) (block key j) };
 
     /// The xor of all lanes' blocks, which each have 16 bytes.
     fn xor_of_lanes(self) -> AesBlock
@@ -96,15 +100,15 @@ impl Row for AesBlock {
         out[at..at + 16].copy_from_slice(&self.to_bytes());
     }
 
-    fn xor(self, other: AesBlock) -> AesBlock {
+    fn xor_row(self, other: AesBlock) -> AesBlock {
         AesBlock::xor(&self, other)
     }
 
-    fn and(self, other: AesBlock) -> AesBlock {
+    fn and_row(self, other: AesBlock) -> AesBlock {
         AesBlock::and(&self, other)
     }
 
-    fn round(self, key: AesBlock) -> AesBlock {
+    fn round_row(self, key: AesBlock) -> AesBlock {
         AesBlock {
             bytes: round_by_permutes(self.bytes, key.bytes),
         }

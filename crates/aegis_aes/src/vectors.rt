@@ -1,7 +1,7 @@
 //! Blocks side by side in one vector, whatever their number.
 
 ghost use Rattle.std.specs.Prelude.{◌≡◌, ℕ, ◌+◌, ◌*◌, ◌<◌, ◌≤◌, length, slice_index};
-ghost use Rattle.aegis_aes.specs.Block.{and, block_at, xor};
+ghost use Rattle.aegis_aes.specs.Block.{IsSameBefore, IsSameFrom, and, block_at, xor};
 
 use std::simd::prelude::*;
 
@@ -10,7 +10,8 @@ use std::simd::prelude::*;
 pub(crate) fn load<const N: usize>(bytes: &[u8], at: usize) -> Simd<u8, N>
     requires { at + N ≤ length bytes.now }
     ensures long { length result ≡ N }
-    ensures each { (p : ℕ) → p + 16 ≤ N → block_at result p ≡ block_at bytes.now (at + p) }
+    ensures each { (p : ℕ) → p + 16 ≤ N
+        → block_at result p ≡ block_at bytes.now (at + p) }
 {
     Simd::from_slice(&bytes[at..])
 }
@@ -19,9 +20,10 @@ pub(crate) fn load<const N: usize>(bytes: &[u8], at: usize) -> Simd<u8, N>
 #[inline(always)]
 pub(crate) fn store<const N: usize>(blocks: Simd<u8, N>, out: &mut [u8], at: usize)
     requires { at + N ≤ length out.old }
-    ensures written { (p : ℕ) → p + 16 ≤ N → block_at out.new (at + p) ≡ block_at blocks.entry p }
-    ensures below { (i : ℕ) → i < at → slice_index out.new i ≡ slice_index out.old i }
-    ensures above { (i : ℕ) → at + N ≤ i → slice_index out.new i ≡ slice_index out.old i }
+    ensures written { (p : ℕ) → p + 16 ≤ N
+        → block_at out.new (at + p) ≡ block_at blocks.entry p }
+    ensures below { IsSameBefore at out.old out.new }
+    ensures above { IsSameFrom (at + N) out.old out.new }
 {
     blocks.copy_to_slice(&mut out[at..]);
 }
@@ -30,7 +32,8 @@ pub(crate) fn store<const N: usize>(blocks: Simd<u8, N>, out: &mut [u8], at: usi
 #[inline(always)]
 pub(crate) fn xor_each<const N: usize>(a: Simd<u8, N>, b: Simd<u8, N>) -> Simd<u8, N>
     ensures long { length result ≡ N }
-    ensures each { (p : ℕ) → p + 16 ≤ N → block_at result p ≡ xor (block_at a.entry p) (block_at b.entry p) }
+    ensures each { (p : ℕ) → p + 16 ≤ N
+        → block_at result p ≡ xor (block_at a.entry p) (block_at b.entry p) }
 {
     a ^ b
 }
@@ -39,7 +42,8 @@ pub(crate) fn xor_each<const N: usize>(a: Simd<u8, N>, b: Simd<u8, N>) -> Simd<u
 #[inline(always)]
 pub(crate) fn and_each<const N: usize>(a: Simd<u8, N>, b: Simd<u8, N>) -> Simd<u8, N>
     ensures long { length result ≡ N }
-    ensures each { (p : ℕ) → p + 16 ≤ N → block_at result p ≡ and (block_at a.entry p) (block_at b.entry p) }
+    ensures each { (p : ℕ) → p + 16 ≤ N
+        → block_at result p ≡ and (block_at a.entry p) (block_at b.entry p) }
 {
     a & b
 }

@@ -4,58 +4,58 @@ use Rattle.std.proofs.Math.Nat.{zero-div, zero-mod}
 use Rattle.std.proofs.lemmas.Bool.{cases_lt}
 use Rattle.std.proofs.lemmas.List.{get_or_append_left, get_or-append_right, length-append}
 use Rattle.aegis_aes.specs.Lanes.{IsLaneCount}
-use Rattle.aegis_base.specs.Family.{Family, rate}
-use Rattle.aegis_base.specs.Message.{ciphertext_from, stream_byte}
+use Rattle.aegis_base.specs.Variant.{Variant, rate}
+use Rattle.aegis_base.specs.Message.{ciphertext_from, keystream_byte_along}
 use Rattle.aegis_base.specs.Run.{HasFrom, IsAlong}
-use Rattle.aegis_base.proofs.Bijection.{ciphertext-is, ciphertext-reads, length-ciphertext, stream_byte-before}
+use Rattle.aegis_base.proofs.Bijection.{ciphertext-is, ciphertext-reads, length-ciphertext, keystream_byte_along-before}
 use Rattle.aegis_base.proofs.MessageFacts.{after-none}
 use Rattle.aegis_base.proofs.RunFacts.{along-same}
 
 -- bytes that are xored with the keystream along the longer message follow the ciphertext of the shorter one
-pub ciphertext-append : (family : Family) (d : ℕ) (lanes : ℕ → List (List ℕ)) (m p c : List ℕ) → IsLaneCount d → length c ≡ length p
-    → ((i : ℕ) → i < length p → slice_index c i ≡ bit_xor (slice_index p i) (stream_byte family d lanes (m ++ p) (length m + i)))
-    → ciphertext_from family d lanes (m ++ p) ≡ ciphertext_from family d lanes m ++ c
-ciphertext-append family d lanes m p c count long xored =
-    let front = ciphertext_from family d lanes m in
-    let kept : length front ≡ length m = length-ciphertext family d lanes m in
+pub ciphertext-append : (variant : Variant) (lanes : ℕ → List (List ℕ)) (m p c : List ℕ) → IsLaneCount variant.lanes → length c ≡ length p
+    → ((i : ℕ) → i < length p → slice_index c i ≡ bit_xor (slice_index p i) (keystream_byte_along variant lanes (m ++ p) (length m + i)))
+    → ciphertext_from variant lanes (m ++ p) ≡ ciphertext_from variant lanes m ++ c
+ciphertext-append variant lanes m p c count long xored =
+    let front = ciphertext_from variant lanes m in
+    let kept : length front ≡ length m = length-ciphertext variant lanes m in
     let both : length (m ++ p) ≡ length m + length p = length-append m p in
     let all : length (front ++ c) ≡ length front + length c = length-append front c in
-    sym (ciphertext-is family d lanes (m ++ p) (front ++ c) (omega (arith, kept, both, all, long)) (λ i h.
+    sym (ciphertext-is variant lanes (m ++ p) (front ++ c) (omega (arith, kept, both, all, long)) (λ i h.
     ⊎_elim
     (λ low. get_or_append_left front c 0 i (omega (arith, kept, low))
-    ∙ ciphertext-reads family d lanes m i low
-    ∙ ap (λ (x : ℕ). bit_xor x (stream_byte family d lanes m i)) (sym (get_or_append_left m p 0 i low))
-    ∙ ap (bit_xor (slice_index (m ++ p) i)) (stream_byte-before family d lanes m (m ++ p) i count (λ k under. sym (get_or_append_left m p 0 k (omega (arith, under, low))))))
+    ∙ ciphertext-reads variant lanes m i low
+    ∙ ap (λ (x : ℕ). bit_xor x (keystream_byte_along variant lanes m i)) (sym (get_or_append_left m p 0 i low))
+    ∙ ap (bit_xor (slice_index (m ++ p) i)) (keystream_byte_along-before variant lanes m (m ++ p) i count (λ k under. sym (get_or_append_left m p 0 k (omega (arith, under, low))))))
     (λ high. let k = i - length m in
     let back : length m + k ≡ i = omega (arith, high) in
     get_or-append_right front c (length m) i 0 kept high
     ∙ xored k (omega (arith, h, both, high))
-    ∙ ap (λ (x : ℕ). bit_xor x (stream_byte family d lanes (m ++ p) (length m + k))) (sym (get_or-append_right m p (length m) i 0 refl high))
-    ∙ ap (λ (q : ℕ). bit_xor (slice_index (m ++ p) i) (stream_byte family d lanes (m ++ p) q)) back)
+    ∙ ap (λ (x : ℕ). bit_xor x (keystream_byte_along variant lanes (m ++ p) (length m + k))) (sym (get_or-append_right m p (length m) i 0 refl high))
+    ∙ ap (λ (q : ℕ). bit_xor (slice_index (m ++ p) i) (keystream_byte_along variant lanes (m ++ p) q)) back)
     (cases_lt i (length m))))
 
 -- the ciphertext of no bytes is none
-pub ciphertext-none : (family : Family) (d : ℕ) (lanes : ℕ → List (List ℕ)) → ciphertext_from family d lanes [] ≡ []
-ciphertext-none family d lanes = sym (ciphertext-is family d lanes [] [] refl (λ i h. absurd (omega arith)))
+pub ciphertext-none : (variant : Variant) (lanes : ℕ → List (List ℕ)) → ciphertext_from variant lanes [] ≡ []
+ciphertext-none variant lanes = sym (ciphertext-is variant lanes [] [] refl (λ i h. absurd (omega arith)))
 
 -- ---- runs
 
 -- where a run begins
-pub along-none : (family : Family) (d : ℕ) (lanes here : ℕ → List (List ℕ)) (block x : List ℕ)
-    → ((j : ℕ) → j < d → here j ≡ lanes j) → IsAlong family d lanes here block x 0
-along-none family d lanes here block x same =
-    let none : 0 / rate family d ≡ 0 = zero-div (rate family d) in
-    let rest : 0 % rate family d ≡ 0 = zero-mod (rate family d) in
+pub along-none : (variant : Variant) (lanes here : ℕ → List (List ℕ)) (block x : List ℕ)
+    → ((j : ℕ) → j < variant.lanes → here j ≡ lanes j) → IsAlong variant lanes here block x 0
+along-none variant lanes here block x same =
+    let none : 0 / rate variant ≡ 0 = zero-div (rate variant) in
+    let rest : 0 % rate variant ≡ 0 = zero-mod (rate variant) in
     record {
       whole = λ j inside. rw (none, after-none) (same j inside);
       open_block = λ k h. absurd (omega arith);
     }
 
 -- a run along a message is along each longer one
-pub along-longer : (family : Family) (d : ℕ) (lanes here : ℕ → List (List ℕ)) (block m p : List ℕ)
-    → IsAlong family d lanes here block m (length m) → IsAlong family d lanes here block (m ++ p) (length m)
-along-longer family d lanes here block m p on =
-    along-same family d lanes here block m (m ++ p) (length m) (λ k h. sym (get_or_append_left m p 0 k h)) on
+pub along-longer : (variant : Variant) (lanes here : ℕ → List (List ℕ)) (block m p : List ℕ)
+    → IsAlong variant lanes here block m (length m) → IsAlong variant lanes here block (m ++ p) (length m)
+along-longer variant lanes here block m p on =
+    along-same variant lanes here block m (m ++ p) (length m) (λ k h. sym (get_or_append_left m p 0 k h)) on
 
 pub has-after : (m p : List ℕ) → HasFrom (m ++ p) (length m) p
 has-after m p i low = get_or-append_right m p (length m) (length m + i) 0 refl (omega arith) ∙ ap (slice_index p) (omega arith)

@@ -8,9 +8,9 @@ use Rattle.std.proofs.lemmas.Nat.{xor_lt}
 use Rattle.aegis_aes.specs.Block.{and, bytes_at, xor}
 use Rattle.aegis_aes.specs.Lanes.{IsLaneCount, context}
 use Rattle.aegis_aes.proofs.RoundBytes.{IsBytes, round-bytes}
-use Rattle.aegis_base.specs.Family.{Family, Aegis128, Aegis256, rate}
-use Rattle.aegis_base.specs.Lane.{add_context, c0, c1, first_rows, high_half, keystream, low_half, row, start, start_turn, start_turns, step, times}
-use Rattle.aegis_base.specs.Message.{after, lane_before, lane_of, share_at, stream_byte}
+use Rattle.aegis_base.specs.Variant.{Family, Family128, Family256, Variant, rate}
+use Rattle.aegis_base.specs.Lane.{add_context, c0, c1, first_blocks, high_half, keystream_blocks, low_half, block_in, start, start_turn, start_turns, step, times}
+use Rattle.aegis_base.specs.Message.{after, blocks_at, lane_before, lane_of, share_at, keystream_byte_along}
 use Rattle.aegis_base.proofs.MessageFacts.{lane_of-within}
 
 -- ---- lists of bytes
@@ -93,7 +93,7 @@ context-bytes j d (inr (inr e)) low = more-bytes (omega arith) (more-bytes (omeg
 
 -- each row of a lane, or block of a list, is a list of bytes
 pub record AreRows (s : List (List ℕ)) : Type 0 where
-  pub at : (i : ℕ) → IsBytes (row s i)
+  pub at : (i : ℕ) → IsBytes (block_in s i)
 
 no-rows : AreRows []
 no-rows = record { at = λ i. none-bytes }
@@ -101,33 +101,33 @@ no-rows = record { at = λ i. none-bytes }
 more-rows : {b : List ℕ} {s : List (List ℕ)} → IsBytes b → AreRows s → AreRows (b ∷ s)
 more-rows {b} {s} is rows = record { at = each }
   where
-    each : (i : ℕ) → IsBytes (row (b ∷ s) i)
+    each : (i : ℕ) → IsBytes (block_in (b ∷ s) i)
     each zero = is
     each (suc i) = rows.at i
 
 step-rows : (family : Family) (s m : List (List ℕ)) → AreRows s → AreRows m → AreRows (step family s m)
-step-rows Aegis128 s m rows input =
-    more-rows (xor-bytes (round-bytes (row s 7) (rows.at 0)) (input.at 0))
-    (more-rows (round-bytes (row s 0) (rows.at 1))
-    (more-rows (round-bytes (row s 1) (rows.at 2))
-    (more-rows (round-bytes (row s 2) (rows.at 3))
-    (more-rows (xor-bytes (round-bytes (row s 3) (rows.at 4)) (input.at 1))
-    (more-rows (round-bytes (row s 4) (rows.at 5))
-    (more-rows (round-bytes (row s 5) (rows.at 6))
-    (more-rows (round-bytes (row s 6) (rows.at 7)) no-rows)))))))
-step-rows Aegis256 s m rows input =
-    more-rows (xor-bytes (round-bytes (row s 5) (rows.at 0)) (input.at 0))
-    (more-rows (round-bytes (row s 0) (rows.at 1))
-    (more-rows (round-bytes (row s 1) (rows.at 2))
-    (more-rows (round-bytes (row s 2) (rows.at 3))
-    (more-rows (round-bytes (row s 3) (rows.at 4))
-    (more-rows (round-bytes (row s 4) (rows.at 5)) no-rows)))))
+step-rows Family128 s m rows input =
+    more-rows (xor-bytes (round-bytes (block_in s 7) (rows.at 0)) (input.at 0))
+    (more-rows (round-bytes (block_in s 0) (rows.at 1))
+    (more-rows (round-bytes (block_in s 1) (rows.at 2))
+    (more-rows (round-bytes (block_in s 2) (rows.at 3))
+    (more-rows (xor-bytes (round-bytes (block_in s 3) (rows.at 4)) (input.at 1))
+    (more-rows (round-bytes (block_in s 4) (rows.at 5))
+    (more-rows (round-bytes (block_in s 5) (rows.at 6))
+    (more-rows (round-bytes (block_in s 6) (rows.at 7)) no-rows)))))))
+step-rows Family256 s m rows input =
+    more-rows (xor-bytes (round-bytes (block_in s 5) (rows.at 0)) (input.at 0))
+    (more-rows (round-bytes (block_in s 0) (rows.at 1))
+    (more-rows (round-bytes (block_in s 1) (rows.at 2))
+    (more-rows (round-bytes (block_in s 2) (rows.at 3))
+    (more-rows (round-bytes (block_in s 3) (rows.at 4))
+    (more-rows (round-bytes (block_in s 4) (rows.at 5)) no-rows)))))
 
 add_context-rows : (family : Family) (c : List ℕ) (s : List (List ℕ)) → IsBytes c → AreRows s → AreRows (add_context family c s)
-add_context-rows Aegis128 c s is rows =
+add_context-rows Family128 c s is rows =
     more-rows (rows.at 0) (more-rows (rows.at 1) (more-rows (rows.at 2) (more-rows (xor-bytes (rows.at 3) is)
     (more-rows (rows.at 4) (more-rows (rows.at 5) (more-rows (rows.at 6) (more-rows (xor-bytes (rows.at 7) is) no-rows)))))))
-add_context-rows Aegis256 c s is rows =
+add_context-rows Family256 c s is rows =
     more-rows (rows.at 0) (more-rows (rows.at 1) (more-rows (rows.at 2) (more-rows (xor-bytes (rows.at 3) is)
     (more-rows (rows.at 4) (more-rows (xor-bytes (rows.at 5) is) no-rows)))))
 
@@ -136,11 +136,11 @@ times-rows : (n : ℕ) (f : List (List ℕ) → List (List ℕ)) (s : List (List
 times-rows zero f s kept rows = rows
 times-rows (suc n) f s kept rows = kept (times n f s) (times-rows n f s kept rows)
 
-first_rows-rows : (family : Family) (key nonce : List ℕ) → IsBytes key → IsBytes nonce → AreRows (first_rows family key nonce)
-first_rows-rows Aegis128 key nonce k n =
+first_blocks-rows : (family : Family) (key nonce : List ℕ) → IsBytes key → IsBytes nonce → AreRows (first_blocks family key nonce)
+first_blocks-rows Family128 key nonce k n =
     more-rows (xor-bytes k n) (more-rows c1-bytes (more-rows c0-bytes (more-rows c1-bytes (more-rows (xor-bytes k n)
     (more-rows (xor-bytes k c0-bytes) (more-rows (xor-bytes k c1-bytes) (more-rows (xor-bytes k c0-bytes) no-rows)))))))
-first_rows-rows Aegis256 key nonce k n =
+first_blocks-rows Family256 key nonce k n =
     let low = take-bytes 16 key k in
     let high = drop-bytes 16 key k in
     more-rows (xor-bytes low (take-bytes 16 nonce n)) (more-rows (xor-bytes high (drop-bytes 16 nonce n))
@@ -148,16 +148,16 @@ first_rows-rows Aegis256 key nonce k n =
 
 -- an update of the start in the family 256
 turned-rows : (c b : List ℕ) (s : List (List ℕ)) → IsBytes c → IsBytes b → AreRows s
-    → AreRows (step Aegis256 (add_context Aegis256 c s) (b ∷ []))
+    → AreRows (step Family256 (add_context Family256 c s) (b ∷ []))
 turned-rows c b s is input rows =
-    step-rows Aegis256 (add_context Aegis256 c s) (b ∷ []) (add_context-rows Aegis256 c s is rows) (more-rows input no-rows)
+    step-rows Family256 (add_context Family256 c s) (b ∷ []) (add_context-rows Family256 c s is rows) (more-rows input no-rows)
 
 start_turn-rows : (family : Family) (key nonce c : List ℕ) (s : List (List ℕ)) → IsBytes key → IsBytes nonce → IsBytes c
     → AreRows s → AreRows (start_turn family key nonce c s)
-start_turn-rows Aegis128 key nonce c s k n is rows =
-    step-rows Aegis128 (add_context Aegis128 c s) (nonce ∷ key ∷ []) (add_context-rows Aegis128 c s is rows)
+start_turn-rows Family128 key nonce c s k n is rows =
+    step-rows Family128 (add_context Family128 c s) (nonce ∷ key ∷ []) (add_context-rows Family128 c s is rows)
     (more-rows n (more-rows k no-rows))
-start_turn-rows Aegis256 key nonce c s k n is rows =
+start_turn-rows Family256 key nonce c s k n is rows =
     let low = take-bytes 16 key k in
     let high = drop-bytes 16 key k in
     turned-rows c (xor (high_half key) (high_half nonce)) _ is (xor-bytes high (drop-bytes 16 nonce n))
@@ -165,48 +165,48 @@ start_turn-rows Aegis256 key nonce c s k n is rows =
     (turned-rows c (high_half key) _ is high
     (turned-rows c (low_half key) s is low rows)))
 
-start-rows : (family : Family) (d : ℕ) (key nonce : List ℕ) (j : ℕ) → IsLaneCount d → j < d → IsBytes key → IsBytes nonce
-    → AreRows (start family d key nonce j)
+start-rows : (variant : Variant) (key nonce : List ℕ) (j : ℕ) → IsLaneCount variant.lanes → j < variant.lanes → IsBytes key → IsBytes nonce
+    → AreRows (start variant key nonce j)
 unfolding start
-start-rows family d key nonce j count inside k n =
-    times-rows (start_turns family) (start_turn family key nonce (context j d)) (first_rows family key nonce)
-    (λ s rows. start_turn-rows family key nonce (context j d) s k n (context-bytes j d count inside) rows)
-    (first_rows-rows family key nonce k n)
+start-rows variant key nonce j count inside k n =
+    times-rows (start_turns variant.family) (start_turn variant.family key nonce (context j variant.lanes)) (first_blocks variant.family key nonce)
+    (λ s rows. start_turn-rows variant.family key nonce (context j variant.lanes) s k n (context-bytes j variant.lanes count inside) rows)
+    (first_blocks-rows variant.family key nonce k n)
 
-share_at-rows : (family : Family) (d j : ℕ) (x : List ℕ) (i : ℕ) → IsBytes x → AreRows (share_at family d j x i)
-share_at-rows Aegis128 d j x i is =
+blocks_at-rows : (family : Family) (d j : ℕ) (x : List ℕ) (i : ℕ) → IsBytes x → AreRows (blocks_at family d j x i)
+blocks_at-rows Family128 d j x i is =
     more-rows (bytes_at-bytes x (i + 16 * j) 16 is) (more-rows (bytes_at-bytes x (i + 16 * (d + j)) 16 is) no-rows)
-share_at-rows Aegis256 d j x i is = more-rows (bytes_at-bytes x (i + 16 * j) 16 is) no-rows
+blocks_at-rows Family256 d j x i is = more-rows (bytes_at-bytes x (i + 16 * j) 16 is) no-rows
 
-after-rows : (family : Family) (d : ℕ) (s : List (List ℕ)) (j : ℕ) (x : List ℕ) (n : ℕ) → AreRows s → IsBytes x
-    → AreRows (after family d s j x n)
+after-rows : (variant : Variant) (s : List (List ℕ)) (j : ℕ) (x : List ℕ) (n : ℕ) → AreRows s → IsBytes x
+    → AreRows (after variant s j x n)
 unfolding after
-after-rows family d s j x zero rows is = rows
-after-rows family d s j x (suc n) rows is =
-    step-rows family (after family d s j x n) (share_at family d j x (n * rate family d)) (after-rows family d s j x n rows is)
-    (share_at-rows family d j x (n * rate family d) is)
+after-rows variant s j x zero rows is = rows
+after-rows variant s j x (suc n) rows is =
+    step-rows variant.family (after variant s j x n) (share_at variant j x (n * rate variant)) (after-rows variant s j x n rows is)
+    (blocks_at-rows variant.family variant.lanes j x (n * rate variant) is)
 
-pub lane_before-rows : (family : Family) (d : ℕ) (key nonce ad : List ℕ) (j : ℕ) → IsLaneCount d → j < d
-    → IsBytes key → IsBytes nonce → IsBytes ad → AreRows (lane_before family d key nonce ad j)
-lane_before-rows family d key nonce ad j count inside k n is =
-    after-rows family d (start family d key nonce j) j ad _ (start-rows family d key nonce j count inside k n) is
+pub lane_before-rows : (variant : Variant) (key nonce ad : List ℕ) (j : ℕ) → IsLaneCount variant.lanes → j < variant.lanes
+    → IsBytes key → IsBytes nonce → IsBytes ad → AreRows (lane_before variant key nonce ad j)
+lane_before-rows variant key nonce ad j count inside k n is =
+    after-rows variant (start variant key nonce j) j ad _ (start-rows variant key nonce j count inside k n) is
 
-keystream-rows : (family : Family) (s : List (List ℕ)) → AreRows s → AreRows (keystream family s)
-keystream-rows Aegis128 s rows =
+keystream_blocks-rows : (family : Family) (s : List (List ℕ)) → AreRows s → AreRows (keystream_blocks family s)
+keystream_blocks-rows Family128 s rows =
     more-rows (xor-bytes (xor-bytes (rows.at 6) (rows.at 1)) (and-bytes (rows.at 2) (rows.at 3)))
     (more-rows (xor-bytes (xor-bytes (rows.at 2) (rows.at 5)) (and-bytes (rows.at 6) (rows.at 7))) no-rows)
-keystream-rows Aegis256 s rows =
+keystream_blocks-rows Family256 s rows =
     more-rows (xor-bytes (xor-bytes (rows.at 1) (rows.at 4)) (xor-bytes (rows.at 5) (and-bytes (rows.at 2) (rows.at 3)))) no-rows
 
 -- the keystream along bytes, from lanes of bytes, is bytes
-pub stream_byte-below : (family : Family) (d : ℕ) (lanes : ℕ → List (List ℕ)) (m : List ℕ) (i : ℕ) → IsLaneCount d
-    → ((j : ℕ) → j < d → AreRows (lanes j)) → IsBytes m → stream_byte family d lanes m i < 256
-stream_byte-below family d lanes m i count rows is =
-    let j : ℕ = lane_of d i in
-    let n : ℕ = i / rate family d in
-    let stream : AreRows (keystream family (after family d (lanes j) j m n)) =
-    keystream-rows family (after family d (lanes j) j m n)
-    (after-rows family d (lanes j) j m n (rows j (lane_of-within d i count)) is) in
-    let block : IsBytes (row (keystream family (after family d (lanes j) j m n)) (i % rate family d / 16 / d)) =
-    stream.at (i % rate family d / 16 / d) in
+pub keystream_byte_along-below : (variant : Variant) (lanes : ℕ → List (List ℕ)) (m : List ℕ) (i : ℕ) → IsLaneCount variant.lanes
+    → ((j : ℕ) → j < variant.lanes → AreRows (lanes j)) → IsBytes m → keystream_byte_along variant lanes m i < 256
+keystream_byte_along-below variant lanes m i count rows is =
+    let j : ℕ = lane_of variant.lanes i in
+    let n : ℕ = i / rate variant in
+    let keystream : AreRows (keystream_blocks variant.family (after variant (lanes j) j m n)) =
+    keystream_blocks-rows variant.family (after variant (lanes j) j m n)
+    (after-rows variant (lanes j) j m n (rows j (lane_of-within variant.lanes i count)) is) in
+    let block : IsBytes (block_in (keystream_blocks variant.family (after variant (lanes j) j m n)) (i % rate variant / 16 / variant.lanes)) =
+    keystream.at (i % rate variant / 16 / variant.lanes) in
     block.below (i % 16)

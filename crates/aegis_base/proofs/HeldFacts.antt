@@ -1,62 +1,90 @@
 -- What a sealed or opened message stands for, after more of it and after its end.
-use Rattle.std.proofs.Common.{◌≡◌, ◌∙◌, ap, refl, ℕ, ◌+◌, ◌/◌, ◌<◌, List, [], ◌++◌, length, bit_xor, slice_index, arith}
-use Rattle.std.proofs.Math.Nat.{div-eq_of_lt}
+use Rattle.std.proofs.Common.{◌≡◌, ◌∙◌, sym, ap, refl, ℕ, ◌+◌, ◌/◌, ◌<◌, List, [], ◌++◌, length, bit_xor, slice_index, arith}
+use Rattle.std.proofs.Math.Nat.{div-eq_of_lt, zero-div}
 use Rattle.std.proofs.lemmas.List.{length-append}
+use Rattle.std.proofs.lemmas.List.FromFn.{get_or-map-range_with_len}
 use Rattle.aegis_aes.specs.Lanes.{IsLaneCount}
-use Rattle.aegis_base.specs.Family.{Family, rate}
+use Rattle.aegis_base.specs.Variant.{Variant, rate}
 use Rattle.aegis_base.specs.Lane.{start}
-use Rattle.aegis_base.specs.Message.{after, block_count, ciphertext, lane_before, stream_byte}
-use Rattle.aegis_base.specs.Run.{HasFrom, IsAlong, Stands, held}
+use Rattle.aegis_base.specs.Message.{after, block_count, ciphertext, lane_before, keystream_byte_along}
+use Rattle.aegis_base.specs.Run.{HasFrom, IsAlong, Stands, held_by, lane_in, lanes_of}
 use Rattle.aegis_base.proofs.MessageFacts.{after-none, rate-positive}
-use Rattle.aegis_base.proofs.AppendFacts.{along-longer, ciphertext-append, has-after}
+use Rattle.aegis_base.proofs.AppendFacts.{along-longer, along-none, ciphertext-append, has-after}
 
-module _ {S : Type 0} (family : Family) (d : ℕ) (lane : S → ℕ → List (List ℕ)) (updates : S → ℕ) (state : S) (block : List ℕ)
-    (data_bytes message_bytes : ℕ) (key nonce ad m p : List ℕ)
-    (is : Stands family d lane updates (held state block data_bytes message_bytes) key nonce ad m) where
-  begun : IsAlong family d (lane_before family d key nonce ad) (lane state) block (m ++ p) message_bytes
+-- ---- the lanes that are held
+
+lane_in-of : (n : ℕ) (lane : ℕ → List (List ℕ)) (j : ℕ) → j < n → lane_in (lanes_of n lane) j ≡ lane j
+unfolding lanes_of
+lane_in-of n lane j inside = get_or-map-range_with_len lane 0 n j j [] inside (omega arith)
+
+pub along-held : (variant : Variant) (lanes lane : ℕ → List (List ℕ)) (block x : List ℕ) (t : ℕ)
+    → IsAlong variant lanes lane block x t → IsAlong variant lanes (lane_in (lanes_of variant.lanes lane)) block x t
+along-held variant lanes lane block x t on =
+    record { whole = λ j inside. lane_in-of variant.lanes lane j inside ∙ on.whole j inside; open_block = on.open_block }
+
+pub held-along : (variant : Variant) (lanes lane : ℕ → List (List ℕ)) (block x : List ℕ) (t : ℕ)
+    → IsAlong variant lanes (lane_in (lanes_of variant.lanes lane)) block x t → IsAlong variant lanes lane block x t
+held-along variant lanes lane block x t on =
+    record { whole = λ j inside. sym (lane_in-of variant.lanes lane j inside) ∙ on.whole j inside; open_block = on.open_block }
+
+-- ---- more of a message
+
+module _ (variant : Variant) (lane : ℕ → List (List ℕ)) (updates : ℕ) (block : List ℕ) (data_bytes message_bytes : ℕ)
+    (key nonce ad m p : List ℕ) (is : Stands variant (held_by variant lane updates block data_bytes message_bytes) key nonce ad m) where
+  begun : IsAlong variant (lane_before variant key nonce ad) lane block (m ++ p) message_bytes
   unfolding Stands
-  begun = rw is.1 (along-longer family d (lane_before family d key nonce ad) (lane state) block m p is.3)
+  begun = rw is.1 (along-longer variant _ lane block m p (held-along variant _ lane block m _ is.3))
 
   follows : HasFrom (m ++ p) message_bytes p
   unfolding Stands
   follows = rw is.1 (has-after m p)
 
   -- the run goes on along n bytes p
-  pub stands-on : (next : S) (last : List ℕ) (n r : ℕ) → n ≡ length p → r ≡ rate family d
-      → ((lanes : ℕ → List (List ℕ)) (x : List ℕ) → IsAlong family d lanes (lane state) block x message_bytes → HasFrom x message_bytes p
-      → IsAlong family d lanes (lane next) last x (message_bytes + n))
-      → updates next + message_bytes / r ≡ updates state + (message_bytes + n) / r
-      → Stands family d lane updates (held next last data_bytes (message_bytes + n)) key nonce ad (m ++ p)
+  pub stands-on : (next : ℕ → List (List ℕ)) (count : ℕ) (last : List ℕ) (n r : ℕ) → n ≡ length p → r ≡ rate variant
+      → ((lanes : ℕ → List (List ℕ)) (x : List ℕ) → IsAlong variant lanes lane block x message_bytes → HasFrom x message_bytes p
+      → IsAlong variant lanes next last x (message_bytes + n))
+      → count + message_bytes / r ≡ updates + (message_bytes + n) / r
+      → Stands variant (held_by variant next count last data_bytes (message_bytes + n)) key nonce ad (m ++ p)
   unfolding Stands
-  stands-on next last n r long rate_is along counted =
+  stands-on next count last n r long rate_is along counted =
       let both = length-append m p in
       let so_far = is.1 in
       let updated = is.2 in
       let place : message_bytes + n ≡ length (m ++ p) = omega arith in
-      let before : message_bytes / r ≡ length m / rate family d = ap (λ (q : ℕ). q / r) so_far ∙ ap (λ (q : ℕ). length m / q) rate_is in
-      let later : (message_bytes + n) / r ≡ length (m ++ p) / rate family d = ap (λ (q : ℕ). q / r) place ∙ ap (λ (q : ℕ). length (m ++ p) / q) rate_is in
-      (is.0, place, omega arith, rw place at (along (lane_before family d key nonce ad) (m ++ p) begun follows))
+      let before : message_bytes / r ≡ length m / rate variant = ap (λ (q : ℕ). q / r) so_far ∙ ap (λ (q : ℕ). length m / q) rate_is in
+      let later : (message_bytes + n) / r ≡ length (m ++ p) / rate variant = ap (λ (q : ℕ). q / r) place ∙ ap (λ (q : ℕ). length (m ++ p) / q) rate_is in
+      (is.0, place, omega arith, along-held variant _ next last (m ++ p) _ (rw place at (along (lane_before variant key nonce ad) (m ++ p) begun follows)))
 
   -- bytes c that are p's, xored with the keystream, follow the ciphertext
-  pub ciphertext-on : (c : List ℕ) → IsLaneCount d → length c ≡ length p
-      → ((lanes : ℕ → List (List ℕ)) (x : List ℕ) → IsAlong family d lanes (lane state) block x message_bytes → HasFrom x message_bytes p
-      → (i : ℕ) → i < length p → slice_index c i ≡ bit_xor (slice_index p i) (stream_byte family d lanes x (message_bytes + i)))
-      → ciphertext family d key nonce ad (m ++ p) ≡ ciphertext family d key nonce ad m ++ c
+  pub ciphertext-on : (c : List ℕ) → IsLaneCount variant.lanes → length c ≡ length p
+      → ((lanes : ℕ → List (List ℕ)) (x : List ℕ) → IsAlong variant lanes lane block x message_bytes → HasFrom x message_bytes p
+      → (i : ℕ) → i < length p → slice_index c i ≡ bit_xor (slice_index p i) (keystream_byte_along variant lanes x (message_bytes + i)))
+      → ciphertext variant key nonce ad (m ++ p) ≡ ciphertext variant key nonce ad m ++ c
   unfolding Stands
   ciphertext-on c count long xored =
-      ciphertext-append family d (lane_before family d key nonce ad) m p c count long
-      (λ i low. rw (← is.1) (xored (lane_before family d key nonce ad) (m ++ p) begun follows i low))
+      ciphertext-append variant (lane_before variant key nonce ad) m p c count long
+      (λ i low. rw (← is.1) (xored (lane_before variant key nonce ad) (m ++ p) begun follows i low))
 
--- without associated data the run begins with the start of the lanes
-pub input-along : {S : Type 0} (family : Family) (d : ℕ) (lane : S → ℕ → List (List ℕ)) (updates : S → ℕ) (state : S) (block : List ℕ)
-    (bytes : ℕ) (key nonce x : List ℕ) → IsLaneCount d
-    → Stands family d lane updates (held state block 0 bytes) key nonce [] x
-    → IsAlong family d (start family d key nonce) (lane state) block x (length x)
+-- ---- a message of which nothing is taken in yet, and a run without associated data
+
+pub stands-begun : (variant : Variant) (lane : ℕ → List (List ℕ)) (updates : ℕ) (block : List ℕ) (data_bytes : ℕ) (key nonce ad : List ℕ)
+    → data_bytes ≡ length ad → updates ≡ block_count variant (length ad)
+    → ((j : ℕ) → j < variant.lanes → lane j ≡ lane_before variant key nonce ad j)
+    → Stands variant (held_by variant lane updates block data_bytes 0) key nonce ad []
 unfolding Stands
-input-along family d lane updates state block bytes key nonce x count is =
-    let none : block_count family d 0 ≡ 0 = div-eq_of_lt (let positive = rate-positive family d count in omega arith) in
-    let begun : (j : ℕ) → lane_before family d key nonce [] j ≡ start family d key nonce j = λ j. rw (none, after-none) refl in
+stands-begun variant lane updates block data_bytes key nonce ad long counted begun =
+    let none = zero-div (rate variant) in
+    (long, refl, omega arith, along-held variant _ lane block [] 0 (along-none variant _ lane block [] begun))
+
+pub input-along : (variant : Variant) (lane : ℕ → List (List ℕ)) (updates : ℕ) (block : List ℕ) (bytes : ℕ) (key nonce x : List ℕ)
+    → IsLaneCount variant.lanes → Stands variant (held_by variant lane updates block 0 bytes) key nonce [] x
+    → IsAlong variant (start variant key nonce) lane block x (length x)
+unfolding Stands
+input-along variant lane updates block bytes key nonce x count is =
+    let on = held-along variant _ lane block x _ is.3 in
+    let none : block_count variant 0 ≡ 0 = div-eq_of_lt (let positive = rate-positive variant count in omega arith) in
+    let begun : (j : ℕ) → lane_before variant key nonce [] j ≡ start variant key nonce j = λ j. rw (none, after-none) refl in
     record {
-      whole = λ j inside. is.3.whole j inside ∙ ap (λ (s : List (List ℕ)). after family d s j x (length x / rate family d)) (begun j);
-      open_block = is.3.open_block;
+      whole = λ j inside. on.whole j inside ∙ ap (λ (s : List (List ℕ)). after variant s j x (length x / rate variant)) (begun j);
+      open_block = on.open_block;
     }

@@ -7,8 +7,8 @@ use Rattle.std.proofs.lemmas.List.FromFn.{length-map-range_with_len}
 use Rattle.aegis_aes.specs.Block.{xor}
 use Rattle.aegis_aes.specs.Lanes.{IsLaneCount, context}
 use Rattle.aegis_aes.specs.Round.{round, round_byte}
-use Rattle.aegis_base.specs.Family.{Family, Aegis128, Aegis256}
-use Rattle.aegis_base.specs.Lane.{IsTagLength, add_context, bit_lengths, finish, first_rows, high_tag, lane_tag, last_block, last_input, low_tag, row, short_tag, start, start_turn, start_turns, step, times}
+use Rattle.aegis_base.specs.Variant.{Family, Family128, Family256, Variant}
+use Rattle.aegis_base.specs.Lane.{IsTagLength, add_context, bit_lengths, finish, first_blocks, high_tag, lane_tag, last_block, last_input, low_tag, block_in, short_tag, start, start_turn, start_turns, step, times}
 use Rattle.aegis_base.specs.Message.{after, lane_end, tag}
 use Rattle.aegis_base.proofs.LaneFacts.{length-xor, length-xor_lanes-count}
 
@@ -30,15 +30,15 @@ xor-block {a} {b} is also = record { long = length-xor a b (is.long ∙ sym also
 
 -- the row that the block ending a lane is made of
 abbrev end_row : Family → List (List ℕ) → List ℕ
-end_row Aegis128 s = row s 2
-end_row Aegis256 s = row s 3
+end_row Family128 s = block_in s 2
+end_row Family256 s = block_in s 3
 
 pub record IsStepped (family : Family) (s : List (List ℕ)) : Type 0 where
   pub long : length (end_row family s) ≡ 16
 
 pub step-stepped : (family : Family) (s m : List (List ℕ)) → IsStepped family (step family s m)
-step-stepped Aegis128 s m = record { long = length-round (row s 1) (row s 2) }
-step-stepped Aegis256 s m = record { long = length-round (row s 2) (row s 3) }
+step-stepped Family128 s m = record { long = length-round (block_in s 1) (block_in s 2) }
+step-stepped Family256 s m = record { long = length-round (block_in s 2) (block_in s 3) }
 
 times-stepped : (family : Family) (n : ℕ) (f : List (List ℕ) → List (List ℕ)) (s : List (List ℕ)) → 0 < n
     → ((r : List (List ℕ)) → IsStepped family (f r)) → IsStepped family (times n f s)
@@ -46,24 +46,24 @@ times-stepped family zero f s positive kept = absurd (omega arith)
 times-stepped family (suc n) f s positive kept = kept (times n f s)
 
 start_turn-stepped : (family : Family) (key nonce c : List ℕ) (s : List (List ℕ)) → IsStepped family (start_turn family key nonce c s)
-start_turn-stepped Aegis128 key nonce c s = step-stepped Aegis128 (add_context Aegis128 c s) (nonce ∷ key ∷ [])
-start_turn-stepped Aegis256 key nonce c s = search (rules, step-stepped)
+start_turn-stepped Family128 key nonce c s = step-stepped Family128 (add_context Family128 c s) (nonce ∷ key ∷ [])
+start_turn-stepped Family256 key nonce c s = search (rules, step-stepped)
 
 start_turns-positive : (family : Family) → 0 < start_turns family
-start_turns-positive Aegis128 = omega arith
-start_turns-positive Aegis256 = omega arith
+start_turns-positive Family128 = omega arith
+start_turns-positive Family256 = omega arith
 
-pub start-stepped : (family : Family) (d : ℕ) (key nonce : List ℕ) (j : ℕ) → IsStepped family (start family d key nonce j)
+pub start-stepped : (variant : Variant) (key nonce : List ℕ) (j : ℕ) → IsStepped variant.family (start variant key nonce j)
 unfolding start
-start-stepped family d key nonce j =
-    times-stepped family (start_turns family) (start_turn family key nonce (context j d)) (first_rows family key nonce)
-    (start_turns-positive family) (start_turn-stepped family key nonce (context j d))
+start-stepped variant key nonce j =
+    times-stepped variant.family (start_turns variant.family) (start_turn variant.family key nonce (context j variant.lanes)) (first_blocks variant.family key nonce)
+    (start_turns-positive variant.family) (start_turn-stepped variant.family key nonce (context j variant.lanes))
 
-pub after-stepped : (family : Family) (d : ℕ) (s : List (List ℕ)) (j : ℕ) (x : List ℕ) (n : ℕ) → IsStepped family s
-    → IsStepped family (after family d s j x n)
+pub after-stepped : (variant : Variant) (s : List (List ℕ)) (j : ℕ) (x : List ℕ) (n : ℕ) → IsStepped variant.family s
+    → IsStepped variant.family (after variant s j x n)
 unfolding after
-after-stepped family d s j x zero is = is
-after-stepped family d s j x (suc n) is = step-stepped family _ _
+after-stepped variant s j x zero is = is
+after-stepped variant s j x (suc n) is = step-stepped variant.family _ _
 
 -- ---- a lane after its end
 
@@ -74,16 +74,16 @@ pub record IsWhole (family : Family) (s : List (List ℕ)) : Type 0 where
 
 update-whole : (family : Family) (s : List (List ℕ)) (block : List ℕ) → length block ≡ 16
     → IsWhole family (step family s (last_input family block))
-update-whole Aegis128 s block e =
-    let r : (i k : ℕ) → IsBlock (round (row s i) (row s k)) = λ i k. round-block (row s i) (row s k) in
+update-whole Family128 s block e =
+    let r : (i k : ℕ) → IsBlock (round (block_in s i) (block_in s k)) = λ i k. round-block (block_in s i) (block_in s k) in
     let input : IsBlock block = record { long = e } in
     let low = xor-block (xor-block (xor-block (r 7 0) input) (r 0 1)) (xor-block (r 1 2) (r 2 3)) in
     let fourth = xor-block (xor-block (r 3 4) input) (r 4 5) in
     let high = xor-block fourth (xor-block (r 5 6) (r 6 7)) in
     let short = xor-block low (xor-block fourth (r 5 6)) in
     record { short = short.long; low = low.long; high = high.long }
-update-whole Aegis256 s block e =
-    let r : (i k : ℕ) → IsBlock (round (row s i) (row s k)) = λ i k. round-block (row s i) (row s k) in
+update-whole Family256 s block e =
+    let r : (i k : ℕ) → IsBlock (round (block_in s i) (block_in s k)) = λ i k. round-block (block_in s i) (block_in s k) in
     let input : IsBlock block = record { long = e } in
     let low = xor-block (xor-block (xor-block (r 5 0) input) (r 0 1)) (r 1 2) in
     let high = xor-block (xor-block (r 2 3) (r 3 4)) (r 4 5) in
@@ -91,8 +91,8 @@ update-whole Aegis256 s block e =
     record { short = short.long; low = low.long; high = high.long }
 
 length-last_block : (family : Family) (s : List (List ℕ)) (p q : ℕ) → IsStepped family s → length (last_block family s p q) ≡ 16
-length-last_block Aegis128 s p q is = length-xor (row s 2) (bit_lengths p q) is.long
-length-last_block Aegis256 s p q is = length-xor (row s 3) (bit_lengths p q) is.long
+length-last_block Family128 s p q is = length-xor (block_in s 2) (bit_lengths p q) is.long
+length-last_block Family256 s p q is = length-xor (block_in s 3) (bit_lengths p q) is.long
 
 pub finish-whole : (family : Family) (s : List (List ℕ)) (p q : ℕ) → IsStepped family s → IsWhole family (finish family s p q)
 unfolding finish
@@ -122,13 +122,13 @@ tag-halves family s t whole also e =
       sym (back s whole) ∙ ap (drop 16) e ∙ back t also,
     )
 
-lane_end-whole : (family : Family) (d : ℕ) (key nonce ad m : List ℕ) (j : ℕ) → IsWhole family (lane_end family d key nonce ad m j)
-lane_end-whole family d key nonce ad m j =
-    finish-whole family _ _ _ (after-stepped family d _ j m _ (after-stepped family d _ j ad _ (start-stepped family d key nonce j)))
+lane_end-whole : (variant : Variant) (key nonce ad m : List ℕ) (j : ℕ) → IsWhole variant.family (lane_end variant key nonce ad m j)
+lane_end-whole variant key nonce ad m j =
+    finish-whole variant.family _ _ _ (after-stepped variant _ j m _ (after-stepped variant _ j ad _ (start-stepped variant key nonce j)))
 
-pub length-tag : (family : Family) (d n : ℕ) (key nonce ad m : List ℕ) → IsLaneCount d → IsTagLength n
-    → length (tag family d n key nonce ad m) ≡ n
+pub length-tag : (variant : Variant) (n : ℕ) (key nonce ad m : List ℕ) → IsLaneCount variant.lanes → IsTagLength n
+    → length (tag variant n key nonce ad m) ≡ n
 unfolding tag
-length-tag family d n key nonce ad m count is =
-    let tag_of = λ (j : ℕ). lane_tag family n (lane_end family d key nonce ad m j) in
-    length-xor_lanes-count tag_of n d count (λ j low. length-lane_tag family n _ is (lane_end-whole family d key nonce ad m j))
+length-tag variant n key nonce ad m count is =
+    let tag_of = λ (j : ℕ). lane_tag variant.family n (lane_end variant key nonce ad m j) in
+    length-xor_lanes-count tag_of n variant.lanes count (λ j low. length-lane_tag variant.family n _ is (lane_end-whole variant key nonce ad m j))

@@ -11,4 +11,5 @@ pub mod MessageFacts
 pub mod RunFacts
 pub mod SealFacts
 pub mod StartFacts
-pub mod StreamFacts
+pub mod KeystreamFacts
+mod SliceFacts

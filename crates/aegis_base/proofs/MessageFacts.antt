@@ -5,18 +5,18 @@ use Rattle.std.proofs.Math.Nat.{div-mul-le_self, le-mul_of_pos_right, lt-div-mul
 use Rattle.std.proofs.lemmas.Nat.{div-mul-add, div_below}
 use Rattle.aegis_aes.specs.Block.{block_at, xor}
 use Rattle.aegis_aes.specs.Lanes.{IsLaneCount}
-use Rattle.aegis_base.specs.Family.{Family, Aegis128, Aegis256, rate, width}
-use Rattle.aegis_base.specs.Lane.{keystream, row, step}
-use Rattle.aegis_base.specs.Message.{after, block_count, keystream_byte, lane_of, share, share_at}
+use Rattle.aegis_base.specs.Variant.{Family, Family128, Family256, Variant, rate, width}
+use Rattle.aegis_base.specs.Lane.{keystream_blocks, block_in, step}
+use Rattle.aegis_base.specs.Message.{after, block_count, blocks_at, keystream_byte, lane_of, share, share_at}
 use Rattle.aegis_aes.proofs.Places.{get_or-bytes_at, length-bytes_at}
 use Rattle.aegis_base.proofs.LaneFacts.{bytes_at-same}
 
 -- ---- messages that agree
 
-pub share_at-same : (family : Family) (d j : ℕ) (x y : List ℕ) (a b : ℕ) → j < d
-    → ((k : ℕ) → k < rate family d → slice_index x (a + k) ≡ slice_index y (b + k))
-    → share_at family d j x a ≡ share_at family d j y b
-share_at-same Aegis128 d j x y a b inside same =
+blocks_at-same : (family : Family) (d j : ℕ) (x y : List ℕ) (a b : ℕ) → j < d
+    → ((k : ℕ) → k < 16 * (width family * d) → slice_index x (a + k) ≡ slice_index y (b + k))
+    → blocks_at family d j x a ≡ blocks_at family d j y b
+blocks_at-same Family128 d j x y a b inside same =
     let block : (q : ℕ) → q < 2 * d → block_at x (a + 16 * q) ≡ block_at y (b + 16 * q) =
     λ q low. bytes_at-same x y (a + 16 * q) (b + 16 * q) 16 (λ p h.
     let e = same (16 * q + p) (omega arith) in
@@ -24,7 +24,7 @@ share_at-same Aegis128 d j x y a b inside same =
     let g : b + 16 * q + p ≡ b + (16 * q + p) = omega arith in
     rw (f, g) e) in
     rw (block j (omega arith), block (d + j) (omega arith)) refl
-share_at-same Aegis256 d j x y a b inside same =
+blocks_at-same Family256 d j x y a b inside same =
     let first : block_at x (a + 16 * j) ≡ block_at y (b + 16 * j) =
     bytes_at-same x y (a + 16 * j) (b + 16 * j) 16 (λ p h.
     let e = same (16 * j + p) (omega arith) in
@@ -33,64 +33,77 @@ share_at-same Aegis256 d j x y a b inside same =
     rw (f, g) e) in
     rw first refl
 
-pub after-same : (family : Family) (d : ℕ) (s : List (List ℕ)) (j : ℕ) (x y : List ℕ) (n : ℕ) → j < d
-    → ((k : ℕ) → k < n * rate family d → slice_index x k ≡ slice_index y k)
-    → after family d s j x n ≡ after family d s j y n
+pub share_at-same : (variant : Variant) (j : ℕ) (x y : List ℕ) (a b : ℕ) → j < variant.lanes
+    → ((k : ℕ) → k < rate variant → slice_index x (a + k) ≡ slice_index y (b + k))
+    → share_at variant j x a ≡ share_at variant j y b
+share_at-same variant j x y a b inside same = blocks_at-same variant.family variant.lanes j x y a b inside same
+
+pub after-same : (variant : Variant) (s : List (List ℕ)) (j : ℕ) (x y : List ℕ) (n : ℕ) → j < variant.lanes
+    → ((k : ℕ) → k < n * rate variant → slice_index x k ≡ slice_index y k)
+    → after variant s j x n ≡ after variant s j y n
 unfolding after
-after-same family d s j x y zero inside same = refl
-after-same family d s j x y (suc n) inside same =
-    let before = after-same family d s j x y n inside (λ k h. same k (omega arith)) in
-    let taken = share_at-same family d j x y (n * rate family d) (n * rate family d) inside
-    (λ k h. same (n * rate family d + k) (omega arith)) in
+after-same variant s j x y zero inside same = refl
+after-same variant s j x y (suc n) inside same =
+    let before = after-same variant s j x y n inside (λ k h. same k (omega arith)) in
+    let taken = share_at-same variant j x y (n * rate variant) (n * rate variant) inside
+    (λ k h. same (n * rate variant + k) (omega arith)) in
     rw (before, taken) refl
 
-pub after-none : (family : Family) (d : ℕ) (s : List (List ℕ)) (j : ℕ) (x : List ℕ) → after family d s j x 0 ≡ s
+pub after-none : (variant : Variant) (s : List (List ℕ)) (j : ℕ) (x : List ℕ) → after variant s j x 0 ≡ s
 unfolding after
-after-none family d s j x = refl
+after-none variant s j x = refl
 
-pub after-more : (family : Family) (d : ℕ) (s : List (List ℕ)) (j : ℕ) (x : List ℕ) (n : ℕ)
-    → after family d s j x (n + 1) ≡ step family (after family d s j x n) (share family d j n x)
+pub after-more : (variant : Variant) (s : List (List ℕ)) (j : ℕ) (x : List ℕ) (n : ℕ)
+    → after variant s j x (n + 1) ≡ step variant.family (after variant s j x n) (share variant j n x)
 unfolding after
-after-more family d s j x n = rw add-one refl
+after-more variant s j x n = rw add-one refl
 
 -- ---- places
+
+-- the variant of a family and a number of lanes; each is of that form
+abbrev pub variant_of : Family → ℕ → Variant
+variant_of family d = record { family = family; lanes = d }
 
 pub lane_of-within : (d i : ℕ) → IsLaneCount d → lane_of d i < d
 lane_of-within d i (inl e) = rw e (omega arith)
 lane_of-within d i (inr (inl e)) = rw e (omega arith)
 lane_of-within d i (inr (inr e)) = rw e (omega arith)
 
-pub rate-positive : (family : Family) (d : ℕ) → IsLaneCount d → 0 < rate family d
-rate-positive Aegis128 d (inl e) = rw e (omega arith)
-rate-positive Aegis128 d (inr (inl e)) = rw e (omega arith)
-rate-positive Aegis128 d (inr (inr e)) = rw e (omega arith)
-rate-positive Aegis256 d (inl e) = rw e (omega arith)
-rate-positive Aegis256 d (inr (inl e)) = rw e (omega arith)
-rate-positive Aegis256 d (inr (inr e)) = rw e (omega arith)
+rate_of-positive : (family : Family) (d : ℕ) → IsLaneCount d → 0 < rate (variant_of family d)
+rate_of-positive Family128 d (inl e) = rw e (omega arith)
+rate_of-positive Family128 d (inr (inl e)) = rw e (omega arith)
+rate_of-positive Family128 d (inr (inr e)) = rw e (omega arith)
+rate_of-positive Family256 d (inl e) = rw e (omega arith)
+rate_of-positive Family256 d (inr (inl e)) = rw e (omega arith)
+rate_of-positive Family256 d (inr (inr e)) = rw e (omega arith)
+
+pub rate-positive : (variant : Variant) → IsLaneCount variant.lanes → 0 < rate variant
+rate-positive variant count = rate_of-positive variant.family variant.lanes count
 
 -- place i of a message and the same place of another rate block
-record IsSamePlace (family : Family) (d i k : ℕ) : Type 0 where
-  lane : lane_of d i ≡ lane_of d k
-  within : i % rate family d ≡ k % rate family d
+record IsSamePlace (variant : Variant) (i k : ℕ) : Type 0 where
+  lane : lane_of variant.lanes i ≡ lane_of variant.lanes k
+  within : i % rate variant ≡ k % rate variant
   byte : i % 16 ≡ k % 16
 
-places-periodic : (family : Family) (d n k : ℕ) → IsLaneCount d → IsSamePlace family d (n * rate family d + k) k
-places-periodic Aegis128 d n k (inl e) = rw e record { lane = omega arith; within = omega arith; byte = omega arith }
-places-periodic Aegis128 d n k (inr (inl e)) = rw e record { lane = omega arith; within = omega arith; byte = omega arith }
-places-periodic Aegis128 d n k (inr (inr e)) = rw e record { lane = omega arith; within = omega arith; byte = omega arith }
-places-periodic Aegis256 d n k (inl e) = rw e record { lane = omega arith; within = omega arith; byte = omega arith }
-places-periodic Aegis256 d n k (inr (inl e)) = rw e record { lane = omega arith; within = omega arith; byte = omega arith }
-places-periodic Aegis256 d n k (inr (inr e)) = rw e record { lane = omega arith; within = omega arith; byte = omega arith }
+places-periodic : (family : Family) (d n k : ℕ) → IsLaneCount d
+    → IsSamePlace (variant_of family d) (n * rate (variant_of family d) + k) k
+places-periodic Family128 d n k (inl e) = rw e record { lane = omega arith; within = omega arith; byte = omega arith }
+places-periodic Family128 d n k (inr (inl e)) = rw e record { lane = omega arith; within = omega arith; byte = omega arith }
+places-periodic Family128 d n k (inr (inr e)) = rw e record { lane = omega arith; within = omega arith; byte = omega arith }
+places-periodic Family256 d n k (inl e) = rw e record { lane = omega arith; within = omega arith; byte = omega arith }
+places-periodic Family256 d n k (inr (inl e)) = rw e record { lane = omega arith; within = omega arith; byte = omega arith }
+places-periodic Family256 d n k (inr (inr e)) = rw e record { lane = omega arith; within = omega arith; byte = omega arith }
 
-pub keystream_byte-same : (family : Family) (d : ℕ) (f g : ℕ → List (List ℕ)) (i : ℕ) → IsLaneCount d
-    → ((j : ℕ) → j < d → f j ≡ g j) → keystream_byte family d f i ≡ keystream_byte family d g i
-keystream_byte-same family d f g i count same = rw (same (lane_of d i) (lane_of-within d i count)) refl
+pub keystream_byte-same : (variant : Variant) (f g : ℕ → List (List ℕ)) (i : ℕ) → IsLaneCount variant.lanes
+    → ((j : ℕ) → j < variant.lanes → f j ≡ g j) → keystream_byte variant f i ≡ keystream_byte variant g i
+keystream_byte-same variant f g i count same = rw (same (lane_of variant.lanes i) (lane_of-within variant.lanes i count)) refl
 
 -- the places of a rate block are the same in each
-pub keystream_byte-periodic : (family : Family) (d : ℕ) (f : ℕ → List (List ℕ)) (n k : ℕ) → IsLaneCount d
-    → keystream_byte family d f (n * rate family d + k) ≡ keystream_byte family d f k
-keystream_byte-periodic family d f n k count =
-    let same = places-periodic family d n k count in
+pub keystream_byte-periodic : (variant : Variant) (f : ℕ → List (List ℕ)) (n k : ℕ) → IsLaneCount variant.lanes
+    → keystream_byte variant f (n * rate variant + k) ≡ keystream_byte variant f k
+keystream_byte-periodic variant f n k count =
+    let same = places-periodic variant.family variant.lanes n k count in
     rw (same.lane, same.within, same.byte) refl
 
 -- ---- blocks byte by byte
@@ -111,52 +124,52 @@ xored-reads new old z a p low e =
     ∙ ap (λ (b : ℕ). bit_xor b (slice_index z p)) (get_or-bytes_at old a 16 p 0 low)
 
 -- where byte k of a rate block stands among its blocks
-record IsPlace (family : Family) (d k : ℕ) : Type 0 where
-  place : 16 * (k % rate family d / 16 / d * d + lane_of d k) + k % 16 ≡ k
-  block : k % rate family d / 16 / d < width family
+record IsPlace (variant : Variant) (k : ℕ) : Type 0 where
+  place : 16 * (k % rate variant / 16 / variant.lanes * variant.lanes + lane_of variant.lanes k) + k % 16 ≡ k
+  block : k % rate variant / 16 / variant.lanes < width variant.family
 
-places-within : (family : Family) (d k : ℕ) → IsLaneCount d → k < rate family d → IsPlace family d k
-places-within Aegis128 d k (inl e) = rw e (λ h. record { place = omega arith; block = omega arith })
-places-within Aegis128 d k (inr (inl e)) = rw e (λ h. record { place = omega arith; block = omega arith })
-places-within Aegis128 d k (inr (inr e)) = rw e (λ h. record { place = omega arith; block = omega arith })
-places-within Aegis256 d k (inl e) = rw e (λ h. record { place = omega arith; block = omega arith })
-places-within Aegis256 d k (inr (inl e)) = rw e (λ h. record { place = omega arith; block = omega arith })
-places-within Aegis256 d k (inr (inr e)) = rw e (λ h. record { place = omega arith; block = omega arith })
+places-within : (family : Family) (d k : ℕ) → IsLaneCount d → k < rate (variant_of family d) → IsPlace (variant_of family d) k
+places-within Family128 d k (inl e) = rw e (λ h. record { place = omega arith; block = omega arith })
+places-within Family128 d k (inr (inl e)) = rw e (λ h. record { place = omega arith; block = omega arith })
+places-within Family128 d k (inr (inr e)) = rw e (λ h. record { place = omega arith; block = omega arith })
+places-within Family256 d k (inl e) = rw e (λ h. record { place = omega arith; block = omega arith })
+places-within Family256 d k (inr (inl e)) = rw e (λ h. record { place = omega arith; block = omega arith })
+places-within Family256 d k (inr (inr e)) = rw e (λ h. record { place = omega arith; block = omega arith })
 
 -- a rate block whose blocks are xored with the lanes' keystream, byte by byte
-pub keystream-reads : (family : Family) (d : ℕ) (lanes : ℕ → List (List ℕ)) (new old : List ℕ) (a k : ℕ) → IsLaneCount d
-    → ((j h : ℕ) → j < d → h < width family
-    → block_at new (a + 16 * (h * d + j)) ≡ xor (block_at old (a + 16 * (h * d + j))) (row (keystream family (lanes j)) h))
-    → k < rate family d
-    → slice_index new (a + k) ≡ bit_xor (slice_index old (a + k)) (keystream_byte family d lanes k)
-keystream-reads family d lanes new old a k count blocks low =
-    let is = places-within family d k count low in
-    let j = lane_of d k in
-    let h = k % rate family d / 16 / d in
-    let byte = xored-reads new old (row (keystream family (lanes j)) h) (a + 16 * (h * d + j)) (k % 16) (omega arith)
-    (blocks j h (lane_of-within d k count) is.block) in
-    let place : a + 16 * (h * d + j) + k % 16 ≡ a + k = (let at = is.place in omega arith) in
+pub keystream_blocks-reads : (variant : Variant) (lanes : ℕ → List (List ℕ)) (new old : List ℕ) (a k : ℕ) → IsLaneCount variant.lanes
+    → ((j h : ℕ) → j < variant.lanes → h < width variant.family
+    → block_at new (a + 16 * (h * variant.lanes + j)) ≡ xor (block_at old (a + 16 * (h * variant.lanes + j))) (block_in (keystream_blocks variant.family (lanes j)) h))
+    → k < rate variant
+    → slice_index new (a + k) ≡ bit_xor (slice_index old (a + k)) (keystream_byte variant lanes k)
+keystream_blocks-reads variant lanes new old a k count blocks low =
+    let is = places-within variant.family variant.lanes k count low in
+    let j = lane_of variant.lanes k in
+    let h = k % rate variant / 16 / variant.lanes in
+    let byte = xored-reads new old (block_in (keystream_blocks variant.family (lanes j)) h) (a + 16 * (h * variant.lanes + j)) (k % 16) (omega arith)
+    (blocks j h (lane_of-within variant.lanes k count) is.block) in
+    let place : a + 16 * (h * variant.lanes + j) + k % 16 ≡ a + k = (let at = is.place in omega arith) in
     rw place at byte
 
 -- ---- how many rate blocks there are
 
-pub block_count-part : (family : Family) (d n r : ℕ) → r ≡ rate family d → 0 < r → n / r * r < n → block_count family d n ≡ n / r + 1
-block_count-part family d n r e positive part =
+pub block_count-part : (variant : Variant) (n r : ℕ) → r ≡ rate variant → 0 < r → n / r * r < n → block_count variant n ≡ n / r + 1
+block_count-part variant n r e positive part =
     let below : n < n / r * r + r = lt-div-mul-add positive in
     let place : n + (r - 1) ≡ (n / r + 1) * r + (n - n / r * r - 1) = omega arith in
     rw (← e, place) (div-mul-add (n / r + 1) r (n - n / r * r - 1) (omega arith))
 
-pub block_count-whole : (family : Family) (d n r : ℕ) → r ≡ rate family d → 0 < r → n ≤ n / r * r → block_count family d n ≡ n / r
-block_count-whole family d n r e positive whole =
+pub block_count-whole : (variant : Variant) (n r : ℕ) → r ≡ rate variant → 0 < r → n ≤ n / r * r → block_count variant n ≡ n / r
+block_count-whole variant n r e positive whole =
     let floor = div-mul-le_self n r in
     let place : n + (r - 1) ≡ n / r * r + (r - 1) = omega arith in
     rw (← e, place) (div-mul-add (n / r) r (r - 1) (omega arith))
 
 -- no more rate blocks than bytes
-pub block_count-below : (family : Family) (d n : ℕ) → IsLaneCount d → block_count family d n ≤ n
-block_count-below family d n count =
-    let positive = rate-positive family d count in
-    let more : n ≤ n * rate family d = le-mul_of_pos_right n positive in
-    let below : n + (rate family d - 1) < (n + 1) * rate family d = omega arith in
-    let quotient = div_below (n + (rate family d - 1)) (rate family d) (n + 1) positive below in
+pub block_count-below : (variant : Variant) (n : ℕ) → IsLaneCount variant.lanes → block_count variant n ≤ n
+block_count-below variant n count =
+    let positive = rate-positive variant count in
+    let more : n ≤ n * rate variant = le-mul_of_pos_right n positive in
+    let below : n + (rate variant - 1) < (n + 1) * rate variant = omega arith in
+    let quotient = div_below (n + (rate variant - 1)) (rate variant) (n + 1) positive below in
     omega arith

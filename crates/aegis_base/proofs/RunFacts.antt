@@ -4,102 +4,102 @@ use Rattle.std.proofs.lemmas.Bool.{cases_lt}
 use Rattle.std.proofs.lemmas.List.{get_or_past}
 use Rattle.std.proofs.lemmas.Nat.{div-add-mod', div-mul-add, mod-mul-add, mod_below}
 use Rattle.aegis_aes.specs.Lanes.{IsLaneCount}
-use Rattle.aegis_base.specs.Family.{Family, rate}
+use Rattle.aegis_base.specs.Variant.{Variant, rate}
 use Rattle.aegis_base.specs.Lane.{step}
-use Rattle.aegis_base.specs.Message.{after, after_all, keystream_byte, share_at, stream_byte}
+use Rattle.aegis_base.specs.Message.{after, after_all, keystream_byte, share_at, keystream_byte_along}
 use Rattle.aegis_base.specs.Run.{IsAlong, IsUnopened}
 use Rattle.aegis_base.proofs.MessageFacts.{after-more, after-same, block_count-part, block_count-whole, keystream_byte-periodic, keystream_byte-same, rate-positive, share_at-same}
 
 -- ---- one rate block
 
-module _ (family : Family) (d : ℕ) (lanes here : ℕ → List (List ℕ)) (x : List ℕ) (n : ℕ)
-    (before : (j : ℕ) → j < d → here j ≡ after family d (lanes j) j x n) where
+module _ (variant : Variant) (lanes here : ℕ → List (List ℕ)) (x : List ℕ) (n : ℕ)
+    (before : (j : ℕ) → j < variant.lanes → here j ≡ after variant (lanes j) j x n) where
   -- rate block n of x, which stands at place a of other bytes, is taken in
-  pub block-lane : (bytes : List ℕ) (a j : ℕ) → j < d → ((k : ℕ) → k < rate family d → slice_index bytes (a + k) ≡ slice_index x (n * rate family d + k))
-      → step family (here j) (share_at family d j bytes a) ≡ after family d (lanes j) j x (n + 1)
+  pub block-lane : (bytes : List ℕ) (a j : ℕ) → j < variant.lanes → ((k : ℕ) → k < rate variant → slice_index bytes (a + k) ≡ slice_index x (n * rate variant + k))
+      → step variant.family (here j) (share_at variant j bytes a) ≡ after variant (lanes j) j x (n + 1)
   block-lane bytes a j inside same =
-      rw (after-more, ← before j inside) (ap (step family (here j)) (share_at-same family d j bytes x a (n * rate family d) inside same))
+      rw (after-more, ← before j inside) (ap (step variant.family (here j)) (share_at-same variant j bytes x a (n * rate variant) inside same))
 
   -- its keystream is that of the lanes before it
-  pub block-byte : (k : ℕ) → IsLaneCount d → k < rate family d → stream_byte family d lanes x (n * rate family d + k) ≡ keystream_byte family d here k
+  pub block-byte : (k : ℕ) → IsLaneCount variant.lanes → k < rate variant → keystream_byte_along variant lanes x (n * rate variant + k) ≡ keystream_byte variant here k
   block-byte k count low =
-      let rows = λ (j : ℕ). after family d (lanes j) j x n in
-      let block : (n * rate family d + k) / rate family d ≡ n = div-mul-add n (rate family d) k low in
-      rw block (keystream_byte-periodic family d rows n k count ∙ sym (keystream_byte-same family d here rows k count before))
+      let rows = λ (j : ℕ). after variant (lanes j) j x n in
+      let block : (n * rate variant + k) / rate variant ≡ n = div-mul-add n (rate variant) k low in
+      rw block (keystream_byte-periodic variant rows n k count ∙ sym (keystream_byte-same variant here rows k count before))
 
 -- ---- a part of a rate block
 
 -- a list that has the same first bytes
-pub along-same : (family : Family) (d : ℕ) (lanes here : ℕ → List (List ℕ)) (block x y : List ℕ) (t : ℕ)
-    → ((k : ℕ) → k < t → slice_index x k ≡ slice_index y k) → IsAlong family d lanes here block x t → IsAlong family d lanes here block y t
-along-same family d lanes here block x y t same on =
-    let whole : t / rate family d * rate family d + t % rate family d ≡ t = div-add-mod' t (rate family d) in
+pub along-same : (variant : Variant) (lanes here : ℕ → List (List ℕ)) (block x y : List ℕ) (t : ℕ)
+    → ((k : ℕ) → k < t → slice_index x k ≡ slice_index y k) → IsAlong variant lanes here block x t → IsAlong variant lanes here block y t
+along-same variant lanes here block x y t same on =
+    let whole : t / rate variant * rate variant + t % rate variant ≡ t = div-add-mod' t (rate variant) in
     record {
-      whole = λ j inside. on.whole j inside ∙ after-same family d (lanes j) j x y (t / rate family d) inside (λ k h. same k (omega arith));
-      open_block = λ k h. on.open_block k h ∙ same (t / rate family d * rate family d + k) (omega arith);
+      whole = λ j inside. on.whole j inside ∙ after-same variant (lanes j) j x y (t / rate variant) inside (λ k h. same k (omega arith));
+      open_block = λ k h. on.open_block k h ∙ same (t / rate variant * rate variant + k) (omega arith);
     }
 
 -- n more bytes of x are kept in the open block, which was `block` and is `next`
-pub record IsKept (family : Family) (d : ℕ) (lanes here : ℕ → List (List ℕ)) (block next x : List ℕ) (t n : ℕ) : Type 0 where
-  pub along : IsAlong family d lanes here block x t
-  pub kept : (k : ℕ) → k < t % rate family d → slice_index next k ≡ slice_index block k
-  pub taken : (k : ℕ) → k < n → slice_index next (t % rate family d + k) ≡ slice_index x (t + k)
+pub record IsKept (variant : Variant) (lanes here : ℕ → List (List ℕ)) (block next x : List ℕ) (t n : ℕ) : Type 0 where
+  pub along : IsAlong variant lanes here block x t
+  pub kept : (k : ℕ) → k < t % rate variant → slice_index next k ≡ slice_index block k
+  pub taken : (k : ℕ) → k < n → slice_index next (t % rate variant + k) ≡ slice_index x (t + k)
 
-module _ (family : Family) (d : ℕ) (lanes here : ℕ → List (List ℕ)) (block next x : List ℕ) (t n : ℕ)
-    (on : IsKept family d lanes here block next x t n) where
-  kept-reads : (k : ℕ) → k < t % rate family d + n → slice_index next k ≡ slice_index x (t / rate family d * rate family d + k)
+module _ (variant : Variant) (lanes here : ℕ → List (List ℕ)) (block next x : List ℕ) (t n : ℕ)
+    (on : IsKept variant lanes here block next x t n) where
+  kept-reads : (k : ℕ) → k < t % rate variant + n → slice_index next k ≡ slice_index x (t / rate variant * rate variant + k)
   kept-reads k low =
-      let whole : t / rate family d * rate family d + t % rate family d ≡ t = div-add-mod' t (rate family d) in
+      let whole : t / rate variant * rate variant + t % rate variant ≡ t = div-add-mod' t (rate variant) in
       ⊎_elim
       (λ front. on.kept k front ∙ on.along.open_block k front)
       (λ back.
-      let place : t % rate family d + (k - t % rate family d) ≡ k = omega arith in
-      let there : t + (k - t % rate family d) ≡ t / rate family d * rate family d + k = omega arith in
-      ap (slice_index next) (sym place) ∙ on.taken (k - t % rate family d) (omega arith) ∙ ap (slice_index x) there)
-      (cases_lt k (t % rate family d))
+      let place : t % rate variant + (k - t % rate variant) ≡ k = omega arith in
+      let there : t + (k - t % rate variant) ≡ t / rate variant * rate variant + k = omega arith in
+      ap (slice_index next) (sym place) ∙ on.taken (k - t % rate variant) (omega arith) ∙ ap (slice_index x) there)
+      (cases_lt k (t % rate variant))
 
   -- they leave the rate block open
-  pub along-open : t % rate family d + n < rate family d → IsAlong family d lanes here next x (t + n)
+  pub along-open : t % rate variant + n < rate variant → IsAlong variant lanes here next x (t + n)
   along-open low =
-      let whole : t / rate family d * rate family d + t % rate family d ≡ t = div-add-mod' t (rate family d) in
-      let place : t + n ≡ t / rate family d * rate family d + (t % rate family d + n) = omega arith in
-      let quotient : (t + n) / rate family d ≡ t / rate family d =
-      ap (λ (m : ℕ). m / rate family d) place ∙ div-mul-add (t / rate family d) (rate family d) (t % rate family d + n) low in
-      let rest : (t + n) % rate family d ≡ t % rate family d + n =
-      ap (λ (m : ℕ). m % rate family d) place ∙ mod-mul-add (t / rate family d) (rate family d) (t % rate family d + n) low in
+      let whole : t / rate variant * rate variant + t % rate variant ≡ t = div-add-mod' t (rate variant) in
+      let place : t + n ≡ t / rate variant * rate variant + (t % rate variant + n) = omega arith in
+      let quotient : (t + n) / rate variant ≡ t / rate variant =
+      ap (λ (m : ℕ). m / rate variant) place ∙ div-mul-add (t / rate variant) (rate variant) (t % rate variant + n) low in
+      let rest : (t + n) % rate variant ≡ t % rate variant + n =
+      ap (λ (m : ℕ). m % rate variant) place ∙ mod-mul-add (t / rate variant) (rate variant) (t % rate variant + n) low in
       record {
         whole = λ j inside. rw quotient (on.along.whole j inside);
         open_block = λ k h. rw quotient (kept-reads k (omega arith));
       }
 
   -- they fill the rate block, which is taken in: the lanes are `there`
-  pub along-full : (there : ℕ → List (List ℕ)) (last : List ℕ) → IsLaneCount d → t % rate family d + n ≡ rate family d
-      → ((j : ℕ) → j < d → there j ≡ step family (here j) (share_at family d j next 0))
-      → IsAlong family d lanes there last x (t + n)
+  pub along-full : (there : ℕ → List (List ℕ)) (last : List ℕ) → IsLaneCount variant.lanes → t % rate variant + n ≡ rate variant
+      → ((j : ℕ) → j < variant.lanes → there j ≡ step variant.family (here j) (share_at variant j next 0))
+      → IsAlong variant lanes there last x (t + n)
   along-full there last count full stepped =
-      let positive = rate-positive family d count in
-      let whole : t / rate family d * rate family d + t % rate family d ≡ t = div-add-mod' t (rate family d) in
-      let place : t + n ≡ (t / rate family d + 1) * rate family d + 0 = omega arith in
-      let quotient : (t + n) / rate family d ≡ t / rate family d + 1 =
-      ap (λ (m : ℕ). m / rate family d) place ∙ div-mul-add (t / rate family d + 1) (rate family d) 0 positive in
-      let rest : (t + n) % rate family d ≡ 0 =
-      ap (λ (m : ℕ). m % rate family d) place ∙ mod-mul-add (t / rate family d + 1) (rate family d) 0 positive in
+      let positive = rate-positive variant count in
+      let whole : t / rate variant * rate variant + t % rate variant ≡ t = div-add-mod' t (rate variant) in
+      let place : t + n ≡ (t / rate variant + 1) * rate variant + 0 = omega arith in
+      let quotient : (t + n) / rate variant ≡ t / rate variant + 1 =
+      ap (λ (m : ℕ). m / rate variant) place ∙ div-mul-add (t / rate variant + 1) (rate variant) 0 positive in
+      let rest : (t + n) % rate variant ≡ 0 =
+      ap (λ (m : ℕ). m % rate variant) place ∙ mod-mul-add (t / rate variant + 1) (rate variant) 0 positive in
       record {
         whole = λ j inside.
             rw quotient (stepped j inside
-            ∙ block-lane family d lanes here x (t / rate family d) on.along.whole next 0 j inside
+            ∙ block-lane variant lanes here x (t / rate variant) on.along.whole next 0 j inside
             (λ k h. let e : 0 + k ≡ k = omega arith in rw e (kept-reads k (omega arith))));
         open_block = λ k h. absurd (omega arith);
       }
 
 -- the keystream of the rest of the open rate block is that of the lanes
-pub along-byte : (family : Family) (d : ℕ) (lanes here : ℕ → List (List ℕ)) (block x : List ℕ) (t k : ℕ) → IsLaneCount d
-    → IsAlong family d lanes here block x t → t % rate family d + k < rate family d
-    → stream_byte family d lanes x (t + k) ≡ keystream_byte family d here (t % rate family d + k)
-along-byte family d lanes here block x t k count on low =
-    let whole : t / rate family d * rate family d + t % rate family d ≡ t = div-add-mod' t (rate family d) in
-    let place : t + k ≡ t / rate family d * rate family d + (t % rate family d + k) = omega arith in
-    rw place (block-byte family d lanes here x (t / rate family d) on.whole (t % rate family d + k) count low)
+pub along-byte : (variant : Variant) (lanes here : ℕ → List (List ℕ)) (block x : List ℕ) (t k : ℕ) → IsLaneCount variant.lanes
+    → IsAlong variant lanes here block x t → t % rate variant + k < rate variant
+    → keystream_byte_along variant lanes x (t + k) ≡ keystream_byte variant here (t % rate variant + k)
+along-byte variant lanes here block x t k count on low =
+    let whole : t / rate variant * rate variant + t % rate variant ≡ t = div-add-mod' t (rate variant) in
+    let place : t + k ≡ t / rate variant * rate variant + (t % rate variant + k) = omega arith in
+    rw place (block-byte variant lanes here x (t / rate variant) on.whole (t % rate variant + k) count low)
 
 -- ---- whole rate blocks
 
@@ -125,20 +125,20 @@ module _ (t n r : ℕ) (positive : 0 < r) (unopened : IsUnopened t n r) where
       let some : 0 < n = ⊎_elim (λ (none : n < 1). let zero : n * r ≡ 0 * r = ap (λ (m : ℕ). m * r) (omega arith) in absurd (omega arith)) (λ (h : 1 ≤ n). omega arith) (cases_lt n 1) in
       let full = unopened some in omega arith
 
-pub along-whole : (family : Family) (d : ℕ) (lanes here there : ℕ → List (List ℕ)) (block x : List ℕ) (t n : ℕ) → IsLaneCount d
-    → IsUnopened t n (rate family d) → IsAlong family d lanes here block x t
-    → ((j : ℕ) → j < d → there j ≡ after family d (lanes j) j x (t / rate family d + n))
-    → IsAlong family d lanes there block x (t + n * rate family d)
-along-whole family d lanes here there block x t n count unopened on stepped =
-    let positive = rate-positive family d count in
-    let quotient = whole-quotient t n (rate family d) positive unopened in
-    let rest = whole-rest t n (rate family d) positive unopened in
+pub along-whole : (variant : Variant) (lanes here there : ℕ → List (List ℕ)) (block x : List ℕ) (t n : ℕ) → IsLaneCount variant.lanes
+    → IsUnopened t n (rate variant) → IsAlong variant lanes here block x t
+    → ((j : ℕ) → j < variant.lanes → there j ≡ after variant (lanes j) j x (t / rate variant + n))
+    → IsAlong variant lanes there block x (t + n * rate variant)
+along-whole variant lanes here there block x t n count unopened on stepped =
+    let positive = rate-positive variant count in
+    let quotient = whole-quotient t n (rate variant) positive unopened in
+    let rest = whole-rest t n (rate variant) positive unopened in
     record {
       whole = λ j inside. rw quotient (stepped j inside);
       open_block = λ k h.
           ⊎_elim
           (λ (none : n < 1). let zero : n ≡ 0 = omega arith in
-          let same : t / rate family d + n ≡ t / rate family d = omega arith in
+          let same : t / rate variant + n ≡ t / rate variant = omega arith in
           rw (quotient, same) (on.open_block k (rw rest at h)))
           (λ (some : 1 ≤ n). let full = unopened (omega arith) in absurd (omega arith))
           (cases_lt n 1);
@@ -147,17 +147,17 @@ along-whole family d lanes here there block x t n count unopened on stepped =
 -- ---- the end of a run
 
 -- the open block with zeros after its bytes is taken in
-pub padded-step : (family : Family) (d : ℕ) (lanes here : ℕ → List (List ℕ)) (block last x : List ℕ) → IsLaneCount d
-    → IsAlong family d lanes here block x (length x) → 0 < length x % rate family d
-    → ((k : ℕ) → k < length x % rate family d → slice_index last k ≡ slice_index block k)
-    → ((k : ℕ) → length x % rate family d ≤ k → slice_index last k ≡ 0)
-    → (j : ℕ) → j < d → step family (here j) (share_at family d j last 0) ≡ after_all family d (lanes j) j x
-padded-step family d lanes here block last x count on some kept zeros j inside =
-    let r : ℕ = rate family d in
-    let positive : 0 < r = rate-positive family d count in
+pub padded-step : (variant : Variant) (lanes here : ℕ → List (List ℕ)) (block last x : List ℕ) → IsLaneCount variant.lanes
+    → IsAlong variant lanes here block x (length x) → 0 < length x % rate variant
+    → ((k : ℕ) → k < length x % rate variant → slice_index last k ≡ slice_index block k)
+    → ((k : ℕ) → length x % rate variant ≤ k → slice_index last k ≡ 0)
+    → (j : ℕ) → j < variant.lanes → step variant.family (here j) (share_at variant j last 0) ≡ after_all variant (lanes j) j x
+padded-step variant lanes here block last x count on some kept zeros j inside =
+    let r : ℕ = rate variant in
+    let positive : 0 < r = rate-positive variant count in
     let whole : length x / r * r + length x % r ≡ length x = div-add-mod' (length x) r in
-    rw (block_count-part family d (length x) r refl positive (omega arith))
-    (block-lane family d lanes here x (length x / r) on.whole last 0 j inside
+    rw (block_count-part variant (length x) r refl positive (omega arith))
+    (block-lane variant lanes here x (length x / r) on.whole last 0 j inside
     (λ k low.
     let place : 0 + k ≡ k = omega arith in
     rw place
@@ -167,10 +167,10 @@ padded-step family d lanes here block last x count on some kept zeros j inside =
     (cases_lt k (length x % r)))))
 
 -- without an open block nothing is missing
-pub unpadded : (family : Family) (d : ℕ) (lanes here : ℕ → List (List ℕ)) (block x : List ℕ) → IsLaneCount d
-    → IsAlong family d lanes here block x (length x) → length x % rate family d ≡ 0
-    → (j : ℕ) → j < d → here j ≡ after_all family d (lanes j) j x
-unpadded family d lanes here block x count on none j inside =
-    let r : ℕ = rate family d in
+pub unpadded : (variant : Variant) (lanes here : ℕ → List (List ℕ)) (block x : List ℕ) → IsLaneCount variant.lanes
+    → IsAlong variant lanes here block x (length x) → length x % rate variant ≡ 0
+    → (j : ℕ) → j < variant.lanes → here j ≡ after_all variant (lanes j) j x
+unpadded variant lanes here block x count on none j inside =
+    let r : ℕ = rate variant in
     let whole : length x / r * r + length x % r ≡ length x = div-add-mod' (length x) r in
-    rw (block_count-whole family d (length x) r refl (rate-positive family d count) (omega arith)) (on.whole j inside)
+    rw (block_count-whole variant (length x) r refl (rate-positive variant count) (omega arith)) (on.whole j inside)

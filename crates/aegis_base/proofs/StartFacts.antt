@@ -3,9 +3,9 @@ use Rattle.std.proofs.Common.{◌≡◌, ◌∙◌, ap, refl, ℕ, zero, suc, �
 use Rattle.std.specs.Int.Bits.{xor_zero_r}
 use Rattle.aegis_aes.specs.Block.{xor}
 use Rattle.aegis_aes.specs.Lanes.{context}
-use Rattle.aegis_base.specs.Family.{Family, Aegis128, Aegis256}
-use Rattle.aegis_base.specs.Lane.{add_context, c0, c1, first_rows, high_half, low_half, row, start, start_turn, start_turns, step, times}
-use Rattle.aegis_base.specs.Laws.{plain_turn}
+use Rattle.aegis_base.specs.Variant.{Family, Family128, Family256, Variant}
+use Rattle.aegis_base.specs.Lane.{add_context, c0, c1, first_blocks, high_half, low_half, block_in, start, start_turn, start_turns, step, times}
+use Rattle.aegis_base.specs.Laws.{IsStartPlain, plain_turn}
 use Rattle.aegis_base.proofs.Lengths.{length-round}
 
 xor-zeros : (xs : List ℕ) (n : ℕ) → length xs ≤ n → xor xs (replicate n 0) ≡ xs
@@ -23,56 +23,56 @@ length-xor-le (x ∷ xs) (y ∷ ys) = let rest = length-xor-le xs ys in omega ar
 
 -- the other row that a context block is xored into
 abbrev last_row : Family → List (List ℕ) → List ℕ
-last_row Aegis128 s = row s 7
-last_row Aegis256 s = row s 5
+last_row Family128 s = block_in s 7
+last_row Family256 s = block_in s 5
 
 -- the rows that a context block is xored into are no longer than a block
 record IsShort (family : Family) (s : List (List ℕ)) : Type 0 where
-  third : length (row s 3) ≤ 16
+  third : length (block_in s 3) ≤ 16
   last : length (last_row family s) ≤ 16
 
 step-short : (family : Family) (s m : List (List ℕ)) → IsShort family (step family s m)
-step-short Aegis128 s m = record {
-  third = omega (arith, length-round (row s 2) (row s 3));
-  last = omega (arith, length-round (row s 6) (row s 7));
+step-short Family128 s m = record {
+  third = omega (arith, length-round (block_in s 2) (block_in s 3));
+  last = omega (arith, length-round (block_in s 6) (block_in s 7));
 }
-step-short Aegis256 s m = record {
-  third = omega (arith, length-round (row s 2) (row s 3));
-  last = omega (arith, length-round (row s 4) (row s 5));
+step-short Family256 s m = record {
+  third = omega (arith, length-round (block_in s 2) (block_in s 3));
+  last = omega (arith, length-round (block_in s 4) (block_in s 5));
 }
 
-first_rows-short : (family : Family) (key nonce : List ℕ) → IsShort family (first_rows family key nonce)
-first_rows-short Aegis128 key nonce = record { third = omega arith; last = length-xor-le key c0 }
-first_rows-short Aegis256 key nonce = record { third = omega arith; last = length-xor-le (high_half key) c1 }
+first_blocks-short : (family : Family) (key nonce : List ℕ) → IsShort family (first_blocks family key nonce)
+first_blocks-short Family128 key nonce = record { third = omega arith; last = length-xor-le key c0 }
+first_blocks-short Family256 key nonce = record { third = omega arith; last = length-xor-le (high_half key) c1 }
 
 step-plain : (family : Family) (s m : List (List ℕ)) → IsShort family s
     → step family (add_context family (context 0 1) s) m ≡ step family s m
-step-plain Aegis128 s m is = rw (xor-context (row s 3) is.third, xor-context (row s 7) is.last) refl
-step-plain Aegis256 s m is = rw (xor-context (row s 3) is.third, xor-context (row s 5) is.last) refl
+step-plain Family128 s m is = rw (xor-context (block_in s 3) is.third, xor-context (block_in s 7) is.last) refl
+step-plain Family256 s m is = rw (xor-context (block_in s 3) is.third, xor-context (block_in s 5) is.last) refl
 
 -- an update of the start in the family 256, of a lane that is the same without context blocks
-turned-plain : (s r : List (List ℕ)) (b : List ℕ) → s ≡ r → IsShort Aegis256 r
-    → step Aegis256 (add_context Aegis256 (context 0 1) s) (b ∷ []) ≡ step Aegis256 r (b ∷ [])
+turned-plain : (s r : List (List ℕ)) (b : List ℕ) → s ≡ r → IsShort Family256 r
+    → step Family256 (add_context Family256 (context 0 1) s) (b ∷ []) ≡ step Family256 r (b ∷ [])
 turned-plain s r b e is =
-    ap (λ (t : List (List ℕ)). step Aegis256 (add_context Aegis256 (context 0 1) t) (b ∷ [])) e ∙ step-plain Aegis256 r (b ∷ []) is
+    ap (λ (t : List (List ℕ)). step Family256 (add_context Family256 (context 0 1) t) (b ∷ [])) e ∙ step-plain Family256 r (b ∷ []) is
 
 turn-plain : (family : Family) (key nonce : List ℕ) (s : List (List ℕ)) → IsShort family s
     → start_turn family key nonce (context 0 1) s ≡ plain_turn family key nonce s
-turn-plain Aegis128 key nonce s is = step-plain Aegis128 s (nonce ∷ key ∷ []) is
-turn-plain Aegis256 key nonce s is =
+turn-plain Family128 key nonce s is = step-plain Family128 s (nonce ∷ key ∷ []) is
+turn-plain Family256 key nonce s is =
     let a = low_half key in
     let b = high_half key in
     let x = xor (low_half key) (low_half nonce) in
-    let s1 = step Aegis256 s (a ∷ []) in
-    let s2 = step Aegis256 s1 (b ∷ []) in
-    let s3 = step Aegis256 s2 (x ∷ []) in
+    let s1 = step Family256 s (a ∷ []) in
+    let s2 = step Family256 s1 (b ∷ []) in
+    let s3 = step Family256 s2 (x ∷ []) in
     turned-plain _ s3 (xor b (high_half nonce))
-    (turned-plain _ s2 x (turned-plain _ s1 b (turned-plain s s a refl is) (step-short Aegis256 s (a ∷ []))) (step-short Aegis256 s1 (b ∷ [])))
-    (step-short Aegis256 s2 (x ∷ []))
+    (turned-plain _ s2 x (turned-plain _ s1 b (turned-plain s s a refl is) (step-short Family256 s (a ∷ []))) (step-short Family256 s1 (b ∷ [])))
+    (step-short Family256 s2 (x ∷ []))
 
 plain_turn-short : (family : Family) (key nonce : List ℕ) (s : List (List ℕ)) → IsShort family (plain_turn family key nonce s)
-plain_turn-short Aegis128 key nonce s = step-short Aegis128 s (nonce ∷ key ∷ [])
-plain_turn-short Aegis256 key nonce s = search (rules, step-short)
+plain_turn-short Family128 key nonce s = step-short Family128 s (nonce ∷ key ∷ [])
+plain_turn-short Family256 key nonce s = search (rules, step-short)
 
 turns-short : (family : Family) (key nonce : List ℕ) (n : ℕ) (s : List (List ℕ)) → IsShort family s
     → IsShort family (times n (plain_turn family key nonce) s)
@@ -86,8 +86,8 @@ turns-plain family key nonce (suc n) s is =
     ap (start_turn family key nonce (context 0 1)) (turns-plain family key nonce n s is)
     ∙ turn-plain family key nonce (times n (plain_turn family key nonce) s) (turns-short family key nonce n s is)
 
-pub start-plain : (family : Family) (key nonce : List ℕ)
-    → start family 1 key nonce 0 ≡ times (start_turns family) (plain_turn family key nonce) (first_rows family key nonce)
+pub start-plain : (variant : Variant) → variant.lanes ≡ 1 → IsStartPlain variant
 unfolding start
-start-plain family key nonce =
-    turns-plain family key nonce (start_turns family) (first_rows family key nonce) (first_rows-short family key nonce)
+start-plain variant one key nonce =
+    let family = variant.family in
+    rw one (turns-plain family key nonce (start_turns family) (first_blocks family key nonce) (first_blocks-short family key nonce))

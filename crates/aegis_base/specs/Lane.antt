@@ -1,15 +1,14 @@
--- One lane of AEGIS, alone. A lane is the list of its rows, eight in the family 128 and six in the family 256,
--- and a row is a block.
+-- One lane of AEGIS, alone: the list of its blocks, S0 to S7 in the family 128 and S0 to S5 in the family 256.
 use Rattle.std.specs.Prelude.{◌≡◌, ℕ, zero, suc, ◌==◌, ◌⊎◌, List, [], ◌∷◌, ◌++◌, take, drop, if◌then◌else◌, slice_index_or}
 use Rattle.std.specs.Int.{w64, to_le_bytes}
 use Rattle.aegis_aes.specs.Block.{and, xor}
 use Rattle.aegis_aes.specs.Lanes.{context}
 use Rattle.aegis_aes.specs.Round.{round}
-use Rattle.aegis_base.specs.Family.{Family, Aegis128, Aegis256}
+use Rattle.aegis_base.specs.Variant.{Family, Family128, Family256, Variant}
 
--- row i of a lane, and block i of a list of blocks
-abbrev pub row : List (List ℕ) → ℕ → List ℕ
-row s i = slice_index_or s i []
+-- block Si of a lane, and block i of a list of blocks
+abbrev pub block_in : List (List ℕ) → ℕ → List ℕ
+block_in s i = slice_index_or s i []
 
 -- the constants C0 and C1 (AEGIS): the Fibonacci numbers modulo 256
 abbrev pub c0 : List ℕ
@@ -20,30 +19,30 @@ c1 = 0xdb ∷ 0x3d ∷ 0x18 ∷ 0x55 ∷ 0x6d ∷ 0xc2 ∷ 0x2f ∷ 0xf1 ∷ 0x2
 
 -- the lane s after one update by the blocks m (AEGIS, Update)
 abbrev pub step : Family → List (List ℕ) → List (List ℕ) → List (List ℕ)
-step Aegis128 s m =
-    xor (round (row s 7) (row s 0)) (row m 0)
-    ∷ round (row s 0) (row s 1)
-    ∷ round (row s 1) (row s 2)
-    ∷ round (row s 2) (row s 3)
-    ∷ xor (round (row s 3) (row s 4)) (row m 1)
-    ∷ round (row s 4) (row s 5)
-    ∷ round (row s 5) (row s 6)
-    ∷ round (row s 6) (row s 7)
+step Family128 s m =
+    xor (round (block_in s 7) (block_in s 0)) (block_in m 0)
+    ∷ round (block_in s 0) (block_in s 1)
+    ∷ round (block_in s 1) (block_in s 2)
+    ∷ round (block_in s 2) (block_in s 3)
+    ∷ xor (round (block_in s 3) (block_in s 4)) (block_in m 1)
+    ∷ round (block_in s 4) (block_in s 5)
+    ∷ round (block_in s 5) (block_in s 6)
+    ∷ round (block_in s 6) (block_in s 7)
     ∷ []
-step Aegis256 s m =
-    xor (round (row s 5) (row s 0)) (row m 0)
-    ∷ round (row s 0) (row s 1)
-    ∷ round (row s 1) (row s 2)
-    ∷ round (row s 2) (row s 3)
-    ∷ round (row s 3) (row s 4)
-    ∷ round (row s 4) (row s 5)
+step Family256 s m =
+    xor (round (block_in s 5) (block_in s 0)) (block_in m 0)
+    ∷ round (block_in s 0) (block_in s 1)
+    ∷ round (block_in s 1) (block_in s 2)
+    ∷ round (block_in s 2) (block_in s 3)
+    ∷ round (block_in s 3) (block_in s 4)
+    ∷ round (block_in s 4) (block_in s 5)
     ∷ []
 
--- the lane with its context block c xored into two rows, before an update of the start
+-- the lane with its context block c xored into two of its blocks, before an update of the start
 abbrev pub add_context : Family → List ℕ → List (List ℕ) → List (List ℕ)
-add_context Aegis128 c s =
-    row s 0 ∷ row s 1 ∷ row s 2 ∷ xor (row s 3) c ∷ row s 4 ∷ row s 5 ∷ row s 6 ∷ xor (row s 7) c ∷ []
-add_context Aegis256 c s = row s 0 ∷ row s 1 ∷ row s 2 ∷ xor (row s 3) c ∷ row s 4 ∷ xor (row s 5) c ∷ []
+add_context Family128 c s =
+    block_in s 0 ∷ block_in s 1 ∷ block_in s 2 ∷ xor (block_in s 3) c ∷ block_in s 4 ∷ block_in s 5 ∷ block_in s 6 ∷ xor (block_in s 7) c ∷ []
+add_context Family256 c s = block_in s 0 ∷ block_in s 1 ∷ block_in s 2 ∷ xor (block_in s 3) c ∷ block_in s 4 ∷ xor (block_in s 5) c ∷ []
 
 -- f applied n times
 abbrev pub times : ℕ → (List (List ℕ) → List (List ℕ)) → List (List ℕ) → List (List ℕ)
@@ -57,23 +56,23 @@ low_half bytes = take 16 bytes
 abbrev pub high_half : List ℕ → List ℕ
 high_half bytes = drop 16 bytes
 
--- the rows of a lane before the updates of its start
-abbrev pub first_rows : Family → List ℕ → List ℕ → List (List ℕ)
-first_rows Aegis128 key nonce =
+-- the blocks of a lane before the updates of its start (AEGIS, Init)
+abbrev pub first_blocks : Family → List ℕ → List ℕ → List (List ℕ)
+first_blocks Family128 key nonce =
     xor key nonce ∷ c1 ∷ c0 ∷ c1 ∷ xor key nonce ∷ xor key c0 ∷ xor key c1 ∷ xor key c0 ∷ []
-first_rows Aegis256 key nonce =
+first_blocks Family256 key nonce =
     xor (low_half key) (low_half nonce) ∷ xor (high_half key) (high_half nonce) ∷ c1 ∷ c0
     ∷ xor (low_half key) c0 ∷ xor (high_half key) c1 ∷ []
 
 -- one turn of the start with the context block c: an update by the nonce and the key in the family 128, and in the
 -- family 256 four updates, by the key's halves and by their xors with the nonce's
 abbrev pub start_turn : Family → List ℕ → List ℕ → List ℕ → List (List ℕ) → List (List ℕ)
-start_turn Aegis128 key nonce c s = step Aegis128 (add_context Aegis128 c s) (nonce ∷ key ∷ [])
-start_turn Aegis256 key nonce c s =
-    step Aegis256 (add_context Aegis256 c
-    (step Aegis256 (add_context Aegis256 c
-    (step Aegis256 (add_context Aegis256 c
-    (step Aegis256 (add_context Aegis256 c s)
+start_turn Family128 key nonce c s = step Family128 (add_context Family128 c s) (nonce ∷ key ∷ [])
+start_turn Family256 key nonce c s =
+    step Family256 (add_context Family256 c
+    (step Family256 (add_context Family256 c
+    (step Family256 (add_context Family256 c
+    (step Family256 (add_context Family256 c s)
     (low_half key ∷ [])))
     (high_half key ∷ [])))
     (xor (low_half key) (low_half nonce) ∷ [])))
@@ -81,34 +80,36 @@ start_turn Aegis256 key nonce c s =
 
 -- how many turns the start has
 abbrev pub start_turns : Family → ℕ
-start_turns Aegis128 = 10
-start_turns Aegis256 = 4
+start_turns Family128 = 10
+start_turns Family256 = 4
 
--- lane j of d after the start with a key and a nonce (AEGIS, Init)
-unfoldable pub start : Family → ℕ → List ℕ → List ℕ → ℕ → List (List ℕ)
-start family d key nonce j = times (start_turns family) (start_turn family key nonce (context j d)) (first_rows family key nonce)
+-- lane j after the start with a key and a nonce (AEGIS, Init)
+unfoldable pub start : (variant : Variant) (key nonce : List ℕ) (j : ℕ) → List (List ℕ)
+start variant key nonce j =
+    times (start_turns variant.family) (start_turn variant.family key nonce (context j variant.lanes))
+    (first_blocks variant.family key nonce)
 
 -- the blocks of keystream of a lane (AEGIS, Enc)
-abbrev pub keystream : Family → List (List ℕ) → List (List ℕ)
-keystream Aegis128 s =
-    xor (xor (row s 6) (row s 1)) (and (row s 2) (row s 3))
-    ∷ xor (xor (row s 2) (row s 5)) (and (row s 6) (row s 7))
+abbrev pub keystream_blocks : Family → List (List ℕ) → List (List ℕ)
+keystream_blocks Family128 s =
+    xor (xor (block_in s 6) (block_in s 1)) (and (block_in s 2) (block_in s 3))
+    ∷ xor (xor (block_in s 2) (block_in s 5)) (and (block_in s 6) (block_in s 7))
     ∷ []
-keystream Aegis256 s = xor (xor (row s 1) (row s 4)) (xor (row s 5) (and (row s 2) (row s 3))) ∷ []
+keystream_blocks Family256 s = xor (xor (block_in s 1) (block_in s 4)) (xor (block_in s 5) (and (block_in s 2) (block_in s 3))) ∷ []
 
 -- two numbers of bits in a block, each in eight bytes, least first
 abbrev pub bit_lengths : ℕ → ℕ → List ℕ
 bit_lengths p q = to_le_bytes w64 p ++ to_le_bytes w64 q
 
--- the block that ends a lane: a row with two numbers of bits xored in
+-- the block that ends a lane: one of its blocks with two numbers of bits xored in
 abbrev pub last_block : Family → List (List ℕ) → ℕ → ℕ → List ℕ
-last_block Aegis128 s p q = xor (row s 2) (bit_lengths p q)
-last_block Aegis256 s p q = xor (row s 3) (bit_lengths p q)
+last_block Family128 s p q = xor (block_in s 2) (bit_lengths p q)
+last_block Family256 s p q = xor (block_in s 3) (bit_lengths p q)
 
 -- a block as the input of an update, in each of its places
 abbrev pub last_input : Family → List ℕ → List (List ℕ)
-last_input Aegis128 block = block ∷ block ∷ []
-last_input Aegis256 block = block ∷ []
+last_input Family128 block = block ∷ block ∷ []
+last_input Family256 block = block ∷ []
 
 -- the lane s after its end: seven updates by that block (AEGIS, Finalize)
 unfoldable pub finish : Family → List (List ℕ) → ℕ → ℕ → List (List ℕ)
@@ -116,17 +117,17 @@ finish family s p q = times 7 (λ r. step family r (last_input family (last_bloc
 
 -- the tag of a lane in 16 bytes, and the halves of its tag in 32 bytes (AEGIS, Finalize)
 abbrev pub short_tag : Family → List (List ℕ) → List ℕ
-short_tag Aegis128 s =
-    xor (xor (xor (row s 0) (row s 1)) (xor (row s 2) (row s 3))) (xor (xor (row s 4) (row s 5)) (row s 6))
-short_tag Aegis256 s = xor (xor (xor (row s 0) (row s 1)) (row s 2)) (xor (xor (row s 3) (row s 4)) (row s 5))
+short_tag Family128 s =
+    xor (xor (xor (block_in s 0) (block_in s 1)) (xor (block_in s 2) (block_in s 3))) (xor (xor (block_in s 4) (block_in s 5)) (block_in s 6))
+short_tag Family256 s = xor (xor (xor (block_in s 0) (block_in s 1)) (block_in s 2)) (xor (xor (block_in s 3) (block_in s 4)) (block_in s 5))
 
 abbrev pub low_tag : Family → List (List ℕ) → List ℕ
-low_tag Aegis128 s = xor (xor (row s 0) (row s 1)) (xor (row s 2) (row s 3))
-low_tag Aegis256 s = xor (xor (row s 0) (row s 1)) (row s 2)
+low_tag Family128 s = xor (xor (block_in s 0) (block_in s 1)) (xor (block_in s 2) (block_in s 3))
+low_tag Family256 s = xor (xor (block_in s 0) (block_in s 1)) (block_in s 2)
 
 abbrev pub high_tag : Family → List (List ℕ) → List ℕ
-high_tag Aegis128 s = xor (xor (row s 4) (row s 5)) (xor (row s 6) (row s 7))
-high_tag Aegis256 s = xor (xor (row s 3) (row s 4)) (row s 5)
+high_tag Family128 s = xor (xor (block_in s 4) (block_in s 5)) (xor (block_in s 6) (block_in s 7))
+high_tag Family256 s = xor (xor (block_in s 3) (block_in s 4)) (block_in s 5)
 
 -- the tag of a lane, in n bytes
 abbrev pub lane_tag : Family → ℕ → List (List ℕ) → List ℕ

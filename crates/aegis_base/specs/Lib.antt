@@ -1,7 +1,7 @@
 pub mod Chunks
-pub mod Family
 pub mod Lane
 pub mod Laws
 pub mod Mac
 pub mod Message
 pub mod Run
+pub mod Variant

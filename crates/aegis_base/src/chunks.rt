@@ -8,7 +8,8 @@ use crate::length::Length;
 
 /// How many bytes chunks have together, or `None` exactly where they have more than [`MAX_AEAD_BYTES`].
 pub fn chunks_len(chunks: &[&[u8]]) -> Option<u64>
-    ensures within { length (joined chunks.now) ≤ MAX_AEAD_BYTES → result ≡ Some (length (joined chunks.now)) }
+    ensures within { length (joined chunks.now) ≤ MAX_AEAD_BYTES
+        → result ≡ Some (length (joined chunks.now)) }
     ensures past { MAX_AEAD_BYTES < length (joined chunks.now) → result ≡ None }
 {
     let mut length = Length::zero();

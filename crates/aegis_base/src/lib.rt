@@ -8,13 +8,15 @@ mod error;
 mod lane_block;
 pub mod laws;
 mod length;
+mod names;
 mod state;
-mod variant;
+mod vectors;
 
 pub use chunks::chunks_len;
 pub use constants::{C0, C1, bit_lengths};
 pub use error::{Error, MAX_AEAD_BYTES};
 pub use lane_block::block_in_all_lanes;
 pub use length::Length;
+pub use names::{Names, Tag};
 pub use state::LaneState;
-pub use variant::{Tag, Variant};
+pub use vectors::slices;

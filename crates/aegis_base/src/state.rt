@@ -1,10 +1,10 @@
 //! The states of a variant: its lanes, side by side, as the block engine uses them.
 
-ghost use Rattle.std.specs.Prelude.{◌≡◌, ℕ, ◌+◌, ◌-◌, ◌*◌, ◌^◌, ◌<◌, ◌≤◌, ◌++◌, List, length, slice_index, replicate};
-ghost use Rattle.aegis_aes.specs.Block.{block_at, xor};
+ghost use Rattle.std.specs.Prelude.{◌≡◌, ℕ, ◌+◌, ◌-◌, ◌*◌, ◌^◌, ◌<◌, ◌≤◌, ◌++◌, List, length, slice_index};
+ghost use Rattle.aegis_aes.specs.Block.{IsSameBefore, IsSameFrom, block_at, xor};
 ghost use Rattle.aegis_aes.specs.Lanes.{IsLaneCount, context, xor_lanes};
-ghost use Rattle.aegis_base.specs.Family.{Family, key_length, rate, width};
-ghost use Rattle.aegis_base.specs.Lane.{finish, first_rows, high_tag, keystream, lane_tag, last_block, last_input, low_tag, row, short_tag, start, start_turn, start_turns, step};
+ghost use Rattle.aegis_base.specs.Variant.{Variant, key_length, rate, width};
+ghost use Rattle.aegis_base.specs.Lane.{finish, first_blocks, high_tag, keystream_blocks, lane_tag, last_block, last_input, low_tag, block_in, short_tag, start, start_turn, start_turns, step};
 ghost use Rattle.aegis_base.specs.Mac.{fold_long, fold_short, mac_tag, short_fold_turn, short_fold_turns, step_by_two};
 ghost use Rattle.aegis_base.specs.Message.{share_at};
 
@@ -13,16 +13,13 @@ use aegis_aes::{AesBlock, Row};
 
 /// The lanes of one variant, side by side.
 ///
-/// Contracts see the rows of each lane by its number, `lane state j`, and say what happens to each lane as if it ran
+/// Contracts see the blocks of each lane by its number, `lane state j`, and say what happens to each lane as if it ran
 /// alone. A state also counts its updates since the start; only the private step that moves every lane counts.
 ///
 /// A family gives the standard's steps; the start, the end and the tags are made of them here, once. The crate of a
 /// family is entered by these calls alone, and the block engine calls `new`, `absorb`, `xor_keystream`, `finish`, the
 /// two tags and the two MAC tags.
 pub trait LaneState: Copy {
-    /// A key. A nonce has as many bytes.
-    type Key: Copy;
-
     /// One block of each lane.
     type Row: Row;
 
@@ -41,47 +38,50 @@ pub trait LaneState: Copy {
 
     ghost RATE: { ℕ };
 
-    ghost FAMILY: { Family };
+    ghost VARIANT: { Variant };
 
-    // how many lanes there are
-    ghost LANES: { ℕ };
-
-    ghost key_bytes: { Self.Key → List ℕ };
-
-    // the rows of a lane
+    // the blocks of a lane
     ghost lane: { Self → ℕ → List (List ℕ) };
 
     // how many updates were made since the start
     ghost updates: { Self → ℕ };
 
-    /// The nonce of zeros.
-    fn zero_nonce() -> Self::Key
-        ensures { key_bytes result ≡ replicate (key_length FAMILY) 0 };
-
     /// The lanes before the updates of their start (AEGIS, Init).
-    fn first_rows(key: &Self::Key, nonce: &Self::Key) -> Self
-        ensures lanes { (j : ℕ) → j < LANES → lane result j ≡ first_rows FAMILY (key_bytes key.now) (key_bytes nonce.now) }
+    fn first_blocks(key: &[u8], nonce: &[u8]) -> Self
+        requires key_length { length key.now ≡ key_length VARIANT.family }
+        requires nonce_length { length nonce.now ≡ key_length VARIANT.family }
+        ensures lanes { (j : ℕ) → j < VARIANT.lanes
+            → lane result j ≡ first_blocks VARIANT.family key.now nonce.now }
         ensures updates { updates result ≡ 0 };
 
     /// The lanes after one turn of their start, at most four updates (AEGIS, Init).
-    fn start_turn(self, key: &Self::Key, nonce: &Self::Key) -> Self
-        requires { updates self + 4 < 2 ^ 64 }
-        ensures lanes { (j : ℕ) → j < LANES
-            → lane result j ≡ start_turn FAMILY (key_bytes key.now) (key_bytes nonce.now) (context j LANES) (lane self j) }
+    fn start_turn(self, key: &[u8], nonce: &[u8]) -> Self
+        requires key_length { length key.now ≡ key_length VARIANT.family }
+        requires nonce_length { length nonce.now ≡ key_length VARIANT.family }
+        requires countable { updates self + 4 < 2 ^ 64 }
+        ensures lanes { (j : ℕ) → j < VARIANT.lanes
+            → lane result j
+            ≡ start_turn VARIANT.family key.now nonce.now (context j VARIANT.lanes) (lane self j) }
         ensures updates { updates result ≤ updates self + 4 };
+
+    /// Lanes of zeros, which a state that is no longer used is overwritten with.
+    fn zeros() -> Self;
 
     /// The lanes as they are, with no update counted. Only the start ends so.
     fn uncounted(self) -> Self
-        ensures lanes { (j : ℕ) → j < LANES → lane result j ≡ lane self j }
+        ensures lanes { (j : ℕ) → j < VARIANT.lanes → lane result j ≡ lane self j }
         ensures updates { updates result ≡ 0 };
 
     /// The lanes after their start with a key and a nonce (AEGIS, Init), with no update counted.
     #[tactic(auto, unfolding(crate::specs::Lane::start))]
-    final fn new(key: &Self::Key, nonce: &Self::Key) -> Self
-        ensures lanes { (j : ℕ) → j < LANES → lane result j ≡ start FAMILY LANES (key_bytes key.now) (key_bytes nonce.now) j }
+    final fn new(key: &[u8], nonce: &[u8]) -> Self
+        requires key_length { length key.now ≡ key_length VARIANT.family }
+        requires nonce_length { length nonce.now ≡ key_length VARIANT.family }
+        ensures lanes { (j : ℕ) → j < VARIANT.lanes
+            → lane result j ≡ start VARIANT key.now nonce.now j }
         ensures updates { updates result ≡ 0 }
     {
-        let mut state = Self::first_rows(key, nonce);
+        let mut state = Self::first_blocks(key, nonce);
         for _turn in 0..Self::START_TURNS {
             state = state.start_turn(key, nonce);
         }
@@ -92,33 +92,42 @@ pub trait LaneState: Copy {
     fn absorb(self, bytes: &[u8], at: usize) -> Self
         requires within { at + RATE ≤ length bytes.now }
         requires countable { updates self + 1 < 2 ^ 64 }
-        ensures lanes { (j : ℕ) → j < LANES → lane result j ≡ step FAMILY (lane self j) (share_at FAMILY LANES j bytes.now at) }
+        ensures lanes { (j : ℕ) → j < VARIANT.lanes
+            → lane result j
+            ≡ step VARIANT.family (lane self j) (share_at VARIANT j bytes.now at) }
         ensures updates { updates result ≡ updates self + 1 };
 
     /// Xors the rate block of `buffer` that begins at place `at` with the lanes' keystream (AEGIS, Enc). The lanes stay.
     fn xor_keystream(self, buffer: &mut [u8], at: usize)
         requires { at + RATE ≤ length buffer.old }
-        ensures written { (j h : ℕ) → j < LANES → h < width FAMILY
-            → block_at buffer.new (at + 16 * (h * LANES + j))
-            ≡ xor (block_at buffer.old (at + 16 * (h * LANES + j))) (row (keystream FAMILY (lane self j)) h) }
-        ensures below { (i : ℕ) → i < at → slice_index buffer.new i ≡ slice_index buffer.old i }
-        ensures above { (i : ℕ) → at + RATE ≤ i → slice_index buffer.new i ≡ slice_index buffer.old i };
+        ensures written { (j h : ℕ) → j < VARIANT.lanes → h < width VARIANT.family
+            → block_at buffer.new (at + 16 * (h * VARIANT.lanes + j))
+            ≡ xor (block_at buffer.old (at + 16 * (h * VARIANT.lanes + j)))
+            (block_in (keystream_blocks VARIANT.family (lane self j)) h) }
+        ensures below { IsSameBefore at buffer.old buffer.new }
+        ensures above { IsSameFrom (at + RATE) buffer.old buffer.new };
 
-    /// The blocks that end the lanes: a row with two lengths in bits xored in (AEGIS, Finalize).
+    /// The blocks that end the lanes: one row with two lengths in bits xored in (AEGIS, Finalize).
     fn last_blocks(self, first_bits: u64, second_bits: u64) -> Self::Row
-        ensures { (j : ℕ) → j < LANES → Self.Row.block result j ≡ last_block FAMILY (lane self j) first_bits second_bits };
+        ensures { (j : ℕ) → j < VARIANT.lanes
+            → Self.Row.block result j
+            ≡ last_block VARIANT.family (lane self j) first_bits second_bits };
 
     /// The lanes after one update by these blocks, in each place of the input.
     fn end_update(self, last: Self::Row) -> Self
         requires { updates self + 1 < 2 ^ 64 }
-        ensures lanes { (j : ℕ) → j < LANES → lane result j ≡ step FAMILY (lane self j) (last_input FAMILY (Self.Row.block last j)) }
+        ensures lanes { (j : ℕ) → j < VARIANT.lanes
+            → lane result j
+            ≡ step VARIANT.family (lane self j)
+            (last_input VARIANT.family (Self.Row.block last j)) }
         ensures updates { updates result ≡ updates self + 1 };
 
     /// The lanes after their end: seven updates by the blocks that end them (AEGIS, Finalize).
     #[tactic(auto, unfolding(crate::specs::Lane::finish))]
     final fn finish(self, first_bits: u64, second_bits: u64) -> Self
         requires { updates self + 7 < 2 ^ 64 }
-        ensures lanes { (j : ℕ) → j < LANES → lane result j ≡ finish FAMILY (lane self j) first_bits second_bits }
+        ensures lanes { (j : ℕ) → j < VARIANT.lanes
+            → lane result j ≡ finish VARIANT.family (lane self j) first_bits second_bits }
         ensures updates { updates result ≡ updates self + 7 }
     {
         let last = self.last_blocks(first_bits, second_bits);
@@ -131,26 +140,31 @@ pub trait LaneState: Copy {
 
     /// The lanes' tags of 16 bytes (AEGIS, Finalize).
     fn short_tags(self) -> Self::Row
-        ensures { (j : ℕ) → j < LANES → Self.Row.block result j ≡ short_tag FAMILY (lane self j) };
+        ensures { (j : ℕ) → j < VARIANT.lanes
+            → Self.Row.block result j ≡ short_tag VARIANT.family (lane self j) };
 
     /// The low halves of the lanes' tags of 32 bytes.
     fn low_tags(self) -> Self::Row
-        ensures { (j : ℕ) → j < LANES → Self.Row.block result j ≡ low_tag FAMILY (lane self j) };
+        ensures { (j : ℕ) → j < VARIANT.lanes
+            → Self.Row.block result j ≡ low_tag VARIANT.family (lane self j) };
 
     /// The high halves of the lanes' tags of 32 bytes.
     fn high_tags(self) -> Self::Row
-        ensures { (j : ℕ) → j < LANES → Self.Row.block result j ≡ high_tag FAMILY (lane self j) };
+        ensures { (j : ℕ) → j < VARIANT.lanes
+            → Self.Row.block result j ≡ high_tag VARIANT.family (lane self j) };
 
     /// The tag of 16 bytes: the xor of the lanes' tags.
     final fn short_tag(self) -> AesBlock
-        ensures { result ≡ xor_lanes (λ j. lane_tag FAMILY 16 (lane self j)) LANES }
+        ensures { result ≡ xor_lanes (λ j. lane_tag VARIANT.family 16 (lane self j))
+            VARIANT.lanes }
     {
         self.short_tags().xor_of_lanes()
     }
 
     /// The halves of the tag of 32 bytes, low half first: the xor of the lanes' tags.
     final fn long_tag(self) -> (AesBlock, AesBlock)
-        ensures { result.0 ++ result.1 ≡ xor_lanes (λ j. lane_tag FAMILY 32 (lane self j)) LANES }
+        ensures { result.0 ++ result.1
+            ≡ xor_lanes (λ j. lane_tag VARIANT.family 32 (lane self j)) VARIANT.lanes }
     {
         (
             self.low_tags().xor_of_lanes(),
@@ -164,20 +178,25 @@ pub trait LaneState: Copy {
     fn short_fold_turn(self, tags: Self::Row, turn: usize) -> Self
         requires within { turn < SHORT_FOLD_TURNS }
         requires countable { updates self + 1 < 2 ^ 64 }
-        ensures first { lane result 0 ≡ short_fold_turn FAMILY (Self.Row.block tags) turn (lane self 0) }
+        ensures first { lane result 0
+            ≡ short_fold_turn VARIANT.family (Self.Row.block tags) turn (lane self 0) }
         ensures updates { updates result ≡ updates self + 1 };
 
     /// The lanes after two more blocks: one update by both in the family 128, and an update by each in the family 256.
     fn step_by_two(self, first: Self::Row, second: Self::Row) -> Self
         requires { updates self + 2 < 2 ^ 64 }
-        ensures lanes { (j : ℕ) → j < LANES
-            → lane result j ≡ step_by_two FAMILY (lane self j) (Self.Row.block first j) (Self.Row.block second j) }
+        ensures lanes { (j : ℕ) → j < VARIANT.lanes
+            → lane result j
+            ≡ step_by_two VARIANT.family (lane self j) (Self.Row.block first j)
+            (Self.Row.block second j) }
         ensures updates { updates result ≤ updates self + 2 };
 
     /// The lanes after the fold of the lanes' tags of 16 bytes into lane 0.
     final fn fold_short(self, tags: Self::Row) -> Self
         requires { updates self + 8 < 2 ^ 64 }
-        ensures first { lane result 0 ≡ fold_short FAMILY (Self.Row.block tags) (lane self 0) (short_fold_turns FAMILY LANES) }
+        ensures first { lane result 0
+            ≡ fold_short VARIANT.family (Self.Row.block tags) (lane self 0)
+            (short_fold_turns VARIANT.family VARIANT.lanes) }
         ensures updates { updates result ≤ updates self + 8 }
     {
         let mut state = self;
@@ -191,7 +210,9 @@ pub trait LaneState: Copy {
     /// half.
     final fn fold_long(self, low: Self::Row, high: Self::Row) -> Self
         requires { updates self + 8 < 2 ^ 64 }
-        ensures first { lane result 0 ≡ fold_long FAMILY (Self.Row.block low) (Self.Row.block high) (lane self 0) (LANES - 1) }
+        ensures first { lane result 0
+            ≡ fold_long VARIANT.family (Self.Row.block low) (Self.Row.block high) (lane self 0)
+            (VARIANT.lanes - 1) }
         ensures updates { updates result ≤ updates self + 8 }
     {
         let mut state = self;
@@ -207,7 +228,7 @@ pub trait LaneState: Copy {
     /// after the fold and a second end, with the number of lanes and the MAC's 128 bits.
     final fn short_mac_tag(self) -> AesBlock
         requires { updates self + 16 < 2 ^ 64 }
-        ensures { result ≡ mac_tag FAMILY LANES 16 (lane self) }
+        ensures { result ≡ mac_tag VARIANT 16 (lane self) }
     {
         let lanes = Self::Row::LANES;
         if lanes == 1 {
@@ -221,7 +242,7 @@ pub trait LaneState: Copy {
     /// The halves of the MAC of 32 bytes, low half first, where these are the lanes after their first end.
     final fn long_mac_tag(self) -> (AesBlock, AesBlock)
         requires { updates self + 16 < 2 ^ 64 }
-        ensures { result.0 ++ result.1 ≡ mac_tag FAMILY LANES 32 (lane self) }
+        ensures { result.0 ++ result.1 ≡ mac_tag VARIANT 32 (lane self) }
     {
         let lanes = Self::Row::LANES;
         if lanes == 1 {
@@ -235,13 +256,14 @@ pub trait LaneState: Copy {
         )
     }
 
-    ghost lanes_are: { LANES ≡ Self.Row.LANES };
+    ghost lanes_are: { VARIANT.lanes ≡ Self.Row.LANES };
 
-    ghost start_turns_are: { START_TURNS ≡ start_turns FAMILY };
+    ghost start_turns_are: { START_TURNS ≡ start_turns VARIANT.family };
 
-    ghost short_fold_turns_are: { SHORT_FOLD_TURNS ≡ short_fold_turns FAMILY LANES };
+    ghost short_fold_turns_are: { SHORT_FOLD_TURNS
+        ≡ short_fold_turns VARIANT.family VARIANT.lanes };
 
-    ghost one_two_or_four: { IsLaneCount LANES };
+    ghost one_two_or_four: { IsLaneCount VARIANT.lanes };
 
-    ghost rate_is: { RATE ≡ rate FAMILY LANES };
+    ghost rate_is: { RATE ≡ rate VARIANT };
 }

@@ -14,17 +14,17 @@ message_answer message ad rest =
 
 -- to a nonce and a key, of a variant whose nonces and keys have n bytes, and then the answer to the rest
 abbrev pub key_answer : ℕ → ℕ → ℕ → ℤ → ℤ
-key_answer n nonce key rest =
+key_answer n key nonce rest =
     if nonce == n then (if key == n then rest else WRONG_KEY_LENGTH) else WRONG_NONCE_LENGTH
 
 -- to the lengths that a keystream has to do with
-abbrev pub stream_answer : ℕ → ℕ → ℕ → ℤ
-stream_answer n nonce key = key_answer n nonce key DONE
+abbrev pub keystream_answer : ℕ → ℕ → ℕ → ℤ
+keystream_answer n key nonce = key_answer n key nonce DONE
 
 -- to the lengths that a message has to do with
 abbrev pub seal_answer : ℕ → ℕ → ℕ → ℕ → ℕ → ℕ → ℤ
-seal_answer n nonce key message ad tag = key_answer n nonce key (message_answer message ad (tag_answer tag))
+seal_answer n key nonce message ad tag = key_answer n key nonce (message_answer message ad (tag_answer tag))
 
 -- to the lengths that a MAC has to do with: as to a message without associated data
 abbrev pub mac_answer : ℕ → ℕ → ℕ → ℕ → ℕ → ℤ
-mac_answer n nonce key input mac = seal_answer n nonce key input 0 mac
+mac_answer n key nonce input mac = seal_answer n key nonce input 0 mac

@@ -1,9 +1,9 @@
 //! AEGIS-128X2.
 
 ghost use Rattle.std.specs.Prelude.{length};
-ghost use Rattle.aegis_base.specs.Family.{Aegis128};
-ghost use Rattle.aegis_base.specs.Message.{stream, xor_stream};
-ghost use Rattle.aegis_c.specs.Calls.{MakesMac, OpensOrErases, Seals, Streams, VerifiesMac};
+ghost use Rattle.aegis_base.specs.Variant.{Aegis128X2};
+ghost use Rattle.aegis_base.specs.Message.{keystream, xor_keystream};
+ghost use Rattle.aegis_c.specs.Calls.{MakesMac, OpensOrErases, Seals, WritesKeystream, VerifiesMac};
 
 use crate::answer::*;
 use crate::calls::*;
@@ -18,7 +18,7 @@ pub extern "C" fn hunkravy_aegis128x2_encrypt_in_place_nonnull(
     k: &[u8],
     mac: &mut [u8],
 ) -> i32
-    ensures { Seals Aegis128 2 16 npub.now k.now ad.now mc.old mc.new mac.old mac.new result }
+    ensures { Seals Aegis128X2 16 k.now npub.now ad.now mc.old mc.new mac.old mac.new result }
 {
     encrypt_in_place!(Aegis128X2, mc, ad, npub, k, mac)
 }
@@ -32,7 +32,7 @@ pub extern "C" fn hunkravy_aegis128x2_decrypt_in_place_nonnull(
     k: &[u8],
     mac: &[u8],
 ) -> i32
-    ensures { OpensOrErases Aegis128 2 16 npub.now k.now ad.now mc.old mc.new mac.now result }
+    ensures { OpensOrErases Aegis128X2 16 k.now npub.now ad.now mc.old mc.new mac.now result }
 {
     decrypt_in_place!(Aegis128X2, mc, ad, npub, k, mac)
 }
@@ -40,7 +40,8 @@ pub extern "C" fn hunkravy_aegis128x2_decrypt_in_place_nonnull(
 /// Writes keystream to `out`, whatever was there.
 #[unsafe(no_mangle)]
 pub extern "C" fn hunkravy_aegis128x2_stream_nonnull(out: &mut [u8], npub: &[u8], k: &[u8]) -> i32
-    ensures { Streams 16 npub.now k.now out.old out.new (stream Aegis128 2 k.now npub.now (length out.old)) result }
+    ensures { WritesKeystream 16 k.now npub.now out.old out.new
+        (keystream Aegis128X2 k.now npub.now (length out.old)) result }
 {
     stream!(Aegis128X2, stream, out, npub, k)
 }
@@ -52,7 +53,8 @@ pub extern "C" fn hunkravy_aegis128x2_stream_xor_in_place_nonnull(
     npub: &[u8],
     k: &[u8],
 ) -> i32
-    ensures { Streams 16 npub.now k.now mc.old mc.new (xor_stream Aegis128 2 k.now npub.now mc.old) result }
+    ensures { WritesKeystream 16 k.now npub.now mc.old mc.new
+        (xor_keystream Aegis128X2 k.now npub.now mc.old) result }
 {
     stream!(Aegis128X2, stream_xor_in_place, mc, npub, k)
 }
@@ -65,7 +67,7 @@ pub extern "C" fn hunkravy_aegis128x2_mac_nonnull(
     k: &[u8],
     mac: &mut [u8],
 ) -> i32
-    ensures { MakesMac Aegis128 2 16 npub.now k.now input.now mac.old mac.new result }
+    ensures { MakesMac Aegis128X2 16 k.now npub.now input.now mac.old mac.new result }
 {
     mac!(Aegis128X2Mac, input, npub, k, mac)
 }
@@ -78,7 +80,7 @@ pub extern "C" fn hunkravy_aegis128x2_mac_verify_nonnull(
     k: &[u8],
     mac: &[u8],
 ) -> i32
-    ensures { VerifiesMac Aegis128 2 16 npub.now k.now input.now mac.now result }
+    ensures { VerifiesMac Aegis128X2 16 k.now npub.now input.now mac.now result }
 {
     mac_verify!(Aegis128X2Mac, input, npub, k, mac)
 }

@@ -1,9 +1,9 @@
 //! AEGIS-256.
 
 ghost use Rattle.std.specs.Prelude.{length};
-ghost use Rattle.aegis_base.specs.Family.{Aegis256};
-ghost use Rattle.aegis_base.specs.Message.{stream, xor_stream};
-ghost use Rattle.aegis_c.specs.Calls.{MakesMac, OpensOrErases, Seals, Streams, VerifiesMac};
+ghost use Rattle.aegis_base.specs.Variant.{Aegis256};
+ghost use Rattle.aegis_base.specs.Message.{keystream, xor_keystream};
+ghost use Rattle.aegis_c.specs.Calls.{MakesMac, OpensOrErases, Seals, WritesKeystream, VerifiesMac};
 
 use crate::answer::*;
 use crate::calls::*;
@@ -18,7 +18,7 @@ pub extern "C" fn hunkravy_aegis256_encrypt_in_place_nonnull(
     k: &[u8],
     mac: &mut [u8],
 ) -> i32
-    ensures { Seals Aegis256 1 32 npub.now k.now ad.now mc.old mc.new mac.old mac.new result }
+    ensures { Seals Aegis256 32 k.now npub.now ad.now mc.old mc.new mac.old mac.new result }
 {
     encrypt_in_place!(Aegis256, mc, ad, npub, k, mac)
 }
@@ -32,7 +32,7 @@ pub extern "C" fn hunkravy_aegis256_decrypt_in_place_nonnull(
     k: &[u8],
     mac: &[u8],
 ) -> i32
-    ensures { OpensOrErases Aegis256 1 32 npub.now k.now ad.now mc.old mc.new mac.now result }
+    ensures { OpensOrErases Aegis256 32 k.now npub.now ad.now mc.old mc.new mac.now result }
 {
     decrypt_in_place!(Aegis256, mc, ad, npub, k, mac)
 }
@@ -40,7 +40,8 @@ pub extern "C" fn hunkravy_aegis256_decrypt_in_place_nonnull(
 /// Writes keystream to `out`, whatever was there.
 #[unsafe(no_mangle)]
 pub extern "C" fn hunkravy_aegis256_stream_nonnull(out: &mut [u8], npub: &[u8], k: &[u8]) -> i32
-    ensures { Streams 32 npub.now k.now out.old out.new (stream Aegis256 1 k.now npub.now (length out.old)) result }
+    ensures { WritesKeystream 32 k.now npub.now out.old out.new
+        (keystream Aegis256 k.now npub.now (length out.old)) result }
 {
     stream!(Aegis256, stream, out, npub, k)
 }
@@ -52,7 +53,8 @@ pub extern "C" fn hunkravy_aegis256_stream_xor_in_place_nonnull(
     npub: &[u8],
     k: &[u8],
 ) -> i32
-    ensures { Streams 32 npub.now k.now mc.old mc.new (xor_stream Aegis256 1 k.now npub.now mc.old) result }
+    ensures { WritesKeystream 32 k.now npub.now mc.old mc.new
+        (xor_keystream Aegis256 k.now npub.now mc.old) result }
 {
     stream!(Aegis256, stream_xor_in_place, mc, npub, k)
 }
@@ -65,7 +67,7 @@ pub extern "C" fn hunkravy_aegis256_mac_nonnull(
     k: &[u8],
     mac: &mut [u8],
 ) -> i32
-    ensures { MakesMac Aegis256 1 32 npub.now k.now input.now mac.old mac.new result }
+    ensures { MakesMac Aegis256 32 k.now npub.now input.now mac.old mac.new result }
 {
     mac!(Aegis256Mac, input, npub, k, mac)
 }
@@ -78,7 +80,7 @@ pub extern "C" fn hunkravy_aegis256_mac_verify_nonnull(
     k: &[u8],
     mac: &[u8],
 ) -> i32
-    ensures { VerifiesMac Aegis256 1 32 npub.now k.now input.now mac.now result }
+    ensures { VerifiesMac Aegis256 32 k.now npub.now input.now mac.now result }
 {
     mac_verify!(Aegis256Mac, input, npub, k, mac)
 }

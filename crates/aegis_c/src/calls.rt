@@ -15,8 +15,10 @@ pub fn nonce_and_key<'a, const N: usize>(
 ) -> Result<(&'a [u8; N], &'a [u8; N]), i32>
     ensures nonce { IfOk result (λ keys. keys.0.now ≡ npub.now) }
     ensures key { IfOk result (λ keys. keys.1.now ≡ k.now) }
-    ensures right { IfOk result (λ keys. (rest : ℤ) → key_answer N (length npub.now) (length k.now) rest ≡ rest) }
-    ensures wrong { IfErr result (λ answer. (rest : ℤ) → key_answer N (length npub.now) (length k.now) rest ≡ answer) }
+    ensures right { IfOk result (λ keys. (rest : ℤ)
+        → key_answer N (length k.now) (length npub.now) rest ≡ rest) }
+    ensures wrong { IfErr result (λ answer. (rest : ℤ)
+        → key_answer N (length k.now) (length npub.now) rest ≡ answer) }
     ensures not_done { IfErr result (λ answer. answer ≢ DONE) }
     ensures not_invalid { IfErr result (λ answer. answer ≢ INVALID_TAG) }
 {
@@ -41,8 +43,12 @@ pub fn message_keys<'a, const N: usize>(
     ensures key { IfOk result (λ keys. keys.1.now ≡ k.now) }
     ensures message { IfOk result (λ keys. message ≤ MAX_AEAD_BYTES) }
     ensures ad { IfOk result (λ keys. ad ≤ MAX_AEAD_BYTES) }
-    ensures right { IfOk result (λ keys. (rest : ℤ) → key_answer N (length npub.now) (length k.now) (message_answer message ad rest) ≡ rest) }
-    ensures wrong { IfErr result (λ answer. (rest : ℤ) → key_answer N (length npub.now) (length k.now) (message_answer message ad rest) ≡ answer) }
+    ensures right { IfOk result (λ keys. (rest : ℤ)
+        → key_answer N (length k.now) (length npub.now) (message_answer message ad rest)
+        ≡ rest) }
+    ensures wrong { IfErr result (λ answer. (rest : ℤ)
+        → key_answer N (length k.now) (length npub.now) (message_answer message ad rest)
+        ≡ answer) }
     ensures not_done { IfErr result (λ answer. answer ≢ DONE) }
     ensures not_invalid { IfErr result (λ answer. answer ≢ INVALID_TAG) }
 {

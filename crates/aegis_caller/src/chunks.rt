@@ -2,7 +2,7 @@
 
 ghost use Rattle.std.specs.Prelude.{◌≡◌, ◌+◌, ◌≤◌, ◌++◌, [], IsOk, List, length, replicate, ℕ};
 ghost use Rattle.aegis_base.specs.Chunks.{joined};
-ghost use Rattle.aegis_base.specs.Family.{Aegis128, Aegis256};
+ghost use Rattle.aegis_base.specs.Variant.{Aegis128L, Aegis128X2, Aegis256X4};
 ghost use Rattle.aegis_base.specs.Mac.{mac};
 ghost use Rattle.aegis_base.specs.Message.{ciphertext, seal, tag};
 
@@ -21,7 +21,8 @@ pub fn seal_two(
 ) -> [u8; 16]
     requires message_within { length first.old + length second.old ≤ MAX_AEAD_BYTES }
     requires associated_data_within { length associated_data.now ≤ MAX_AEAD_BYTES }
-    ensures { (first.new ++ second.new, result) ≡ seal Aegis128 1 16 key.now nonce.now associated_data.now (first.old ++ second.old) }
+    ensures { (first.new ++ second.new, result)
+        ≡ seal Aegis128L 16 key.now nonce.now associated_data.now (first.old ++ second.old) }
 {
     let mut encryptor = Aegis128L::<16>::new(key, nonce).encryptor(associated_data);
     encryptor.update_in_place(first);
@@ -44,7 +45,8 @@ pub fn seal_two_into(
     requires associated_data_within { length associated_data.now ≤ MAX_AEAD_BYTES }
     requires first_length { length out.old ≡ length first.now }
     requires second_length { length more.old ≡ length second.now }
-    ensures { (out.new ++ more.new, result) ≡ seal Aegis128 2 32 key.now nonce.now associated_data.now (first.now ++ second.now) }
+    ensures { (out.new ++ more.new, result)
+        ≡ seal Aegis128X2 32 key.now nonce.now associated_data.now (first.now ++ second.now) }
 {
     let mut encryptor = Aegis128X2::<32>::new(key, nonce).encryptor(associated_data);
     encryptor.update(first, out);
@@ -73,7 +75,7 @@ pub fn cut_changes_no_tag(
 
 /// Seals an empty chunk only: the message is empty.
 pub fn seal_nothing(key: &[u8; 16], nonce: &[u8; 16]) -> [u8; 16]
-    ensures { result ≡ tag Aegis128 1 16 key.now nonce.now [] [] }
+    ensures { result ≡ tag Aegis128L 16 key.now nonce.now [] [] }
 {
     let mut encryptor = Aegis128L::<16>::new(key, nonce).encryptor(&[]);
     encryptor.update_in_place(&mut []);
@@ -91,7 +93,8 @@ pub fn seal_list(
     requires lengths { length out.old ≡ length (joined chunks.now) }
     requires message_within { length out.old ≤ MAX_AEAD_BYTES }
     requires associated_data_within { length associated_data.now ≤ MAX_AEAD_BYTES }
-    ensures { (out.new, result) ≡ seal Aegis256 4 32 key.now nonce.now associated_data.now (joined chunks.now) }
+    ensures { (out.new, result)
+        ≡ seal Aegis256X4 32 key.now nonce.now associated_data.now (joined chunks.now) }
 {
     Aegis256X4::<32>::new(key, nonce).seal_chunks(associated_data, chunks, out)
 }
@@ -99,7 +102,7 @@ pub fn seal_list(
 /// The MAC of an input that comes in two pieces.
 pub fn mac_two(key: &[u8; 16], first: &[u8], second: &[u8]) -> [u8; 16]
     requires { length first.now + length second.now ≤ MAX_AEAD_BYTES }
-    ensures { result ≡ mac Aegis128 1 16 key.now (replicate 16 0) (first.now ++ second.now) }
+    ensures { result ≡ mac Aegis128L 16 key.now (replicate 16 0) (first.now ++ second.now) }
 {
     let mut mac = Aegis128LMac::<16>::new(key);
     mac.update(first);
@@ -115,7 +118,7 @@ pub fn has_mac(
     expected: &[u8; 32],
 ) -> Result<(), Error>
     requires { length input.now ≤ MAX_AEAD_BYTES }
-    ensures { expected.now ≡ mac Aegis256 4 32 key.now nonce.now input.now → IsOk result }
+    ensures { expected.now ≡ mac Aegis256X4 32 key.now nonce.now input.now → IsOk result }
 {
     let mut mac = Aegis256X4Mac::<32>::new_with_nonce(key, nonce);
     mac.update(input);
@@ -125,7 +128,7 @@ pub fn has_mac(
 /// The MAC of a list of chunks.
 pub fn mac_list(key: &[u8; 32], nonce: &[u8; 32], chunks: &[&[u8]]) -> [u8; 16]
     requires { length (joined chunks.now) ≤ MAX_AEAD_BYTES }
-    ensures { result ≡ mac Aegis256 4 16 key.now nonce.now (joined chunks.now) }
+    ensures { result ≡ mac Aegis256X4 16 key.now nonce.now (joined chunks.now) }
 {
     Aegis256X4Mac::<16>::new_with_nonce(key, nonce).finalize_chunks(chunks)
 }

@@ -2,7 +2,7 @@
 
 ghost use Rattle.std.specs.Prelude.{◌≡◌, ◌≤◌, IsOk, length};
 ghost use Rattle.std.specs.Int.{to_le_bytes, w64};
-ghost use Rattle.aegis_base.specs.Family.{Aegis256};
+ghost use Rattle.aegis_base.specs.Variant.{Aegis256X2};
 ghost use Rattle.aegis_base.specs.Message.{seal};
 
 use aegis::MAX_AEAD_BYTES;
@@ -14,17 +14,19 @@ pub struct BlockHeader {
     pub tag: Tag<16>,
 }
 
-/// Seals block `number`, which is its associated data, so that no block opens in another's place.
+/// Seals block `number`, whose number is its associated data.
 pub fn write_block(key: &Key, number: u64, nonce: &Nonce, block: &mut [u8]) -> BlockHeader
     requires { length block.old ≤ MAX_AEAD_BYTES }
     ensures nonce { result.nonce ≡ nonce.now }
-    ensures sealed { (block.new, result.tag) ≡ seal Aegis256 2 16 key.now nonce.now (to_le_bytes w64 number) block.old }
+    ensures sealed { (block.new, result.tag)
+        ≡ seal Aegis256X2 16 key.now nonce.now (to_le_bytes w64 number) block.old }
 {
     let tag = Aegis256X2::new(key, nonce).encrypt_in_place(block, &number.to_le_bytes());
     BlockHeader { nonce: *nonce, tag }
 }
 
-/// Opens block `number` of the file.
+/// Opens block `number` of the file: the block is then the one whose sealing under this key, nonce and number gives
+/// these bytes.
 pub fn read_block(
     key: &Key,
     number: u64,
@@ -32,7 +34,9 @@ pub fn read_block(
     block: &mut [u8],
 ) -> Result<(), Error>
     requires { length block.old ≤ MAX_AEAD_BYTES }
-    ensures { IsOk result → (block.old, header.now.tag) ≡ seal Aegis256 2 16 key.now header.now.nonce (to_le_bytes w64 number) block.new }
+    ensures { IsOk result
+        → (block.old, header.now.tag)
+        ≡ seal Aegis256X2 16 key.now header.now.nonce (to_le_bytes w64 number) block.new }
 {
     Aegis256X2::new(key, &header.nonce).decrypt_in_place(block, &header.tag, &number.to_le_bytes())
 }

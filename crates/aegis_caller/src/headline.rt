@@ -1,8 +1,8 @@
 //! What is sealed in any chunks opens in any others, and with no other tag.
 
-ghost use Rattle.std.specs.Prelude.{◌≡◌, ◌≢◌, ◌≤◌, ◌++◌, IfOk, IsErr, IsOk, List, drop, length, replicate, take, ℕ};
-ghost use Rattle.aegis_base.specs.Chunks.{accepted, joined};
-ghost use Rattle.aegis_base.specs.Family.{Aegis256};
+ghost use Rattle.std.specs.Prelude.{◌≡◌, ◌≢◌, ◌≤◌, ◌++◌, IfOk, IsErr, IsOk, List, length, take, ℕ};
+ghost use Rattle.aegis_base.specs.Chunks.{accepted, erased, joined};
+ghost use Rattle.aegis_base.specs.Variant.{Aegis256};
 ghost use Rattle.aegis_base.specs.Message.{seal};
 
 use aegis::MAX_AEAD_BYTES;
@@ -48,10 +48,12 @@ pub fn open_with_another_tag(
     requires associated_data_within { length associated_data.now ≤ MAX_AEAD_BYTES }
     requires message_within { length sealed.now ≤ MAX_AEAD_BYTES }
     requires room { length sealed.now ≤ length destination.old }
-    requires sealed { (seal Aegis256 1 32 key.now nonce.now associated_data.now (joined chunks.now)).0 ≡ sealed.now }
-    requires another_tag { (seal Aegis256 1 32 key.now nonce.now associated_data.now (joined chunks.now)).1 ≢ tag.now }
+    requires sealed { (seal Aegis256 32 key.now nonce.now associated_data.now
+        (joined chunks.now)).0 ≡ sealed.now }
+    requires another_tag { (seal Aegis256 32 key.now nonce.now associated_data.now
+        (joined chunks.now)).1 ≢ tag.now }
     ensures refused { result ≡ Err Error.InvalidTag }
-    ensures erased { destination.new ≡ replicate (length sealed.now) 0 ++ drop (length sealed.now) destination.old }
+    ensures erased { destination.new ≡ erased (length sealed.now) destination.old }
 {
     let cipher = Aegis256::<32>::new(key, nonce);
     let mut decryptor = cipher.decryptor(associated_data, destination);
@@ -70,7 +72,8 @@ pub fn open_from_other_chunks(
     destination: &mut [u8],
 ) -> Result<usize, Error>
     requires associated_data_within { length associated_data.now ≤ MAX_AEAD_BYTES }
-    requires sealed { (accepted (length destination.old) pieces.now, tag.now) ≡ seal Aegis256 1 32 key.now nonce.now associated_data.now (joined chunks.now) }
+    requires sealed { (accepted (length destination.old) pieces.now, tag.now)
+        ≡ seal Aegis256 32 key.now nonce.now associated_data.now (joined chunks.now) }
     ensures { result ≡ Ok (length (joined chunks.now)) }
 {
     let message = Aegis256::<32>::new(key, nonce).open_chunks(

@@ -12,8 +12,8 @@ pub mod session_token;
 pub mod stored_value;
 
 ghost use Rattle.std.specs.Prelude.{◌≡◌, ◌≤◌, IfOk, IsOk, List, OnErr, OnOk, length, replicate, ℕ};
-ghost use Rattle.aegis_base.specs.Family.{Aegis128, Aegis256};
-ghost use Rattle.aegis_base.specs.Message.{Opens, seal, stream, xor_stream};
+ghost use Rattle.aegis_base.specs.Variant.{Aegis128L, Aegis128X2, Aegis128X4, Aegis256, Aegis256X2, Aegis256X4};
+ghost use Rattle.aegis_base.specs.Message.{Opens, seal, keystream, xor_keystream};
 
 use aegis::aegis128l::{Aegis128L, Error, Tag};
 use aegis::aegis128x2::Aegis128X2;
@@ -33,7 +33,8 @@ pub fn seal_aegis128l(
 ) -> [u8; 32]
     requires message_within { length message.old ≤ MAX_AEAD_BYTES }
     requires associated_data_within { length associated_data.now ≤ MAX_AEAD_BYTES }
-    ensures { (message.new, result) ≡ seal Aegis128 1 32 key.now nonce.now associated_data.now message.old }
+    ensures { (message.new, result)
+        ≡ seal Aegis128L 32 key.now nonce.now associated_data.now message.old }
 {
     Aegis128L::<32>::new(key, nonce).encrypt_in_place(message, associated_data)
 }
@@ -47,7 +48,8 @@ pub fn seal_aegis128x2(
 ) -> [u8; 32]
     requires message_within { length message.old ≤ MAX_AEAD_BYTES }
     requires associated_data_within { length associated_data.now ≤ MAX_AEAD_BYTES }
-    ensures { (message.new, result) ≡ seal Aegis128 2 32 key.now nonce.now associated_data.now message.old }
+    ensures { (message.new, result)
+        ≡ seal Aegis128X2 32 key.now nonce.now associated_data.now message.old }
 {
     Aegis128X2::<32>::new(key, nonce).encrypt_in_place(message, associated_data)
 }
@@ -61,7 +63,8 @@ pub fn seal_aegis128x4(
 ) -> [u8; 32]
     requires message_within { length message.old ≤ MAX_AEAD_BYTES }
     requires associated_data_within { length associated_data.now ≤ MAX_AEAD_BYTES }
-    ensures { (message.new, result) ≡ seal Aegis128 4 32 key.now nonce.now associated_data.now message.old }
+    ensures { (message.new, result)
+        ≡ seal Aegis128X4 32 key.now nonce.now associated_data.now message.old }
 {
     Aegis128X4::<32>::new(key, nonce).encrypt_in_place(message, associated_data)
 }
@@ -75,7 +78,8 @@ pub fn seal_aegis256(
 ) -> [u8; 32]
     requires message_within { length message.old ≤ MAX_AEAD_BYTES }
     requires associated_data_within { length associated_data.now ≤ MAX_AEAD_BYTES }
-    ensures { (message.new, result) ≡ seal Aegis256 1 32 key.now nonce.now associated_data.now message.old }
+    ensures { (message.new, result)
+        ≡ seal Aegis256 32 key.now nonce.now associated_data.now message.old }
 {
     Aegis256::<32>::new(key, nonce).encrypt_in_place(message, associated_data)
 }
@@ -89,7 +93,8 @@ pub fn seal_aegis256x2(
 ) -> [u8; 32]
     requires message_within { length message.old ≤ MAX_AEAD_BYTES }
     requires associated_data_within { length associated_data.now ≤ MAX_AEAD_BYTES }
-    ensures { (message.new, result) ≡ seal Aegis256 2 32 key.now nonce.now associated_data.now message.old }
+    ensures { (message.new, result)
+        ≡ seal Aegis256X2 32 key.now nonce.now associated_data.now message.old }
 {
     Aegis256X2::<32>::new(key, nonce).encrypt_in_place(message, associated_data)
 }
@@ -103,7 +108,8 @@ pub fn seal_aegis256x4(
 ) -> [u8; 32]
     requires message_within { length message.old ≤ MAX_AEAD_BYTES }
     requires associated_data_within { length associated_data.now ≤ MAX_AEAD_BYTES }
-    ensures { (message.new, result) ≡ seal Aegis256 4 32 key.now nonce.now associated_data.now message.old }
+    ensures { (message.new, result)
+        ≡ seal Aegis256X4 32 key.now nonce.now associated_data.now message.old }
 {
     Aegis256X4::<32>::new(key, nonce).encrypt_in_place(message, associated_data)
 }
@@ -119,8 +125,11 @@ pub fn open(
 ) -> Result<(), Error>
     requires message_within { length buffer.old ≤ MAX_AEAD_BYTES }
     requires associated_data_within { length associated_data.now ≤ MAX_AEAD_BYTES }
-    ensures opened { OnOk result (Opens Aegis128 1 16 key.now nonce.now associated_data.now buffer.old tag.now buffer.new) }
-    ensures accepted { (m : List ℕ) → Opens Aegis128 1 16 key.now nonce.now associated_data.now buffer.old tag.now m → IsOk result }
+    ensures opened { OnOk result
+        (Opens Aegis128L 16 key.now nonce.now associated_data.now buffer.old tag.now buffer.new) }
+    ensures accepted { (m : List ℕ)
+        → Opens Aegis128L 16 key.now nonce.now associated_data.now buffer.old tag.now m
+        → IsOk result }
     ensures erased { OnErr result (buffer.new ≡ replicate (length buffer.old) ERASED) }
 {
     Aegis128L::<16>::new(key, nonce).decrypt_in_place(buffer, tag, associated_data)
@@ -152,7 +161,8 @@ pub fn seal_to_vec<A: Allocator>(
 ) -> Result<(Vec<u8, A>, [u8; 16]), Error>
     requires message_within { length message.now ≤ MAX_AEAD_BYTES }
     requires associated_data_within { length associated_data.now ≤ MAX_AEAD_BYTES }
-    ensures { IfOk result (λ sealed. (sealed.0.items, sealed.1) ≡ seal Aegis256 1 16 key.now nonce.now associated_data.now message.now) }
+    ensures { IfOk result (λ sealed. (sealed.0.items, sealed.1)
+        ≡ seal Aegis256 16 key.now nonce.now associated_data.now message.now) }
 {
     let (ciphertext, tag) = Aegis256::<16>::new(key, nonce).encrypt(
         alloc,
@@ -173,7 +183,9 @@ pub fn open_to_vec<A: Allocator>(
 ) -> Result<Vec<u8, A>, Error>
     requires message_within { length ciphertext.now ≤ MAX_AEAD_BYTES }
     requires associated_data_within { length associated_data.now ≤ MAX_AEAD_BYTES }
-    ensures { IfOk result (λ message. Opens Aegis256 1 16 key.now nonce.now associated_data.now ciphertext.now tag.now message.items) }
+    ensures { IfOk result
+        (λ message. Opens Aegis256 16 key.now nonce.now associated_data.now
+        ciphertext.now tag.now message.items) }
 {
     let message = Aegis256::<16>::new(key, nonce).decrypt(alloc, ciphertext, tag, associated_data)?;
     Ok(message)
@@ -199,14 +211,14 @@ pub fn sealed_and_opened_to_vec<A: Allocator + Copy>(
 
 /// Fills a buffer with the keystream.
 pub fn keystream(key: &[u8; 16], nonce: &[u8; 16], out: &mut [u8])
-    ensures { out.new ≡ stream Aegis128 4 key.now nonce.now (length out.old) }
+    ensures { out.new ≡ keystream Aegis128X4 key.now nonce.now (length out.old) }
 {
     Aegis128X4::<16>::new(key, nonce).stream(out)
 }
 
 /// Xors a message with the keystream.
 pub fn xor_keystream(key: &[u8; 16], nonce: &[u8; 16], message: &mut [u8])
-    ensures { message.new ≡ xor_stream Aegis128 4 key.now nonce.now message.old }
+    ensures { message.new ≡ xor_keystream Aegis128X4 key.now nonce.now message.old }
 {
     Aegis128X4::<16>::new(key, nonce).stream_xor_in_place(message)
 }

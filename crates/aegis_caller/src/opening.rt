@@ -1,8 +1,8 @@
 //! Opening in chunks: into a destination that is borrowed for the whole message.
 
-ghost use Rattle.std.specs.Prelude.{◌≡◌, ℕ, ◌+◌, ◌<◌, ◌≤◌, ◌++◌, IfErr, IfOk, IsOk, List, OnErr, OnOk, [], drop, length, replicate, take};
-ghost use Rattle.aegis_base.specs.Chunks.{accepted};
-ghost use Rattle.aegis_base.specs.Family.{Aegis128};
+ghost use Rattle.std.specs.Prelude.{◌≡◌, ℕ, ◌+◌, ◌<◌, ◌≤◌, ◌++◌, IfErr, IfOk, IsOk, List, OnErr, OnOk, [], length, take};
+ghost use Rattle.aegis_base.specs.Chunks.{accepted, erased};
+ghost use Rattle.aegis_base.specs.Variant.{Aegis128L};
 ghost use Rattle.aegis_base.specs.Message.{Opens};
 
 use aegis::MAX_AEAD_BYTES;
@@ -22,9 +22,14 @@ pub fn open_two_chunks(
     requires message_within { length first.now + length second.now ≤ MAX_AEAD_BYTES }
     requires room { length first.now + length second.now ≤ length message.old }
     ensures length { OnOk result (result ≡ Ok (length first.now + length second.now)) }
-    ensures opened { OnOk result (Opens Aegis128 1 16 key.now nonce.now associated_data.now (first.now ++ second.now) tag.now (take (length first.now + length second.now) message.new)) }
-    ensures accepted { (m : List ℕ) → Opens Aegis128 1 16 key.now nonce.now associated_data.now (first.now ++ second.now) tag.now m → IsOk result }
-    ensures erased { OnErr result (message.new ≡ replicate (length first.now + length second.now) 0 ++ drop (length first.now + length second.now) message.old) }
+    ensures opened { OnOk result
+        (Opens Aegis128L 16 key.now nonce.now associated_data.now (first.now ++ second.now) tag.now
+        (take (length first.now + length second.now) message.new)) }
+    ensures accepted { (m : List ℕ)
+        → Opens Aegis128L 16 key.now nonce.now associated_data.now
+        (first.now ++ second.now) tag.now m → IsOk result }
+    ensures erased { OnErr result
+        (message.new ≡ erased (length first.now + length second.now) message.old) }
 {
     let cipher = Aegis128L::<16>::new(key, nonce);
     let mut decryptor = cipher.decryptor(associated_data, message);
@@ -37,7 +42,7 @@ pub fn open_two_chunks(
 pub fn drop_early(key: &[u8; 16], nonce: &[u8; 16], chunk: &[u8], message: &mut [u8])
     requires message_within { length chunk.now ≤ MAX_AEAD_BYTES }
     requires room { length chunk.now ≤ length message.old }
-    ensures { message.new ≡ replicate (length chunk.now) 0 ++ drop (length chunk.now) message.old }
+    ensures { message.new ≡ erased (length chunk.now) message.old }
 {
     let cipher = Aegis128L::<16>::new(key, nonce);
     let mut decryptor = cipher.decryptor(&[], message);
@@ -60,7 +65,7 @@ pub fn refuse_a_long_chunk(
     decryptor.update(chunk)
 }
 
-/// Opens a list of chunks and answers the message's length.
+/// Opens a list of chunks and returns the message's length.
 pub fn open_in_one_call(
     key: &[u8; 16],
     nonce: &[u8; 16],
@@ -70,7 +75,9 @@ pub fn open_in_one_call(
     message: &mut [u8],
 ) -> Result<usize, Error>
     requires { length associated_data.now ≤ MAX_AEAD_BYTES }
-    ensures accepted { (m : List ℕ) → Opens Aegis128 1 16 key.now nonce.now associated_data.now (accepted (length message.old) chunks.now) tag.now m → result ≡ Ok (length m) }
+    ensures accepted { (m : List ℕ)
+        → Opens Aegis128L 16 key.now nonce.now associated_data.now
+        (accepted (length message.old) chunks.now) tag.now m → result ≡ Ok (length m) }
     ensures error { IfErr result (λ e. e ≡ Error.InvalidTag) }
 {
     let opened = Aegis128L::<16>::new(key, nonce).open_chunks(
@@ -82,7 +89,32 @@ pub fn open_in_one_call(
     Ok(opened.len())
 }
 
-/// Opens a message that is one chunk, and answers the length of what is handed out.
+/// Opens a list of chunks in a buffer that is used again after a refusal: zeros then stand over the chunks that were kept,
+/// and the rest is as it was.
+pub fn open_list_or_erase(
+    key: &[u8; 16],
+    nonce: &[u8; 16],
+    associated_data: &[u8],
+    chunks: &[&[u8]],
+    tag: &[u8; 16],
+    buffer: &mut [u8],
+) -> Result<usize, Error>
+    requires { length associated_data.now ≤ MAX_AEAD_BYTES }
+    ensures opened { OnOk result
+        (Opens Aegis128L 16 key.now nonce.now associated_data.now
+        (accepted (length buffer.old) chunks.now) tag.now
+        (take (length (accepted (length buffer.old) chunks.now)) buffer.new)) }
+    ensures accepted { (m : List ℕ)
+        → Opens Aegis128L 16 key.now nonce.now associated_data.now
+        (accepted (length buffer.old) chunks.now) tag.now m → IsOk result }
+    ensures erased { OnErr result
+        (buffer.new ≡ erased (length (accepted (length buffer.old) chunks.now)) buffer.old) }
+{
+    let cipher = Aegis128L::<16>::new(key, nonce);
+    cipher.open_chunks_len(associated_data, chunks, tag, buffer)
+}
+
+/// Opens a message that is one chunk, and returns the length of what is handed out.
 pub fn open_one_chunk(
     key: &[u8; 16],
     nonce: &[u8; 16],
@@ -92,7 +124,9 @@ pub fn open_one_chunk(
 ) -> Result<usize, Error>
     requires message_within { length chunk.now ≤ MAX_AEAD_BYTES }
     requires room { length chunk.now ≤ length message.old }
-    ensures accepted { (m : List ℕ) → Opens Aegis128 1 16 key.now nonce.now [] chunk.now tag.now m → result ≡ Ok (length chunk.now) }
+    ensures accepted { (m : List ℕ)
+        → Opens Aegis128L 16 key.now nonce.now [] chunk.now tag.now m
+        → result ≡ Ok (length chunk.now) }
     ensures error { IfErr result (λ e. e ≡ Error.InvalidTag) }
 {
     let mut decryptor = Aegis128L::<16>::new(key, nonce).decryptor(&[], message);

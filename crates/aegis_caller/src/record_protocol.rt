@@ -2,7 +2,7 @@
 
 ghost use Rattle.std.specs.Prelude.{◌≡◌, ◌≤◌, ◌++◌, IsOk, length};
 ghost use Rattle.std.specs.Int.{to_le_bytes, w64};
-ghost use Rattle.aegis_base.specs.Family.{Aegis256};
+ghost use Rattle.aegis_base.specs.Variant.{Aegis256};
 ghost use Rattle.aegis_base.specs.Message.{seal};
 
 use aegis::MAX_AEAD_BYTES;
@@ -29,12 +29,15 @@ impl Session {
     pub fn send(&self, number: u64, header: &[u8], message: &mut [u8]) -> Tag<32>
         requires header_within { length header.now ≤ MAX_AEAD_BYTES }
         requires message_within { length message.old ≤ MAX_AEAD_BYTES }
-        ensures { (message.new, result) ≡ seal Aegis256 1 32 self.now.key (self.now.prefix ++ to_le_bytes w64 number) header.now message.old }
+        ensures { (message.new, result)
+            ≡ seal Aegis256 32 self.now.key (self.now.prefix
+            ++ to_le_bytes w64 number) header.now message.old }
     {
         Aegis256::<32>::new(&self.key, &self.nonce(number)).encrypt_in_place(message, header)
     }
 
-    /// Opens what was received as record `number`: it is what `send` was given, if anything is.
+    /// Opens what was received as record `number`: the message is then the one whose sealing under this key, nonce and
+    /// header gives these bytes.
     pub fn receive(
         &self,
         number: u64,
@@ -44,7 +47,10 @@ impl Session {
     ) -> Result<(), Error>
         requires header_within { length header.now ≤ MAX_AEAD_BYTES }
         requires message_within { length message.old ≤ MAX_AEAD_BYTES }
-        ensures sent { IsOk result → (message.old, tag.now) ≡ seal Aegis256 1 32 self.now.key (self.now.prefix ++ to_le_bytes w64 number) header.now message.new }
+        ensures sent { IsOk result
+            → (message.old, tag.now)
+            ≡ seal Aegis256 32 self.now.key (self.now.prefix
+            ++ to_le_bytes w64 number) header.now message.new }
     {
         Aegis256::<32>::new(&self.key, &self.nonce(number)).decrypt_in_place(message, tag, header)
     }

@@ -1,11 +1,12 @@
 //! Record streams.
 
 ghost use Rattle.std.specs.Prelude.{◌≡◌, ◌<◌, ◌≤◌, List, length, ℕ};
-ghost use Rattle.aegis_record.specs.Calls.{IsRefused, OpensTo, texts};
-ghost use Rattle.aegis_record.specs.Records.{AreRecords, IsFault};
-ghost use Rattle.aegis_record.specs.Stream.{AreWithin, stream_length};
-ghost use Rattle.aegis_record.specs.declared.version.Version.{Version};
-ghost use Rattle.aegis_record.specs.declared.version.Version.TheVariants.{Second};
+ghost use Rattle.aegis_base.specs.Chunks.{texts};
+ghost use Rattle.aegis.specs.Calls.{IsRefused, OpensTo};
+ghost use Rattle.aegis.specs.Records.{AreRecords, IsFault};
+ghost use Rattle.aegis.specs.RecordStream.{AreWithin, records_length};
+ghost use Rattle.aegis.specs.declared.record.version.Version.{Version};
+ghost use Rattle.aegis.specs.declared.record.version.Version.TheVariants.{Second};
 
 use aegis::MAX_AEAD_BYTES;
 use aegis::record::{MAX_CONTEXT_BYTES, RecordError, open_records, seal_records};
@@ -22,7 +23,7 @@ pub fn sealed_and_opened_records<A: Allocator + Copy>(
     requires some { 0 < length messages.now }
     requires within { AreWithin Second (texts messages.now) }
     requires context_within { length context.now ≤ MAX_CONTEXT_BYTES }
-    requires fits { stream_length (texts messages.now) ≤ MAX_AEAD_BYTES }
+    requires fits { records_length (texts messages.now) ≤ MAX_AEAD_BYTES }
     ensures { OpensTo (texts messages.now) result }
 {
     let stream = seal_records(alloc, key, prefix, context, messages)?;
@@ -39,7 +40,8 @@ pub fn open_known_records<A: Allocator + Copy>(
 ) -> Result<Vec<Vec<u8, A>, A>, RecordError>
     ghost sealed: { List (List ℕ) }
     requires context_within { length context.now ≤ MAX_CONTEXT_BYTES }
-    requires stream { (v : Version) × AreRecords v key.now prefix.now context.now sealed stream.now }
+    requires stream { (v : Version)
+        × AreRecords v key.now prefix.now context.now sealed stream.now }
     ensures { OpensTo sealed result }
 {
     open_records(alloc, key, prefix, context, stream)

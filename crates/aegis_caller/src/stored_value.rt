@@ -1,7 +1,7 @@
 //! A value of a key-value store: sealed into a vector of its own, under the name that it is stored by.
 
 ghost use Rattle.std.specs.Prelude.{◌≡◌, ◌≤◌, IfOk, length};
-ghost use Rattle.aegis_base.specs.Family.{Aegis128};
+ghost use Rattle.aegis_base.specs.Variant.{Aegis128X4};
 ghost use Rattle.aegis_base.specs.Message.{Opens, seal};
 
 use aegis::MAX_AEAD_BYTES;
@@ -16,7 +16,7 @@ pub struct StoredValue<A: Allocator> {
     pub tag: Tag<16>,
 }
 
-/// Seals a value. The only error is want of memory.
+/// Seals a value. The only error is [`Error::OutOfMemory`].
 pub fn put<A: Allocator>(
     alloc: A,
     key: &Key,
@@ -26,7 +26,8 @@ pub fn put<A: Allocator>(
 ) -> Result<StoredValue<A>, Error>
     requires name_within { length name.now ≤ MAX_AEAD_BYTES }
     requires value_within { length value.now ≤ MAX_AEAD_BYTES }
-    ensures { IfOk result (λ stored. (stored.ciphertext.items, stored.tag) ≡ seal Aegis128 4 16 key.now nonce.now name.now value.now) }
+    ensures { IfOk result (λ stored. (stored.ciphertext.items, stored.tag)
+        ≡ seal Aegis128X4 16 key.now nonce.now name.now value.now) }
 {
     let (ciphertext, tag) = Aegis128X4::new(key, nonce).encrypt(alloc, value, name)?;
     Ok(StoredValue {
@@ -36,7 +37,7 @@ pub fn put<A: Allocator>(
     })
 }
 
-/// Opens a value. What is handed out was put under this name, or the stored bytes are refused.
+/// Opens a value: the one whose sealing under this key, nonce and name gives the stored bytes.
 pub fn get<A: Allocator>(
     alloc: A,
     key: &Key,
@@ -45,7 +46,9 @@ pub fn get<A: Allocator>(
 ) -> Result<Vec<u8, A>, Error>
     requires name_within { length name.now ≤ MAX_AEAD_BYTES }
     requires value_within { length stored.now.ciphertext.items ≤ MAX_AEAD_BYTES }
-    ensures { IfOk result (λ value. Opens Aegis128 4 16 key.now stored.now.nonce name.now stored.now.ciphertext.items stored.now.tag value.items) }
+    ensures { IfOk result
+        (λ value. Opens Aegis128X4 16 key.now stored.now.nonce name.now
+        stored.now.ciphertext.items stored.now.tag value.items) }
 {
     Aegis128X4::new(key, &stored.nonce).decrypt(alloc, &stored.ciphertext, &stored.tag, name)
 }

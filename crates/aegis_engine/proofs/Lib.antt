@@ -1,4 +1,6 @@
 pub mod PassFacts
+pub mod PieceFacts
+pub mod KeystreamFacts
 pub mod TagFacts
 mod ChunkSteps
 mod DestinationFacts

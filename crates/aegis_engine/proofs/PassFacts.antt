@@ -1,16 +1,19 @@
--- What a pass is given and takes in, place by place, and how a piece is cut into the part that fills the open block, whole
+-- What a pass takes in and what that is sealed to, place by place and in pieces, and how a piece is cut into the part that fills the open block, whole
 -- rate blocks and a rest.
-use Rattle.std.proofs.Common.{◌≡◌, ◌∙◌, sym, ap, subst, refl, ℕ, zero, suc, ◌+◌, ◌-◌, ◌*◌, ◌/◌, ◌%◌, ◌<◌, ◌≤◌, ⊎_elim, List, length, replicate, slice_index, arith}
-use Rattle.std.specs.Prelude.{Option, Some, None}
-use Rattle.std.specs.Borrow.{Bor}
+use Rattle.std.proofs.Common.{◌≡◌, ◌∙◌, sym, ap, subst, refl, ℕ, zero, suc, ◌+◌, ◌-◌, ◌*◌, ◌/◌, ◌%◌, ◌<◌, ◌≤◌, ⊎_elim, List, [], ◌∷◌, ◌++◌, length, bit_xor, replicate, slice_index, arith}
 use Rattle.std.proofs.Math.Nat.{div-mul-le_self, zero-div}
 use Rattle.std.proofs.lemmas.Bool.{cases_lt}
-use Rattle.std.proofs.lemmas.List.{length-replicate}
+use Rattle.std.proofs.lemmas.List.{length-append, length-replicate, replicate-append-replicate}
+use Rattle.std.proofs.lemmas.Nat.{xor_comm}
+use Rattle.std.proofs.lemmas.Simd.{get_or-zip2, length-zip2}
+use Rattle.std.specs.Int.Bits.{xor_zero_l}
+use Rattle.aegis_aes.specs.Block.{xor}
 use Rattle.aegis_base.specs.Run.{IsUnopened}
+use Rattle.aegis_base.proofs.Bijection.{bit_xor-twice}
 use Rattle.aegis_base.proofs.RunFacts.{whole-quotient}
-use Rattle.aegis_engine.specs.Pass.{given, taken}
+use Rattle.aegis_engine.specs.Pass.{sealed, taken}
 use Rattle.aegis_engine.specs.declared.pass.Pass.{Pass}
-use Rattle.aegis_engine.specs.declared.pass.Pass.TheVariants.{Seal, Open, Stream}
+use Rattle.aegis_engine.specs.declared.pass.Pass.TheVariants.{Seal, Open, Keystream}
 
 -- a list of zeros reads zero everywhere
 pub zeros-read : (n i : ℕ) → slice_index (replicate n 0) i ≡ 0
@@ -18,23 +21,49 @@ zeros-read zero i = refl
 zeros-read (suc n) zero = refl
 zeros-read (suc n) (suc i) = zeros-read n i
 
--- what a pass is given at a place depends on the buffer there alone
-pub given-same : (source : Option (Bor (List ℕ))) (old old2 : List ℕ) (i : ℕ) → slice_index old i ≡ slice_index old2 i
-    → slice_index (given source old) i ≡ slice_index (given source old2) i
-given-same None old old2 i e = e
-given-same (Some bytes) old old2 i e = refl
-
 -- what a pass takes in at a place depends on the bytes there alone
 pub taken-same : (pass : Pass) (old old2 new new2 : List ℕ) (i : ℕ) → slice_index old i ≡ slice_index old2 i → slice_index new i ≡ slice_index new2 i
     → slice_index (taken pass old new) i ≡ slice_index (taken pass old2 new2) i
 taken-same Seal old old2 new new2 i e f = e
 taken-same Open old old2 new new2 i e f = f
-taken-same Stream old old2 new new2 i e f = zeros-read (length old) i ∙ sym (zeros-read (length old2) i)
+taken-same Keystream old old2 new new2 i e f = zeros-read (length old) i ∙ sym (zeros-read (length old2) i)
 
 pub length-taken : (pass : Pass) (old new : List ℕ) → length new ≡ length old → length (taken pass old new) ≡ length old
 length-taken Seal old new e = refl
 length-taken Open old new e = e
-length-taken Stream old new e = length-replicate (length old) 0
+length-taken Keystream old new e = length-replicate (length old) 0
+
+pub length-sealed : (pass : Pass) (old new : List ℕ) → length new ≡ length old → length (sealed pass old new) ≡ length (taken pass old new)
+length-sealed Seal old new e = e
+length-sealed Open old new e = sym e
+length-sealed Keystream old new e = length-zip2 bit_xor old new (sym e) ∙ sym (length-replicate (length old) 0)
+
+-- a byte that a pass xored with k: what it took in there was sealed by k
+pub sealed-byte : (pass : Pass) (old new : List ℕ) (i k : ℕ) → length new ≡ length old → i < length old
+    → slice_index new i ≡ bit_xor (slice_index old i) k → slice_index (sealed pass old new) i ≡ bit_xor (slice_index (taken pass old new) i) k
+sealed-byte Seal old new i k long low e = e
+sealed-byte Open old new i k long low e = sym (ap (λ (b : ℕ). bit_xor b k) e ∙ bit_xor-twice (slice_index old i) k)
+sealed-byte Keystream old new i k long low e =
+    get_or-zip2 bit_xor old new i 0 0 0 low (omega arith) ∙ ap (bit_xor (slice_index old i)) (e ∙ xor_comm (slice_index old i) k)
+    ∙ xor_comm (slice_index old i) (bit_xor k (slice_index old i)) ∙ bit_xor-twice k (slice_index old i)
+    ∙ sym (ap (λ (b : ℕ). bit_xor b k) (zeros-read (length old) i) ∙ xor_zero_l k)
+
+-- one more piece
+xor-append : (a b c d : List ℕ) → length c ≡ length a → xor (a ++ b) (c ++ d) ≡ xor a c ++ xor b d
+xor-append [] b [] d e = refl
+xor-append [] b (y ∷ c) d e = absurd (omega (arith, e))
+xor-append (x ∷ a) b [] d e = absurd (omega (arith, e))
+xor-append (x ∷ a) b (y ∷ c) d e = let shorter : length c ≡ length a = omega (arith, e) in rw (xor-append a b c d shorter) refl
+
+pub taken-append : (pass : Pass) (a b c d : List ℕ) → taken pass (a ++ b) (c ++ d) ≡ taken pass a c ++ taken pass b d
+taken-append Seal a b c d = refl
+taken-append Open a b c d = refl
+taken-append Keystream a b c d = rw length-append (sym (replicate-append-replicate (length a) (length b) 0))
+
+pub sealed-append : (pass : Pass) (a b c d : List ℕ) → length c ≡ length a → sealed pass (a ++ b) (c ++ d) ≡ sealed pass a c ++ sealed pass b d
+sealed-append Seal a b c d e = refl
+sealed-append Open a b c d e = refl
+sealed-append Keystream a b c d e = xor-append a b c d e
 
 -- after the part that fills the open block, whole rate blocks follow only where none is open
 pub unopened-after : (t first len r q : ℕ) → (first < len → (t + first) % q ≡ 0) → IsUnopened (t + first) ((len - first) / r) q

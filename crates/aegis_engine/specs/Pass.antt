@@ -1,16 +1,17 @@
--- What runs along a buffer with the lanes.
-use Rattle.std.specs.Prelude.{ℕ, List, Option, Some, None, length, replicate}
-use Rattle.std.specs.Borrow.{Bor}
+-- What runs along a buffer with the lanes, and what it is sealed to.
+use Rattle.std.specs.Prelude.{ℕ, List, length, replicate}
+use Rattle.aegis_aes.specs.Block.{xor}
 use Rattle.aegis_engine.specs.declared.pass.Pass.{Pass}
-use Rattle.aegis_engine.specs.declared.pass.Pass.TheVariants.{Seal, Open, Stream}
+use Rattle.aegis_engine.specs.declared.pass.Pass.TheVariants.{Seal, Open, Keystream}
 
--- what a pass is given: its source, and without one the buffer, which is `old` before
-abbrev pub given : Option (Bor (List ℕ)) → List ℕ → List ℕ
-given None old = old
-given (Some source) old = source.now
-
--- what the lanes take in of what the pass is given, `old`, where the buffer is `new` afterwards
+-- what the lanes take in along bytes that are `old` before a pass and `new` after it
 abbrev pub taken : Pass → List ℕ → List ℕ → List ℕ
 taken Seal old new = old
 taken Open old new = new
-taken Stream old new = replicate (length old) 0
+taken Keystream old new = replicate (length old) 0
+
+-- the ciphertext of that; of zeros it is the keystream
+abbrev pub sealed : Pass → List ℕ → List ℕ → List ℕ
+sealed Seal old new = new
+sealed Open old new = old
+sealed Keystream old new = xor old new

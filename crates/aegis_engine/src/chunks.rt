@@ -3,16 +3,18 @@
 ghost use Rattle.std.specs.Prelude.{◌≡◌, ℕ, ◌+◌, ◌^◌, ◌<◌, ◌≤◌, ◌++◌, length, take, List, []};
 ghost use Rattle.aegis_base.specs.Chunks.{joined};
 ghost use Rattle.aegis_base.specs.Message.{ciphertext};
-ghost use Rattle.aegis_base.specs.Run.{Stands, held};
+ghost use Rattle.aegis_base.specs.Run.{Continues, Stands, Takes};
+ghost use Rattle.aegis_engine.specs.Held.{held};
 
-use crate::message::{absorb_more, seal_more};
-use crate::pass::Block;
+use crate::message::absorb_more;
+use crate::pass::{Pass, RateBlock};
+use crate::pieces::pass_copied;
 use aegis_base::{LaneState, Length, MAX_AEAD_BYTES};
 
 // Seals one more chunk into `out`, whose first `at` bytes are the ciphertext so far.
 fn seal_chunk<S: LaneState>(
     state: S,
-    block: &mut Block,
+    block: &mut RateBlock,
     data_bytes: u64,
     chunk: &[u8],
     out: &mut [u8],
@@ -20,35 +22,37 @@ fn seal_chunk<S: LaneState>(
 ) -> S
     requires within { at + length chunk.now ≤ length out.old }
     requires countable { S.updates state + length chunk.now < 2 ^ 64 }
-    ensures stands { (key nonce ad m : List ℕ)
-        → Stands S.FAMILY S.LANES S.lane S.updates (held state block.old data_bytes at) key nonce ad m
-        → Stands S.FAMILY S.LANES S.lane S.updates (held result block.new data_bytes (at + length chunk.now)) key nonce ad (m ++ chunk.now) }
+    ensures taken { Takes S.VARIANT
+        (held S.LaneState state block.old data_bytes at)
+        (held S.LaneState result block.new data_bytes (at + length chunk.now))
+        chunk.now }
     ensures ciphertext { (key nonce ad m : List ℕ)
-        → Stands S.FAMILY S.LANES S.lane S.updates (held state block.old data_bytes at) key nonce ad m
-        → ciphertext S.FAMILY S.LANES key nonce ad m ≡ take at out.old
-        → ciphertext S.FAMILY S.LANES key nonce ad (m ++ chunk.now) ≡ take (at + length chunk.now) out.new }
+        → Stands S.VARIANT (held S.LaneState state block.old data_bytes at) key nonce ad m
+        → ciphertext S.VARIANT key nonce ad m ≡ take at out.old
+        → ciphertext S.VARIANT key nonce ad (m ++ chunk.now)
+        ≡ take (at + length chunk.now) out.new }
     ensures few { S.updates result ≤ S.updates state + length chunk.now }
 {
     let part = &mut out[at..at + chunk.len()];
-    seal_more(state, block, data_bytes, at as u64, Some(chunk), part)
+    pass_copied(state, block, data_bytes, at as u64, Pass::Seal, chunk, part)
 }
 
 /// Seals a message's chunks into `out`, one after the other.
 pub fn seal_all<S: LaneState>(
     state: S,
-    block: &mut Block,
+    block: &mut RateBlock,
     data_bytes: u64,
     chunks: &[&[u8]],
     out: &mut [u8],
 ) -> S
     requires lengths { length out.old ≡ length (joined chunks.now) }
     requires countable { S.updates state + length out.old < 2 ^ 64 }
-    ensures stands { (key nonce ad : List ℕ)
-        → Stands S.FAMILY S.LANES S.lane S.updates (held state block.old data_bytes 0) key nonce ad []
-        → Stands S.FAMILY S.LANES S.lane S.updates (held result block.new data_bytes (length out.old)) key nonce ad (joined chunks.now) }
+    ensures stands { Continues S.VARIANT
+        (held S.LaneState state block.old data_bytes 0) []
+        (held S.LaneState result block.new data_bytes (length out.old)) (joined chunks.now) }
     ensures ciphertext { (key nonce ad : List ℕ)
-        → Stands S.FAMILY S.LANES S.lane S.updates (held state block.old data_bytes 0) key nonce ad []
-        → ciphertext S.FAMILY S.LANES key nonce ad (joined chunks.now) ≡ out.new }
+        → Stands S.VARIANT (held S.LaneState state block.old data_bytes 0) key nonce ad []
+        → ciphertext S.VARIANT key nonce ad (joined chunks.now) ≡ out.new }
     ensures few { S.updates result ≤ S.updates state + length out.old }
 {
     let mut state = state;
@@ -63,15 +67,16 @@ pub fn seal_all<S: LaneState>(
 /// Takes in chunks, one after the other, behind `bytes` so far, and counts them.
 pub fn absorb_chunks<S: LaneState>(
     state: S,
-    block: &mut Block,
+    block: &mut RateBlock,
     bytes: &mut Length,
     chunks: &[&[u8]],
 ) -> S
     requires within { bytes.old + length (joined chunks.now) ≤ MAX_AEAD_BYTES }
     requires countable { S.updates state ≤ bytes.old }
-    ensures stands { (key nonce ad x : List ℕ) (data_bytes : ℕ)
-        → Stands S.FAMILY S.LANES S.lane S.updates (held state block.old data_bytes bytes.old) key nonce ad x
-        → Stands S.FAMILY S.LANES S.lane S.updates (held result block.new data_bytes bytes.new) key nonce ad (x ++ joined chunks.now) }
+    ensures taken { (data_bytes : ℕ) → Takes S.VARIANT
+        (held S.LaneState state block.old data_bytes bytes.old)
+        (held S.LaneState result block.new data_bytes bytes.new)
+        (joined chunks.now) }
     ensures length { bytes.new ≡ bytes.old + length (joined chunks.now) }
     ensures few { S.updates result ≤ bytes.new }
 {

@@ -4,20 +4,24 @@
 //! of one piece over `message` and `run`; nothing here knows a family or a lane count.
 
 ghost use Rattle.std.specs.Prelude.{◌≡◌, ⊤, ◌≤◌, ◌⊎◌, ◌++◌, IfErr, IfOk, IsOk, List, MatchResult, OnErr, OnOk, Some, codes, drop, false, length, replicate, take, true, ℕ, []};
+ghost use Rattle.aegis_base.specs.Lane.{IsTagLength};
 ghost use Rattle.std.specs.Borrow.{Array, LendsIfOk, sem, u8};
-ghost use Rattle.aegis_base.specs.Chunks.{accepted, joined};
-ghost use Rattle.aegis_base.specs.Message.{Opens, ciphertext, seal, stream, tag, xor_stream};
-ghost use Rattle.aegis_base.specs.Run.{Stands, held};
+ghost use Rattle.aegis_base.specs.Chunks.{accepted, erased, joined};
+ghost use Rattle.aegis_base.specs.Message.{Opens, ciphertext, seal, keystream, tag, xor_keystream};
+ghost use Rattle.aegis_base.specs.Run.{Stands};
+ghost use Rattle.aegis_engine.specs.Front.{front, holds};
+ghost use Rattle.aegis_base.specs.Variant.{key_length};
 
 use crate::chunks::seal_all;
 use crate::decryptor::Decryptor;
-use crate::destination::{Settled, erase_unless, handed};
+use crate::destination::{Settled, counted, erase_unless, handed};
 use crate::encryptor::Encryptor;
 use crate::message::{begin, finish, seal_more};
-use crate::opening::{has_tag, open_all, open_copied, open_in_place};
+use crate::opening::{has_tag, open_all, open_in_place};
 use crate::pass::{Pass, ZEROS};
+use crate::pieces::pass_appended;
 use crate::run::pass_all;
-use aegis_base::{Error, LaneState, Length, MAX_AEAD_BYTES, Variant};
+use aegis_base::{Error, LaneState, Length, MAX_AEAD_BYTES, Names};
 use std::alloc::{AllocError, Allocator};
 use std::fmt;
 use std::marker::{Model, PhantomData};
@@ -34,27 +38,31 @@ pub const ERASED: u8 = 0xaa;
 /// see to; keystreams have no limit. No call takes memory but `encrypt`, `decrypt` and `stream_xor`, which make one
 /// reservation of the message's length before they process a byte.
 #[derive(Copy, Drop)]
-pub struct Cipher<S, K: Copy, V: Variant, const TAG_BYTES: usize> {
-    key: K,
-    nonce: K,
+pub struct Cipher<S: LaneState, V: Names, const KEY_BYTES: usize, const TAG_BYTES: usize> {
+    key: [u8; KEY_BYTES],
+    nonce: [u8; KEY_BYTES],
     variant: PhantomData<(S, V)>,
 }
 
-impl<S, K: Copy, V: Variant, const TAG_BYTES: usize> Model for Cipher<S, K, V, TAG_BYTES> {
-    ghost use Rattle.std.specs.Prelude.{◌≡◌, ◌⊎◌};
-    ghost use Rattle.aegis_base.specs.Run.{Keys};
+impl<S: LaneState, V: Names, const KEY_BYTES: usize, const TAG_BYTES: usize> Model
+    for Cipher<S, V, KEY_BYTES, TAG_BYTES> {
+    ghost use Rattle.std.specs.Prelude.{◌≡◌};
+    ghost use Rattle.aegis_base.specs.Lane.{IsTagLength};
+    ghost use Rattle.aegis_base.specs.Run.{KeyAndNonce};
+    ghost use Rattle.aegis_base.specs.Variant.{key_length};
 
-    ghost Value = { Keys K };
+    ghost Value = { KeyAndNonce };
 
     ghost view = { λ c. record { key = c.key; nonce = c.nonce } };
 
-    ghost invariant = { λ c. (TAG_BYTES ≡ 16) ⊎ (TAG_BYTES ≡ 32) };
+    ghost invariant = { λ c. IsTagLength TAG_BYTES
+        × (KEY_BYTES ≡ key_length S.VARIANT.family) };
 
     ghost inverse = { λ keys. record { key = keys.key; nonce = keys.nonce; variant = record {} } };
 }
 
-impl<S: Copy, K: Copy, V: Variant + Copy, const TAG_BYTES: usize> Clone
-    for Cipher<S, K, V, TAG_BYTES> {
+impl<S: LaneState, V: Names + Copy, const KEY_BYTES: usize, const TAG_BYTES: usize> Clone
+    for Cipher<S, V, KEY_BYTES, TAG_BYTES> {
     ghost is_clone = { λ x y. y ≡ x };
 
     ghost is_infallible = { λ _. ⊤ };
@@ -64,7 +72,8 @@ impl<S: Copy, K: Copy, V: Variant + Copy, const TAG_BYTES: usize> Clone
     }
 }
 
-impl<S, K: Copy, V: Variant, const TAG_BYTES: usize> fmt::Debug for Cipher<S, K, V, TAG_BYTES> {
+impl<S: LaneState, V: Names, const KEY_BYTES: usize, const TAG_BYTES: usize> fmt::Debug
+    for Cipher<S, V, KEY_BYTES, TAG_BYTES> {
     ghost debug_output = { λ _. Some (V.cipher_name ++ codes " { .. }") };
 
     fn fmt<W: fmt::Write>(&self, f: &mut fmt::Formatter<W>) -> fmt::Result {
@@ -73,15 +82,16 @@ impl<S, K: Copy, V: Variant, const TAG_BYTES: usize> fmt::Debug for Cipher<S, K,
     }
 }
 
-impl<S: LaneState<Key = K>, K: Copy, V: Variant, const TAG_BYTES: usize> Cipher<
+impl<S: LaneState, V: Names, const KEY_BYTES: usize, const TAG_BYTES: usize> Cipher<
     S,
-    K,
     V,
+    KEY_BYTES,
     TAG_BYTES,
 > {
     /// The cipher of a key and a nonce. `TAG_BYTES` has to be 16 or 32.
-    pub fn new(key: &K, nonce: &K) -> Self
-        requires { (TAG_BYTES ≡ 16) ⊎ (TAG_BYTES ≡ 32) }
+    pub fn new(key: &[u8; KEY_BYTES], nonce: &[u8; KEY_BYTES]) -> Self
+        requires key_bytes { KEY_BYTES ≡ key_length S.VARIANT.family }
+        requires tag_bytes { IsTagLength TAG_BYTES }
         ensures key { result.key ≡ key.now }
         ensures nonce { result.nonce ≡ nonce.now }
     {
@@ -97,11 +107,11 @@ impl<S: LaneState<Key = K>, K: Copy, V: Variant, const TAG_BYTES: usize> Cipher<
     pub fn encrypt_in_place(self, mc: &mut [u8], ad: &[u8]) -> [u8; TAG_BYTES]
         requires message_within { length mc.old ≤ MAX_AEAD_BYTES }
         requires associated_data_within { length ad.now ≤ MAX_AEAD_BYTES }
-        ensures { (mc.new, result) ≡ seal S.FAMILY S.LANES TAG_BYTES (S.key_bytes self.key) (S.key_bytes self.nonce) ad.now mc.old }
+        ensures { (mc.new, result) ≡ seal S.VARIANT TAG_BYTES self.key self.nonce ad.now mc.old }
     {
         let state = begin::<S>(&self.key, &self.nonce, ad);
         let mut block = ZEROS;
-        let state = seal_more(state, &mut block, ad.len() as u64, 0, None, mc);
+        let state = seal_more(state, &mut block, ad.len() as u64, 0, mc);
         finish(state, &block, ad.len() as u64, mc.len() as u64)
     }
 
@@ -109,10 +119,13 @@ impl<S: LaneState<Key = K>, K: Copy, V: Variant, const TAG_BYTES: usize> Cipher<
     fn open_unchecked(self, mc: &mut [u8], tag: &[u8; TAG_BYTES], ad: &[u8]) -> bool
         requires message_within { length mc.old ≤ MAX_AEAD_BYTES }
         requires associated_data_within { length ad.now ≤ MAX_AEAD_BYTES }
-        ensures opened { result ≡ true → Opens S.FAMILY S.LANES TAG_BYTES (S.key_bytes self.key) (S.key_bytes self.nonce) ad.now mc.old tag.now mc.new }
-        ensures accepted { (m : List ℕ) → Opens S.FAMILY S.LANES TAG_BYTES (S.key_bytes self.key) (S.key_bytes self.nonce) ad.now mc.old tag.now m
+        ensures opened { result ≡ true
+            → Opens S.VARIANT TAG_BYTES self.key self.nonce ad.now mc.old tag.now mc.new }
+        ensures accepted { (m : List ℕ)
+            → Opens S.VARIANT TAG_BYTES self.key self.nonce ad.now mc.old tag.now m
             → result ≡ true }
-        ensures only { (m : List ℕ) → Opens S.FAMILY S.LANES TAG_BYTES (S.key_bytes self.key) (S.key_bytes self.nonce) ad.now mc.old tag.now m
+        ensures only { (m : List ℕ)
+            → Opens S.VARIANT TAG_BYTES self.key self.nonce ad.now mc.old tag.now m
             → mc.new ≡ m }
         ensures length { length mc.new ≡ length mc.old }
     {
@@ -133,17 +146,20 @@ impl<S: LaneState<Key = K>, K: Copy, V: Variant, const TAG_BYTES: usize> Cipher<
     ) -> Result<(Vec<u8, A>, bool), AllocError>
         requires message_within { length c.now ≤ MAX_AEAD_BYTES }
         requires associated_data_within { length ad.now ≤ MAX_AEAD_BYTES }
-        ensures opened { IfOk result (λ read. read.1 ≡ true → Opens S.FAMILY S.LANES TAG_BYTES (S.key_bytes self.key) (S.key_bytes self.nonce) ad.now c.now tag.now read.0.items) }
-        ensures accepted { (m : List ℕ) → Opens S.FAMILY S.LANES TAG_BYTES (S.key_bytes self.key) (S.key_bytes self.nonce) ad.now c.now tag.now m
+        ensures opened { IfOk result (λ read. read.1 ≡ true
+            → Opens S.VARIANT TAG_BYTES self.key self.nonce ad.now c.now tag.now read.0.items) }
+        ensures accepted { (m : List ℕ)
+            → Opens S.VARIANT TAG_BYTES self.key self.nonce ad.now c.now tag.now m
             → IfOk result (λ read. read.1 ≡ true) }
-        ensures only { (m : List ℕ) → Opens S.FAMILY S.LANES TAG_BYTES (S.key_bytes self.key) (S.key_bytes self.nonce) ad.now c.now tag.now m
+        ensures only { (m : List ℕ)
+            → Opens S.VARIANT TAG_BYTES self.key self.nonce ad.now c.now tag.now m
             → IfOk result (λ read. read.0.items ≡ m) }
         ensures length { IfOk result (λ read. length read.0.items ≡ length c.now) }
     {
         let mut m = Vec::with_capacity(alloc, c.len())?;
         let state = begin::<S>(&self.key, &self.nonce, ad);
         let mut block = ZEROS;
-        let state = open_copied(state, &mut block, ad.len() as u64, c, &mut m)?;
+        let state = pass_appended(state, &mut block, ad.len() as u64, Pass::Open, c, &mut m)?;
         let is_right = has_tag(state, &block, ad.len() as u64, c.len() as u64, tag);
         Ok((m, is_right))
     }
@@ -161,12 +177,15 @@ impl<S: LaneState<Key = K>, K: Copy, V: Variant, const TAG_BYTES: usize> Cipher<
     ) -> Result<(), Error>
         requires message_within { length mc.old ≤ MAX_AEAD_BYTES }
         requires associated_data_within { length ad.now ≤ MAX_AEAD_BYTES }
-        ensures opened { OnOk result (Opens S.FAMILY S.LANES TAG_BYTES (S.key_bytes self.key) (S.key_bytes self.nonce) ad.now mc.old tag.now mc.new) }
-        ensures accepted { (m : List ℕ) → Opens S.FAMILY S.LANES TAG_BYTES (S.key_bytes self.key) (S.key_bytes self.nonce) ad.now mc.old tag.now m
+        ensures opened { OnOk result
+            (Opens S.VARIANT TAG_BYTES self.key self.nonce ad.now mc.old tag.now mc.new) }
+        ensures accepted { (m : List ℕ)
+            → Opens S.VARIANT TAG_BYTES self.key self.nonce ad.now mc.old tag.now m
             → IsOk result }
-        ensures only { (m : List ℕ) → Opens S.FAMILY S.LANES TAG_BYTES (S.key_bytes self.key) (S.key_bytes self.nonce) ad.now mc.old tag.now m
+        ensures only { (m : List ℕ)
+            → Opens S.VARIANT TAG_BYTES self.key self.nonce ad.now mc.old tag.now m
             → mc.new ≡ m }
-        ensures erased { OnErr result (mc.new ≡ replicate (length mc.old) 0xaa) }
+        ensures erased { OnErr result (mc.new ≡ replicate (length mc.old) ERASED) }
         ensures error { IfErr result (λ e. e ≡ Error.InvalidTag) }
     {
         if self.open_unchecked(mc, tag, ad) {
@@ -189,12 +208,16 @@ impl<S: LaneState<Key = K>, K: Copy, V: Variant, const TAG_BYTES: usize> Cipher<
         requires message_within { length m.now ≤ MAX_AEAD_BYTES }
         requires associated_data_within { length ad.now ≤ MAX_AEAD_BYTES }
         ensures sealed { IfOk result (λ sealed. (sealed.0.items, sealed.1)
-            ≡ seal S.FAMILY S.LANES TAG_BYTES (S.key_bytes self.key) (S.key_bytes self.nonce) ad.now m.now) }
+            ≡ seal S.VARIANT TAG_BYTES self.key self.nonce ad.now m.now) }
         ensures length { IfOk result (λ sealed. length sealed.0.items ≡ length m.now) }
         ensures error { IfErr result (λ e. e ≡ Error.OutOfMemory) }
     {
-        let mut c = Vec::from_slice(alloc, m).map_err(|_| Error::OutOfMemory)?;
-        let tag = self.encrypt_in_place(&mut c, ad);
+        let mut c = Vec::with_capacity(alloc, m.len()).map_err(|_| Error::OutOfMemory)?;
+        let state = begin::<S>(&self.key, &self.nonce, ad);
+        let mut block = ZEROS;
+        let sealed = pass_appended(state, &mut block, ad.len() as u64, Pass::Seal, m, &mut c);
+        let state = sealed.map_err(|_| Error::OutOfMemory)?;
+        let tag = finish(state, &block, ad.len() as u64, m.len() as u64);
         Ok((c, tag))
     }
 
@@ -212,13 +235,17 @@ impl<S: LaneState<Key = K>, K: Copy, V: Variant, const TAG_BYTES: usize> Cipher<
     ) -> Result<Vec<u8, A>, Error>
         requires message_within { length c.now ≤ MAX_AEAD_BYTES }
         requires associated_data_within { length ad.now ≤ MAX_AEAD_BYTES }
-        ensures opened { IfOk result (λ m. Opens S.FAMILY S.LANES TAG_BYTES (S.key_bytes self.key) (S.key_bytes self.nonce) ad.now c.now tag.now m.items) }
-        ensures accepted { (m : List ℕ) → Opens S.FAMILY S.LANES TAG_BYTES (S.key_bytes self.key) (S.key_bytes self.nonce) ad.now c.now tag.now m
+        ensures opened { IfOk result
+            (λ m. Opens S.VARIANT TAG_BYTES self.key self.nonce ad.now c.now tag.now m.items) }
+        ensures accepted { (m : List ℕ)
+            → Opens S.VARIANT TAG_BYTES self.key self.nonce ad.now c.now tag.now m
             → result ≡ Err Error.InvalidTag → ⊥ }
-        ensures only { (m : List ℕ) → Opens S.FAMILY S.LANES TAG_BYTES (S.key_bytes self.key) (S.key_bytes self.nonce) ad.now c.now tag.now m
+        ensures only { (m : List ℕ)
+            → Opens S.VARIANT TAG_BYTES self.key self.nonce ad.now c.now tag.now m
             → IfOk result (λ opened. opened.items ≡ m) }
         ensures length { IfOk result (λ m. length m.items ≡ length c.now) }
-        ensures error { IfErr result (λ e. (e ≡ Error.InvalidTag) ⊎ (e ≡ Error.OutOfMemory)) }
+        ensures error { IfErr result (λ e. (e ≡ Error.InvalidTag)
+            ⊎ (e ≡ Error.OutOfMemory)) }
     {
         let (mut m, is_right) = self
             .open_copied_unchecked(alloc, c, tag, ad)
@@ -235,19 +262,23 @@ impl<S: LaneState<Key = K>, K: Copy, V: Variant, const TAG_BYTES: usize> Cipher<
     ///
     /// [`Error::OutOfMemory`] alone, where the reservation was refused.
     pub fn stream_xor<A: Allocator>(self, alloc: A, m: &[u8]) -> Result<Vec<u8, A>, Error>
-        ensures xored { IfOk result (λ c. c.items ≡ xor_stream S.FAMILY S.LANES (S.key_bytes self.key) (S.key_bytes self.nonce) m.now) }
+        ensures xored { IfOk result (λ c. c.items
+            ≡ xor_keystream S.VARIANT self.key self.nonce m.now) }
         ensures length { IfOk result (λ c. length c.items ≡ length m.now) }
         ensures error { IfErr result (λ e. e ≡ Error.OutOfMemory) }
     {
-        let mut c = Vec::from_slice(alloc, m).map_err(|_| Error::OutOfMemory)?;
-        self.stream_xor_in_place(&mut c);
+        let mut c = Vec::with_capacity(alloc, m.len()).map_err(|_| Error::OutOfMemory)?;
+        let state = S::new(&self.key, &self.nonce);
+        let mut block = ZEROS;
+        let xored = pass_appended(state, &mut block, 0, Pass::Keystream, m, &mut c);
+        xored.map_err(|_| Error::OutOfMemory)?;
         Ok(c)
     }
 
     /// Fills `out` with the keystream from its beginning, whatever `out` held: the ciphertext of as many zeros, sealed
     /// without associated data. `TAG_BYTES` has no effect on it.
     pub fn stream(self, out: &mut [u8])
-        ensures { out.new ≡ stream S.FAMILY S.LANES (S.key_bytes self.key) (S.key_bytes self.nonce) (length out.old) }
+        ensures { out.new ≡ keystream S.VARIANT self.key self.nonce (length out.old) }
     {
         out.fill(0);
         let mut block = ZEROS;
@@ -256,23 +287,21 @@ impl<S: LaneState<Key = K>, K: Copy, V: Variant, const TAG_BYTES: usize> Cipher<
             &mut block,
             0,
             0,
-            None,
             out,
         );
     }
 
     /// Xors a message in place with the keystream from its beginning. Done twice, it gives the message back.
     pub fn stream_xor_in_place(self, mc: &mut [u8])
-        ensures xored { mc.new ≡ xor_stream S.FAMILY S.LANES (S.key_bytes self.key) (S.key_bytes self.nonce) mc.old }
-        ensures undone { xor_stream S.FAMILY S.LANES (S.key_bytes self.key) (S.key_bytes self.nonce) mc.new ≡ mc.old }
+        ensures xored { mc.new ≡ xor_keystream S.VARIANT self.key self.nonce mc.old }
+        ensures undone { xor_keystream S.VARIANT self.key self.nonce mc.new ≡ mc.old }
     {
         let mut block = ZEROS;
         pass_all(
             S::new(&self.key, &self.nonce),
             &mut block,
             0,
-            Pass::Stream,
-            None,
+            Pass::Keystream,
             mc,
         );
     }
@@ -280,8 +309,8 @@ impl<S: LaneState<Key = K>, K: Copy, V: Variant, const TAG_BYTES: usize> Cipher<
     /// Starts to seal a message that comes in chunks, with the associated data `ad`.
     pub fn encryptor(&self, ad: &[u8]) -> Encryptor<S, V, TAG_BYTES>
         requires { length ad.now ≤ MAX_AEAD_BYTES }
-        ensures stands { Stands S.FAMILY S.LANES S.lane S.updates result (S.key_bytes self.now.key) (S.key_bytes self.now.nonce) ad.now [] }
-        ensures empty { ciphertext S.FAMILY S.LANES (S.key_bytes self.now.key) (S.key_bytes self.now.nonce) ad.now [] ≡ [] }
+        ensures stands { Stands S.VARIANT result self.now.key self.now.nonce ad.now [] }
+        ensures empty { ciphertext S.VARIANT self.now.key self.now.nonce ad.now [] ≡ [] }
         ensures length { result.message_bytes ≡ 0 }
     {
         Encryptor::new(begin::<S>(&self.key, &self.nonce, ad), ad.len() as u64)
@@ -294,7 +323,7 @@ impl<S: LaneState<Key = K>, K: Copy, V: Variant, const TAG_BYTES: usize> Cipher<
         requires lengths { length out.old ≡ length (joined chunks.now) }
         requires message_within { length out.old ≤ MAX_AEAD_BYTES }
         ensures { (out.new, result)
-            ≡ seal S.FAMILY S.LANES TAG_BYTES (S.key_bytes self.now.key) (S.key_bytes self.now.nonce) ad.now (joined chunks.now) }
+            ≡ seal S.VARIANT TAG_BYTES self.now.key self.now.nonce ad.now (joined chunks.now) }
     {
         let state = begin::<S>(&self.key, &self.nonce, ad);
         let mut block = ZEROS;
@@ -314,8 +343,10 @@ impl<S: LaneState<Key = K>, K: Copy, V: Variant, const TAG_BYTES: usize> Cipher<
         ensures same_place { result.dst.ref_ptr ≡ plaintext.entry.ref_ptr }
         ensures unchanged { result.dst.now ≡ plaintext.old }
         ensures written { result.written ≡ 0 }
-        ensures stands { Stands S.FAMILY S.LANES S.lane S.updates (held result.state result.block result.data_bytes result.written) (S.key_bytes self.now.key) (S.key_bytes self.now.nonce) ad.now (take result.written result.dst.now) }
-        ensures empty { ciphertext S.FAMILY S.LANES (S.key_bytes self.now.key) (S.key_bytes self.now.nonce) ad.now (take result.written result.dst.now) ≡ [] }
+        ensures stands { Stands S.VARIANT (holds result) self.now.key self.now.nonce ad.now
+            (front result) }
+        ensures empty { ciphertext S.VARIANT self.now.key self.now.nonce ad.now (front result)
+            ≡ [] }
     {
         Decryptor::new(
             begin::<S>(&self.key, &self.nonce, ad),
@@ -324,27 +355,30 @@ impl<S: LaneState<Key = K>, K: Copy, V: Variant, const TAG_BYTES: usize> Cipher<
         )
     }
 
-    // Opens chunks, with zeros left in the message's place where the tag is wrong.
-    fn settle_chunks<'a>(
+    // Opens chunks into the front of `dst` whatever their tag, and returns how many bytes are written and whether this is the
+    // tag. If it is not, the caller erases them.
+    fn open_chunks_unchecked(
         &self,
         ad: &[u8],
         chunks: &[&[u8]],
         tag: &[u8; TAG_BYTES],
-        dst: &'a mut [u8],
-    ) -> Settled<'a>
+        dst: &mut [u8],
+    ) -> (usize, bool)
         requires { length ad.now ≤ MAX_AEAD_BYTES }
-        ensures same_reference { result.dst.ghost_name ≡ dst.entry.ghost_name }
-        ensures same_place { result.dst.ref_ptr ≡ dst.entry.ref_ptr }
-        ensures within { result.written ≤ length result.dst.now }
-        ensures written { result.written ≡ length (accepted (length dst.old) chunks.now) }
-        ensures erased { result.accepted ≡ false → result.dst.now ≡ replicate result.written 0 ++ drop result.written result.dst.now }
-        ensures rest { drop result.written result.dst.now ≡ drop result.written dst.old }
-        ensures opened { result.accepted ≡ true
-            → Opens S.FAMILY S.LANES TAG_BYTES (S.key_bytes self.now.key) (S.key_bytes self.now.nonce) ad.now (accepted (length dst.old) chunks.now) tag.now (take result.written result.dst.now) }
-        ensures accepted { (m : List ℕ) → Opens S.FAMILY S.LANES TAG_BYTES (S.key_bytes self.now.key) (S.key_bytes self.now.nonce) ad.now (accepted (length dst.old) chunks.now) tag.now m
-            → result.accepted ≡ true }
-        ensures only { (m : List ℕ) → Opens S.FAMILY S.LANES TAG_BYTES (S.key_bytes self.now.key) (S.key_bytes self.now.nonce) ad.now (accepted (length dst.old) chunks.now) tag.now m
-            → take result.written result.dst.now ≡ m }
+        ensures written { result.0 ≡ length (accepted (length dst.old) chunks.now) }
+        ensures within { result.0 ≤ length dst.new }
+        ensures rest { drop result.0 dst.new ≡ drop result.0 dst.old }
+        ensures opened { result.1 ≡ true
+            → Opens S.VARIANT TAG_BYTES self.now.key self.now.nonce ad.now
+            (accepted (length dst.old) chunks.now) tag.now (take result.0 dst.new) }
+        ensures accepted { (m : List ℕ)
+            → Opens S.VARIANT TAG_BYTES self.now.key self.now.nonce ad.now
+            (accepted (length dst.old) chunks.now) tag.now m
+            → result.1 ≡ true }
+        ensures only { (m : List ℕ)
+            → Opens S.VARIANT TAG_BYTES self.now.key self.now.nonce ad.now
+            (accepted (length dst.old) chunks.now) tag.now m
+            → take result.0 dst.new ≡ m }
     {
         let mut state = begin::<S>(&self.key, &self.nonce, ad);
         let mut block = ZEROS;
@@ -359,10 +393,42 @@ impl<S: LaneState<Key = K>, K: Copy, V: Variant, const TAG_BYTES: usize> Cipher<
             chunks,
         );
         let is_right = has_tag(state, &block, data_bytes, written.get(), tag);
-        erase_unless(dst, written.get() as usize, is_right);
+        (written.get() as usize, is_right)
+    }
+
+    // Opens chunks, with zeros left in the message's place if the tag is wrong.
+    fn settle_chunks<'a>(
+        &self,
+        ad: &[u8],
+        chunks: &[&[u8]],
+        tag: &[u8; TAG_BYTES],
+        dst: &'a mut [u8],
+    ) -> Settled<'a>
+        requires { length ad.now ≤ MAX_AEAD_BYTES }
+        ensures same_reference { result.dst.ghost_name ≡ dst.entry.ghost_name }
+        ensures same_place { result.dst.ref_ptr ≡ dst.entry.ref_ptr }
+        ensures within { result.written ≤ length result.dst.now }
+        ensures written { result.written ≡ length (accepted (length dst.old) chunks.now) }
+        ensures erased { result.accepted ≡ false
+            → result.dst.now ≡ erased result.written result.dst.now }
+        ensures rest { drop result.written result.dst.now ≡ drop result.written dst.old }
+        ensures opened { result.accepted ≡ true
+            → Opens S.VARIANT TAG_BYTES self.now.key self.now.nonce ad.now
+            (accepted (length dst.old) chunks.now) tag.now (take result.written result.dst.now) }
+        ensures accepted { (m : List ℕ)
+            → Opens S.VARIANT TAG_BYTES self.now.key self.now.nonce ad.now
+            (accepted (length dst.old) chunks.now) tag.now m
+            → result.accepted ≡ true }
+        ensures only { (m : List ℕ)
+            → Opens S.VARIANT TAG_BYTES self.now.key self.now.nonce ad.now
+            (accepted (length dst.old) chunks.now) tag.now m
+            → take result.written result.dst.now ≡ m }
+    {
+        let (written, is_right) = self.open_chunks_unchecked(ad, chunks, tag, dst);
+        erase_unless(dst, written, is_right);
         Settled {
             dst,
-            written: written.get() as usize,
+            written,
             accepted: is_right,
         }
     }
@@ -380,17 +446,59 @@ impl<S: LaneState<Key = K>, K: Copy, V: Variant, const TAG_BYTES: usize> Cipher<
         dst: &'a mut [u8],
     ) -> Result<&'a mut [u8], Error>
         requires { length ad.now ≤ MAX_AEAD_BYTES }
-        ensures* writes_back { sem 𝓛 (LendsIfOk (Array u8 0) (Array u8 0) dst.entry result (λ w. w ++ drop (length (accepted (length dst.old) chunks.now)) dst.old)
-            (replicate (length (accepted (length dst.old) chunks.now)) 0 ++ drop (length (accepted (length dst.old) chunks.now)) dst.old)) }
+        ensures* writes_back { sem 𝓛 (LendsIfOk (Array u8 0) (Array u8 0) dst.entry result
+            (λ w. w ++ drop (length (accepted (length dst.old) chunks.now)) dst.old)
+            (erased (length (accepted (length dst.old) chunks.now)) dst.old)) }
         ensures cases { MatchResult result
-            (λ m. Opens S.FAMILY S.LANES TAG_BYTES (S.key_bytes self.now.key) (S.key_bytes self.now.nonce) ad.now (accepted (length dst.old) chunks.now) tag.now m.now)
+            (λ m. Opens S.VARIANT TAG_BYTES self.now.key self.now.nonce ad.now
+            (accepted (length dst.old) chunks.now) tag.now m.now)
             (λ e. e ≡ Error.InvalidTag) }
         ensures place { IfOk result (λ m. m.ref_ptr ≡ dst.entry.ref_ptr) }
-        ensures accepted { (m : List ℕ) → Opens S.FAMILY S.LANES TAG_BYTES (S.key_bytes self.now.key) (S.key_bytes self.now.nonce) ad.now (accepted (length dst.old) chunks.now) tag.now m
+        ensures accepted { (m : List ℕ)
+            → Opens S.VARIANT TAG_BYTES self.now.key self.now.nonce ad.now
+            (accepted (length dst.old) chunks.now) tag.now m
             → IsOk result }
-        ensures only { (m : List ℕ) → Opens S.FAMILY S.LANES TAG_BYTES (S.key_bytes self.now.key) (S.key_bytes self.now.nonce) ad.now (accepted (length dst.old) chunks.now) tag.now m
+        ensures only { (m : List ℕ)
+            → Opens S.VARIANT TAG_BYTES self.now.key self.now.nonce ad.now
+            (accepted (length dst.old) chunks.now) tag.now m
             → IfOk result (λ opened. opened.now ≡ m) }
     {
         handed(self.settle_chunks(ad, chunks, tag, dst))
+    }
+
+    /// Opens a message that comes in chunks at the front of `dst`, as `open_chunks` does, and returns its length in bytes.
+    ///
+    /// For a caller that goes on with `dst` after a refusal, [`Error::InvalidTag`]: zeros then stand over the kept chunks'
+    /// bytes, and the rest of `dst` is as it was.
+    pub fn open_chunks_len(
+        &self,
+        ad: &[u8],
+        chunks: &[&[u8]],
+        tag: &[u8; TAG_BYTES],
+        dst: &mut [u8],
+    ) -> Result<usize, Error>
+        requires { length ad.now ≤ MAX_AEAD_BYTES }
+        ensures length { OnOk result
+            (result ≡ Ok (length (accepted (length dst.old) chunks.now))) }
+        ensures opened { OnOk result
+            (Opens S.VARIANT TAG_BYTES self.now.key self.now.nonce ad.now
+            (accepted (length dst.old) chunks.now) tag.now
+            (take (length (accepted (length dst.old) chunks.now)) dst.new)) }
+        ensures accepted { (m : List ℕ)
+            → Opens S.VARIANT TAG_BYTES self.now.key self.now.nonce ad.now
+            (accepted (length dst.old) chunks.now) tag.now m
+            → IsOk result }
+        ensures only { (m : List ℕ)
+            → Opens S.VARIANT TAG_BYTES self.now.key self.now.nonce ad.now
+            (accepted (length dst.old) chunks.now) tag.now m
+            → take (length (accepted (length dst.old) chunks.now)) dst.new ≡ m }
+        ensures rest { drop (length (accepted (length dst.old) chunks.now)) dst.new
+            ≡ drop (length (accepted (length dst.old) chunks.now)) dst.old }
+        ensures erased { OnErr result
+            (dst.new ≡ erased (length (accepted (length dst.old) chunks.now)) dst.old) }
+        ensures error { IfErr result (λ e. e ≡ Error.InvalidTag) }
+    {
+        let (written, is_right) = self.open_chunks_unchecked(ad, chunks, tag, dst);
+        counted(dst, written, is_right)
     }
 }

@@ -1,14 +1,19 @@
 //! Decryptors: opening a message that comes in chunks.
 
-ghost use Rattle.std.specs.Prelude.{◌≡◌, ℕ, ◌+◌, ◌<◌, ◌≤◌, ◌⊎◌, ◌↔◌, ◌++◌, ◌||◌, IfErr, IfOk, IsOk, IsTrue, List, MatchResult, OnErr, OnOk, Some, [], codes, drop, length, nat_eq, replicate, take, true, false};
+ghost use Rattle.std.specs.Prelude.{◌≡◌, ℕ, ◌+◌, ◌<◌, ◌≤◌, ◌⊎◌, ◌↔◌, ◌++◌, ◌||◌, IfErr, IfOk, IsOk, IsTrue, List, MatchResult, OnErr, OnOk, Some, [], codes, drop, length, nat_eq, take, true, false};
+ghost use Rattle.aegis_base.specs.Chunks.{erased};
+ghost use Rattle.aegis_base.specs.Lane.{IsTagLength};
 ghost use Rattle.std.specs.Borrow.{Array, LendsIfOk, sem, u8};
+ghost use Rattle.aegis_base.specs.declared.error.TheConstants.{MAX_AEAD_BYTES};
 ghost use Rattle.aegis_base.specs.Message.{Opens, ciphertext, tag as tag_of};
-ghost use Rattle.aegis_base.specs.Run.{Stands, held};
+ghost use Rattle.aegis_base.specs.Run.{Continues, Decrypts, IsAccepted, IsTagged, Stands};
+ghost use Rattle.aegis_engine.specs.Held.{held};
 
 use crate::destination::{Settled, counted, erase, erase_unless, handed};
+use crate::message::overwrite;
 use crate::opening::{has_tag, open_chunk};
-use crate::pass::{Block, ZEROS};
-use aegis_base::{Error, LaneState, Length, MAX_AEAD_BYTES, Variant};
+use crate::pass::{RateBlock, ZEROS};
+use aegis_base::{Error, LaneState, Length, MAX_AEAD_BYTES, Names};
 use std::fmt;
 use std::marker::PhantomData;
 
@@ -19,7 +24,7 @@ use std::marker::PhantomData;
 ///
 /// The fields are for contracts, which say which key, nonce, associated data and message so far a decryptor stands for:
 /// that message is the front of the destination. Nothing is promised to who changes them.
-pub struct Decryptor<'a, S: LaneState, V: Variant, const TAG_BYTES: usize> {
+pub struct Decryptor<'a, S: LaneState, V: Names, const TAG_BYTES: usize> {
     /// The destination.
     pub dst: &'a mut [u8],
     /// How many bytes of the message are written to its front.
@@ -27,34 +32,35 @@ pub struct Decryptor<'a, S: LaneState, V: Variant, const TAG_BYTES: usize> {
     /// The lanes.
     pub state: S,
     /// The bytes of the message after its last whole rate block.
-    pub block: Block,
+    pub block: RateBlock,
     /// How many bytes of associated data there are.
     pub data_bytes: u64,
     variant: PhantomData<V>,
     ghost tag_bytes: { IsTrue (nat_eq TAG_BYTES 16 || nat_eq TAG_BYTES 32) },
     ghost within: { written ≤ length dst.now },
-    ghost associated_data_within: { data_bytes ≤ 2305843009213693951 },
+    ghost associated_data_within: { data_bytes ≤ MAX_AEAD_BYTES },
     ghost counted: { S.updates state ≤ data_bytes + written },
 }
 
-impl<S: LaneState, V: Variant, const TAG_BYTES: usize> Drop for Decryptor<'_, S, V, TAG_BYTES> {
+impl<S: LaneState, V: Names, const TAG_BYTES: usize> Drop for Decryptor<'_, S, V, TAG_BYTES> {
     fn drop(self)
-        ensures { self.exit.0.now ≡ replicate self.entry.written 0 ++ drop self.entry.written self.entry.dst.now }
+        ensures { self.exit.0.now
+            ≡ erased self.entry.written self.entry.dst.now }
     {
         let Decryptor {
             dst,
             written,
-            state,
-            block,
-            data_bytes,
-            variant,
+            mut state,
+            mut block,
+            data_bytes: _,
+            variant: _,
         } = self;
+        overwrite(&mut state, &mut block);
         erase(dst, written.get() as usize);
     }
 }
 
-impl<S: LaneState, V: Variant, const TAG_BYTES: usize> fmt::Debug
-    for Decryptor<'_, S, V, TAG_BYTES> {
+impl<S: LaneState, V: Names, const TAG_BYTES: usize> fmt::Debug for Decryptor<'_, S, V, TAG_BYTES> {
     ghost debug_output = { λ _. Some (V.module_name ++ codes "::Decryptor { .. }") };
 
     fn fmt<W: fmt::Write>(&self, f: &mut fmt::Formatter<W>) -> fmt::Result {
@@ -63,10 +69,12 @@ impl<S: LaneState, V: Variant, const TAG_BYTES: usize> fmt::Debug
     }
 }
 
-impl<'a, S: LaneState, V: Variant, const TAG_BYTES: usize> Decryptor<'a, S, V, TAG_BYTES> {
+impl<'a, S: LaneState, V: Names, const TAG_BYTES: usize> Decryptor<'a, S, V, TAG_BYTES> {
+    ghost use Rattle.aegis_engine.specs.Front.{front, holds};
+
     /// A decryptor whose lanes have taken in `data_bytes` of associated data.
     pub(crate) fn new(state: S, data_bytes: u64, dst: &'a mut [u8]) -> Self
-        requires tag_bytes { (TAG_BYTES ≡ 16) ⊎ (TAG_BYTES ≡ 32) }
+        requires tag_bytes { IsTagLength TAG_BYTES }
         requires counted { S.updates state ≤ data_bytes }
         requires associated_data_within { data_bytes ≤ MAX_AEAD_BYTES }
         ensures same_reference { result.dst.ghost_name ≡ dst.entry.ghost_name }
@@ -74,8 +82,11 @@ impl<'a, S: LaneState, V: Variant, const TAG_BYTES: usize> Decryptor<'a, S, V, T
         ensures unchanged { result.dst.now ≡ dst.old }
         ensures written { result.written ≡ 0 }
         ensures stands { (key nonce ad : List ℕ)
-            → ((block : List ℕ) → Stands S.FAMILY S.LANES S.lane S.updates (held state block data_bytes 0) key nonce ad [])
-            → Stands S.FAMILY S.LANES S.lane S.updates (held result.state result.block result.data_bytes result.written) key nonce ad (take result.written result.dst.now) }
+            → ((block : List ℕ)
+            → Stands S.VARIANT (held S.LaneState state block data_bytes 0) key nonce ad [])
+            → Stands S.VARIANT
+            (holds result)
+            key nonce ad (front result) }
     {
         Decryptor {
             dst,
@@ -94,20 +105,27 @@ impl<'a, S: LaneState, V: Variant, const TAG_BYTES: usize> Decryptor<'a, S, V, T
     pub fn update(&mut self, chunk: &[u8]) -> Result<(), Error>
         ensures same_reference { self.new.dst.ghost_name ≡ self.old.dst.ghost_name }
         ensures same_place { self.new.dst.ref_ptr ≡ self.old.dst.ref_ptr }
-        ensures too_small { (result ≡ Err Error.OutputBufferTooSmall) ↔ (length self.old.dst.now < self.old.written + length chunk.now) }
-        ensures too_long { (result ≡ Err Error.MessageTooLong) ↔ ((self.old.written + length chunk.now ≤ length self.old.dst.now) × (MAX_AEAD_BYTES < self.old.written + length chunk.now)) }
-        ensures accepted { IsOk result ↔ ((self.old.written + length chunk.now ≤ length self.old.dst.now) × (self.old.written + length chunk.now ≤ MAX_AEAD_BYTES)) }
-        ensures stands { (key nonce ad : List ℕ)
-            → Stands S.FAMILY S.LANES S.lane S.updates (held self.old.state self.old.block self.old.data_bytes self.old.written) key nonce ad (take self.old.written self.old.dst.now)
-            → Stands S.FAMILY S.LANES S.lane S.updates (held self.new.state self.new.block self.new.data_bytes self.new.written) key nonce ad (take self.new.written self.new.dst.now) }
-        ensures ciphertext { (key nonce ad : List ℕ)
-            → Stands S.FAMILY S.LANES S.lane S.updates (held self.old.state self.old.block self.old.data_bytes self.old.written) key nonce ad (take self.old.written self.old.dst.now)
-            → OnOk result (ciphertext S.FAMILY S.LANES key nonce ad (take self.new.written self.new.dst.now) ≡ ciphertext S.FAMILY S.LANES key nonce ad (take self.old.written self.old.dst.now) ++ chunk.now) }
+        ensures too_small { (result ≡ Err Error.OutputBufferTooSmall)
+            ↔ (length self.old.dst.now < self.old.written + length chunk.now) }
+        ensures too_long { (result ≡ Err Error.MessageTooLong)
+            ↔ ((self.old.written + length chunk.now ≤ length self.old.dst.now)
+            × (MAX_AEAD_BYTES < self.old.written + length chunk.now)) }
+        ensures accepted { IsOk result
+            ↔ ((self.old.written + length chunk.now ≤ length self.old.dst.now)
+            × (self.old.written + length chunk.now ≤ MAX_AEAD_BYTES)) }
+        ensures stands { Continues S.VARIANT
+            (holds self.old) (front self.old) (holds self.new) (front self.new) }
+        ensures ciphertext { OnOk result
+            (Decrypts S.VARIANT (holds self.old) (front self.old) chunk.now (front self.new)) }
         ensures written { OnOk result (self.new.written ≡ self.old.written + length chunk.now) }
         ensures room { length self.new.dst.now ≡ length self.old.dst.now }
-        ensures front { take self.old.written self.new.dst.now ≡ take self.old.written self.old.dst.now }
-        ensures rest { (n : ℕ) → self.new.written ≤ n → drop n self.new.dst.now ≡ drop n self.old.dst.now }
-        ensures unchanged { OnErr result ((self.new.dst.now ≡ self.old.dst.now) × (self.new.written ≡ self.old.written) × (self.new.state ≡ self.old.state) × (self.new.block ≡ self.old.block)) }
+        ensures front { take self.old.written self.new.dst.now
+            ≡ take self.old.written self.old.dst.now }
+        ensures rest { (n : ℕ) → self.new.written ≤ n
+            → drop n self.new.dst.now ≡ drop n self.old.dst.now }
+        ensures unchanged { OnErr result ((self.new.dst.now ≡ self.old.dst.now)
+            × (self.new.written ≡ self.old.written) × (self.new.state ≡ self.old.state)
+            × (self.new.block ≡ self.old.block)) }
         ensures data_bytes { self.new.data_bytes ≡ self.old.data_bytes }
     {
         open_chunk(
@@ -127,25 +145,25 @@ impl<'a, S: LaneState, V: Variant, const TAG_BYTES: usize> Decryptor<'a, S, V, T
         ensures written { result.written ≡ self.entry.written }
         ensures within { result.written ≤ length result.dst.now }
         ensures kept { result.accepted ≡ true → result.dst.now ≡ self.entry.dst.now }
-        ensures erased { result.accepted ≡ false → result.dst.now ≡ replicate result.written 0 ++ drop result.written result.dst.now }
-        ensures rest { drop result.written result.dst.now ≡ drop self.entry.written self.entry.dst.now }
-        ensures tag { (key nonce ad : List ℕ)
-            → Stands S.FAMILY S.LANES S.lane S.updates (held self.entry.state self.entry.block self.entry.data_bytes self.entry.written) key nonce ad (take self.entry.written self.entry.dst.now)
-            → (result.accepted ≡ true) ↔ (tag.now ≡ tag_of S.FAMILY S.LANES TAG_BYTES key nonce ad (take self.entry.written self.entry.dst.now)) }
-        ensures accepted { (key nonce ad m : List ℕ)
-            → Stands S.FAMILY S.LANES S.lane S.updates (held self.entry.state self.entry.block self.entry.data_bytes self.entry.written) key nonce ad (take self.entry.written self.entry.dst.now)
-            → Opens S.FAMILY S.LANES TAG_BYTES key nonce ad (ciphertext S.FAMILY S.LANES key nonce ad (take self.entry.written self.entry.dst.now)) tag.now m
-            → result.accepted ≡ true }
+        ensures erased { result.accepted ≡ false
+            → result.dst.now ≡ erased result.written result.dst.now }
+        ensures rest { drop result.written result.dst.now
+            ≡ drop self.entry.written self.entry.dst.now }
+        ensures tag { IsTagged S.VARIANT TAG_BYTES
+            (holds self.entry) (front self.entry) tag.now (result.accepted ≡ true) }
+        ensures accepted { IsAccepted S.VARIANT TAG_BYTES
+            (holds self.entry) (front self.entry) tag.now (result.accepted ≡ true) }
     {
         let Decryptor {
             dst,
             written,
-            state,
-            block,
+            mut state,
+            mut block,
             data_bytes,
-            variant,
+            variant: _,
         } = self;
         let accepted = has_tag(state, &block, data_bytes, written.get(), tag);
+        overwrite(&mut state, &mut block);
         erase_unless(dst, written.get() as usize, accepted);
         Settled {
             dst,
@@ -157,16 +175,17 @@ impl<'a, S: LaneState, V: Variant, const TAG_BYTES: usize> Decryptor<'a, S, V, T
     /// Hands out the message, the written front of the destination itself, where the tag is right. Otherwise it is
     /// [`Error::InvalidTag`], and zeros are left in the message's place. The bytes after it stay as they were.
     pub fn finalize(self, tag: &[u8; TAG_BYTES]) -> Result<&'a mut [u8], Error>
-        ensures* writes_back { sem 𝓛 (LendsIfOk (Array u8 0) (Array u8 0) self.entry.dst result (λ w. w ++ drop self.entry.written self.entry.dst.now) (replicate self.entry.written 0 ++ drop self.entry.written self.entry.dst.now)) }
-        ensures cases { MatchResult result (λ message. message.now ≡ take self.entry.written self.entry.dst.now) (λ e. e ≡ Error.InvalidTag) }
+        ensures* writes_back { sem 𝓛 (LendsIfOk (Array u8 0) (Array u8 0) self.entry.dst result
+            (λ w. w ++ drop self.entry.written self.entry.dst.now)
+            (erased self.entry.written self.entry.dst.now)) }
+        ensures cases { MatchResult result
+            (λ message. message.now ≡ front self.entry)
+            (λ e. e ≡ Error.InvalidTag) }
         ensures place { IfOk result (λ message. message.ref_ptr ≡ self.entry.dst.ref_ptr) }
-        ensures tag { (key nonce ad : List ℕ)
-            → Stands S.FAMILY S.LANES S.lane S.updates (held self.entry.state self.entry.block self.entry.data_bytes self.entry.written) key nonce ad (take self.entry.written self.entry.dst.now)
-            → IsOk result ↔ (tag.now ≡ tag_of S.FAMILY S.LANES TAG_BYTES key nonce ad (take self.entry.written self.entry.dst.now)) }
-        ensures accepted { (key nonce ad m : List ℕ)
-            → Stands S.FAMILY S.LANES S.lane S.updates (held self.entry.state self.entry.block self.entry.data_bytes self.entry.written) key nonce ad (take self.entry.written self.entry.dst.now)
-            → Opens S.FAMILY S.LANES TAG_BYTES key nonce ad (ciphertext S.FAMILY S.LANES key nonce ad (take self.entry.written self.entry.dst.now)) tag.now m
-            → IsOk result }
+        ensures tag { IsTagged S.VARIANT TAG_BYTES
+            (holds self.entry) (front self.entry) tag.now (IsOk result) }
+        ensures accepted { IsAccepted S.VARIANT TAG_BYTES
+            (holds self.entry) (front self.entry) tag.now (IsOk result) }
     {
         handed(self.settle(tag))
     }
@@ -176,28 +195,28 @@ impl<'a, S: LaneState, V: Variant, const TAG_BYTES: usize> Decryptor<'a, S, V, T
     pub fn finalize_len(self, tag: &[u8; TAG_BYTES]) -> Result<usize, Error>
         ensures written { OnOk result (result ≡ Ok self.entry.written) }
         ensures message { OnOk result (self.exit.0.now ≡ self.entry.dst.now) }
-        ensures erased { OnErr result (self.exit.0.now ≡ replicate self.entry.written 0 ++ drop self.entry.written self.entry.dst.now) }
+        ensures erased { OnErr result (self.exit.0.now
+            ≡ erased self.entry.written self.entry.dst.now) }
         ensures error { IfErr result (λ e. e ≡ Error.InvalidTag) }
-        ensures tag { (key nonce ad : List ℕ)
-            → Stands S.FAMILY S.LANES S.lane S.updates (held self.entry.state self.entry.block self.entry.data_bytes self.entry.written) key nonce ad (take self.entry.written self.entry.dst.now)
-            → IsOk result ↔ (tag.now ≡ tag_of S.FAMILY S.LANES TAG_BYTES key nonce ad (take self.entry.written self.entry.dst.now)) }
-        ensures accepted { (key nonce ad m : List ℕ)
-            → Stands S.FAMILY S.LANES S.lane S.updates (held self.entry.state self.entry.block self.entry.data_bytes self.entry.written) key nonce ad (take self.entry.written self.entry.dst.now)
-            → Opens S.FAMILY S.LANES TAG_BYTES key nonce ad (ciphertext S.FAMILY S.LANES key nonce ad (take self.entry.written self.entry.dst.now)) tag.now m
-            → IsOk result }
+        ensures tag { IsTagged S.VARIANT TAG_BYTES
+            (holds self.entry) (front self.entry) tag.now (IsOk result) }
+        ensures accepted { IsAccepted S.VARIANT TAG_BYTES
+            (holds self.entry) (front self.entry) tag.now (IsOk result) }
         ensures only { (key nonce ad m : List ℕ)
-            → ciphertext S.FAMILY S.LANES key nonce ad m ≡ ciphertext S.FAMILY S.LANES key nonce ad (take self.entry.written self.entry.dst.now)
-            → m ≡ take self.entry.written self.entry.dst.now }
+            → ciphertext S.VARIANT key nonce ad m
+            ≡ ciphertext S.VARIANT key nonce ad (front self.entry)
+            → m ≡ front self.entry }
     {
         let Decryptor {
             dst,
             written,
-            state,
-            block,
+            mut state,
+            mut block,
             data_bytes,
-            variant,
+            variant: _,
         } = self;
         let accepted = has_tag(state, &block, data_bytes, written.get(), tag);
+        overwrite(&mut state, &mut block);
         counted(dst, written.get() as usize, accepted)
     }
 }

@@ -1,7 +1,8 @@
 //! Borrowed destinations: what is written to their front is handed out, or zeros are left there.
 
-ghost use Rattle.std.specs.Prelude.{◌≡◌, ℕ, ◌≤◌, ◌++◌, IfErr, MatchResult, OnErr, OnOk, drop, false, length, replicate, take, true};
+ghost use Rattle.std.specs.Prelude.{◌≡◌, ℕ, ◌≤◌, ◌++◌, IfErr, MatchResult, OnErr, OnOk, drop, false, length, take, true};
 ghost use Rattle.std.specs.Borrow.{Array, LendsIfOk, sem, u8};
+ghost use Rattle.aegis_base.specs.Chunks.{erased};
 
 use aegis_base::Error;
 
@@ -16,9 +17,16 @@ pub struct Settled<'a> {
 /// The message, where it is accepted. Otherwise there are zeros in its place already.
 pub fn handed<'a>(settled: Settled<'a>) -> Result<&'a mut [u8], Error>
     requires within { settled.written ≤ length settled.dst.now }
-    requires erased { settled.accepted ≡ false → settled.dst.now ≡ replicate settled.written 0 ++ drop settled.written settled.dst.now }
-    ensures* writes_back { sem 𝓛 (LendsIfOk (Array u8 0) (Array u8 0) settled.entry.dst result (λ w. w ++ drop settled.entry.written settled.entry.dst.now) (replicate settled.entry.written 0 ++ drop settled.entry.written settled.entry.dst.now)) }
-    ensures cases { MatchResult result (λ message. (settled.entry.accepted ≡ true) × (message.now ≡ take settled.entry.written settled.entry.dst.now) × (message.ref_ptr ≡ settled.entry.dst.ref_ptr)) (λ e. (settled.entry.accepted ≡ false) × (e ≡ Error.InvalidTag)) }
+    requires erased { settled.accepted ≡ false
+        → settled.dst.now ≡ erased settled.written settled.dst.now }
+    ensures* writes_back { sem 𝓛 (LendsIfOk (Array u8 0) (Array u8 0) settled.entry.dst result
+        (λ w. w ++ drop settled.entry.written settled.entry.dst.now)
+        (erased settled.entry.written settled.entry.dst.now)) }
+    ensures cases { MatchResult result
+        (λ message. (settled.entry.accepted ≡ true)
+        × (message.now ≡ take settled.entry.written settled.entry.dst.now)
+        × (message.ref_ptr ≡ settled.entry.dst.ref_ptr))
+        (λ e. (settled.entry.accepted ≡ false) × (e ≡ Error.InvalidTag)) }
 {
     let Settled {
         dst,
@@ -35,7 +43,7 @@ pub fn handed<'a>(settled: Settled<'a>) -> Result<&'a mut [u8], Error>
 /// Leaves zeros in the place of the first `written` bytes.
 pub fn erase(dst: &mut [u8], written: usize)
     requires { written ≤ length dst.old }
-    ensures { dst.new ≡ replicate written 0 ++ drop written dst.old }
+    ensures { dst.new ≡ erased written dst.old }
 {
     dst[..written].fill(0);
 }
@@ -45,7 +53,7 @@ pub fn erase(dst: &mut [u8], written: usize)
 pub fn erase_unless(dst: &mut [u8], written: usize, accepted: bool)
     requires { written ≤ length dst.old }
     ensures kept { accepted ≡ true → dst.new ≡ dst.old }
-    ensures erased { accepted ≡ false → dst.new ≡ replicate written 0 ++ drop written dst.new }
+    ensures erased { accepted ≡ false → dst.new ≡ erased written dst.new }
     ensures rest { drop written dst.new ≡ drop written dst.old }
 {
     if !accepted {
@@ -58,7 +66,7 @@ pub fn counted(dst: &mut [u8], written: usize, accepted: bool) -> Result<usize, 
     requires { written ≤ length dst.old }
     ensures written { OnOk result (result ≡ Ok written) }
     ensures message { OnOk result (dst.new ≡ dst.old) }
-    ensures erased { OnErr result (dst.new ≡ replicate written 0 ++ drop written dst.old) }
+    ensures erased { OnErr result (dst.new ≡ erased written dst.old) }
     ensures error { IfErr result (λ e. e ≡ Error.InvalidTag) }
     ensures accepted { MatchResult result (λ _. accepted ≡ true) (λ _. accepted ≡ false) }
 {

@@ -1,12 +1,15 @@
 //! Encryptors: sealing a message that comes in chunks.
 
 ghost use Rattle.std.specs.Prelude.{◌≡◌, ℕ, ◌+◌, ◌-◌, ◌<◌, ◌≤◌, ◌⊎◌, ◌++◌, List, [], Some, codes, length};
-ghost use Rattle.aegis_base.specs.Message.{ciphertext, tag};
-ghost use Rattle.aegis_base.specs.Run.{Stands, held};
+ghost use Rattle.aegis_base.specs.Lane.{IsTagLength};
+ghost use Rattle.aegis_base.specs.Message.{tag};
+ghost use Rattle.aegis_base.specs.Run.{Encrypts, Stands, Takes};
+ghost use Rattle.aegis_engine.specs.Held.{held};
 
-use crate::message::{finish, seal_more};
-use crate::pass::{Block, ZEROS};
-use aegis_base::{LaneState, Length, MAX_AEAD_BYTES, Variant};
+use crate::message::{finish, overwrite, seal_more};
+use crate::pass::{Pass, RateBlock, ZEROS};
+use crate::pieces::pass_copied;
+use aegis_base::{LaneState, Length, MAX_AEAD_BYTES, Names};
 use std::fmt;
 use std::marker::{Model, PhantomData};
 
@@ -14,31 +17,45 @@ use std::marker::{Model, PhantomData};
 ///
 /// `Cipher::encryptor` starts one. Contracts see what it holds, and say which key, nonce, associated data and message so
 /// far that stands for.
-#[derive(Drop)]
-pub struct Encryptor<S: LaneState, V: Variant, const TAG_BYTES: usize> {
+pub struct Encryptor<S: LaneState, V: Names, const TAG_BYTES: usize> {
     state: S,
-    block: Block,
+    block: RateBlock,
     data_bytes: u64,
     message_bytes: Length,
     variant: PhantomData<V>,
 }
 
-impl<S: LaneState, V: Variant, const TAG_BYTES: usize> Model for Encryptor<S, V, TAG_BYTES> {
-    ghost use Rattle.std.specs.Prelude.{◌≡◌, ◌⊎◌, ◌+◌, ◌≤◌};
+impl<S: LaneState, V: Names, const TAG_BYTES: usize> Model for Encryptor<S, V, TAG_BYTES> {
+    ghost use Rattle.std.specs.Prelude.{◌+◌, ◌≤◌};
+    ghost use Rattle.aegis_base.specs.Lane.{IsTagLength};
     ghost use Rattle.aegis_base.specs.declared.error.TheConstants.{MAX_AEAD_BYTES};
-    ghost use Rattle.aegis_base.specs.Run.{Held, held};
+    ghost use Rattle.aegis_base.specs.Run.{Held};
+    ghost use Rattle.aegis_engine.specs.Held.{held};
 
-    ghost Value = { Held S };
+    ghost Value = { Held };
 
-    ghost view = { λ e. held e.state e.block e.data_bytes e.message_bytes };
+    ghost view = { λ e. held S.LaneState e.state e.block e.data_bytes e.message_bytes };
 
-    ghost invariant = { λ e. ((TAG_BYTES ≡ 16) ⊎ (TAG_BYTES ≡ 32))
+    ghost invariant = { λ e. IsTagLength TAG_BYTES
         × (S.updates e.state ≤ e.data_bytes + e.message_bytes)
         × (e.data_bytes ≤ MAX_AEAD_BYTES)
         × (e.message_bytes ≤ MAX_AEAD_BYTES) };
 }
 
-impl<S: LaneState, V: Variant, const TAG_BYTES: usize> fmt::Debug for Encryptor<S, V, TAG_BYTES> {
+impl<S: LaneState, V: Names, const TAG_BYTES: usize> Drop for Encryptor<S, V, TAG_BYTES> {
+    fn drop(self) {
+        let Encryptor {
+            mut state,
+            mut block,
+            data_bytes: _,
+            message_bytes: _,
+            variant: _,
+        } = self;
+        overwrite(&mut state, &mut block);
+    }
+}
+
+impl<S: LaneState, V: Names, const TAG_BYTES: usize> fmt::Debug for Encryptor<S, V, TAG_BYTES> {
     ghost debug_output = { λ _. Some (V.module_name ++ codes "::Encryptor { .. }") };
 
     fn fmt<W: fmt::Write>(&self, f: &mut fmt::Formatter<W>) -> fmt::Result {
@@ -47,15 +64,16 @@ impl<S: LaneState, V: Variant, const TAG_BYTES: usize> fmt::Debug for Encryptor<
     }
 }
 
-impl<S: LaneState, V: Variant, const TAG_BYTES: usize> Encryptor<S, V, TAG_BYTES> {
+impl<S: LaneState, V: Names, const TAG_BYTES: usize> Encryptor<S, V, TAG_BYTES> {
     /// An encryptor whose lanes have taken in `data_bytes` of associated data.
     pub(crate) fn new(state: S, data_bytes: u64) -> Self
-        requires tag_bytes { (TAG_BYTES ≡ 16) ⊎ (TAG_BYTES ≡ 32) }
+        requires tag_bytes { IsTagLength TAG_BYTES }
         requires counted { S.updates state ≤ data_bytes }
         requires associated_data_within { data_bytes ≤ MAX_AEAD_BYTES }
         ensures stands { (key nonce ad : List ℕ)
-            → ((block : List ℕ) → Stands S.FAMILY S.LANES S.lane S.updates (held state block data_bytes 0) key nonce ad [])
-            → Stands S.FAMILY S.LANES S.lane S.updates result key nonce ad [] }
+            → ((block : List ℕ)
+            → Stands S.VARIANT (held S.LaneState state block data_bytes 0) key nonce ad [])
+            → Stands S.VARIANT result key nonce ad [] }
         ensures length { result.message_bytes ≡ 0 }
     {
         Encryptor {
@@ -71,21 +89,12 @@ impl<S: LaneState, V: Variant, const TAG_BYTES: usize> Encryptor<S, V, TAG_BYTES
     /// most [`MAX_AEAD_BYTES`], which `remaining` tells before.
     pub fn update_in_place(&mut self, buffer: &mut [u8])
         requires { self.old.message_bytes + length buffer.old ≤ MAX_AEAD_BYTES }
-        ensures stands { (key nonce ad m : List ℕ) → Stands S.FAMILY S.LANES S.lane S.updates self.old key nonce ad m
-            → Stands S.FAMILY S.LANES S.lane S.updates self.new key nonce ad (m ++ buffer.old) }
-        ensures ciphertext { (key nonce ad m : List ℕ) → Stands S.FAMILY S.LANES S.lane S.updates self.old key nonce ad m
-            → ciphertext S.FAMILY S.LANES key nonce ad (m ++ buffer.old) ≡ ciphertext S.FAMILY S.LANES key nonce ad m ++ buffer.new }
+        ensures taken { Takes S.VARIANT self.old self.new buffer.old }
+        ensures written { Encrypts S.VARIANT self.old buffer.old buffer.new }
         ensures length { self.new.message_bytes ≡ self.old.message_bytes + length buffer.old }
     {
         let so_far = self.message_bytes.get();
-        self.state = seal_more(
-            self.state,
-            &mut self.block,
-            self.data_bytes,
-            so_far,
-            None,
-            buffer,
-        );
+        self.state = seal_more(self.state, &mut self.block, self.data_bytes, so_far, buffer);
         let _ = self.message_bytes.add(buffer.len() as u64);
     }
 
@@ -93,14 +102,21 @@ impl<S: LaneState, V: Variant, const TAG_BYTES: usize> Encryptor<S, V, TAG_BYTES
     pub fn update(&mut self, plaintext: &[u8], out: &mut [u8])
         requires lengths { length out.old ≡ length plaintext.now }
         requires within { self.old.message_bytes + length plaintext.now ≤ MAX_AEAD_BYTES }
-        ensures stands { (key nonce ad m : List ℕ) → Stands S.FAMILY S.LANES S.lane S.updates self.old key nonce ad m
-            → Stands S.FAMILY S.LANES S.lane S.updates self.new key nonce ad (m ++ plaintext.now) }
-        ensures ciphertext { (key nonce ad m : List ℕ) → Stands S.FAMILY S.LANES S.lane S.updates self.old key nonce ad m
-            → ciphertext S.FAMILY S.LANES key nonce ad (m ++ plaintext.now) ≡ ciphertext S.FAMILY S.LANES key nonce ad m ++ out.new }
+        ensures taken { Takes S.VARIANT self.old self.new plaintext.now }
+        ensures written { Encrypts S.VARIANT self.old plaintext.now out.new }
         ensures length { self.new.message_bytes ≡ self.old.message_bytes + length plaintext.now }
     {
-        out.copy_from_slice(plaintext);
-        self.update_in_place(out);
+        let so_far = self.message_bytes.get();
+        self.state = pass_copied(
+            self.state,
+            &mut self.block,
+            self.data_bytes,
+            so_far,
+            Pass::Seal,
+            plaintext,
+            out,
+        );
+        let _ = self.message_bytes.add(plaintext.len() as u64);
     }
 
     /// How many more bytes the message may have.
@@ -112,8 +128,8 @@ impl<S: LaneState, V: Variant, const TAG_BYTES: usize> Encryptor<S, V, TAG_BYTES
 
     /// The tag of the message.
     pub fn finalize(self) -> [u8; TAG_BYTES]
-        ensures { (key nonce ad m : List ℕ) → Stands S.FAMILY S.LANES S.lane S.updates self key nonce ad m
-            → result ≡ tag S.FAMILY S.LANES TAG_BYTES key nonce ad m }
+        ensures { (key nonce ad m : List ℕ) → Stands S.VARIANT self key nonce ad m
+            → result ≡ tag S.VARIANT TAG_BYTES key nonce ad m }
     {
         finish(
             self.state,

@@ -1,7 +1,8 @@
 //! The block engine of AEGIS and the calls over it, once for every family and lane count.
 //!
 //! From below: `pass` runs a state along rate blocks, `run` along bytes that come in any pieces, `message` along associated
-//! data and a message; `chunks` along lists of chunks; `cipher`, `encryptor` and `mac` have the public calls.
+//! data and a message, `pieces` along bytes from another slice, `chunks` along lists of chunks; `cipher`, `encryptor`,
+//! `decryptor` and `mac` have the public calls.
 #![tactic(auto)]
 
 mod chunks;
@@ -13,6 +14,7 @@ mod mac;
 mod message;
 mod opening;
 mod pass;
+mod pieces;
 mod run;
 mod tag;
 

@@ -2,18 +2,19 @@
 
 ghost use Rattle.std.specs.Prelude.{◌≡◌, ⊤, ℕ, ◌+◌, ◌-◌, ◌^◌, ◌<◌, ◌≤◌, ◌++◌, IfErr, IsOk, List, OnOk, Some, [], codes, length, replicate};
 ghost use Rattle.aegis_base.specs.Chunks.{joined};
-ghost use Rattle.aegis_base.specs.Family.{key_length};
+ghost use Rattle.aegis_base.specs.Variant.{key_length};
 ghost use Rattle.aegis_base.specs.Lane.{IsTagLength, start};
 ghost use Rattle.aegis_base.specs.Mac.{mac, mac_input, mac_tag};
 ghost use Rattle.aegis_base.specs.Message.{after_all};
-ghost use Rattle.aegis_base.specs.Run.{Stands, held};
+ghost use Rattle.aegis_base.specs.Run.{Stands, Takes};
+ghost use Rattle.aegis_engine.specs.Held.{held};
 
 use crate::chunks::absorb_chunks;
-use crate::message::{absorb_more, begin};
-use crate::pass::{Block, ZEROS};
+use crate::message::{absorb_more, begin, overwrite};
+use crate::pass::{RateBlock, ZEROS};
 use crate::run::pad;
 use crate::tag::{folded_tag, same_bytes};
-use aegis_base::{Error, LaneState, Length, MAX_AEAD_BYTES, Variant};
+use aegis_base::{Error, LaneState, Length, MAX_AEAD_BYTES, Names};
 use std::alloc::AllocError;
 use std::fmt;
 use std::marker::{Model, PhantomData};
@@ -22,29 +23,45 @@ use std::marker::{Model, PhantomData};
 ///
 /// It is a run along its input without associated data: contracts see what it holds, and say which key, nonce and input so
 /// far that stands for. The input has at most [`MAX_AEAD_BYTES`], which `remaining` tells before. No call takes memory.
-#[derive(Drop)]
-pub struct Mac<S: LaneState, V: Variant, const TAG_BYTES: usize> {
+pub struct Mac<S: LaneState, V: Names, const KEY_BYTES: usize, const TAG_BYTES: usize> {
     state: S,
-    block: Block,
+    block: RateBlock,
     bytes: Length,
     variant: PhantomData<V>,
 }
 
-impl<S: LaneState, V: Variant, const TAG_BYTES: usize> Model for Mac<S, V, TAG_BYTES> {
-    ghost use Rattle.std.specs.Prelude.{◌≡◌, ◌⊎◌, ◌≤◌};
+impl<S: LaneState, V: Names, const KEY_BYTES: usize, const TAG_BYTES: usize> Model
+    for Mac<S, V, KEY_BYTES, TAG_BYTES> {
+    ghost use Rattle.std.specs.Prelude.{◌≤◌};
+    ghost use Rattle.aegis_base.specs.Lane.{IsTagLength};
     ghost use Rattle.aegis_base.specs.declared.error.TheConstants.{MAX_AEAD_BYTES};
-    ghost use Rattle.aegis_base.specs.Run.{Held, held};
+    ghost use Rattle.aegis_base.specs.Run.{Held};
+    ghost use Rattle.aegis_engine.specs.Held.{held};
 
-    ghost Value = { Held S };
+    ghost Value = { Held };
 
-    ghost view = { λ m. held m.state m.block 0 m.bytes };
+    ghost view = { λ m. held S.LaneState m.state m.block 0 m.bytes };
 
-    ghost invariant = { λ m. ((TAG_BYTES ≡ 16) ⊎ (TAG_BYTES ≡ 32))
+    ghost invariant = { λ m. IsTagLength TAG_BYTES
         × (S.updates m.state ≤ m.bytes)
         × (m.bytes ≤ MAX_AEAD_BYTES) };
 }
 
-impl<S: LaneState, V: Variant, const TAG_BYTES: usize> Clone for Mac<S, V, TAG_BYTES> {
+impl<S: LaneState, V: Names, const KEY_BYTES: usize, const TAG_BYTES: usize> Drop
+    for Mac<S, V, KEY_BYTES, TAG_BYTES> {
+    fn drop(self) {
+        let Mac {
+            mut state,
+            mut block,
+            bytes: _,
+            variant: _,
+        } = self;
+        overwrite(&mut state, &mut block);
+    }
+}
+
+impl<S: LaneState, V: Names, const KEY_BYTES: usize, const TAG_BYTES: usize> Clone
+    for Mac<S, V, KEY_BYTES, TAG_BYTES> {
     ghost is_clone = { λ x y. y ≡ x };
 
     ghost is_infallible = { λ _. ⊤ };
@@ -59,7 +76,8 @@ impl<S: LaneState, V: Variant, const TAG_BYTES: usize> Clone for Mac<S, V, TAG_B
     }
 }
 
-impl<S: LaneState, V: Variant, const TAG_BYTES: usize> fmt::Debug for Mac<S, V, TAG_BYTES> {
+impl<S: LaneState, V: Names, const KEY_BYTES: usize, const TAG_BYTES: usize> fmt::Debug
+    for Mac<S, V, KEY_BYTES, TAG_BYTES> {
     ghost debug_output = { λ _. Some (V.cipher_name ++ codes "Mac { .. }") };
 
     fn fmt<W: fmt::Write>(&self, f: &mut fmt::Formatter<W>) -> fmt::Result {
@@ -69,12 +87,13 @@ impl<S: LaneState, V: Variant, const TAG_BYTES: usize> fmt::Debug for Mac<S, V, 
 }
 
 // The lanes after all of the input; an empty one is taken in as a rate block of zeros.
-fn input_lanes<S: LaneState>(state: S, block: &Block, bytes: u64) -> S
+fn input_lanes<S: LaneState>(state: S, block: &RateBlock, bytes: u64) -> S
     requires { S.updates state + 1 < 2 ^ 64 }
     ensures lanes { (key nonce x : List ℕ)
-        → Stands S.FAMILY S.LANES S.lane S.updates (held state block.now 0 bytes) key nonce [] x
-        → (j : ℕ) → j < S.LANES
-        → S.lane result j ≡ after_all S.FAMILY S.LANES (start S.FAMILY S.LANES key nonce j) j (mac_input S.FAMILY S.LANES x) }
+        → Stands S.VARIANT (held S.LaneState state block.now 0 bytes) key nonce [] x
+        → (j : ℕ) → j < S.VARIANT.lanes
+        → S.lane result j
+        ≡ after_all S.VARIANT (start S.VARIANT key nonce j) j (mac_input S.VARIANT x) }
     ensures few { S.updates result ≤ S.updates state + 1 }
 {
     if bytes == 0 {
@@ -84,32 +103,39 @@ fn input_lanes<S: LaneState>(state: S, block: &Block, bytes: u64) -> S
 }
 
 // The lanes after the input and its end.
-fn end_input<S: LaneState, const TAG_BYTES: usize>(state: S, block: &Block, bytes: u64) -> S
+fn end_input<S: LaneState, const TAG_BYTES: usize>(state: S, block: &RateBlock, bytes: u64) -> S
     requires tag_bytes { IsTagLength TAG_BYTES }
     requires countable { S.updates state ≤ bytes }
     requires within { bytes ≤ MAX_AEAD_BYTES }
     ensures tag { (key nonce x : List ℕ)
-        → Stands S.FAMILY S.LANES S.lane S.updates (held state block.now 0 bytes) key nonce [] x
-        → mac_tag S.FAMILY S.LANES TAG_BYTES (S.lane result) ≡ mac S.FAMILY S.LANES TAG_BYTES key nonce x }
+        → Stands S.VARIANT (held S.LaneState state block.now 0 bytes) key nonce [] x
+        → mac_tag S.VARIANT TAG_BYTES (S.lane result) ≡ mac S.VARIANT TAG_BYTES key nonce x }
     ensures few { S.updates result ≤ bytes + 8 }
 {
     input_lanes(state, block, bytes).finish(8 * bytes, 8 * TAG_BYTES as u64)
 }
 
-impl<S: LaneState, V: Variant, const TAG_BYTES: usize> Mac<S, V, TAG_BYTES> {
+impl<S: LaneState, V: Names, const KEY_BYTES: usize, const TAG_BYTES: usize> Mac<
+    S,
+    V,
+    KEY_BYTES,
+    TAG_BYTES,
+> {
     /// The MAC under a key, with the nonce of zeros. `TAG_BYTES` has to be 16 or 32.
-    pub fn new(key: &S::Key) -> Self
-        requires { IsTagLength TAG_BYTES }
-        ensures stands { Stands S.FAMILY S.LANES S.lane S.updates result (S.key_bytes key.now) (replicate (key_length S.FAMILY) 0) [] [] }
+    pub fn new(key: &[u8; KEY_BYTES]) -> Self
+        requires key_bytes { KEY_BYTES ≡ key_length S.VARIANT.family }
+        requires tag_bytes { IsTagLength TAG_BYTES }
+        ensures stands { Stands S.VARIANT result key.now (replicate KEY_BYTES 0) [] [] }
         ensures length { result.message_bytes ≡ 0 }
     {
-        Mac::new_with_nonce(key, &S::zero_nonce())
+        Mac::new_with_nonce(key, &[0; KEY_BYTES])
     }
 
     /// The MAC under a key and a nonce. `TAG_BYTES` has to be 16 or 32.
-    pub fn new_with_nonce(key: &S::Key, nonce: &S::Key) -> Self
-        requires { IsTagLength TAG_BYTES }
-        ensures stands { Stands S.FAMILY S.LANES S.lane S.updates result (S.key_bytes key.now) (S.key_bytes nonce.now) [] [] }
+    pub fn new_with_nonce(key: &[u8; KEY_BYTES], nonce: &[u8; KEY_BYTES]) -> Self
+        requires key_bytes { KEY_BYTES ≡ key_length S.VARIANT.family }
+        requires tag_bytes { IsTagLength TAG_BYTES }
+        ensures stands { Stands S.VARIANT result key.now nonce.now [] [] }
         ensures length { result.message_bytes ≡ 0 }
     {
         Mac {
@@ -123,8 +149,7 @@ impl<S: LaneState, V: Variant, const TAG_BYTES: usize> Mac<S, V, TAG_BYTES> {
     /// Takes in the next bytes of the input.
     pub fn update(&mut self, data: &[u8])
         requires { self.old.message_bytes + length data.now ≤ MAX_AEAD_BYTES }
-        ensures stands { (key nonce x : List ℕ) → Stands S.FAMILY S.LANES S.lane S.updates self.old key nonce [] x
-            → Stands S.FAMILY S.LANES S.lane S.updates self.new key nonce [] (x ++ data.now) }
+        ensures taken { Takes S.VARIANT self.old self.new data.now }
         ensures length { self.new.message_bytes ≡ self.old.message_bytes + length data.now }
     {
         self.state = absorb_more(self.state, &mut self.block, self.bytes.get(), data);
@@ -140,8 +165,8 @@ impl<S: LaneState, V: Variant, const TAG_BYTES: usize> Mac<S, V, TAG_BYTES> {
 
     /// The MAC of the input.
     pub fn finalize(self) -> [u8; TAG_BYTES]
-        ensures { (key nonce x : List ℕ) → Stands S.FAMILY S.LANES S.lane S.updates self key nonce [] x
-            → result ≡ mac S.FAMILY S.LANES TAG_BYTES key nonce x }
+        ensures { (key nonce x : List ℕ) → Stands S.VARIANT self key nonce [] x
+            → result ≡ mac S.VARIANT TAG_BYTES key nonce x }
     {
         folded_tag(end_input::<S, TAG_BYTES>(self.state, &self.block, self.bytes.get()))
     }
@@ -149,8 +174,8 @@ impl<S: LaneState, V: Variant, const TAG_BYTES: usize> Mac<S, V, TAG_BYTES> {
     /// The MAC of the input with chunks behind it, which `remaining` has to allow (`chunks_len` tells their length).
     pub fn finalize_chunks(self, chunks: &[&[u8]]) -> [u8; TAG_BYTES]
         requires { self.message_bytes + length (joined chunks.now) ≤ MAX_AEAD_BYTES }
-        ensures { (key nonce x : List ℕ) → Stands S.FAMILY S.LANES S.lane S.updates self key nonce [] x
-            → result ≡ mac S.FAMILY S.LANES TAG_BYTES key nonce (x ++ joined chunks.now) }
+        ensures { (key nonce x : List ℕ) → Stands S.VARIANT self key nonce [] x
+            → result ≡ mac S.VARIANT TAG_BYTES key nonce (x ++ joined chunks.now) }
     {
         let mut block = self.block;
         let mut bytes = self.bytes;
@@ -161,10 +186,10 @@ impl<S: LaneState, V: Variant, const TAG_BYTES: usize> Mac<S, V, TAG_BYTES> {
     /// Whether the MAC of the input is `expected`: `Ok` exactly where it is, and [`Error::InvalidTag`] otherwise. The
     /// comparison looks at every byte.
     pub fn verify(self, expected: &[u8; TAG_BYTES]) -> Result<(), Error>
-        ensures verified { (key nonce x : List ℕ) → Stands S.FAMILY S.LANES S.lane S.updates self key nonce [] x
-            → OnOk result (expected.now ≡ mac S.FAMILY S.LANES TAG_BYTES key nonce x) }
-        ensures accepted { (key nonce x : List ℕ) → Stands S.FAMILY S.LANES S.lane S.updates self key nonce [] x
-            → expected.now ≡ mac S.FAMILY S.LANES TAG_BYTES key nonce x → IsOk result }
+        ensures verified { (key nonce x : List ℕ) → Stands S.VARIANT self key nonce [] x
+            → OnOk result (expected.now ≡ mac S.VARIANT TAG_BYTES key nonce x) }
+        ensures accepted { (key nonce x : List ℕ) → Stands S.VARIANT self key nonce [] x
+            → expected.now ≡ mac S.VARIANT TAG_BYTES key nonce x → IsOk result }
         ensures error { IfErr result (λ e. e ≡ Error.InvalidTag) }
     {
         if same_bytes(&self.finalize(), expected) {

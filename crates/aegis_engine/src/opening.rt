@@ -5,25 +5,23 @@
 //! contracts say which key, nonce and associated data the values stand for, with that message.
 
 ghost use Rattle.std.specs.Prelude.{◌≡◌, ℕ, ◌+◌, ◌^◌, ◌<◌, ◌≤◌, ◌⊎◌, ◌↔◌, ◌++◌, [], IfOk, IsOk, List, OnErr, OnOk, drop, length, take, true};
+ghost use Rattle.aegis_base.specs.Lane.{IsTagLength};
 ghost use Rattle.aegis_base.specs.Chunks.{accepted_after};
 ghost use Rattle.aegis_base.specs.Message.{Opens, ciphertext, tag as tag_of};
-ghost use Rattle.aegis_base.specs.Run.{Stands, held};
+ghost use Rattle.aegis_base.specs.Run.{Continues, Decrypts, IsAccepted, IsTagged, Stands};
+ghost use Rattle.aegis_engine.specs.Held.{held};
 
 use crate::message::{finish, open_more};
-use crate::pass::Block;
+use crate::pass::{Pass, RateBlock};
+use crate::pieces::pass_copied;
 use crate::tag::same_bytes;
 use aegis_base::{Error, LaneState, Length, MAX_AEAD_BYTES};
-use std::alloc::{AllocError, Allocator};
-
-// A ciphertext is copied and opened in pieces of so many bytes: few enough that a copy waits for memory while rounds run, and
-// of 256 to 4096 the fastest.
-const PIECE_BYTES: usize = 512;
 
 // Opens the next chunk behind the first `written` bytes of the destination, which has room for it.
 #[inline(always)]
 fn append<S: LaneState>(
     state: S,
-    block: &mut Block,
+    block: &mut RateBlock,
     data_bytes: u64,
     written: usize,
     dst: &mut [u8],
@@ -31,26 +29,36 @@ fn append<S: LaneState>(
 ) -> S
     requires within { written + length chunk.now ≤ length dst.old }
     requires countable { S.updates state + length chunk.now < 2 ^ 64 }
-    ensures stands { (key nonce ad : List ℕ)
-        → Stands S.FAMILY S.LANES S.lane S.updates (held state block.old data_bytes written) key nonce ad (take written dst.old)
-        → Stands S.FAMILY S.LANES S.lane S.updates (held result block.new data_bytes (written + length chunk.now)) key nonce ad (take (written + length chunk.now) dst.new) }
-    ensures ciphertext { (key nonce ad : List ℕ)
-        → Stands S.FAMILY S.LANES S.lane S.updates (held state block.old data_bytes written) key nonce ad (take written dst.old)
-        → ciphertext S.FAMILY S.LANES key nonce ad (take (written + length chunk.now) dst.new) ≡ ciphertext S.FAMILY S.LANES key nonce ad (take written dst.old) ++ chunk.now }
+    ensures stands { Continues S.VARIANT
+        (held S.LaneState state block.old data_bytes written) (take written dst.old)
+        (held S.LaneState result block.new data_bytes (written + length chunk.now))
+        (take (written + length chunk.now) dst.new) }
+    ensures ciphertext { Decrypts S.VARIANT
+        (held S.LaneState state block.old data_bytes written) (take written dst.old)
+        chunk.now (take (written + length chunk.now) dst.new) }
     ensures length { length dst.new ≡ length dst.old }
     ensures front { take written dst.new ≡ take written dst.old }
-    ensures rest { (n : ℕ) → written + length chunk.now ≤ n → drop n dst.new ≡ drop n dst.old }
+    ensures rest { (n : ℕ) → written + length chunk.now ≤ n
+        → drop n dst.new ≡ drop n dst.old }
     ensures few { S.updates result ≤ S.updates state + length chunk.now }
 {
     let part = &mut dst[written..written + chunk.len()];
-    open_more(state, block, data_bytes, written as u64, Some(chunk), part)
+    pass_copied(
+        state,
+        block,
+        data_bytes,
+        written as u64,
+        Pass::Open,
+        chunk,
+        part,
+    )
 }
 
 /// Opens the next chunk behind the first `written` bytes of the destination and counts it, if it has room there and keeps
 /// the message within its limit. Otherwise nothing changes.
 pub fn open_chunk<S: LaneState>(
     state: &mut S,
-    block: &mut Block,
+    block: &mut RateBlock,
     data_bytes: u64,
     written: &mut Length,
     dst: &mut [u8],
@@ -59,22 +67,28 @@ pub fn open_chunk<S: LaneState>(
     requires within { written.old ≤ length dst.old }
     requires associated_data_within { data_bytes ≤ MAX_AEAD_BYTES }
     requires counted { S.updates state.old ≤ data_bytes + written.old }
-    ensures too_small { (result ≡ Err Error.OutputBufferTooSmall) ↔ (length dst.old < written.old + length chunk.now) }
-    ensures too_long { (result ≡ Err Error.MessageTooLong) ↔ ((written.old + length chunk.now ≤ length dst.old) × (MAX_AEAD_BYTES < written.old + length chunk.now)) }
-    ensures accepted { IsOk result ↔ ((written.old + length chunk.now ≤ length dst.old) × (written.old + length chunk.now ≤ MAX_AEAD_BYTES)) }
-    ensures stands { (key nonce ad : List ℕ)
-        → Stands S.FAMILY S.LANES S.lane S.updates (held state.old block.old data_bytes written.old) key nonce ad (take written.old dst.old)
-        → Stands S.FAMILY S.LANES S.lane S.updates (held state.new block.new data_bytes written.new) key nonce ad (take written.new dst.new) }
-    ensures ciphertext { (key nonce ad : List ℕ)
-        → Stands S.FAMILY S.LANES S.lane S.updates (held state.old block.old data_bytes written.old) key nonce ad (take written.old dst.old)
-        → OnOk result (ciphertext S.FAMILY S.LANES key nonce ad (take written.new dst.new) ≡ ciphertext S.FAMILY S.LANES key nonce ad (take written.old dst.old) ++ chunk.now) }
+    ensures too_small { (result ≡ Err Error.OutputBufferTooSmall)
+        ↔ (length dst.old < written.old + length chunk.now) }
+    ensures too_long { (result ≡ Err Error.MessageTooLong)
+        ↔ ((written.old + length chunk.now ≤ length dst.old)
+        × (MAX_AEAD_BYTES < written.old + length chunk.now)) }
+    ensures accepted { IsOk result
+        ↔ ((written.old + length chunk.now ≤ length dst.old)
+        × (written.old + length chunk.now ≤ MAX_AEAD_BYTES)) }
+    ensures stands { Continues S.VARIANT
+        (held S.LaneState state.old block.old data_bytes written.old) (take written.old dst.old)
+        (held S.LaneState state.new block.new data_bytes written.new) (take written.new dst.new) }
+    ensures ciphertext { OnOk result (Decrypts S.VARIANT
+        (held S.LaneState state.old block.old data_bytes written.old) (take written.old dst.old)
+        chunk.now (take written.new dst.new)) }
     ensures written { OnOk result (written.new ≡ written.old + length chunk.now) }
     ensures grows { written.old ≤ written.new }
     ensures within { written.new ≤ length dst.new }
     ensures length { length dst.new ≡ length dst.old }
     ensures front { take written.old dst.new ≡ take written.old dst.old }
     ensures rest { (n : ℕ) → written.new ≤ n → drop n dst.new ≡ drop n dst.old }
-    ensures unchanged { OnErr result ((state.new ≡ state.old) × (block.new ≡ block.old) × (written.new ≡ written.old) × (dst.new ≡ dst.old)) }
+    ensures unchanged { OnErr result ((state.new ≡ state.old) × (block.new ≡ block.old)
+        × (written.new ≡ written.old) × (dst.new ≡ dst.old)) }
     ensures few { S.updates state.new ≤ data_bytes + written.new }
 {
     let so_far = written.get() as usize;
@@ -90,7 +104,7 @@ pub fn open_chunk<S: LaneState>(
 /// left out whole.
 pub fn open_all<S: LaneState>(
     state: &mut S,
-    block: &mut Block,
+    block: &mut RateBlock,
     data_bytes: u64,
     written: &mut Length,
     dst: &mut [u8],
@@ -99,14 +113,18 @@ pub fn open_all<S: LaneState>(
     requires within { written.old ≤ length dst.old }
     requires associated_data_within { data_bytes ≤ MAX_AEAD_BYTES }
     requires counted { S.updates state.old ≤ data_bytes + written.old }
-    ensures stands { (key nonce ad : List ℕ)
-        → Stands S.FAMILY S.LANES S.lane S.updates (held state.old block.old data_bytes written.old) key nonce ad (take written.old dst.old)
-        → Stands S.FAMILY S.LANES S.lane S.updates (held state.new block.new data_bytes written.new) key nonce ad (take written.new dst.new) }
+    ensures stands { Continues S.VARIANT
+        (held S.LaneState state.old block.old data_bytes written.old) (take written.old dst.old)
+        (held S.LaneState state.new block.new data_bytes written.new) (take written.new dst.new) }
     ensures ciphertext { (key nonce ad : List ℕ)
-        → Stands S.FAMILY S.LANES S.lane S.updates (held state.old block.old data_bytes written.old) key nonce ad (take written.old dst.old)
-        → ciphertext S.FAMILY S.LANES key nonce ad (take written.new dst.new)
-        ≡ accepted_after (length dst.old) (ciphertext S.FAMILY S.LANES key nonce ad (take written.old dst.old)) chunks.now }
-    ensures written { (kept : List ℕ) → length kept ≡ written.old → written.new ≡ length (accepted_after (length dst.old) kept chunks.now) }
+        → Stands S.VARIANT
+        (held S.LaneState state.old block.old data_bytes written.old) key nonce ad
+        (take written.old dst.old)
+        → ciphertext S.VARIANT key nonce ad (take written.new dst.new)
+        ≡ accepted_after (length dst.old)
+        (ciphertext S.VARIANT key nonce ad (take written.old dst.old)) chunks.now }
+    ensures written { (kept : List ℕ) → length kept ≡ written.old
+        → written.new ≡ length (accepted_after (length dst.old) kept chunks.now) }
     ensures within { written.new ≤ length dst.new }
     ensures rest { (n : ℕ) → written.new ≤ n → drop n dst.new ≡ drop n dst.old }
     ensures few { S.updates state.new ≤ data_bytes + written.new }
@@ -118,73 +136,46 @@ pub fn open_all<S: LaneState>(
 
 /// Opens a whole ciphertext in its own place.
 #[inline(always)]
-pub fn open_in_place<S: LaneState>(state: S, block: &mut Block, data_bytes: u64, mc: &mut [u8]) -> S
+pub fn open_in_place<S: LaneState>(
+    state: S,
+    block: &mut RateBlock,
+    data_bytes: u64,
+    mc: &mut [u8],
+) -> S
     requires within { length mc.old ≤ MAX_AEAD_BYTES }
     requires countable { S.updates state + length mc.old < 2 ^ 64 }
-    ensures stands { (key nonce ad : List ℕ)
-        → Stands S.FAMILY S.LANES S.lane S.updates (held state block.old data_bytes 0) key nonce ad []
-        → Stands S.FAMILY S.LANES S.lane S.updates (held result block.new data_bytes (length mc.old)) key nonce ad mc.new }
+    ensures stands { Continues S.VARIANT
+        (held S.LaneState state block.old data_bytes 0) []
+        (held S.LaneState result block.new data_bytes (length mc.old)) mc.new }
     ensures ciphertext { (key nonce ad : List ℕ)
-        → Stands S.FAMILY S.LANES S.lane S.updates (held state block.old data_bytes 0) key nonce ad []
-        → ciphertext S.FAMILY S.LANES key nonce ad mc.new ≡ mc.old }
+        → Stands S.VARIANT (held S.LaneState state block.old data_bytes 0) key nonce ad []
+        → ciphertext S.VARIANT key nonce ad mc.new ≡ mc.old }
     ensures few { S.updates result ≤ S.updates state + length mc.old }
 {
-    open_more(state, block, data_bytes, 0, None, mc)
-}
-
-/// Opens a ciphertext into an empty vector: each piece of it is copied behind the ones before, and opened there. A vector
-/// with room for all of it takes no memory.
-#[inline(never)]
-pub fn open_copied<S: LaneState, A: Allocator>(
-    state: S,
-    block: &mut Block,
-    data_bytes: u64,
-    c: &[u8],
-    m: &mut Vec<u8, A>,
-) -> Result<S, AllocError>
-    requires empty { m.old.items ≡ [] }
-    requires within { length c.now ≤ MAX_AEAD_BYTES }
-    requires countable { S.updates state + length c.now < 2 ^ 64 }
-    ensures stands { (key nonce ad : List ℕ)
-        → Stands S.FAMILY S.LANES S.lane S.updates (held state block.old data_bytes 0) key nonce ad []
-        → IfOk result (λ after. Stands S.FAMILY S.LANES S.lane S.updates (held after block.new data_bytes (length c.now)) key nonce ad m.new.items) }
-    ensures ciphertext { (key nonce ad : List ℕ)
-        → Stands S.FAMILY S.LANES S.lane S.updates (held state block.old data_bytes 0) key nonce ad []
-        → OnOk result (ciphertext S.FAMILY S.LANES key nonce ad m.new.items ≡ c.now) }
-    ensures length { OnOk result (length m.new.items ≡ length c.now) }
-    ensures few { IfOk result (λ after. S.updates after ≤ S.updates state + length c.now) }
-{
-    let mut state = state;
-    for piece in c.chunks(PIECE_BYTES) {
-        let at = m.len();
-        m.extend_from_slice(piece)?;
-        state = open_more(state, block, data_bytes, at as u64, None, &mut m[at..]);
-    }
-    Ok(state)
+    open_more(state, block, data_bytes, 0, mc)
 }
 
 /// Whether this is the tag of the message.
 pub fn has_tag<S: LaneState, const TAG_BYTES: usize>(
     state: S,
-    block: &Block,
+    block: &RateBlock,
     data_bytes: u64,
     message_bytes: u64,
     tag: &[u8; TAG_BYTES],
 ) -> bool
-    requires tag_bytes { (TAG_BYTES ≡ 16) ⊎ (TAG_BYTES ≡ 32) }
+    requires tag_bytes { IsTagLength TAG_BYTES }
     requires countable { S.updates state + 8 < 2 ^ 64 }
     requires associated_data_within { data_bytes ≤ MAX_AEAD_BYTES }
     requires message_within { message_bytes ≤ MAX_AEAD_BYTES }
-    ensures tag { (key nonce ad m : List ℕ)
-        → Stands S.FAMILY S.LANES S.lane S.updates (held state block.now data_bytes message_bytes) key nonce ad m
-        → (result ≡ true) ↔ (tag.now ≡ tag_of S.FAMILY S.LANES TAG_BYTES key nonce ad m) }
-    ensures accepted { (key nonce ad m opened : List ℕ)
-        → Stands S.FAMILY S.LANES S.lane S.updates (held state block.now data_bytes message_bytes) key nonce ad m
-        → Opens S.FAMILY S.LANES TAG_BYTES key nonce ad (ciphertext S.FAMILY S.LANES key nonce ad m) tag.now opened
-        → result ≡ true }
+    ensures tag { (m : List ℕ) → IsTagged S.VARIANT TAG_BYTES
+        (held S.LaneState state block.now data_bytes message_bytes) m tag.now (result ≡ true) }
+    ensures accepted { (m : List ℕ) → IsAccepted S.VARIANT TAG_BYTES
+        (held S.LaneState state block.now data_bytes message_bytes) m tag.now (result ≡ true) }
     ensures only { (key nonce ad m opened : List ℕ)
-        → Stands S.FAMILY S.LANES S.lane S.updates (held state block.now data_bytes message_bytes) key nonce ad m
-        → Opens S.FAMILY S.LANES TAG_BYTES key nonce ad (ciphertext S.FAMILY S.LANES key nonce ad m) tag.now opened
+        → Stands S.VARIANT
+        (held S.LaneState state block.now data_bytes message_bytes) key nonce ad m
+        → Opens S.VARIANT TAG_BYTES key nonce ad
+        (ciphertext S.VARIANT key nonce ad m) tag.now opened
         → m ≡ opened }
 {
     let expected: [u8; TAG_BYTES] = finish(state, block, data_bytes, message_bytes);

@@ -2,15 +2,15 @@
 //!
 //! Sealing, opening and the xor with a keystream are one pass: each byte of a buffer is xored with the keystream, and
 //! the lanes take in what the pass says, the bytes before that, the bytes after it, or zeros. Associated data and the
-//! input of a MAC are taken in without a buffer. A pass may have a source, which has the buffer's length: it goes along the
-//! bytes of that, and what the buffer held is lost. Contracts speak of any bytes `x` that the run goes along, of which
-//! the lanes have taken in those before a place, and which have the bytes of the call from there on.
+//! input of a MAC are taken in without a buffer. Contracts speak of any bytes `x` that the run goes along, of which the
+//! lanes have taken in those before a place, and which have the bytes of the call from there on.
 
 ghost use Rattle.std.specs.Prelude.{◌≡◌, ℕ, ◌+◌, ◌*◌, ◌/◌, ◌%◌, ◌^◌, ◌<◌, ◌≤◌, bit_xor, length, List, slice_index, replicate};
+ghost use Rattle.aegis_aes.specs.Block.{IsSameBefore, IsSameFrom};
 ghost use Rattle.aegis_base.specs.Lane.{step};
-ghost use Rattle.aegis_base.specs.Message.{keystream_byte, share_at, stream_byte};
+ghost use Rattle.aegis_base.specs.Message.{keystream_byte, share_at, keystream_byte_along};
 ghost use Rattle.aegis_base.specs.Run.{IsAlong, IsUnopened};
-ghost use Rattle.aegis_engine.specs.Pass.{given, taken};
+ghost use Rattle.aegis_engine.specs.Pass.{taken};
 
 use aegis_base::LaneState;
 
@@ -22,46 +22,34 @@ pub enum Pass {
     /// The bytes after that.
     Open,
     /// Zeros.
-    Stream,
+    Keystream,
 }
 
 /// A place for one rate block, which has at most 128 bytes.
-pub type Block = [u8; 128];
+pub type RateBlock = [u8; 128];
 
 /// A block of zeros.
-pub const ZEROS: Block = [0; 128];
+pub const ZEROS: RateBlock = [0; 128];
 
 /// Copies `count` bytes of `source`, from `from` on, over those of `target` from `at` on.
 #[inline(always)]
 pub fn copy_part(target: &mut [u8], at: usize, source: &[u8], from: usize, count: usize)
     requires target_within { at + count ≤ length target.old }
     requires source_within { from + count ≤ length source.now }
-    ensures written { (k : ℕ) → k < count → slice_index target.new (at + k) ≡ slice_index source.now (from + k) }
-    ensures below { (i : ℕ) → i < at → slice_index target.new i ≡ slice_index target.old i }
-    ensures above { (i : ℕ) → at + count ≤ i → slice_index target.new i ≡ slice_index target.old i }
+    ensures written { (k : ℕ) → k < count
+        → slice_index target.new (at + k) ≡ slice_index source.now (from + k) }
+    ensures below { IsSameBefore at target.old target.new }
+    ensures above { IsSameFrom (at + count) target.old target.new }
 {
     target[at..at + count].copy_from_slice(&source[from..from + count]);
 }
 
-/// Copies `count` bytes of a pass's source, from `at` on, to the same places of the buffer. Without a source nothing changes.
-#[inline(always)]
-pub fn copy_given(source: Option<&[u8]>, buffer: &mut [u8], at: usize, count: usize)
-    requires within { at + count ≤ length buffer.old }
-    requires source_within { at + count ≤ length (given source buffer.old) }
-    ensures written { (k : ℕ) → k < count → slice_index buffer.new (at + k) ≡ slice_index (given source.entry buffer.old) (at + k) }
-    ensures below { (i : ℕ) → i < at → slice_index buffer.new i ≡ slice_index buffer.old i }
-    ensures above { (i : ℕ) → at + count ≤ i → slice_index buffer.new i ≡ slice_index buffer.old i }
-{
-    if let Some(bytes) = source {
-        copy_part(buffer, at, bytes, at, count);
-    }
-}
-
 // A copy of the rate block of `bytes` from `at` on.
 #[inline(always)]
-fn copied<S: LaneState>(bytes: &[u8], at: usize) -> Block
+fn copied<S: LaneState>(bytes: &[u8], at: usize) -> RateBlock
     requires { at + S.RATE ≤ length bytes.now }
-    ensures { (j : ℕ) → j < S.LANES → share_at S.FAMILY S.LANES j result 0 ≡ share_at S.FAMILY S.LANES j bytes.now at }
+    ensures { (j : ℕ) → j < S.VARIANT.lanes
+        → share_at S.VARIANT j result 0 ≡ share_at S.VARIANT j bytes.now at }
 {
     let mut block = ZEROS;
     copy_part(&mut block, 0, bytes, at, S::RATE);
@@ -73,9 +61,10 @@ fn copied<S: LaneState>(bytes: &[u8], at: usize) -> Block
 fn xor_block<S: LaneState>(state: S, buffer: &mut [u8], at: usize)
     requires { at + S.RATE ≤ length buffer.old }
     ensures written { (k : ℕ) → k < S.RATE
-        → slice_index buffer.new (at + k) ≡ bit_xor (slice_index buffer.old (at + k)) (keystream_byte S.FAMILY S.LANES (S.lane state) k) }
-    ensures below { (i : ℕ) → i < at → slice_index buffer.new i ≡ slice_index buffer.old i }
-    ensures above { (i : ℕ) → at + S.RATE ≤ i → slice_index buffer.new i ≡ slice_index buffer.old i }
+        → slice_index buffer.new (at + k)
+        ≡ bit_xor (slice_index buffer.old (at + k)) (keystream_byte S.VARIANT (S.lane state) k) }
+    ensures below { IsSameBefore at buffer.old buffer.new }
+    ensures above { IsSameFrom (at + S.RATE) buffer.old buffer.new }
 {
     state.xor_keystream(buffer, at);
 }
@@ -85,11 +74,14 @@ fn xor_block<S: LaneState>(state: S, buffer: &mut [u8], at: usize)
 fn xor_part<S: LaneState>(state: S, total: u64, buffer: &mut [u8], at: usize, count: usize)
     requires within { at + count ≤ length buffer.old }
     requires one_block { total % S.RATE + count ≤ S.RATE }
-    ensures written { (lanes : ℕ → List (List ℕ)) (block x : List ℕ) → IsAlong S.FAMILY S.LANES lanes (S.lane state) block x total
+    ensures written { (lanes : ℕ → List (List ℕ)) (block x : List ℕ)
+        → IsAlong S.VARIANT lanes (S.lane state) block x total
         → (k : ℕ) → k < count
-        → slice_index buffer.new (at + k) ≡ bit_xor (slice_index buffer.old (at + k)) (stream_byte S.FAMILY S.LANES lanes x (total + k)) }
-    ensures below { (i : ℕ) → i < at → slice_index buffer.new i ≡ slice_index buffer.old i }
-    ensures above { (i : ℕ) → at + count ≤ i → slice_index buffer.new i ≡ slice_index buffer.old i }
+        → slice_index buffer.new (at + k)
+        ≡ bit_xor (slice_index buffer.old (at + k))
+        (keystream_byte_along S.VARIANT lanes x (total + k)) }
+    ensures below { IsSameBefore at buffer.old buffer.new }
+    ensures above { IsSameFrom (at + count) buffer.old buffer.new }
 {
     let place = (total % S::RATE as u64) as usize;
     let mut part = ZEROS;
@@ -103,7 +95,7 @@ fn xor_part<S: LaneState>(state: S, total: u64, buffer: &mut [u8], at: usize, co
 #[inline(never)]
 pub fn absorb_part<S: LaneState>(
     state: S,
-    block: &mut Block,
+    block: &mut RateBlock,
     total: u64,
     bytes: &[u8],
     at: usize,
@@ -112,10 +104,13 @@ pub fn absorb_part<S: LaneState>(
     requires within { at + count ≤ length bytes.now }
     requires one_block { total % S.RATE + count ≤ S.RATE }
     requires countable { S.updates state + count < 2 ^ 64 }
-    ensures along { (lanes : ℕ → List (List ℕ)) (x : List ℕ) → IsAlong S.FAMILY S.LANES lanes (S.lane state) block.old x total
-        → ((k : ℕ) → k < count → slice_index x (total + k) ≡ slice_index bytes.now (at + k))
-        → IsAlong S.FAMILY S.LANES lanes (S.lane result) block.new x (total + count) }
-    ensures updates { S.updates result + total / S.RATE ≡ S.updates state + (total + count) / S.RATE }
+    ensures along { (lanes : ℕ → List (List ℕ)) (x : List ℕ)
+        → IsAlong S.VARIANT lanes (S.lane state) block.old x total
+        → ((k : ℕ) → k < count
+        → slice_index x (total + k) ≡ slice_index bytes.now (at + k))
+        → IsAlong S.VARIANT lanes (S.lane result) block.new x (total + count) }
+    ensures updates { S.updates result + total / S.RATE
+        ≡ S.updates state + (total + count) / S.RATE }
     ensures few { S.updates result ≤ S.updates state + count }
 {
     let place = (total % S::RATE as u64) as usize;
@@ -131,7 +126,7 @@ pub fn absorb_part<S: LaneState>(
 /// lanes take in what the pass says.
 pub fn pass_part<S: LaneState>(
     state: S,
-    block: &mut Block,
+    block: &mut RateBlock,
     total: u64,
     pass: Pass,
     buffer: &mut [u8],
@@ -141,15 +136,21 @@ pub fn pass_part<S: LaneState>(
     requires within { at + count ≤ length buffer.old }
     requires one_block { total % S.RATE + count ≤ S.RATE }
     requires countable { S.updates state + count < 2 ^ 64 }
-    ensures along { (lanes : ℕ → List (List ℕ)) (x : List ℕ) → IsAlong S.FAMILY S.LANES lanes (S.lane state) block.old x total
-        → ((k : ℕ) → k < count → slice_index x (total + k) ≡ slice_index (taken pass buffer.old buffer.new) (at + k))
-        → IsAlong S.FAMILY S.LANES lanes (S.lane result) block.new x (total + count) }
-    ensures written { (lanes : ℕ → List (List ℕ)) (x : List ℕ) → IsAlong S.FAMILY S.LANES lanes (S.lane state) block.old x total
+    ensures along { (lanes : ℕ → List (List ℕ)) (x : List ℕ)
+        → IsAlong S.VARIANT lanes (S.lane state) block.old x total
+        → ((k : ℕ) → k < count
+        → slice_index x (total + k) ≡ slice_index (taken pass buffer.old buffer.new) (at + k))
+        → IsAlong S.VARIANT lanes (S.lane result) block.new x (total + count) }
+    ensures written { (lanes : ℕ → List (List ℕ)) (x : List ℕ)
+        → IsAlong S.VARIANT lanes (S.lane state) block.old x total
         → (k : ℕ) → k < count
-        → slice_index buffer.new (at + k) ≡ bit_xor (slice_index buffer.old (at + k)) (stream_byte S.FAMILY S.LANES lanes x (total + k)) }
-    ensures below { (i : ℕ) → i < at → slice_index buffer.new i ≡ slice_index buffer.old i }
-    ensures above { (i : ℕ) → at + count ≤ i → slice_index buffer.new i ≡ slice_index buffer.old i }
-    ensures updates { S.updates result + total / S.RATE ≡ S.updates state + (total + count) / S.RATE }
+        → slice_index buffer.new (at + k)
+        ≡ bit_xor (slice_index buffer.old (at + k))
+        (keystream_byte_along S.VARIANT lanes x (total + k)) }
+    ensures below { IsSameBefore at buffer.old buffer.new }
+    ensures above { IsSameFrom (at + count) buffer.old buffer.new }
+    ensures updates { S.updates result + total / S.RATE
+        ≡ S.updates state + (total + count) / S.RATE }
     ensures few { S.updates result ≤ S.updates state + count }
 {
     if count == 0 {
@@ -165,7 +166,7 @@ pub fn pass_part<S: LaneState>(
             xor_part(state, total, buffer, at, count);
             absorb_part(state, block, total, buffer, at, count)
         }
-        Pass::Stream => {
+        Pass::Keystream => {
             xor_part(state, total, buffer, at, count);
             absorb_part(state, block, total, &ZEROS, 0, count)
         }
@@ -176,8 +177,9 @@ pub fn pass_part<S: LaneState>(
 #[inline(always)]
 fn absorb_zeros<S: LaneState>(state: S) -> S
     requires { S.updates state + 1 < 2 ^ 64 }
-    ensures lanes { (j i n : ℕ) → j < S.LANES
-        → S.lane result j ≡ step S.FAMILY (S.lane state j) (share_at S.FAMILY S.LANES j (replicate n 0) i) }
+    ensures lanes { (j i n : ℕ) → j < S.VARIANT.lanes
+        → S.lane result j
+        ≡ step S.VARIANT.family (S.lane state j) (share_at S.VARIANT j (replicate n 0) i) }
     ensures updates { S.updates result ≡ S.updates state + 1 }
 {
     state.absorb(&ZEROS, 0)
@@ -189,11 +191,14 @@ fn pass_block<S: LaneState>(state: S, pass: Pass, buffer: &mut [u8], at: usize) 
     requires within { at + S.RATE ≤ length buffer.old }
     requires countable { S.updates state + 1 < 2 ^ 64 }
     ensures written { (k : ℕ) → k < S.RATE
-        → slice_index buffer.new (at + k) ≡ bit_xor (slice_index buffer.old (at + k)) (keystream_byte S.FAMILY S.LANES (S.lane state) k) }
-    ensures below { (i : ℕ) → i < at → slice_index buffer.new i ≡ slice_index buffer.old i }
-    ensures above { (i : ℕ) → at + S.RATE ≤ i → slice_index buffer.new i ≡ slice_index buffer.old i }
-    ensures lanes { (j : ℕ) → j < S.LANES
-        → S.lane result j ≡ step S.FAMILY (S.lane state j) (share_at S.FAMILY S.LANES j (taken pass buffer.old buffer.new) at) }
+        → slice_index buffer.new (at + k)
+        ≡ bit_xor (slice_index buffer.old (at + k)) (keystream_byte S.VARIANT (S.lane state) k) }
+    ensures below { IsSameBefore at buffer.old buffer.new }
+    ensures above { IsSameFrom (at + S.RATE) buffer.old buffer.new }
+    ensures lanes { (j : ℕ) → j < S.VARIANT.lanes
+        → S.lane result j
+        ≡ step S.VARIANT.family (S.lane state j)
+        (share_at S.VARIANT j (taken pass buffer.old buffer.new) at) }
     ensures updates { S.updates result ≡ S.updates state + 1 }
 {
     match pass {
@@ -207,7 +212,7 @@ fn pass_block<S: LaneState>(state: S, pass: Pass, buffer: &mut [u8], at: usize) 
             xor_block(state, buffer, at);
             state.absorb(buffer, at)
         }
-        Pass::Stream => {
+        Pass::Keystream => {
             xor_block(state, buffer, at);
             absorb_zeros(state)
         }
@@ -219,10 +224,12 @@ fn pass_block<S: LaneState>(state: S, pass: Pass, buffer: &mut [u8], at: usize) 
 pub fn absorb_whole<S: LaneState>(state: S, bytes: &[u8], at: usize, count: usize) -> S
     requires within { at + count * S.RATE ≤ length bytes.now }
     requires countable { S.updates state + count < 2 ^ 64 }
-    ensures along { (lanes : ℕ → List (List ℕ)) (block x : List ℕ) (total : ℕ) → IsUnopened total count S.RATE
-        → IsAlong S.FAMILY S.LANES lanes (S.lane state) block x total
-        → ((k : ℕ) → k < count * S.RATE → slice_index x (total + k) ≡ slice_index bytes.now (at + k))
-        → IsAlong S.FAMILY S.LANES lanes (S.lane result) block x (total + count * S.RATE) }
+    ensures along { (lanes : ℕ → List (List ℕ)) (block x : List ℕ) (total : ℕ)
+        → IsUnopened total count S.RATE
+        → IsAlong S.VARIANT lanes (S.lane state) block x total
+        → ((k : ℕ) → k < count * S.RATE
+        → slice_index x (total + k) ≡ slice_index bytes.now (at + k))
+        → IsAlong S.VARIANT lanes (S.lane result) block x (total + count * S.RATE) }
     ensures updates { S.updates result ≡ S.updates state + count }
 {
     let rate = S::RATE;
@@ -234,37 +241,39 @@ pub fn absorb_whole<S: LaneState>(state: S, bytes: &[u8], at: usize, count: usiz
 }
 
 /// The lanes after `count` whole rate blocks of a buffer, from `at` on, where no rate block is open: each is xored with the
-/// keystream, and the lanes take in what the pass says. A block of a source is copied right before that, so that memory is
-/// waited for beside the rounds and not before the first.
+/// keystream, and the lanes take in what the pass says.
 #[inline(always)]
 pub fn pass_whole<S: LaneState>(
     state: S,
     pass: Pass,
-    source: Option<&[u8]>,
     buffer: &mut [u8],
     at: usize,
     count: usize,
 ) -> S
     requires within { at + count * S.RATE ≤ length buffer.old }
-    requires source_within { at + count * S.RATE ≤ length (given source buffer.old) }
     requires countable { S.updates state + count < 2 ^ 64 }
-    ensures along { (lanes : ℕ → List (List ℕ)) (block x : List ℕ) (total : ℕ) → IsUnopened total count S.RATE
-        → IsAlong S.FAMILY S.LANES lanes (S.lane state) block x total
-        → ((k : ℕ) → k < count * S.RATE → slice_index x (total + k) ≡ slice_index (taken pass (given source.entry buffer.old) buffer.new) (at + k))
-        → IsAlong S.FAMILY S.LANES lanes (S.lane result) block x (total + count * S.RATE) }
-    ensures written { (lanes : ℕ → List (List ℕ)) (block x : List ℕ) (total : ℕ) → IsUnopened total count S.RATE
-        → IsAlong S.FAMILY S.LANES lanes (S.lane state) block x total
-        → ((k : ℕ) → k < count * S.RATE → slice_index x (total + k) ≡ slice_index (taken pass (given source.entry buffer.old) buffer.new) (at + k))
+    ensures along { (lanes : ℕ → List (List ℕ)) (block x : List ℕ) (total : ℕ)
+        → IsUnopened total count S.RATE
+        → IsAlong S.VARIANT lanes (S.lane state) block x total
+        → ((k : ℕ) → k < count * S.RATE
+        → slice_index x (total + k) ≡ slice_index (taken pass buffer.old buffer.new) (at + k))
+        → IsAlong S.VARIANT lanes (S.lane result) block x (total + count * S.RATE) }
+    ensures written { (lanes : ℕ → List (List ℕ)) (block x : List ℕ) (total : ℕ)
+        → IsUnopened total count S.RATE
+        → IsAlong S.VARIANT lanes (S.lane state) block x total
+        → ((k : ℕ) → k < count * S.RATE
+        → slice_index x (total + k) ≡ slice_index (taken pass buffer.old buffer.new) (at + k))
         → (k : ℕ) → k < count * S.RATE
-        → slice_index buffer.new (at + k) ≡ bit_xor (slice_index (given source.entry buffer.old) (at + k)) (stream_byte S.FAMILY S.LANES lanes x (total + k)) }
-    ensures below { (i : ℕ) → i < at → slice_index buffer.new i ≡ slice_index buffer.old i }
-    ensures above { (i : ℕ) → at + count * S.RATE ≤ i → slice_index buffer.new i ≡ slice_index buffer.old i }
+        → slice_index buffer.new (at + k)
+        ≡ bit_xor (slice_index buffer.old (at + k))
+        (keystream_byte_along S.VARIANT lanes x (total + k)) }
+    ensures below { IsSameBefore at buffer.old buffer.new }
+    ensures above { IsSameFrom (at + count * S.RATE) buffer.old buffer.new }
     ensures updates { S.updates result ≡ S.updates state + count }
 {
     let rate = S::RATE;
     let mut state = state;
     for i in 0..count {
-        copy_given(source, buffer, at + i * rate, rate);
         state = pass_block(state, pass, buffer, at + i * rate);
     }
     state

@@ -5,12 +5,12 @@
 //! bytes at once is a run of one piece.
 
 ghost use Rattle.std.specs.Prelude.{◌≡◌, ℕ, ◌+◌, ◌%◌, ◌/◌, ◌^◌, ◌<◌, ◌≤◌, bit_xor, length, List, slice_index};
-ghost use Rattle.aegis_base.specs.Message.{after_all, block_count, stream_byte};
+ghost use Rattle.aegis_base.specs.Message.{after_all, block_count, keystream_byte_along};
 ghost use Rattle.aegis_base.specs.Run.{HasFrom, IsAlong};
-ghost use Rattle.aegis_engine.specs.Pass.{given, taken};
+ghost use Rattle.aegis_engine.specs.Pass.{taken};
 
 use crate::pass::{
-    Block, Pass, ZEROS, absorb_part, absorb_whole, copy_given, copy_part, pass_part, pass_whole,
+    Pass, RateBlock, ZEROS, absorb_part, absorb_whole, copy_part, pass_part, pass_whole,
 };
 use aegis_base::LaneState;
 
@@ -30,13 +30,15 @@ fn filling<S: LaneState>(total: u64, count: usize) -> usize
 
 /// The lanes after `bytes`, behind `total` bytes that they have taken in.
 #[inline(always)]
-pub fn absorb_all<S: LaneState>(state: S, block: &mut Block, total: u64, bytes: &[u8]) -> S
+pub fn absorb_all<S: LaneState>(state: S, block: &mut RateBlock, total: u64, bytes: &[u8]) -> S
     requires within { total + length bytes.now < 2 ^ 64 }
     requires countable { S.updates state + length bytes.now < 2 ^ 64 }
-    ensures along { (lanes : ℕ → List (List ℕ)) (x : List ℕ) → IsAlong S.FAMILY S.LANES lanes (S.lane state) block.old x total
+    ensures along { (lanes : ℕ → List (List ℕ)) (x : List ℕ)
+        → IsAlong S.VARIANT lanes (S.lane state) block.old x total
         → HasFrom x total bytes.now
-        → IsAlong S.FAMILY S.LANES lanes (S.lane result) block.new x (total + length bytes.now) }
-    ensures updates { S.updates result + total / S.RATE ≡ S.updates state + (total + length bytes.now) / S.RATE }
+        → IsAlong S.VARIANT lanes (S.lane result) block.new x (total + length bytes.now) }
+    ensures updates { S.updates result + total / S.RATE
+        ≡ S.updates state + (total + length bytes.now) / S.RATE }
     ensures few { S.updates result ≤ S.updates state + length bytes.now }
 {
     let first = filling::<S>(total, bytes.len());
@@ -53,27 +55,30 @@ pub fn absorb_all<S: LaneState>(state: S, block: &mut Block, total: u64, bytes: 
 }
 
 /// The lanes along a buffer, behind `total` bytes that they have taken in: each byte is xored with the keystream, and the
-/// lanes take in what the pass says. Where there is a source, which has the buffer's length, the bytes are its.
+/// lanes take in what the pass says.
 #[inline(always)]
 pub fn pass_all<S: LaneState>(
     state: S,
-    block: &mut Block,
+    block: &mut RateBlock,
     total: u64,
     pass: Pass,
-    source: Option<&[u8]>,
     buffer: &mut [u8],
 ) -> S
     requires within { total + length buffer.old < 2 ^ 64 }
-    requires lengths { length (given source buffer.old) ≡ length buffer.old }
     requires countable { S.updates state + length buffer.old < 2 ^ 64 }
-    ensures along { (lanes : ℕ → List (List ℕ)) (x : List ℕ) → IsAlong S.FAMILY S.LANES lanes (S.lane state) block.old x total
-        → HasFrom x total (taken pass (given source.entry buffer.old) buffer.new)
-        → IsAlong S.FAMILY S.LANES lanes (S.lane result) block.new x (total + length buffer.old) }
-    ensures written { (lanes : ℕ → List (List ℕ)) (x : List ℕ) → IsAlong S.FAMILY S.LANES lanes (S.lane state) block.old x total
-        → HasFrom x total (taken pass (given source.entry buffer.old) buffer.new)
+    ensures along { (lanes : ℕ → List (List ℕ)) (x : List ℕ)
+        → IsAlong S.VARIANT lanes (S.lane state) block.old x total
+        → HasFrom x total (taken pass buffer.old buffer.new)
+        → IsAlong S.VARIANT lanes (S.lane result) block.new x (total + length buffer.old) }
+    ensures written { (lanes : ℕ → List (List ℕ)) (x : List ℕ)
+        → IsAlong S.VARIANT lanes (S.lane state) block.old x total
+        → HasFrom x total (taken pass buffer.old buffer.new)
         → (i : ℕ) → i < length buffer.old
-        → slice_index buffer.new i ≡ bit_xor (slice_index (given source.entry buffer.old) i) (stream_byte S.FAMILY S.LANES lanes x (total + i)) }
-    ensures updates { S.updates result + total / S.RATE ≡ S.updates state + (total + length buffer.old) / S.RATE }
+        → slice_index buffer.new i
+        ≡ bit_xor (slice_index buffer.old i)
+        (keystream_byte_along S.VARIANT lanes x (total + i)) }
+    ensures updates { S.updates result + total / S.RATE
+        ≡ S.updates state + (total + length buffer.old) / S.RATE }
     ensures few { S.updates result ≤ S.updates state + length buffer.old }
 {
     let first = filling::<S>(total, buffer.len());
@@ -82,22 +87,23 @@ pub fn pass_all<S: LaneState>(
     let rest = buffer.len() - last;
     // Most chunks are whole rate blocks alone, which go without a copy of the state between parts.
     if first + rest == 0 {
-        return pass_whole(state, pass, source, buffer, 0, whole);
+        return pass_whole(state, pass, buffer, 0, whole);
     }
-    copy_given(source, buffer, 0, first);
     let state = pass_part(state, block, total, pass, buffer, 0, first);
-    let state = pass_whole(state, pass, source, buffer, first, whole);
-    copy_given(source, buffer, last, rest);
+    let state = pass_whole(state, pass, buffer, first, whole);
     pass_part(state, block, total + last as u64, pass, buffer, last, rest)
 }
 
 /// The lanes after all `total` bytes of a run: where a rate block is open, it is taken in with zeros after its bytes.
 #[inline(always)]
-pub fn pad<S: LaneState>(state: S, block: &Block, total: u64) -> S
+pub fn pad<S: LaneState>(state: S, block: &RateBlock, total: u64) -> S
     requires { S.updates state + 1 < 2 ^ 64 }
-    ensures lanes { (lanes : ℕ → List (List ℕ)) (x : List ℕ) → length x ≡ total → IsAlong S.FAMILY S.LANES lanes (S.lane state) block.now x total
-        → (j : ℕ) → j < S.LANES → S.lane result j ≡ after_all S.FAMILY S.LANES (lanes j) j x }
-    ensures updates { S.updates result + total / S.RATE ≡ S.updates state + block_count S.FAMILY S.LANES total }
+    ensures lanes { (lanes : ℕ → List (List ℕ)) (x : List ℕ) → length x ≡ total
+        → IsAlong S.VARIANT lanes (S.lane state) block.now x total
+        → (j : ℕ) → j < S.VARIANT.lanes
+        → S.lane result j ≡ after_all S.VARIANT (lanes j) j x }
+    ensures updates { S.updates result + total / S.RATE
+        ≡ S.updates state + block_count S.VARIANT total }
 {
     let open = (total % S::RATE as u64) as usize;
     if open == 0 {

@@ -55,7 +55,8 @@ fn long_bytes<const TAG_BYTES: usize>(low: AesBlock, high: AesBlock) -> [u8; TAG
 /// The tag of lanes after their end: the xor of the lanes' tags (AEGIS, Finalize).
 pub fn lanes_tag<S: LaneState, const TAG_BYTES: usize>(end: S) -> [u8; TAG_BYTES]
     requires { IsTagLength TAG_BYTES }
-    ensures { result ≡ xor_lanes (λ j. lane_tag S.FAMILY TAG_BYTES (S.lane end j)) S.LANES }
+    ensures { result
+        ≡ xor_lanes (λ j. lane_tag S.VARIANT.family TAG_BYTES (S.lane end j)) S.VARIANT.lanes }
 {
     if TAG_BYTES == 16 {
         short_bytes(end.short_tag())
@@ -69,7 +70,7 @@ pub fn lanes_tag<S: LaneState, const TAG_BYTES: usize>(end: S) -> [u8; TAG_BYTES
 pub fn folded_tag<S: LaneState, const TAG_BYTES: usize>(end: S) -> [u8; TAG_BYTES]
     requires tag_bytes { IsTagLength TAG_BYTES }
     requires countable { S.updates end + 16 < 2 ^ 64 }
-    ensures { result ≡ mac_tag S.FAMILY S.LANES TAG_BYTES (S.lane end) }
+    ensures { result ≡ mac_tag S.VARIANT TAG_BYTES (S.lane end) }
 {
     if TAG_BYTES == 16 {
         short_bytes(end.short_mac_tag())

@@ -8,33 +8,33 @@ use Rattle.aegis_lines.specs.declared.fault.Fault.{Fault}
 use Rattle.aegis_lines.specs.declared.fault.Fault.TheVariants as faults
 use Rattle.aegis_lines.specs.declared.fault.Refusal.{Refusal}
 use Rattle.aegis_lines.specs.declared.fault.Refusal.TheVariants as refusals
-use Rattle.aegis_variants.specs.declared.variant.Variant.{Variant}
+use Rattle.aegis_variants.specs.declared.variant.AnyVariant.{AnyVariant}
 
-pub ad_digits : (read : Result (Variant × List ℕ × List ℕ) Fault) (ad_field m_field : List ℕ) (refusal : Refusal)
+pub ad_digits : (read : Result (AnyVariant × List ℕ × List ℕ) Fault) (ad_field m_field : List ℕ) (refusal : Refusal)
     → Refuses refusal (bytes_in ad_field) → (refusal ≡ refusals.OutOfMemory) ⊎ (refusal ≡ refusals.Fault faults.Hex)
     → Refuses refusal (texts_in read ad_field m_field)
 ad_digits read ad_field m_field refusals.OutOfMemory is which = tt
 ad_digits read ad_field m_field (refusals.Fault fault) is which = grind arith
 
-pub m_digits : (read : Result (Variant × List ℕ × List ℕ) Fault) (ad_field m_field ad : List ℕ) (refusal : Refusal) → bytes_in ad_field ≡ Ok ad
+pub m_digits : (read : Result (AnyVariant × List ℕ × List ℕ) Fault) (ad_field m_field ad : List ℕ) (refusal : Refusal) → bytes_in ad_field ≡ Ok ad
     → Refuses refusal (joined_in m_field) → (refusal ≡ refusals.OutOfMemory) ⊎ (refusal ≡ refusals.Fault faults.Hex)
     → Refuses refusal (texts_in read ad_field m_field)
 m_digits read ad_field m_field ad refusals.OutOfMemory ad-is is which = tt
 m_digits read ad_field m_field ad (refusals.Fault fault) ad-is is which = grind arith
 
-pub key_lengths : (variant : Variant) (key nonce ad_field m_field ad m : List ℕ) (refusal : Refusal) → bytes_in ad_field ≡ Ok ad
+pub key_lengths : (variant : AnyVariant) (key nonce ad_field m_field ad m : List ℕ) (refusal : Refusal) → bytes_in ad_field ≡ Ok ad
     → joined_in m_field ≡ Ok m → Refuses refusal (cipher_with variant key nonce)
     → Refuses refusal (texts_in (cipher_with variant key nonce) ad_field m_field)
 key_lengths variant key nonce ad_field m_field ad m refusals.OutOfMemory ad-is m-is is = tt
 key_lengths variant key nonce ad_field m_field ad m (refusals.Fault fault) ad-is m-is is = grind arith
 
-pub ad_length : (read : Result (Variant × List ℕ × List ℕ) Fault) (cipher : Variant × List ℕ × List ℕ) (ad_field m_field ad m : List ℕ)
+pub ad_length : (read : Result (AnyVariant × List ℕ × List ℕ) Fault) (cipher : AnyVariant × List ℕ × List ℕ) (ad_field m_field ad m : List ℕ)
     (refusal : Refusal) → bytes_in ad_field ≡ Ok ad → joined_in m_field ≡ Ok m → read ≡ Ok cipher → Refuses refusal (limited ad)
     → Refuses refusal (texts_in read ad_field m_field)
 ad_length read cipher ad_field m_field ad m refusals.OutOfMemory ad-is m-is read-is is = tt
 ad_length read cipher ad_field m_field ad m (refusals.Fault fault) ad-is m-is read-is is = grind arith
 
-pub m_length : (read : Result (Variant × List ℕ × List ℕ) Fault) (cipher : Variant × List ℕ × List ℕ) (ad_field m_field ad m same : List ℕ)
+pub m_length : (read : Result (AnyVariant × List ℕ × List ℕ) Fault) (cipher : AnyVariant × List ℕ × List ℕ) (ad_field m_field ad m same : List ℕ)
     (refusal : Refusal) → bytes_in ad_field ≡ Ok ad → joined_in m_field ≡ Ok m → read ≡ Ok cipher → limited ad ≡ Ok same
     → Refuses refusal (limited m) → Refuses refusal (texts_in read ad_field m_field)
 m_length read cipher ad_field m_field ad m same refusals.OutOfMemory ad-is m-is read-is ad-within is = tt
@@ -43,7 +43,7 @@ m_length read cipher ad_field m_field ad m same (refusals.Fault fault) ad-is m-i
 limited-same : (bytes same : List ℕ) → limited bytes ≡ Ok same → same ≡ bytes
 limited-same bytes same is = grind arith
 
-pub texts_read : (read : Result (Variant × List ℕ × List ℕ) Fault) (cipher : Variant × List ℕ × List ℕ) (ad_field m_field ad m ad' m' : List ℕ)
+pub texts_read : (read : Result (AnyVariant × List ℕ × List ℕ) Fault) (cipher : AnyVariant × List ℕ × List ℕ) (ad_field m_field ad m ad' m' : List ℕ)
     → bytes_in ad_field ≡ Ok ad → joined_in m_field ≡ Ok m → read ≡ Ok cipher → limited ad ≡ Ok ad' → limited m ≡ Ok m'
     → AreTexts read cipher ad' m' ad_field m_field
 texts_read read cipher ad_field m_field ad m ad' m' ad-is m-is read-is ad-within m-within =

@@ -7,7 +7,8 @@ use Rattle.std.specs.declared.vec.Vec.{Vec}
 use Rattle.std.proofs.lemmas.List.{get_or-map, length-map, map-append, map_push, take_all, take_more}
 use Rattle.std.proofs.lemmas.List.Folds.{list_any_at, list_any_more}
 use Rattle.aegis_lines.specs.Fault.{Refuses}
-use Rattle.aegis_lines.specs.Field.{bytes_in, bytes_of, is_faulty, joined_from, texts, together}
+use Rattle.aegis_base.specs.Chunks.{texts}
+use Rattle.aegis_lines.specs.Field.{bytes_in, bytes_of, is_faulty, joined_from, together}
 use Rattle.aegis_lines.specs.Record.{each_from}
 use Rattle.aegis_lines.specs.declared.fault.Fault.{Fault}
 use Rattle.aegis_lines.specs.declared.fault.Fault.TheVariants as faults
@@ -63,18 +64,6 @@ all_read pieces i read past are =
     let faultless = rw all at are.faultless in
     let each = rw all at are.each in
     (rw (faultless, each) refl, rw (faultless, each) refl)
-
--- one more slice, of one more vector
-pub slice_taken : {A : Type 0} (pieces : List (Vec ℕ A)) (i : ℕ) (d : Vec ℕ A) (slices : List (Bor (List ℕ))) (slice : Bor (List ℕ))
-    → i < length pieces → slice.now ≡ vec_items (get_or pieces i d) → texts slices ≡ map vec_items (take i pieces)
-    → texts (slices ++ slice ∷ []) ≡ map vec_items (take (i + 1) pieces)
-slice_taken pieces i d slices slice low is before =
-    rw (take_more pieces i d low, map-append, map-append, before, is) refl
-
--- all slices, of all vectors
-pub all_taken : {A : Type 0} (pieces : List (Vec ℕ A)) (i : ℕ) (slices : List (Bor (List ℕ))) → length pieces ≤ i
-    → texts slices ≡ map vec_items (take i pieces) → texts slices ≡ map vec_items pieces
-all_taken pieces i slices past is = is ∙ ap (map vec_items) (take_all i pieces past)
 
 -- where some pieces are read, some are there
 pub some_read : {A : Type 0} (r : Result (Vec (Vec ℕ A) A) Refusal) (n : ℕ) → 0 < n → IfOk r (λ read. vec_len read ≡ n) → IfOk r (λ read. 0 < vec_len read)

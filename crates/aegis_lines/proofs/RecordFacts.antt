@@ -9,8 +9,8 @@ use Rattle.std.proofs.lemmas.List.{append-nil, map-append, take_all, take_more}
 use Rattle.std.proofs.lemmas.List.Folds.{list_all-append}
 use Rattle.aegis_lines.specs.Field.{shown}
 use Rattle.aegis_lines.specs.Record.{are_within, shown_messages}
-use Rattle.aegis_record.specs.Stream.{AreWithin, limit}
-use Rattle.aegis_record.specs.declared.version.Version.TheVariants.{Second}
+use Rattle.aegis.specs.RecordStream.{AreWithin, limit}
+use Rattle.aegis.specs.declared.record.version.Version.TheVariants.{Second}
 
 and_parts : (a b : Bool) → (a && b) ≡ true → (a ≡ true) × (b ≡ true)
 and_parts true b e = (refl, e)

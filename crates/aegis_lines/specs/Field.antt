@@ -1,5 +1,4 @@
 -- The fields of a line, and what a field stands for.
-use denote.Ref.{Bor}
 use Rattle.std.specs.Prelude.{ℕ, ◌==◌, ◌&&◌, nat_le, leb, Bool, List, [], length, map, Result, Ok, Err, is_err, codes, if◌then◌else◌, slice_index_or}
 use Rattle.std.specs.Char.{is_ascii_digit}
 use Rattle.std.specs.List.{concat, list_all, list_any, slice_split}
@@ -13,8 +12,8 @@ use Rattle.hex.specs.declared.error.FromHexError.{FromHexError}
 use Rattle.aegis_base.specs.declared.error.TheConstants.{MAX_AEAD_BYTES}
 use Rattle.aegis_lines.specs.declared.fault.Fault.{Fault}
 use Rattle.aegis_lines.specs.declared.fault.Fault.TheVariants as faults
-use Rattle.aegis_variants.specs.declared.variant.Variant.{Variant}
-use Rattle.aegis_variants.specs.declared.variant.Variant.TheVariants as variants
+use Rattle.aegis_variants.specs.declared.variant.AnyVariant.{AnyVariant}
+use Rattle.aegis_variants.specs.declared.variant.AnyVariant.TheVariants as variants
 use Rattle.aegis_lines.specs.Variant.{tag_length_named, variant_named}
 
 -- The pieces of a text between single separators. Two separators together, or one at an end, make an empty piece.
@@ -28,10 +27,6 @@ fields_of line = cut_at 32 line
 -- the pieces of a field, which stand between commas
 abbrev pub pieces_of : List ℕ → List (List ℕ)
 pieces_of field = cut_at 44 field
-
--- the bytes of some fields, without where they lie in memory
-abbrev pub texts : List (Bor (List ℕ)) → List (List ℕ)
-texts fields = map (λ field. field.now) fields
 
 -- field i of a line; the command is field 0
 abbrev pub field_of : List (List ℕ) → ℕ → List ℕ
@@ -55,8 +50,8 @@ unfoldable pub shown : List ℕ → List ℕ
 shown bytes = if length bytes == 0 then codes "-" else encode_lower bytes
 
 -- the length that a field of one to five decimal digits says, of 65536 at most
-unfoldable pub stream_length_in : List ℕ → Result ℕ Fault
-stream_length_in field =
+unfoldable pub keystream_length_in : List ℕ → Result ℕ Fault
+keystream_length_in field =
     if nat_le 1 (length field) && nat_le (length field) 5 && list_all is_ascii_digit field && nat_le (digits_value 10 field) 65536
     then Ok (digits_value 10 field) else Err faults.Length
 
@@ -80,14 +75,14 @@ joined_in field = joined_from (pieces_of field)
 abbrev pub joined_of : List ℕ → List ℕ
 joined_of field = result_unwrap_or (joined_in field) []
 
-abbrev pub variant_in : List ℕ → Variant
+abbrev pub variant_in : List ℕ → AnyVariant
 variant_in field = result_unwrap_or (variant_named field) variants.Aegis128L
 
 abbrev pub tag_length_in : List ℕ → ℕ
 tag_length_in field = result_unwrap_or (tag_length_named field) 0
 
 abbrev pub count_in : List ℕ → ℕ
-count_in field = result_unwrap_or (stream_length_in field) 0
+count_in field = result_unwrap_or (keystream_length_in field) 0
 
 -- whether associated data or a message is no longer than AEGIS allows
 abbrev pub is_within_limit : List ℕ → Bool

@@ -6,12 +6,13 @@ use Rattle.aegis_base.specs.declared.error.TheConstants.{MAX_AEAD_BYTES}
 use Rattle.aegis_lines.specs.declared.fault.Fault.{Fault}
 use Rattle.aegis_lines.specs.declared.fault.Fault.TheVariants as faults
 use Rattle.aegis_lines.specs.Field.{bytes_of, is_faulty, pieces_of, shown}
-use Rattle.aegis_record.specs.declared.error.RecordError.{RecordError}
-use Rattle.aegis_record.specs.declared.error.RecordError.TheVariants as errors
-use Rattle.aegis_record.specs.declared.version.Version.{Version}
-use Rattle.aegis_record.specs.declared.version.Version.TheVariants.{Second}
-use Rattle.aegis_record.specs.Records.{AreRecords, IsFault}
-use Rattle.aegis_record.specs.Stream.{limit, stream_length}
+use Rattle.aegis.specs.declared.record.error.RecordError.{RecordError}
+use Rattle.aegis.specs.declared.record.error.RecordError.TheVariants as errors
+use Rattle.aegis.specs.declared.record.record_cipher.TheConstants.{MAX_CONTEXT_BYTES}
+use Rattle.aegis.specs.declared.record.version.Version.{Version}
+use Rattle.aegis.specs.declared.record.version.Version.TheVariants.{Second}
+use Rattle.aegis.specs.Records.{AreRecords, IsFault}
+use Rattle.aegis.specs.RecordStream.{limit, records_length}
 
 -- what pieces stand for, each by itself
 abbrev pub each_from : List (List ℕ) → Result (List (List ℕ)) Fault
@@ -30,12 +31,12 @@ abbrev pub are_within : List (List ℕ) → Bool
 are_within ms = list_all (λ m. leb (length m) (limit Second)) ms
 
 -- whether neither a message nor the whole stream is too long
-abbrev pub have_stream : List (List ℕ) → Bool
-have_stream ms = are_within ms && leb (stream_length ms) MAX_AEAD_BYTES
+abbrev pub have_record_stream : List (List ℕ) → Bool
+have_record_stream ms = are_within ms && leb (records_length ms) MAX_AEAD_BYTES
 
 -- messages that have a stream, or a length fault
 abbrev pub messages_with : List (List ℕ) → Result (List (List ℕ)) Fault
-messages_with ms = if have_stream ms then Ok ms else Err faults.Length
+messages_with ms = if have_record_stream ms then Ok ms else Err faults.Length
 
 -- whether the key, the prefix and the context of a stream have their lengths
 abbrev pub is_key : List ℕ → Bool
@@ -45,7 +46,7 @@ abbrev pub is_prefix : List ℕ → Bool
 is_prefix bytes = length bytes == 24
 
 abbrev pub is_context : List ℕ → Bool
-is_context bytes = leb (length bytes) 65535
+is_context bytes = leb (length bytes) MAX_CONTEXT_BYTES
 
 -- a stream's key, prefix and context, or a length fault
 abbrev pub keys_with : List ℕ → List ℕ → List ℕ → Result (List ℕ × List ℕ × List ℕ) Fault
@@ -68,7 +69,7 @@ IsRefusal errors.Trailing text = text ≡ codes "refused trailing"
 IsRefusal errors.OutOfMemory text = ⊥
 
 -- the answer to an opening of a stream: its messages, or its fault
-abbrev pub IsStreamAnswer : List ℕ → List ℕ → List ℕ → List ℕ → List ℕ → Type 0
-IsStreamAnswer key prefix context bytes text =
+abbrev pub IsRecordsAnswer : List ℕ → List ℕ → List ℕ → List ℕ → List ℕ → Type 0
+IsRecordsAnswer key prefix context bytes text =
     ((v : Version) × (ms : List (List ℕ)) × AreRecords v key prefix context ms bytes × (text ≡ codes "ok " ++ shown_messages ms))
     ⊎ ((e : RecordError) × IsFault key prefix context bytes e × IsRefusal e text)

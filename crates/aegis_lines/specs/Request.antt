@@ -2,7 +2,7 @@
 use Rattle.std.specs.Prelude.{ℕ, List, Option, Some, None, Result, Ok, Err}
 use Rattle.aegis_lines.specs.declared.fault.Fault.{Fault}
 use Rattle.aegis_lines.specs.declared.fault.Fault.TheVariants as faults
-use Rattle.aegis_variants.specs.declared.variant.Variant.{Variant}
+use Rattle.aegis_variants.specs.declared.variant.AnyVariant.{AnyVariant}
 use Rattle.aegis_lines.specs.Field.{bytes_of, count_in, field_of, fields_of, joined_of, tag_length_in, variant_in}
 use Rattle.aegis_lines.specs.Record.{messages_of}
 use Rattle.aegis_lines.specs.Table.{Name, fault_in, name_of}
@@ -11,11 +11,11 @@ use Rattle.aegis_lines.specs.Table as names
 -- A tag's length is a number of bytes, and what is not a number or a variant is a list of bytes.
 pub data Request : Type 0 where
   Round : (block key : List ℕ) → Request
-  Seal : (variant : Variant) (tag_length : ℕ) (key nonce associated_data message : List ℕ) → Request
-  Open : (variant : Variant) (tag_length : ℕ) (key nonce associated_data ciphertext tag : List ℕ) → Request
-  Stream : (variant : Variant) (key nonce : List ℕ) (count : ℕ) → Request
-  Xor : (variant : Variant) (key nonce message : List ℕ) → Request
-  Mac : (variant : Variant) (tag_length : ℕ) (key nonce message : List ℕ) → Request
+  Seal : (variant : AnyVariant) (tag_length : ℕ) (key nonce associated_data message : List ℕ) → Request
+  Open : (variant : AnyVariant) (tag_length : ℕ) (key nonce associated_data ciphertext tag : List ℕ) → Request
+  Keystream : (variant : AnyVariant) (key nonce : List ℕ) (count : ℕ) → Request
+  Xor : (variant : AnyVariant) (key nonce message : List ℕ) → Request
+  Mac : (variant : AnyVariant) (tag_length : ℕ) (key nonce message : List ℕ) → Request
   SealRecords : (key prefix context : List ℕ) (messages : List (List ℕ)) → Request
   OpenRecords : (key prefix context bytes : List ℕ) → Request
 
@@ -28,8 +28,8 @@ request_in names.Seal fields =
 request_in names.Open fields =
     Open (variant_in (field_of fields 1)) (tag_length_in (field_of fields 2)) (bytes_of (field_of fields 3))
     (bytes_of (field_of fields 4)) (bytes_of (field_of fields 5)) (joined_of (field_of fields 6)) (bytes_of (field_of fields 7))
-request_in names.Stream fields =
-    Stream (variant_in (field_of fields 1)) (bytes_of (field_of fields 2)) (bytes_of (field_of fields 3))
+request_in names.Keystream fields =
+    Keystream (variant_in (field_of fields 1)) (bytes_of (field_of fields 2)) (bytes_of (field_of fields 3))
     (count_in (field_of fields 4))
 request_in names.Xor fields =
     Xor (variant_in (field_of fields 1)) (bytes_of (field_of fields 2)) (bytes_of (field_of fields 3))

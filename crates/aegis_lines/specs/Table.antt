@@ -3,9 +3,9 @@ use Rattle.std.specs.Prelude.{ℕ, ◌+◌, ◌==◌, ◌||◌, Bool, false, not
 use Rattle.std.specs.Str.{bytes_eq}
 use Rattle.aegis_lines.specs.declared.fault.Fault.{Fault}
 use Rattle.aegis_lines.specs.declared.fault.Fault.TheVariants as faults
-use Rattle.aegis_variants.specs.declared.variant.Variant.{Variant}
-use Rattle.aegis_lines.specs.Record.{have_stream, is_context, is_key, is_prefix, messages_in, messages_of}
-use Rattle.aegis_lines.specs.Field.{bytes_in, bytes_of, field_of, is_within_limit, joined_in, joined_of, stream_length_in, tag_length_in, variant_in}
+use Rattle.aegis_variants.specs.declared.variant.AnyVariant.{AnyVariant}
+use Rattle.aegis_lines.specs.Record.{have_record_stream, is_context, is_key, is_prefix, messages_in, messages_of}
+use Rattle.aegis_lines.specs.Field.{bytes_in, bytes_of, field_of, is_within_limit, joined_in, joined_of, keystream_length_in, tag_length_in, variant_in}
 use Rattle.aegis_lines.specs.Variant.{tag_length_named, variant_named}
 use Rattle.aegis_variants.specs.Variant.{key_length_of}
 
@@ -14,7 +14,7 @@ pub data Name : Type 0 where
   Round : Name
   Seal : Name
   Open : Name
-  Stream : Name
+  Keystream : Name
   Xor : Name
   Mac : Name
   SealRecords : Name
@@ -26,7 +26,7 @@ name_of field =
     if bytes_eq field (codes "round") then Some Round
     else if bytes_eq field (codes "seal") then Some Seal
     else if bytes_eq field (codes "open") then Some Open
-    else if bytes_eq field (codes "stream") then Some Stream
+    else if bytes_eq field (codes "stream") then Some Keystream
     else if bytes_eq field (codes "xor") then Some Xor
     else if bytes_eq field (codes "mac") then Some Mac
     else if bytes_eq field (codes "sealrec") then Some SealRecords
@@ -56,7 +56,7 @@ abbrev pub kinds_of : Name → List Kind
 kinds_of Round = Block ∷ Block ∷ []
 kinds_of Seal = VariantName ∷ TagLength ∷ Key ∷ Key ∷ Limited ∷ Pieces ∷ []
 kinds_of Open = VariantName ∷ TagLength ∷ Key ∷ Key ∷ Limited ∷ Pieces ∷ Tag ∷ []
-kinds_of Stream = VariantName ∷ Key ∷ Key ∷ Count ∷ []
+kinds_of Keystream = VariantName ∷ Key ∷ Key ∷ Count ∷ []
 kinds_of Xor = VariantName ∷ Key ∷ Key ∷ Bytes ∷ []
 kinds_of Mac = VariantName ∷ TagLength ∷ Key ∷ Key ∷ Pieces ∷ []
 kinds_of SealRecords = RecordKey ∷ Prefix ∷ Context ∷ Messages ∷ []
@@ -83,8 +83,8 @@ has_hex_fault kind field = is_err (bytes_in field)
 
 -- Whether a field has a length that is not allowed. `variant` and `n` are the variant and the length of a tag that the
 -- line says, and are not asked for where its command has no such field.
-abbrev pub has_length_fault : Variant → ℕ → Kind → List ℕ → Bool
-has_length_fault variant n Count field = is_err (stream_length_in field)
+abbrev pub has_length_fault : AnyVariant → ℕ → Kind → List ℕ → Bool
+has_length_fault variant n Count field = is_err (keystream_length_in field)
 has_length_fault variant n Block field = not (length (bytes_of field) == 16)
 has_length_fault variant n Key field = not (length (bytes_of field) == key_length_of variant)
 has_length_fault variant n Limited field = not (is_within_limit (bytes_of field))
@@ -93,7 +93,7 @@ has_length_fault variant n Tag field = not (length (bytes_of field) == n)
 has_length_fault variant n RecordKey field = not (is_key (bytes_of field))
 has_length_fault variant n Prefix field = not (is_prefix (bytes_of field))
 has_length_fault variant n Context field = not (is_context (bytes_of field))
-has_length_fault variant n Messages field = not (have_stream (messages_of field))
+has_length_fault variant n Messages field = not (have_record_stream (messages_of field))
 has_length_fault variant n kind field = false
 
 -- whether some field has a fault, where the kinds are those of the fields from field i on

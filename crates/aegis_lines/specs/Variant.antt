@@ -3,11 +3,11 @@ use Rattle.std.specs.Prelude.{ℕ, List, Result, Ok, Err, codes, if◌then◌els
 use Rattle.std.specs.Str.{bytes_eq}
 use Rattle.aegis_lines.specs.declared.fault.Fault.{Fault}
 use Rattle.aegis_lines.specs.declared.fault.Fault.TheVariants as faults
-use Rattle.aegis_variants.specs.declared.variant.Variant.{Variant}
-use Rattle.aegis_variants.specs.declared.variant.Variant.TheVariants as variants
+use Rattle.aegis_variants.specs.declared.variant.AnyVariant.{AnyVariant}
+use Rattle.aegis_variants.specs.declared.variant.AnyVariant.TheVariants as variants
 
 -- the variant of a name
-unfoldable pub variant_named : List ℕ → Result Variant Fault
+unfoldable pub variant_named : List ℕ → Result AnyVariant Fault
 variant_named name =
     if bytes_eq name (codes "aegis128l") then Ok variants.Aegis128L
     else if bytes_eq name (codes "aegis128x2") then Ok variants.Aegis128X2

@@ -1,6 +1,7 @@
 //! The answer of a line.
 
-ghost use Rattle.std.specs.Prelude.{◌≡◌, ◌⊎◌, IfErr, IfOk};
+ghost use Rattle.std.specs.Prelude.{◌≡◌, ◌++◌, IfErr, IfOk, codes};
+ghost use Rattle.aegis_base.specs.Lane.{IsTagLength};
 ghost use Rattle.aegis_base.specs.declared.error.Error.TheVariants.{OutOfMemory};
 ghost use Rattle.aegis_lines.specs.Answer.{IsAnswer, IsOpeningAnswer, IsReply, shown_pair};
 ghost use Rattle.aegis_lines.specs.Command.{request_from, tag_bytes_of, tag_size_of};
@@ -14,10 +15,10 @@ use crate::fields::{push_bytes, text_for};
 use crate::limited::Limited;
 use crate::parse::parse;
 use crate::pieces::Pieces;
-use crate::records::{open_stream, seal_stream};
-use crate::tag::Tag;
+use crate::records::{answer_opening, answer_sealing};
+use crate::tag::AnyTag;
 use aegis::Error;
-use aegis_variants::{Cipher, TagLength};
+use aegis_variants::{AnyCipher, TagLength};
 use std::alloc::{AllocError, Allocator};
 
 /// The answer of a line, without a line end. The line is any bytes, and a line end in it is a byte
@@ -55,14 +56,14 @@ fn reply<A: Allocator + Copy>(alloc: A, command: Command<A>) -> Result<Vec<u8, A
             associated_data,
             ciphertext,
         } => open(alloc, cipher, tag, associated_data, ciphertext),
-        Command::Stream { cipher, count } => {
+        Command::Keystream { cipher, count } => {
             let mut buffer = vec![in alloc; 0u8; count]?;
             cipher.stream(&mut buffer);
             shown(alloc, &buffer)
         }
         Command::Xor { cipher, message } => {
             let mut buffer = message;
-            cipher.stream_xor(&mut buffer);
+            cipher.stream_xor_in_place(&mut buffer);
             shown(alloc, &buffer)
         }
         Command::Mac {
@@ -70,8 +71,8 @@ fn reply<A: Allocator + Copy>(alloc: A, command: Command<A>) -> Result<Vec<u8, A
             tag_length,
             message,
         } => mac(alloc, cipher, tag_length, message),
-        Command::SealRecords { keys, messages } => seal_stream(alloc, &keys, &messages),
-        Command::OpenRecords { keys, bytes } => open_stream(alloc, &keys, &bytes),
+        Command::SealRecords { keys, messages } => answer_sealing(alloc, &keys, &messages),
+        Command::OpenRecords { keys, bytes } => answer_opening(alloc, &keys, &bytes),
     }
 }
 
@@ -102,22 +103,25 @@ fn shown_pair<A: Allocator + Copy>(
 // The answer to a sealing of a message.
 fn seal<A: Allocator + Copy>(
     alloc: A,
-    cipher: Cipher,
+    cipher: AnyCipher,
     tag_length: TagLength,
     associated_data: Limited<A>,
     message: Pieces<A>,
 ) -> Result<Vec<u8, A>, AllocError>
-    ensures { IfOk result (λ text. text.items ≡ shown_pair (sealed_by cipher (tag_length_of tag_length) associated_data.bytes.items (together message.pieces.items))) }
+    ensures { IfOk result (λ text. text.items
+        ≡ shown_pair
+        (sealed_by cipher (tag_length_of tag_length) associated_data.bytes.items
+        (together message.pieces.items))) }
 {
     let chunks = message.chunks(alloc)?;
     let mut ciphertext = vec![in alloc; 0u8; message.len]?;
     match tag_length {
         TagLength::Short => {
-            let tag = cipher.seal::<16>(&associated_data.bytes, &chunks, &mut ciphertext);
+            let tag = cipher.seal_chunks::<16>(&associated_data.bytes, &chunks, &mut ciphertext);
             shown_pair(alloc, &ciphertext, &tag)
         }
         TagLength::Long => {
-            let tag = cipher.seal::<32>(&associated_data.bytes, &chunks, &mut ciphertext);
+            let tag = cipher.seal_chunks::<32>(&associated_data.bytes, &chunks, &mut ciphertext);
             shown_pair(alloc, &ciphertext, &tag)
         }
     }
@@ -126,34 +130,48 @@ fn seal<A: Allocator + Copy>(
 // The answer to an opening of a ciphertext.
 fn open<A: Allocator + Copy>(
     alloc: A,
-    cipher: Cipher,
-    tag: Tag,
+    cipher: AnyCipher,
+    tag: AnyTag,
     associated_data: Limited<A>,
     ciphertext: Pieces<A>,
 ) -> Result<Vec<u8, A>, AllocError>
-    ensures { IfOk result (λ text. IsOpeningAnswer (λ m. sealed_by cipher (tag_size_of tag) associated_data.bytes.items m ≡ (together ciphertext.pieces.items, tag_bytes_of tag)) text.items) }
+    ensures { IfOk result
+        (λ text. IsOpeningAnswer
+        (λ m. sealed_by cipher (tag_size_of tag) associated_data.bytes.items m
+        ≡ (together ciphertext.pieces.items, tag_bytes_of tag)) text.items) }
 {
     match tag {
-        Tag::Short(tag) => open_by_tag(alloc, cipher, &tag, &associated_data, &ciphertext),
-        Tag::Long(tag) => open_by_tag(alloc, cipher, &tag, &associated_data, &ciphertext),
+        AnyTag::Short(tag) => open_by_tag(alloc, cipher, &tag, &associated_data, &ciphertext),
+        AnyTag::Long(tag) => open_by_tag(alloc, cipher, &tag, &associated_data, &ciphertext),
     }
 }
 
 fn open_by_tag<A: Allocator + Copy, const TAG_BYTES: usize>(
     alloc: A,
-    cipher: Cipher,
+    cipher: AnyCipher,
     tag: &[u8; TAG_BYTES],
     associated_data: &Limited<A>,
     ciphertext: &Pieces<A>,
 ) -> Result<Vec<u8, A>, AllocError>
-    requires { (TAG_BYTES ≡ 16) ⊎ (TAG_BYTES ≡ 32) }
-    ensures { IfOk result (λ text. IsOpeningAnswer (λ m. sealed_by cipher TAG_BYTES associated_data.now.bytes.items m ≡ (together ciphertext.now.pieces.items, tag.now)) text.items) }
+    requires { IsTagLength TAG_BYTES }
+    ensures { IfOk result
+        (λ text. IsOpeningAnswer
+        (λ m. sealed_by cipher TAG_BYTES associated_data.now.bytes.items m
+        ≡ (together ciphertext.now.pieces.items, tag.now)) text.items) }
 {
     let chunks = ciphertext.chunks(alloc)?;
     let mut buffer = vec![in alloc; 0u8; ciphertext.len]?;
-    let Ok(message) = cipher.open(&associated_data.bytes, &chunks, tag, &mut buffer) else {
+    let Ok(_bytes) = cipher.open_chunks_len(&associated_data.bytes, &chunks, tag, &mut buffer)
+    else {
         return Vec::from_slice(alloc, b"invalid tag");
     };
+    shown_message(alloc, &buffer)
+}
+
+// A message that was opened, as it is printed.
+fn shown_message<A: Allocator + Copy>(alloc: A, message: &[u8]) -> Result<Vec<u8, A>, AllocError>
+    ensures { IfOk result (λ text. text.items ≡ codes "ok " ++ shown message.now) }
+{
     let mut text = text_for(alloc, message.len())?;
     text.extend_from_slice(b"ok ")?;
     push_bytes(&mut text, message)?;
@@ -163,15 +181,16 @@ fn open_by_tag<A: Allocator + Copy, const TAG_BYTES: usize>(
 // The answer to the MAC of a message.
 fn mac<A: Allocator + Copy>(
     alloc: A,
-    cipher: Cipher,
+    cipher: AnyCipher,
     tag_length: TagLength,
     message: Pieces<A>,
 ) -> Result<Vec<u8, A>, AllocError>
-    ensures { IfOk result (λ text. text.items ≡ shown (mac_by cipher (tag_length_of tag_length) (together message.pieces.items))) }
+    ensures { IfOk result (λ text. text.items
+        ≡ shown (mac_by cipher (tag_length_of tag_length) (together message.pieces.items))) }
 {
     let chunks = message.chunks(alloc)?;
     match tag_length {
-        TagLength::Short => shown(alloc, &cipher.mac::<16>(&chunks)),
-        TagLength::Long => shown(alloc, &cipher.mac::<32>(&chunks)),
+        TagLength::Short => shown(alloc, &cipher.mac_chunks::<16>(&chunks)),
+        TagLength::Long => shown(alloc, &cipher.mac_chunks::<32>(&chunks)),
     }
 }

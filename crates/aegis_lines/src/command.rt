@@ -2,10 +2,10 @@
 
 use crate::limited::Limited;
 use crate::pieces::Pieces;
-use crate::records::{Messages, StreamKeys};
-use crate::tag::Tag;
+use crate::records::{Messages, RecordKeys};
+use crate::tag::AnyTag;
 use aegis::aes::AesBlock;
-use aegis_variants::{Cipher, TagLength};
+use aegis_variants::{AnyCipher, TagLength};
 use std::alloc::Allocator;
 
 /// A command, with what its fields stand for.
@@ -17,41 +17,41 @@ pub enum Command<A: Allocator> {
         key: AesBlock,
     },
     Seal {
-        cipher: Cipher,
+        cipher: AnyCipher,
         tag_length: TagLength,
         associated_data: Limited<A>,
         message: Pieces<A>,
     },
     Open {
-        cipher: Cipher,
-        tag: Tag,
+        cipher: AnyCipher,
+        tag: AnyTag,
         associated_data: Limited<A>,
         ciphertext: Pieces<A>,
     },
     /// So many bytes of the keystream.
-    Stream {
-        cipher: Cipher,
+    Keystream {
+        cipher: AnyCipher,
         count: usize,
     },
     /// A message, xored with the keystream.
     Xor {
-        cipher: Cipher,
+        cipher: AnyCipher,
         message: Vec<u8, A>,
     },
     /// The MAC of a message.
     Mac {
-        cipher: Cipher,
+        cipher: AnyCipher,
         tag_length: TagLength,
         message: Pieces<A>,
     },
     /// The stream of some messages.
     SealRecords {
-        keys: StreamKeys<A>,
+        keys: RecordKeys<A>,
         messages: Messages<A>,
     },
     /// The messages of a stream.
     OpenRecords {
-        keys: StreamKeys<A>,
+        keys: RecordKeys<A>,
         bytes: Vec<u8, A>,
     },
 }

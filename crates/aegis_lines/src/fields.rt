@@ -8,14 +8,15 @@ ghost use Rattle.aegis_lines.specs.declared.fault.Fault.TheVariants.{Hex, Length
 ghost use Rattle.aegis_lines.specs.declared.fault.Refusal.TheVariants.{OutOfMemory};
 ghost use Rattle.aegis_lines.specs.Fault.{Gives};
 ghost use Rattle.aegis_lines.specs.Record.{each_from, messages_in};
-ghost use Rattle.aegis_lines.specs.Field.{bytes_in, cut_at, field_of, joined_from, joined_in, shown, stream_length_in, texts, together};
+ghost use Rattle.aegis_base.specs.Chunks.{texts};
+ghost use Rattle.aegis_lines.specs.Field.{bytes_in, cut_at, field_of, joined_from, joined_in, shown, keystream_length_in, together};
 
 use crate::fault::{Fault, Refusal};
 use hex::FromHexError;
 use std::alloc::{AllocError, Allocator};
 
-/// The longest stream that a line can ask for.
-const MAX_STREAM: usize = 65536;
+/// The most bytes of keystream that a line can ask for.
+const MAX_KEYSTREAM_BYTES: usize = 65536;
 
 /// Room for what stands around the digits of an answer, as `ok -` and a line feed.
 const AROUND_DIGITS: usize = 8;
@@ -44,7 +45,8 @@ pub fn field<'a>(fields: &[&'a [u8]], index: usize) -> &'a [u8]
 #[tactic(auto, unfolding(crate::specs::Field::bytes_in))]
 pub fn bytes<A: Allocator>(alloc: A, field: &[u8]) -> Result<Vec<u8, A>, Refusal>
     ensures value { Gives (λ bytes. bytes.items) result (bytes_in field.now) }
-    ensures refused { IfErr result (λ refusal. (refusal ≡ OutOfMemory) ⊎ (refusal ≡ Refusal.Fault Hex)) }
+    ensures refused { IfErr result (λ refusal. (refusal ≡ OutOfMemory)
+        ⊎ (refusal ≡ Refusal.Fault Hex)) }
 {
     if field.is_empty() {
         return Err(Refusal::Fault(Fault::Hex));
@@ -66,7 +68,8 @@ pub fn pieces<A: Allocator + Copy>(alloc: A, field: &[u8]) -> Result<Vec<Vec<u8,
     ensures value { Gives (λ pieces. together pieces.items) result (joined_in field.now) }
     ensures each { Gives (λ pieces. map vec_items pieces.items) result (messages_in field.now) }
     ensures some { IfOk result (λ pieces. 0 < vec_len pieces) }
-    ensures refused { IfErr result (λ refusal. (refusal ≡ OutOfMemory) ⊎ (refusal ≡ Refusal.Fault Hex)) }
+    ensures refused { IfErr result (λ refusal. (refusal ≡ OutOfMemory)
+        ⊎ (refusal ≡ Refusal.Fault Hex)) }
 {
     let texts = split(alloc, field, b',')?;
     bytes_of_each(alloc, &texts)
@@ -79,7 +82,8 @@ fn bytes_of_each<A: Allocator + Copy>(
     ensures value { Gives (λ read. map vec_items read.items) result (each_from (texts pieces.now)) }
     ensures joined { Gives (λ read. together read.items) result (joined_from (texts pieces.now)) }
     ensures count { IfOk result (λ read. vec_len read ≡ length pieces.now) }
-    ensures refused { IfErr result (λ refusal. (refusal ≡ OutOfMemory) ⊎ (refusal ≡ Refusal.Fault Hex)) }
+    ensures refused { IfErr result (λ refusal. (refusal ≡ OutOfMemory)
+        ⊎ (refusal ≡ Refusal.Fault Hex)) }
 {
     let mut read = Vec::new(alloc);
     for piece in pieces {
@@ -117,17 +121,17 @@ pub fn push_bytes<A: Allocator>(text: &mut Vec<u8, A>, bytes: &[u8]) -> Result<(
 }
 
 /// The length that one to five decimal digits say. It is a length fault where the field is something
-/// else, or the length passes the longest stream's.
-#[tactic(auto, unfolding(crate::specs::Field::stream_length_in))]
-pub fn stream_length(field: &[u8]) -> Result<usize, Refusal>
-    ensures value { Gives (λ length. length) result (stream_length_in field.now) }
+/// else, or the length passes that of the longest keystream.
+#[tactic(auto, unfolding(crate::specs::Field::keystream_length_in))]
+pub fn keystream_length(field: &[u8]) -> Result<usize, Refusal>
+    ensures value { Gives (λ length. length) result (keystream_length_in field.now) }
     ensures refused { IfErr result (λ refusal. refusal ≡ Refusal.Fault Length) }
 {
     if field.is_empty() || field.len() > 5 || !all_digits(field) {
         return Err(Refusal::Fault(Fault::Length));
     }
     let length = decimal(field);
-    if length > MAX_STREAM {
+    if length > MAX_KEYSTREAM_BYTES {
         return Err(Refusal::Fault(Fault::Length));
     }
     Ok(length)

@@ -9,7 +9,8 @@ use std::io::{ErrorKind, Write};
 /// Writes all the bytes. An interrupted write is a failure, and so is one that takes no byte.
 pub fn write_whole<W: Write>(output: &mut W, bytes: &[u8]) -> io::Result<()>
     ensures ok { OnOk result (Appends (W.contents output.old) (W.contents output.new) bytes.now) }
-    ensures err { OnErr result ((n : ℕ) × Appends (W.contents output.old) (W.contents output.new) (take n bytes.now)) }
+    ensures err { OnErr result ((n : ℕ)
+        × Appends (W.contents output.old) (W.contents output.new) (take n bytes.now)) }
 {
     let mut sent = 0;
     'writes: while sent < bytes.len() {

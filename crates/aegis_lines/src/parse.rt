@@ -3,7 +3,8 @@
 ghost use Rattle.std.specs.Prelude.{◌≡◌, length};
 ghost use Rattle.aegis_lines.specs.Command.{request_from};
 ghost use Rattle.aegis_lines.specs.Fault.{Gives};
-ghost use Rattle.aegis_lines.specs.Field.{field_of, texts};
+ghost use Rattle.aegis_base.specs.Chunks.{texts};
+ghost use Rattle.aegis_lines.specs.Field.{field_of};
 ghost use Rattle.aegis_lines.specs.Table.{name_of};
 ghost use Rattle.aegis_lines.specs.Table as names;
 ghost use Rattle.aegis_lines.specs.Request.{request_of, request_of_command, request_of_name};
@@ -11,10 +12,10 @@ ghost use Rattle.aegis_lines.specs.Request.{request_of, request_of_command, requ
 use crate::command::Command;
 use crate::fault::{Fault, Refusal};
 use crate::fields;
-use crate::keys::{Keys, TaggedKeys, stream_keys};
+use crate::keys::{KeyFields, TaggedKeyFields, record_keys};
 use crate::pieces::Pieces;
-use crate::records::{Messages, StreamKeys};
-use crate::tag::Tag;
+use crate::records::{Messages, RecordKeys};
+use crate::tag::AnyTag;
 use crate::variant::cipher_with;
 use aegis::aes::AesBlock;
 use std::alloc::Allocator;
@@ -30,7 +31,8 @@ pub fn parse<A: Allocator + Copy>(alloc: A, line: &[u8]) -> Result<Command<A>, R
 
 // The command of some fields.
 fn command<A: Allocator + Copy>(alloc: A, fields: &[&[u8]]) -> Result<Command<A>, Refusal>
-    ensures { Gives request_from result (request_of_name (name_of (field_of (texts fields.now) 0)) (texts fields.now)) }
+    ensures { Gives request_from result
+        (request_of_name (name_of (field_of (texts fields.now) 0)) (texts fields.now)) }
 {
     let Some(name) = fields.first() else {
         return Err(Refusal::Fault(Fault::Command));
@@ -83,7 +85,7 @@ fn seal<A: Allocator + Copy>(alloc: A, fields: &[&[u8]]) -> Result<Command<A>, R
     if fields.len() != 7 {
         return Err(Refusal::Fault(Fault::Fields));
     }
-    let keys = TaggedKeys::read(alloc, fields)?;
+    let keys = TaggedKeyFields::read(alloc, fields)?;
     let (cipher, associated_data, message) = keys.texts(
         alloc,
         fields::field(fields, 5),
@@ -105,7 +107,7 @@ fn open<A: Allocator + Copy>(alloc: A, fields: &[&[u8]]) -> Result<Command<A>, R
     if fields.len() != 8 {
         return Err(Refusal::Fault(Fault::Fields));
     }
-    let keys = TaggedKeys::read(alloc, fields)?;
+    let keys = TaggedKeyFields::read(alloc, fields)?;
     let tag = fields::bytes(alloc, fields::field(fields, 7))?;
     let (cipher, associated_data, ciphertext) = keys.texts(
         alloc,
@@ -114,7 +116,7 @@ fn open<A: Allocator + Copy>(alloc: A, fields: &[&[u8]]) -> Result<Command<A>, R
     )?;
     Ok(Command::Open {
         cipher,
-        tag: Tag::from_slice(keys.tag_length, &tag)?,
+        tag: AnyTag::from_slice(keys.tag_length, &tag)?,
         associated_data,
         ciphertext,
     })
@@ -123,14 +125,14 @@ fn open<A: Allocator + Copy>(alloc: A, fields: &[&[u8]]) -> Result<Command<A>, R
 // `stream V K N LEN`
 #[tactic(auto, unfolding(crate::specs::Request::request_of_command))]
 fn stream<A: Allocator + Copy>(alloc: A, fields: &[&[u8]]) -> Result<Command<A>, Refusal>
-    ensures { Gives request_from result (request_of_command names.Stream (texts fields.now)) }
+    ensures { Gives request_from result (request_of_command names.Keystream (texts fields.now)) }
 {
     if fields.len() != 5 {
         return Err(Refusal::Fault(Fault::Fields));
     }
-    let keys = Keys::read(alloc, fields)?;
-    let count = fields::stream_length(fields::field(fields, 4))?;
-    Ok(Command::Stream {
+    let keys = KeyFields::read(alloc, fields)?;
+    let count = fields::keystream_length(fields::field(fields, 4))?;
+    Ok(Command::Keystream {
         cipher: cipher_with(keys.variant, &keys.key, &keys.nonce)?,
         count,
     })
@@ -144,7 +146,7 @@ fn xor<A: Allocator + Copy>(alloc: A, fields: &[&[u8]]) -> Result<Command<A>, Re
     if fields.len() != 5 {
         return Err(Refusal::Fault(Fault::Fields));
     }
-    let keys = Keys::read(alloc, fields)?;
+    let keys = KeyFields::read(alloc, fields)?;
     let message = fields::bytes(alloc, fields::field(fields, 4))?;
     Ok(Command::Xor {
         cipher: cipher_with(keys.variant, &keys.key, &keys.nonce)?,
@@ -160,7 +162,7 @@ fn mac<A: Allocator + Copy>(alloc: A, fields: &[&[u8]]) -> Result<Command<A>, Re
     if fields.len() != 6 {
         return Err(Refusal::Fault(Fault::Fields));
     }
-    let keys = TaggedKeys::read(alloc, fields)?;
+    let keys = TaggedKeyFields::read(alloc, fields)?;
     let message = fields::pieces(alloc, fields::field(fields, 5))?;
     Ok(Command::Mac {
         cipher: cipher_with(keys.variant, &keys.key, &keys.nonce)?,
@@ -177,10 +179,10 @@ fn seal_records<A: Allocator + Copy>(alloc: A, fields: &[&[u8]]) -> Result<Comma
     if fields.len() != 5 {
         return Err(Refusal::Fault(Fault::Fields));
     }
-    let (key, prefix, context) = stream_keys(alloc, fields)?;
+    let (key, prefix, context) = record_keys(alloc, fields)?;
     let messages = fields::pieces(alloc, fields::field(fields, 4))?;
     Ok(Command::SealRecords {
-        keys: StreamKeys::new(&key, &prefix, context)?,
+        keys: RecordKeys::new(&key, &prefix, context)?,
         messages: Messages::new(alloc, messages)?,
     })
 }
@@ -193,10 +195,10 @@ fn open_records<A: Allocator + Copy>(alloc: A, fields: &[&[u8]]) -> Result<Comma
     if fields.len() != 5 {
         return Err(Refusal::Fault(Fault::Fields));
     }
-    let (key, prefix, context) = stream_keys(alloc, fields)?;
+    let (key, prefix, context) = record_keys(alloc, fields)?;
     let bytes = fields::bytes(alloc, fields::field(fields, 4))?;
     Ok(Command::OpenRecords {
-        keys: StreamKeys::new(&key, &prefix, context)?,
+        keys: RecordKeys::new(&key, &prefix, context)?,
         bytes,
     })
 }

@@ -1,13 +1,14 @@
 //! Bytes that come in pieces.
 
-ghost use Rattle.std.specs.Prelude.{◌≡◌, ◌≤◌, IfOk, length, map, vec_items};
+ghost use Rattle.std.specs.Prelude.{◌≡◌, ◌≤◌, IfOk, length, vec_items};
 ghost use Rattle.aegis_base.specs.Chunks.{joined};
 ghost use Rattle.aegis_base.specs.declared.error.TheConstants.{MAX_AEAD_BYTES};
 ghost use Rattle.aegis_lines.specs.Fault.{Gives};
-ghost use Rattle.aegis_lines.specs.Field.{limited, texts, together};
+ghost use Rattle.aegis_lines.specs.Field.{limited, together};
 
 use crate::fault::{Fault, Refusal};
 use aegis::{MAX_AEAD_BYTES, chunks_len};
+use aegis_base::slices;
 use std::alloc::{AllocError, Allocator};
 
 /// Bytes in pieces, which together are no more than AEGIS takes.
@@ -22,7 +23,8 @@ pub struct Pieces<A: Allocator> {
 impl<A: Allocator + Copy> Pieces<A> {
     /// It is a length fault where there are more bytes together.
     pub fn new(alloc: A, pieces: Vec<Vec<u8, A>, A>) -> Result<Pieces<A>, Refusal>
-        ensures { Gives (λ limited. together limited.pieces.items) result (limited (together pieces.items)) }
+        ensures { Gives (λ limited. together limited.pieces.items) result
+            (limited (together pieces.items)) }
     {
         let Some(len) = chunks_len(&slices(alloc, &pieces)?) else {
             return Err(Refusal::Fault(Fault::Length));
@@ -39,19 +41,4 @@ impl<A: Allocator + Copy> Pieces<A> {
     {
         slices(alloc, &self.pieces)
     }
-}
-
-/// Vectors, as slices.
-pub fn slices<A: Allocator + Copy>(
-    alloc: A,
-    pieces: &[Vec<u8, A>],
-) -> Result<Vec<&[u8], A>, AllocError>
-    ensures each { IfOk result (λ slices. texts slices.items ≡ map vec_items pieces.now) }
-    ensures joined { IfOk result (λ slices. joined slices.items ≡ together pieces.now) }
-{
-    let mut slices = Vec::new(alloc);
-    for piece in pieces {
-        slices.push(piece.as_slice())?;
-    }
-    Ok(slices)
 }

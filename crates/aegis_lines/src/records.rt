@@ -4,33 +4,35 @@ ghost use Rattle.std.specs.Prelude.{◌≡◌, ◌<◌, ◌≤◌, ◌++◌, IfO
 ghost use Rattle.aegis_base.specs.declared.error.TheConstants.{MAX_AEAD_BYTES};
 ghost use Rattle.aegis_lines.specs.Fault.{Gives};
 ghost use Rattle.aegis_lines.specs.Field.{shown};
-ghost use Rattle.aegis_lines.specs.Record.{IsRefusal, IsStreamAnswer, are_within, keys_with, messages_with, shown_messages};
-ghost use Rattle.aegis_record.specs.Records.{records};
-ghost use Rattle.aegis_record.specs.Stream.{stream_length};
-ghost use Rattle.aegis_record.specs.declared.version.Version.TheVariants.{Second};
+ghost use Rattle.aegis_lines.specs.Record.{IsRefusal, IsRecordsAnswer, are_within, keys_with, messages_with, shown_messages};
+ghost use Rattle.aegis.specs.Records.{records};
+ghost use Rattle.aegis.specs.RecordStream.{records_length};
+ghost use Rattle.aegis.specs.declared.record.record_cipher.TheConstants.{MAX_CONTEXT_BYTES};
+ghost use Rattle.aegis.specs.declared.record.version.Version.TheVariants.{Second};
 
 use crate::answer::shown;
 use crate::fault::{Fault, Refusal};
 use crate::fields::{push_bytes, text_for};
-use crate::pieces::slices;
 use aegis::record::{
     MAX_CONTEXT_BYTES, MAX_MESSAGE_BYTES, RecordError, open_records, records_len, seal_records,
 };
+use aegis_base::slices;
 use std::alloc::{AllocError, Allocator};
 
 /// The key, the prefix and the context of a stream.
 #[derive(Drop)]
-pub struct StreamKeys<A: Allocator> {
+pub struct RecordKeys<A: Allocator> {
     pub key: [u8; 32],
     pub prefix: [u8; 24],
     pub context: Vec<u8, A>,
-    ghost within_limit: { vec_len context ≤ 65535 },
+    ghost within_limit: { vec_len context ≤ MAX_CONTEXT_BYTES },
 }
 
-impl<A: Allocator> StreamKeys<A> {
+impl<A: Allocator> RecordKeys<A> {
     /// It is a length fault where one of them has a length that is not allowed.
-    pub fn new(key: &[u8], prefix: &[u8], context: Vec<u8, A>) -> Result<StreamKeys<A>, Refusal>
-        ensures { Gives (λ keys. (keys.key, keys.prefix, keys.context.items)) result (keys_with key.now prefix.now context.items) }
+    pub fn new(key: &[u8], prefix: &[u8], context: Vec<u8, A>) -> Result<RecordKeys<A>, Refusal>
+        ensures { Gives (λ keys. (keys.key, keys.prefix, keys.context.items)) result
+            (keys_with key.now prefix.now context.items) }
     {
         let Ok(key) = <[u8; 32]>::try_from(key) else {
             return Err(Refusal::Fault(Fault::Length));
@@ -41,7 +43,7 @@ impl<A: Allocator> StreamKeys<A> {
         if context.len() > MAX_CONTEXT_BYTES {
             return Err(Refusal::Fault(Fault::Length));
         }
-        Ok(StreamKeys {
+        Ok(RecordKeys {
             key,
             prefix,
             context,
@@ -55,14 +57,15 @@ pub struct Messages<A: Allocator> {
     pub messages: Vec<Vec<u8, A>, A>,
     ghost some: { 0 < vec_len messages },
     ghost within: { are_within (map vec_items (vec_items messages)) ≡ true },
-    ghost fits: { stream_length (map vec_items (vec_items messages)) ≤ MAX_AEAD_BYTES },
+    ghost fits: { records_length (map vec_items (vec_items messages)) ≤ MAX_AEAD_BYTES },
 }
 
 impl<A: Allocator + Copy> Messages<A> {
     /// It is a length fault where a message is longer than a record's may be, or the whole stream is too long.
     pub fn new(alloc: A, messages: Vec<Vec<u8, A>, A>) -> Result<Messages<A>, Refusal>
         requires { 0 < vec_len messages }
-        ensures { Gives (λ some. map vec_items some.messages.items) result (messages_with (map vec_items messages.items)) }
+        ensures { Gives (λ some. map vec_items some.messages.items) result
+            (messages_with (map vec_items messages.items)) }
     {
         if !all_within(&messages) || records_len(&slices(alloc, &messages)?).is_none() {
             return Err(Refusal::Fault(Fault::Length));
@@ -84,13 +87,14 @@ fn all_within<A: Allocator>(messages: &[Vec<u8, A>]) -> bool
 }
 
 /// The answer to a sealing of messages.
-pub fn seal_stream<A: Allocator + Copy>(
+pub fn answer_sealing<A: Allocator + Copy>(
     alloc: A,
-    keys: &StreamKeys<A>,
+    keys: &RecordKeys<A>,
     messages: &Messages<A>,
 ) -> Result<Vec<u8, A>, AllocError>
     ensures { IfOk result (λ text. text.items
-        ≡ shown (records Second keys.now.key keys.now.prefix keys.now.context.items (map vec_items messages.now.messages.items))) }
+        ≡ shown (records Second keys.now.key keys.now.prefix keys.now.context.items
+        (map vec_items messages.now.messages.items))) }
 {
     let slices = slices(alloc, &messages.messages)?;
     match seal_records(alloc, &keys.key, &keys.prefix, &keys.context, &slices) {
@@ -100,12 +104,14 @@ pub fn seal_stream<A: Allocator + Copy>(
 }
 
 /// The answer to an opening of a stream.
-pub fn open_stream<A: Allocator + Copy>(
+pub fn answer_opening<A: Allocator + Copy>(
     alloc: A,
-    keys: &StreamKeys<A>,
+    keys: &RecordKeys<A>,
     bytes: &[u8],
 ) -> Result<Vec<u8, A>, AllocError>
-    ensures { IfOk result (λ text. IsStreamAnswer keys.now.key keys.now.prefix keys.now.context.items bytes.now text.items) }
+    ensures { IfOk result
+        (λ text. IsRecordsAnswer keys.now.key keys.now.prefix keys.now.context.items bytes.now
+        text.items) }
 {
     match open_records(alloc, &keys.key, &keys.prefix, &keys.context, bytes) {
         Ok(messages) => opened_text(alloc, &messages, bytes.len()),
@@ -119,7 +125,8 @@ fn opened_text<A: Allocator + Copy>(
     messages: &[Vec<u8, A>],
     bytes: usize,
 ) -> Result<Vec<u8, A>, AllocError>
-    ensures { IfOk result (λ text. text.items ≡ codes "ok " ++ shown_messages (map vec_items messages.now)) }
+    ensures { IfOk result (λ text. text.items
+        ≡ codes "ok " ++ shown_messages (map vec_items messages.now)) }
 {
     let mut text = text_for(alloc, bytes)?;
     text.extend_from_slice(b"ok ")?;

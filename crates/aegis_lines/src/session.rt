@@ -35,7 +35,8 @@ pub fn run<R: Read, W: Write, A: Allocator + Copy>(alloc: A, input: &mut R, outp
 
     // With the status 2 as many bytes of the answers as could be written, for no line that was not read.
     ensures failed { result ≡ 2 → IfSome (R.remaining input.old)
-        (λ bytes. AnswersRead bytes (R.remaining input.new) (W.contents output.old) (W.contents output.new)) }
+        (λ bytes. AnswersRead bytes (R.remaining input.new) (W.contents output.old)
+        (W.contents output.new)) }
 {
     match answer_all(alloc, input, output) {
         Ok(false) => UNDERSTOOD,
@@ -52,9 +53,11 @@ fn answer_all<R: Read, W: Write, A: Allocator + Copy>(
 ) -> io::Result<bool>
     ensures end { OnOk result (IsAtEnd (R.remaining input.new)) }
     ensures ok { IfOk result (λ saw_error. IfSome (R.remaining input.old)
-        (λ bytes. Answers (lines bytes) [] false saw_error (W.contents output.old) (W.contents output.new))) }
+        (λ bytes. Answers (lines bytes) [] false saw_error (W.contents output.old)
+        (W.contents output.new))) }
     ensures err { OnErr result (IfSome (R.remaining input.old)
-        (λ bytes. AnswersRead bytes (R.remaining input.new) (W.contents output.old) (W.contents output.new))) }
+        (λ bytes. AnswersRead bytes (R.remaining input.new) (W.contents output.old)
+        (W.contents output.new))) }
 {
     let mut chunk = [0u8; CHUNK];
     let mut session = Session::new(alloc);
@@ -95,10 +98,12 @@ impl<A: Allocator + Copy> Session<A> {
     // Answers the lines that the bytes end.
     fn take<W: Write>(&mut self, bytes: &[u8], output: &mut W) -> io::Result<()>
         ensures ok { OnOk result ((ends : Bool) (more : List ℕ) → Answers
-            (lines_after ends self.old.line.items (bytes.now ++ more)) (lines_after ends self.new.line.items more)
+            (lines_after ends self.old.line.items (bytes.now
+            ++ more)) (lines_after ends self.new.line.items more)
             self.old.saw_error self.new.saw_error (W.contents output.old) (W.contents output.new)) }
         ensures err { OnErr result ((ends : Bool) (more : List ℕ) → AnswersSome
-            (lines_after ends self.old.line.items (bytes.now ++ more)) (W.contents output.old) (W.contents output.new)) }
+            (lines_after ends self.old.line.items (bytes.now
+            ++ more)) (W.contents output.old) (W.contents output.new)) }
     {
         for byte in bytes {
             self.take_byte(*byte, output)?;
@@ -108,10 +113,12 @@ impl<A: Allocator + Copy> Session<A> {
 
     fn take_byte<W: Write>(&mut self, byte: u8, output: &mut W) -> io::Result<()>
         ensures ok { OnOk result ((ends : Bool) (more : List ℕ) → Answers
-            (lines_after ends self.old.line.items (byte ∷ more)) (lines_after ends self.new.line.items more)
+            (lines_after ends self.old.line.items (byte ∷ more))
+            (lines_after ends self.new.line.items more)
             self.old.saw_error self.new.saw_error (W.contents output.old) (W.contents output.new)) }
         ensures err { OnErr result ((ends : Bool) (more : List ℕ) → AnswersSome
-            (lines_after ends self.old.line.items (byte ∷ more)) (W.contents output.old) (W.contents output.new)) }
+            (lines_after ends self.old.line.items (byte ∷ more)) (W.contents output.old)
+            (W.contents output.new)) }
     {
         if byte == b'\n' {
             self.answer(output)
@@ -126,7 +133,8 @@ impl<A: Allocator + Copy> Session<A> {
         ensures ok { OnOk result (Answers (lines_after true self.old.line.items []) []
             self.old.saw_error self.new.saw_error (W.contents output.old) (W.contents output.new)) }
         ensures err { OnErr result (AnswersSome
-            (lines_after true self.old.line.items []) (W.contents output.old) (W.contents output.new)) }
+            (lines_after true self.old.line.items []) (W.contents output.old)
+            (W.contents output.new)) }
     {
         if self.line.is_empty() {
             return Ok(());
@@ -141,7 +149,8 @@ impl<A: Allocator + Copy> Session<A> {
             (strip_last 13 self.old.line.items ∷ others) others
             self.old.saw_error self.new.saw_error (W.contents output.old) (W.contents output.new)) }
         ensures err { OnErr result ((others : List (List ℕ)) → AnswersSome
-            (strip_last 13 self.old.line.items ∷ others) (W.contents output.old) (W.contents output.new)) }
+            (strip_last 13 self.old.line.items ∷ others) (W.contents output.old)
+            (W.contents output.new)) }
     {
         let Ok(mut text) = answer_line(self.alloc, without_carriage_return(&self.line)) else {
             return Err(io::Error::from(ErrorKind::OutOfMemory));

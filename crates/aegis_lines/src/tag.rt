@@ -9,23 +9,24 @@ use aegis_variants::TagLength;
 
 /// A tag, of either length.
 #[derive(Clone, Copy, Debug)]
-pub enum Tag {
+pub enum AnyTag {
     Short([u8; 16]),
     Long([u8; 32]),
 }
 
-impl Tag {
+impl AnyTag {
     /// It is a length fault where the tag has another length.
-    pub fn from_slice(length: TagLength, bytes: &[u8]) -> Result<Tag, Refusal>
-        ensures { Gives (λ tag. (tag_size_of tag, tag_bytes_of tag)) result (tag_with (tag_length_of length) bytes.now) }
+    pub fn from_slice(length: TagLength, bytes: &[u8]) -> Result<AnyTag, Refusal>
+        ensures { Gives (λ tag. (tag_size_of tag, tag_bytes_of tag)) result
+            (tag_with (tag_length_of length) bytes.now) }
     {
         match length {
             TagLength::Short => match <[u8; 16]>::try_from(bytes) {
-                Ok(bytes) => Ok(Tag::Short(bytes)),
+                Ok(bytes) => Ok(AnyTag::Short(bytes)),
                 Err(_) => Err(Refusal::Fault(Fault::Length)),
             },
             TagLength::Long => match <[u8; 32]>::try_from(bytes) {
-                Ok(bytes) => Ok(Tag::Long(bytes)),
+                Ok(bytes) => Ok(AnyTag::Long(bytes)),
                 Err(_) => Err(Refusal::Fault(Fault::Length)),
             },
         }

@@ -9,26 +9,26 @@ ghost use Rattle.aegis_variants.specs.Cipher.{parts_of};
 ghost use Rattle.aegis_variants.specs.Variant.{tag_length_of};
 
 use crate::fault::{Fault, Refusal};
-use aegis_variants::{Cipher, TagLength, Variant};
+use aegis_variants::{AnyCipher, AnyVariant, TagLength};
 
 /// The variant of this name, in lower case. It is a variant fault where there is none.
 #[tactic(auto, unfolding(crate::specs::Variant::variant_named))]
-pub fn variant_named(name: &[u8]) -> Result<Variant, Refusal>
+pub fn variant_named(name: &[u8]) -> Result<AnyVariant, Refusal>
     ensures value { Gives (λ variant. variant) result (variant_named name.now) }
     ensures refused { IfErr result (λ refusal. refusal ≡ Refusal.Fault faults.Variant) }
 {
     if name == b"aegis128l".as_slice() {
-        Ok(Variant::Aegis128L)
+        Ok(AnyVariant::Aegis128L)
     } else if name == b"aegis128x2".as_slice() {
-        Ok(Variant::Aegis128X2)
+        Ok(AnyVariant::Aegis128X2)
     } else if name == b"aegis128x4".as_slice() {
-        Ok(Variant::Aegis128X4)
+        Ok(AnyVariant::Aegis128X4)
     } else if name == b"aegis256".as_slice() {
-        Ok(Variant::Aegis256)
+        Ok(AnyVariant::Aegis256)
     } else if name == b"aegis256x2".as_slice() {
-        Ok(Variant::Aegis256X2)
+        Ok(AnyVariant::Aegis256X2)
     } else if name == b"aegis256x4".as_slice() {
-        Ok(Variant::Aegis256X4)
+        Ok(AnyVariant::Aegis256X4)
     } else {
         Err(Refusal::Fault(Fault::Variant))
     }
@@ -48,10 +48,10 @@ pub fn tag_length_named(field: &[u8]) -> Result<TagLength, Refusal>
 }
 
 /// The cipher of a variant, a key and a nonce. It is a length fault where key or nonce does not have the variant's length.
-pub fn cipher_with(variant: Variant, key: &[u8], nonce: &[u8]) -> Result<Cipher, Refusal>
+pub fn cipher_with(variant: AnyVariant, key: &[u8], nonce: &[u8]) -> Result<AnyCipher, Refusal>
     ensures { Gives parts_of result (cipher_with variant key.now nonce.now) }
 {
-    match Cipher::from_slices(variant, key, nonce) {
+    match AnyCipher::from_slices(variant, key, nonce) {
         Some(cipher) => Ok(cipher),
         None => Err(Refusal::Fault(Fault::Length)),
     }

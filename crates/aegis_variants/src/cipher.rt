@@ -1,18 +1,20 @@
 //! A cipher of any variant, with its key and nonce.
 
-ghost use Rattle.std.specs.Prelude.{◌≡◌, ◌⊎◌, ◌≤◌, ℕ, List, length, IsOk, MatchResult};
+ghost use Rattle.std.specs.Prelude.{◌≡◌, ◌≤◌, ℕ, List, length, IfErr, IsOk, OnOk};
+ghost use Rattle.aegis_base.specs.Lane.{IsTagLength};
 ghost use Rattle.aegis_base.specs.Chunks.{joined};
 ghost use Rattle.aegis_base.specs.Message.{Opens};
-ghost use Rattle.aegis_base.specs.Family.{Aegis128, Aegis256};
-ghost use Rattle.aegis_variants.specs.Cipher.{IsCipherOf, IsKeys, key_of, mac_by, nonce_of, sealed_by, stream_of, variant_of, xored_by};
+ghost use Rattle.aegis_base.specs.Variant.{Family128, Family256};
+ghost use Rattle.aegis_variants.specs.Cipher.{IsCipherOf, IsKeys, key_of, mac_by, nonce_of, sealed_by, keystream_of, variant_of, xored_by};
 ghost use Rattle.aegis_variants.specs.Variant.{family_of};
 
-use crate::variant::Variant;
+use crate::variant::AnyVariant;
 use aegis::{Error, MAX_AEAD_BYTES};
 use aegis_base::LaneState;
+use std::fmt;
 
 /// A key and a nonce, of `N` bytes each.
-#[derive(Clone, Copy, Debug)]
+#[derive(Clone, Copy)]
 pub struct Keys<const N: usize> {
     pub key: [u8; N],
     pub nonce: [u8; N],
@@ -31,14 +33,28 @@ impl<const N: usize> Keys<N> {
 }
 
 /// A variant, with a key and a nonce of its length.
-#[derive(Clone, Copy, Debug)]
-pub enum Cipher {
+#[derive(Clone, Copy)]
+pub enum AnyCipher {
     Aegis128L(Keys<16>),
     Aegis128X2(Keys<16>),
     Aegis128X4(Keys<16>),
     Aegis256(Keys<32>),
     Aegis256X2(Keys<32>),
     Aegis256X4(Keys<32>),
+}
+
+// A key is never printed.
+impl<const N: usize> fmt::Debug for Keys<N> {
+    fn fmt<W: fmt::Write>(&self, f: &mut fmt::Formatter<W>) -> fmt::Result {
+        f.write_str("Keys { .. }")
+    }
+}
+
+impl fmt::Debug for AnyCipher {
+    fn fmt<W: fmt::Write>(&self, f: &mut fmt::Formatter<W>) -> fmt::Result {
+        f.write_str(self.variant().name())?;
+        f.write_str(" { .. }")
+    }
 }
 
 /// Makes the call on what a type of the crate `aegis` makes of a variant's keys. There is a type for each variant.
@@ -49,27 +65,27 @@ macro_rules! with_type {
         $tag_bytes:tt, $make:ident, $of:expr, $made:ident => $call:expr
     ) => {
         match $of {
-            $crate::Cipher::Aegis128L(keys) => {
+            $crate::AnyCipher::Aegis128L(keys) => {
                 let $made = $crate::types::$a::<$tag_bytes>::$make(&keys.key, &keys.nonce);
                 $call
             }
-            $crate::Cipher::Aegis128X2(keys) => {
+            $crate::AnyCipher::Aegis128X2(keys) => {
                 let $made = $crate::types::$b::<$tag_bytes>::$make(&keys.key, &keys.nonce);
                 $call
             }
-            $crate::Cipher::Aegis128X4(keys) => {
+            $crate::AnyCipher::Aegis128X4(keys) => {
                 let $made = $crate::types::$c::<$tag_bytes>::$make(&keys.key, &keys.nonce);
                 $call
             }
-            $crate::Cipher::Aegis256(keys) => {
+            $crate::AnyCipher::Aegis256(keys) => {
                 let $made = $crate::types::$d::<$tag_bytes>::$make(&keys.key, &keys.nonce);
                 $call
             }
-            $crate::Cipher::Aegis256X2(keys) => {
+            $crate::AnyCipher::Aegis256X2(keys) => {
                 let $made = $crate::types::$e::<$tag_bytes>::$make(&keys.key, &keys.nonce);
                 $call
             }
-            $crate::Cipher::Aegis256X4(keys) => {
+            $crate::AnyCipher::Aegis256X4(keys) => {
                 let $made = $crate::types::$f::<$tag_bytes>::$make(&keys.key, &keys.nonce);
                 $call
             }
@@ -100,114 +116,139 @@ macro_rules! with_mac {
 }
 
 // Opens chunks into a destination of their length, which keeps them all.
-fn open_all<'a, S: LaneState, V: aegis_base::Variant, const TAG_BYTES: usize>(
-    cipher: &aegis::Cipher<S, S::Key, V, TAG_BYTES>,
+fn open_whole<S: LaneState, V: aegis_base::Names, const KEY_BYTES: usize, const TAG_BYTES: usize>(
+    cipher: &aegis::Cipher<S, V, KEY_BYTES, TAG_BYTES>,
     associated_data: &[u8],
     chunks: &[&[u8]],
     tag: &[u8; TAG_BYTES],
-    message: &'a mut [u8],
-) -> Result<&'a mut [u8], Error>
+    message: &mut [u8],
+) -> Result<usize, Error>
     requires associated_data { length associated_data.now ≤ MAX_AEAD_BYTES }
     requires ciphertext { length (joined chunks.now) ≤ MAX_AEAD_BYTES }
     requires lengths { length message.old ≡ length (joined chunks.now) }
-    ensures opened { MatchResult result
-        (λ m. Opens S.FAMILY S.LANES TAG_BYTES (S.key_bytes cipher.now.key) (S.key_bytes cipher.now.nonce) associated_data.now (joined chunks.now) tag.now m.now)
-        (λ e. e ≡ Error.InvalidTag) }
-    ensures accepted { (m : List ℕ) → Opens S.FAMILY S.LANES TAG_BYTES (S.key_bytes cipher.now.key) (S.key_bytes cipher.now.nonce)
-        associated_data.now (joined chunks.now) tag.now m → IsOk result }
+    ensures opened { OnOk result
+        (Opens S.VARIANT TAG_BYTES cipher.now.key cipher.now.nonce associated_data.now
+        (joined chunks.now) tag.now message.new) }
+    ensures accepted { (m : List ℕ)
+        → Opens S.VARIANT TAG_BYTES cipher.now.key cipher.now.nonce associated_data.now
+        (joined chunks.now) tag.now m
+        → IsOk result }
+    ensures error { IfErr result (λ e. e ≡ Error.InvalidTag) }
 {
-    cipher.open_chunks(associated_data, chunks, tag, message)
+    cipher.open_chunks_len(associated_data, chunks, tag, message)
 }
 
-impl Cipher {
+impl AnyCipher {
     /// None where key or nonce does not have the variant's length.
-    pub fn from_slices(variant: Variant, key: &[u8], nonce: &[u8]) -> Option<Cipher>
+    pub fn from_slices(variant: AnyVariant, key: &[u8], nonce: &[u8]) -> Option<AnyCipher>
         ensures { IsCipherOf variant key.now nonce.now result }
     {
         Some(match variant {
-            Variant::Aegis128L => Cipher::Aegis128L(Keys::from_slices(key, nonce)?),
-            Variant::Aegis128X2 => Cipher::Aegis128X2(Keys::from_slices(key, nonce)?),
-            Variant::Aegis128X4 => Cipher::Aegis128X4(Keys::from_slices(key, nonce)?),
-            Variant::Aegis256 => Cipher::Aegis256(Keys::from_slices(key, nonce)?),
-            Variant::Aegis256X2 => Cipher::Aegis256X2(Keys::from_slices(key, nonce)?),
-            Variant::Aegis256X4 => Cipher::Aegis256X4(Keys::from_slices(key, nonce)?),
+            AnyVariant::Aegis128L => AnyCipher::Aegis128L(Keys::from_slices(key, nonce)?),
+            AnyVariant::Aegis128X2 => AnyCipher::Aegis128X2(Keys::from_slices(key, nonce)?),
+            AnyVariant::Aegis128X4 => AnyCipher::Aegis128X4(Keys::from_slices(key, nonce)?),
+            AnyVariant::Aegis256 => AnyCipher::Aegis256(Keys::from_slices(key, nonce)?),
+            AnyVariant::Aegis256X2 => AnyCipher::Aegis256X2(Keys::from_slices(key, nonce)?),
+            AnyVariant::Aegis256X4 => AnyCipher::Aegis256X4(Keys::from_slices(key, nonce)?),
         })
     }
 
     /// The cipher of a variant, by the keys of its family.
-    pub fn with_keys(variant: Variant, short: Keys<16>, long: Keys<32>) -> Cipher
+    pub fn with_keys(variant: AnyVariant, short: Keys<16>, long: Keys<32>) -> AnyCipher
         ensures variant { variant_of result ≡ variant }
-        ensures short { family_of variant ≡ Aegis128 → (key_of result ≡ short.key) × (nonce_of result ≡ short.nonce) }
-        ensures long { family_of variant ≡ Aegis256 → (key_of result ≡ long.key) × (nonce_of result ≡ long.nonce) }
+        ensures short { family_of variant ≡ Family128
+            → (key_of result ≡ short.key) × (nonce_of result ≡ short.nonce) }
+        ensures long { family_of variant ≡ Family256
+            → (key_of result ≡ long.key) × (nonce_of result ≡ long.nonce) }
     {
         match variant {
-            Variant::Aegis128L => Cipher::Aegis128L(short),
-            Variant::Aegis128X2 => Cipher::Aegis128X2(short),
-            Variant::Aegis128X4 => Cipher::Aegis128X4(short),
-            Variant::Aegis256 => Cipher::Aegis256(long),
-            Variant::Aegis256X2 => Cipher::Aegis256X2(long),
-            Variant::Aegis256X4 => Cipher::Aegis256X4(long),
+            AnyVariant::Aegis128L => AnyCipher::Aegis128L(short),
+            AnyVariant::Aegis128X2 => AnyCipher::Aegis128X2(short),
+            AnyVariant::Aegis128X4 => AnyCipher::Aegis128X4(short),
+            AnyVariant::Aegis256 => AnyCipher::Aegis256(long),
+            AnyVariant::Aegis256X2 => AnyCipher::Aegis256X2(long),
+            AnyVariant::Aegis256X4 => AnyCipher::Aegis256X4(long),
+        }
+    }
+
+    /// The variant.
+    pub fn variant(&self) -> AnyVariant
+        ensures { result ≡ variant_of self.now }
+    {
+        match self {
+            AnyCipher::Aegis128L(_) => AnyVariant::Aegis128L,
+            AnyCipher::Aegis128X2(_) => AnyVariant::Aegis128X2,
+            AnyCipher::Aegis128X4(_) => AnyVariant::Aegis128X4,
+            AnyCipher::Aegis256(_) => AnyVariant::Aegis256,
+            AnyCipher::Aegis256X2(_) => AnyVariant::Aegis256X2,
+            AnyCipher::Aegis256X4(_) => AnyVariant::Aegis256X4,
         }
     }
 
     /// Writes the ciphertext of a message that comes in chunks, and returns the tag.
-    pub fn seal<const TAG_BYTES: usize>(
+    pub fn seal_chunks<const TAG_BYTES: usize>(
         &self,
         associated_data: &[u8],
         chunks: &[&[u8]],
         ciphertext: &mut [u8],
     ) -> [u8; TAG_BYTES]
-        requires tag { (TAG_BYTES ≡ 16) ⊎ (TAG_BYTES ≡ 32) }
+        requires tag { IsTagLength TAG_BYTES }
         requires associated_data { length associated_data.now ≤ MAX_AEAD_BYTES }
         requires message { length (joined chunks.now) ≤ MAX_AEAD_BYTES }
         requires lengths { length ciphertext.old ≡ length (joined chunks.now) }
-        ensures { (ciphertext.new, result) ≡ sealed_by self.now TAG_BYTES associated_data.now (joined chunks.now) }
+        ensures { (ciphertext.new, result)
+            ≡ sealed_by self.now TAG_BYTES associated_data.now (joined chunks.now) }
     {
         with_cipher!(self, TAG_BYTES, cipher => {
             cipher.seal_chunks(associated_data, chunks, ciphertext)
         })
     }
 
-    /// Opens a ciphertext that comes in chunks into a destination of its length. The only error is an invalid tag, where
-    /// no message is sealed to the ciphertext and the tag.
-    pub fn open<'a, const TAG_BYTES: usize>(
+    /// Opens a ciphertext that comes in chunks into a destination of its length, which is then the message, and returns that
+    /// length in bytes.
+    ///
+    /// The only error is [`Error::InvalidTag`], if no message is sealed to the ciphertext and the tag.
+    pub fn open_chunks_len<const TAG_BYTES: usize>(
         &self,
         associated_data: &[u8],
         chunks: &[&[u8]],
         tag: &[u8; TAG_BYTES],
-        message: &'a mut [u8],
-    ) -> Result<&'a mut [u8], Error>
-        requires tag { (TAG_BYTES ≡ 16) ⊎ (TAG_BYTES ≡ 32) }
+        message: &mut [u8],
+    ) -> Result<usize, Error>
+        requires tag { IsTagLength TAG_BYTES }
         requires associated_data { length associated_data.now ≤ MAX_AEAD_BYTES }
         requires ciphertext { length (joined chunks.now) ≤ MAX_AEAD_BYTES }
         requires lengths { length message.old ≡ length (joined chunks.now) }
-        ensures opened { MatchResult result
-            (λ m. sealed_by self.now TAG_BYTES associated_data.now m.now ≡ (joined chunks.now, tag.now))
-            (λ e. e ≡ Error.InvalidTag) }
-        ensures accepted { (m : List ℕ) → sealed_by self.now TAG_BYTES associated_data.now m ≡ (joined chunks.now, tag.now) → IsOk result }
+        ensures opened { OnOk result
+            (sealed_by self.now TAG_BYTES associated_data.now message.new
+            ≡ (joined chunks.now, tag.now)) }
+        ensures accepted { (m : List ℕ)
+            → sealed_by self.now TAG_BYTES associated_data.now m ≡ (joined chunks.now, tag.now)
+            → IsOk result }
+        ensures error { IfErr result (λ e. e ≡ Error.InvalidTag) }
     {
         with_cipher!(self, TAG_BYTES, cipher => {
-            open_all(&cipher, associated_data, chunks, tag, message)
+            open_whole(&cipher, associated_data, chunks, tag, message)
         })
     }
 
     /// Writes the keystream over a buffer.
     pub fn stream(&self, buffer: &mut [u8])
-        ensures { buffer.new ≡ stream_of self.now (length buffer.old) }
+        ensures { buffer.new ≡ keystream_of self.now (length buffer.old) }
     {
         with_cipher!(self, 16, cipher => cipher.stream(buffer))
     }
 
     /// Xors a buffer with the keystream.
-    pub fn stream_xor(&self, buffer: &mut [u8])
+    pub fn stream_xor_in_place(&self, buffer: &mut [u8])
         ensures { buffer.new ≡ xored_by self.now buffer.old }
     {
         with_cipher!(self, 16, cipher => cipher.stream_xor_in_place(buffer))
     }
 
     /// The MAC of a message that comes in chunks.
-    pub fn mac<const TAG_BYTES: usize>(&self, chunks: &[&[u8]]) -> [u8; TAG_BYTES]
-        requires tag { (TAG_BYTES ≡ 16) ⊎ (TAG_BYTES ≡ 32) }
+    pub fn mac_chunks<const TAG_BYTES: usize>(&self, chunks: &[&[u8]]) -> [u8; TAG_BYTES]
+        requires tag { IsTagLength TAG_BYTES }
         requires message { length (joined chunks.now) ≤ MAX_AEAD_BYTES }
         ensures { result ≡ mac_by self.now TAG_BYTES (joined chunks.now) }
     {

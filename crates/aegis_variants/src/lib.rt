@@ -17,5 +17,5 @@ pub mod types {
     pub use aegis::aegis256x4::{Aegis256X4, Aegis256X4Mac};
 }
 
-pub use cipher::{Cipher, Keys};
-pub use variant::{TAG_LENGTHS, TagLength, VARIANTS, Variant};
+pub use cipher::{AnyCipher, Keys};
+pub use variant::{AnyVariant, TAG_LENGTHS, TagLength, VARIANTS};

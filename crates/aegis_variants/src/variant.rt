@@ -5,7 +5,7 @@ ghost use Rattle.aegis_variants.specs.Variant.{rate_of, tag_length_of};
 
 /// A variant of AEGIS.
 #[derive(Clone, Copy, Debug)]
-pub enum Variant {
+pub enum AnyVariant {
     Aegis128L,
     Aegis128X2,
     Aegis128X4,
@@ -15,25 +15,25 @@ pub enum Variant {
 }
 
 /// All variants.
-pub const VARIANTS: [Variant; 6] = [
-    Variant::Aegis128L,
-    Variant::Aegis128X2,
-    Variant::Aegis128X4,
-    Variant::Aegis256,
-    Variant::Aegis256X2,
-    Variant::Aegis256X4,
+pub const VARIANTS: [AnyVariant; 6] = [
+    AnyVariant::Aegis128L,
+    AnyVariant::Aegis128X2,
+    AnyVariant::Aegis128X4,
+    AnyVariant::Aegis256,
+    AnyVariant::Aegis256X2,
+    AnyVariant::Aegis256X4,
 ];
 
-impl Variant {
+impl AnyVariant {
     /// The name of its module.
     pub fn name(self) -> &'static str {
         match self {
-            Variant::Aegis128L => "aegis128l",
-            Variant::Aegis128X2 => "aegis128x2",
-            Variant::Aegis128X4 => "aegis128x4",
-            Variant::Aegis256 => "aegis256",
-            Variant::Aegis256X2 => "aegis256x2",
-            Variant::Aegis256X4 => "aegis256x4",
+            AnyVariant::Aegis128L => "aegis128l",
+            AnyVariant::Aegis128X2 => "aegis128x2",
+            AnyVariant::Aegis128X4 => "aegis128x4",
+            AnyVariant::Aegis256 => "aegis256",
+            AnyVariant::Aegis256X2 => "aegis256x2",
+            AnyVariant::Aegis256X4 => "aegis256x4",
         }
     }
 
@@ -44,12 +44,12 @@ impl Variant {
         ensures most { result ≤ 128 }
     {
         match self {
-            Variant::Aegis128L => 32,
-            Variant::Aegis128X2 => 64,
-            Variant::Aegis128X4 => 128,
-            Variant::Aegis256 => 16,
-            Variant::Aegis256X2 => 32,
-            Variant::Aegis256X4 => 64,
+            AnyVariant::Aegis128L => 32,
+            AnyVariant::Aegis128X2 => 64,
+            AnyVariant::Aegis128X4 => 128,
+            AnyVariant::Aegis256 => 16,
+            AnyVariant::Aegis256X2 => 32,
+            AnyVariant::Aegis256X4 => 64,
         }
     }
 }

@@ -1,9 +1,10 @@
 //! The one-shot calls of a cipher, whichever its variant, and a key and a nonce for each family.
 
 ghost use Rattle.std.specs.Prelude.{◌≡◌, ◌⊎◌, ◌≤◌, length};
+ghost use Rattle.aegis_base.specs.Lane.{IsTagLength};
 
 use aegis::{Error, MAX_AEAD_BYTES};
-use aegis_variants::{Cipher, Keys, Variant, with_cipher};
+use aegis_variants::{AnyCipher, AnyVariant, Keys, with_cipher};
 use std::alloc::Allocator;
 
 /// What the AEGIS-128 ciphers are keyed with.
@@ -19,7 +20,7 @@ pub const LONG_KEY: [u8; 32] = *b"YELLOW SUBMARINEyellow submarine";
 pub const LONG_NONCE: [u8; 32] = *b"a longer nonce, used only once..";
 
 /// The cipher of a variant, under the key and the nonce of its family.
-pub fn keyed(variant: Variant) -> Cipher {
+pub fn keyed(variant: AnyVariant) -> AnyCipher {
     let short = Keys {
         key: SHORT_KEY,
         nonce: SHORT_NONCE,
@@ -28,16 +29,16 @@ pub fn keyed(variant: Variant) -> Cipher {
         key: LONG_KEY,
         nonce: LONG_NONCE,
     };
-    Cipher::with_keys(variant, short, long)
+    AnyCipher::with_keys(variant, short, long)
 }
 
 /// Seals a message in place and returns the tag.
 pub fn encrypt_in_place<const TAG_BYTES: usize>(
-    cipher: &Cipher,
+    cipher: &AnyCipher,
     mc: &mut [u8],
     ad: &[u8],
 ) -> [u8; TAG_BYTES]
-    requires tag { (TAG_BYTES ≡ 16) ⊎ (TAG_BYTES ≡ 32) }
+    requires tag { IsTagLength TAG_BYTES }
     requires message { length mc.old ≤ MAX_AEAD_BYTES }
     requires ad { length ad.now ≤ MAX_AEAD_BYTES }
 {
@@ -46,12 +47,12 @@ pub fn encrypt_in_place<const TAG_BYTES: usize>(
 
 /// Opens a ciphertext in place.
 pub fn decrypt_in_place<const TAG_BYTES: usize>(
-    cipher: &Cipher,
+    cipher: &AnyCipher,
     mc: &mut [u8],
     tag: &[u8; TAG_BYTES],
     ad: &[u8],
 ) -> Result<(), Error>
-    requires tag { (TAG_BYTES ≡ 16) ⊎ (TAG_BYTES ≡ 32) }
+    requires tag { IsTagLength TAG_BYTES }
     requires message { length mc.old ≤ MAX_AEAD_BYTES }
     requires ad { length ad.now ≤ MAX_AEAD_BYTES }
 {
@@ -60,12 +61,12 @@ pub fn decrypt_in_place<const TAG_BYTES: usize>(
 
 /// Seals a message into a fresh vector.
 pub fn encrypt<A: Allocator, const TAG_BYTES: usize>(
-    cipher: &Cipher,
+    cipher: &AnyCipher,
     alloc: A,
     m: &[u8],
     ad: &[u8],
 ) -> Result<(Vec<u8, A>, [u8; TAG_BYTES]), Error>
-    requires tag { (TAG_BYTES ≡ 16) ⊎ (TAG_BYTES ≡ 32) }
+    requires tag { IsTagLength TAG_BYTES }
     requires message { length m.now ≤ MAX_AEAD_BYTES }
     requires ad { length ad.now ≤ MAX_AEAD_BYTES }
 {
@@ -74,13 +75,13 @@ pub fn encrypt<A: Allocator, const TAG_BYTES: usize>(
 
 /// Opens a ciphertext into a fresh vector.
 pub fn decrypt<A: Allocator, const TAG_BYTES: usize>(
-    cipher: &Cipher,
+    cipher: &AnyCipher,
     alloc: A,
     c: &[u8],
     tag: &[u8; TAG_BYTES],
     ad: &[u8],
 ) -> Result<Vec<u8, A>, Error>
-    requires tag { (TAG_BYTES ≡ 16) ⊎ (TAG_BYTES ≡ 32) }
+    requires tag { IsTagLength TAG_BYTES }
     requires message { length c.now ≤ MAX_AEAD_BYTES }
     requires ad { length ad.now ≤ MAX_AEAD_BYTES }
 {
@@ -88,26 +89,26 @@ pub fn decrypt<A: Allocator, const TAG_BYTES: usize>(
 }
 
 /// Writes the keystream over a buffer.
-pub fn stream<const TAG_BYTES: usize>(cipher: &Cipher, out: &mut [u8])
-    requires { (TAG_BYTES ≡ 16) ⊎ (TAG_BYTES ≡ 32) }
+pub fn stream<const TAG_BYTES: usize>(cipher: &AnyCipher, out: &mut [u8])
+    requires { IsTagLength TAG_BYTES }
 {
     with_cipher!(cipher, TAG_BYTES, cipher => cipher.stream(out))
 }
 
 /// Xors a buffer with the keystream.
-pub fn stream_xor_in_place<const TAG_BYTES: usize>(cipher: &Cipher, mc: &mut [u8])
-    requires { (TAG_BYTES ≡ 16) ⊎ (TAG_BYTES ≡ 32) }
+pub fn stream_xor_in_place<const TAG_BYTES: usize>(cipher: &AnyCipher, mc: &mut [u8])
+    requires { IsTagLength TAG_BYTES }
 {
     with_cipher!(cipher, TAG_BYTES, cipher => cipher.stream_xor_in_place(mc))
 }
 
 /// A message xored with the keystream, in a fresh vector.
 pub fn stream_xor<A: Allocator, const TAG_BYTES: usize>(
-    cipher: &Cipher,
+    cipher: &AnyCipher,
     alloc: A,
     m: &[u8],
 ) -> Result<Vec<u8, A>, Error>
-    requires { (TAG_BYTES ≡ 16) ⊎ (TAG_BYTES ≡ 32) }
+    requires { IsTagLength TAG_BYTES }
 {
     with_cipher!(cipher, TAG_BYTES, cipher => cipher.stream_xor(alloc, m))
 }

@@ -1,5 +1,5 @@
-//! What the tests of the ciphers share: the calls of a cipher whichever its variant, allocators that refuse, and worked
-//! examples.
+//! What the tests of the ciphers share: the calls of a cipher whichever its variant, an allocator that refuses,
+//! and worked examples.
 #![tactic(auto)]
 
 pub mod calls;

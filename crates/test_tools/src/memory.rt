@@ -1,23 +1,7 @@
-//! An allocator that refuses each request, and one that refuses those after the first few.
-
-ghost use Rattle.std.specs.Borrow.{ffalse};
+//! An allocator that refuses all requests after the first few.
 
 use std::alloc::{AllocError, Allocator};
 use std::cell::Cell;
-
-/// An allocator without memory: it refuses each request.
-#[derive(Clone, Copy)]
-pub struct NoMemory;
-
-unsafe impl Allocator for NoMemory {
-    ghost dealloc_token = { λ _ _ _. ffalse };
-
-    fn allocate(&self, _size: usize, _align: usize) -> Result<*mut u8, AllocError> {
-        Err(AllocError)
-    }
-
-    unsafe fn deallocate(&self, _ptr: *mut u8, _size: usize, _align: usize) {}
-}
 
 /// An allocator that passes so many requests on, and refuses those after them.
 pub struct Rationed<B: Allocator> {
@@ -45,7 +29,7 @@ impl<B: Allocator> Drop for Rationed<B> {
     }
 }
 
-// Takes one request off those that are left, or answers that none is.
+// Takes one request off those that are left, or returns that none is.
 fn is_spent(left: &Cell<u64>) -> bool {
     let requests = left.get();
     left.set(requests.saturating_sub(1));

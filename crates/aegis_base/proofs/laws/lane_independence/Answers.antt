@@ -2,4 +2,4 @@ use Rattle.aegis_base.proofs.LaneIndependence.{ciphertext-in_lane}
 use Rattle.aegis_base.proofs.laws.lane_independence.Goals as goal
 
 pub returns : goal.returns
-returns c family d count key nonce ad₁ ad₂ m n j = ciphertext-in_lane family d key nonce ad₁ ad₂ m n j count
+returns c variant count key nonce ad₁ ad₂ m n j = ciphertext-in_lane variant key nonce ad₁ ad₂ m n j count

@@ -22,13 +22,13 @@ loop-chunk-preserved g c =
       few = omega arith;
       stands = λ key nonce ad x data_bytes is.
           let so_far = c.loop-chunk.invariant.stands key nonce ad x data_bytes is in
-          let next = c.absorb_more-state.ensures.stands key nonce ad (x ++ joined (take i chunks)) data_bytes (rw read so_far) in
+          let next = c.absorb_more-state.ensures.taken data_bytes key nonce ad (x ++ joined (take i chunks)) (rw read so_far) in
           rw (more, sum, ← append_assoc) (rw read at next);
     }
 
 -- What `search` does not find.
-pub returns-clause-stands : goal.returns-clause-stands
-returns-clause-stands g c = grind (arith, common_steps)
+pub returns-clause-taken : goal.returns-clause-taken
+returns-clause-taken g c = grind (arith, common_steps)
 
 pub returns-clause-length : goal.returns-clause-length
 returns-clause-length g c = grind (arith, common_steps)

@@ -11,7 +11,7 @@ loop-chunk-init g c = record {
   at = refl;
   few = omega arith;
   stands = λ key nonce ad is. is;
-  ciphertext = λ key nonce ad is. ciphertext-none g.S.LaneState.FAMILY g.S.LaneState.LANES _;
+  ciphertext = λ key nonce ad is. ciphertext-none g.S.LaneState.VARIANT _;
 }
 
 pub loop-chunk-preserved : goal.loop-chunk-preserved
@@ -23,7 +23,7 @@ loop-chunk-preserved g c =
     record {
       at = omega arith;
       few = omega (arith, c.loop-chunk.invariant.few);
-      stands = λ key nonce ad is. rw more (c.seal_chunk-state.ensures.stands key nonce ad (joined (take i chunks)) (c.loop-chunk.invariant.stands key nonce ad is));
+      stands = λ key nonce ad is. rw more (c.seal_chunk-state.ensures.taken key nonce ad (joined (take i chunks)) (c.loop-chunk.invariant.stands key nonce ad is));
       ciphertext = λ key nonce ad is.
           rw more (c.seal_chunk-state.ensures.ciphertext key nonce ad (joined (take i chunks)) (c.loop-chunk.invariant.stands key nonce ad is)
           (c.loop-chunk.invariant.ciphertext key nonce ad is));

@@ -1,6 +1,6 @@
 use Rattle.std.proofs.Common.{◌≡◌, ◌<◌, ◌∙◌, sym, ap, refl, ℕ, ◌+◌, ◌/◌, List, [], ◌∷◌, length, replicate, arith}
 use Rattle.std.proofs.Math.Nat.{zero-div}
-use Rattle.aegis_base.specs.Family.{rate}
+use Rattle.aegis_base.specs.Variant.{rate}
 use Rattle.aegis_base.specs.Lane.{start, step}
 use Rattle.aegis_base.specs.Mac.{mac_input}
 use Rattle.aegis_base.specs.Message.{after, after_all, share_at}
@@ -20,23 +20,23 @@ unfolding Stands
 returns-then-bytes-eq0-clause-lanes g c key nonce x is j inside =
     let L = g.S.LaneState in let count = g.met.S.LaneState.one_two_or_four in
     let none : x ≡ [] = empty x (sym is.1 ∙ c.if-bytes-eq0.true) in
-    let on = input-along L.FAMILY L.LANES L.lane L.updates c.args.state c.args.block.now c.args.bytes key nonce x count is in
-    let zero_blocks : length x / rate L.FAMILY L.LANES ≡ 0 =
-    ap (λ (n : ℕ). n / rate L.FAMILY L.LANES) (sym is.1 ∙ c.if-bytes-eq0.true) ∙ zero-div (rate L.FAMILY L.LANES) in
-    let begun : L.lane c.args.state j ≡ start L.FAMILY L.LANES key nonce j =
-    on.whole j inside ∙ ap (after L.FAMILY L.LANES (start L.FAMILY L.LANES key nonce j) j x) zero_blocks
-    ∙ after-none L.FAMILY L.LANES (start L.FAMILY L.LANES key nonce j) j x in
+    let on = input-along L.VARIANT (L.lane c.args.state) (L.updates c.args.state) c.args.block.now c.args.bytes key nonce x count is in
+    let zero_blocks : length x / rate L.VARIANT ≡ 0 =
+    ap (λ (n : ℕ). n / rate L.VARIANT) (sym is.1 ∙ c.if-bytes-eq0.true) ∙ zero-div (rate L.VARIANT) in
+    let begun : L.lane c.args.state j ≡ start L.VARIANT key nonce j =
+    on.whole j inside ∙ ap (after L.VARIANT (start L.VARIANT key nonce j) j x) zero_blocks
+    ∙ after-none L.VARIANT (start L.VARIANT key nonce j) j x in
     c.absorb.ensures.lanes j inside
-    ∙ ap (λ (s : List (List ℕ)). step L.FAMILY s (share_at L.FAMILY L.LANES j (replicate 128 0) 0)) begun
-    ∙ mac_input-none L.FAMILY L.LANES (start L.FAMILY L.LANES key nonce j) j (replicate 128 0) 0 count inside (λ k low. zeros-read 128 (0 + k))
-    ∙ ap (λ (y : List ℕ). after_all L.FAMILY L.LANES (start L.FAMILY L.LANES key nonce j) j (mac_input L.FAMILY L.LANES y)) (sym none)
+    ∙ ap (λ (s : List (List ℕ)). step L.VARIANT.family s (share_at L.VARIANT j (replicate 128 0) 0)) begun
+    ∙ mac_input-none L.VARIANT (start L.VARIANT key nonce j) j (replicate 128 0) 0 count inside (λ k low. zeros-read 128 (0 + k))
+    ∙ ap (λ (y : List ℕ). after_all L.VARIANT (start L.VARIANT key nonce j) j (mac_input L.VARIANT y)) (sym none)
 
 pub returns-clause-lanes : goal.returns-clause-lanes
 unfolding Stands
 returns-clause-lanes g c key nonce x is j inside =
     let L = g.S.LaneState in let count = g.met.S.LaneState.one_two_or_four in
-    let on = input-along L.FAMILY L.LANES L.lane L.updates c.args.state c.args.block.now c.args.bytes key nonce x count is in
+    let on = input-along L.VARIANT (L.lane c.args.state) (L.updates c.args.state) c.args.block.now c.args.bytes key nonce x count is in
     let long = is.1 in let some = c.if-bytes-eq0.false in
     let has : 0 < length x = omega arith in
-    c.pad.ensures.lanes (start L.FAMILY L.LANES key nonce) x (sym long) (rw long on) j inside
-    ∙ ap (λ (y : List ℕ). after_all L.FAMILY L.LANES (start L.FAMILY L.LANES key nonce j) j y) (sym (mac_input-some L.FAMILY L.LANES x has))
+    c.pad.ensures.lanes (start L.VARIANT key nonce) x (sym long) (rw long on) j inside
+    ∙ ap (λ (y : List ℕ). after_all L.VARIANT (start L.VARIANT key nonce j) j y) (sym (mac_input-some L.VARIANT x has))

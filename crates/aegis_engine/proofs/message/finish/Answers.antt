@@ -8,4 +8,4 @@ pub returns : goal.returns
 unfolding tag
 returns g c key nonce ad m is =
     c.lanes_tag.ensures
-    ∙ xor_lanes-same _ _ _ (λ j h. ap (lane_tag g.S.LaneState.FAMILY g.row.TAG_BYTES) (c.end.ensures.lanes key nonce ad m is j h))
+    ∙ xor_lanes-same _ _ _ (λ j h. ap (lane_tag g.S.LaneState.VARIANT.family g.row.TAG_BYTES) (c.end.ensures.lanes key nonce ad m is j h))

@@ -5,7 +5,7 @@ use Rattle.aegis_engine.proofs.opening.append.Goals as goal
 
 pub returns-clause-rest : goal.returns-clause-rest
 returns-clause-rest g c n low =
-    drop-put_mid c.args.written (c.args.written + length c.args.chunk.now - c.args.written) c.args.dst.now c.open_more.new.mc n (omega arith) (omega arith) (omega arith)
+    drop-put_mid c.args.written (c.args.written + length c.args.chunk.now - c.args.written) c.args.dst.now c.pass_copied.new.out n (omega arith) (omega arith) (omega arith)
 
 -- What `search` does not find.
 pub returns-clause-stands : goal.returns-clause-stands

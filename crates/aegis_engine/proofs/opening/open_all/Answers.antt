@@ -30,15 +30,15 @@ loop-chunk-preserved g c =
       few = said.few;
       stands = λ key nonce ad stands. said.stands key nonce ad (before.stands key nonce ad stands);
       sealed = λ key nonce ad stands.
-          let from = accepted_after room (ciphertext L.FAMILY L.LANES key nonce ad (take c.args.written.now c.args.dst.now)) in
+          let from = accepted_after room (ciphertext L.VARIANT key nonce ad (take c.args.written.now c.args.dst.now)) in
           let front = take w c.loop-chunk.dst in
           let is = before.sealed key nonce ad stands in
           let long : length (from (take i chunks)) ≡ w =
-          sym (ap length is) ∙ length-ciphertext L.FAMILY L.LANES (lane_before L.FAMILY L.LANES key nonce ad) front ∙ length-take-le w c.loop-chunk.dst (omega (arith, before.within, before.long)) in
-          kept-by r room w here (from (take i chunks)) (ciphertext L.FAMILY L.LANES key nonce ad (take c.open_chunk.new.written c.open_chunk.new.dst)) chunk long before.long said.accepted
-          (on-ok r (said.ciphertext key nonce ad (before.stands key nonce ad stands)) (λ e. e ∙ ap (λ (kept : List ℕ). kept ++ chunk) is))
-          (on-err r said.unchanged (λ same. ap (λ (p : ℕ × List ℕ). ciphertext L.FAMILY L.LANES key nonce ad (take p.0 p.1)) (λ j. (same.2 j, same.3 j)) ∙ is))
-          ∙ sym (accepted-more room (ciphertext L.FAMILY L.LANES key nonce ad (take c.args.written.now c.args.dst.now)) chunks i c.loop-chunk-test.true);
+          sym (ap length is) ∙ length-ciphertext L.VARIANT (lane_before L.VARIANT key nonce ad) front ∙ length-take-le w c.loop-chunk.dst (omega (arith, before.within, before.long)) in
+          kept-by r room w here (from (take i chunks)) (ciphertext L.VARIANT key nonce ad (take c.open_chunk.new.written c.open_chunk.new.dst)) chunk long before.long said.accepted
+          (on-ok r said.ciphertext (λ e. e key nonce ad (before.stands key nonce ad stands) ∙ ap (λ (kept : List ℕ). kept ++ chunk) is))
+          (on-err r said.unchanged (λ same. ap (λ (p : ℕ × List ℕ). ciphertext L.VARIANT key nonce ad (take p.0 p.1)) (λ j. (same.2 j, same.3 j)) ∙ is))
+          ∙ sym (accepted-more room (ciphertext L.VARIANT key nonce ad (take c.args.written.now c.args.dst.now)) chunks i c.loop-chunk-test.true);
       count = λ kept long.
           counted-by r room w here c.open_chunk.new.written (accepted_after room kept (take i chunks)) chunk (sym (before.count kept long)) before.long said.accepted
           said.written (on-err r said.unchanged (λ same. same.2))

@@ -6,5 +6,5 @@ use Rattle.aegis_engine.proofs.opening.open_in_place.Goals as goal
 pub returns-clause-ciphertext : goal.returns-clause-ciphertext
 returns-clause-ciphertext g c key nonce ad is =
     let L = g.S.LaneState in
-    c.open_more.ensures.ciphertext key nonce ad [] is
-    ∙ rw (ciphertext-none L.FAMILY L.LANES (lane_before L.FAMILY L.LANES key nonce ad)) refl
+    c.open_more.ensures.written key nonce ad [] is
+    ∙ rw (ciphertext-none L.VARIANT (lane_before L.VARIANT key nonce ad)) refl

@@ -1,5 +1,5 @@
 use Rattle.std.proofs.Common.{◌≡◌, ◌∙◌, sym, ap, ◌+◌, ◌%◌, ◌<◌, arith, ℕ}
-use Rattle.aegis_base.specs.Family.{rate}
+use Rattle.aegis_base.specs.Variant.{rate}
 use Rattle.aegis_base.proofs.RunFacts.{along-full, along-open}
 use Rattle.aegis_engine.proofs.pass.absorb_part.Goals as goal
 
@@ -7,9 +7,9 @@ pub returns-then-place-count-clause-along : goal.returns-then-place-count-clause
 returns-then-place-count-clause-along g c lanes x along same =
     let L = g.S.LaneState in
     let rate_is = g.met.S.LaneState.rate_is in
-    let place : c.args.total % c.RATE.result ≡ c.args.total % rate L.FAMILY L.LANES = ap (λ (r : ℕ). c.args.total % r) (c.RATE.ensures ∙ rate_is) in
-    let full : c.args.total % rate L.FAMILY L.LANES + c.args.count ≡ rate L.FAMILY L.LANES = rw (← place, ← rate_is, ← c.RATE-2.ensures) c.if-place-count.true in
-    along-full L.FAMILY L.LANES lanes (L.lane c.args.state) c.args.block.now c.copy_part.new.target x c.args.total c.args.count
+    let place : c.args.total % c.RATE.result ≡ c.args.total % rate L.VARIANT = ap (λ (r : ℕ). c.args.total % r) (c.RATE.ensures ∙ rate_is) in
+    let full : c.args.total % rate L.VARIANT + c.args.count ≡ rate L.VARIANT = rw (← place, ← rate_is, ← c.RATE-2.ensures) c.if-place-count.true in
+    along-full L.VARIANT lanes (L.lane c.args.state) c.args.block.now c.copy_part.new.target x c.args.total c.args.count
     (record {
       along = along;
       kept = λ k low. c.copy_part.ensures.below k (rw place low);
@@ -21,10 +21,10 @@ pub returns-else-place-count-clause-along : goal.returns-else-place-count-clause
 returns-else-place-count-clause-along g c lanes x along same =
     let L = g.S.LaneState in
     let rate_is = g.met.S.LaneState.rate_is in
-    let place : c.args.total % c.RATE.result ≡ c.args.total % rate L.FAMILY L.LANES = ap (λ (r : ℕ). c.args.total % r) (c.RATE.ensures ∙ rate_is) in
+    let place : c.args.total % c.RATE.result ≡ c.args.total % rate L.VARIANT = ap (λ (r : ℕ). c.args.total % r) (c.RATE.ensures ∙ rate_is) in
     let short : c.args.total % c.RATE.result + c.args.count < c.RATE-2.result =
     (let within = rw (← c.RATE.ensures) at c.requires.one_block in let e = c.RATE.ensures ∙ sym c.RATE-2.ensures in omega arith) in
-    along-open L.FAMILY L.LANES lanes (L.lane c.args.state) c.args.block.now c.copy_part.new.target x c.args.total c.args.count
+    along-open L.VARIANT lanes (L.lane c.args.state) c.args.block.now c.copy_part.new.target x c.args.total c.args.count
     (record {
       along = along;
       kept = λ k low. c.copy_part.ensures.below k (rw place low);

@@ -6,5 +6,5 @@ use Rattle.aegis_engine.proofs.pass.copied.Goals as goal
 pub returns : goal.returns
 returns g c j inside =
     let L = g.S.LaneState in
-    share_at-same L.FAMILY L.LANES j c.copy_part.new.target c.args.bytes.now 0 c.args.at inside
+    share_at-same L.VARIANT j c.copy_part.new.target c.args.bytes.now 0 c.args.at inside
     (λ k low. c.copy_part.ensures.written k (rw (c.RATE.ensures ∙ g.met.S.LaneState.rate_is) low))

@@ -40,7 +40,7 @@ returns-clause-updates g c =
     let read = c.RATE.ensures in
     let floor : n * c.RATE.result ≤ len - first = div-mul-le_self (len - first) c.RATE.result in
     let fits : n * L.RATE ≤ len - first = rw (← read) floor in
-    let positive : 0 < L.RATE = rw g.met.S.LaneState.rate_is (rate-positive L.FAMILY L.LANES g.met.S.LaneState.one_two_or_four) in
+    let positive : 0 < L.RATE = rw g.met.S.LaneState.rate_is (rate-positive L.VARIANT g.met.S.LaneState.one_two_or_four) in
     updates-of-parts t first n len L.RATE _ _ _ _ positive (unopened-after t first len c.RATE.result L.RATE c.filling-first.ensures.fills)
     (omega arith) c.absorb_part-state.ensures.updates c.absorb_whole-state.ensures.updates (rw c.RATE-2.ensures at c.absorb_part.ensures.updates)
 
@@ -50,7 +50,7 @@ returns-clause-few g c =
     let first : ℕ = c.filling-first.result in let n : ℕ = (len - first) / c.RATE.result in
     let read = c.RATE.ensures in let read2 = c.RATE-2.ensures in
     let floor : n * c.RATE.result ≤ len - first = div-mul-le_self (len - first) c.RATE.result in
-    let positive : 0 < c.RATE.result = rw (read, g.met.S.LaneState.rate_is) (rate-positive L.FAMILY L.LANES g.met.S.LaneState.one_two_or_four) in
+    let positive : 0 < c.RATE.result = rw (read, g.met.S.LaneState.rate_is) (rate-positive L.VARIANT g.met.S.LaneState.one_two_or_four) in
     let more : n ≤ n * c.RATE.result = le-mul_of_pos_right n positive in
     let same : n * c.RATE-2.result ≡ n * c.RATE.result = ap (λ (r : ℕ). n * r) (read2 ∙ sym read) in
     omega arith

@@ -3,125 +3,100 @@
 use Rattle.std.proofs.Common.{◌≡◌, ◌∙◌, sym, ap, refl, ℕ, ◌+◌, ◌-◌, ◌*◌, ◌/◌, ◌<◌, ◌≤◌, ⊎_elim, List, bit_xor, slice_index, length, arith}
 use Rattle.std.proofs.Math.Nat.{div-mul-le_self, le-mul_of_pos_right}
 use Rattle.std.proofs.lemmas.Bool.{cases_lt}
-use Rattle.aegis_base.specs.Message.{stream_byte}
+use Rattle.aegis_base.specs.Message.{keystream_byte_along}
 use Rattle.aegis_base.specs.Run.{HasFrom, IsAlong, IsUnopened}
 use Rattle.aegis_base.proofs.MessageFacts.{rate-positive}
-use Rattle.aegis_engine.specs.Pass.{given, taken}
-use Rattle.aegis_engine.proofs.PassFacts.{given-same, length-taken, only-blocks, taken-same, unopened-after, updates-of-parts}
+use Rattle.aegis_engine.specs.Pass.{taken}
+use Rattle.aegis_engine.proofs.PassFacts.{length-taken, only-blocks, taken-same, unopened-after, updates-of-parts}
 use Rattle.aegis_engine.proofs.run.pass_all.Goals as goal
 
--- behind the first part the pass is given what it was at first
-given-whole : (g : _) → (c : goal.After-slice_known-6-1 g) (i : ℕ) → c.filling-first.result ≤ i
-    → slice_index (given c.args.source c.pass_part-state.new.buffer) i ≡ slice_index (given c.args.source c.args.buffer.now) i
-given-whole g c i high =
-    given-same c.args.source c.pass_part-state.new.buffer c.args.buffer.now i
-    (c.pass_part-state.ensures.above i (omega arith) ∙ c.copy_given.ensures.above i (omega arith))
-
--- where the whole rate blocks end
-abbrev end_of : (g : _) → goal.After-slice_known-6-1 g → ℕ
-end_of g c = c.filling-first.result + (length c.args.buffer.now - c.filling-first.result) / c.RATE.result * c.RATE-2.result
-
--- behind the whole rate blocks too, and the last part goes along a copy of that
-given-last : (g : _) → (c : goal.After-slice_known-6-1 g) (k : ℕ) → k < length c.args.buffer.now - end_of g c
-    → slice_index c.copy_given-2.new.buffer (end_of g c + k) ≡ slice_index (given c.args.source c.args.buffer.now) (end_of g c + k)
-given-last g c k low =
-    let first : ℕ = c.filling-first.result in let n : ℕ = (length c.args.buffer.now - first) / c.RATE.result in
-    let i : ℕ = end_of g c + k in
-    let last : first + n * c.RATE-2.result ≡ first + n * g.S.LaneState.RATE = ap (λ (r : ℕ). first + n * r) c.RATE-2.ensures in
-    c.copy_given-2.ensures.written k low
-    ∙ given-same c.args.source c.pass_whole-state.new.buffer c.args.buffer.now i
-    (c.pass_whole-state.ensures.above i (omega arith) ∙ c.pass_part-state.ensures.above i (omega arith) ∙ c.copy_given.ensures.above i (omega arith))
-
--- the last part leaves what is before it
-kept : (g : _) → (c : goal.After-slice_known-6-1 g) (i : ℕ) → i < end_of g c → slice_index c.pass_part.new.buffer i ≡ slice_index c.pass_whole-state.new.buffer i
-kept g c i low = c.pass_part.ensures.below i low ∙ c.copy_given-2.ensures.below i low
-
 -- the three parts: what each takes in of x, and where the run is after the first two
-record AreParts (g : _) (c : goal.After-slice_known-6-1 g) (lanes : ℕ → List (List ℕ)) (x : List ℕ) : Type 0 where
+record AreParts (g : _) (c : goal.After-slice_known-4-1 g) (lanes : ℕ → List (List ℕ)) (x : List ℕ) : Type 0 where
   within : c.filling-first.result + (length c.args.buffer.now - c.filling-first.result) / c.RATE.result * g.S.LaneState.RATE ≤ length c.args.buffer.now
   whole : (k : ℕ) → k < (length c.args.buffer.now - c.filling-first.result) / c.RATE.result * g.S.LaneState.RATE
       → slice_index x (c.args.total + c.filling-first.result + k)
-      ≡ slice_index (taken c.args.pass (given c.args.source c.pass_part-state.new.buffer) c.pass_whole-state.new.buffer) (c.filling-first.result + k)
-  filled : IsAlong g.S.LaneState.FAMILY g.S.LaneState.LANES lanes (g.S.LaneState.lane c.pass_part-state.result) c.pass_part-state.new.block x
+      ≡ slice_index (taken c.args.pass c.pass_part-state.new.buffer c.pass_whole-state.new.buffer) (c.filling-first.result + k)
+  filled : IsAlong g.S.LaneState.VARIANT lanes (g.S.LaneState.lane c.pass_part-state.result) c.pass_part-state.new.block x
       (c.args.total + c.filling-first.result)
-  blocks : IsAlong g.S.LaneState.FAMILY g.S.LaneState.LANES lanes (g.S.LaneState.lane c.pass_whole-state.result) c.pass_part-state.new.block x
-      (c.args.total + end_of g c)
+  blocks : IsAlong g.S.LaneState.VARIANT lanes (g.S.LaneState.lane c.pass_whole-state.result) c.pass_part-state.new.block x
+      (c.args.total + (c.filling-first.result + (length c.args.buffer.now - c.filling-first.result) / c.RATE.result * c.RATE-2.result))
 
-parts : (g : _) → (c : goal.After-slice_known-6-1 g) → (lanes : ℕ → List (List ℕ)) (x : List ℕ)
-    → IsAlong g.S.LaneState.FAMILY g.S.LaneState.LANES lanes (g.S.LaneState.lane c.args.state) c.args.block.now x c.args.total
-    → HasFrom x c.args.total (taken c.args.pass (given c.args.source c.args.buffer.now) c.pass_part.new.buffer) → AreParts g c lanes x
+parts : (g : _) → (c : goal.After-slice_known-4-1 g) → (lanes : ℕ → List (List ℕ)) (x : List ℕ)
+    → IsAlong g.S.LaneState.VARIANT lanes (g.S.LaneState.lane c.args.state) c.args.block.now x c.args.total
+    → HasFrom x c.args.total (taken c.args.pass c.args.buffer.now c.pass_part.new.buffer) → AreParts g c lanes x
 parts g c lanes x along same =
     let L = g.S.LaneState in let t : ℕ = c.args.total in let len : ℕ = length c.args.buffer.now in
     let first : ℕ = c.filling-first.result in let n : ℕ = (len - first) / c.RATE.result in let pass = c.args.pass in
-    let old : List ℕ = given c.args.source c.args.buffer.now in let begun : List ℕ = c.copy_given.new.buffer in
-    let one : List ℕ = c.pass_part-state.new.buffer in let next : List ℕ = given c.args.source one in
+    let old : List ℕ = c.args.buffer.now in let one : List ℕ = c.pass_part-state.new.buffer in
     let two : List ℕ = c.pass_whole-state.new.buffer in let new : List ℕ = c.pass_part.new.buffer in
     let read = c.RATE.ensures in let read2 = c.RATE-2.ensures in
     let floor : n * c.RATE.result ≤ len - first = div-mul-le_self (len - first) c.RATE.result in
     let fits : n * L.RATE ≤ len - first = rw (← read) floor in
     let last : first + n * c.RATE-2.result ≡ first + n * L.RATE = ap (λ (r : ℕ). first + n * r) read2 in
-    let given_long : length old ≡ len = c.requires.lengths in
-    let long : length (taken pass old new) ≡ length old = length-taken pass old new (omega arith) in
+    let long : length (taken pass old new) ≡ len = length-taken pass old new (omega arith) in
     let filled = c.pass_part-state.ensures.along lanes x along
     (λ k low. same k (omega arith) ∙ ap (slice_index (taken pass old new)) (omega arith)
-    ∙ taken-same pass old begun new one (0 + k) (sym (c.copy_given.ensures.written k low)) (kept g c (0 + k) (omega arith) ∙ c.pass_whole-state.ensures.below (0 + k) (omega arith))) in
-    let taken_whole : (k : ℕ) → k < n * L.RATE → slice_index x (t + first + k) ≡ slice_index (taken pass next two) (first + k) =
+    ∙ taken-same pass old old new one (0 + k) refl (c.pass_part.ensures.below (0 + k) (omega arith) ∙ c.pass_whole-state.ensures.below (0 + k) (omega arith))) in
+    let taken_whole : (k : ℕ) → k < n * L.RATE → slice_index x (t + first + k) ≡ slice_index (taken pass one two) (first + k) =
     λ k low. ap (slice_index x) (omega arith) ∙ same (first + k) (omega arith)
-    ∙ taken-same pass old next new two (first + k) (sym (given-whole g c (first + k) (omega arith))) (kept g c (first + k) (omega arith)) in
+    ∙ taken-same pass old one new two (first + k) (sym (c.pass_part-state.ensures.above (first + k) (omega arith))) (c.pass_part.ensures.below (first + k) (omega arith)) in
     let whole = c.pass_whole-state.ensures.along lanes c.pass_part-state.new.block x (t + first)
     (unopened-after t first len c.RATE.result L.RATE c.filling-first.ensures.fills) filled taken_whole in
     let place : t + first + n * L.RATE ≡ t + (first + n * c.RATE-2.result) = omega arith in
     record { within = omega arith; whole = taken_whole; filled = filled; blocks = rw place at whole }
 
+-- the buffer from the last part on is as it was
+untouched : (g : _) → (c : goal.After-slice_known-4-1 g) (i : ℕ)
+    → c.filling-first.result + (length c.args.buffer.now - c.filling-first.result) / c.RATE.result * g.S.LaneState.RATE ≤ i
+    → slice_index c.pass_whole-state.new.buffer i ≡ slice_index c.args.buffer.now i
+untouched g c i high = c.pass_whole-state.ensures.above i high ∙ c.pass_part-state.ensures.above i (omega arith)
+
 pub returns-clause-along : goal.returns-clause-along
 returns-clause-along g c lanes x along same =
     let L = g.S.LaneState in let t : ℕ = c.args.total in let len : ℕ = length c.args.buffer.now in
     let first : ℕ = c.filling-first.result in let n : ℕ = (len - first) / c.RATE.result in let pass = c.args.pass in
-    let old : List ℕ = given c.args.source c.args.buffer.now in let rest : List ℕ = c.copy_given-2.new.buffer in let new : List ℕ = c.pass_part.new.buffer in
+    let old : List ℕ = c.args.buffer.now in let two : List ℕ = c.pass_whole-state.new.buffer in let new : List ℕ = c.pass_part.new.buffer in
     let are = parts g c lanes x along same in
     let within = are.within in
     let last : first + n * c.RATE-2.result ≡ first + n * L.RATE = ap (λ (r : ℕ). first + n * r) c.RATE-2.ensures in
-    let given_long : length old ≡ len = c.requires.lengths in
-    let long : length (taken pass old new) ≡ length old = length-taken pass old new (omega arith) in
-    let done = c.pass_part.ensures.along lanes x are.blocks
+    let long : length (taken pass old new) ≡ len = length-taken pass old new (omega arith) in
+    let rest = c.pass_part.ensures.along lanes x are.blocks
     (λ k low. ap (slice_index x) (omega arith) ∙ same (first + n * c.RATE-2.result + k) (omega arith)
-    ∙ taken-same pass old rest new new (first + n * c.RATE-2.result + k) (sym (given-last g c k low)) refl) in
+    ∙ taken-same pass old two new new (first + n * c.RATE-2.result + k) (sym (untouched g c (first + n * c.RATE-2.result + k) (omega arith))) refl) in
     let all : t + (first + n * c.RATE-2.result) + (len - (first + n * c.RATE-2.result)) ≡ t + len = omega arith in
-    rw all at done
+    rw all at rest
 
 pub returns-clause-written : goal.returns-clause-written
 returns-clause-written g c lanes x along same i low =
     let L = g.S.LaneState in let t : ℕ = c.args.total in let len : ℕ = length c.args.buffer.now in
     let first : ℕ = c.filling-first.result in let n : ℕ = (len - first) / c.RATE.result in
-    let old : List ℕ = given c.args.source c.args.buffer.now in
+    let old : List ℕ = c.args.buffer.now in
     let are = parts g c lanes x along same in
     let within = are.within in
     let last : first + n * c.RATE-2.result ≡ first + n * L.RATE = ap (λ (r : ℕ). first + n * r) c.RATE-2.ensures in
-    let stream = stream_byte L.FAMILY L.LANES lanes x in
+    let keystream = keystream_byte_along L.VARIANT lanes x in
     ⊎_elim
     (λ front.
     let here : 0 + i ≡ i = omega arith in
-    kept g c i (omega arith) ∙ c.pass_whole-state.ensures.below i front
-    ∙ rw here at (c.pass_part-state.ensures.written lanes x along i front)
-    ∙ ap (λ (b : ℕ). bit_xor b (stream (t + i))) (rw here at (c.copy_given.ensures.written i front)))
+    c.pass_part.ensures.below i (omega arith) ∙ c.pass_whole-state.ensures.below i front
+    ∙ rw here at (c.pass_part-state.ensures.written lanes x along i front))
     (λ high. ⊎_elim
     (λ middle.
     let k : ℕ = i - first in
     let here : first + k ≡ i = omega arith in
     let there : t + first + k ≡ t + i = omega arith in
-    kept g c i (omega arith)
+    c.pass_part.ensures.below i (omega arith)
     ∙ rw here at (c.pass_whole-state.ensures.written lanes c.pass_part-state.new.block x (t + first)
     (unopened-after t first len c.RATE.result L.RATE c.filling-first.ensures.fills) are.filled are.whole k (omega arith))
-    ∙ ap (λ (b : ℕ). bit_xor b (stream (t + first + k))) (given-whole g c i high)
-    ∙ ap (λ (q : ℕ). bit_xor (slice_index old i) (stream q)) there)
+    ∙ ap (λ (b : ℕ). bit_xor b (keystream (t + first + k))) (c.pass_part-state.ensures.above i (omega arith))
+    ∙ ap (λ (q : ℕ). bit_xor (slice_index old i) (keystream q)) there)
     (λ back.
     let k : ℕ = i - (first + n * c.RATE-2.result) in
-    let under : k < len - (first + n * c.RATE-2.result) = omega arith in
     let here : first + n * c.RATE-2.result + k ≡ i = omega arith in
     let there : t + (first + n * c.RATE-2.result) + k ≡ t + i = omega arith in
-    rw here at (c.pass_part.ensures.written lanes x are.blocks k under)
-    ∙ ap (λ (b : ℕ). bit_xor b (stream (t + (first + n * c.RATE-2.result) + k))) (rw here at (given-last g c k under))
-    ∙ ap (λ (q : ℕ). bit_xor (slice_index old i) (stream q)) there)
+    rw here at (c.pass_part.ensures.written lanes x are.blocks k (omega arith))
+    ∙ ap (λ (b : ℕ). bit_xor b (keystream (t + (first + n * c.RATE-2.result) + k))) (untouched g c i (omega arith))
+    ∙ ap (λ (q : ℕ). bit_xor (slice_index old i) (keystream q)) there)
     (cases_lt i (first + n * L.RATE)))
     (cases_lt i first)
 
@@ -132,7 +107,7 @@ returns-clause-updates g c =
     let read = c.RATE.ensures in
     let floor : n * c.RATE.result ≤ len - first = div-mul-le_self (len - first) c.RATE.result in
     let fits : n * L.RATE ≤ len - first = rw (← read) floor in
-    let positive : 0 < L.RATE = rw g.met.S.LaneState.rate_is (rate-positive L.FAMILY L.LANES g.met.S.LaneState.one_two_or_four) in
+    let positive : 0 < L.RATE = rw g.met.S.LaneState.rate_is (rate-positive L.VARIANT g.met.S.LaneState.one_two_or_four) in
     updates-of-parts t first n len L.RATE _ _ _ _ positive (unopened-after t first len c.RATE.result L.RATE c.filling-first.ensures.fills)
     (omega arith) c.pass_part-state.ensures.updates c.pass_whole-state.ensures.updates (rw c.RATE-2.ensures at c.pass_part.ensures.updates)
 
@@ -142,7 +117,7 @@ returns-clause-few g c =
     let first : ℕ = c.filling-first.result in let n : ℕ = (len - first) / c.RATE.result in
     let read = c.RATE.ensures in let read2 = c.RATE-2.ensures in
     let floor : n * c.RATE.result ≤ len - first = div-mul-le_self (len - first) c.RATE.result in
-    let positive : 0 < c.RATE.result = rw (read, g.met.S.LaneState.rate_is) (rate-positive L.FAMILY L.LANES g.met.S.LaneState.one_two_or_four) in
+    let positive : 0 < c.RATE.result = rw (read, g.met.S.LaneState.rate_is) (rate-positive L.VARIANT g.met.S.LaneState.one_two_or_four) in
     let more : n ≤ n * c.RATE.result = le-mul_of_pos_right n positive in
     let same : n * c.RATE-2.result ≡ n * c.RATE.result = ap (λ (r : ℕ). n * r) (read2 ∙ sym read) in
     omega arith
@@ -152,18 +127,17 @@ record AreBlocks (g : _) (c : goal.After-slice_known-then-first-rest-eq0-1 g) (x
   all : (length c.args.buffer.now - c.filling-first.result) / c.RATE.result * g.S.LaneState.RATE ≡ length c.args.buffer.now
   unopened : IsUnopened c.args.total ((length c.args.buffer.now - c.filling-first.result) / c.RATE.result) g.S.LaneState.RATE
   whole : (k : ℕ) → k < (length c.args.buffer.now - c.filling-first.result) / c.RATE.result * g.S.LaneState.RATE
-      → slice_index x (c.args.total + k) ≡ slice_index (taken c.args.pass (given c.args.source c.args.buffer.now) c.pass_whole.new.buffer) (0 + k)
+      → slice_index x (c.args.total + k) ≡ slice_index (taken c.args.pass c.args.buffer.now c.pass_whole.new.buffer) (0 + k)
 
 blocks-alone : (g : _) (c : goal.After-slice_known-then-first-rest-eq0-1 g) (x : List ℕ)
-    → HasFrom x c.args.total (taken c.args.pass (given c.args.source c.args.buffer.now) c.pass_whole.new.buffer) → AreBlocks g c x
+    → HasFrom x c.args.total (taken c.args.pass c.args.buffer.now c.pass_whole.new.buffer) → AreBlocks g c x
 blocks-alone g c x same =
     let L = g.S.LaneState in let t : ℕ = c.args.total in let len : ℕ = length c.args.buffer.now in
     let first : ℕ = c.filling-first.result in let n : ℕ = (len - first) / c.RATE.result in
-    let source : List ℕ = given c.args.source c.args.buffer.now in let taken_in : List ℕ = taken c.args.pass source c.pass_whole.new.buffer in
+    let taken_in : List ℕ = taken c.args.pass c.args.buffer.now c.pass_whole.new.buffer in
     let are = only-blocks t first len c.RATE.result c.RATE-2.result L.RATE c.RATE.ensures c.RATE-2.ensures c.if-first-rest-eq0.true c.filling-first.ensures.fills in
     let all : n * L.RATE ≡ len = are.0 in
-    let long : length taken_in ≡ length source = length-taken c.args.pass source c.pass_whole.new.buffer (omega arith) in
-    let as_long = c.requires.lengths in
+    let long : length taken_in ≡ len = length-taken c.args.pass c.args.buffer.now c.pass_whole.new.buffer (omega arith) in
     record { all = all; unopened = are.1; whole = λ k low. same k (omega arith) ∙ ap (slice_index taken_in) (omega arith) }
 
 pub returns-then-first-rest-eq0-clause-along : goal.returns-then-first-rest-eq0-clause-along

@@ -1,9 +1,8 @@
--- What the cipher refuses is answered so, and what it opens is printed.
-use Rattle.std.proofs.Common.{◌≡◌, ◌∙◌, ◌++◌, IfOk, List, Ok, Err, Result, ap, inl, inr, sym, true≢false, ℕ}
+-- What the cipher refuses is printed so.
+use Rattle.std.proofs.Common.{◌≡◌, IfOk, List, Ok, Err, Result, inr, sym, true≢false, ℕ}
 use Rattle.std.specs.Prelude.{codes}
 use Rattle.std.specs.declared.vec.Vec.{Vec}
 use Rattle.aegis_lines.specs.Answer.{IsOpeningAnswer}
-use Rattle.aegis_lines.specs.Field.{shown}
 use Rattle.aegis_lines.proofs.answer.open_by_tag.Goals as goal
 
 refused : {A E : Type 0} (r : Result (Vec ℕ A) E) (IsMessage : List ℕ → Type 0) → ((m : List ℕ) → IsMessage m → ⊥)
@@ -15,9 +14,3 @@ pub returns-in_default : goal.returns-in_default
 returns-in_default g c =
     let accepted = rw (c.deref.ensures.value, c.deref-2.ensures.value, c.in_ok-chunks.ensures) at c.in_default.ensures.accepted in
     refused c.from_slice.result _ (λ m sealed. true≢false (sym (accepted m sealed))) c.from_slice.ensures.items
-
-pub returns : goal.returns
-returns g c =
-    let opened = rw (c.deref.ensures.value, c.deref-2.ensures.value, c.in_ok-chunks.ensures) at c.in-Ok.ensures.opened in
-    let begun = c.in_ok-extend_from_slice.ensures.items ∙ ap (λ l. l ++ codes "ok ") c.in_ok-text.ensures in
-    inl (c.in-Ok.message.now, opened, c.in_ok-push_bytes.ensures ∙ ap (λ l. l ++ shown c.in-Ok.message.now) begun)

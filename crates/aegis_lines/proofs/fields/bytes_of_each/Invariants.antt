@@ -1,5 +1,5 @@
 use Rattle.std.proofs.Common.{map, vec_items}
-use Rattle.aegis_lines.specs.Field.{texts}
+use Rattle.aegis_base.specs.Chunks.{texts}
 use Rattle.aegis_lines.proofs.PieceFacts.{AreRead}
 use Rattle.aegis_lines.proofs.fields.bytes_of_each.Given as goal
 

@@ -6,5 +6,5 @@ abbrev pub invariant-loop-turn : goal.invariant-loop-turn
 invariant-loop-turn g l = record {
   updates : g.Self.LaneState.updates l.state ≡ g.Self.LaneState.updates l.initial.state + l.turn;
   first : g.Self.LaneState.lane l.state 0
-      ≡ fold_short g.Self.LaneState.FAMILY (g.Self.Row.Row.block l.tags) (g.Self.LaneState.lane l.initial.state 0) l.turn;
+      ≡ fold_short g.Self.LaneState.VARIANT.family (g.Self.Row.Row.block l.tags) (g.Self.LaneState.lane l.initial.state 0) l.turn;
 }

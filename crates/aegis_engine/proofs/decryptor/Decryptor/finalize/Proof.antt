@@ -36,8 +36,8 @@ use Rattle.std.proofs.raw_atomic.Walks.{proved}
 use Rattle.std.specs.Borrow.{name_if_ok}
 use Rattle.std.specs.Prelude.{MatchResult, ◌↔◌}
 use Rattle.aegis_engine.proofs.Results.{accepted_ok, ok_accepted, says_four, slice_laws, weaken}
-use Rattle.aegis_base.specs.Message.{Opens, ciphertext, tag}
-use Rattle.aegis_base.specs.Run.{Stands, held}
+use Rattle.aegis_base.specs.Run.{IsAccepted, IsTagged}
+use Rattle.aegis_engine.specs.Held.{held}
 use Rattle.std.proofs.result.Result.TheLaws.{the_row_laws as result_laws}
 use Rattle.aegis_base.proofs.error.Error.TheLaws.{the_row_laws as error_laws}
 use Rattle.aegis_base.specs.declared.error.Error.{Error}
@@ -56,42 +56,42 @@ use Rattle.aegis_engine.proofs.decryptor.Decryptor.finalize.Statement.{statement
 use Rattle.aegis_engine.proofs.decryptor.Decryptor.finalize.Code as code
 
 pub finalize_spec : {M : Type 1} → statement M
-finalize_spec 𝓤 𝓛 𝓜 𝓡 wired S V n K Rw LS LV fits LK LR CS CK CR gS dS gC dC gKC dKC gR dR gRC dRC gV dV mS mC mKC mR mRC mV =
+finalize_spec 𝓤 𝓛 𝓜 𝓡 wired S V n Rw LS LV fits LR CS CR gS dS gC dC gR dR gRC dRC gV dV mS mC mR mRC mV =
     let N = number n in
-    let En = f.ended S V N K Rw gS dS gC dC gKC dKC gR dR gRC dRC gV dV in
-    let c = f.clauses S V N K Rw gS dS gC dC gKC dKC gR dR gRC dRC gV dV 𝓛 𝓜.mem 𝓡.returns in
-    let G = triple_of 𝓛 (g.signature S V N K Rw gS dS gC dC gKC dKC gR dR gRC dRC gV dV) (g.spec S V N K Rw gS dS gC dC gKC dKC gR dR gRC dRC gV dV 𝓛 𝓜.mem 𝓡.returns) in
-    let Gn = g.ended S V N K Rw gS dS gC dC gKC dKC gR dR gRC dRC gV dV in
+    let En = f.ended S V N Rw gS dS gC dC gR dR gRC dRC gV dV in
+    let c = f.clauses S V N Rw gS dS gC dC gR dR gRC dRC gV dV 𝓛 𝓜.mem 𝓡.returns in
+    let G = triple_of 𝓛 (g.signature S V N Rw gS dS gC dC gR dR gRC dRC gV dV) (g.spec S V N Rw gS dS gC dC gR dR gRC dRC gV dV 𝓛 𝓜.mem 𝓡.returns) in
+    let Gn = g.ended S V N Rw gS dS gC dC gR dR gRC dRC gV dV in
     let I = triple_of 𝓛 h.signature (h.spec 𝓛 𝓜.mem 𝓡.returns) in
-    let args : Args = bounded (a_type ∷ a_type ∷ a_number ∷ a_type ∷ a_type ∷ []) (S, (V, (N, (K, (Rw, tt))))) (dcons dS (dcons dC (dcons dKC (dcons dR (dcons dRC (dcons dV dnil)))))) in
+    let args : Args = bounded (a_type ∷ a_type ∷ a_number ∷ a_type ∷ []) (S, (V, (N, (Rw, tt)))) (dcons dS (dcons dC (dcons dR (dcons dRC (dcons dV dnil))))) in
     let fn : Fn = inst_fn args code.function in
     let 𝓣 = tables 𝓤 𝓛.H 𝓜 𝓡 𝓡.env in
     let hs : Stays En.signature.params En.kept = (stay_dropped _ no, (stay_dropped _ yes, tt)) in
     let W = walk_of 𝓛 En hs c in
-    let Row : NamedLft → RattleType = λ a. DT.the_row a (copied 0 S) (param 1 V) (param 2 N) (copied 3 K) (copied 4 Rw) gS gR gV in
-    let LS' = copied_laws 0 S LS in let LV' = param_laws 1 V LV in let LK' = copied_laws 3 K LK in let LR' = copied_laws 4 Rw LR in
-    let told : (a : NamedLft) → Told (Row a) = λ a. DL.the_told a (copied 0 S) (param 1 V) (param 2 N) (copied 3 K) (copied 4 Rw) gS gR gV LS' LV' refl LK' LR' (copy_told (copied 0 S) (copied_copy 0 S CS)) in
-    let laws : (a : NamedLft) → Laws (Row a) = λ a. DL.the_row_laws a (copied 0 S) (param 1 V) (param 2 N) (copied 3 K) (copied 4 Rw) gS gR gV LS' LV' refl LK' LR' in
+    let Row : NamedLft → RattleType = λ a. DT.the_row a (copied 0 S) (param 1 V) (param 2 N) (copied 3 Rw) gS gR gV in
+    let LS' = copied_laws 0 S LS in let LV' = param_laws 1 V LV in let LR' = copied_laws 3 Rw LR in
+    let told : (a : NamedLft) → Told (Row a) = λ a. DL.the_told a (copied 0 S) (param 1 V) (param 2 N) (copied 3 Rw) gS gR gV LS' LV' refl LR' (copy_told (copied 0 S) (copied_copy 0 S CS)) in
+    let laws : (a : NamedLft) → Laws (Row a) = λ a. DL.the_row_laws a (copied 0 S) (param 1 V) (param 2 N) (copied 3 Rw) gS gR gV LS' LV' refl LR' in
     proved 𝓛 En hs c 𝓜 𝓡 ((λ κs x w vs ok. qed 𝓛 (‵ ftrue ∷ []) ∵ updating ! $ at_once ! $ nothing ! $ fjoin ! $ done !), ((λ κs x w vs ok. 𝓛.laws.⇛_intro (emp 𝓤)), tt))
-    (f.Key.name args) fn (code.unfolded 𝓤 𝓛.H 𝓜 𝓡 wired (S, (V, (N, (K, (Rw, tt))))) dS dC dKC dR dRC dV)
-    (λ κs. ((λ d. (told (named_lft 7 0 tt κs)).val d ∷ []), (shr_vals, tt))) (λ κs. ((told (named_lft 7 0 tt κs)).tells, (shr_Tells (named 1) κs.1.0 (ArrayAt u8 (param 2 N)), tt))) (λ κs qs bounds a _ are.
+    (f.Key.name args) fn (code.unfolded 𝓤 𝓛.H 𝓜 𝓡 wired (S, (V, (N, (Rw, tt)))) dS dC dR dRC dV)
+    (λ κs. ((λ d. (told (named_lft 6 0 tt κs)).val d ∷ []), (shr_vals, tt))) (λ κs. ((told (named_lft 6 0 tt κs)).tells, (shr_Tells (named 1) κs.1.0 (ArrayAt u8 (param 2 N)), tt))) (λ κs qs bounds a _ are.
     let κ = κs.0 in let q = qs.0 in let d = a.0 in
-    let y : W.Ghost = ((κs, qs, bounds, a, ((told (named_lft 7 0 tt κs)).val d ∷ [], (shr_vals a.1.0, tt))), tt) in
-    let typed = (((laws (named_lft 7 0 tt κs)).lawful 𝓛).typed d _ are.0).0 in
-    let others = ‵ (flft κs.1.0 qs.1.0) ⊛ ‵ (flft κs.1.1.0 qs.1.1.0) ⊛ ‵ (flft κs.1.1.1.0 qs.1.1.1.0) ⊛ ‵ (flft κs.1.1.1.1.0 qs.1.1.1.1.0) ⊛ ‵ (flft κs.1.1.1.1.1.0 qs.1.1.1.1.1.0) ⊛ ‵ (flft κs.1.1.1.1.1.1.0 qs.1.1.1.1.1.1.0) ⊛ ‵ ftrue in
+    let y : W.Ghost = ((κs, qs, bounds, a, ((told (named_lft 6 0 tt κs)).val d ∷ [], (shr_vals a.1.0, tt))), tt) in
+    let typed = (((laws (named_lft 6 0 tt κs)).lawful 𝓛).typed d _ are.0).0 in
+    let others = ‵ (flft κs.1.0 qs.1.0) ⊛ ‵ (flft κs.1.1.0 qs.1.1.0) ⊛ ‵ (flft κs.1.1.1.0 qs.1.1.1.0) ⊛ ‵ (flft κs.1.1.1.1.0 qs.1.1.1.1.0) ⊛ ‵ (flft κs.1.1.1.1.1.0 qs.1.1.1.1.1.0) ⊛ ‵ ftrue in
     let SRow : RattleType = ST.the_row (record { mir = named 0; lft = κ }) in
     let L = gS in
     let front = take d.written d.dst.now in
-    let Stood = λ (key nonce ad : List ℕ). Stands L.FAMILY L.LANES L.lane L.updates (held d.state d.block d.data_bytes d.written) key nonce ad front in
-    let IsTagged : Type 0 → Type 0 = λ P. (key nonce ad : List ℕ) → Stood key nonce ad → P ↔ (a.1.0.now ≡ tag L.FAMILY L.LANES n key nonce ad front) in
-    let IsFound : Type 0 → Type 0 = λ P. (key nonce ad m : List ℕ) → Stood key nonce ad → Opens L.FAMILY L.LANES n key nonce ad (ciphertext L.FAMILY L.LANES key nonce ad front) a.1.0.now m → P in
+    let holds = held L d.state d.block d.data_bytes d.written in
+    let Tagged : Type 0 → Type 0 = λ P. IsTagged L.VARIANT n holds front a.1.0.now P in
+    let Found : Type 0 → Type 0 = λ P. IsAccepted L.VARIANT n holds front a.1.0.now P in
     qed 𝓛 (raw (G.pre y) ∷ []) ∵ enter ! _ _ _ _ _ $ alloc_all ! (λ l. pass_all ! refl (typed, ((tt, tt), tt)) $
     sets ! (of_opd ! (get ! refl)) refl typed $
-    calls_at ! (framed 𝓤 𝓛.H 𝓜 𝓣) G (settle_met 𝓤 𝓛 𝓜 𝓡 (code.calls-aegis_engine::decryptor::Decryptor::settle 𝓡.env wired) S V n K Rw LS LV fits LK LR CS CK CR gS dS gC dC gKC dKC gR dR gRC dRC gV dV mS mC mKC mR mRC mV) y
+    calls_at ! (framed 𝓤 𝓛.H 𝓜 𝓣) G (settle_met 𝓤 𝓛 𝓜 𝓡 (code.calls-aegis_engine::decryptor::Decryptor::settle 𝓡.env wired) S V n Rw LS LV fits LR CS CR gS dS gC dC gR dR gRC dRC gV dV mS mC mR mRC mV) y
     (and_then ! (get ! refl) (and_then ! (get ! refl) (no_more !))) (λ v.
     use1 𝓛 (later (some (λ (r : SRow.Denot). ((‵ (flft κ q) ⊛ others) ⊛ ‵ (SRow.own_val r (v ∷ []))) ⊛ some (λ (ws : Lasts Gn κs a). ‵ (lasts Gn κs a ws)
     ⊛ (raw (fact 𝓤 (r.dst.ghost_name ≡ d.dst.ghost_name)) ⊛ raw (fact 𝓤 (r.dst.ref_ptr ≡ d.dst.ref_ptr)) ⊛ raw (fact 𝓤 (r.written ≡ d.written)) ⊛ raw (fact 𝓤 (r.written ≤ length r.dst.now)) ⊛ raw (fact 𝓤 (r.accepted ≡ true → r.dst.now ≡ d.dst.now))
-    ⊛ raw (fact 𝓤 (r.accepted ≡ false → r.dst.now ≡ replicate r.written 0 ++ drop_list r.written r.dst.now)) ⊛ raw (fact 𝓤 (drop_list r.written r.dst.now ≡ drop_list d.written d.dst.now)) ⊛ raw (fact 𝓤 (IsTagged (r.accepted ≡ true))) ⊛ raw (fact 𝓤 (IsFound (r.accepted ≡ true)))))))) (id⊢ 𝓤 (G.post y v)) $
+    ⊛ raw (fact 𝓤 (r.accepted ≡ false → r.dst.now ≡ replicate r.written 0 ++ drop_list r.written r.dst.now)) ⊛ raw (fact 𝓤 (drop_list r.written r.dst.now ≡ drop_list d.written d.dst.now)) ⊛ raw (fact 𝓤 (Tagged (r.accepted ≡ true))) ⊛ raw (fact 𝓤 (Found (r.accepted ≡ true)))))))) (id⊢ 𝓤 (G.post y v)) $
     await ! tt $ pick ! (λ r. split ! $ split ! $ move ! (2 ∷ []) $ pick ! (λ ws. split ! $ drop ! $ split ! $ heard ! _ (λ name. split ! $ heard ! _ (λ place. split ! $ heard ! _ (λ count. split ! $ heard ! _ (λ within. split ! $ heard ! _ (λ kept. split ! $ heard ! _ (λ gone. split ! $ heard ! _ (λ rest. split ! $ heard ! _ (λ tagged. heard ! _ (λ found.
     move ! (1 ∷ []) $ peeks ! SRow _ (shows 𝓛 SRow) r (v ∷ []) (λ is.
     lands_as ! refl refl (((settled_laws (record { mir = named 0; lft = κ })).lawful 𝓛).typed r _ is).0 $

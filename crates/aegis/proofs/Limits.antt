@@ -1,0 +1,14 @@
+-- Messages that were opened and are to be sealed again.
+use Rattle.std.proofs.Common.{◌≤◌, ℕ, List, [], ◌∷◌, arith}
+use Rattle.aegis.specs.declared.record.version.Version.{Version}
+use Rattle.aegis.specs.declared.record.version.Version.TheVariants.{First, Second}
+use Rattle.aegis.specs.RecordStream.{AreWithin, limit}
+
+limit_grows : (v : Version) → limit v ≤ limit Second
+limit_grows First = omega arith
+limit_grows Second = omega arith
+
+-- what one version allows, the second does
+pub within_second : (v : Version) (ms : List (List ℕ)) → AreWithin v ms → AreWithin Second ms
+within_second v [] w = tt
+within_second v (m ∷ ms) w = let most = limit_grows v in let here = w.0 in (omega (arith, most, here), within_second v ms w.1)

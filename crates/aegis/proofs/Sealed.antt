@@ -1,0 +1,79 @@
+-- What the calls of the cipher say of a record, and that the cipher is a sealing.
+use borrow.Rule.Slice.PartMut.{put_mid}
+use Rattle.std.proofs.Common.{◌≡◌, ℕ, zero, suc, ◌+◌, ◌-◌, ◌≤◌, List, [], ◌∷◌, ◌++◌, length, take, drop, refl, sym, ap, ◌∙◌, arith, inl, inr}
+use Rattle.std.proofs.lemmas.List.{append-nil, drop_at, length-append, take_at, take-append-drop}
+use Rattle.aegis_base.specs.Variant.{Aegis256}
+use Rattle.aegis_base.specs.Message.{Opens, ciphertext, lane_before, tag}
+use Rattle.aegis_base.proofs.Bijection.{ciphertext-injective, length-ciphertext}
+use Rattle.aegis_base.proofs.Lengths.{length-tag}
+use Rattle.aegis.specs.declared.record.version.Version.{Version}
+use Rattle.aegis.specs.Records.{associated_data, nonce, sealed}
+use Rattle.aegis.specs.RecordStream.{IsSealing}
+
+pub drop-past : (k : ℕ) (xs : List ℕ) → length xs ≤ k → drop k xs ≡ []
+drop-past zero [] h = refl
+drop-past (suc k) [] h = refl
+drop-past zero (x ∷ xs) h = absurd (omega arith)
+drop-past (suc k) (x ∷ xs) h = drop-past k xs (omega arith)
+
+-- a nonce that is written in two parts
+pub nonce_filled : (a z b p le : List ℕ) → a ≡ p → length p ≡ 24 → length z ≡ 8 → b ≡ le → put_mid 24 8 (a ++ z) b ≡ p ++ le
+nonce_filled a z b p le ae long size be =
+    ap (λ (l : List ℕ). put_mid 24 8 (l ++ z) b) ae ∙ ap (put_mid 24 8 (p ++ z)) be ∙ spelled
+  where
+    spelled : put_mid 24 8 (p ++ z) le ≡ p ++ le
+    spelled = rw (take_at p z 24 long, drop_at p z 24 long, drop-past 8 z (omega arith), append-nil le) refl
+
+tag_long : (key nonce ad m : List ℕ) → length (tag Aegis256 32 key nonce ad m) ≡ 32
+tag_long key nonce ad m = length-tag Aegis256 32 key nonce ad m (inl refl) (inr refl)
+
+-- bytes whose front opens with the tag behind it are what the message is sealed to
+pub opened : (key prefix context : List ℕ) (v : Version) (k o flag : ℕ) (m bytes c t : List ℕ)
+    → Opens Aegis256 32 key (nonce prefix k) (associated_data v k o flag context) c t m
+    → c ≡ take (length bytes - 32) bytes → t ≡ drop (length bytes - 32) bytes → sealed key prefix context v k o flag m ≡ bytes
+unfolding sealed
+opened key prefix context v k o flag m bytes c t opens ce te =
+    ap (λ (p : List ℕ × List ℕ). p.0 ++ p.1) opens ∙ ap (λ (l : List ℕ). l ++ t) ce ∙ ap (λ (l : List ℕ). take (length bytes - 32) bytes ++ l) te
+    ∙ take-append-drop (length bytes - 32) bytes
+
+-- and the other way round
+pub opens : (key prefix context : List ℕ) (v : Version) (k o flag : ℕ) (m bytes c t : List ℕ) → sealed key prefix context v k o flag m ≡ bytes
+    → c ≡ take (length bytes - 32) bytes → t ≡ drop (length bytes - 32) bytes
+    → Opens Aegis256 32 key (nonce prefix k) (associated_data v k o flag context) c t m
+unfolding sealed
+opens key prefix context v k o flag m bytes c t e ce te =
+    let n = nonce prefix k in
+    let ad = associated_data v k o flag context in
+    let x = ciphertext Aegis256 key n ad m in
+    let y = tag Aegis256 32 key n ad m in
+    let long : length x ≡ length bytes - 32 = let all = ap length e in omega (arith, length-append x y, tag_long key n ad m) in
+    let first : x ≡ c = sym (take_at x y (length bytes - 32) long) ∙ ap (take (length bytes - 32)) e ∙ sym ce in
+    let second : y ≡ t = sym (drop_at x y (length bytes - 32) long) ∙ ap (drop (length bytes - 32)) e ∙ sym te in
+    ap (λ (l : List ℕ). (l, y)) first ∙ ap (λ (l : List ℕ). (c, l)) second
+
+pub sealed-is : (key prefix context : List ℕ) → IsSealing (sealed key prefix context)
+unfolding sealed
+sealed-is key prefix context = record { long = long; one = one }
+  where
+    long : (v : Version) (k o flag : ℕ) (m : List ℕ) → length (sealed key prefix context v k o flag m) ≡ length m + 32
+    long v k o flag m =
+        let n = nonce prefix k in
+        let ad = associated_data v k o flag context in
+        omega (
+          arith,
+          length-append (ciphertext Aegis256 key n ad m) (tag Aegis256 32 key n ad m),
+          tag_long key n ad m,
+          length-ciphertext Aegis256 (lane_before Aegis256 key n ad) m,
+        )
+
+    one : (v : Version) (k o flag : ℕ) (m n : List ℕ) → sealed key prefix context v k o flag m ≡ sealed key prefix context v k o flag n → m ≡ n
+    one v k o flag m n e =
+        let nc = nonce prefix k in
+        let ad = associated_data v k o flag context in
+        let same : length m ≡ length n = let both = ap length e in omega (arith, long v k o flag m, long v k o flag n) in
+        let cm = ciphertext Aegis256 key nc ad m in
+        let cn = ciphertext Aegis256 key nc ad n in
+        let lm : length cm ≡ length m = length-ciphertext Aegis256 (lane_before Aegis256 key nc ad) m in
+        let ln : length cn ≡ length m = length-ciphertext Aegis256 (lane_before Aegis256 key nc ad) n ∙ sym same in
+        ciphertext-injective Aegis256 (lane_before Aegis256 key nc ad) m n (inl refl)
+        (sym (take_at cm (tag Aegis256 32 key nc ad m) (length m) lm) ∙ ap (take (length m)) e ∙ take_at cn (tag Aegis256 32 key nc ad n) (length m) ln)

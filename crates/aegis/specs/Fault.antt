@@ -1,0 +1,58 @@
+-- What is wrong with bytes that are the stream of no list: the first fault that a reader from the front meets.
+use Rattle.std.specs.Prelude.{◌≡◌, ◌≢◌, ℕ, ◌+◌, ◌<◌, List, [], ◌∷◌, ◌++◌, drop, length, nat_lt, take, Result, Ok, Err, if◌then◌else◌}
+use Rattle.std.specs.Int.{w32, from_le_bytes}
+use Rattle.aegis.specs.declared.record.error.RecordError.{RecordError}
+use Rattle.aegis.specs.declared.record.error.RecordError.TheVariants as errors
+use Rattle.aegis.specs.declared.record.version.Version.{Version}
+use Rattle.aegis.specs.RecordStream.{AreWithin, IsRecordStream, Sealing, front, header, limit, total}
+
+-- the number in the first four bytes, the least first
+abbrev pub length_at : List ℕ → ℕ
+length_at bytes = from_le_bytes w32 (take 4 bytes)
+
+-- a record's flag, its sealed message, and the bytes behind it
+abbrev pub Parts : Type 0
+Parts = ℕ × List ℕ × List ℕ
+
+-- the parts of bytes that go on behind this flag, by the length there, or the first fault
+abbrev pub parts_after : Version → ℕ → List ℕ → Result Parts RecordError
+parts_after v flag bytes =
+    if nat_lt 1 flag then Err errors.Flag
+    else if nat_lt (length bytes) 4 then Err errors.Truncated
+    else if nat_lt (limit v) (length_at bytes) then Err errors.TooLong
+    else if nat_lt (length (drop 4 bytes)) (length_at bytes + 32) then Err errors.Truncated
+    else Ok (flag, take (length_at bytes + 32) (drop 4 bytes), drop (length_at bytes + 32) (drop 4 bytes))
+
+-- the parts of bytes that begin with a record, whatever seals it, or the first fault
+unfoldable pub parts : Version → List ℕ → Result Parts RecordError
+parts v [] = Err errors.Truncated
+parts v (flag ∷ bytes) = parts_after v flag bytes
+
+-- no message is sealed to the bytes of record k
+abbrev pub IsDamaged : Sealing → Version → ℕ → ℕ → ℕ → List ℕ → Type 0
+IsDamaged sealing v k o flag bytes = (m : List ℕ) → sealing v k o flag m ≢ bytes
+
+-- the fault of record k, from the parts that the bytes there have
+abbrev pub HasFault : Sealing → Version → ℕ → ℕ → Result Parts RecordError → RecordError → Type 0
+HasFault sealing v k o (Err fault) e = e ≡ fault
+HasFault sealing v k o (Ok found) e = IsDamaged sealing v k o found.0 found.1 × (e ≡ errors.Damaged k)
+
+-- The fault of bytes, by where it is: they begin with no header; or behind a header and whole records with the flag 0 the next
+-- record has a fault; or bytes follow a stream. The records in the second case are as many as there are, since where the next
+-- one has a fault there is no whole one.
+pub data FirstFault (sealing : Sealing) (bytes : List ℕ) (e : RecordError) : Type 0 where
+  AtHeader : ((v : Version) → take 4 bytes ≢ header v) → e ≡ errors.Header → FirstFault sealing bytes e
+  AtRecord : (v : Version) (ms : List (List ℕ)) (rest : List ℕ) → AreWithin v ms → bytes ≡ front sealing v 0 ms ++ rest
+      → HasFault sealing v (length ms) (total ms) (parts v rest) e → FirstFault sealing bytes e
+  AtEnd : (v : Version) (ms : List (List ℕ)) (stream rest : List ℕ) → IsRecordStream sealing v ms stream → bytes ≡ stream ++ rest
+      → 0 < length rest → e ≡ errors.Trailing → FirstFault sealing bytes e
+
+-- the fault of bytes, as one fact: a tactic that is handed it does not take it apart, and so finds what follows from the whole
+unfoldable pub IsFaultOf : Sealing → List ℕ → RecordError → Type 0
+IsFaultOf sealing bytes e = FirstFault sealing bytes e
+
+-- bytes have one fault at most, and a stream has none
+abbrev pub IsOneFault : Sealing → Type 0
+IsOneFault sealing =
+    ((bytes : List ℕ) (d e : RecordError) → IsFaultOf sealing bytes d → IsFaultOf sealing bytes e → d ≡ e)
+    × ((bytes : List ℕ) (v : Version) (ms : List (List ℕ)) (e : RecordError) → IsRecordStream sealing v ms bytes → IsFaultOf sealing bytes e → ⊥)

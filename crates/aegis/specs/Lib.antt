@@ -1,0 +1,4 @@
+pub mod Calls
+pub mod Fault
+pub mod Records
+pub mod RecordStream

@@ -1,0 +1,38 @@
+-- Record streams: each message is sealed by AEGIS-256 with a tag of 32 bytes, under the stream's key.
+use Rattle.std.specs.Prelude.{ℕ, List, ◌∷◌, ◌++◌}
+use Rattle.std.specs.Int.{w64, to_le_bytes}
+use Rattle.aegis_base.specs.Variant.{Aegis256}
+use Rattle.aegis_base.specs.Message.{ciphertext, tag}
+use Rattle.aegis.specs.declared.record.error.RecordError.{RecordError}
+use Rattle.aegis.specs.declared.record.version.Version.{Version}
+use Rattle.aegis.specs.declared.record.version.Version.TheVariants.{First, Second}
+use Rattle.aegis.specs.Fault.{IsFaultOf}
+use Rattle.aegis.specs.RecordStream.{IsRecordStream, Sealing, front, header}
+
+-- the nonce of record k: the stream's prefix and the number, the least byte first
+abbrev pub nonce : List ℕ → ℕ → List ℕ
+nonce prefix k = prefix ++ to_le_bytes w64 k
+
+-- The associated data of a record: the header, the record's number, in version 2 how many bytes the messages before it have,
+-- its flag, and the stream's context.
+abbrev pub associated_data : Version → ℕ → ℕ → ℕ → List ℕ → List ℕ
+associated_data First k o flag context = header First ++ to_le_bytes w64 k ++ flag ∷ context
+associated_data Second k o flag context = header Second ++ to_le_bytes w64 k ++ to_le_bytes w64 o ++ flag ∷ context
+
+-- a record's ciphertext and tag
+unfoldable pub sealed : List ℕ → List ℕ → List ℕ → Sealing
+sealed key prefix context v k o flag m =
+    ciphertext Aegis256 key (nonce prefix k) (associated_data v k o flag context) m
+    ++ tag Aegis256 32 key (nonce prefix k) (associated_data v k o flag context) m
+
+-- the stream of messages
+abbrev pub records : Version → List ℕ → List ℕ → List ℕ → List (List ℕ) → List ℕ
+records v key prefix context ms = front (sealed key prefix context) v 1 ms
+
+-- the bytes are the stream of the messages: there is one at least, and none is longer than the version allows
+abbrev pub AreRecords : Version → List ℕ → List ℕ → List ℕ → List (List ℕ) → List ℕ → Type 0
+AreRecords v key prefix context ms bytes = IsRecordStream (sealed key prefix context) v ms bytes
+
+-- the fault of bytes that are the stream of no messages
+abbrev pub IsFault : List ℕ → List ℕ → List ℕ → List ℕ → RecordError → Type 0
+IsFault key prefix context bytes e = IsFaultOf (sealed key prefix context) bytes e

@@ -1,0 +1,26 @@
+//! Streams of numbered records over AEGIS-256 with tags of 32 bytes.
+//!
+//! A record stream seals a list of messages under a key, a prefix and a context: [`seal_records`] makes it and [`open_records`]
+//! returns the list. It is a header and a record for each message: a flag, 1 for the last record and otherwise 0, the message's
+//! length in four bytes, least byte first, the ciphertext, and the tag. The nonce of a record is the prefix and then the record's
+//! number in eight bytes; its associated data has the header, the number, in version 2 how many bytes the messages before it
+//! have, the flag and the context.
+//!
+//! Not covered: that a prefix is used once under its key, which the caller has to ensure.
+mod error;
+mod frame;
+pub mod laws;
+mod length;
+mod migration;
+mod open;
+mod record_cipher;
+mod seal;
+mod version;
+
+pub use error::RecordError;
+pub use length::records_len;
+pub use migration::migrate;
+pub use open::open_records;
+pub use record_cipher::MAX_CONTEXT_BYTES;
+pub use seal::seal_records;
+pub use version::MAX_MESSAGE_BYTES;

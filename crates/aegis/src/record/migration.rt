@@ -1,0 +1,49 @@
+//! From one prefix, and from any version, to another prefix and the version that is written.
+
+ghost use Rattle.std.specs.Prelude.{◌≡◌, ◌≢◌, ◌≤◌, ◌⊎◌, IfErr, IfOk, List, length, ℕ};
+ghost use Rattle.aegis_base.specs.declared.error.TheConstants.{MAX_AEAD_BYTES};
+ghost use Rattle.aegis_base.specs.Chunks.{texts};
+ghost use Rattle.aegis.specs.Calls.{MigratesTo, messages};
+ghost use Rattle.aegis.specs.Records.{AreRecords, IsFault};
+ghost use Rattle.aegis.specs.declared.record.version.Version.{Version};
+ghost use Rattle.aegis.specs.declared.record.version.Version.TheVariants.{Second};
+
+use crate::aegis256::Key;
+use crate::record::error::RecordError;
+use crate::record::open::open_records;
+use crate::record::record_cipher::MAX_CONTEXT_BYTES;
+use crate::record::seal::seal_records;
+use aegis_base::slices;
+use std::alloc::Allocator;
+
+/// Opens a stream of either version, and seals its messages anew in version 2 under another prefix of the same key.
+///
+/// The two prefixes have to differ, since a stream of its own under a prefix uses up all nonces that begin with it. The context
+/// has at most [`MAX_CONTEXT_BYTES`], and the stream at most `MAX_AEAD_BYTES`, so that the new one, which has its length, may
+/// be sealed. The call refuses what [`open_records`] refuses under the old prefix, and hands nothing out then; while it runs
+/// it holds the messages beside the new stream.
+pub fn migrate<A: Allocator + Copy>(
+    alloc: A,
+    key: &Key,
+    old_prefix: &[u8; 24],
+    new_prefix: &[u8; 24],
+    context: &[u8],
+    bytes: &[u8],
+) -> Result<Vec<u8, A>, RecordError>
+    requires prefixes { old_prefix.now ≢ new_prefix.now }
+    requires context_within { length context.now ≤ MAX_CONTEXT_BYTES }
+    requires bytes_within { length bytes.now ≤ MAX_AEAD_BYTES }
+    ensures migrated { IfOk result (λ stream. (v : Version) × (ms : List (List ℕ))
+        × AreRecords v key.now old_prefix.now context.now ms bytes.now
+        × AreRecords Second key.now new_prefix.now context.now ms stream.items) }
+    ensures accepted { (v : Version) (ms : List (List ℕ))
+        → AreRecords v key.now old_prefix.now context.now ms bytes.now
+        → MigratesTo key.now new_prefix.now context.now ms result }
+    ensures refused { IfErr result (λ e. (e ≡ RecordError.OutOfMemory)
+        ⊎ IsFault key.now old_prefix.now context.now bytes.now e) }
+    ensures length { IfOk result (λ stream. length stream.items ≡ length bytes.now) }
+{
+    let messages = open_records(alloc, key, old_prefix, context, bytes)?;
+    let slices = slices(alloc, &messages)?;
+    seal_records(alloc, key, new_prefix, context, &slices)
+}

@@ -1,0 +1,138 @@
+//! Opening a stream.
+
+ghost use Rattle.std.specs.Prelude.{◌≡◌, ◌≢◌, ◌≤◌, ◌⊎◌, ◌++◌, IfErr, IfNone, IfOk, IfSome, List, length, take, ℕ};
+ghost use Rattle.aegis.specs.Calls.{IsRecord, IsRefused, OpensTo, messages, sealing_of};
+ghost use Rattle.aegis.specs.Fault.{HasFault, parts};
+ghost use Rattle.aegis.specs.Records.{AreRecords, IsFault};
+ghost use Rattle.aegis.specs.RecordStream.{header};
+
+use crate::aegis256::Key;
+use crate::record::error::RecordError;
+use crate::record::frame::Frame;
+use crate::record::record_cipher::{MAX_CONTEXT_BYTES, RecordCipher, RecordPlace};
+use crate::record::version::Version;
+use std::alloc::Allocator;
+
+// The version that the header names, and what follows the header.
+fn version_of(bytes: &[u8]) -> Option<(Version, &[u8])>
+    ensures some { IfSome result (λ found. bytes.now ≡ header found.0 ++ found.1.now) }
+    ensures none { IfNone result ((v : Version) → take 4 bytes.now ≢ header v) }
+{
+    if bytes.len() < 4 {
+        return None;
+    }
+    let (front, rest) = bytes.split_at(4);
+    if front == Version::First.header() {
+        Some((Version::First, rest))
+    } else if front == Version::Second.header() {
+        Some((Version::Second, rest))
+    } else {
+        None
+    }
+}
+
+// Reads and opens the record at the front of the bytes: where its parts are, and its message.
+fn open_record<'a, A: Allocator>(
+    alloc: A,
+    ad: &mut Vec<u8, A>,
+    cipher: &RecordCipher<'_>,
+    version: Version,
+    number: u64,
+    before: u64,
+    bytes: &'a [u8],
+) -> Result<(Frame<'a>, Vec<u8, A>), RecordError>
+    requires { length cipher.now.context.now ≤ MAX_CONTEXT_BYTES }
+    ensures opened { IfOk result
+        (λ found. IsRecord (sealing_of cipher.now) version number before found.0.flag found.1.items
+        found.0.rest.now bytes.now) }
+    ensures refused { IfErr result (λ e. (e ≡ RecordError.OutOfMemory)
+        ⊎ HasFault (sealing_of cipher.now) version number before (parts version bytes.now) e) }
+{
+    let frame = Frame::read(version, bytes)?;
+    let place = RecordPlace {
+        version,
+        number,
+        before,
+        flag: frame.flag,
+    };
+    let message = cipher.open(alloc, ad, place, frame.sealed)?;
+    Ok((frame, message))
+}
+
+// The messages of a stream, read from record to record.
+#[tactic(auto, unfolding(crate::specs::Fault::IsFaultOf))]
+fn open_each<A: Allocator + Copy>(
+    alloc: A,
+    cipher: &RecordCipher<'_>,
+    bytes: &[u8],
+) -> Result<Vec<Vec<u8, A>, A>, RecordError>
+    requires { length cipher.now.context.now ≤ MAX_CONTEXT_BYTES }
+    ensures opened { IfOk result (λ ms. (v : Version)
+        × AreRecords v cipher.now.key.now cipher.now.prefix.now cipher.now.context.now
+        (messages ms.items) bytes.now) }
+    ensures refused { IfErr result (λ e. (e ≡ RecordError.OutOfMemory)
+        ⊎ IsFault cipher.now.key.now cipher.now.prefix.now cipher.now.context.now bytes.now e) }
+{
+    let Some((version, mut rest)) = version_of(bytes) else {
+        return Err(RecordError::Header);
+    };
+    let mut ad = Vec::with_capacity(alloc, RecordPlace::DATA_BYTES + cipher.context.len())?;
+    let mut found = Vec::new(alloc);
+    let mut before: u64 = 0;
+    'records: loop {
+        let (frame, message) = open_record(
+            alloc,
+            &mut ad,
+            cipher,
+            version,
+            found.len() as u64,
+            before,
+            rest,
+        )?;
+        before += message.len() as u64;
+        found.push(message)?;
+        rest = frame.rest;
+        if frame.flag == 1 {
+            if !rest.is_empty() {
+                return Err(RecordError::Trailing);
+            }
+            return Ok(found);
+        }
+    }
+}
+
+/// Opens a stream, of the version that its header names: the messages of the list whose stream the bytes are.
+///
+/// The answer is `Ok` exactly where there is such a list, unless memory runs out. Otherwise it is the first fault of the
+/// bytes, read from the front; [`RecordError::Damaged`] has the number of a record that no message is sealed to. With a
+/// refusal nothing is handed out, not even the messages of the records before it.
+///
+/// The context has at most [`MAX_CONTEXT_BYTES`]. Memory is taken for the messages, a vector each, for the list of them, and
+/// once for the associated data.
+pub fn open_records<A: Allocator + Copy>(
+    alloc: A,
+    key: &Key,
+    prefix: &[u8; 24],
+    context: &[u8],
+    bytes: &[u8],
+) -> Result<Vec<Vec<u8, A>, A>, RecordError>
+    requires { length context.now ≤ MAX_CONTEXT_BYTES }
+    ensures opened { IfOk result (λ ms. (v : Version)
+        × AreRecords v key.now prefix.now context.now (messages ms.items) bytes.now) }
+    ensures accepted { (v : Version) (ms : List (List ℕ))
+        → AreRecords v key.now prefix.now context.now ms bytes.now → OpensTo ms result }
+    ensures refused { IfErr result (λ e. (e ≡ RecordError.OutOfMemory)
+        ⊎ IsFault key.now prefix.now context.now bytes.now e) }
+    ensures faults { (e : RecordError) → IsFault key.now prefix.now context.now bytes.now e
+        → IsRefused e result }
+{
+    open_each(
+        alloc,
+        &RecordCipher {
+            key,
+            prefix,
+            context,
+        },
+        bytes,
+    )
+}

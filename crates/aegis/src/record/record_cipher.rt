@@ -1,0 +1,129 @@
+//! The cipher of a stream's records.
+
+ghost use Rattle.std.specs.Prelude.{◌≡◌, ◌≢◌, ◌≤◌, ◌⊎◌, ◌+◌, ◌++◌, IfErr, IfOk, List, OnOk, length, ℕ};
+ghost use Rattle.aegis.specs.Calls.{sealed_at};
+ghost use Rattle.aegis.specs.Records.{associated_data, nonce};
+ghost use Rattle.aegis.specs.RecordStream.{limit};
+
+use crate::aegis256::{Aegis256, Error, Key, Nonce};
+use crate::record::error::RecordError;
+use crate::record::frame::TAG_BYTES;
+use crate::record::version::Version;
+use std::alloc::Allocator;
+
+/// How many bytes the context of a stream may have.
+pub const MAX_CONTEXT_BYTES: usize = 65_535;
+
+// A message is copied and sealed in pieces of so many bytes: few enough that a copy waits for memory while rounds run, and of
+// 128 to 16384 the fastest.
+const PIECE_BYTES: usize = 512;
+
+/// What all records of a stream are sealed under.
+#[derive(Clone, Copy)]
+pub struct RecordCipher<'a> {
+    pub key: &'a Key,
+    pub prefix: &'a [u8; 24],
+    pub context: &'a [u8],
+}
+
+/// Where a record stands in its stream.
+#[derive(Clone, Copy)]
+pub struct RecordPlace {
+    pub version: Version,
+    /// The record's number, from 0.
+    pub number: u64,
+    /// How many bytes the messages before it have.
+    pub before: u64,
+    /// 1 for the last record, and otherwise 0.
+    pub flag: u8,
+}
+
+// The nonce of a record.
+fn nonce(prefix: &[u8; 24], number: u64) -> Nonce
+    ensures { result ≡ nonce prefix.now number }
+{
+    let mut nonce = [0; 32];
+    nonce[..24].copy_from_slice(prefix);
+    nonce[24..].copy_from_slice(&number.to_le_bytes());
+    nonce
+}
+
+impl RecordPlace {
+    /// How many bytes the associated data has at most, but for the context: a header, a number, a sum of lengths and a flag.
+    pub const DATA_BYTES: usize = 4 + 8 + 8 + 1;
+
+    // Writes the associated data of the record over what `ad` holds.
+    fn write_data<A: Allocator>(
+        self,
+        ad: &mut Vec<u8, A>,
+        context: &[u8],
+    ) -> Result<(), RecordError>
+        ensures ok { OnOk result (ad.new.items
+            ≡ associated_data self.version self.number self.before self.flag context.now) }
+        ensures err { IfErr result (λ e. e ≡ RecordError.OutOfMemory) }
+    {
+        ad.clear();
+        ad.extend_from_slice(self.version.header())?;
+        ad.extend_from_slice(&self.number.to_le_bytes())?;
+        if let Version::Second = self.version {
+            ad.extend_from_slice(&self.before.to_le_bytes())?;
+        }
+        ad.push(self.flag)?;
+        ad.extend_from_slice(context)?;
+        Ok(())
+    }
+}
+
+impl RecordCipher<'_> {
+    /// Appends the ciphertext and the tag of a record to a stream. `ad` holds the associated data meanwhile.
+    pub fn seal<A: Allocator>(
+        &self,
+        out: &mut Vec<u8, A>,
+        ad: &mut Vec<u8, A>,
+        place: RecordPlace,
+        message: &[u8],
+    ) -> Result<(), RecordError>
+        requires context { length self.now.context.now ≤ MAX_CONTEXT_BYTES }
+        requires within { length message.now ≤ limit place.version }
+        ensures ok { OnOk result (out.new.items
+            ≡ out.old.items ++ sealed_at self.now place message.now) }
+        ensures err { IfErr result (λ e. e ≡ RecordError.OutOfMemory) }
+    {
+        place.write_data(ad, self.context)?;
+        let cipher = Aegis256::<TAG_BYTES>::new(self.key, &nonce(self.prefix, place.number));
+        let mut encryptor = cipher.encryptor(ad);
+        for piece in message.chunks(PIECE_BYTES) {
+            let start = out.len();
+            out.extend_from_slice(piece)?;
+            encryptor.update_in_place(&mut out[start..]);
+        }
+        out.extend_from_slice(&encryptor.finalize())?;
+        Ok(())
+    }
+
+    /// The message that is sealed to the bytes of a record, ciphertext and tag, in a fresh vector.
+    pub fn open<A: Allocator>(
+        &self,
+        alloc: A,
+        ad: &mut Vec<u8, A>,
+        place: RecordPlace,
+        sealed: &[u8],
+    ) -> Result<Vec<u8, A>, RecordError>
+        requires context { length self.now.context.now ≤ MAX_CONTEXT_BYTES }
+        requires long { 32 ≤ length sealed.now }
+        requires within { length sealed.now ≤ limit place.version + 32 }
+        ensures opened { IfOk result (λ m. sealed_at self.now place m.items ≡ sealed.now) }
+        ensures refused { IfErr result (λ e. (e ≡ RecordError.OutOfMemory)
+            ⊎ (((m : List ℕ) → sealed_at self.now place m ≢ sealed.now)
+            × (e ≡ RecordError.Damaged place.number))) }
+    {
+        let (ciphertext, tag) = sealed.split_last_chunk::<TAG_BYTES>().unwrap();
+        place.write_data(ad, self.context)?;
+        let cipher = Aegis256::<TAG_BYTES>::new(self.key, &nonce(self.prefix, place.number));
+        match cipher.decrypt(alloc, ciphertext, tag, ad) {
+            Ok(message) => Ok(message),
+            Err(Error::InvalidTag) => Err(RecordError::Damaged(place.number)),
+            Err(_) => Err(RecordError::OutOfMemory),
+        }
+    }
+}

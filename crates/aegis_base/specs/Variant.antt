@@ -1,0 +1,42 @@
+-- The six variants of AEGIS: a family, by the bits of its keys, and how many lanes run side by side.
+use Rattle.std.specs.Prelude.{ℕ, ◌*◌}
+
+pub data Family : Type 0 where
+  Family128 : Family
+  Family256 : Family
+
+pub record Variant : Type 0 where
+  pub family : Family
+  pub lanes : ℕ
+
+abbrev pub Aegis128L : Variant
+Aegis128L = record { family = Family128; lanes = 1 }
+
+abbrev pub Aegis128X2 : Variant
+Aegis128X2 = record { family = Family128; lanes = 2 }
+
+abbrev pub Aegis128X4 : Variant
+Aegis128X4 = record { family = Family128; lanes = 4 }
+
+abbrev pub Aegis256 : Variant
+Aegis256 = record { family = Family256; lanes = 1 }
+
+abbrev pub Aegis256X2 : Variant
+Aegis256X2 = record { family = Family256; lanes = 2 }
+
+abbrev pub Aegis256X4 : Variant
+Aegis256X4 = record { family = Family256; lanes = 4 }
+
+-- how many blocks of each rate block one lane takes in
+abbrev pub width : Family → ℕ
+width Family128 = 2
+width Family256 = 1
+
+-- the bytes of a rate block
+abbrev pub rate : Variant → ℕ
+rate variant = 16 * (width variant.family * variant.lanes)
+
+-- the bytes of a key, and of a nonce
+abbrev pub key_length : Family → ℕ
+key_length Family128 = 16
+key_length Family256 = 32

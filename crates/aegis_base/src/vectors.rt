@@ -1,0 +1,23 @@
+//! Vectors, as slices.
+
+ghost use Rattle.std.specs.Prelude.{◌≡◌, IfOk, map, vec_items};
+ghost use Rattle.std.specs.List.{concat};
+ghost use Rattle.aegis_base.specs.Chunks.{joined, texts};
+
+use std::alloc::{AllocError, Allocator};
+
+/// Each of the vectors as a slice of all its bytes, in their order. The only error is want of memory for the list.
+pub fn slices<A: Allocator + Copy>(
+    alloc: A,
+    vectors: &[Vec<u8, A>],
+) -> Result<Vec<&[u8], A>, AllocError>
+    ensures each { IfOk result (λ slices. texts slices.items ≡ map vec_items vectors.now) }
+    ensures joined { IfOk result
+        (λ slices. joined slices.items ≡ concat (map vec_items vectors.now)) }
+{
+    let mut slices = Vec::with_capacity(alloc, vectors.len())?;
+    for vector in vectors {
+        slices.push(vector.as_slice())?;
+    }
+    Ok(slices)
+}

@@ -1,0 +1,63 @@
+-- What a pass in pieces has gone along, and what that is sealed to: one piece more, and all of them.
+use Rattle.std.proofs.Common.{◌≡◌, ◌∙◌, sym, ap, subst, ℕ, ◌+◌, ◌-◌, List, [], ◌++◌, drop, length, slice_range, take, append_assoc, arith}
+use Rattle.std.proofs.lemmas.List.{append-nil, drop-drop, length-append, take-append-drop}
+use Rattle.aegis_base.specs.Variant.{Variant}
+use Rattle.aegis_base.specs.Message.{ciphertext}
+use Rattle.aegis_base.specs.Run.{Encrypts, Held, Takes}
+use Rattle.aegis_engine.specs.Pass.{sealed, taken}
+use Rattle.aegis_engine.specs.declared.pass.Pass.{Pass}
+use Rattle.aegis_engine.proofs.PassFacts.{sealed-append, taken-append}
+
+-- from `old` to `new` the pass went along the bytes of `source`, and left `out` in their place
+pub record IsPassed (variant : Variant) (old new : Held) (pass : Pass) (source out : List ℕ) : Type 0 where
+  pub takes : Takes variant old new (taken pass source out)
+  pub encrypts : Encrypts variant old (taken pass source out) (sealed pass source out)
+
+pub passed-more : (variant : Variant) (old now new : Held) (pass : Pass) (a b c d : List ℕ) → length c ≡ length a
+    → IsPassed variant old now pass a c → IsPassed variant now new pass b d → IsPassed variant old new pass (a ++ b) (c ++ d)
+passed-more variant old now new pass a b c d long first next = record {
+  takes = λ key nonce ad m is.
+      rw (taken-append pass a b c d, ← append_assoc m (taken pass a c) (taken pass b d))
+      (next.takes key nonce ad (m ++ taken pass a c) (first.takes key nonce ad m is));
+  encrypts = λ key nonce ad m is.
+      rw (taken-append pass a b c d, sealed-append pass a b c d long, ← append_assoc m (taken pass a c) (taken pass b d), ← append_assoc (ciphertext variant key nonce ad m) (sealed pass a c) (sealed pass b d))
+      (next.encrypts key nonce ad (m ++ taken pass a c) (first.takes key nonce ad m is)
+      ∙ ap (λ (xs : List ℕ). xs ++ sealed pass b d) (first.encrypts key nonce ad m is));
+}
+
+-- the next n bytes after the first ones, and what is left of them
+pub cut-at : (source : List ℕ) (at n : ℕ) → drop at source ≡ slice_range source at (at + n) ++ drop (at + n) source
+cut-at source at n =
+    let count : at + n - at ≡ n = omega arith in
+    rw count (sym (take-append-drop n (drop at source)) ∙ ap (λ (xs : List ℕ). take n (drop at source) ++ xs) (drop-drop n at source))
+
+-- of `source` only the rest is left, and `out` is written so far; `now` is what is held, by the number of bytes
+pub record IsDone (variant : Variant) (old : Held) (now : ℕ → Held) (pass : Pass) (source rest out : List ℕ) : Type 0 where
+  pub done : List ℕ
+  pub split : done ++ rest ≡ source
+  pub long : length out ≡ length done
+  pub passed : IsPassed variant old (now (length out)) pass done out
+
+pub done-more : {variant : Variant} {old : Held} {now next : ℕ → Held} {pass : Pass} {source rest left out more : List ℕ} {n : ℕ} (piece part : List ℕ)
+    → more ≡ out ++ part → rest ≡ piece ++ left → length part ≡ length piece → n ≡ length out
+    → IsPassed variant (now n) (next (n + length piece)) pass piece part
+    → IsDone variant old now pass source rest out → IsDone variant old next pass source left more
+done-more {variant} {old} {now} {next} {pass} {source} {rest} {left} {out} {more} {n} piece part written cut long place last so_far =
+    let all : length (out ++ part) ≡ n + length piece = omega (arith, length-append out part) in
+    let here : IsPassed variant old (now n) pass so_far.done out = rw place so_far.passed in
+    rw written (record {
+      done = so_far.done ++ piece;
+      split = append_assoc so_far.done piece left ∙ ap (λ (xs : List ℕ). so_far.done ++ xs) (sym cut) ∙ so_far.split;
+      long = omega (arith, length-append so_far.done piece, so_far.long);
+      passed = rw all (passed-more variant old (now n) _ pass so_far.done piece out part so_far.long here last);
+    })
+
+pub done-all : {variant : Variant} {old : Held} {now : ℕ → Held} {pass : Pass} {source rest out : List ℕ}
+    → rest ≡ [] → IsDone variant old now pass source rest out → (length out ≡ length source) × IsPassed variant old (now (length source)) pass source out
+done-all {variant} {old} {now} {pass} {source} {rest} {out} none all =
+    let whole : all.done ≡ source = sym (append-nil all.done) ∙ ap (λ (xs : List ℕ). all.done ++ xs) (sym none) ∙ all.split in
+    let long : length out ≡ length source = all.long ∙ ap length whole in (
+      long,
+      subst (λ (xs : List ℕ). IsPassed variant old (now (length source)) pass xs out) whole
+          (subst (λ (n : ℕ). IsPassed variant old (now n) pass all.done out) long all.passed),
+    )

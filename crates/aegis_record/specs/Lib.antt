@@ -1,4 +1,0 @@
-pub mod Calls
-pub mod Fault
-pub mod Records
-pub mod Stream

@@ -1,0 +1,133 @@
+//! Each way to seal and to open a message, and to xor it with a keystream.
+
+ghost use Rattle.std.specs.Prelude.{◌≡◌, ◌≤◌, length};
+
+use aegis::{Decryptor, Encryptor};
+use aegis_base::{LaneState, Names};
+use aegis_variants::{AnyCipher, with_cipher};
+use std::alloc::Allocator;
+use test_tools::calls;
+
+// How many bytes a chunk has.
+const CHUNK_BYTES: usize = 16384;
+
+/// How a message is sealed, opened or xored.
+#[derive(Clone, Copy)]
+pub enum Way {
+    /// In its own place, at once.
+    InPlace,
+    /// Into a fresh vector.
+    Vector,
+    /// From one buffer into another, in chunks.
+    Chunks,
+    /// From one buffer into another, by one call with a list of chunks.
+    List,
+}
+
+/// All ways, and the names that they are printed by.
+pub const WAYS: [(Way, &str); 4] = [
+    (Way::InPlace, "in place"),
+    (Way::Vector, "into a vector"),
+    (Way::Chunks, "in chunks"),
+    (Way::List, "as a list"),
+];
+
+/// Seals a message and returns its tag, or none if memory runs out. In place, the message is what `out` has.
+pub fn seal<A: Allocator>(
+    cipher: &AnyCipher,
+    way: Way,
+    alloc: A,
+    message: &[u8],
+    out: &mut [u8],
+) -> Option<[u8; 16]>
+    requires lengths { length out.old ≡ length message.now }
+    requires within { length message.now ≤ 16777216 }
+{
+    match way {
+        Way::InPlace => Some(calls::encrypt_in_place(cipher, out, &[])),
+        Way::Vector => match calls::encrypt::<A, 16>(cipher, alloc, message, &[]) {
+            Ok(sealed) => {
+                let tag = sealed.1;
+                Some(tag)
+            }
+            Err(_) => None,
+        },
+        Way::Chunks => Some(seal_in_chunks(cipher, message, out)),
+        Way::List => Some(cipher.seal_chunks(&[], &[message], out)),
+    }
+}
+
+fn seal_in_chunks(cipher: &AnyCipher, message: &[u8], out: &mut [u8]) -> [u8; 16] {
+    with_cipher!(cipher, 16, cipher => {
+        let mut encryptor = cipher.encryptor(&[]);
+        update_each(&mut encryptor, message, out);
+        encryptor.finalize()
+    })
+}
+
+fn update_each<S: LaneState, V: Names, const TAG_BYTES: usize>(
+    encryptor: &mut Encryptor<S, V, TAG_BYTES>,
+    message: &[u8],
+    out: &mut [u8],
+) {
+    for (chunk, sealed) in message.chunks(CHUNK_BYTES).zip(out.chunks_mut(CHUNK_BYTES)) {
+        if chunk.len() == sealed.len() && encryptor.remaining() >= chunk.len() as u64 {
+            encryptor.update(chunk, sealed);
+        }
+    }
+}
+
+/// Opens a ciphertext, and returns whether the tag was right. In place, the ciphertext is what `out` has.
+pub fn open<A: Allocator>(
+    cipher: &AnyCipher,
+    way: Way,
+    alloc: A,
+    ciphertext: &[u8],
+    tag: &[u8; 16],
+    out: &mut [u8],
+) -> bool
+    requires lengths { length out.old ≡ length ciphertext.now }
+    requires within { length ciphertext.now ≤ 16777216 }
+{
+    match way {
+        Way::InPlace => calls::decrypt_in_place(cipher, out, tag, &[]).is_ok(),
+        Way::Vector => calls::decrypt(cipher, alloc, ciphertext, tag, &[]).is_ok(),
+        Way::Chunks => open_in_chunks(cipher, ciphertext, tag, out),
+        Way::List => cipher.open_chunks_len(&[], &[ciphertext], tag, out).is_ok(),
+    }
+}
+
+fn open_in_chunks(cipher: &AnyCipher, ciphertext: &[u8], tag: &[u8; 16], out: &mut [u8]) -> bool {
+    with_cipher!(cipher, 16, cipher => {
+        let mut decryptor = cipher.decryptor(&[], out);
+        open_each(&mut decryptor, ciphertext);
+        decryptor.finalize_len(tag).is_ok()
+    })
+}
+
+fn open_each<S: LaneState, V: Names, const TAG_BYTES: usize>(
+    decryptor: &mut Decryptor<S, V, TAG_BYTES>,
+    ciphertext: &[u8],
+) {
+    for chunk in ciphertext.chunks(CHUNK_BYTES) {
+        let _ = decryptor.update(chunk);
+    }
+}
+
+/// Xors a message with the keystream, and returns whether memory sufficed. Only the first two ways are there; the others
+/// do it in place.
+pub fn xor<A: Allocator>(
+    cipher: &AnyCipher,
+    way: Way,
+    alloc: A,
+    message: &[u8],
+    out: &mut [u8],
+) -> bool {
+    match way {
+        Way::Vector => calls::stream_xor::<A, 16>(cipher, alloc, message).is_ok(),
+        _ => {
+            cipher.stream_xor_in_place(out);
+            true
+        }
+    }
+}

@@ -1,0 +1,206 @@
+//! Every way to seal and open a message beside the calls in place, for each variant and from 1 KiB to 16 MiB; and streams of
+//! records beside the calls in place, on 16 MiB.
+//!
+//! With a word as its argument it prints two tables, which `make bench` keeps as `bench/CALLS.md` and `bench/RECORDS.md`.
+//! Without one it makes each call once on a small message.
+#![tactic(auto)]
+
+ghost use Rattle.std.specs.Prelude.{◌≡◌, ◌≤◌, length};
+
+mod calls;
+mod records;
+
+use aegis_variants::{AnyCipher, Keys, VARIANTS};
+use calls::{WAYS, Way, open, seal, xor};
+use std::alloc::{AllocError, Allocator};
+use std::rt::Runtime;
+use std::time::{Duration, Instant};
+use std::{env, io};
+use test_tools::calls::encrypt_in_place;
+
+const STREAM_BYTES: usize = 1 << 24;
+
+const SMALL_BYTES: usize = 20_000;
+
+// The sizes of messages, and how many turns are made at each.
+const SIZES: [(usize, usize); 4] = [(1 << 10, 2000), (1 << 14, 400), (1 << 20, 20), (1 << 24, 3)];
+
+const SHORT_KEYS: Keys<16> = Keys {
+    key: [7; 16],
+    nonce: [7; 16],
+};
+
+const LONG_KEYS: Keys<32> = Keys {
+    key: [7; 32],
+    nonce: [7; 32],
+};
+
+/// How long sealing, opening and the xor with a keystream took.
+#[derive(Clone, Copy)]
+struct Times {
+    seal: Duration,
+    open: Duration,
+    xor: Duration,
+}
+
+impl Times {
+    // The shortest of each.
+    fn min(self, other: Times) -> Times {
+        Times {
+            seal: self.seal.min(other.seal),
+            open: self.open.min(other.open),
+            xor: self.xor.min(other.xor),
+        }
+    }
+}
+
+// One message sealed, opened and xored in one way. It has to come back.
+fn turn<R: Runtime, A: Allocator + Copy>(
+    rt: &R,
+    alloc: A,
+    cipher: &AnyCipher,
+    way: Way,
+    message: &mut [u8],
+    other: &mut [u8],
+) -> io::Result<Times>
+    requires lengths { length other.old ≡ length message.old }
+    requires within { length message.old ≤ 16777216 }
+{
+    other.copy_from_slice(message);
+    let start = Instant::now(rt)?;
+    let tag = seal(cipher, way, alloc, message, other);
+    let sealed = start.elapsed(rt)?;
+    let tag = tag.ok_or(io::Error::from(io::ErrorKind::OutOfMemory))?;
+    // Into a vector the ciphertext is gone by now.
+    if let Way::Vector = way {
+        let _ = encrypt_in_place::<16>(cipher, other, &[]);
+    }
+    message.copy_from_slice(other);
+    let start = Instant::now(rt)?;
+    let is_right = open(cipher, way, alloc, message, &tag, other);
+    let opened = start.elapsed(rt)?;
+    let start = Instant::now(rt)?;
+    let is_xored = xor(cipher, way, alloc, message, other);
+    let xored = start.elapsed(rt)?;
+    if is_right && is_xored {
+        Ok(Times {
+            seal: sealed,
+            open: opened,
+            xor: xored,
+        })
+    } else {
+        Err(io::Error::from(io::ErrorKind::InvalidData))
+    }
+}
+
+// The shortest times of some turns.
+fn best<R: Runtime, A: Allocator + Copy>(
+    rt: &R,
+    alloc: A,
+    cipher: &AnyCipher,
+    way: Way,
+    turns: usize,
+    message: &mut [u8],
+    other: &mut [u8],
+) -> io::Result<Times>
+    requires lengths { length other.old ≡ length message.old }
+    requires within { length message.old ≤ 16777216 }
+{
+    let mut best = Times {
+        seal: Duration::MAX,
+        open: Duration::MAX,
+        xor: Duration::MAX,
+    };
+    for _turn in 0..turns {
+        let times = turn(rt, alloc, cipher, way, message, other)?;
+        best = best.min(times);
+    }
+    Ok(best)
+}
+
+// Prints a line for each way at the front of the two buffers: nanoseconds for sealing, opening and the xor.
+fn print_ways<R: Runtime, A: Allocator + Copy>(
+    rt: &R,
+    alloc: A,
+    cipher: &AnyCipher,
+    turns: usize,
+    message: &mut [u8],
+    other: &mut [u8],
+) -> io::Result<()>
+    requires lengths { length other.old ≡ length message.old }
+    requires within { length message.old ≤ 16777216 }
+{
+    let name = cipher.variant().name();
+    let bytes = message.len();
+    for (way, words) in WAYS {
+        let times = best(rt, alloc, cipher, way, turns, message, other)?;
+        let seal = times.seal.as_nanos();
+        let open = times.open.as_nanos();
+        let xor = times.xor.as_nanos();
+        println!(rt; "| {name} | {bytes} | {words} | {seal} | {open} | {xor} |")?;
+    }
+    Ok(())
+}
+
+// The shortest times of some turns at a stream of 16 MiB, and at the same bytes in place.
+fn print_streams<R: Runtime, A: Allocator + Copy>(
+    rt: &R,
+    alloc: A,
+    message: &mut [u8],
+) -> io::Result<()> {
+    let mut in_records = records::turn(rt, alloc, message)?;
+    let mut in_place = records::turn_in_place(rt, message)?;
+    for _turn in 0..20 {
+        in_records = in_records.min(records::turn(rt, alloc, message)?);
+        in_place = in_place.min(records::turn_in_place(rt, message)?);
+    }
+    for (name, times) in [("in records", in_records), ("in place", in_place)] {
+        let seal = times.seal.as_micros();
+        let open = times.open.as_micros();
+        println!(rt; "| 16 MiB {name} | {seal} | {open} |")?;
+    }
+    Ok(())
+}
+
+// A buffer for the longest message.
+fn filled<A: Allocator>(alloc: A) -> Result<Vec<u8, A>, AllocError> {
+    vec![in alloc; 0x5au8; STREAM_BYTES]
+}
+
+// Measures everything.
+fn measure<R: Runtime, A: Allocator + Copy>(rt: &R, alloc: A) -> io::Result<()> {
+    let mut message = filled(alloc)?;
+    let mut other = filled(alloc)?;
+    for variant in VARIANTS {
+        let cipher = AnyCipher::with_keys(variant, SHORT_KEYS, LONG_KEYS);
+        for (size, turns) in SIZES {
+            let bytes = size.min(STREAM_BYTES).min(message.len()).min(other.len());
+            print_ways(
+                rt,
+                alloc,
+                &cipher,
+                turns,
+                &mut message[..bytes],
+                &mut other[..bytes],
+            )?;
+        }
+    }
+    print_streams(rt, alloc, &mut message)
+}
+
+fn main(rt: HostRuntime) -> io::Result<()> {
+    if env::args(&rt)?.count() > 1 {
+        return measure(&rt, rt.alloc());
+    }
+    let mut message = [0x5a; SMALL_BYTES];
+    let mut other = [0; SMALL_BYTES];
+    for variant in VARIANTS {
+        let cipher = AnyCipher::with_keys(variant, SHORT_KEYS, LONG_KEYS);
+        for (way, words) in WAYS {
+            best(&rt, rt.alloc(), &cipher, way, 1, &mut message, &mut other)?;
+            println!(rt; "{}: sealed, opened and xored {words}", variant.name())?;
+        }
+    }
+    records::turn(&rt, rt.alloc(), &message)?;
+    println!(rt; "records: sealed and opened")
+}

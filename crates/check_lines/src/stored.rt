@@ -1,0 +1,49 @@
+//! The lines of `vectors/`, whose answers lie beside them.
+
+use std::{fs, io};
+
+// The name of a file of lines, without its ending, and the exit status that the program has for them.
+const FILES: [(&str, u8); 15] = [
+    ("published", 0),
+    // The AEGIS tests of Wycheproof (testvectors_v1, Apache-2.0), with its own answers.
+    ("wycheproof", 0),
+    ("round", 0),
+    ("seal", 0),
+    ("seal-in-pieces", 0),
+    ("open", 0),
+    ("open-in-pieces", 0),
+    ("stream", 0),
+    ("xor", 0),
+    ("mac", 0),
+    ("records", 0),
+    ("records-version-1", 0),
+    ("record-tables", 1),
+    ("examples", 1),
+    ("faults", 1),
+];
+
+/// Runs the lines of each file through the line program's `run`, and prints whether the answers agree with those that lie
+/// beside them: whether all do.
+pub fn all_agree(rt: &HostRuntime) -> io::Result<bool> {
+    let mut all_agree = true;
+    for (name, status) in FILES {
+        if agrees(rt, name, status)? {
+            println!(rt; "{name}: the answers agree")?;
+        } else {
+            println!(rt; "{name}: an answer differs")?;
+            all_agree = false;
+        }
+    }
+    Ok(all_agree)
+}
+
+// Whether the lines of a file have the answers that lie beside it, and this status.
+fn agrees(rt: &HostRuntime, name: &str, status: u8) -> io::Result<bool> {
+    let lines = format!(in rt.alloc(); "{name}.in")?;
+    let answers = format!(in rt.alloc(); "{name}.out")?;
+    let lines = fs::read(rt, lines.as_str())?;
+    let expected = fs::read(rt, answers.as_str())?;
+    let mut output = Vec::new(rt.alloc());
+    let answered = aegis_lines::run(rt.alloc(), &mut lines.as_slice(), &mut output);
+    Ok(answered == status && output.as_slice() == expected.as_slice())
+}

@@ -1,7 +1,0 @@
-//! Tests of `aegis::record`.
-
-mod faults;
-mod memory;
-mod sizes;
-mod streams;
-mod texts;

@@ -1,0 +1,159 @@
+//! The chunked calls of a cipher, whichever its variant. The loops over chunks are written once for every type of cipher.
+
+ghost use Rattle.std.specs.Prelude.{◌≡◌, ◌⊎◌, ◌≤◌, length};
+ghost use Rattle.aegis_base.specs.Lane.{IsTagLength};
+
+use aegis::{Decryptor, Encryptor, Error, MAX_AEAD_BYTES, chunks_len};
+use aegis_base::{LaneState, Names};
+use aegis_variants::{AnyCipher, with_cipher};
+use std::alloc::{AllocError, Global};
+use std::process::Abort;
+
+/// The pieces of these lengths, and what is left behind them. The bytes may end before.
+pub fn pieces<'a>(
+    alloc: Global,
+    bytes: &'a [u8],
+    lengths: &[usize],
+) -> Result<Vec<&'a [u8]>, AllocError> {
+    let mut pieces = Vec::new(alloc);
+    let mut rest = bytes;
+    for length in lengths {
+        let (piece, after) = rest.split_at(rest.len().min(*length));
+        pieces.push(piece)?;
+        rest = after;
+    }
+    pieces.push(rest)?;
+    Ok(pieces)
+}
+
+// Hands an encryptor chunks by `update`.
+fn update_all<S: LaneState, V: Names, const TAG_BYTES: usize>(
+    encryptor: &mut Encryptor<S, V, TAG_BYTES>,
+    chunks: &[&[u8]],
+    ciphertext: &mut [u8],
+) {
+    let mut rest = ciphertext;
+    for chunk in chunks {
+        let length = chunk.len().min(rest.len());
+        let (sealed, after) = rest.split_at_mut(length);
+        if sealed.len() == chunk.len() && encryptor.remaining() > chunk.len() as u64 {
+            encryptor.update(chunk, sealed);
+        }
+        rest = after;
+    }
+}
+
+/// Seals chunks by `update`. Returns the tag, and the room that is said to be left. The ciphertext is as long as the chunks
+/// are together.
+pub fn seal_by_update<const TAG_BYTES: usize>(
+    cipher: &AnyCipher,
+    associated_data: &[u8],
+    chunks: &[&[u8]],
+    ciphertext: &mut [u8],
+) -> ([u8; TAG_BYTES], u64)
+    requires tag { IsTagLength TAG_BYTES }
+    requires associated_data { length associated_data.now ≤ MAX_AEAD_BYTES }
+{
+    with_cipher!(cipher, TAG_BYTES, cipher => {
+        let mut encryptor = cipher.encryptor(associated_data);
+        update_all(&mut encryptor, chunks, ciphertext);
+        let remaining = encryptor.remaining();
+        (encryptor.finalize(), remaining)
+    })
+}
+
+// Hands an encryptor chunks by `update_in_place`.
+fn update_all_in_place<S: LaneState, V: Names, const TAG_BYTES: usize>(
+    encryptor: &mut Encryptor<S, V, TAG_BYTES>,
+    chunks: &[&[u8]],
+    buffer: &mut [u8],
+) {
+    let mut rest = buffer;
+    for chunk in chunks {
+        let length = chunk.len().min(rest.len());
+        let (sealed, after) = rest.split_at_mut(length);
+        if encryptor.remaining() > sealed.len() as u64 {
+            encryptor.update_in_place(sealed);
+        }
+        rest = after;
+    }
+}
+
+/// Seals chunks by `update_in_place`, in a buffer that holds the message. Otherwise as `seal_by_update`.
+pub fn seal_in_place<const TAG_BYTES: usize>(
+    cipher: &AnyCipher,
+    associated_data: &[u8],
+    chunks: &[&[u8]],
+    buffer: &mut [u8],
+) -> ([u8; TAG_BYTES], u64)
+    requires tag { IsTagLength TAG_BYTES }
+    requires associated_data { length associated_data.now ≤ MAX_AEAD_BYTES }
+{
+    with_cipher!(cipher, TAG_BYTES, cipher => {
+        let mut encryptor = cipher.encryptor(associated_data);
+        update_all_in_place(&mut encryptor, chunks, buffer);
+        let remaining = encryptor.remaining();
+        (encryptor.finalize(), remaining)
+    })
+}
+
+/// Seals chunks by `seal_chunks`.
+pub fn seal_at_once<R: Abort, const TAG_BYTES: usize>(
+    rt: &R,
+    cipher: &AnyCipher,
+    associated_data: &[u8],
+    chunks: &[&[u8]],
+    ciphertext: &mut [u8],
+) -> Option<[u8; TAG_BYTES]>
+    requires tag { IsTagLength TAG_BYTES }
+    requires associated_data { length associated_data.now ≤ MAX_AEAD_BYTES }
+{
+    let length = chunks_len(chunks)?;
+    assert_eq!(rt; length, ciphertext.len() as u64);
+    Some(cipher.seal_chunks(associated_data, chunks, ciphertext))
+}
+
+// Hands a decryptor chunks, up to one that it refuses.
+fn open_each<S: LaneState, V: Names, const TAG_BYTES: usize>(
+    decryptor: &mut Decryptor<S, V, TAG_BYTES>,
+    chunks: &[&[u8]],
+) -> Result<(), Error> {
+    for chunk in chunks {
+        decryptor.update(chunk)?;
+    }
+    Ok(())
+}
+
+/// Opens chunks by a decryptor.
+pub fn open_by_decryptor<'a, const TAG_BYTES: usize>(
+    cipher: &AnyCipher,
+    associated_data: &[u8],
+    chunks: &[&[u8]],
+    tag: &[u8; TAG_BYTES],
+    destination: &'a mut [u8],
+) -> Result<&'a mut [u8], Error>
+    requires tag { IsTagLength TAG_BYTES }
+    requires associated_data { length associated_data.now ≤ MAX_AEAD_BYTES }
+{
+    with_cipher!(cipher, TAG_BYTES, cipher => {
+        let mut decryptor = cipher.decryptor(associated_data, destination);
+        open_each(&mut decryptor, chunks)?;
+        decryptor.finalize(tag)
+    })
+}
+
+/// Opens chunks by `open_chunks`.
+pub fn open_at_once<'a, const TAG_BYTES: usize>(
+    cipher: &AnyCipher,
+    associated_data: &[u8],
+    chunks: &[&[u8]],
+    tag: &[u8; TAG_BYTES],
+    destination: &'a mut [u8],
+) -> Result<&'a mut [u8], Error>
+    requires tag { IsTagLength TAG_BYTES }
+    requires associated_data { length associated_data.now ≤ MAX_AEAD_BYTES }
+{
+    with_cipher!(cipher, TAG_BYTES, cipher => {
+        cipher.open_chunks(associated_data, chunks, tag, destination)
+    })
+}

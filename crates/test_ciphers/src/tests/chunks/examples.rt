@@ -1,0 +1,126 @@
+//! Worked examples.
+
+ghost use Rattle.std.specs.Prelude.{◌≡◌, ◌⊎◌};
+ghost use Rattle.aegis_base.specs.Lane.{IsTagLength};
+
+use crate::tests::assert_bytes;
+use crate::tests::chunks::chunked::{
+    open_by_decryptor, pieces, seal_at_once, seal_by_update, seal_in_place,
+};
+use aegis_variants::{AnyCipher, AnyVariant, Keys, VARIANTS};
+use hex::FromHex;
+use std::process::Abort;
+use std::test::Fail;
+use test_tools::calls::{SHORT_KEY, encrypt_in_place, keyed};
+use test_tools::worked::{AEGIS128L_CIPHERTEXT, AEGIS128L_TAG, ASSOCIATED_DATA, MESSAGE};
+
+// The worked message is cut into pieces of these lengths, and 17 bytes.
+const LENGTHS: [usize; 5] = [31, 1, 32, 0, 33];
+
+// Its ciphertext and tag were not made by the library.
+#[test]
+fn aegis128l_in_six_pieces(rt: HostRuntime) -> Result<(), Fail> {
+    let cipher = AnyCipher::Aegis128L(Keys {
+        key: SHORT_KEY,
+        nonce: [0; 16],
+    });
+    let ciphertext = <[u8; 114] as FromHex>::from_hex(AEGIS128L_CIPHERTEXT)?;
+    let expected = <[u8; 16] as FromHex>::from_hex(AEGIS128L_TAG)?;
+    let chunks = pieces(rt.alloc(), &MESSAGE, &LENGTHS)?;
+    let mut sealed = [0; 114];
+    let (tag, _) = seal_by_update::<16>(&cipher, &ASSOCIATED_DATA, &chunks, &mut sealed);
+    assert_bytes(&rt, &sealed, &ciphertext, &"by update");
+    assert_bytes(&rt, &tag, &expected, &"by update");
+    let mut sealed = MESSAGE;
+    let (tag, _) = seal_in_place::<16>(&cipher, &ASSOCIATED_DATA, &chunks, &mut sealed);
+    assert_bytes(&rt, &sealed, &ciphertext, &"in place");
+    assert_bytes(&rt, &tag, &expected, &"in place");
+    let mut sealed = [0; 114];
+    let tag = seal_at_once::<_, 16>(&rt, &cipher, &ASSOCIATED_DATA, &chunks, &mut sealed).ok_or(
+        "too long",
+    )?;
+    assert_bytes(&rt, &sealed, &ciphertext, &"at once");
+    assert_bytes(&rt, &tag, &expected, &"at once");
+    Ok(())
+}
+
+#[test]
+fn room_after_six_pieces(rt: HostRuntime) -> Result<(), Fail> {
+    let chunks = pieces(rt.alloc(), &MESSAGE, &LENGTHS)?;
+    for variant in VARIANTS {
+        let cipher = keyed(variant);
+        let mut sealed = MESSAGE;
+        let (_, room) = seal_in_place::<16>(&cipher, &ASSOCIATED_DATA, &chunks, &mut sealed);
+        assert_eq!(rt; room, 2305843009213693837, "{variant:?}");
+        let (_, room) = seal_by_update::<32>(&cipher, &ASSOCIATED_DATA, &chunks, &mut sealed);
+        assert_eq!(rt; room, 2305843009213693837, "{variant:?}");
+    }
+    Ok(())
+}
+
+// The cipher of a variant, with key and nonce of zeros.
+fn zeros(variant: AnyVariant) -> AnyCipher {
+    let short = Keys {
+        key: [0; 16],
+        nonce: [0; 16],
+    };
+    let long = Keys {
+        key: [0; 32],
+        nonce: [0; 32],
+    };
+    AnyCipher::with_keys(variant, short, long)
+}
+
+// Seals a message in pieces and opens it in others.
+fn check_other_pieces<R: Abort, const TAG_BYTES: usize>(
+    rt: &R,
+    cipher: &AnyCipher,
+) -> Result<(), Fail>
+    requires { IsTagLength TAG_BYTES }
+{
+    let data = b"additional data";
+    let chunks = [b"AEGIS".as_slice(), b" is fast".as_slice()];
+    let mut sealed = [0; 13];
+    let (tag, _) = seal_by_update::<TAG_BYTES>(cipher, data, &chunks, &mut sealed);
+    let mut opened = [0; 13];
+    let chunks = [&sealed[..7], &sealed[7..]];
+    let opened = open_by_decryptor(cipher, data, &chunks, &tag, &mut opened)?;
+    assert_bytes(rt, opened, b"AEGIS is fast", &cipher);
+    Ok(())
+}
+
+#[test]
+fn sealed_in_pieces_and_opened_in_others(rt: HostRuntime) -> Result<(), Fail> {
+    for variant in VARIANTS {
+        check_other_pieces::<_, 16>(&rt, &zeros(variant))?;
+        check_other_pieces::<_, 32>(&rt, &zeros(variant))?;
+    }
+    Ok(())
+}
+
+// Of no chunk, and of an empty one. Opened, it is empty too.
+fn check_empty<R: Abort, const TAG_BYTES: usize>(rt: &R, cipher: &AnyCipher) -> Result<(), Fail>
+    requires { IsTagLength TAG_BYTES }
+{
+    let data = &ASSOCIATED_DATA;
+    let tag = encrypt_in_place::<TAG_BYTES>(cipher, &mut [], data);
+    let lists: [&[&[u8]]; 2] = [&[], &[&[]]];
+    for chunks in lists {
+        let (sealed, _) = seal_by_update::<TAG_BYTES>(cipher, data, chunks, &mut []);
+        assert_bytes(rt, &sealed, &tag, &cipher);
+        let (sealed, _) = seal_in_place::<TAG_BYTES>(cipher, data, chunks, &mut []);
+        assert_bytes(rt, &sealed, &tag, &cipher);
+        let opened = open_by_decryptor(cipher, data, chunks, &tag, &mut [])?;
+        assert!(rt; opened.is_empty());
+    }
+    Ok(())
+}
+
+#[test]
+fn empty_messages(rt: HostRuntime) -> Result<(), Fail> {
+    for variant in VARIANTS {
+        check_empty::<_, 16>(&rt, &keyed(variant))?;
+        check_empty::<_, 32>(&rt, &keyed(variant))?;
+    }
+    Ok(())
+}

@@ -1,0 +1,197 @@
+//! MACs.
+
+ghost use Rattle.std.specs.Prelude.{◌≡◌, ◌⊎◌};
+ghost use Rattle.aegis_base.specs.Lane.{IsTagLength};
+
+use crate::tests::assert_bytes;
+use crate::tests::chunks::chunked::pieces;
+use aegis::aegis128l::Aegis128LMac;
+use aegis::{Error, MAX_AEAD_BYTES, Mac, chunks_len};
+use aegis_base::{LaneState, Names};
+use aegis_variants::{AnyCipher, VARIANTS, with_mac};
+use hex::FromHex;
+use std::process::Abort;
+use std::test::Fail;
+use test_tools::calls::{SHORT_KEY, keyed};
+use test_tools::worked::MESSAGE;
+
+// It was not made by the library. A clone made before the update is as good.
+#[test]
+fn aegis128l_of_one_byte(rt: HostRuntime) -> Result<(), Fail> {
+    let expected = <[u8; 16] as FromHex>::from_hex("7b1e31c93ef8a9b70d3a7aae2980d6a0")?;
+    let mut mac = Aegis128LMac::<16>::new(&SHORT_KEY);
+    let mut clone = mac.clone()?;
+    mac.update(b"a");
+    clone.update(b"a");
+    assert_bytes(&rt, &mac.finalize(), &expected, &"the MAC");
+    clone.verify(&expected)?;
+    Ok(())
+}
+
+fn finalize_all<S: LaneState, V: Names, const KEY_BYTES: usize, const TAG_BYTES: usize>(
+    mac: Mac<S, V, KEY_BYTES, TAG_BYTES>,
+    pieces: &[&[u8]],
+) -> ([u8; TAG_BYTES], u64) {
+    let mut mac = mac;
+    for piece in pieces {
+        if mac.remaining() > piece.len() as u64 {
+            mac.update(piece);
+        }
+    }
+    let remaining = mac.remaining();
+    (mac.finalize(), remaining)
+}
+
+// The MAC of pieces, one after the other, and the room that is said to be left behind them.
+fn update_all<const TAG_BYTES: usize>(
+    cipher: &AnyCipher,
+    pieces: &[&[u8]],
+) -> ([u8; TAG_BYTES], u64)
+    requires { IsTagLength TAG_BYTES }
+{
+    with_mac!(cipher, TAG_BYTES, mac => finalize_all(mac, pieces))
+}
+
+// A MAC and the room behind its input.
+fn assert_mac<R: Abort, const TAG_BYTES: usize>(
+    rt: &R,
+    found: ([u8; TAG_BYTES], u64),
+    expected: &[u8; TAG_BYTES],
+    room: u64,
+) {
+    assert_bytes(rt, &found.0, expected, &"the MAC");
+    assert_eq!(rt; found.1, room);
+}
+
+// The MAC of no input is that of empty pieces. Otherwise pieces are as good as the whole, in either call.
+fn check_pieces<R: Abort + AllocGlobal, const TAG_BYTES: usize>(
+    rt: &R,
+    cipher: &AnyCipher,
+) -> Result<(), Fail>
+    requires { IsTagLength TAG_BYTES }
+{
+    let (nothing, room) = update_all::<TAG_BYTES>(cipher, &[]);
+    assert_eq!(rt; room, MAX_AEAD_BYTES);
+    assert_mac(
+        rt,
+        update_all(cipher, &[&[], &[]]),
+        &nothing,
+        MAX_AEAD_BYTES,
+    );
+    let (whole, room) = update_all::<TAG_BYTES>(cipher, &[&MESSAGE]);
+    assert_eq!(rt; room, MAX_AEAD_BYTES - 114);
+    let chunks = pieces(rt.alloc(), &MESSAGE, &[31, 1, 32, 0, 33])?;
+    assert_mac(
+        rt,
+        update_all(cipher, &chunks),
+        &whole,
+        MAX_AEAD_BYTES - 114,
+    );
+    chunks_len(&chunks).ok_or("too long")?;
+    assert_bytes(
+        rt,
+        &cipher.mac_chunks::<TAG_BYTES>(&chunks),
+        &whole,
+        &cipher,
+    );
+    Ok(())
+}
+
+#[test]
+fn pieces_and_the_whole(rt: HostRuntime) -> Result<(), Fail> {
+    for variant in VARIANTS {
+        check_pieces::<_, 16>(&rt, &keyed(variant))?;
+        check_pieces::<_, 32>(&rt, &keyed(variant))?;
+    }
+    Ok(())
+}
+
+// A MAC of the message and its clone, which take in other bytes from then on.
+fn finalize_both<S: LaneState, V: Names, const KEY_BYTES: usize, const TAG_BYTES: usize>(
+    mac: Mac<S, V, KEY_BYTES, TAG_BYTES>,
+) -> Result<([u8; TAG_BYTES], [u8; TAG_BYTES]), Fail>
+    requires { mac.message_bytes ≡ 0 }
+{
+    let mut mac = mac;
+    mac.update(&MESSAGE);
+    let mut clone = mac.clone()?;
+    mac.update(b"one way");
+    clone.update(b"another");
+    Ok((mac.finalize(), clone.finalize()))
+}
+
+fn part_ways<const TAG_BYTES: usize>(
+    cipher: &AnyCipher,
+) -> Result<([u8; TAG_BYTES], [u8; TAG_BYTES]), Fail>
+    requires { IsTagLength TAG_BYTES }
+{
+    with_mac!(cipher, TAG_BYTES, mac => finalize_both(mac))
+}
+
+fn check_clones<R: Abort, const TAG_BYTES: usize>(rt: &R, cipher: &AnyCipher) -> Result<(), Fail>
+    requires { IsTagLength TAG_BYTES }
+{
+    let (first, second) = part_ways::<TAG_BYTES>(cipher)?;
+    let (expected, _) = update_all::<TAG_BYTES>(cipher, &[&MESSAGE, b"one way"]);
+    assert_bytes(rt, &first, &expected, &cipher);
+    let (expected, _) = update_all::<TAG_BYTES>(cipher, &[&MESSAGE, b"another"]);
+    assert_bytes(rt, &second, &expected, &cipher);
+    assert_ne!(rt; first, second);
+    Ok(())
+}
+
+#[test]
+fn clones_go_their_own_way(rt: HostRuntime) -> Result<(), Fail> {
+    for variant in VARIANTS {
+        check_clones::<_, 16>(&rt, &keyed(variant))?;
+        check_clones::<_, 32>(&rt, &keyed(variant))?;
+    }
+    Ok(())
+}
+
+fn verify_message<S: LaneState, V: Names, const KEY_BYTES: usize, const TAG_BYTES: usize>(
+    mac: Mac<S, V, KEY_BYTES, TAG_BYTES>,
+    expected: &[u8; TAG_BYTES],
+) -> Result<(), Error>
+    requires { mac.message_bytes ≡ 0 }
+{
+    let mut mac = mac;
+    mac.update(&MESSAGE);
+    mac.verify(expected)
+}
+
+fn verify<const TAG_BYTES: usize>(
+    cipher: &AnyCipher,
+    expected: &[u8; TAG_BYTES],
+) -> Result<(), Error>
+    requires { IsTagLength TAG_BYTES }
+{
+    with_mac!(cipher, TAG_BYTES, mac => verify_message(mac, expected))
+}
+
+// A MAC with one byte changed is refused, whichever the byte.
+fn check_verify<R: Abort, const TAG_BYTES: usize>(rt: &R, cipher: &AnyCipher) -> Result<(), Fail>
+    requires { IsTagLength TAG_BYTES }
+{
+    let (right, _) = update_all::<TAG_BYTES>(cipher, &[&MESSAGE]);
+    verify(cipher, &right)?;
+    for index in 0..TAG_BYTES {
+        let mut wrong = right;
+        wrong[index] ^= 1;
+        assert_eq!(rt;
+            verify(cipher, &wrong),
+            Err(Error::InvalidTag),
+            "byte {index}"
+        );
+    }
+    Ok(())
+}
+
+#[test]
+fn wrong_macs_are_refused(rt: HostRuntime) -> Result<(), Fail> {
+    for variant in VARIANTS {
+        check_verify::<_, 16>(&rt, &keyed(variant))?;
+        check_verify::<_, 32>(&rt, &keyed(variant))?;
+    }
+    Ok(())
+}

@@ -1,0 +1,158 @@
+//! Decryptors that are handed chunks which do not fit, and decryptors that are dropped.
+
+ghost use Rattle.std.specs.Prelude.{◌≡◌, ◌⊎◌, ◌≤◌, length};
+ghost use Rattle.aegis_base.specs.Lane.{IsTagLength};
+
+use crate::tests::assert_bytes;
+use crate::tests::hostile::is_all;
+use aegis::{Decryptor, Error};
+use aegis_base::{LaneState, Names};
+use aegis_variants::{AnyCipher, VARIANTS, with_cipher};
+use std::process::Abort;
+use std::test::Fail;
+use test_tools::calls::{counting, encrypt_in_place, keyed};
+use test_tools::worked::ASSOCIATED_DATA;
+
+// One byte more than three rate blocks of 128 bytes.
+const LONGEST: usize = 385;
+
+const TOO_SMALL: Result<(), Error> = Err(Error::OutputBufferTooSmall);
+
+// A chunk, and what a decryptor says to it.
+type Step<'a> = (&'a [u8], Result<(), Error>);
+
+fn assert_answer<R: Abort>(rt: &R, answer: Result<(), Error>, expected: Result<(), Error>) {
+    assert_eq!(rt; answer, expected);
+}
+
+fn take_steps<R: Abort, S: LaneState, V: Names, const TAG_BYTES: usize>(
+    rt: &R,
+    decryptor: &mut Decryptor<S, V, TAG_BYTES>,
+    steps: &[Step],
+) {
+    for (chunk, expected) in steps {
+        assert_answer(rt, decryptor.update(chunk), *expected);
+    }
+}
+
+// Takes these steps, and then finalizes the decryptor, or drops it where there is no tag.
+fn end_by_steps<'a, R: Abort, const TAG_BYTES: usize>(
+    rt: &R,
+    cipher: &AnyCipher,
+    steps: &[Step],
+    tag: Option<&[u8; TAG_BYTES]>,
+    destination: &'a mut [u8],
+) -> Option<Result<&'a mut [u8], Error>>
+    requires { IsTagLength TAG_BYTES }
+{
+    with_cipher!(cipher, TAG_BYTES, cipher => {
+        let mut decryptor = cipher.decryptor(&ASSOCIATED_DATA, destination);
+        take_steps(rt, &mut decryptor, steps);
+        Some(decryptor.finalize(tag?))
+    })
+}
+
+// These steps open the message, in a destination of its length.
+fn check_steps<R: Abort, const TAG_BYTES: usize>(
+    rt: &R,
+    cipher: &AnyCipher,
+    steps: &[Step],
+    tag: &[u8; TAG_BYTES],
+    message: &[u8],
+) -> Result<(), Fail>
+    requires tag { IsTagLength TAG_BYTES }
+    requires message { length message.now ≤ 385 }
+{
+    let mut buffer = [0xaa; LONGEST];
+    let destination = &mut buffer[..message.len()];
+    let ended = end_by_steps(rt, cipher, steps, Some(tag), destination);
+    let opened = ended.ok_or("dropped")??;
+    assert_bytes(rt, opened, message, &cipher);
+    Ok(())
+}
+
+// Chunks longer than the room are refused, at first and in between, and change nothing.
+fn check_refused_chunks<R: Abort, const TAG_BYTES: usize>(
+    rt: &R,
+    cipher: &AnyCipher,
+    message: &[u8],
+) -> Result<(), Fail>
+    requires tag { IsTagLength TAG_BYTES }
+    requires message { length message.now ≤ 385 }
+{
+    let mut buffer = [0; LONGEST];
+    let sealed = &mut buffer[..message.len()];
+    sealed.copy_from_slice(message);
+    let tag = encrypt_in_place::<TAG_BYTES>(cipher, sealed, &ASSOCIATED_DATA);
+    let sealed = &buffer[..message.len()];
+    let longer = [0; 386];
+    let longer = &longer[..message.len() + 1];
+    let steps = [(longer, TOO_SMALL), (sealed, Ok(()))];
+    check_steps(rt, cipher, &steps, &tag, message)?;
+
+    let (first, others) = sealed.split_at(message.len().min(1));
+    let steps = [
+        (longer, TOO_SMALL),
+        (first, Ok(())),
+        (sealed, TOO_SMALL),
+        (&[], Ok(())),
+        (others, Ok(())),
+        (&[0], TOO_SMALL),
+    ];
+    check_steps(rt, cipher, &steps, &tag, message)
+}
+
+#[test]
+fn refused_chunks(rt: HostRuntime) -> Result<(), Fail> {
+    let message: [u8; LONGEST] = counting(1);
+    for variant in VARIANTS {
+        let length = 3 * variant.rate() + 1;
+        assert!(rt; length <= LONGEST);
+        check_refused_chunks::<_, 16>(&rt, &keyed(variant), &message[..length])?;
+        check_refused_chunks::<_, 32>(&rt, &keyed(variant), &message[..length])?;
+    }
+    Ok(())
+}
+
+// After these steps and a drop there are so many zeros at the front of the destination, and the rest is as it was.
+fn check_drop<R: Abort, const TAG_BYTES: usize>(
+    rt: &R,
+    cipher: &AnyCipher,
+    room: usize,
+    steps: &[Step],
+    zeros: usize,
+)
+    requires tag { IsTagLength TAG_BYTES }
+    requires room { room ≤ 136 }
+    requires zeros { zeros ≤ room }
+{
+    let mut buffer = [0xaa; 136];
+    let ended = end_by_steps::<_, TAG_BYTES>(rt, cipher, steps, None, &mut buffer[..room]);
+    assert!(rt; ended.is_none());
+    assert!(rt; is_all(&buffer[..zeros], 0));
+    assert!(rt; is_all(&buffer[zeros..], 0xaa));
+}
+
+fn check_drops<R: Abort, const TAG_BYTES: usize>(rt: &R, cipher: &AnyCipher, rate: usize)
+    requires tag { IsTagLength TAG_BYTES }
+    requires rate { rate ≤ 128 }
+{
+    let bytes = [0x11; 137];
+    let room = rate + 8;
+    let longer = &bytes[..room + 1];
+    let accepted = &bytes[..rate + 2];
+    check_drop::<_, TAG_BYTES>(rt, cipher, room, &[], 0);
+    check_drop::<_, TAG_BYTES>(rt, cipher, room, &[(longer, TOO_SMALL)], 0);
+    let steps = [(&bytes[..1], Ok(())), (longer, TOO_SMALL)];
+    check_drop::<_, TAG_BYTES>(rt, cipher, room, &steps, 1);
+    check_drop::<_, TAG_BYTES>(rt, cipher, room, &[(accepted, Ok(()))], rate + 2);
+}
+
+// Before any chunk, after a refused one alone, after a byte and a refused chunk, and after more than a rate block.
+#[test]
+fn dropped_decryptors(rt: HostRuntime) {
+    for variant in VARIANTS {
+        check_drops::<_, 16>(&rt, &keyed(variant), variant.rate());
+        check_drops::<_, 32>(&rt, &keyed(variant), variant.rate());
+    }
+}

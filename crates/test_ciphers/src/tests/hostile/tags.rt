@@ -1,0 +1,104 @@
+//! Tags with one byte changed, whichever the byte: each way of opening refuses them, and leaves what it says.
+
+ghost use Rattle.std.specs.Prelude.{◌≡◌, ◌⊎◌, ◌≤◌, length};
+ghost use Rattle.aegis_base.specs.Lane.{IsTagLength};
+
+use crate::tests::assert_error;
+use crate::tests::chunks::chunked::{open_at_once, open_by_decryptor};
+use crate::tests::hostile::is_all;
+use aegis::{Error, MAX_AEAD_BYTES};
+use aegis_variants::{AnyCipher, VARIANTS};
+use std::process::Abort;
+use std::test::Fail;
+use test_tools::calls::{counting, decrypt, decrypt_in_place, encrypt_in_place, keyed};
+use test_tools::worked::ASSOCIATED_DATA;
+
+// One byte more than two rate blocks of 128 bytes.
+const LONGEST: usize = 257;
+
+// How much longer the destinations are than the messages.
+const BEHIND: usize = 6;
+
+// What the destinations hold before.
+const FILLER: u8 = 0x5c;
+
+// Opens at once in place, which leaves 0xaa, and into a vector.
+fn check_at_once<R: Abort + AllocGlobal, const TAG_BYTES: usize>(
+    rt: &R,
+    cipher: &AnyCipher,
+    sealed: &[u8],
+    tag: &[u8; TAG_BYTES],
+) -> Result<(), Fail>
+    requires tag { IsTagLength TAG_BYTES }
+    requires sealed { length sealed.now ≤ MAX_AEAD_BYTES }
+{
+    let mut buffer = Vec::from_slice(rt.alloc(), sealed)?;
+    let refused = decrypt_in_place(cipher, &mut buffer, tag, &ASSOCIATED_DATA);
+    assert_error(rt, refused.err(), Error::InvalidTag);
+    assert_eq!(rt; buffer.len(), sealed.len());
+    assert!(rt; is_all(&buffer, 0xaa));
+    let refused = decrypt(cipher, rt.alloc(), sealed, tag, &ASSOCIATED_DATA);
+    assert_error(rt, refused.err(), Error::InvalidTag);
+    Ok(())
+}
+
+// Opens in chunks, which leaves zeros over the message, and the bytes behind it as they were.
+fn check_in_chunks<R: Abort, const TAG_BYTES: usize>(
+    rt: &R,
+    cipher: &AnyCipher,
+    sealed: &[u8],
+    tag: &[u8; TAG_BYTES],
+)
+    requires tag { IsTagLength TAG_BYTES }
+    requires sealed { length sealed.now ≤ 257 }
+{
+    let mut whole = [FILLER; 263];
+    let destination = &mut whole[..sealed.len() + BEHIND];
+    let opened = open_by_decryptor(cipher, &ASSOCIATED_DATA, &[sealed], tag, destination);
+    assert_error(rt, opened.err(), Error::InvalidTag);
+    assert!(rt; is_all(&whole[..sealed.len()], 0));
+    assert!(rt; is_all(&whole[sealed.len()..], FILLER));
+
+    let mut whole = [FILLER; 263];
+    let destination = &mut whole[..sealed.len() + BEHIND];
+    let opened = open_at_once(cipher, &ASSOCIATED_DATA, &[sealed], tag, destination);
+    assert_error(rt, opened.err(), Error::InvalidTag);
+    assert!(rt; is_all(&whole[..sealed.len()], 0));
+    assert!(rt; is_all(&whole[sealed.len()..], FILLER));
+}
+
+fn check_tags<R: Abort + AllocGlobal, const TAG_BYTES: usize>(
+    rt: &R,
+    cipher: &AnyCipher,
+    message: &[u8],
+) -> Result<(), Fail>
+    requires tag { IsTagLength TAG_BYTES }
+    requires message { length message.now ≤ 257 }
+{
+    let mut buffer = [0; LONGEST];
+    let sealed = &mut buffer[..message.len()];
+    sealed.copy_from_slice(message);
+    let right = encrypt_in_place::<TAG_BYTES>(cipher, sealed, &ASSOCIATED_DATA);
+    for index in 0..TAG_BYTES {
+        let mut wrong = right;
+        wrong[index] ^= 1;
+        check_at_once(rt, cipher, sealed, &wrong)?;
+        check_in_chunks(rt, cipher, sealed, &wrong);
+    }
+    Ok(())
+}
+
+// Also of an empty message, whose destination stays as it was.
+#[test]
+fn wrong_tags_are_refused(rt: HostRuntime) -> Result<(), Fail> {
+    let message: [u8; LONGEST] = counting(1);
+    for variant in VARIANTS {
+        let rate = variant.rate();
+        for length in [0, 1, rate, 2 * rate + 1] {
+            assert!(rt; length <= LONGEST);
+            check_tags::<_, 16>(&rt, &keyed(variant), &message[..length])?;
+            check_tags::<_, 32>(&rt, &keyed(variant), &message[..length])?;
+        }
+    }
+    Ok(())
+}

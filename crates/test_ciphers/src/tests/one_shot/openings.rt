@@ -1,0 +1,59 @@
+//! Messages and associated data around the ends of rate blocks, by each variant.
+
+ghost use Rattle.std.specs.Prelude.{◌≡◌, ◌⊎◌, ◌≤◌, length};
+ghost use Rattle.aegis_base.specs.Lane.{IsTagLength};
+
+use crate::tests::assert_bytes;
+use aegis_variants::{AnyVariant, VARIANTS};
+use std::process::Abort;
+use std::test::Fail;
+use test_tools::calls;
+
+// One byte more than two rate blocks of 128 bytes.
+const LONGEST: usize = 257;
+
+// What either form seals, both open.
+fn opens<R: Abort + AllocGlobal, const TAG_BYTES: usize>(
+    rt: &R,
+    variant: AnyVariant,
+    message: &[u8],
+    ad: &[u8],
+) -> Result<(), Fail>
+    requires tag { IsTagLength TAG_BYTES }
+    requires message { length message.now ≤ 257 }
+    requires ad { length ad.now ≤ 257 }
+{
+    let cipher = calls::keyed(variant);
+    let mut buffer = Vec::from_slice(rt.alloc(), message)?;
+    let tag = calls::encrypt_in_place::<TAG_BYTES>(&cipher, &mut buffer, ad);
+    let (sealed, tag_of_vector) = calls::encrypt::<_, TAG_BYTES>(&cipher, rt.alloc(), message, ad)?;
+    assert_bytes(rt, &sealed, &buffer, &variant);
+    assert_bytes(rt, &tag_of_vector, &tag, &variant);
+
+    assert_eq!(rt; sealed.len(), message.len());
+    let opened = calls::decrypt(&cipher, rt.alloc(), &sealed, &tag, ad)?;
+    assert_bytes(rt, &opened, message, &variant);
+    assert_eq!(rt; buffer.len(), message.len());
+    calls::decrypt_in_place(&cipher, &mut buffer, &tag, ad)?;
+    assert_bytes(rt, &buffer, message, &variant);
+    Ok(())
+}
+
+// Of no byte, one byte, one rate block or two, and a byte less or more.
+#[test]
+fn what_is_sealed_is_opened(rt: HostRuntime) -> Result<(), Fail> {
+    let message = calls::counting::<LONGEST>(1);
+    let ad = calls::counting::<LONGEST>(101);
+    for variant in VARIANTS {
+        let rate = variant.rate();
+        let lengths = [0, 1, rate - 1, rate, rate + 1, 2 * rate + 1];
+        for message_bytes in lengths {
+            for ad_bytes in lengths {
+                assert!(rt; message_bytes <= LONGEST && ad_bytes <= LONGEST);
+                opens::<_, 16>(&rt, variant, &message[..message_bytes], &ad[..ad_bytes])?;
+                opens::<_, 32>(&rt, variant, &message[..message_bytes], &ad[..ad_bytes])?;
+            }
+        }
+    }
+    Ok(())
+}

@@ -1,0 +1,62 @@
+//! The stream of "abc" and no bytes, beside records that are sealed one by one under the associated data of the format.
+
+ghost use Rattle.std.specs.Prelude.{◌≤◌};
+
+use crate::tests::records::streams::{CONTEXT, KEY, PREFIX};
+use aegis::aegis256::Aegis256;
+use aegis::record::{open_records, seal_records};
+use std::alloc::{AllocError, Global};
+use std::test::Fail;
+
+// What is sealed with each record, after the header: its number, in the second version how many bytes the messages before
+// it have, and its flag.
+const FIRST_DATA: [[u8; 13]; 2] = [*b"AGR1\0\0\0\0\0\0\0\0\0", *b"AGR1\x01\0\0\0\0\0\0\0\x01"];
+
+const SECOND_DATA: [[u8; 21]; 2] = [
+    *b"AGR2\0\0\0\0\0\0\0\0\0\0\0\0\0\0\0\0\0",
+    *b"AGR2\x01\0\0\0\0\0\0\0\x03\0\0\0\0\0\0\0\x01",
+];
+
+// The stream whose records are sealed with this.
+fn sealed_by_hand<const N: usize>(
+    alloc: Global,
+    header: &[u8],
+    data: &[[u8; N]; 2],
+) -> Result<Vec<u8>, AllocError>
+    requires { N ≤ 21 }
+{
+    let mut nonce = [0; 32];
+    let mut message = *b"abc";
+    let tag = Aegis256::<32>::new(&KEY, &nonce).encrypt_in_place(&mut message, &data[0]);
+    let mut stream = Vec::from_slice(alloc, header)?;
+    stream.extend_from_slice(b"\0\x03\0\0\0")?;
+    stream.extend_from_slice(&message)?;
+    stream.extend_from_slice(&tag)?;
+    nonce[24] = 1;
+    let tag = Aegis256::<32>::new(&KEY, &nonce).encrypt_in_place(&mut [], &data[1]);
+    stream.extend_from_slice(b"\x01\0\0\0\0")?;
+    stream.extend_from_slice(&tag)?;
+    Ok(stream)
+}
+
+#[test]
+fn the_second_version_is_sealed_so(rt: HostRuntime) -> Result<(), Fail> {
+    let by_hand = sealed_by_hand(rt.alloc(), b"AGR2", &SECOND_DATA)?;
+    let messages = [b"abc".as_slice(), b"".as_slice()];
+    let stream = seal_records(rt.alloc(), &KEY, &PREFIX, &CONTEXT, &messages)?;
+    assert_eq!(rt; stream.as_slice(), by_hand.as_slice());
+    Ok(())
+}
+
+#[test]
+fn both_versions_are_opened_so(rt: HostRuntime) -> Result<(), Fail> {
+    let first = sealed_by_hand(rt.alloc(), b"AGR1", &FIRST_DATA)?;
+    let second = sealed_by_hand(rt.alloc(), b"AGR2", &SECOND_DATA)?;
+    for stream in [&first, &second] {
+        let opened = open_records(rt.alloc(), &KEY, &PREFIX, &CONTEXT, stream)?;
+        assert_eq!(rt; opened.len(), 2);
+        assert_eq!(rt; opened[0].as_slice(), b"abc".as_slice());
+        assert!(rt; opened[1].is_empty());
+    }
+    Ok(())
+}

@@ -1,0 +1,67 @@
+//! Want of memory: each request refused in turn.
+
+use crate::tests::records::streams::{
+    CONTEXT, FIRST, KEY, MESSAGES, MIGRATED, PREFIX, SECOND, migrated, opens_to_messages,
+};
+use aegis::record::{RecordError, seal_records};
+use std::process::Abort;
+use std::test::Fail;
+use test_tools::memory::Rationed;
+
+// More requests than the calls below make.
+const REQUESTS: u64 = 20;
+
+// The stream is reserved whole, and so is the associated data.
+#[test]
+fn sealing_makes_two_requests(rt: HostRuntime) -> Result<(), Fail> {
+    for requests in 0..2 {
+        let heap = Rationed::new(rt.alloc(), requests);
+        let refused = seal_records(&heap, &KEY, &PREFIX, &CONTEXT, &MESSAGES);
+        assert_eq!(rt; refused.err(), Some(RecordError::OutOfMemory), "{requests}");
+    }
+    let heap = Rationed::new(rt.alloc(), 2);
+    let stream = seal_records(&heap, &KEY, &PREFIX, &CONTEXT, &MESSAGES)?;
+    assert_eq!(rt; stream.as_slice(), SECOND.as_slice());
+    assert_eq!(rt; heap.left(), 0);
+    Ok(())
+}
+
+// A stream is refused for want of memory, or opens to the messages.
+fn check_opening<R: Abort + AllocGlobal>(rt: &R, stream: &[u8]) {
+    let mut refused = 0;
+    for requests in 0..REQUESTS {
+        let heap = Rationed::new(rt.alloc(), requests);
+        match opens_to_messages(&heap, &PREFIX, stream) {
+            Ok(is_opened) => assert!(rt; is_opened, "{requests}"),
+            Err(error) => {
+                assert_eq!(rt; error, RecordError::OutOfMemory, "{requests}");
+                assert_eq!(rt; refused, requests);
+                refused += 1;
+            }
+        }
+    }
+    assert!(rt; 0 < refused && refused < REQUESTS);
+}
+
+#[test]
+fn opening_with_each_request_refused(rt: HostRuntime) {
+    check_opening(&rt, &FIRST);
+    check_opening(&rt, &SECOND);
+}
+
+#[test]
+fn migrating_with_each_request_refused(rt: HostRuntime) {
+    let mut refused = 0;
+    for requests in 0..REQUESTS {
+        let heap = Rationed::new(rt.alloc(), requests);
+        match migrated(&heap, &SECOND) {
+            Ok(stream) => assert_eq!(rt; stream.as_slice(), MIGRATED.as_slice(), "{requests}"),
+            Err(error) => {
+                assert_eq!(rt; error, RecordError::OutOfMemory, "{requests}");
+                assert_eq!(rt; refused, requests);
+                refused += 1;
+            }
+        }
+    }
+    assert!(rt; 0 < refused && refused < REQUESTS);
+}

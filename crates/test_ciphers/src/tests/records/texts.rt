@@ -1,0 +1,32 @@
+//! The texts that errors display, their copies and their equality.
+
+use aegis::record::RecordError;
+use std::test::Fail;
+
+#[test]
+fn errors(rt: HostRuntime) -> Result<(), Fail> {
+    let texts = [
+        (RecordError::Header, "Bad header"),
+        (RecordError::Truncated, "Truncated"),
+        (RecordError::Flag, "Bad flag"),
+        (RecordError::TooLong, "Record too long"),
+        (RecordError::Damaged(0), "Damaged record 0"),
+        (
+            RecordError::Damaged(u64::MAX),
+            "Damaged record 18446744073709551615",
+        ),
+        (RecordError::Trailing, "Trailing bytes"),
+        (RecordError::OutOfMemory, "Out of memory"),
+    ];
+    for (error, expected) in texts {
+        let text = format!(in rt.alloc(); "{error}")?;
+        assert_eq!(rt; text.as_str(), expected);
+        let copy = error;
+        assert_eq!(rt; copy, error);
+        assert_eq!(rt; error.clone()?, error);
+        for (other, text_of_other) in texts {
+            assert_eq!(rt; error == other, expected == text_of_other);
+        }
+    }
+    Ok(())
+}

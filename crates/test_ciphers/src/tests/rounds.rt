@@ -1,0 +1,175 @@
+//! The round: known blocks, a plain round beside one by a table, and each round of the library beside that.
+
+mod bodies;
+mod permutes;
+mod table;
+
+ghost use Rattle.std.specs.Prelude.{◌<◌};
+
+use crate::tests::assert_bytes;
+use aegis_aes::field::power_254;
+use aegis_aes::{AesBlock, Row};
+use std::simd::prelude::*;
+use table::{COLUMNS, round_by_table};
+
+// Blocks, their keys, and what a round makes of them.
+const KNOWN: [(u128, u128, u128); 4] = [
+    (0, 0, 0x63636363636363636363636363636363),
+    (
+        0x000102030405060708090a0b0c0d0e0f,
+        0x101112131415161718191a1b1c1d1e1f,
+        0x7a7b4e5638782546a8c0477a3b813f43,
+    ),
+    // The first rounds of FIPS 197's appendices B and C.1.
+    (
+        0x193de3bea0f4e22b9ac68d2ae9f84808,
+        0xa0fafe1788542cb123a339392a6c7605,
+        0xa49c7ff2689f352b6b5bea43026a5049,
+    ),
+    (
+        0x00102030405060708090a0b0c0d0e0f0,
+        0xd6aa74fdd2af72fadaa678f1d6ab76fe,
+        0x89d810e8855ace682d1843d8cb128fe4,
+    ),
+];
+
+// How many blocks the rounds are compared at.
+const CASES: usize = 256 + 16 + KNOWN.len();
+
+// A block and its key: one of the 256 of equal bytes, one of counted bytes from each place on, or a known one.
+fn case(number: usize) -> (u128, u128)
+    requires { number < 276 }
+{
+    if number < 256 {
+        return (u128::from_be_bytes([number as u8; 16]), 0);
+    }
+    let number = number - 256;
+    if number < 16 {
+        let (counted, key, _) = KNOWN[1];
+        return (counted.rotate_left(8 * number as u32), key);
+    }
+    let (start, key, _) = KNOWN[number - 16];
+    (start, key)
+}
+
+// The block of the sixteen bytes that a number has, its highest byte first.
+fn block(bytes: u128) -> AesBlock {
+    AesBlock::from_bytes(&bytes.to_be_bytes())
+}
+
+fn bytes(block: AesBlock) -> u128 {
+    u128::from_be_bytes(block.to_bytes())
+}
+
+#[test]
+fn blocks_keep_their_bytes(rt: HostRuntime) {
+    let counted = 0x000102030405060708090a0b0c0d0e0f;
+    assert_eq!(rt; bytes(block(counted)), counted);
+    assert_eq!(rt; bytes(AesBlock::default()), 0);
+}
+
+#[test]
+fn blocks_combine_by_byte(rt: HostRuntime) {
+    let a = block(0xff00f00f_00000000_00000000_00000055);
+    let b = block(0xffff3c3c_00000000_00000000_000000ff);
+    assert_eq!(rt; bytes(a.xor(b)), 0x00ffcc33_00000000_00000000_000000aa);
+    assert_eq!(rt; bytes(a.and(b)), 0xff00300c_00000000_00000000_00000055);
+}
+
+#[test]
+fn rounds_of_known_blocks(rt: HostRuntime) {
+    for (start, key, end) in KNOWN {
+        let by_table = round_by_table(start.to_be_bytes(), key.to_be_bytes());
+        assert_eq!(rt; u128::from_be_bytes(by_table), end, "from {start:032x}");
+        let by_block = block(start).round(block(key));
+        assert_eq!(rt; bytes(by_block), end, "from {start:032x}");
+    }
+}
+
+#[test]
+fn known_table_entries(rt: HostRuntime) {
+    let known = [
+        (0x00u8, [0xc6, 0x63, 0x63, 0xa5]),
+        (0x01, [0xf8, 0x7c, 0x7c, 0x84]),
+        (0x53, [0xc1, 0xed, 0xed, 0x2c]),
+        (0xff, [0x2c, 0x16, 0x16, 0x3a]),
+    ];
+    for (byte, column) in known {
+        assert_bytes(&rt, &COLUMNS[byte as usize].to_le_bytes(), &column, &byte);
+    }
+}
+
+// The product of two bytes (FIPS 197, section 4.2).
+fn product(a: u8, b: u8) -> u8 {
+    let mut power = a;
+    let mut sum = 0;
+    for i in 0..8u32 {
+        if b >> i & 1 == 1 {
+            sum ^= power;
+        }
+        let reduction = if power < 0x80 { 0 } else { 0x1b };
+        power = power << 1 ^ reduction;
+    }
+    sum
+}
+
+// The inverse, by trying all bytes.
+fn plain_inverse(a: u8) -> u8 {
+    for b in 0..=255 {
+        if product(a, b) == 1 {
+            return b;
+        }
+    }
+    0
+}
+
+// SubBytes of one byte (FIPS 197, section 5.1.1).
+fn plain_substitute(a: u8) -> u8 {
+    let b = plain_inverse(a);
+    b ^ b.rotate_left(1) ^ b.rotate_left(2) ^ b.rotate_left(3) ^ b.rotate_left(4) ^ 0x63
+}
+
+// A round with the key added last (FIPS 197, sections 5.1.1 to 5.1.4).
+fn plain_round(block: [u8; 16], key: [u8; 16]) -> [u8; 16] {
+    let mut shifted = [0; 16];
+    for c in 0..4usize {
+        for r in 0..4usize {
+            shifted[4 * c + r] = plain_substitute(block[4 * ((c + r) % 4) + r]);
+        }
+    }
+    let mut end = key;
+    for c in 0..4usize {
+        for r in 0..4usize {
+            end[4 * c + r] ^= product(2, shifted[4 * c + r])
+                ^ product(3, shifted[4 * c + (r + 1) % 4])
+                ^ shifted[4 * c + (r + 2) % 4]
+                ^ shifted[4 * c + (r + 3) % 4];
+        }
+    }
+    end
+}
+
+#[test]
+fn the_table_makes_the_plain_round(rt: HostRuntime) {
+    for number in 0..CASES {
+        let (start, key) = case(number);
+        let plain = plain_round(start.to_be_bytes(), key.to_be_bytes());
+        let by_table = round_by_table(start.to_be_bytes(), key.to_be_bytes());
+        assert_eq!(rt; by_table, plain, "from {start:032x}");
+    }
+}
+
+#[test]
+fn inverses_and_substitutes_of_known_bytes(rt: HostRuntime) {
+    let known = [0x53, 0x01, 0x00, 0xca];
+    let inverses = power_254(u8x4::from_array(known)).to_array();
+    assert_bytes(&rt, &inverses, &[0xca, 0x01, 0x00, 0x53], &known);
+    for (byte, substitute) in [(0x53, 0xed), (0x01, 0x7c), (0x00, 0x63)] {
+        // MixColumns leaves a column of equal bytes as it is.
+        let start = AesBlock::from_bytes(&[byte; 16]);
+        let key = AesBlock::default();
+        for end in [start.round(key), start.round_row(key)] {
+            assert_bytes(&rt, &end.to_bytes(), &[substitute; 16], &byte);
+        }
+    }
+}

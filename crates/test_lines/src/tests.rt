@@ -1,0 +1,7 @@
+//! Answers one by one, record streams, whole sessions, and want of memory.
+
+mod answers;
+mod long_lines;
+mod memory;
+mod records;
+mod sessions;

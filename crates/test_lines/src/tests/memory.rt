@@ -1,0 +1,65 @@
+//! Want of memory in the line program: each of its allocations refused in turn.
+
+use aegis::Error;
+use aegis_lines::{answer_line, run};
+use std::test::Fail;
+use test_tools::memory::Rationed;
+
+// More requests than the lines below make.
+const REQUESTS: u64 = 200;
+
+const LINES: &[u8] = b"round 000102030405060708090a0b0c0d0e0f 101112131415161718191a1b1c1d1e1f
+seal aegis128l 16 59454c4c4f57205355424d4152494e45 00000000000000000000000000000000 636f 61,-,62
+open aegis128l 16 59454c4c4f57205355424d4152494e45 00000000000000000000000000000000 436f6d6d656e74206e756d65726f20756e 84b741a6283f,-,2d48f7892fcbb8 9cedcb05fc9534da8316654abe7a3bf0
+stream aegis128x4 59454c4c4f57205355424d4152494e45 00000000000000000000000000000000 20
+xor aegis256 59454c4c4f57205355424d4152494e4579656c6c6f77207375626d6172696e65 0000000000000000000000000000000000000000000000000000000000000000 41454749532069732066617374
+mac aegis256x2 32 59454c4c4f57205355424d4152494e4579656c6c6f77207375626d6172696e65 0000000000000000000000000000000000000000000000000000000000000000 61,6263
+sealrec 0000000000000000000000000000000000000000000000000000000000000000 000000000000000000000000000000000000000000000000 636f -,616263
+openrec 0000000000000000000000000000000000000000000000000000000000000000 000000000000000000000000000000000000000000000000 - 414752320000000000e461028be45b3bfca49bbe24f5c16f9859fa03f3edf9bfb703e83a6913335cdd0103000000d705c1b8264f3e694c9097788eed0974e1a76904c814f5a76b34c0b417a5c3de40a5c0
+";
+
+// A line is answered as with ample memory, or with want of memory.
+#[test]
+fn each_line_or_want_of_memory(rt: HostRuntime) -> Result<(), Fail> {
+    for line in LINES.split(|byte| *byte == b'\n') {
+        let expected = answer_line(rt.alloc(), line)?;
+        for requests in 0..REQUESTS {
+            let heap = Rationed::new(rt.alloc(), requests);
+            match answer_line(&heap, line) {
+                Ok(answer) => assert_eq!(rt; answer.as_slice(), expected.as_slice(), "{requests}"),
+                Err(error) => assert_eq!(rt; error, Error::OutOfMemory, "{requests}"),
+            }
+        }
+        let heap = Rationed::new(rt.alloc(), 0);
+        assert!(rt; answer_line(&heap, line).is_err());
+        let heap = Rationed::new(rt.alloc(), REQUESTS);
+        assert!(rt; answer_line(&heap, line).is_ok());
+    }
+    Ok(())
+}
+
+// The program ends with status 2 and a beginning of its answers, or as with ample memory.
+#[test]
+fn all_lines_or_status_two(rt: HostRuntime) -> Result<(), Fail> {
+    let mut expected = Vec::new(rt.alloc());
+    let status = run(rt.alloc(), &mut &LINES[..], &mut expected);
+    assert_eq!(rt; status, 0);
+    for requests in 0..REQUESTS {
+        let heap = Rationed::new(rt.alloc(), requests);
+        let mut output = Vec::new(rt.alloc());
+        let status = run(&heap, &mut &LINES[..], &mut output);
+        assert!(rt;
+            status == 2 || output.as_slice() == expected.as_slice(),
+            "{requests}"
+        );
+        assert!(rt; expected.as_slice().starts_with(&output), "{requests}");
+        assert!(rt; status == 0 || status == 2, "{requests}");
+    }
+    let heap = Rationed::new(rt.alloc(), 0);
+    let mut output = Vec::new(rt.alloc());
+    assert_eq!(rt; run(&heap, &mut &LINES[..], &mut output), 2);
+    let heap = Rationed::new(rt.alloc(), REQUESTS);
+    let mut output = Vec::new(rt.alloc());
+    assert_eq!(rt; run(&heap, &mut &LINES[..], &mut output), 0);
+    Ok(())
+}

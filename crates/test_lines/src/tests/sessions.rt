@@ -1,0 +1,245 @@
+//! The program over readers and writers in memory.
+
+use aegis_lines::run;
+use std::io;
+use std::io::{ErrorKind, Read, Write};
+use std::test::Fail;
+
+const ANSWER: &str = "error command\n";
+
+const ROUND: &str = "round 00000000000000000000000000000000 00000000000000000000000000000000";
+
+const ROUND_ANSWER: &str = "63636363636363636363636363636363\n";
+
+const STREAM: &str =
+    "stream aegis128l 59454c4c4f57205355424d4152494e45 00000000000000000000000000000000 0";
+
+const STREAM_ANSWER: &str = "-\n";
+
+/// Gives its bytes, and then an error in place of the end.
+#[derive(Drop)]
+struct CutOff<'a> {
+    left: &'a [u8],
+    error: ErrorKind,
+}
+
+impl Read for CutOff<'_> {
+    fn read(&mut self, buf: &mut [u8]) -> io::Result<usize> {
+        if self.left.is_empty() {
+            return Err(io::Error::from(self.error));
+        }
+        self.left.read(buf)
+    }
+}
+
+/// Takes one byte of each write while there is room, and then none, or gives the error.
+#[derive(Drop)]
+struct Narrow {
+    taken: Vec<u8>,
+    room: usize,
+    error: Option<ErrorKind>,
+    flushes: bool,
+}
+
+impl Write for Narrow {
+    fn write(&mut self, buf: &[u8]) -> io::Result<usize> {
+        if self.taken.len() >= self.room {
+            return match self.error {
+                Some(error) => Err(io::Error::from(error)),
+                None => Ok(0),
+            };
+        }
+        match buf.first() {
+            Some(byte) => {
+                self.taken.push(*byte)?;
+                Ok(1)
+            }
+            None => Ok(0),
+        }
+    }
+
+    fn flush(&mut self) -> io::Result<()> {
+        if self.flushes {
+            Ok(())
+        } else {
+            Err(io::Error::from(ErrorKind::BrokenPipe))
+        }
+    }
+}
+
+#[test]
+fn answers_each_line(rt: HostRuntime) -> Result<(), Fail> {
+    let cases = [
+        ("", 0),
+        ("\n", 1),
+        ("a\n", 1),
+        ("a\nb\n", 2),
+        ("a\r\nb\r\n", 2),
+        ("a\nb", 2),
+        ("a\nb\r", 2),
+        ("a", 1),
+    ];
+    for (input, lines) in cases {
+        let mut output = Vec::new(rt.alloc());
+        let status = run(rt.alloc(), &mut input.as_bytes(), &mut output);
+        let mut wanted = String::new(rt.alloc());
+        for _ in 0..lines {
+            wanted.push_str(ANSWER)?;
+        }
+        assert_eq!(rt; output.as_slice(), wanted.as_bytes(), "at {input:?}");
+        assert_eq!(rt; status, if lines == 0 { 0 } else { 1 }, "at {input:?}");
+    }
+    Ok(())
+}
+
+// One carriage return before a line's end is taken off, and nothing else.
+#[test]
+fn takes_line_ends_off(rt: HostRuntime) -> Result<(), Fail> {
+    let cases = [
+        ("", "", ROUND_ANSWER, 0),
+        ("", "\n", ROUND_ANSWER, 0),
+        ("", "\r", ROUND_ANSWER, 0),
+        ("", "\r\n", ROUND_ANSWER, 0),
+        ("", "\r\r\n", "error hex\n", 1),
+        ("", " \n", "error fields\n", 1),
+        (" ", "\n", ANSWER, 1),
+        ("\r", "\n", ANSWER, 1),
+        (" ", " \n", ANSWER, 1),
+    ];
+    for (before, after, wanted, wanted_status) in cases {
+        let input = format!(in rt.alloc(); "{before}{ROUND}{after}")?;
+        let mut output = Vec::new(rt.alloc());
+        let status = run(rt.alloc(), &mut input.as_bytes(), &mut output);
+        assert_eq!(rt; output.as_slice(), wanted.as_bytes(), "at {input:?}");
+        assert_eq!(rt; status, wanted_status, "at {input:?}");
+    }
+    Ok(())
+}
+
+// A length of tag that there is not, an odd number of digits, and a key of 15 bytes.
+#[test]
+fn faults_end_with_status_one(rt: HostRuntime) -> Result<(), Fail> {
+    let cases = [
+        (
+            "seal aegis128l 24 59454c4c4f57205355424d4152494e45 00000000000000000000000000000000 - 61\n",
+            "error tag\n",
+        ),
+        (
+            "seal aegis128l 16 59454c4c4f57205355424d4152494e45 00000000000000000000000000000000 - 616\n",
+            "error hex\n",
+        ),
+        (
+            "seal aegis128l 16 59454c4c4f57205355424d4152494e 00000000000000000000000000000000 - 61\n",
+            "error length\n",
+        ),
+    ];
+    for (input, wanted) in cases {
+        let mut output = Vec::new(rt.alloc());
+        let status = run(rt.alloc(), &mut input.as_bytes(), &mut output);
+        assert_eq!(rt; output.as_slice(), wanted.as_bytes(), "at {input:?}");
+        assert_eq!(rt; status, 1, "at {input:?}");
+    }
+    Ok(())
+}
+
+#[test]
+fn answers_a_byte_that_is_no_text(rt: HostRuntime) {
+    let mut output = Vec::new(rt.alloc());
+    let status = run(rt.alloc(), &mut &b"\xff\n"[..], &mut output);
+    assert_eq!(rt; output.as_slice(), ANSWER.as_bytes());
+    assert_eq!(rt; status, 1);
+}
+
+#[test]
+fn answers_a_thousand_lines(rt: HostRuntime) -> Result<(), Fail> {
+    let mut input = String::new(rt.alloc());
+    let mut wanted = String::new(rt.alloc());
+    for _ in 0..1000u32 {
+        input.push_str(ROUND)?;
+        input.push_str("\n")?;
+        wanted.push_str(ROUND_ANSWER)?;
+    }
+    let mut output = Vec::new(rt.alloc());
+    let status = run(rt.alloc(), &mut input.as_bytes(), &mut output);
+    assert_eq!(rt; status, 0);
+    assert_eq!(rt; output.as_slice(), wanted.as_bytes());
+    Ok(())
+}
+
+// Three lines, and what answers them.
+fn three_lines<R: AllocGlobal>(rt: &R) -> Result<(String, String), Fail> {
+    let input = format!(in rt.alloc(); "{ROUND}\n{STREAM}\r\n{ROUND}\n")?;
+    let wanted = format!(in rt.alloc(); "{ROUND_ANSWER}{STREAM_ANSWER}{ROUND_ANSWER}")?;
+    Ok((input, wanted))
+}
+
+// The answers of the lines that are read, and none of a line that is cut off. The last reader fails after all its bytes.
+#[test]
+fn stops_where_a_read_fails(rt: HostRuntime) -> Result<(), Fail> {
+    let (input, wanted) = three_lines(&rt)?;
+    let input = input.as_bytes();
+    for count in 0..=input.len() {
+        let read = &input[..count];
+        let ended = read.iter().filter(|byte| **byte == b'\n').count();
+        let answers = wanted.as_bytes().split(|byte| *byte == b'\n').take(ended);
+        let mut expected = Vec::new(rt.alloc());
+        for answer in answers {
+            expected.extend_from_slice(answer)?;
+            expected.push(b'\n')?;
+        }
+        for error in [ErrorKind::Other, ErrorKind::Interrupted] {
+            let mut reader = CutOff { left: read, error };
+            let mut output = Vec::new(rt.alloc());
+            let status = run(rt.alloc(), &mut reader, &mut output);
+            assert_eq!(rt; status, 2, "after {count} bytes");
+            assert_eq!(rt;
+                output.as_slice(),
+                expected.as_slice(),
+                "after {count} bytes"
+            );
+        }
+    }
+    Ok(())
+}
+
+// A writer that has room for some bytes, and then fails or takes none, holds just these.
+#[test]
+fn stops_where_a_write_fails(rt: HostRuntime) -> Result<(), Fail> {
+    let (input, wanted) = three_lines(&rt)?;
+    for room in 0..wanted.len() {
+        for error in [None, Some(ErrorKind::Other), Some(ErrorKind::Interrupted)] {
+            let mut output = Narrow {
+                taken: Vec::new(rt.alloc()),
+                room,
+                error,
+                flushes: true,
+            };
+            let status = run(rt.alloc(), &mut input.as_bytes(), &mut output);
+            assert_eq!(rt; status, 2, "with room {room}");
+            assert_eq!(rt; output.taken.len(), room, "with room {room}");
+            assert!(rt;
+                wanted.as_bytes().starts_with(&output.taken),
+                "with room {room}"
+            );
+        }
+    }
+    Ok(())
+}
+
+// A writer that takes a byte at a time gets the whole output, also where its flush then fails.
+#[test]
+fn writes_a_byte_at_a_time(rt: HostRuntime) -> Result<(), Fail> {
+    let (input, wanted) = three_lines(&rt)?;
+    for (flushes, expected) in [(true, 0), (false, 2)] {
+        let mut output = Narrow {
+            taken: Vec::new(rt.alloc()),
+            room: wanted.len(),
+            error: None,
+            flushes,
+        };
+        let status = run(rt.alloc(), &mut input.as_bytes(), &mut output);
+        assert_eq!(rt; status, expected);
+        assert_eq!(rt; output.taken.as_slice(), wanted.as_bytes());
+    }
+    Ok(())
+}
