@@ -35,5 +35,5 @@ fn main() -> std::io::Result<()> {
     print!("{table}");
     let folder = Path::new(&folder);
     std::fs::write(folder.join("RESULTS.md"), report::page(&table))?;
-    std::fs::write(folder.join("results.svg"), picture::picture(&lines))
+    std::fs::write(folder.join("results.svg"), report::picture(&lines))
 }

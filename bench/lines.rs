@@ -14,8 +14,9 @@ macro_rules! files {
 }
 
 /// Lines, and their answers.
-const FILES: [(&str, &str); 8] = files!(
+const FILES: [(&str, &str); 9] = files!(
     "published",
+    "wycheproof",
     "seal",
     "open",
     "stream",

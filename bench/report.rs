@@ -1,6 +1,7 @@
-//! The results as a page of text.
+//! The results as a page of text and as a picture.
 
-use crate::measure::Line;
+use crate::measure::{Line, SIZES};
+use crate::picture::{Group, Unit, picture as bars};
 use std::process::Command;
 
 const HEAD: &str = "\
@@ -102,4 +103,26 @@ keystreams at each size, and the known answers. They take turns, a hundred each,
         output_of("rustc", &["--version"]),
         output_of("date", &["-u", "+%Y-%m-%d"])
     )
+}
+
+/// The picture of sealing: for each variant the library's speed as a multiple of the tables' speed, which the red line marks.
+pub fn picture(lines: &[Line]) -> String {
+    let sealing: Vec<&Line> = lines.iter().filter(|line| line.call == "seal").collect();
+    let group = |lines: &[&Line]| Group {
+        name: lines[0].variant.to_string(),
+        bars: lines
+            .iter()
+            .map(|line| line.library / line.tables)
+            .collect(),
+    };
+    let groups: Vec<Group> = sealing.chunks(SIZES.len()).map(group).collect();
+    let unit = Unit {
+        step: 0.25,
+        red: Some(1.0),
+        decimals: 2,
+    };
+    let title = format!(
+        "Sealing in place at the processor level {LEVEL}: the library's speed, as a multiple of four look-up tables' (red)"
+    );
+    bars(&title, &groups, &unit)
 }

@@ -1,0 +1,132 @@
+/*
+ * Sealing in place by the library and by libsodium, in one process: MB/s, as lines of a table.
+ *
+ * libsodium's AEGIS is measured before sodium_init, where it runs in software, and after it, where it runs by the
+ * processor's AES instructions if there are any; its ChaCha20-Poly1305 after it. The contenders take turns, and the best
+ * turn of each counts. Each call does all of its work on one message with no associated data; AEGIS makes tags of 32 bytes.
+ */
+#include "hunkravy.h"
+
+#include <sodium.h>
+#include <stdio.h>
+#include <stdlib.h>
+#include <string.h>
+#include <time.h>
+
+#define TURNS 60
+#define TURN_BYTES (64 * 1024)
+#define LONGEST (1024 * 1024)
+
+static const size_t SIZES[] = {64, 1024, 16 * 1024, LONGEST};
+#define SIZE_COUNT (sizeof SIZES / sizeof SIZES[0])
+
+static uint8_t buffer[LONGEST];
+static const uint8_t key[32], nonce[32];
+
+static void expect(int holds)
+{
+    if (!holds) {
+        abort();
+    }
+}
+
+#define OURS(NAME, KEY_BYTES)                                                                      \
+    static void ours_##NAME(size_t length)                                                         \
+    {                                                                                              \
+        uint8_t tag[32];                                                                           \
+        expect(hunkravy_##NAME##_encrypt_in_place(buffer, length, NULL, 0, nonce, KEY_BYTES, key,  \
+                                                  KEY_BYTES, tag, sizeof tag)                      \
+               == HUNKRAVY_DONE);                                                                  \
+    }
+
+#define SODIUM(NAME)                                                                               \
+    static void sodium_##NAME(size_t length)                                                       \
+    {                                                                                              \
+        uint8_t tag[32];                                                                           \
+        expect(crypto_aead_##NAME##_encrypt_detached(buffer, tag, NULL, buffer, length, NULL, 0,   \
+                                                     NULL, nonce, key)                             \
+               == 0);                                                                              \
+    }
+
+OURS(aegis128l, 16)
+OURS(aegis128x2, 16)
+OURS(aegis128x4, 16)
+OURS(aegis256, 32)
+OURS(aegis256x2, 32)
+OURS(aegis256x4, 32)
+SODIUM(aegis128l)
+SODIUM(aegis256)
+SODIUM(chacha20poly1305_ietf)
+
+struct contender {
+    const char *name;
+    void (*seal)(size_t length);
+    double best[SIZE_COUNT];
+};
+
+static double now(void)
+{
+    struct timespec time;
+
+    timespec_get(&time, TIME_UTC);
+    return (double)time.tv_sec + (double)time.tv_nsec * 1e-9;
+}
+
+/* The speed of one turn: as many messages as TURN_BYTES make, and one at least. */
+static double turn(const struct contender *contender, size_t length)
+{
+    size_t count = length < TURN_BYTES ? TURN_BYTES / length : 1;
+    double begin = now();
+
+    for (size_t i = 0; i < count; i++) {
+        contender->seal(length);
+    }
+    return (double)(count * length) / (now() - begin) / 1e6;
+}
+
+static void measure(struct contender *contenders, size_t count)
+{
+    for (size_t size = 0; size < SIZE_COUNT; size++) {
+        for (int i = 0; i < TURNS; i++) {
+            for (size_t c = 0; c < count; c++) {
+                double speed = turn(&contenders[c], SIZES[size]);
+                if (speed > contenders[c].best[size]) {
+                    contenders[c].best[size] = speed;
+                }
+            }
+        }
+    }
+    for (size_t c = 0; c < count; c++) {
+        printf("| %s |", contenders[c].name);
+        for (size_t size = 0; size < SIZE_COUNT; size++) {
+            printf(" %.0f |", contenders[c].best[size]);
+        }
+        printf("\n");
+    }
+}
+
+int main(void)
+{
+    struct contender software[] = {
+        {"libsodium AEGIS-128L, software", sodium_aegis128l, {0}},
+        {"libsodium AEGIS-256, software", sodium_aegis256, {0}},
+    };
+    struct contender all[] = {
+        {"AEGIS-128L", ours_aegis128l, {0}},
+        {"AEGIS-128X2", ours_aegis128x2, {0}},
+        {"AEGIS-128X4", ours_aegis128x4, {0}},
+        {"AEGIS-256", ours_aegis256, {0}},
+        {"AEGIS-256X2", ours_aegis256x2, {0}},
+        {"AEGIS-256X4", ours_aegis256x4, {0}},
+        {"libsodium ChaCha20-Poly1305", sodium_chacha20poly1305_ietf, {0}},
+        {"libsodium AEGIS-128L, AES instructions", sodium_aegis128l, {0}},
+        {"libsodium AEGIS-256, AES instructions", sodium_aegis256, {0}},
+    };
+
+    printf("libsodium %s, hunkravy at level %d, %s\n\n", sodium_version_string(), hunkravy_level(), __VERSION__);
+    printf("| Sealing, MB/s | 64 | 1 KiB | 16 KiB | 1 MiB |\n|---|---:|---:|---:|---:|\n");
+    measure(software, sizeof software / sizeof software[0]);
+    expect(sodium_init() >= 0);
+    measure(all, sizeof all / sizeof all[0]);
+    return 0;
+}
