@@ -10,7 +10,9 @@ ghost use Rattle.aegis_base.specs.Variant.{Family128};
 ghost use Rattle.aegis_base.specs.Lane.{add_context, first_blocks, high_tag, keystream_blocks, last_block, low_tag, block_in, short_tag, start, start_turn, step};
 
 use aegis_aes::{AesBlock, Pair, Row};
-use aegis_base::{C0, C1, LaneState, bit_lengths, block_in_all_lanes};
+use aegis_base::{
+    C0, C1, LaneState, SavedLanes, SavedRows, bit_lengths, block_in_all_lanes,
+};
 
 /// The lanes of AEGIS-128L, 128X2 or 128X4: their rows, each with one block of every lane, and the count of updates since the
 /// start.
@@ -205,4 +207,25 @@ impl<P: Pair> LaneState for State128<P> {
     ghost one_two_or_four = { P.Row.one_two_or_four };
 
     ghost rate_is = { Prim.search rules };
+}
+
+impl<P: Pair> SavedLanes for State128<P> {
+    #[inline(always)]
+    fn save(self, rows: &mut SavedRows) {
+        self.s04.store(&mut rows.first_pair, 0);
+        self.s15.store(&mut rows.second_pair, 0);
+        self.s26.store(&mut rows.third_pair, 0);
+        self.s37.store(&mut rows.fourth_pair, 0);
+    }
+
+    #[inline(always)]
+    fn restore(rows: &SavedRows, count: u64) -> Self {
+        State128 {
+            s04: P::load(&rows.first_pair, 0),
+            s15: P::load(&rows.second_pair, 0),
+            s26: P::load(&rows.third_pair, 0),
+            s37: P::load(&rows.fourth_pair, 0),
+            updates: count,
+        }
+    }
 }

@@ -10,7 +10,9 @@ ghost use Rattle.aegis_base.specs.Variant.{Family256};
 ghost use Rattle.aegis_base.specs.Lane.{add_context, first_blocks, high_half, high_tag, keystream_blocks, last_block, low_half, low_tag, block_in, short_tag, start, start_turn, step};
 
 use aegis_aes::{AesBlock, Pair, Row};
-use aegis_base::{C0, C1, LaneState, bit_lengths, block_in_all_lanes};
+use aegis_base::{
+    C0, C1, LaneState, SavedLanes, SavedRows, bit_lengths, block_in_all_lanes,
+};
 
 // The first block of a key or nonce.
 fn low_half(bytes: &[u8]) -> AesBlock
@@ -232,4 +234,23 @@ impl<P: Pair> LaneState for State256<P> {
     ghost one_two_or_four = { P.Row.one_two_or_four };
 
     ghost rate_is = { Prim.search rules };
+}
+
+impl<P: Pair> SavedLanes for State256<P> {
+    #[inline(always)]
+    fn save(self, rows: &mut SavedRows) {
+        self.s03.store(&mut rows.first_pair, 0);
+        self.s14.store(&mut rows.second_pair, 0);
+        self.s25.store(&mut rows.third_pair, 0);
+    }
+
+    #[inline(always)]
+    fn restore(rows: &SavedRows, count: u64) -> Self {
+        State256 {
+            s03: P::load(&rows.first_pair, 0),
+            s14: P::load(&rows.second_pair, 0),
+            s25: P::load(&rows.third_pair, 0),
+            updates: count,
+        }
+    }
 }

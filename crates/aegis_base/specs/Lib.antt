@@ -4,4 +4,5 @@ pub mod Laws
 pub mod Mac
 pub mod Message
 pub mod Run
+pub mod Saved
 pub mod Variant

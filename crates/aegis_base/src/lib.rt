@@ -9,6 +9,7 @@ mod lane_block;
 pub mod laws;
 mod length;
 mod names;
+mod saved;
 mod state;
 mod vectors;
 
@@ -18,5 +19,6 @@ pub use error::{Error, MAX_AEAD_BYTES};
 pub use lane_block::block_in_all_lanes;
 pub use length::Length;
 pub use names::{Names, Tag};
+pub use saved::{SavedLanes, SavedRows};
 pub use state::LaneState;
 pub use vectors::slices;

@@ -1,0 +1,32 @@
+//! Lanes at rest: their rows as bytes, which a caller may keep between two calls.
+
+ghost use Rattle.std.specs.Prelude.{◌≡◌, ℕ, ◌<◌};
+ghost use Rattle.aegis_base.specs.Saved.{saved_lane};
+
+use crate::state::LaneState;
+
+/// The rows of up to four lanes, in the pairs that a state has. Each pair begins at the front of its array: the blocks of its
+/// first row, lane after lane, and then those of its second row. The other bytes have no meaning, and nor has a pair that the
+/// variant lacks.
+#[repr(C)]
+#[derive(Clone, Copy)]
+pub struct SavedRows {
+    pub first_pair: [u8; 128],
+    pub second_pair: [u8; 128],
+    pub third_pair: [u8; 128],
+    pub fourth_pair: [u8; 128],
+}
+
+/// States whose lanes can be written to bytes and read back.
+pub trait SavedLanes: LaneState {
+    /// Writes the lanes' rows.
+    fn save(self, rows: &mut SavedRows)
+        ensures { (j : ℕ) → j < Self.VARIANT.lanes
+            → saved_lane Self.VARIANT rows.new j ≡ Self.lane self j };
+
+    /// The lanes of these rows, with `count` updates counted.
+    fn restore(rows: &SavedRows, count: u64) -> Self
+        ensures lanes { (j : ℕ) → j < Self.VARIANT.lanes
+            → Self.lane result j ≡ saved_lane Self.VARIANT rows.now j }
+        ensures updates { Self.updates result ≡ count };
+}
