@@ -6,3 +6,4 @@ mod ChunkSteps
 mod DestinationFacts
 mod Prefix
 mod Results
+mod SavedFacts

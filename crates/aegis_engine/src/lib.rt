@@ -2,7 +2,7 @@
 //!
 //! From below: `pass` runs a state along rate blocks, `run` along bytes that come in any pieces, `message` along associated
 //! data and a message, `pieces` along bytes from another slice, `chunks` along lists of chunks; `cipher`, `encryptor`,
-//! `decryptor` and `mac` have the public calls.
+//! `decryptor` and `mac` have the public calls, and `saved` those on a run that its caller keeps as bytes.
 #![tactic(auto)]
 
 mod chunks;
@@ -16,9 +16,11 @@ mod opening;
 mod pass;
 mod pieces;
 mod run;
+mod saved;
 mod tag;
 
 pub use cipher::{Cipher, ERASED};
 pub use decryptor::Decryptor;
 pub use encryptor::Encryptor;
 pub use mac::Mac;
+pub use saved::{BEGUN, ENDED, SavedRun};

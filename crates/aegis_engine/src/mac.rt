@@ -102,8 +102,8 @@ fn input_lanes<S: LaneState>(state: S, block: &RateBlock, bytes: u64) -> S
     pad(state, block, bytes)
 }
 
-// The lanes after the input and its end.
-fn end_input<S: LaneState, const TAG_BYTES: usize>(state: S, block: &RateBlock, bytes: u64) -> S
+/// The lanes after the input and its end.
+pub fn end_input<S: LaneState, const TAG_BYTES: usize>(state: S, block: &RateBlock, bytes: u64) -> S
     requires tag_bytes { IsTagLength TAG_BYTES }
     requires countable { S.updates state ≤ bytes }
     requires within { bytes ≤ MAX_AEAD_BYTES }

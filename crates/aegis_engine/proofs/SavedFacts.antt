@@ -1,0 +1,82 @@
+-- What a saved run stands for, from and to the lanes that it keeps.
+use Rattle.std.proofs.Common.{◌≡◌, ◌∙◌, ap, ℕ, ◌+◌, ◌/◌, ◌<◌, List, [], ◌++◌, length, append_assoc, refl, sym, arith}
+use Rattle.std.proofs.lemmas.List.{append-nil}
+use Rattle.aegis_base.specs.Variant.{Variant, rate}
+use Rattle.aegis_base.specs.Message.{block_count, ciphertext, lane_before}
+use Rattle.aegis_base.specs.Run.{IsAlong, Stands, held_by}
+use Rattle.aegis_base.specs.Saved.{saved_lane}
+use Rattle.aegis_base.proofs.HeldFacts.{along-held, held-along}
+use Rattle.aegis_engine.specs.Saved.{HasChecked, IsSaved, held_in}
+use Rattle.aegis_engine.specs.declared.saved.SavedRun.{SavedRun}
+use Rattle.aegis_engine.specs.declared.saved.TheConstants.{BEGUN}
+
+-- what stands for something has the mark
+pub mark-of : (variant : Variant) (run : SavedRun) (key nonce ad m : List ℕ) → IsSaved variant run key nonce ad m → run.mark ≡ BEGUN
+unfolding IsSaved
+mark-of variant run key nonce ad m is = is.0
+
+stands-of : (variant : Variant) (run : SavedRun) (key nonce ad m : List ℕ) → IsSaved variant run key nonce ad m
+    → Stands variant (held_in variant run) key nonce ad m
+unfolding IsSaved
+stands-of variant run key nonce ad m is = is.1
+
+saved-of : (variant : Variant) (run : SavedRun) (key nonce ad m : List ℕ) → run.mark ≡ BEGUN
+    → Stands variant (held_in variant run) key nonce ad m → IsSaved variant run key nonce ad m
+unfolding IsSaved
+saved-of variant run key nonce ad m marked is = (marked, is)
+
+-- other lanes that are the same
+along-lanes : (variant : Variant) (lanes here there : ℕ → List (List ℕ)) (block x : List ℕ) (t : ℕ)
+    → ((j : ℕ) → j < variant.lanes → there j ≡ here j) → IsAlong variant lanes here block x t → IsAlong variant lanes there block x t
+along-lanes variant lanes here there block x t same on = record {
+  whole = λ j inside. same j inside ∙ on.whole j inside;
+  open_block = on.open_block;
+}
+
+-- the same lanes after as many updates
+stands-same : (variant : Variant) (here there : ℕ → List (List ℕ)) (u v : ℕ) (block : List ℕ) (data_bytes message_bytes : ℕ) (key nonce ad m : List ℕ)
+    → ((j : ℕ) → j < variant.lanes → there j ≡ here j) → v ≡ block_count variant data_bytes + message_bytes / rate variant
+    → Stands variant (held_by variant here u block data_bytes message_bytes) key nonce ad m
+    → Stands variant (held_by variant there v block data_bytes message_bytes) key nonce ad m
+unfolding Stands
+stands-same variant here there u v block data_bytes message_bytes key nonce ad m same counted is =
+    let first : block_count variant data_bytes ≡ block_count variant (length ad) = ap (block_count variant) is.0 in
+    let second : message_bytes / rate variant ≡ length m / rate variant = ap (λ (q : ℕ). q / rate variant) is.1 in
+    let on = along-lanes variant (lane_before variant key nonce ad) here there block m (length m) same (held-along variant _ here block m _ is.3) in
+    (is.0, is.1, omega arith, along-held variant _ there block m _ on)
+
+module _ (variant : Variant) (lane : ℕ → List (List ℕ)) (updates : ℕ) (run : SavedRun) (key nonce ad m : List ℕ) where
+  -- lanes that are read from a run, with as many updates as its numbers of bytes give
+  pub restored : (r : ℕ) → r ≡ rate variant
+      → ((j : ℕ) → j < variant.lanes → lane j ≡ saved_lane variant run.rows j)
+      → updates ≡ block_count variant run.data_bytes + run.message_bytes / r
+      → IsSaved variant run key nonce ad m
+      → Stands variant (held_by variant lane updates run.block run.data_bytes run.message_bytes) key nonce ad m
+  restored r rate_is same counted is =
+      stands-same variant (saved_lane variant run.rows) lane _ updates run.block run.data_bytes run.message_bytes key nonce ad m same
+      (rw rate_is at counted) (stands-of variant run key nonce ad m is)
+
+  -- lanes that are written to a run
+  pub saved : run.mark ≡ BEGUN → ((j : ℕ) → j < variant.lanes → saved_lane variant run.rows j ≡ lane j)
+      → Stands variant (held_by variant lane updates run.block run.data_bytes run.message_bytes) key nonce ad m
+      → IsSaved variant run key nonce ad m
+  saved marked same is =
+      saved-of variant run key nonce ad m marked
+      (stands-same variant lane (saved_lane variant run.rows) updates _ run.block run.data_bytes run.message_bytes key nonce ad m same refl is)
+
+-- nothing is checked
+pub checked-none : (variant : Variant) (run : SavedRun) → HasChecked variant run run []
+checked-none variant run key nonce ad m is = ([], rw append-nil is, rw append-nil (sym (append-nil _)))
+
+-- more is checked
+pub checked-more : (variant : Variant) (run mid last : SavedRun) (b c : List ℕ)
+    → HasChecked variant run mid b → HasChecked variant mid last c → HasChecked variant run last (b ++ c)
+checked-more variant run mid last b c first second key nonce ad m is =
+    let one = first key nonce ad m is in
+    let two = second key nonce ad (m ++ one.0) one.1 in
+    let joined : (m ++ one.0) ++ two.0 ≡ m ++ (one.0 ++ two.0) = simp append_assoc in
+    let after : (ciphertext variant key nonce ad m ++ b) ++ c ≡ ciphertext variant key nonce ad m ++ (b ++ c) = simp append_assoc in (
+      one.0 ++ two.0,
+      rw joined at two.1,
+      ap (ciphertext variant key nonce ad) (sym joined) ∙ two.2 ∙ ap (λ (x : List ℕ). x ++ c) one.2 ∙ after,
+    )

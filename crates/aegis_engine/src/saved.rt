@@ -1,0 +1,243 @@
+//! Runs at rest: what a message or a MAC is made by, as bytes and numbers that a caller may keep between two calls.
+//!
+//! A saved run has no variant in its type; each call names the state that it is read as. Contracts say which key, nonce,
+//! associated data and message so far a run stands for, and what it stands for after a call. If its bytes stand for nothing
+//! the calls are still safe, as soon as its two numbers are within the limit. The mark tells a run from bytes that were
+//! never begun, or have ended.
+
+ghost use Rattle.std.specs.Prelude.{◌≡◌, ℕ, ◌+◌, ◌/◌, ◌≤◌, ◌↔◌, ◌++◌, List, [], length, true};
+ghost use Rattle.aegis_base.specs.Lane.{IsTagLength};
+ghost use Rattle.aegis_base.specs.Mac.{mac};
+ghost use Rattle.aegis_base.specs.Message.{Opens, block_count, ciphertext, tag as tag_of};
+ghost use Rattle.aegis_base.specs.Run.{Stands};
+ghost use Rattle.aegis_base.specs.Variant.{key_length};
+ghost use Rattle.aegis_engine.specs.Held.{held};
+ghost use Rattle.aegis_engine.specs.Saved.{HasChecked, HasSealed, HasTaken, IsSaved};
+
+use crate::mac::end_input;
+use crate::message::{absorb_more, begin, finish, open_more, seal_more};
+use crate::opening::has_tag;
+use crate::pass::{RateBlock, ZEROS};
+use crate::tag::{folded_tag, same_bytes};
+use aegis_base::{LaneState, MAX_AEAD_BYTES, SavedLanes, SavedRows};
+
+// A ciphertext is checked in copies of at most this many bytes, a multiple of every rate.
+const PIECE_BYTES: usize = 512;
+
+/// The mark of a run from its beginning to its end, which other bytes seldom have by chance.
+pub const BEGUN: u64 = 0x6165_6769_732d_7275;
+
+/// A run between two calls: the mark, the lanes' rows, the open block, and how many bytes of associated data and of the
+/// message were taken in.
+#[repr(C)]
+#[derive(Clone, Copy)]
+pub struct SavedRun {
+    pub mark: u64,
+    pub rows: SavedRows,
+    pub block: RateBlock,
+    pub data_bytes: u64,
+    pub message_bytes: u64,
+}
+
+/// A run after its end: zeros.
+pub const ENDED: SavedRun = SavedRun {
+    mark: 0,
+    rows: SavedRows {
+        first_pair: [0; 128],
+        second_pair: [0; 128],
+        third_pair: [0; 128],
+        fourth_pair: [0; 128],
+    },
+    block: ZEROS,
+    data_bytes: 0,
+    message_bytes: 0,
+};
+
+// How many updates lanes have made since their start along this many bytes of associated data and of a message.
+fn updates_along<S: LaneState>(data_bytes: u64, message_bytes: u64) -> u64
+    requires associated_data_within { data_bytes ≤ MAX_AEAD_BYTES }
+    requires message_within { message_bytes ≤ MAX_AEAD_BYTES }
+    ensures value { result ≡ block_count S.VARIANT data_bytes + message_bytes / S.RATE }
+    ensures few { result ≤ data_bytes + message_bytes }
+{
+    let rate = S::RATE as u64;
+    (data_bytes + (rate - 1)) / rate + message_bytes / rate
+}
+
+impl SavedRun {
+    // The lanes.
+    fn lanes<S: SavedLanes>(&self) -> S
+        requires associated_data_within { self.now.data_bytes ≤ MAX_AEAD_BYTES }
+        requires message_within { self.now.message_bytes ≤ MAX_AEAD_BYTES }
+        ensures stands { (key nonce ad m : List ℕ) → IsSaved S.VARIANT self.now key nonce ad m
+            → Stands S.VARIANT
+            (held S.LaneState result self.now.block self.now.data_bytes self.now.message_bytes)
+            key nonce ad m }
+        ensures few { S.updates result ≤ self.now.data_bytes + self.now.message_bytes }
+    {
+        let count = updates_along::<S>(self.data_bytes, self.message_bytes);
+        S::restore(&self.rows, count)
+    }
+
+    /// Begins a message, or a MAC, which has no associated data.
+    pub fn begin<S: SavedLanes>(&mut self, key: &[u8], nonce: &[u8], ad: &[u8])
+        requires key_length { length key.now ≡ key_length S.VARIANT.family }
+        requires nonce_length { length nonce.now ≡ key_length S.VARIANT.family }
+        requires associated_data_within { length ad.now ≤ MAX_AEAD_BYTES }
+        ensures stands { IsSaved S.VARIANT self.new key.now nonce.now ad.now [] }
+        ensures empty { ciphertext S.VARIANT key.now nonce.now ad.now [] ≡ [] }
+    {
+        begin::<S>(key, nonce, ad).save(&mut self.rows);
+        self.mark = BEGUN;
+        self.block = ZEROS;
+        self.data_bytes = ad.len() as u64;
+        self.message_bytes = 0;
+    }
+
+    /// Seals the next bytes of the message in place.
+    pub fn seal<S: SavedLanes>(&mut self, mc: &mut [u8])
+        requires associated_data_within { self.old.data_bytes ≤ MAX_AEAD_BYTES }
+        requires message_within { self.old.message_bytes + length mc.old ≤ MAX_AEAD_BYTES }
+        ensures taken { HasTaken S.VARIANT self.old self.new mc.old }
+        ensures written { HasSealed S.VARIANT self.old mc.old mc.new }
+    {
+        let next = seal_more(
+            self.lanes::<S>(),
+            &mut self.block,
+            self.data_bytes,
+            self.message_bytes,
+            mc,
+        );
+        next.save(&mut self.rows);
+        self.message_bytes += mc.len() as u64;
+    }
+
+    /// Opens the next bytes of the ciphertext in place, whatever the tag will be.
+    pub fn open<S: SavedLanes>(&mut self, mc: &mut [u8])
+        requires associated_data_within { self.old.data_bytes ≤ MAX_AEAD_BYTES }
+        requires message_within { self.old.message_bytes + length mc.old ≤ MAX_AEAD_BYTES }
+        ensures taken { HasTaken S.VARIANT self.old self.new mc.new }
+        ensures written { HasSealed S.VARIANT self.old mc.new mc.old }
+        ensures associated_data { self.new.data_bytes ≡ self.old.data_bytes }
+        ensures counted { self.new.message_bytes ≡ self.old.message_bytes + length mc.old }
+    {
+        let next = open_more(
+            self.lanes::<S>(),
+            &mut self.block,
+            self.data_bytes,
+            self.message_bytes,
+            mc,
+        );
+        next.save(&mut self.rows);
+        self.message_bytes += mc.len() as u64;
+    }
+
+    // Takes in a piece of the ciphertext, which is opened in a copy.
+    fn check_piece<S: SavedLanes>(&mut self, piece: &[u8])
+        requires short { length piece.now ≤ 512 }
+        requires associated_data_within { self.old.data_bytes ≤ MAX_AEAD_BYTES }
+        requires message_within { self.old.message_bytes + length piece.now ≤ MAX_AEAD_BYTES }
+        ensures checked { HasChecked S.VARIANT self.old self.new piece.now }
+        ensures associated_data { self.new.data_bytes ≡ self.old.data_bytes }
+        ensures counted { self.new.message_bytes ≡ self.old.message_bytes + length piece.now }
+    {
+        let mut copy = [0; PIECE_BYTES];
+        let part = &mut copy[..piece.len()];
+        part.copy_from_slice(piece);
+        self.open::<S>(part);
+    }
+
+    /// Takes in the next bytes of the ciphertext, and writes none of the message.
+    pub fn check<S: SavedLanes>(&mut self, c: &[u8])
+        requires associated_data_within { self.old.data_bytes ≤ MAX_AEAD_BYTES }
+        requires message_within { self.old.message_bytes + length c.now ≤ MAX_AEAD_BYTES }
+        ensures { HasChecked S.VARIANT self.old self.new c.now }
+    {
+        for piece in c.chunks(PIECE_BYTES) {
+            self.check_piece::<S>(piece);
+        }
+    }
+
+    /// Takes in the next bytes of the input of a MAC.
+    pub fn absorb<S: SavedLanes>(&mut self, input: &[u8])
+        requires associated_data_within { self.old.data_bytes ≤ MAX_AEAD_BYTES }
+        requires message_within { self.old.message_bytes + length input.now ≤ MAX_AEAD_BYTES }
+        ensures { HasTaken S.VARIANT self.old self.new input.now }
+    {
+        let next = absorb_more(
+            self.lanes::<S>(),
+            &mut self.block,
+            self.message_bytes,
+            input,
+        );
+        next.save(&mut self.rows);
+        self.message_bytes += input.len() as u64;
+    }
+
+    /// The tag of the message.
+    pub fn tag<S: SavedLanes, const TAG_BYTES: usize>(&self) -> [u8; TAG_BYTES]
+        requires tag_bytes { IsTagLength TAG_BYTES }
+        requires associated_data_within { self.now.data_bytes ≤ MAX_AEAD_BYTES }
+        requires message_within { self.now.message_bytes ≤ MAX_AEAD_BYTES }
+        ensures { (key nonce ad m : List ℕ) → IsSaved S.VARIANT self.now key nonce ad m
+            → result ≡ tag_of S.VARIANT TAG_BYTES key nonce ad m }
+    {
+        finish(
+            self.lanes::<S>(),
+            &self.block,
+            self.data_bytes,
+            self.message_bytes,
+        )
+    }
+
+    /// Whether this is the tag of the message. The comparison looks at every byte.
+    pub fn has_tag<S: SavedLanes, const TAG_BYTES: usize>(&self, tag: &[u8; TAG_BYTES]) -> bool
+        requires tag_bytes { IsTagLength TAG_BYTES }
+        requires associated_data_within { self.now.data_bytes ≤ MAX_AEAD_BYTES }
+        requires message_within { self.now.message_bytes ≤ MAX_AEAD_BYTES }
+        ensures tag { (key nonce ad m : List ℕ) → IsSaved S.VARIANT self.now key nonce ad m
+            → (result ≡ true) ↔ (tag.now ≡ tag_of S.VARIANT TAG_BYTES key nonce ad m) }
+        ensures accepted { (key nonce ad m opened : List ℕ)
+            → IsSaved S.VARIANT self.now key nonce ad m
+            → Opens S.VARIANT TAG_BYTES key nonce ad
+            (ciphertext S.VARIANT key nonce ad m) tag.now opened
+            → result ≡ true }
+    {
+        has_tag(
+            self.lanes::<S>(),
+            &self.block,
+            self.data_bytes,
+            self.message_bytes,
+            tag,
+        )
+    }
+
+    /// The MAC of the input.
+    pub fn mac<S: SavedLanes, const TAG_BYTES: usize>(&self) -> [u8; TAG_BYTES]
+        requires tag_bytes { IsTagLength TAG_BYTES }
+        requires no_associated_data { self.now.data_bytes ≡ 0 }
+        requires input_within { self.now.message_bytes ≤ MAX_AEAD_BYTES }
+        ensures { (key nonce x : List ℕ) → IsSaved S.VARIANT self.now key nonce [] x
+            → result ≡ mac S.VARIANT TAG_BYTES key nonce x }
+    {
+        folded_tag(end_input::<S, TAG_BYTES>(self.lanes::<S>(), &self.block, self.message_bytes))
+    }
+
+    /// Whether this is the MAC of the input. The comparison looks at every byte.
+    pub fn has_mac<S: SavedLanes, const TAG_BYTES: usize>(&self, expected: &[u8; TAG_BYTES]) -> bool
+        requires tag_bytes { IsTagLength TAG_BYTES }
+        requires no_associated_data { self.now.data_bytes ≡ 0 }
+        requires input_within { self.now.message_bytes ≤ MAX_AEAD_BYTES }
+        ensures { (key nonce x : List ℕ) → IsSaved S.VARIANT self.now key nonce [] x
+            → (result ≡ true) ↔ (expected.now ≡ mac S.VARIANT TAG_BYTES key nonce x) }
+    {
+        same_bytes(&self.mac::<S, TAG_BYTES>(), expected)
+    }
+
+    /// Ends the run: it is overwritten with zeros.
+    pub fn end(&mut self)
+        ensures { self.new ≡ ENDED }
+    {
+        *self = ENDED;
+    }
+}
