@@ -96,6 +96,8 @@ check-c-%: $(OUT)/%/libhunkravy.a $(OUT)/%/driver
 	$(OUT)/$*/seal-c
 	$(CC) -std=c99 $(C_FLAGS) -O2 examples/c/libaegis.c $< -o $(OUT)/$*/libaegis-c
 	$(OUT)/$*/libaegis-c
+	$(CC) -std=c99 $(C_FLAGS) -O2 -g -fsanitize=address,undefined examples/c/chunks.c $< -o $(OUT)/$*/chunks-c
+	$(OUT)/$*/chunks-c
 	$(RUSTC) examples/rust/seal.rs -L native=$(OUT)/$* -l static=hunkravy -o $(OUT)/$*/seal-rust
 	$(OUT)/$*/seal-rust
 	$(OUT)/$*/driver

@@ -10,9 +10,7 @@ ghost use Rattle.aegis_base.specs.Variant.{Family128};
 ghost use Rattle.aegis_base.specs.Lane.{add_context, first_blocks, high_tag, keystream_blocks, last_block, low_tag, block_in, short_tag, start, start_turn, step};
 
 use aegis_aes::{AesBlock, Pair, Row};
-use aegis_base::{
-    C0, C1, LaneState, SavedLanes, SavedRows, bit_lengths, block_in_all_lanes,
-};
+use aegis_base::{C0, C1, LaneState, SavedLanes, SavedRows, bit_lengths, block_in_all_lanes};
 
 /// The lanes of AEGIS-128L, 128X2 or 128X4: their rows, each with one block of every lane, and the count of updates since the
 /// start.

@@ -10,9 +10,7 @@ ghost use Rattle.aegis_base.specs.Variant.{Family256};
 ghost use Rattle.aegis_base.specs.Lane.{add_context, first_blocks, high_half, high_tag, keystream_blocks, last_block, low_half, low_tag, block_in, short_tag, start, start_turn, step};
 
 use aegis_aes::{AesBlock, Pair, Row};
-use aegis_base::{
-    C0, C1, LaneState, SavedLanes, SavedRows, bit_lengths, block_in_all_lanes,
-};
+use aegis_base::{C0, C1, LaneState, SavedLanes, SavedRows, bit_lengths, block_in_all_lanes};
 
 // The first block of a key or nonce.
 fn low_half(bytes: &[u8]) -> AesBlock

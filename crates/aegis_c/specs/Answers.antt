@@ -1,7 +1,9 @@
--- What a call answers to the lengths that it is given.
-use Rattle.std.specs.Prelude.{ℕ, ℤ, ◌==◌, ◌||◌, leb, if◌then◌else◌}
+-- What a call answers to the lengths and the state that it is given.
+use Rattle.std.specs.Prelude.{ℕ, ℤ, ◌+◌, ◌==◌, ◌||◌, leb, if◌then◌else◌}
 use Rattle.aegis_base.specs.declared.error.TheConstants.{MAX_AEAD_BYTES}
-use Rattle.aegis_c.specs.declared.answer.TheConstants.{DONE, WRONG_NONCE_LENGTH, WRONG_KEY_LENGTH, MESSAGE_TOO_LONG, DATA_TOO_LONG, WRONG_TAG_LENGTH}
+use Rattle.aegis_engine.specs.declared.saved.SavedRun.{SavedRun}
+use Rattle.aegis_engine.specs.declared.saved.TheConstants.{BEGUN}
+use Rattle.aegis_c.specs.declared.answer.TheConstants.{DONE, WRONG_NONCE_LENGTH, WRONG_KEY_LENGTH, MESSAGE_TOO_LONG, DATA_TOO_LONG, WRONG_TAG_LENGTH, WRONG_STATE}
 
 -- to a tag
 abbrev pub tag_answer : ℕ → ℤ
@@ -28,3 +30,22 @@ seal_answer n key nonce message ad tag = key_answer n key nonce (message_answer 
 -- to the lengths that a MAC has to do with: as to a message without associated data
 abbrev pub mac_answer : ℕ → ℕ → ℕ → ℕ → ℕ → ℤ
 mac_answer n key nonce input mac = seal_answer n key nonce input 0 mac
+
+-- to a state: its mark and its two numbers; and then the answer to the rest
+abbrev pub state_answer : SavedRun → ℤ → ℤ
+state_answer run rest =
+    if run.mark == BEGUN
+    then (if leb run.data_bytes MAX_AEAD_BYTES then (if leb run.message_bytes MAX_AEAD_BYTES then rest else WRONG_STATE) else WRONG_STATE)
+    else WRONG_STATE
+
+-- to a state and the length of the next bytes
+abbrev pub chunk_answer : SavedRun → ℕ → ℤ
+chunk_answer run more = state_answer run (if leb (run.message_bytes + more) MAX_AEAD_BYTES then DONE else MESSAGE_TOO_LONG)
+
+-- to a state and the length of the tag at its end
+abbrev pub end_answer : SavedRun → ℕ → ℤ
+end_answer run tag = state_answer run (tag_answer tag)
+
+-- to a state and the length of its MAC; the state of a MAC has no associated data
+abbrev pub mac_end_answer : SavedRun → ℕ → ℤ
+mac_end_answer run tag = if run.data_bytes == 0 then end_answer run tag else WRONG_STATE

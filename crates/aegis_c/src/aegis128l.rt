@@ -3,11 +3,15 @@
 ghost use Rattle.std.specs.Prelude.{length};
 ghost use Rattle.aegis_base.specs.Variant.{Aegis128L};
 ghost use Rattle.aegis_base.specs.Message.{keystream, xor_keystream};
-ghost use Rattle.aegis_c.specs.Calls.{MakesMac, OpensOrErases, Seals, WritesKeystream, VerifiesMac};
+ghost use Rattle.aegis_c.specs.Calls.{Begins, ChecksMac, ChecksMore, EndsOpening, EndsSealing, GivesMac, MakesMac, OpensMore, OpensOrErases, Seals, SealsMore, TakesMore, VerifiesMac, WritesKeystream};
 
 use crate::answer::*;
 use crate::calls::*;
+use crate::state::*;
 use aegis::aegis128l::{Aegis128L, Aegis128LMac};
+use aegis_128::State128;
+use aegis_aes::AesBlock2;
+use aegis_engine::SavedRun;
 
 /// Turns the message at `mc` into its ciphertext, and writes its tag to `mac`.
 #[unsafe(no_mangle)]
@@ -83,4 +87,97 @@ pub extern "C" fn hunkravy_aegis128l_mac_verify_nonnull(
     ensures { VerifiesMac Aegis128L 16 k.now npub.now input.now mac.now result }
 {
     mac_verify!(Aegis128LMac, input, npub, k, mac)
+}
+
+// The lanes of a state.
+type Lanes = State128<AesBlock2>;
+
+/// Begins a message, or a MAC, which has no associated data, at `st`.
+#[unsafe(no_mangle)]
+pub extern "C" fn hunkravy_aegis128l_state_init_nonnull(
+    st: &mut SavedRun,
+    ad: &[u8],
+    npub: &[u8],
+    k: &[u8],
+) -> i32
+    ensures { Begins Aegis128L 16 k.now npub.now ad.now st.old st.new result }
+{
+    begin::<Lanes, 16>(st, ad, npub, k)
+}
+
+/// Turns the next bytes of the message at `mc` into those of its ciphertext.
+#[unsafe(no_mangle)]
+pub extern "C" fn hunkravy_aegis128l_state_encrypt_in_place_nonnull(
+    st: &mut SavedRun,
+    mc: &mut [u8],
+) -> i32
+    ensures { SealsMore Aegis128L st.old st.new mc.old mc.new result }
+{
+    seal_more::<Lanes>(st, mc)
+}
+
+/// Writes the tag of the message to `mac`, and ends the state.
+#[unsafe(no_mangle)]
+pub extern "C" fn hunkravy_aegis128l_state_encrypt_final_nonnull(
+    st: &mut SavedRun,
+    mac: &mut [u8],
+) -> i32
+    ensures { EndsSealing Aegis128L st.old st.new mac.old mac.new result }
+{
+    end_sealing::<Lanes>(st, mac)
+}
+
+/// Turns the next bytes of the ciphertext at `mc` into those of its message, whatever the tag will be.
+#[unsafe(no_mangle)]
+pub extern "C" fn hunkravy_aegis128l_state_decrypt_in_place_unverified_nonnull(
+    st: &mut SavedRun,
+    mc: &mut [u8],
+) -> i32
+    ensures { OpensMore Aegis128L st.old st.new mc.old mc.new result }
+{
+    open_more::<Lanes>(st, mc)
+}
+
+/// Takes in the next bytes of the ciphertext, and writes nothing of the message.
+#[unsafe(no_mangle)]
+pub extern "C" fn hunkravy_aegis128l_state_decrypt_check_nonnull(st: &mut SavedRun, c: &[u8]) -> i32
+    ensures { ChecksMore Aegis128L st.old st.new c.now result }
+{
+    check_more::<Lanes>(st, c)
+}
+
+/// Whether `mac` is the tag of the message, whose bytes at `m` are erased if it is not. Ends the state.
+#[unsafe(no_mangle)]
+pub extern "C" fn hunkravy_aegis128l_state_decrypt_final_nonnull(
+    st: &mut SavedRun,
+    m: &mut [u8],
+    mac: &[u8],
+) -> i32
+    ensures { EndsOpening Aegis128L st.old st.new m.old m.new mac.now result }
+{
+    end_opening::<Lanes>(st, m, mac)
+}
+
+/// Takes in the next bytes of the input of a MAC.
+#[unsafe(no_mangle)]
+pub extern "C" fn hunkravy_aegis128l_mac_update_nonnull(st: &mut SavedRun, input: &[u8]) -> i32
+    ensures { TakesMore Aegis128L st.old st.new input.now result }
+{
+    take_more::<Lanes>(st, input)
+}
+
+/// Writes the MAC of the input so far to `mac`.
+#[unsafe(no_mangle)]
+pub extern "C" fn hunkravy_aegis128l_mac_final_nonnull(st: &SavedRun, mac: &mut [u8]) -> i32
+    ensures { GivesMac Aegis128L st.now mac.old mac.new result }
+{
+    give_mac::<Lanes>(st, mac)
+}
+
+/// Whether `mac` is the MAC of the input so far.
+#[unsafe(no_mangle)]
+pub extern "C" fn hunkravy_aegis128l_mac_final_verify_nonnull(st: &SavedRun, mac: &[u8]) -> i32
+    ensures { ChecksMac Aegis128L st.now mac.now result }
+{
+    check_mac::<Lanes>(st, mac)
 }

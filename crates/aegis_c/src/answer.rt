@@ -20,3 +20,6 @@ pub const DATA_TOO_LONG: i32 = -5;
 
 /// The tag has neither 16 nor 32 bytes.
 pub const WRONG_TAG_LENGTH: i32 = -6;
+
+/// The state has ended, or it was never begun.
+pub const WRONG_STATE: i32 = -7;

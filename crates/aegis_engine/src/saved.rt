@@ -101,13 +101,9 @@ impl SavedRun {
         ensures taken { HasTaken S.VARIANT self.old self.new mc.old }
         ensures written { HasSealed S.VARIANT self.old mc.old mc.new }
     {
-        let next = seal_more(
-            self.lanes::<S>(),
-            &mut self.block,
-            self.data_bytes,
-            self.message_bytes,
-            mc,
-        );
+        let so_far = self.message_bytes;
+        let state = self.lanes::<S>();
+        let next = seal_more(state, &mut self.block, self.data_bytes, so_far, mc);
         next.save(&mut self.rows);
         self.message_bytes += mc.len() as u64;
     }
@@ -121,13 +117,9 @@ impl SavedRun {
         ensures associated_data { self.new.data_bytes ≡ self.old.data_bytes }
         ensures counted { self.new.message_bytes ≡ self.old.message_bytes + length mc.old }
     {
-        let next = open_more(
-            self.lanes::<S>(),
-            &mut self.block,
-            self.data_bytes,
-            self.message_bytes,
-            mc,
-        );
+        let so_far = self.message_bytes;
+        let state = self.lanes::<S>();
+        let next = open_more(state, &mut self.block, self.data_bytes, so_far, mc);
         next.save(&mut self.rows);
         self.message_bytes += mc.len() as u64;
     }
@@ -164,12 +156,8 @@ impl SavedRun {
         requires message_within { self.old.message_bytes + length input.now ≤ MAX_AEAD_BYTES }
         ensures { HasTaken S.VARIANT self.old self.new input.now }
     {
-        let next = absorb_more(
-            self.lanes::<S>(),
-            &mut self.block,
-            self.message_bytes,
-            input,
-        );
+        let state = self.lanes::<S>();
+        let next = absorb_more(state, &mut self.block, self.message_bytes, input);
         next.save(&mut self.rows);
         self.message_bytes += input.len() as u64;
     }
