@@ -1,4 +1,4 @@
-.PHONY: run test check-pages bench bench-peers c-library check-c check-header check-install install
+.PHONY: run test check-pages bench bench-peers c-library check-c check-header check-install install install-tool check-tool
 .SECONDARY:
 
 SHELL = /bin/bash
@@ -117,6 +117,24 @@ check-install: | $(OUT)
 			$$(PKG_CONFIG_PATH=$(PREFIX)/lib/pkgconfig pkg-config --cflags --libs hunkravy) \
 			-o $(OUT)/$$example-installed && $(OUT)/$$example-installed || exit 1; \
 	done
+
+# ---- The file tool
+
+TOOL = crates/hunkravy/out/hunkravy
+TOOL_SOURCES = $(shell find $(addprefix crates/,aegis_aes aegis_base aegis_128 aegis_256 aegis_engine aegis aegis_files hunkravy) -name out -prune -o -type f -print)
+
+$(TOOL): $(TOOL_SOURCES) crates.txt
+	cd crates/hunkravy && rt run -- --help > /dev/null
+	@touch $@
+
+# Installs the program hunkravy.
+install-tool: $(TOOL)
+	install -d $(DESTDIR)$(PREFIX)/bin
+	install -m 755 $(TOOL) $(DESTDIR)$(PREFIX)/bin/hunkravy
+
+# The tests of the program that need files, pipes and kills: some minutes, and 100 MB of disk.
+check-tool: $(TOOL)
+	crates/hunkravy/check.sh $(TOOL)
 
 # ---- Speed
 

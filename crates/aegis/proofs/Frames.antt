@@ -79,14 +79,14 @@ flag_open : (ms : List (List ℕ)) → flag_before 0 ms ≡ 0
 flag_open [] = refl
 flag_open (m ∷ ms) = refl
 
-frames_more : (sealing : Sealing) (v : Version) (k o : ℕ) (m : List ℕ) (ms : List (List ℕ)) (x : List ℕ)
+pub frames_more : (sealing : Sealing) (v : Version) (k o : ℕ) (m : List ℕ) (ms : List (List ℕ)) (x : List ℕ)
     → frames sealing v 0 k o (m ∷ ms) ++ x ≡ frame sealing v k o 0 m ++ (frames sealing v 0 (k + 1) (o + length m) ms ++ x)
 unfolding frames
 frames_more sealing v k o m ms x =
     append_assoc (frame sealing v k o (flag_before 0 ms) m) (frames sealing v 0 (k + 1) (o + length m) ms) x
     ∙ ap (λ (f : ℕ). frame sealing v k o f m ++ (frames sealing v 0 (k + 1) (o + length m) ms ++ x)) (flag_open ms)
 
-frames_none : (sealing : Sealing) (v : Version) (last k o : ℕ) (x : List ℕ) → frames sealing v last k o [] ++ x ≡ x
+pub frames_none : (sealing : Sealing) (v : Version) (last k o : ℕ) (x : List ℕ) → frames sealing v last k o [] ++ x ≡ x
 unfolding frames
 frames_none sealing v last k o x = refl
 
@@ -116,7 +116,7 @@ one_front sealing is v k o K O K' O' (m ∷ ms) (n ∷ ns) x y mw nw a b c d p q
 differ : (n : ℕ) → n ≡ 49 → n ≡ 50 → ⊥
 differ n a b = absurd (omega arith)
 
-header_one : (v w : Version) (a b : List ℕ) → header v ++ a ≡ header w ++ b → (v ≡ w) × (a ≡ b)
+pub header_one : (v w : Version) (a b : List ℕ) → header v ++ a ≡ header w ++ b → (v ≡ w) × (a ≡ b)
 header_one First First a b e = (refl, append_cancel_left (header First) a b e)
 header_one Second Second a b e = (refl, append_cancel_left (header Second) a b e)
 header_one First Second a b e = absurd (differ 49 refl (ap (λ (l : List ℕ). get_or l 3 0) e))

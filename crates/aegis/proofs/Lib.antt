@@ -1,8 +1,10 @@
 pub mod Frames
+pub mod Fronts
 pub mod Lengths
 mod Pieces
 pub mod Reading
 pub mod Sealed
 pub mod Limits
+pub mod Stepwise
 pub mod Streams
 pub mod Writing

@@ -110,7 +110,7 @@ frames_push sealing v last k o (n ∷ ms) m =
     flag_same [] = refl
     flag_same (n ∷ ms) = refl
 
-within_push : (v : Version) (ms : List (List ℕ)) (m : List ℕ) → AreWithin v ms → length m ≤ limit v → AreWithin v (ms ++ m ∷ [])
+pub within_push : (v : Version) (ms : List (List ℕ)) (m : List ℕ) → AreWithin v ms → length m ≤ limit v → AreWithin v (ms ++ m ∷ [])
 within_push v [] m ws w = (w, tt)
 within_push v (n ∷ ms) m ws w = (ws.0, within_push v ms m ws.1 w)
 

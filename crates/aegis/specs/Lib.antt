@@ -1,4 +1,5 @@
 pub mod Calls
 pub mod Fault
+pub mod Progress
 pub mod Records
 pub mod RecordStream

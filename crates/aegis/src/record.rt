@@ -6,6 +6,8 @@
 //! number in eight bytes; its associated data has the header, the number, in version 2 how many bytes the messages before it
 //! have, the flag and the context.
 //!
+//! [`RecordSealer`] and [`RecordOpener`] seal and open a stream a record at a time.
+//!
 //! Not covered: that a prefix is used once under its key, which the caller has to ensure.
 mod error;
 mod frame;
@@ -14,13 +16,17 @@ mod length;
 mod migration;
 mod open;
 mod record_cipher;
+mod record_opener;
+mod record_sealer;
 mod seal;
 mod version;
 
 pub use error::RecordError;
-pub use length::records_len;
+pub use length::{RECORD_BYTES, records_len};
 pub use migration::migrate;
 pub use open::open_records;
 pub use record_cipher::MAX_CONTEXT_BYTES;
+pub use record_opener::{Opened, RecordOpener};
+pub use record_sealer::RecordSealer;
 pub use seal::seal_records;
 pub use version::MAX_MESSAGE_BYTES;

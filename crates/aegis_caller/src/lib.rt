@@ -7,6 +7,7 @@ pub mod encrypted_file;
 pub mod headline;
 pub mod opening;
 pub mod record_protocol;
+pub mod record_steps;
 pub mod records;
 pub mod session_token;
 pub mod stored_value;

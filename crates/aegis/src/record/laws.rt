@@ -1,10 +1,12 @@
 //! Laws of record streams: functions that do nothing, whose contracts say what holds of the definitions that the other
 //! contracts cite.
 
-ghost use Rattle.std.specs.Prelude.{◌≡◌, List, length, ℕ};
+ghost use Rattle.std.specs.Prelude.{◌≡◌, ◌<◌, ◌++◌, List, length, ℕ};
 ghost use Rattle.aegis.specs.Fault.{IsOneFault};
-ghost use Rattle.aegis.specs.Records.{AreRecords, sealed};
+ghost use Rattle.aegis.specs.Progress.{AreRecordsOfSomeVersion, Begun, Progress};
+ghost use Rattle.aegis.specs.Records.{AreRecords, IsFault, sealed};
 ghost use Rattle.aegis.specs.RecordStream.{IsOneRecordStream, records_length};
+ghost use Rattle.aegis.specs.declared.record.error.RecordError.TheVariants.{Trailing};
 ghost use Rattle.aegis.specs.declared.record.version.Version.{Version};
 
 /// Two lists of messages, or two versions, never have one stream where key, prefix and context are the same, nor is a stream
@@ -23,4 +25,20 @@ pub fn record_stream_lengths()
     ensures { (v : Version) (key prefix context : List ℕ) (ms : List (List ℕ))
         (bytes : List ℕ)
         → AreRecords v key prefix context ms bytes → length bytes ≡ records_length ms }
+{}
+
+/// The messages before the last record are a proper front of the list of any stream that begins with the same bytes: so no
+/// stream ends there.
+pub fn begun_is_a_front()
+    ensures { (p : Progress) (key prefix context : List ℕ) (ms : List (List ℕ)) (bytes : List ℕ)
+        → Begun p key prefix context ms bytes → (ns : List (List ℕ)) (more : List ℕ)
+        → AreRecordsOfSomeVersion key prefix context ns (bytes ++ more)
+        → (rest : List (List ℕ)) × (ns ≡ ms ++ rest) × (0 < length rest) }
+{}
+
+/// Bytes after a stream are its fault.
+pub fn bytes_behind_a_stream()
+    ensures { (key prefix context : List ℕ) (ms : List (List ℕ)) (bytes rest : List ℕ)
+        → AreRecordsOfSomeVersion key prefix context ms bytes
+        → 0 < length rest → IsFault key prefix context (bytes ++ rest) Trailing }
 {}

@@ -7,10 +7,10 @@ ghost use Rattle.aegis.specs.RecordStream.{records_length};
 use aegis_base::MAX_AEAD_BYTES;
 
 /// How many bytes a header has.
-const HEADER_BYTES: u64 = 4;
+pub const HEADER_BYTES: u64 = 4;
 
 /// How many bytes a record adds to its message: a flag, a length and a tag.
-const RECORD_BYTES: u64 = 1 + 4 + 32;
+pub const RECORD_BYTES: u64 = 1 + 4 + 32;
 
 /// How many bytes the stream of the messages has: 4, and for each message 37 and its length. It is `None` exactly where that
 /// passes [`MAX_AEAD_BYTES`].

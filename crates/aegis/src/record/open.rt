@@ -14,7 +14,7 @@ use crate::record::version::Version;
 use std::alloc::Allocator;
 
 // The version that the header names, and what follows the header.
-fn version_of(bytes: &[u8]) -> Option<(Version, &[u8])>
+pub(crate) fn version_of(bytes: &[u8]) -> Option<(Version, &[u8])>
     ensures some { IfSome result (λ found. bytes.now ≡ header found.0 ++ found.1.now) }
     ensures none { IfNone result ((v : Version) → take 4 bytes.now ≢ header v) }
 {
@@ -32,7 +32,7 @@ fn version_of(bytes: &[u8]) -> Option<(Version, &[u8])>
 }
 
 // Reads and opens the record at the front of the bytes: where its parts are, and its message.
-fn open_record<'a, A: Allocator>(
+pub(crate) fn open_record<'a, A: Allocator>(
     alloc: A,
     ad: &mut Vec<u8, A>,
     cipher: &RecordCipher<'_>,

@@ -1,6 +1,6 @@
 //! The cipher of a stream's records.
 
-ghost use Rattle.std.specs.Prelude.{◌≡◌, ◌≢◌, ◌≤◌, ◌⊎◌, ◌+◌, ◌++◌, IfErr, IfOk, List, OnOk, length, ℕ};
+ghost use Rattle.std.specs.Prelude.{◌≡◌, ◌≢◌, ◌≤◌, ◌⊎◌, ◌+◌, ◌++◌, IfErr, IfOk, List, OnErr, OnOk, length, ℕ};
 ghost use Rattle.aegis.specs.Calls.{sealed_at};
 ghost use Rattle.aegis.specs.Records.{associated_data, nonce};
 ghost use Rattle.aegis.specs.RecordStream.{limit};
@@ -88,6 +88,7 @@ impl RecordCipher<'_> {
         ensures ok { OnOk result (out.new.items
             ≡ out.old.items ++ sealed_at self.now place message.now) }
         ensures err { IfErr result (λ e. e ≡ RecordError.OutOfMemory) }
+        ensures kept { OnErr result ((part : List ℕ) × (out.new.items ≡ out.old.items ++ part)) }
     {
         place.write_data(ad, self.context)?;
         let cipher = Aegis256::<TAG_BYTES>::new(self.key, &nonce(self.prefix, place.number));

@@ -1,6 +1,6 @@
 //! Sealing a stream.
 
-ghost use Rattle.std.specs.Prelude.{◌≡◌, ◌<◌, ◌≤◌, ◌++◌, IfErr, IfOk, OnOk, length};
+ghost use Rattle.std.specs.Prelude.{◌≡◌, ◌<◌, ◌≤◌, ◌++◌, IfErr, IfOk, List, OnErr, OnOk, length, ℕ};
 ghost use Rattle.aegis_base.specs.declared.error.TheConstants.{MAX_AEAD_BYTES};
 ghost use Rattle.aegis_base.specs.Chunks.{texts};
 ghost use Rattle.aegis.specs.Calls.{sealing_of};
@@ -16,10 +16,10 @@ use crate::record::version::{MAX_MESSAGE_BYTES, Version};
 use std::alloc::Allocator;
 
 /// The version that is written.
-const WRITTEN: Version = Version::Second;
+pub const WRITTEN: Version = Version::Second;
 
 // Appends a record.
-fn seal_record<A: Allocator>(
+pub(crate) fn seal_record<A: Allocator>(
     out: &mut Vec<u8, A>,
     ad: &mut Vec<u8, A>,
     cipher: &RecordCipher<'_>,
@@ -33,6 +33,7 @@ fn seal_record<A: Allocator>(
         ++ frame (sealing_of cipher.now) place.version place.number place.before place.flag
         message.now) }
     ensures err { IfErr result (λ e. e ≡ RecordError.OutOfMemory) }
+    ensures kept { OnErr result ((part : List ℕ) × (out.new.items ≡ out.old.items ++ part)) }
 {
     out.push(place.flag)?;
     out.extend_from_slice(&(message.len() as u32).to_le_bytes())?;

@@ -1,9 +1,9 @@
 //! The program over readers and writers in memory.
 
 use aegis_lines::run;
-use std::io;
-use std::io::{ErrorKind, Read, Write};
+use std::io::ErrorKind;
 use std::test::Fail;
+use test_tools::ends::{CutOff, Narrow};
 
 const ANSWER: &str = "error command\n";
 
@@ -15,57 +15,6 @@ const STREAM: &str =
     "stream aegis128l 59454c4c4f57205355424d4152494e45 00000000000000000000000000000000 0";
 
 const STREAM_ANSWER: &str = "-\n";
-
-/// Gives its bytes, and then an error in place of the end.
-#[derive(Drop)]
-struct CutOff<'a> {
-    left: &'a [u8],
-    error: ErrorKind,
-}
-
-impl Read for CutOff<'_> {
-    fn read(&mut self, buf: &mut [u8]) -> io::Result<usize> {
-        if self.left.is_empty() {
-            return Err(io::Error::from(self.error));
-        }
-        self.left.read(buf)
-    }
-}
-
-/// Takes one byte of each write while there is room, and then none, or gives the error.
-#[derive(Drop)]
-struct Narrow {
-    taken: Vec<u8>,
-    room: usize,
-    error: Option<ErrorKind>,
-    flushes: bool,
-}
-
-impl Write for Narrow {
-    fn write(&mut self, buf: &[u8]) -> io::Result<usize> {
-        if self.taken.len() >= self.room {
-            return match self.error {
-                Some(error) => Err(io::Error::from(error)),
-                None => Ok(0),
-            };
-        }
-        match buf.first() {
-            Some(byte) => {
-                self.taken.push(*byte)?;
-                Ok(1)
-            }
-            None => Ok(0),
-        }
-    }
-
-    fn flush(&mut self) -> io::Result<()> {
-        if self.flushes {
-            Ok(())
-        } else {
-            Err(io::Error::from(ErrorKind::BrokenPipe))
-        }
-    }
-}
 
 #[test]
 fn answers_each_line(rt: HostRuntime) -> Result<(), Fail> {

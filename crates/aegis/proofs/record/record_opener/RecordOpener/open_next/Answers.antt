@@ -1,0 +1,83 @@
+use Rattle.std.proofs.Common.{◌∙◌, ◌+◌, ap, arith, inr, refl}
+use Rattle.std.proofs.lemmas.Bool.{true≢false}
+use Rattle.std.proofs.lemmas.Result.{err_from_is_err_and}
+use Rattle.aegis.specs.Calls.{sealing_of}
+use Rattle.aegis.specs.Fault.{parts}
+use Rattle.aegis.specs.Progress.{Progress}
+use Rattle.aegis.proofs.Stepwise.{begun_ends, begun_fault_or, begun_next, begun_open, cut_of, last_are, next_are, read_long, read_of, taken_more}
+use Rattle.aegis.proofs.record.record_opener.RecordOpener.open_next.Goals as goal
+
+pub returns-then-self-clause-refused : goal.returns-then-self-clause-refused
+returns-then-self-clause-refused g c =
+    inr (λ key prefix context ms before more b cut. absurd (true≢false (rw (← c.self.view_is, c.if-self.true) at (begun_open _ key prefix context ms before b))))
+
+pub returns-in_err-frame-clause-refused : goal.returns-in_err-frame-clause-refused
+returns-in_err-frame-clause-refused g c =
+    let p = err_from_is_err_and c.from_residual.result c.from_residual.ensures.1 in
+    rw (p.1, p.2, ← c.self.view_is) (begun_fault_or _ c.args.bytes.now _ c.in_err-frame.ensures.refused)
+
+pub invariant_of-self-2 : goal.invariant_of-self-2
+invariant_of-self-2 g c =
+    let s = c.self.inside in
+    let p : Progress = record {
+      key = s.cipher.key.now;
+      prefix = s.cipher.prefix.now;
+      context = s.cipher.context.now;
+      version = s.version;
+      number = s.number;
+      before = s.before;
+      ended = s.ended;
+    } in
+    let long = read_long p _ _ _ _ (read_of p _ _ _ _ c.in_ok-frame.ensures.opened) in
+    let fits = rw (← c.self.view_is) at c.requires in
+    let size = c.len.ensures ∙ c.in_ok-frame.message.ok.0 in
+    (c.self.invariant.0, omega (arith, long, fits, size))
+
+pub returns-clause-next : goal.returns-clause-next
+returns-clause-next g c = rw (← c.self.view_is) (next_are _ _ _ _ _ (read_of _ _ _ _ _ c.in_ok-frame.ensures.opened))
+
+pub returns-clause-last : goal.returns-clause-last
+returns-clause-last g c = rw (← c.self.view_is) (last_are _ _ _ _ _ (read_of _ _ _ _ _ c.in_ok-frame.ensures.opened))
+
+pub returns-clause-begun : goal.returns-clause-begun
+returns-clause-begun g c =
+    rw (← c.self.view_is) (begun_next _ _ _ _ _ _ (read_of _ _ _ _ _ c.in_ok-frame.ensures.opened) (record {
+      key = refl;
+      prefix = refl;
+      context = refl;
+      version = refl;
+      number = refl;
+      before = ap (λ n. c.self.inside.before + n) (c.len.ensures ∙ c.in_ok-frame.message.ok.0);
+      ended = refl;
+    }))
+
+pub returns-clause-whole : goal.returns-clause-whole
+returns-clause-whole g c = rw (← c.self.view_is) (begun_ends _ _ _ _ _ (read_of _ _ _ _ _ c.in_ok-frame.ensures.opened))
+
+pub returns-clause-taken : goal.returns-clause-taken
+returns-clause-taken g c =
+    let s = c.self.inside in
+    let p : Progress = record {
+      key = s.cipher.key.now;
+      prefix = s.cipher.prefix.now;
+      context = s.cipher.context.now;
+      version = s.version;
+      number = s.number;
+      before = s.before;
+      ended = s.ended;
+    } in
+    rw (← c.self.view_is) (taken_more p _ _ _ _ _ (read_of p _ _ _ _ c.in_ok-frame.ensures.opened) (record {
+      key = refl;
+      prefix = refl;
+      context = refl;
+      version = refl;
+      number = refl;
+      before = ap (λ n. c.self.inside.before + n) (c.len.ensures ∙ c.in_ok-frame.message.ok.0);
+      ended = refl;
+    }))
+
+pub returns-in_err-frame-clause-cut : goal.returns-in_err-frame-clause-cut
+returns-in_err-frame-clause-cut g c =
+    let p = err_from_is_err_and c.from_residual.result c.from_residual.ensures.1 in
+    let s = c.self.inside in
+    rw (p.1, p.2, ← c.self.view_is) (cut_of (sealing_of s.cipher) s.version s.number s.before (parts s.version c.args.bytes.now) c.in_err-frame.field-0.0 c.in_err-frame.ensures.refused)

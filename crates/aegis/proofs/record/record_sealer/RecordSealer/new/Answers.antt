@@ -1,0 +1,6 @@
+use Rattle.std.proofs.Common.{refl}
+use Rattle.aegis.proofs.Stepwise.{begun_none}
+use Rattle.aegis.proofs.record.record_sealer.RecordSealer.new.Goals as goal
+
+pub returns-clause-begun : goal.returns-clause-begun
+returns-clause-begun g c = begun_none _ _ _ _ _ refl refl refl refl refl refl refl

@@ -1,0 +1,43 @@
+-- A stream that is sealed or opened a record at a time.
+use Rattle.std.specs.Prelude.{◌≡◌, ℕ, ◌+◌, ◌*◌, Bool, false, List, length}
+use Rattle.aegis.specs.declared.record.version.Version.{Version}
+use Rattle.aegis.specs.Records.{AreRecords, sealed}
+use Rattle.aegis.specs.RecordStream.{AreWithin, frame, front, total}
+
+-- What is known between two records: under what the stream is sealed, its version, the next record's number, how many bytes the
+-- messages before it have together, and whether there is no next record, since the last one was met.
+pub record Progress : Type 0 where
+  pub key : List ℕ
+  pub prefix : List ℕ
+  pub context : List ℕ
+  pub version : Version
+  pub number : ℕ
+  pub before : ℕ
+  pub ended : Bool
+
+-- the bytes of the next record, if it has this flag and message
+unfoldable pub record_of : Progress → ℕ → List ℕ → List ℕ
+record_of p flag m = frame (sealed p.key p.prefix p.context) p.version p.number p.before flag m
+
+-- how many bytes the stream has up to the next record
+abbrev pub taken : Progress → ℕ
+taken p = 4 + 37 * p.number + p.before
+
+-- the bytes are a header and the records of these messages, none of them the last, and the progress is the one after them
+pub record BegunStream (p : Progress) (key prefix context : List ℕ) (ms : List (List ℕ)) (bytes : List ℕ) : Type 0 where
+  pub key_is : p.key ≡ key
+  pub prefix_is : p.prefix ≡ prefix
+  pub context_is : p.context ≡ context
+  pub unended : p.ended ≡ false
+  pub number_is : p.number ≡ length ms
+  pub before_is : p.before ≡ total ms
+  pub within : AreWithin p.version ms
+  pub are : bytes ≡ front (sealed key prefix context) p.version 0 ms
+
+-- the same as one fact, which tactics do not take apart
+unfoldable pub Begun : Progress → List ℕ → List ℕ → List ℕ → List (List ℕ) → List ℕ → Type 0
+Begun p key prefix context ms bytes = BegunStream p key prefix context ms bytes
+
+-- the bytes are the stream of the messages, in some version
+abbrev pub AreRecordsOfSomeVersion : List ℕ → List ℕ → List ℕ → List (List ℕ) → List ℕ → Type 0
+AreRecordsOfSomeVersion key prefix context ms bytes = (v : Version) × AreRecords v key prefix context ms bytes

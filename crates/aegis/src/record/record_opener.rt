@@ -1,0 +1,203 @@
+//! Opening a stream a record at a time.
+
+ghost use Rattle.std.specs.Prelude.{◌≡◌, ◌≢◌, ◌+◌, ◌-◌, ◌<◌, ◌≤◌, ◌⊎◌, ◌++◌, ◌∷◌, [], Err, IfErr, IfOk, IsTrue, List, OnErr, false, length, true, ℕ};
+ghost use Rattle.std.specs.Bool.{OnFalse, OnTrue};
+ghost use Rattle.aegis_base.specs.declared.error.TheConstants.{MAX_AEAD_BYTES};
+ghost use Rattle.aegis.specs.Fault.{parts};
+ghost use Rattle.aegis.specs.Progress.{AreRecordsOfSomeVersion, Begun, record_of, taken};
+ghost use Rattle.aegis.specs.Records.{IsFault};
+
+use crate::aegis256::Key;
+use crate::record::error::RecordError;
+use crate::record::frame::TAG_BYTES;
+use crate::record::length::{HEADER_BYTES, RECORD_BYTES};
+use crate::record::open::{open_record, version_of};
+use crate::record::record_cipher::{MAX_CONTEXT_BYTES, RecordCipher, RecordPlace};
+use crate::record::version::{MAX_MESSAGE_BYTES, Version};
+use aegis_base::MAX_AEAD_BYTES;
+use std::alloc::Allocator;
+use std::marker::Model;
+
+/// A record that was opened.
+#[derive(Drop)]
+pub struct Opened<'b, A: Allocator> {
+    pub message: Vec<u8, A>,
+    /// Whether it is the stream's last record.
+    pub is_last: bool,
+    /// The bytes after the record.
+    pub rest: &'b [u8],
+}
+
+/// Opens a stream, of the version that its header names, a record at a time: each message is returned before the bytes of the
+/// next record are needed, so a stream of any length is opened in the memory of one record.
+///
+/// The messages that are returned before the last record are a proper front of the list of any stream that begins with the
+/// same bytes. A stream that was cut off shows as [`RecordError::Truncated`] only at the cut, so a caller that needs all of
+/// the messages has to wait for the last one.
+///
+/// In a contract an opener stands for a `Progress`: the key, prefix and context, the version, the next record's number, how
+/// many bytes the messages before it have, and whether the last record was opened. `Begun` says of which messages and bytes
+/// that is the progress.
+#[derive(Drop)]
+pub struct RecordOpener<'a, A: Allocator> {
+    alloc: A,
+    cipher: RecordCipher<'a>,
+    ad: Vec<u8, A>,
+    version: Version,
+    number: u64,
+    before: u64,
+    ended: bool,
+}
+
+impl<'a, A: Allocator> Model for RecordOpener<'a, A> {
+    ghost use Rattle.std.specs.Prelude.{◌+◌, ◌*◌, ◌≤◌, length};
+    ghost use Rattle.aegis_base.specs.declared.error.TheConstants.{MAX_AEAD_BYTES};
+    ghost use Rattle.aegis.specs.Progress.{Progress};
+    ghost use Rattle.aegis.specs.declared.record.record_cipher.TheConstants.{MAX_CONTEXT_BYTES};
+
+    ghost Value = { Progress };
+
+    ghost view = { λ s. record {
+      key = s.cipher.key.now;
+      prefix = s.cipher.prefix.now;
+      context = s.cipher.context.now;
+      version = s.version;
+      number = s.number;
+      before = s.before;
+      ended = s.ended;
+    } };
+
+    ghost invariant = { λ s. (length s.cipher.context.now ≤ MAX_CONTEXT_BYTES)
+        × (4 + 37 * s.number + s.before ≤ MAX_AEAD_BYTES) };
+}
+
+impl<'a, A: Allocator + Copy> RecordOpener<'a, A> {
+    /// Begins to open a stream. `header` is its first 4 bytes, or all of its bytes if it has fewer.
+    ///
+    /// The context has at most [`MAX_CONTEXT_BYTES`]. The error is [`RecordError::Header`] if no version has this header, or
+    /// [`RecordError::OutOfMemory`].
+    pub fn new(
+        alloc: A,
+        key: &'a Key,
+        prefix: &'a [u8; 24],
+        context: &'a [u8],
+        header: &[u8],
+    ) -> Result<Self, RecordError>
+        requires context_within { length context.now ≤ MAX_CONTEXT_BYTES }
+        requires header_within { length header.now ≤ 4 }
+        ensures begun { IfOk result
+            (λ opener. Begun opener key.now prefix.now context.now [] header.now) }
+        ensures taken { IfOk result (λ opener. taken opener ≡ 4) }
+        ensures refused { IfErr result (λ e. (e ≡ RecordError.OutOfMemory)
+            ⊎ ((more : List ℕ) → (length header.now < 4 → more ≡ [])
+            → IsFault key.now prefix.now context.now (header.now ++ more) e)) }
+    {
+        let Some((version, _)) = version_of(header) else {
+            return Err(RecordError::Header);
+        };
+        let ad = Vec::with_capacity(alloc, RecordPlace::DATA_BYTES + context.len())?;
+        Ok(RecordOpener {
+            alloc,
+            cipher: RecordCipher {
+                key,
+                prefix,
+                context,
+            },
+            ad,
+            version,
+            number: 0,
+            before: 0,
+            ended: false,
+        })
+    }
+
+    /// Returns how many more bytes of the stream may be opened.
+    pub fn remaining(&self) -> u64
+        ensures { result ≡ MAX_AEAD_BYTES - taken self.now }
+    {
+        MAX_AEAD_BYTES - (HEADER_BYTES + RECORD_BYTES * self.number + self.before)
+    }
+
+    /// Returns how many bytes the next record has, from its first five bytes.
+    ///
+    /// Nothing is authenticated: the length is what the bytes say. The error is [`RecordError::Flag`] or
+    /// [`RecordError::TooLong`].
+    pub fn record_len(&self, head: &[u8; 5]) -> Result<usize, RecordError>
+        ensures least { IfOk result (λ n. 37 ≤ n) }
+        ensures most { IfOk result (λ n. n ≤ 16777253) }
+        ensures len { IfOk result (λ n. (flag : ℕ) (m body rest : List ℕ)
+            → length m ≤ MAX_MESSAGE_BYTES
+            → head.now ++ body ≡ record_of self.now flag m ++ rest
+            → length (record_of self.now flag m) ≡ n) }
+        ensures whole { IfOk result (λ n. (body : List ℕ) → n ≤ length (head.now ++ body)
+            → parts self.now.version (head.now ++ body) ≢ Err RecordError.Truncated) }
+        ensures refused { IfErr result (λ e. (key prefix context : List ℕ) (ms : List (List ℕ))
+            (before more : List ℕ) → Begun self.now key prefix context ms before
+            → IsFault key prefix context (before ++ (head.now ++ more)) e) }
+    {
+        if head[0] > 1 {
+            return Err(RecordError::Flag);
+        }
+        let length = u32::from_le_bytes([head[1], head[2], head[3], head[4]]);
+        if length > self.version.limit() {
+            return Err(RecordError::TooLong);
+        }
+        Ok(head.len() + length as usize + TAG_BYTES)
+    }
+
+    /// Opens the record that `bytes` begin with. They are at least that record, or all that is left of the stream.
+    ///
+    /// The error is the first fault of the stream, or [`RecordError::OutOfMemory`], and leaves the opener as it was. After the
+    /// last record every call is [`RecordError::Trailing`].
+    pub fn open_next<'b>(&mut self, bytes: &'b [u8]) -> Result<Opened<'b, A>, RecordError>
+        requires { taken self.old + length bytes.now ≤ MAX_AEAD_BYTES }
+        ensures next { IfOk result (λ opened. OnFalse opened.is_last
+            (bytes.now ≡ record_of self.old 0 opened.message.items ++ opened.rest.now)) }
+        ensures begun { IfOk result (λ opened. OnFalse opened.is_last
+            ((key prefix context : List ℕ) (ms : List (List ℕ)) (before : List ℕ)
+            → Begun self.old key prefix context ms before
+            → Begun self.new key prefix context (ms ++ opened.message.items ∷ [])
+            (before ++ record_of self.old 0 opened.message.items))) }
+        ensures last { IfOk result (λ opened. OnTrue opened.is_last
+            (bytes.now ≡ record_of self.old 1 opened.message.items ++ opened.rest.now)) }
+        ensures whole { IfOk result (λ opened. OnTrue opened.is_last
+            ((key prefix context : List ℕ) (ms : List (List ℕ)) (before : List ℕ)
+            → Begun self.old key prefix context ms before
+            → AreRecordsOfSomeVersion key prefix context (ms ++ opened.message.items ∷ [])
+            (before ++ record_of self.old 1 opened.message.items))) }
+        ensures within { IfOk result (λ opened. length opened.message.items ≤ MAX_MESSAGE_BYTES) }
+        ensures taken { IfOk result (λ opened. taken self.new + length opened.rest.now
+            ≡ taken self.old + length bytes.now) }
+        ensures after_the_last { IsTrue self.old.ended → result ≡ Err RecordError.Trailing }
+        ensures ended { IfOk result (λ opened. self.new.ended ≡ opened.is_last) }
+        ensures refused { IfErr result (λ e. (e ≡ RecordError.OutOfMemory)
+            ⊎ ((key prefix context : List ℕ) (ms : List (List ℕ)) (before more : List ℕ)
+            → Begun self.old key prefix context ms before
+            → (e ≡ RecordError.Truncated → more ≡ [])
+            → IsFault key prefix context (before ++ (bytes.now ++ more)) e)) }
+        ensures cut { IfErr result (λ e. e ≡ RecordError.Truncated
+            → parts self.old.version bytes.now ≡ Err RecordError.Truncated) }
+        ensures unchanged { OnErr result (self.new ≡ self.old) }
+    {
+        if self.ended {
+            return Err(RecordError::Trailing);
+        }
+        let (frame, message) = open_record(
+            self.alloc,
+            &mut self.ad,
+            &self.cipher,
+            self.version,
+            self.number,
+            self.before,
+            bytes,
+        )?;
+        self.number += 1;
+        self.before += message.len() as u64;
+        self.ended = frame.flag == 1;
+        Ok(Opened {
+            message,
+            is_last: self.ended,
+            rest: frame.rest,
+        })
+    }
+}

@@ -1,0 +1,179 @@
+//! Sealing a stream a record at a time.
+
+ghost use Rattle.std.specs.Prelude.{◌≡◌, ◌+◌, ◌-◌, ◌≤◌, ◌++◌, ◌∷◌, [], IfErr, IfOk, List, OnErr, OnOk, length, ℕ};
+ghost use Rattle.aegis_base.specs.declared.error.TheConstants.{MAX_AEAD_BYTES};
+ghost use Rattle.aegis.specs.Progress.{Begun, record_of, taken};
+ghost use Rattle.aegis.specs.Records.{AreRecords};
+ghost use Rattle.aegis.specs.RecordStream.{header};
+ghost use Rattle.aegis.specs.declared.record.version.Version.TheVariants.{Second};
+
+use crate::aegis256::Key;
+use crate::record::error::RecordError;
+use crate::record::length::{HEADER_BYTES, RECORD_BYTES};
+use crate::record::record_cipher::{MAX_CONTEXT_BYTES, RecordCipher, RecordPlace};
+use crate::record::seal::{WRITTEN, seal_record};
+use crate::record::version::MAX_MESSAGE_BYTES;
+use aegis_base::MAX_AEAD_BYTES;
+use std::alloc::Allocator;
+use std::marker::Model;
+
+/// Seals a stream a record at a time, in version 2.
+///
+/// Each call appends one record to a vector, which the caller may write out and clear before the next call: so a stream of any
+/// length is sealed in the memory of one record. The bytes that all calls append, one after the other, are the stream that
+/// [`seal_records`](crate::record::seal_records) makes of the list of messages.
+///
+/// In a contract a sealer stands for a `Progress`: the key, prefix and context, the next record's number, and how many bytes
+/// the messages before it have. `Begun` says of which messages and bytes that is the progress.
+#[derive(Drop)]
+pub struct RecordSealer<'a, A: Allocator> {
+    cipher: RecordCipher<'a>,
+    ad: Vec<u8, A>,
+    number: u64,
+    before: u64,
+}
+
+impl<'a, A: Allocator> Model for RecordSealer<'a, A> {
+    ghost use Rattle.std.specs.Prelude.{◌+◌, ◌*◌, ◌≤◌, false, length};
+    ghost use Rattle.aegis_base.specs.declared.error.TheConstants.{MAX_AEAD_BYTES};
+    ghost use Rattle.aegis.specs.Progress.{Progress};
+    ghost use Rattle.aegis.specs.declared.record.record_cipher.TheConstants.{MAX_CONTEXT_BYTES};
+    ghost use Rattle.aegis.specs.declared.record.version.Version.TheVariants.{Second};
+
+    ghost Value = { Progress };
+
+    ghost view = { λ s. record {
+      key = s.cipher.key.now;
+      prefix = s.cipher.prefix.now;
+      context = s.cipher.context.now;
+      version = Second;
+      number = s.number;
+      before = s.before;
+      ended = false;
+    } };
+
+    ghost invariant = { λ s. (length s.cipher.context.now ≤ MAX_CONTEXT_BYTES)
+        × (4 + 37 * s.number + s.before ≤ MAX_AEAD_BYTES) };
+}
+
+impl<'a, A: Allocator + Copy> RecordSealer<'a, A> {
+    /// Begins a stream under a key, a prefix and a context, and appends its header, of 4 bytes, to `out`.
+    ///
+    /// A prefix must be used for one stream only under its key. The context has at most [`MAX_CONTEXT_BYTES`].
+    /// [`RecordError::OutOfMemory`] is the only error; `out` is then as it was.
+    pub fn new(
+        alloc: A,
+        key: &'a Key,
+        prefix: &'a [u8; 24],
+        context: &'a [u8],
+        out: &mut Vec<u8, A>,
+    ) -> Result<Self, RecordError>
+        requires { length context.now ≤ MAX_CONTEXT_BYTES }
+        ensures appended { OnOk result (out.new.items ≡ out.old.items ++ header Second) }
+        ensures begun { IfOk result
+            (λ sealer. Begun sealer key.now prefix.now context.now [] (header Second)) }
+        ensures taken { IfOk result (λ sealer. taken sealer ≡ 4) }
+        ensures err { IfErr result (λ e. e ≡ RecordError.OutOfMemory) }
+        ensures unchanged { OnErr result (out.new.items ≡ out.old.items) }
+    {
+        let ad = Vec::with_capacity(alloc, RecordPlace::DATA_BYTES + context.len())?;
+        out.extend_from_slice(WRITTEN.header())?;
+        Ok(RecordSealer {
+            cipher: RecordCipher {
+                key,
+                prefix,
+                context,
+            },
+            ad,
+            number: 0,
+            before: 0,
+        })
+    }
+
+    /// Returns how many more bytes the stream may have. A record takes [`RECORD_BYTES`] and the length of its message.
+    pub fn remaining(&self) -> u64
+        ensures { result ≡ MAX_AEAD_BYTES - taken self.now }
+    {
+        MAX_AEAD_BYTES - (HEADER_BYTES + RECORD_BYTES * self.number + self.before)
+    }
+
+    /// Appends the record of the next message, which is not the last one, to `out`.
+    ///
+    /// A message has at most [`MAX_MESSAGE_BYTES`], and the whole stream at most [`MAX_AEAD_BYTES`], of which
+    /// [`RecordSealer::remaining`] are left. [`RecordError::OutOfMemory`] is the only error; the sealer and `out` are then as
+    /// they were. The next call uses the same record number, so if the message of a failed call is not the one that is sealed
+    /// next, nothing of `out`'s spare memory may be handed out.
+    pub fn seal_next(&mut self, message: &[u8], out: &mut Vec<u8, A>) -> Result<(), RecordError>
+        requires within { length message.now ≤ MAX_MESSAGE_BYTES }
+        requires fits { taken self.old + (37 + length message.now) ≤ MAX_AEAD_BYTES }
+        ensures appended { OnOk result
+            (out.new.items ≡ out.old.items ++ record_of self.old 0 message.now) }
+        ensures begun { OnOk result
+            ((key prefix context : List ℕ) (ms : List (List ℕ)) (bytes : List ℕ)
+            → Begun self.old key prefix context ms bytes
+            → Begun self.new key prefix context
+            (ms ++ message.now ∷ []) (bytes ++ record_of self.old 0 message.now)) }
+        ensures taken { OnOk result (taken self.new ≡ taken self.old + (37 + length message.now)) }
+        ensures err { IfErr result (λ e. e ≡ RecordError.OutOfMemory) }
+        ensures unchanged { OnErr result (self.new ≡ self.old) }
+        ensures kept { OnErr result (out.new.items ≡ out.old.items) }
+    {
+        let place = RecordPlace {
+            version: WRITTEN,
+            number: self.number,
+            before: self.before,
+            flag: 0,
+        };
+        let start = out.len();
+        match seal_record(out, &mut self.ad, &self.cipher, place, message) {
+            Ok(()) => {
+                self.number += 1;
+                self.before += message.len() as u64;
+                Ok(())
+            }
+            Err(error) => {
+                out.truncate(start);
+                Err(error)
+            }
+        }
+    }
+
+    /// Appends the record of the last message to `out`, and ends the stream: the sealer is taken by value, so no record can
+    /// follow.
+    ///
+    /// A message has at most [`MAX_MESSAGE_BYTES`]. [`RecordError::OutOfMemory`] is the only error; `out` is then as it was,
+    /// and has no last record.
+    pub fn seal_last(self, message: &[u8], out: &mut Vec<u8, A>) -> Result<(), RecordError>
+        requires within { length message.now ≤ MAX_MESSAGE_BYTES }
+        ensures appended { OnOk result
+            (out.new.items ≡ out.old.items ++ record_of self.entry 1 message.now) }
+        ensures whole { OnOk result
+            ((key prefix context : List ℕ) (ms : List (List ℕ)) (bytes : List ℕ)
+            → Begun self.entry key prefix context ms bytes
+            → AreRecords Second key prefix context
+            (ms ++ message.now ∷ []) (bytes ++ record_of self.entry 1 message.now)) }
+        ensures err { IfErr result (λ e. e ≡ RecordError.OutOfMemory) }
+        ensures kept { OnErr result (out.new.items ≡ out.old.items) }
+    {
+        let RecordSealer {
+            cipher,
+            mut ad,
+            number,
+            before,
+        } = self;
+        let place = RecordPlace {
+            version: WRITTEN,
+            number,
+            before,
+            flag: 1,
+        };
+        let start = out.len();
+        match seal_record(out, &mut ad, &cipher, place, message) {
+            Ok(()) => Ok(()),
+            Err(error) => {
+                out.truncate(start);
+                Err(error)
+            }
+        }
+    }
+}

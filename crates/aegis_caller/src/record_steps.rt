@@ -1,0 +1,118 @@
+//! Record streams, a record at a time.
+
+ghost use Rattle.std.specs.Prelude.{◌≡◌, ◌+◌, ◌≤◌, ◌++◌, ◌∷◌, [], IfOk, IfSome, List, OnErr, OnOk, length, ℕ};
+ghost use Rattle.aegis.specs.Progress.{AreRecordsOfSomeVersion, Begun, taken};
+ghost use Rattle.aegis.specs.Records.{AreRecords};
+ghost use Rattle.aegis.specs.declared.record.version.Version.TheVariants.{Second};
+
+use aegis::MAX_AEAD_BYTES;
+use aegis::record::{
+    MAX_CONTEXT_BYTES, MAX_MESSAGE_BYTES, RecordError, RecordOpener, RecordSealer,
+};
+use std::alloc::Allocator;
+
+/// Seals three messages one at a time: the bytes are the stream of the three.
+pub fn seal_three<A: Allocator + Copy>(
+    alloc: A,
+    key: &[u8; 32],
+    prefix: &[u8; 24],
+    context: &[u8],
+    first: &[u8],
+    second: &[u8],
+    third: &[u8],
+) -> Result<Vec<u8, A>, RecordError>
+    requires context_within { length context.now ≤ MAX_CONTEXT_BYTES }
+    requires first_within { length first.now ≤ MAX_MESSAGE_BYTES }
+    requires second_within { length second.now ≤ MAX_MESSAGE_BYTES }
+    requires third_within { length third.now ≤ MAX_MESSAGE_BYTES }
+    ensures { IfOk result (λ stream. AreRecords Second key.now prefix.now context.now
+        (first.now ∷ second.now ∷ third.now ∷ []) stream.items) }
+{
+    let mut stream = Vec::new(alloc);
+    let mut sealer = RecordSealer::new(alloc, key, prefix, context, &mut stream)?;
+    sealer.seal_next(first, &mut stream)?;
+    sealer.seal_next(second, &mut stream)?;
+    sealer.seal_last(third, &mut stream)?;
+    Ok(stream)
+}
+
+/// Opens a stream that should have two records: the messages of the stream that the header and the records are.
+pub fn open_two<A: Allocator + Copy>(
+    alloc: A,
+    key: &[u8; 32],
+    prefix: &[u8; 24],
+    context: &[u8],
+    header: &[u8; 4],
+    records: &[u8],
+) -> Result<Option<(Vec<u8, A>, Vec<u8, A>)>, RecordError>
+    requires context_within { length context.now ≤ MAX_CONTEXT_BYTES }
+    requires records_within { 4 + length records.now ≤ MAX_AEAD_BYTES }
+    ensures { IfOk result (λ found. IfSome found (λ pair.
+        AreRecordsOfSomeVersion key.now prefix.now context.now
+        (pair.0.items ∷ pair.1.items ∷ []) (header.now ++ records.now))) }
+{
+    let mut opener = RecordOpener::new(alloc, key, prefix, context, header)?;
+    let first = opener.open_next(records)?;
+    if first.is_last {
+        return Ok(None);
+    }
+    let second = opener.open_next(first.rest)?;
+    if second.is_last && second.rest.is_empty() {
+        Ok(Some((first.message, second.message)))
+    } else {
+        Ok(None)
+    }
+}
+
+/// A stream that grows by a record for each message, in a loop of its user: what its calls say holds of any list of messages.
+#[derive(Drop)]
+pub struct GrowingStream<'a, A: Allocator> {
+    pub sealer: RecordSealer<'a, A>,
+    pub bytes: Vec<u8, A>,
+}
+
+impl<'a, A: Allocator + Copy> GrowingStream<'a, A> {
+    /// Begins the stream: it has no message yet.
+    pub fn new(
+        alloc: A,
+        key: &'a [u8; 32],
+        prefix: &'a [u8; 24],
+        context: &'a [u8],
+    ) -> Result<Self, RecordError>
+        requires { length context.now ≤ MAX_CONTEXT_BYTES }
+        ensures begun { IfOk result (λ stream. Begun stream.sealer
+            key.now prefix.now context.now [] stream.bytes.items) }
+        ensures taken { IfOk result (λ stream. taken stream.sealer ≡ 4) }
+    {
+        let mut bytes = Vec::new(alloc);
+        let sealer = RecordSealer::new(alloc, key, prefix, context, &mut bytes)?;
+        Ok(GrowingStream { sealer, bytes })
+    }
+
+    /// Appends a message. On an error the stream is as it was.
+    pub fn push(&mut self, message: &[u8]) -> Result<(), RecordError>
+        requires within { length message.now ≤ MAX_MESSAGE_BYTES }
+        requires fits { taken self.old.sealer + (37 + length message.now) ≤ MAX_AEAD_BYTES }
+        ensures pushed { OnOk result ((key prefix context : List ℕ) (ms : List (List ℕ))
+            → Begun self.old.sealer key prefix context ms self.old.bytes.items
+            → Begun self.new.sealer key prefix context
+            (ms ++ message.now ∷ []) self.new.bytes.items) }
+        ensures taken { OnOk result
+            (taken self.new.sealer ≡ taken self.old.sealer + (37 + length message.now)) }
+        ensures kept { OnErr result (self.new.sealer ≡ self.old.sealer) }
+    {
+        self.sealer.seal_next(message, &mut self.bytes)
+    }
+
+    /// Appends the last message: the bytes are the stream of the list.
+    pub fn finish(self, message: &[u8]) -> Result<Vec<u8, A>, RecordError>
+        requires { length message.now ≤ MAX_MESSAGE_BYTES }
+        ensures { IfOk result (λ stream. (key prefix context : List ℕ) (ms : List (List ℕ))
+            → Begun self.entry.sealer key prefix context ms self.entry.bytes.items
+            → AreRecords Second key prefix context (ms ++ message.now ∷ []) stream.items) }
+    {
+        let GrowingStream { sealer, mut bytes } = self;
+        sealer.seal_last(message, &mut bytes)?;
+        Ok(bytes)
+    }
+}

@@ -1,0 +1,283 @@
+-- What is known if opening fails.
+use Rattle.std.proofs.Common.{◌≡◌, ◌⊎◌, ℕ, Bool, true, false, List, [], ◌∷◌, ◌++◌, Option, None, Some, IfErr, IfSome, Result, Ok, Err, drop, length, take, refl, sym, ap, subst, ◌∙◌, append_assoc, arith, inl, inr}
+use Rattle.std.proofs.KnownBytes.{Appends-kept, Appends-trans, Consumes-trans}
+use Rattle.std.proofs.lemmas.List.{append-nil, drop_at, length-append, take-append-drop, take_at}
+use Rattle.std.specs.Bool.{OnFalse, OnTrue}
+use Rattle.std.specs.Io.KnownBytes.{Appends, Consumes, IsAtEnd, Keeps}
+use Rattle.std.specs.List.{concat}
+use Rattle.aegis.specs.declared.record.error.RecordError.{RecordError}
+use Rattle.aegis.specs.declared.record.error.RecordError.TheVariants as errors
+use Rattle.aegis.specs.Progress.{AreRecordsOfSomeVersion, Begun, Progress, record_of}
+use Rattle.aegis.specs.Records.{IsFault, sealed}
+use Rattle.aegis.proofs.Fronts.{begun_front, behind_a_stream}
+use Rattle.aegis.proofs.Sealed.{sealed-is}
+use Rattle.aegis.proofs.Streams.{one_fault, one_record_stream}
+use Rattle.aegis_files.specs.declared.error.FileError.{FileError}
+use Rattle.aegis_files.specs.declared.error.FileError.TheVariants.{Read, Write, Stream, TooLong}
+use Rattle.aegis_files.specs.Reading.{FailsUnder, IsWriteError, LeavesSome, RefusesNext, WritesFront}
+use Rattle.aegis_files.specs.SealedFile.{FailsWith, IfRefused, IsFileFault, IsSealedFile, WritesTextFront}
+use Rattle.aegis_files.proofs.Opening.{OpensSome, alone}
+use Rattle.aegis_files.proofs.Pieces.{concat-append, concat-begun, concat-push}
+use Rattle.aegis_files.proofs.Sealing.{IsLast, IsStep, split}
+
+-- ---- errors that refuse nothing, and what follows from a reason
+
+unwritten : (e : FileError) (P : RecordError → Type 0) → IsWriteError e → IfRefused e P
+unwritten (Read e) P is = absurd is
+unwritten (Write e) P is = tt
+unwritten (Stream e) P is = absurd is
+unwritten TooLong P is = absurd is
+
+so_refused : (e : FileError) (P Q : RecordError → Type 0) → ((why : RecordError) → P why → Q why) → IfRefused e P → IfRefused e Q
+so_refused (Read e) P Q so p = tt
+so_refused (Write e) P Q so p = tt
+so_refused (Stream e) P Q so p = so e p
+so_refused TooLong P Q so p = tt
+
+-- ---- between records
+
+front_is : (p : Progress) (key prefix context f : List ℕ) (left old new : Option (List ℕ)) → OpensSome p key prefix context (Some f) left old new
+    → WritesFront key prefix context f old new
+front_is p key prefix context f left old new s =
+    let parts = split f s.taken left s.read in
+    record {
+      begun = concat s.messages;
+      written = s.written;
+      front = λ ms are.
+          let other = begun_front p key prefix context s.messages s.taken s.begun ms parts.0 (subst (AreRecordsOfSomeVersion key prefix context ms) parts.1 are) in
+          (concat other.0, ap concat other.1 ∙ concat-append s.messages other.0);
+    }
+
+pub fails_long : (p : Progress) (key prefix context : List ℕ) (stream left old new : Option (List ℕ)) → OpensSome p key prefix context stream left old new
+    → IfSome stream (λ f. FailsUnder key prefix context f old new TooLong)
+fails_long p key prefix context None left old new s = tt
+fails_long p key prefix context (Some f) left old new s = record {
+  front = front_is p key prefix context f left old new s;
+  refused = tt;
+}
+
+at_end : (rest : List ℕ) (left : Option (List ℕ)) → left ≡ Some rest → IsAtEnd left → rest ≡ []
+at_end rest None e end = absurd cc
+at_end rest (Some l) e end = let same : l ≡ rest = some_is l rest e in sym same ∙ end
+  where
+    some_is : (l rest : List ℕ) → Some l ≡ Some rest → l ≡ rest
+    some_is l rest e = cc
+
+pub fails_next : (p : Progress) (key prefix context : List ℕ) (stream left left' old new : Option (List ℕ)) (e : FileError) → OpensSome p key prefix context stream left old new
+    → RefusesNext p left left' e → IfSome stream (λ f. FailsUnder key prefix context f old new e)
+fails_next p key prefix context None left left' old new e s why = tt
+fails_next p key prefix context (Some f) left left' old new (Read e) s why =
+    record { front = front_is p key prefix context f left old new s; refused = tt }
+fails_next p key prefix context (Some f) left left' old new (Write e) s why = absurd why
+fails_next p key prefix context (Some f) left left' old new (Stream e) s (inl memory) =
+    record { front = front_is p key prefix context f left old new s; refused = inl memory }
+fails_next p key prefix context (Some f) left left' old new (Stream e) s (inr refused) =
+    let parts = split f (s.taken ++ refused.0) left' (Consumes-trans (Some f) left left' s.taken refused.0 s.read refused.1) in
+    record {
+      front = front_is p key prefix context f left old new s;
+      refused = inr (subst (λ (l : List ℕ). IsFault key prefix context l e) (sym (parts.1 ∙ append_assoc s.taken refused.0 parts.0))
+          (refused.2 key prefix context s.messages s.taken parts.0 s.begun));
+    }
+fails_next p key prefix context (Some f) left left' old new TooLong s why = absurd why
+
+pub fails_open : (p : Progress) (key prefix context : List ℕ) (stream left left' old new : Option (List ℕ)) (found : List ℕ) (e : RecordError)
+    → OpensSome p key prefix context stream left old new → Consumes left left' found
+    → (e ≡ errors.OutOfMemory) ⊎ ((key prefix context : List ℕ) (ms : List (List ℕ)) (before more : List ℕ) → Begun p key prefix context ms before
+    → (e ≡ errors.Truncated → more ≡ []) → IsFault key prefix context (before ++ (found ++ more)) e)
+    → (e ≡ errors.Truncated → IsAtEnd left') → IfSome stream (λ f. FailsUnder key prefix context f old new (Stream e))
+fails_open p key prefix context None left left' old new found e s read why end = tt
+fails_open p key prefix context (Some f) left left' old new found e s read (inl memory) end =
+    record { front = front_is p key prefix context f left old new s; refused = inl memory }
+fails_open p key prefix context (Some f) left left' old new found e s read (inr refused) end =
+    let parts = split f (s.taken ++ found) left' (Consumes-trans (Some f) left left' s.taken found s.read read) in
+    record {
+      front = front_is p key prefix context f left old new s;
+      refused = inr (subst (λ (l : List ℕ). IsFault key prefix context l e) (sym (parts.1 ∙ append_assoc s.taken found parts.0))
+          (refused key prefix context s.messages s.taken parts.0 s.begun (λ cut. at_end parts.0 left' parts.2 (end cut))));
+    }
+
+-- ---- after a record whose message could not be written
+
+pub fails_write : (p q : Progress) (last : Bool) (key prefix context : List ℕ) (stream left left' old new new' : Option (List ℕ)) (m found rest : List ℕ) (n : ℕ) (e : FileError)
+    → OpensSome p key prefix context stream left old new → Consumes left left' found
+    → OnFalse last (IsStep p q m (record_of p 0 m)) → OnTrue last (IsLast p m (record_of p 1 m))
+    → OnFalse last (found ≡ record_of p 0 m ++ rest) → OnTrue last (found ≡ record_of p 1 m ++ rest)
+    → ((flag : ℕ) → found ≡ record_of p flag m ++ rest → rest ≡ [])
+    → Appends new new' (take n m) → IsWriteError e → IfSome stream (λ f. FailsUnder key prefix context f old new' e)
+fails_write p q last key prefix context None left left' old new new' m found rest n e s read step ends next is_last none written why = tt
+fails_write p q false key prefix context (Some f) left left' old new new' m found rest n e s read step ends next is_last none written why =
+    let parts = split f (s.taken ++ found) left' (Consumes-trans (Some f) left left' s.taken found s.read read) in
+    record {
+      front = record {
+        begun = concat s.messages ++ take n m;
+        written = Appends-trans old new new' (concat s.messages) (take n m) s.written written;
+        front = λ ms are.
+            let begun : Begun q key prefix context (s.messages ++ m ∷ []) (s.taken ++ found) =
+            subst (λ (l : List ℕ). Begun q key prefix context (s.messages ++ m ∷ []) (s.taken ++ l)) (alone (record_of p 0 m) found rest next (none 0 next))
+            (step key prefix context s.messages s.taken s.begun) in
+            let other = begun_front q key prefix context (s.messages ++ m ∷ []) (s.taken ++ found) begun ms parts.0 (subst (AreRecordsOfSomeVersion key prefix context ms) parts.1 are) in
+            (drop n m ++ concat other.0, concat-begun s.messages ms other.0 m n other.1);
+      };
+      refused = unwritten e _ why;
+    }
+fails_write p q true key prefix context (Some f) left left' old new new' m found rest n e s read step ends next is_last none written why =
+    let parts = split f (s.taken ++ found) left' (Consumes-trans (Some f) left left' s.taken found s.read read) in
+    record {
+      front = record {
+        begun = concat s.messages ++ take n m;
+        written = Appends-trans old new new' (concat s.messages) (take n m) s.written written;
+        front = λ ms are.
+            let whole : AreRecordsOfSomeVersion key prefix context (s.messages ++ m ∷ []) (s.taken ++ found) =
+            subst (λ (l : List ℕ). AreRecordsOfSomeVersion key prefix context (s.messages ++ m ∷ []) (s.taken ++ l)) (alone (record_of p 1 m) found rest is_last (none 1 is_last))
+            (ends key prefix context s.messages s.taken s.begun) in
+            let one = one_record_stream (sealed key prefix context) (sealed-is key prefix context) are.0 whole.0 ms (s.messages ++ m ∷ []) f (s.taken ++ found) [] parts.0 are.1 whole.1 (append-nil f ∙ parts.1) in
+            (drop n m ++ concat [], concat-begun s.messages ms [] m n (one.1 ∙ sym (append-nil (s.messages ++ m ∷ []))));
+      };
+      refused = unwritten e _ why;
+    }
+
+-- ---- after the last record
+
+-- the last record was opened
+record Ended (key prefix context f : List ℕ) (left old new : Option (List ℕ)) : Type 0 where
+  messages : List (List ℕ)
+  taken : List ℕ
+  are : AreRecordsOfSomeVersion key prefix context messages taken
+  read : Consumes (Some f) left taken
+  written : Appends old new (concat messages)
+
+ended : (p : Progress) (key prefix context f : List ℕ) (left left' old new new' : Option (List ℕ)) (m bytes found rest : List ℕ)
+    → OpensSome p key prefix context (Some f) left old new → Consumes left left' found → IsLast p m bytes → found ≡ bytes ++ rest → rest ≡ []
+    → Appends new new' m → Ended key prefix context f left' old new'
+ended p key prefix context f left left' old new new' m bytes found rest s read last is none written = record {
+  messages = s.messages ++ m ∷ [];
+  taken = s.taken ++ found;
+  are = subst (λ (l : List ℕ). AreRecordsOfSomeVersion key prefix context (s.messages ++ m ∷ []) (s.taken ++ l)) (alone bytes found rest is none)
+      (last key prefix context s.messages s.taken s.begun);
+  read = Consumes-trans (Some f) left left' s.taken found s.read read;
+  written = subst (Appends old new') (sym (concat-push s.messages m)) (Appends-trans old new new' (concat s.messages) m s.written written);
+}
+
+ended_front : (key prefix context f : List ℕ) (left old new : Option (List ℕ)) → Ended key prefix context f left old new → WritesFront key prefix context f old new
+ended_front key prefix context f left old new s =
+    let parts = split f s.taken left s.read in
+    record {
+      begun = concat s.messages;
+      written = s.written;
+      front = λ ms are.
+          let one = one_record_stream (sealed key prefix context) (sealed-is key prefix context) are.0 s.are.0 ms s.messages f s.taken [] parts.0 are.1 s.are.1 (append-nil f ∙ parts.1) in
+          ([], ap concat one.1 ∙ sym (append-nil (concat s.messages)));
+    }
+
+ended_fails : (key prefix context f : List ℕ) (left left' old new : Option (List ℕ)) (e : FileError) → Ended key prefix context f left old new → LeavesSome left left' e
+    → FailsUnder key prefix context f old new e
+ended_fails key prefix context f left left' old new (Read e) s why =
+    record { front = ended_front key prefix context f left old new s; refused = tt }
+ended_fails key prefix context f left left' old new (Write e) s why = absurd why
+ended_fails key prefix context f left left' old new (Stream e) s why =
+    let more : List ℕ = why.1.0 in
+    let parts = split f (s.taken ++ more) left' (Consumes-trans (Some f) left left' s.taken more s.read why.1.2) in
+    record {
+      front = ended_front key prefix context f left old new s;
+      refused = inr (subst (λ d. IsFault key prefix context f d) (sym why.0)
+          (subst (λ (l : List ℕ). IsFault key prefix context l errors.Trailing) (sym (parts.1 ∙ append_assoc s.taken more parts.0))
+          (behind_a_stream key prefix context s.messages s.taken (more ++ parts.0) s.are (omega (arith, why.1.1, length-append more parts.0)))));
+    }
+ended_fails key prefix context f left left' old new TooLong s why = absurd why
+
+pub fails_end : (p : Progress) (key prefix context : List ℕ) (stream left left' left'' old new new' : Option (List ℕ)) (m bytes found rest : List ℕ) (e : FileError)
+    → OpensSome p key prefix context stream left old new → Consumes left left' found → IsLast p m bytes → found ≡ bytes ++ rest → rest ≡ []
+    → Appends new new' m → LeavesSome left' left'' e → IfSome stream (λ f. FailsUnder key prefix context f old new' e)
+fails_end p key prefix context None left left' left'' old new new' m bytes found rest e s read last is none written why = tt
+fails_end p key prefix context (Some f) left left' left'' old new new' m bytes found rest e s read last is none written why =
+    ended_fails key prefix context f left' left'' old new' e (ended p key prefix context f left left' old new new' m bytes found rest s read last is none written) why
+
+pub fails_flush : (p : Progress) (key prefix context : List ℕ) (stream left left' old new new' new'' : Option (List ℕ)) (m bytes found rest : List ℕ) (e : FileError)
+    → OpensSome p key prefix context stream left old new → Consumes left left' found → IsLast p m bytes → found ≡ bytes ++ rest → rest ≡ []
+    → Appends new new' m → Keeps new' new'' → IsWriteError e → IfSome stream (λ f. FailsUnder key prefix context f old new'' e)
+fails_flush p key prefix context None left left' old new new' new'' m bytes found rest e s read last is none written kept why = tt
+fails_flush p key prefix context (Some f) left left' old new new' new'' m bytes found rest e s read last is none written kept why =
+    let all = ended_front key prefix context f left' old new' (ended p key prefix context f left left' old new new' m bytes found rest s read last is none written) in
+    record {
+      front = record {
+        begun = all.begun;
+        written = Appends-kept old new' new'' all.begun all.written kept;
+        front = all.front;
+      };
+      refused = unwritten e _ why;
+    }
+
+-- ---- with the prefix
+
+two_prefixes : (a b x y : List ℕ) → length a ≡ 24 → length b ≡ 24 → a ++ x ≡ b ++ y → (a ≡ b) × (x ≡ y)
+two_prefixes a b x y la lb e =
+    (sym (take_at a x 24 la) ∙ ap (take 24) e ∙ take_at b y 24 lb, sym (drop_at a x 24 la) ∙ ap (drop 24) e ∙ drop_at b y 24 lb)
+
+text_front : (key prefix context file stream : List ℕ) (old new : Option (List ℕ)) → length prefix ≡ 24 → file ≡ prefix ++ stream
+    → WritesFront key prefix context stream old new → WritesTextFront key context file old new
+text_front key prefix context file stream old new long is w = record {
+  begun = w.begun;
+  written = w.written;
+  front = λ text sealed.
+      let same = two_prefixes sealed.prefix prefix sealed.is.stream stream sealed.long long (sym sealed.is.file_is ∙ is) in
+      let are : AreRecordsOfSomeVersion key prefix context sealed.is.messages stream =
+      subst (λ (l : List ℕ). AreRecordsOfSomeVersion key l context sealed.is.messages stream) same.0
+      (subst (AreRecordsOfSomeVersion key sealed.prefix context sealed.is.messages) same.1 sealed.is.are) in
+      let other = w.front sealed.is.messages are in
+      (other.0, sealed.is.text_is ∙ other.1);
+}
+
+file_fails_at : (key prefix context file stream : List ℕ) (old new : Option (List ℕ)) (e : FileError) → length prefix ≡ 24 → file ≡ prefix ++ stream
+    → FailsUnder key prefix context stream old new e → FailsWith key context file old new e
+file_fails_at key prefix context file stream old new e long is w = record {
+  front = text_front key prefix context file stream old new long is w.front;
+  refused = so_refused e _ _ reason w.refused;
+}
+  where
+    reason : (why : RecordError) → (why ≡ errors.OutOfMemory) ⊎ IsFault key prefix context stream why → (why ≡ errors.OutOfMemory) ⊎ IsFileFault key context file why
+    reason why (inl memory) = inl memory
+    reason why (inr fault) = inr (inr (prefix, stream, long, is, fault))
+
+file_fails : (key prefix context : List ℕ) (file left old new : Option (List ℕ)) (e : FileError) → length prefix ≡ 24 → Consumes file left prefix
+    → IfSome left (λ stream. FailsUnder key prefix context stream old new e) → IfSome file (λ f. FailsWith key context f old new e)
+file_fails key prefix context None left old new e long read why = tt
+file_fails key prefix context (Some f) None old new e long read why = absurd read
+file_fails key prefix context (Some f) (Some stream) old new e long read why = file_fails_at key prefix context f stream old new e long read why
+
+pub result_fails : {T : Type 0} (key prefix context : List ℕ) (file left old new : Option (List ℕ)) (r : Result T FileError) → length prefix ≡ 24 → Consumes file left prefix
+    → IfErr r (λ e. IfSome left (λ stream. FailsUnder key prefix context stream old new e)) → IfErr r (λ e. IfSome file (λ f. FailsWith key context f old new e))
+result_fails key prefix context file left old new (Ok x) long read why = tt
+result_fails key prefix context file left old new (Err e) long read why = file_fails key prefix context file left old new e long read why
+
+-- ---- an intact file
+
+no_fault : (key context text file : List ℕ) (why : RecordError) → IsSealedFile key context text file → IsFileFault key context file why → ⊥
+no_fault key context text file why sealed_file (inl short) =
+    absurd (omega (arith, short.0, sealed_file.long, ap length sealed_file.is.file_is, length-append sealed_file.prefix sealed_file.is.stream))
+no_fault key context text file why sealed_file (inr fault) =
+    let prefix : List ℕ = fault.0 in
+    let stream : List ℕ = fault.1 in
+    let same = two_prefixes sealed_file.prefix prefix sealed_file.is.stream stream sealed_file.long fault.2 (sym sealed_file.is.file_is ∙ fault.3) in
+    let are : AreRecordsOfSomeVersion key prefix context sealed_file.is.messages stream =
+    subst (λ (l : List ℕ). AreRecordsOfSomeVersion key l context sealed_file.is.messages stream) same.0
+    (subst (AreRecordsOfSomeVersion key sealed_file.prefix context sealed_file.is.messages) same.1 sealed_file.is.are) in
+    (one_fault (sealed key prefix context) (sealed-is key prefix context)).1 stream are.0 sealed_file.is.messages why are.1 fault.4
+
+intact : (key context file text : List ℕ) (old new : Option (List ℕ)) (e : FileError) → FailsWith key context file old new e → IsSealedFile key context text file
+    → IfRefused e (λ why. why ≡ errors.OutOfMemory)
+intact key context file text old new e fails sealed_file = so_refused e _ _ memory fails.refused
+  where
+    memory : (why : RecordError) → (why ≡ errors.OutOfMemory) ⊎ IsFileFault key context file why → why ≡ errors.OutOfMemory
+    memory why (inl is) = is
+    memory why (inr fault) = absurd (no_fault key context text file why sealed_file fault)
+
+pub some_intact : (key context : List ℕ) (file old new : Option (List ℕ)) (e : FileError) → IfSome file (λ f. FailsWith key context f old new e)
+    → IfSome file (λ f. (text : List ℕ) → IsSealedFile key context text f → IfRefused e (λ why. why ≡ errors.OutOfMemory))
+some_intact key context None old new e fails = tt
+some_intact key context (Some f) old new e fails = λ text sealed_file. intact key context f text old new e fails sealed_file
+
+pub result_intact : {T : Type 0} (key context : List ℕ) (file old new : Option (List ℕ)) (r : Result T FileError)
+    → IfErr r (λ e. IfSome file (λ f. FailsWith key context f old new e))
+    → IfErr r (λ e. IfSome file (λ f. (text : List ℕ) → IsSealedFile key context text f → IfRefused e (λ why. why ≡ errors.OutOfMemory)))
+result_intact key context file old new (Ok x) fails = tt
+result_intact key context file old new (Err e) fails = some_intact key context file old new e fails

@@ -1,0 +1,6 @@
+pub mod Failing
+pub mod Filling
+pub mod Opening
+pub mod Pieces
+pub mod Records
+pub mod Sealing

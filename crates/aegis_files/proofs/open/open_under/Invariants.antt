@@ -1,0 +1,6 @@
+use Rattle.aegis_files.proofs.Opening.{OpensSome}
+use Rattle.aegis_files.proofs.open.open_under.Given as goal
+
+abbrev pub invariant-records : goal.invariant-records
+invariant-records g l = OpensSome l.opener l.fn.key l.fn.prefix l.fn.context (g.R.Read.remaining l.fn.input) (g.R.Read.remaining l.input)
+    (g.W.Write.contents l.fn.output) (g.W.Write.contents l.output)

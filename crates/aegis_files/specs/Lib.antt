@@ -1,0 +1,2 @@
+pub mod SealedFile
+pub mod Reading

@@ -1,0 +1,61 @@
+-- A sealed file: a prefix of 24 bytes, and after it the record stream of messages that are the text when put together.
+use Rattle.std.specs.Prelude.{◌≡◌, ℕ, ◌<◌, ◌⊎◌, List, ◌++◌, Option, ⊤, length}
+use Rattle.std.specs.Io.KnownBytes.{Appends}
+use Rattle.std.specs.List.{concat}
+use Rattle.aegis_files.specs.declared.error.FileError.{FileError}
+use Rattle.aegis_files.specs.declared.error.FileError.TheVariants.{Read, Write, Stream, TooLong}
+use Rattle.aegis.specs.declared.record.error.RecordError.{RecordError}
+use Rattle.aegis.specs.declared.record.error.RecordError.TheVariants as errors
+use Rattle.aegis.specs.declared.record.version.Version.{Version}
+use Rattle.aegis.specs.Progress.{AreRecordsOfSomeVersion}
+use Rattle.aegis.specs.Records.{IsFault, sealed}
+use Rattle.aegis.specs.RecordStream.{front}
+
+-- the file of this prefix, for this text
+pub record IsFileOf (key prefix context text file : List ℕ) : Type 0 where
+  pub messages : List (List ℕ)
+  pub stream : List ℕ
+  pub are : AreRecordsOfSomeVersion key prefix context messages stream
+  pub text_is : text ≡ concat messages
+  pub file_is : file ≡ prefix ++ stream
+
+-- the file of some prefix
+pub record IsSealedFile (key context text file : List ℕ) : Type 0 where
+  pub prefix : List ℕ
+  pub long : length prefix ≡ 24
+  pub is : IsFileOf key prefix context text file
+
+-- What was written is a front of a prefix, a header and records. Their messages are a front of the text, and the last of them
+-- has the flag `flag`.
+pub record WritesFileFront (key prefix context text : List ℕ) (old new : Option (List ℕ)) : Type 0 where
+  pub begun : List ℕ
+  pub written : Appends old new begun
+  pub version : Version
+  pub messages : List (List ℕ)
+  pub flag : ℕ
+  pub of_file : (rest : List ℕ) × (prefix ++ front (sealed key prefix context) version flag messages ≡ begun ++ rest)
+  pub of_text : (rest : List ℕ) × (text ≡ concat messages ++ rest)
+
+-- what is wrong with a file that is the file of no text: it has no whole prefix, or what follows its prefix is no stream
+abbrev pub IsFileFault : List ℕ → List ℕ → List ℕ → RecordError → Type 0
+IsFileFault key context file e =
+    ((length file < 24) × (e ≡ errors.Header))
+    ⊎ ((prefix : List ℕ) × (stream : List ℕ) × (length prefix ≡ 24) × (file ≡ prefix ++ stream) × IsFault key prefix context stream e)
+
+-- what holds of the reason, if the error is a refusal of the file
+abbrev pub IfRefused : FileError → (RecordError → Type 0) → Type 0
+IfRefused (Read e) P = ⊤
+IfRefused (Write e) P = ⊤
+IfRefused (Stream e) P = P e
+IfRefused TooLong P = ⊤
+
+-- what was written is a front of the text that the file opens to, if it is the file of one
+pub record WritesTextFront (key context file : List ℕ) (old new : Option (List ℕ)) : Type 0 where
+  pub begun : List ℕ
+  pub written : Appends old new begun
+  pub front : (text : List ℕ) → IsSealedFile key context text file → (rest : List ℕ) × (text ≡ begun ++ rest)
+
+-- Opening the file failed: what was written is a front of its text, and a refusal is its fault, or want of memory.
+pub record FailsWith (key context file : List ℕ) (old new : Option (List ℕ)) (e : FileError) : Type 0 where
+  pub front : WritesTextFront key context file old new
+  pub refused : IfRefused e (λ why. (why ≡ errors.OutOfMemory) ⊎ IsFileFault key context file why)

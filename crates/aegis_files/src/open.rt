@@ -1,0 +1,130 @@
+//! Opening what a reader gives.
+
+ghost use Rattle.std.specs.Prelude.{◌≡◌, ◌≤◌, ◌++◌, [], Err, IfErr, IfSome, List, OnOk, length, ℕ};
+ghost use Rattle.std.specs.Io.KnownBytes.{Appends, Consumes, IsAtEnd};
+ghost use Rattle.std.specs.List.{concat};
+ghost use Rattle.aegis.specs.Progress.{AreRecordsOfSomeVersion, record_of};
+ghost use Rattle.aegis_files.specs.Reading.{FailsUnder, LeavesSome, RefusesNext};
+ghost use Rattle.aegis_files.specs.SealedFile.{FailsWith, IfRefused, IsSealedFile};
+ghost use Rattle.aegis.specs.Fault.{parts};
+
+use crate::error::FileError;
+use crate::reading::{append, fill};
+use crate::write::{flush, write};
+use aegis::aegis256::Key;
+use aegis::record::{MAX_CONTEXT_BYTES, MAX_MESSAGE_BYTES, RecordError, RecordOpener};
+use std::alloc::Allocator;
+use std::io::{Read, Write};
+
+/// How many bytes a record begins with: its flag and its length.
+const HEAD_BYTES: usize = 5;
+
+// Reads the next record, or what there is of it.
+fn read_record<R: Read, A: Allocator + Copy>(
+    input: &mut R,
+    opener: &RecordOpener<'_, A>,
+    bytes: &mut Vec<u8, A>,
+) -> Result<(), FileError>
+    ensures read { OnOk result
+        (Consumes (R.remaining input.old) (R.remaining input.new) bytes.new.items) }
+    ensures alone { OnOk result ((flag : ℕ) (m rest : List ℕ) → length m ≤ MAX_MESSAGE_BYTES
+        → bytes.new.items ≡ record_of opener.now flag m ++ rest → rest ≡ []) }
+    ensures cut { OnOk result (parts opener.now.version bytes.new.items ≡ Err RecordError.Truncated
+        → IsAtEnd (R.remaining input.new)) }
+    ensures refused { IfErr result
+        (λ e. RefusesNext opener.now (R.remaining input.old) (R.remaining input.new) e) }
+{
+    let mut head = [0; HEAD_BYTES];
+    let count = fill(input, &mut head)?;
+    bytes.clear();
+    bytes.extend_from_slice(&head[..count])?;
+    if count == HEAD_BYTES {
+        let len = opener.record_len(&head)?;
+        append(input, bytes, len - HEAD_BYTES)?;
+    }
+    Ok(())
+}
+
+// Opens what the reader gives of a stream under the prefix.
+fn open_under<R: Read, W: Write, A: Allocator + Copy>(
+    alloc: A,
+    key: &Key,
+    prefix: &[u8; 24],
+    context: &[u8],
+    input: &mut R,
+    output: &mut W,
+) -> Result<(), FileError>
+    requires { length context.now ≤ MAX_CONTEXT_BYTES }
+    ensures opened { OnOk result (IfSome (R.remaining input.old) (λ stream. (ms : List (List ℕ))
+        × AreRecordsOfSomeVersion key.now prefix.now context.now ms stream
+        × Appends (W.contents output.old) (W.contents output.new) (concat ms))) }
+    ensures refused { IfErr result (λ e. IfSome (R.remaining input.old)
+        (λ stream. FailsUnder key.now prefix.now context.now stream
+        (W.contents output.old) (W.contents output.new) e)) }
+{
+    let mut header = [0; 4];
+    let count = fill(input, &mut header)?;
+    let mut opener = RecordOpener::new(alloc, key, prefix, context, &header[..count])?;
+    let mut record = Vec::new(alloc);
+    'records: for _ in 0..u64::MAX {
+        read_record(input, &opener, &mut record)?;
+        if opener.remaining() < record.len() as u64 {
+            return Err(FileError::TooLong);
+        }
+        let opened = opener.open_next(&record)?;
+        write(output, &opened.message)?;
+        if opened.is_last {
+            end(input)?;
+            flush(output)?;
+            return Ok(());
+        }
+    }
+    Err(FileError::TooLong)
+}
+
+// Sees that nothing is left to read.
+fn end<R: Read>(input: &mut R) -> Result<(), FileError>
+    ensures read { OnOk result (Consumes (R.remaining input.old) (R.remaining input.new) []) }
+    ensures end { OnOk result (IsAtEnd (R.remaining input.new)) }
+    ensures err { IfErr result
+        (λ e. LeavesSome (R.remaining input.old) (R.remaining input.new) e) }
+{
+    if fill(input, &mut [0])? == 0 {
+        Ok(())
+    } else {
+        Err(FileError::Stream(RecordError::Trailing))
+    }
+}
+
+/// Opens what a reader gives: reads the prefix and then the record stream, and writes each message after its tag was checked.
+///
+/// `Ok` says that all of the input is the file of the text that was written. A file is refused only if it is the file of no
+/// text, and the error is then its first fault, or if memory runs out. After any error a front of the file's text was written,
+/// if it is the file of one: a caller that needs the whole text has to discard it.
+///
+/// The context has at most [`MAX_CONTEXT_BYTES`]. Memory is taken for one record and its message, each of up to 16 MiB in a
+/// file that someone else made with the key.
+pub fn open_stream<R: Read, W: Write, A: Allocator + Copy>(
+    alloc: A,
+    key: &Key,
+    context: &[u8],
+    input: &mut R,
+    output: &mut W,
+) -> Result<(), FileError>
+    requires { length context.now ≤ MAX_CONTEXT_BYTES }
+    ensures opened { OnOk result (IfSome (R.remaining input.old) (λ file. (text : List ℕ)
+        × Appends (W.contents output.old) (W.contents output.new) text
+        × IsSealedFile key.now context.now text file)) }
+    ensures refused { IfErr result (λ e. IfSome (R.remaining input.old)
+        (λ file. FailsWith key.now context.now file
+        (W.contents output.old) (W.contents output.new) e)) }
+    ensures accepted { IfErr result (λ e. IfSome (R.remaining input.old)
+        (λ file. (text : List ℕ) → IsSealedFile key.now context.now text file
+        → IfRefused e (λ why. why ≡ RecordError.OutOfMemory))) }
+{
+    let mut prefix = [0; 24];
+    if fill(input, &mut prefix)? < prefix.len() {
+        return Err(FileError::Stream(RecordError::Header));
+    }
+    open_under(alloc, key, &prefix, context, input, output)
+}

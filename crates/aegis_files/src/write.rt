@@ -1,0 +1,45 @@
+//! Writing.
+
+ghost use Rattle.std.specs.Prelude.{◌≡◌, ℕ, IfErr, OnErr, OnOk, take};
+ghost use Rattle.std.specs.Io.KnownBytes.{Appends, Keeps};
+ghost use Rattle.aegis_files.specs.Reading.{IsWriteError};
+
+use crate::error::FileError;
+use std::io;
+use std::io::{ErrorKind, Write};
+
+/// Writes all the bytes. An interrupted write is tried again; after an error a front of them was written.
+pub fn write<W: Write>(output: &mut W, bytes: &[u8]) -> Result<(), FileError>
+    ensures ok { OnOk result (Appends (W.contents output.old) (W.contents output.new) bytes.now) }
+    ensures err { IfErr result IsWriteError }
+    ensures front { OnErr result ((n : ℕ)
+        × Appends (W.contents output.old) (W.contents output.new) (take n bytes.now)) }
+{
+    let mut sent = 0;
+    'writes: for _ in 0..u64::MAX {
+        if sent == bytes.len() {
+            return Ok(());
+        }
+        match output.write(&bytes[sent..]) {
+            Ok(0) => return Err(FileError::Write(io::Error::from(ErrorKind::WriteZero))),
+            Ok(count) => sent += count,
+            Err(error) => {
+                if error.kind() != ErrorKind::Interrupted {
+                    return Err(FileError::Write(error));
+                }
+            }
+        }
+    }
+    Err(FileError::Write(io::Error::from(ErrorKind::TimedOut)))
+}
+
+/// Hands on what a writer holds back.
+pub fn flush<W: Write>(output: &mut W) -> Result<(), FileError>
+    ensures kept { Keeps (W.contents output.old) (W.contents output.new) }
+    ensures err { IfErr result IsWriteError }
+{
+    match output.flush() {
+        Ok(()) => Ok(()),
+        Err(error) => Err(FileError::Write(error)),
+    }
+}

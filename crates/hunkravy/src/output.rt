@@ -1,0 +1,78 @@
+//! Output files, which come to their place when they are whole.
+//!
+//! A file OUT is written as OUT.part, synced, and renamed: so OUT is the whole file, what it was before, or not there.
+
+use crate::command::Place;
+use crate::failure::Failure;
+use aegis_files::FileError;
+use std::fs::{File, OpenOptions};
+use std::io::ErrorKind;
+use std::os::unix::fs::{MetadataExt, OpenOptionsExt};
+use std::{fs, io};
+
+// The mode of each file that is made: its owner alone reads and writes it.
+const OWNER_ONLY: u32 = 0o600;
+
+/// Makes a file that is not there yet.
+pub fn create(rt: &HostRuntime, name: &str) -> io::Result<File> {
+    OpenOptions::new()
+        .write(true)
+        .create_new(true)
+        .mode(OWNER_ONLY)
+        .open(rt, name)
+}
+
+/// Refuses an output file that exists, unless it may be replaced, and one that is the input.
+pub fn look(
+    rt: &HostRuntime,
+    input: Place<'_>,
+    output: &str,
+    force: bool,
+) -> Result<(), Failure> {
+    let there = match fs::metadata(rt, output) {
+        Ok(there) => there,
+        Err(error) => {
+            return match error.kind() {
+                ErrorKind::NotFound => Ok(()),
+                _ => Err(Failure::Output(error)),
+            };
+        }
+    };
+    if let Place::File(input) = input {
+        let read = fs::metadata(rt, input).map_err(Failure::Input)?;
+        if read.dev() == there.dev() && read.ino() == there.ino() {
+            return Err(Failure::SameFile);
+        }
+    }
+    if force { Ok(()) } else { Err(Failure::Exists) }
+}
+
+/// Writes a file by `write` and puts it in its place. After a failure its part is removed.
+pub fn write_whole(
+    rt: &HostRuntime,
+    output: &str,
+    write: impl FnOnce(&mut File) -> Result<(), FileError>,
+) -> Result<(), Failure> {
+    let part = format!(in rt.alloc(); "{output}.part")?;
+    let mut file = match create(rt, part.as_str()) {
+        Ok(file) => file,
+        Err(error) => {
+            return Err(match error.kind() {
+                ErrorKind::AlreadyExists => Failure::Part,
+                _ => Failure::Output(error),
+            });
+        }
+    };
+    let written = match write(&mut file) {
+        Ok(()) => file.sync_all().map_err(Failure::Output),
+        Err(error) => Err(Failure::File(error)),
+    };
+    let placed = match written {
+        Ok(()) => fs::rename(rt, part.as_str(), output).map_err(Failure::Output),
+        Err(failure) => Err(failure),
+    };
+    if placed.is_err() {
+        let _ = fs::remove_file(rt, part.as_str());
+    }
+    placed
+}

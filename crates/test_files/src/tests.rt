@@ -1,0 +1,62 @@
+//! What the tests share.
+
+mod failures;
+mod faults;
+mod texts;
+
+use aegis::record::RecordSealer;
+use aegis_files::{FileError, open_stream, seal_stream};
+use std::alloc::{Allocator, Global};
+use std::io::Read;
+
+const KEY: [u8; 32] = [7; 32];
+
+const PREFIX: [u8; 24] = [9; 24];
+
+const CONTEXT: [u8; 4] = *b"test";
+
+/// The file of a text.
+fn sealed<A: Allocator + Copy>(alloc: A, text: &[u8]) -> Result<Vec<u8, A>, FileError> {
+    let mut file = Vec::new(alloc);
+    let mut input = text;
+    seal_stream(alloc, &KEY, &PREFIX, &CONTEXT, &mut input, &mut file)?;
+    Ok(file)
+}
+
+/// The text of a file under a key, and what was written if it is refused.
+fn opened_with<R: Read>(
+    alloc: Global,
+    key: &[u8; 32],
+    input: &mut R,
+) -> (Vec<u8>, Result<(), FileError>) {
+    let mut text = Vec::new(alloc);
+    let result = open_stream(alloc, key, &CONTEXT, input, &mut text);
+    (text, result)
+}
+
+/// The text of a file.
+fn opened(alloc: Global, file: &[u8]) -> (Vec<u8>, Result<(), FileError>) {
+    let mut input = file;
+    opened_with(alloc, &KEY, &mut input)
+}
+
+/// The messages of the small file.
+const MESSAGES: [&[u8]; 3] = [b"one", b"and two", b"three"];
+
+/// The text of the small file.
+const TEXT: &[u8] = b"oneand twothree";
+
+/// A file of three records, under a key and a prefix.
+fn three_records(
+    alloc: Global,
+    key: &[u8; 32],
+    prefix: &[u8; 24],
+) -> Result<Vec<u8>, FileError> {
+    let mut file = Vec::new(alloc);
+    file.extend_from_slice(prefix)?;
+    let mut sealer = RecordSealer::new(alloc, key, prefix, &CONTEXT, &mut file)?;
+    sealer.seal_next(MESSAGES[0], &mut file)?;
+    sealer.seal_next(MESSAGES[1], &mut file)?;
+    sealer.seal_last(MESSAGES[2], &mut file)?;
+    Ok(file)
+}

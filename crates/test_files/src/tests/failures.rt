@@ -1,0 +1,111 @@
+//! Readers, writers and memory that fail.
+
+use super::{CONTEXT, KEY, PREFIX, TEXT, opened_with, sealed, three_records};
+use aegis::record::RecordError;
+use aegis_files::{FileError, open_stream, seal_stream};
+use std::io::ErrorKind;
+use std::test::Fail;
+use test_tools::ends::{CutOff, Narrow};
+use test_tools::memory::Rationed;
+
+// More requests than sealing or opening a small file makes.
+const REQUESTS: u64 = 40;
+
+// A reader that fails after each number of bytes: the error is the reader's, and what was written is a front of the text.
+#[test]
+fn opening_stops_where_a_read_fails(rt: HostRuntime) -> Result<(), Fail> {
+    let file = three_records(rt.alloc(), &KEY, &PREFIX)?;
+    for length in 0..=file.len() {
+        let mut input = CutOff {
+            left: &file[..length],
+            error: ErrorKind::Other,
+        };
+        let (text, result) = opened_with(rt.alloc(), &KEY, &mut input);
+        assert!(rt; matches!(result, Err(FileError::Read(_))), "at {length}");
+        assert!(rt; TEXT.starts_with(&text), "at {length}");
+    }
+    Ok(())
+}
+
+#[test]
+fn sealing_stops_where_a_read_fails(rt: HostRuntime) -> Result<(), Fail> {
+    let whole = sealed(rt.alloc(), TEXT)?;
+    for length in 0..=TEXT.len() {
+        let mut input = CutOff {
+            left: &TEXT[..length],
+            error: ErrorKind::Other,
+        };
+        let mut file = Vec::new(rt.alloc());
+        let result = seal_stream(rt.alloc(), &KEY, &PREFIX, &CONTEXT, &mut input, &mut file);
+        assert!(rt; matches!(result, Err(FileError::Read(_))), "at {length}");
+        assert!(rt; file.len() < whole.len(), "at {length}");
+        assert_eq!(rt; file.as_slice(), &PREFIX, "at {length}");
+    }
+    Ok(())
+}
+
+// A writer that fails after each number of bytes has a front of what is written.
+#[test]
+fn sealing_stops_where_a_write_fails(rt: HostRuntime) -> Result<(), Fail> {
+    let whole = sealed(rt.alloc(), TEXT)?;
+    for room in 0..whole.len() {
+        let mut file = Narrow {
+            taken: Vec::new(rt.alloc()),
+            room,
+            error: None,
+            flushes: true,
+        };
+        let mut input = TEXT;
+        let result = seal_stream(rt.alloc(), &KEY, &PREFIX, &CONTEXT, &mut input, &mut file);
+        assert!(rt; matches!(result, Err(FileError::Write(_))), "with room {room}");
+        assert_eq!(rt; file.taken.as_slice(), &whole[..room], "with room {room}");
+    }
+    Ok(())
+}
+
+#[test]
+fn opening_stops_where_a_write_fails(rt: HostRuntime) -> Result<(), Fail> {
+    let file = three_records(rt.alloc(), &KEY, &PREFIX)?;
+    for room in 0..TEXT.len() {
+        let mut text = Narrow {
+            taken: Vec::new(rt.alloc()),
+            room,
+            error: Some(ErrorKind::StorageFull),
+            flushes: true,
+        };
+        let mut input = file.as_slice();
+        let result = open_stream(rt.alloc(), &KEY, &CONTEXT, &mut input, &mut text);
+        assert!(rt; matches!(result, Err(FileError::Write(_))), "with room {room}");
+        assert_eq!(rt; text.taken.as_slice(), &TEXT[..room], "with room {room}");
+    }
+    Ok(())
+}
+
+// With memory refused in turn a file is sealed and opened as with ample memory, or the error is the want of it.
+#[test]
+fn memory_is_refused_in_turn(rt: HostRuntime) -> Result<(), Fail> {
+    let whole = sealed(rt.alloc(), TEXT)?;
+    for requests in 0..REQUESTS {
+        let heap = Rationed::new(rt.alloc(), requests);
+        let mut file = Vec::new(rt.alloc());
+        let mut input = TEXT;
+        match seal_stream(&heap, &KEY, &PREFIX, &CONTEXT, &mut input, &mut file) {
+            Ok(()) => assert!(rt; file == whole, "{requests}"),
+            Err(error) => assert!(rt;
+                matches!(error, FileError::Stream(RecordError::OutOfMemory)),
+                "{requests}"
+            ),
+        }
+        let heap = Rationed::new(rt.alloc(), requests);
+        let mut text = Vec::new(rt.alloc());
+        let mut input = whole.as_slice();
+        match open_stream(&heap, &KEY, &CONTEXT, &mut input, &mut text) {
+            Ok(()) => assert_eq!(rt; text.as_slice(), TEXT, "{requests}"),
+            Err(error) => assert!(rt;
+                matches!(error, FileError::Stream(RecordError::OutOfMemory)),
+                "{requests}"
+            ),
+        }
+    }
+    Ok(())
+}

@@ -1,0 +1,101 @@
+//! Files with one fault.
+
+use super::{KEY, PREFIX, TEXT, opened, opened_with, three_records};
+use aegis::record::RecordError;
+use aegis_files::FileError;
+use std::test::Fail;
+
+// Where the records of the small file begin, and where it ends: a record has 37 bytes beside its message.
+const PLACES: [usize; 4] = [28, 28 + 40, 28 + 40 + 44, 28 + 40 + 44 + 42];
+
+// Whether a file is refused, and what was written before is a front of the small file's text.
+fn is_refused(written: &[u8], result: &Result<(), FileError>) -> bool {
+    TEXT.starts_with(written) && matches!(result, Err(FileError::Stream(_)))
+}
+
+#[test]
+fn each_proper_front_is_refused(rt: HostRuntime) -> Result<(), Fail> {
+    let file = three_records(rt.alloc(), &KEY, &PREFIX)?;
+    assert_eq!(rt; file.len(), PLACES[3]);
+    for length in 0..file.len() {
+        let (text, result) = opened(rt.alloc(), &file[..length]);
+        let fault = matches!(
+            result,
+            Err(FileError::Stream(RecordError::Header | RecordError::Truncated))
+        );
+        assert!(rt; fault, "at {length}");
+        assert!(rt; TEXT.starts_with(&text), "at {length}");
+    }
+    Ok(())
+}
+
+#[test]
+fn each_changed_byte_is_refused(rt: HostRuntime) -> Result<(), Fail> {
+    let mut file = three_records(rt.alloc(), &KEY, &PREFIX)?;
+    for at in 0..file.len() {
+        for bit in [0x01, 0x80] {
+            file[at] ^= bit;
+            let (text, result) = opened(rt.alloc(), &file);
+            assert!(rt; is_refused(&text, &result), "at {at}");
+            file[at] ^= bit;
+        }
+    }
+    Ok(())
+}
+
+#[test]
+fn bytes_after_the_last_record_are_refused(rt: HostRuntime) -> Result<(), Fail> {
+    let mut file = three_records(rt.alloc(), &KEY, &PREFIX)?;
+    file.push(0)?;
+    let (text, result) = opened(rt.alloc(), &file);
+    assert_eq!(rt; text.as_slice(), TEXT);
+    let trailing = matches!(
+        result,
+        Err(FileError::Stream(RecordError::Trailing))
+    );
+    assert!(rt; trailing);
+    Ok(())
+}
+
+// Swapped, left out, repeated, and taken from the file of another prefix or key.
+#[test]
+fn records_elsewhere_are_refused(rt: HostRuntime) -> Result<(), Fail> {
+    let file = three_records(rt.alloc(), &KEY, &PREFIX)?;
+    let other_prefix = three_records(rt.alloc(), &KEY, &[8; 24])?;
+    let other_key = three_records(rt.alloc(), &[6; 32], &PREFIX)?;
+    let record = |number: usize| &file[PLACES[number]..PLACES[number + 1]];
+    let front = &file[..PLACES[0]];
+    let cases = [
+        [front, record(1), record(0), record(2)],
+        [front, record(0), record(2), &[]],
+        [front, record(1), record(2), &[]],
+        [front, record(2), &[], &[]],
+        [front, record(0), record(0), record(2)],
+        [front, &other_prefix[PLACES[0]..], &[], &[]],
+        [front, record(0), &other_prefix[PLACES[1]..], &[]],
+        [front, record(0), &other_key[PLACES[1]..], &[]],
+    ];
+    for parts in cases {
+        let mut changed = Vec::new(rt.alloc());
+        for part in parts {
+            changed.extend_from_slice(part)?;
+        }
+        let (text, result) = opened(rt.alloc(), &changed);
+        assert!(rt; is_refused(&text, &result));
+    }
+    Ok(())
+}
+
+#[test]
+fn another_key_is_refused(rt: HostRuntime) -> Result<(), Fail> {
+    let file = three_records(rt.alloc(), &KEY, &PREFIX)?;
+    let mut input = file.as_slice();
+    let (text, result) = opened_with(rt.alloc(), &[6; 32], &mut input);
+    let damaged = matches!(
+        result,
+        Err(FileError::Stream(RecordError::Damaged(0)))
+    );
+    assert!(rt; damaged);
+    assert!(rt; text.is_empty());
+    Ok(())
+}

@@ -1,0 +1,45 @@
+//! Texts that are sealed and opened in memory.
+
+use super::{CONTEXT, KEY, PREFIX, TEXT, opened, sealed, three_records};
+use aegis::record::open_records;
+use aegis_files::PIECE_BYTES;
+use std::test::Fail;
+
+#[test]
+fn texts_of_several_lengths_come_back(rt: HostRuntime) -> Result<(), Fail> {
+    for length in [0, 1, PIECE_BYTES - 1, PIECE_BYTES, PIECE_BYTES + 1] {
+        let mut text = Vec::new(rt.alloc());
+        text.resize(length, 0x5a)?;
+        let file = sealed(rt.alloc(), &text)?;
+        assert!(rt; file.as_slice().starts_with(&PREFIX), "at {length}");
+        let (found, result) = opened(rt.alloc(), &file);
+        assert!(rt; result.is_ok(), "at {length}");
+        assert!(rt; found == text, "at {length}");
+    }
+    Ok(())
+}
+
+// Each piece is a record, and an empty one comes last.
+#[test]
+fn pieces_are_records(rt: HostRuntime) -> Result<(), Fail> {
+    let mut text = Vec::new(rt.alloc());
+    text.resize(PIECE_BYTES + 3, 0x5a)?;
+    let file = sealed(rt.alloc(), &text)?;
+    let stream = file.get(PREFIX.len()..).unwrap_or(&[]);
+    let messages = open_records(rt.alloc(), &KEY, &PREFIX, &CONTEXT, stream)?;
+    assert_eq!(rt; messages.len(), 3);
+    assert_eq!(rt; messages[0].len(), PIECE_BYTES);
+    assert_eq!(rt; messages[1].len(), 3);
+    assert_eq!(rt; messages[2].len(), 0);
+    Ok(())
+}
+
+// A file need not have an empty record.
+#[test]
+fn a_file_of_other_pieces_opens(rt: HostRuntime) -> Result<(), Fail> {
+    let file = three_records(rt.alloc(), &KEY, &PREFIX)?;
+    let (text, result) = opened(rt.alloc(), &file);
+    assert!(rt; result.is_ok());
+    assert_eq!(rt; text.as_slice(), TEXT);
+    Ok(())
+}
