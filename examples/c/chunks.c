@@ -1,0 +1,134 @@
+/*
+ * Encrypts a file in chunks, and decrypts it again without writing a byte of a forged one:
+ * AEGIS-256 on a state.
+ *
+ * cc chunks.c $(pkg-config --cflags --libs hunkravy)
+ */
+#include "hunkravy.h"
+
+#include <stdio.h>
+#include <stdlib.h>
+#include <string.h>
+#include <sys/random.h>
+
+#define KEY_BYTES HUNKRAVY_AEGIS256_KEY_BYTES
+#define NONCE_BYTES HUNKRAVY_AEGIS256_NONCE_BYTES
+#define TAG_BYTES HUNKRAVY_LONG_TAG_BYTES
+#define CHUNK_BYTES 65536
+
+/* An encrypted file is the nonce, the tag, and the ciphertext. */
+#define HEADER_BYTES (NONCE_BYTES + TAG_BYTES)
+
+static uint8_t chunk[CHUNK_BYTES];
+
+/*
+ * Writes `plain`, encrypted, to `out`. Returns 0, or -1 if a file or the system failed; drop the
+ * output then.
+ */
+static int encrypt_file(FILE *out, FILE *plain, const uint8_t *key)
+{
+    uint8_t header[HEADER_BYTES] = {0};
+    hunkravy_aegis256_state state;
+    size_t length;
+
+    if (getentropy(header, NONCE_BYTES) != 0 ||
+        hunkravy_aegis256_state_init(&state, NULL, 0, header, NONCE_BYTES, key, KEY_BYTES) !=
+            HUNKRAVY_OK ||
+        fwrite(header, 1, HEADER_BYTES, out) != HEADER_BYTES) {
+        return -1;
+    }
+    while ((length = fread(chunk, 1, CHUNK_BYTES, plain)) != 0) {
+        if (hunkravy_aegis256_state_encrypt_in_place(&state, chunk, length) != HUNKRAVY_OK ||
+            fwrite(chunk, 1, length, out) != length) {
+            return -1;
+        }
+    }
+    if (ferror(plain) || hunkravy_aegis256_state_encrypt_final(&state, header + NONCE_BYTES,
+                                                               TAG_BYTES) != HUNKRAVY_OK) {
+        return -1;
+    }
+    rewind(out);
+    return fwrite(header, 1, HEADER_BYTES, out) == HEADER_BYTES && fflush(out) == 0 ? 0 : -1;
+}
+
+/*
+ * Goes through an encrypted file once. If `out` is null the chunks are only checked, and else their
+ * message is written to it. Returns 0 if the tag is right, and -1 otherwise.
+ */
+static int pass(FILE *out, FILE *encrypted, const uint8_t *key)
+{
+    uint8_t header[HEADER_BYTES];
+    hunkravy_aegis256_state state;
+    size_t length;
+    int code;
+
+    rewind(encrypted);
+    if (fread(header, 1, HEADER_BYTES, encrypted) != HEADER_BYTES ||
+        hunkravy_aegis256_state_init(&state, NULL, 0, header, NONCE_BYTES, key, KEY_BYTES) !=
+            HUNKRAVY_OK) {
+        return -1;
+    }
+    while ((length = fread(chunk, 1, CHUNK_BYTES, encrypted)) != 0) {
+        if (out == NULL) {
+            code = hunkravy_aegis256_state_decrypt_check(&state, chunk, length);
+        } else {
+            code = hunkravy_aegis256_state_decrypt_in_place_unverified(&state, chunk, length);
+        }
+        if (code != HUNKRAVY_OK || (out != NULL && fwrite(chunk, 1, length, out) != length)) {
+            return -1;
+        }
+    }
+    code = hunkravy_aegis256_state_decrypt_final(&state, NULL, 0, header + NONCE_BYTES, TAG_BYTES);
+    return code == HUNKRAVY_OK && !ferror(encrypted) ? 0 : -1;
+}
+
+/*
+ * Writes the message of an encrypted file to `out`. Returns 0, or -1 if the file is forged, and
+ * then nothing was written. After -1 because a file failed, or was changed between the passes, drop
+ * the output.
+ */
+static int decrypt_file(FILE *out, FILE *encrypted, const uint8_t *key)
+{
+    return pass(NULL, encrypted, key) == 0 && pass(out, encrypted, key) == 0 ? 0 : -1;
+}
+
+/*
+ * A file of many chunks, its encryption and its decryption. Returns 0 if they are as they should
+ * be.
+ */
+static int try_files(FILE *plain, FILE *encrypted, FILE *decrypted, const uint8_t *key)
+{
+    int byte, i;
+
+    for (i = 0; i < 3 * CHUNK_BYTES + 100; i++) {
+        putc(i % 251, plain);
+    }
+    rewind(plain);
+    if (encrypt_file(encrypted, plain, key) != 0 || decrypt_file(decrypted, encrypted, key) != 0) {
+        return -1;
+    }
+    rewind(plain);
+    rewind(decrypted);
+    while ((byte = getc(plain)) != EOF) {
+        if (getc(decrypted) != byte) {
+            return -1;
+        }
+    }
+    /* One byte more at the end is a forgery. */
+    fseek(encrypted, 0, SEEK_END);
+    putc(0, encrypted);
+    return decrypt_file(decrypted, encrypted, key) == 0 ? -1 : 0;
+}
+
+int main(void)
+{
+    uint8_t key[KEY_BYTES];
+    FILE *plain = tmpfile(), *encrypted = tmpfile(), *decrypted = tmpfile();
+
+    if (plain == NULL || encrypted == NULL || decrypted == NULL ||
+        getentropy(key, sizeof key) != 0 || try_files(plain, encrypted, decrypted, key) != 0) {
+        return EXIT_FAILURE;
+    }
+    puts("hunkravy: the file was decrypted in chunks, and the changed file was refused");
+    return EXIT_SUCCESS;
+}
