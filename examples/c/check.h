@@ -280,7 +280,7 @@ static inline const struct variant *variant_of(const char *name)
 
 static inline void read_line(struct line *line, char *text)
 {
-    char *words[MOST_FIELDS] = {NULL}, **word = words;
+    char *words[MOST_FIELDS] = {""}, **word = words;
 
     split(text, words);
     snprintf(line->command, sizeof line->command, "%s", *word++);
@@ -305,7 +305,7 @@ static inline void read_line(struct line *line, char *text)
 
 static inline void read_answer(struct line *line, char *text)
 {
-    char *words[MOST_FIELDS];
+    char *words[MOST_FIELDS] = {""};
     size_t count = split(text, words);
     size_t first = strcmp(words[0], "ok") == 0;
 

@@ -257,9 +257,13 @@ int main(int count, char **arguments)
     static const char *const files[] = {"published", "wycheproof",     "seal",
                                         "open",      "stream",         "xor",
                                         "mac",       "seal-in-pieces", "open-in-pieces"};
+    char version[32];
     size_t lines = 0;
 
     HOLDS(count == 2);
+    snprintf(version, sizeof version, "%d.%d.%d", HUNKRAVY_VERSION_MAJOR, HUNKRAVY_VERSION_MINOR,
+             HUNKRAVY_VERSION_PATCH);
+    HOLDS(strcmp(version, HUNKRAVY_VERSION) == 0);
     for (size_t i = 0; i < sizeof files / sizeof files[0]; i++) {
         lines += for_each_line(arguments[1], files[i], check_line);
     }
