@@ -60,6 +60,7 @@ CPU =
 LEVELS = x86-64-v2 x86-64-v3
 LIBRARY = $(OUT)/$(or $(CPU),both)/libhunkravy.a
 
+STORED_LINES = crates/check_lines/data
 HEADERS = hunkravy.h aegis_compat.h sodium_compat.h
 C_EXAMPLES = seal chunks libaegis libaegis_chunks libsodium
 
@@ -98,7 +99,6 @@ check-header:
 	done; done
 
 # The C programs: the examples, and the tests, which read the stored lines.
-STORED_LINES = crates/check_lines/data
 C_PROGRAMS = $(C_EXAMPLES) check_calls check_states check_libaegis check_libaegis_written check_libsodium
 
 check-c-%: $(OUT)/%/libhunkravy.a $(OUT)/%/driver
@@ -148,7 +148,7 @@ check-install: | $(OUT)
 BENCH_CPU = $(or $(CPU),x86-64-v2)
 BENCH_FOLDER = $(if $(filter x86-64-v2,$(BENCH_CPU)),bench,bench/$(BENCH_CPU))
 
-$(OUT)/%/driver: $(wildcard bench/*.rs vectors/*) include/hunkravy.rs $(OUT)/%/libhunkravy.a
+$(OUT)/%/driver: $(wildcard bench/*.rs $(STORED_LINES)/*) include/hunkravy.rs $(OUT)/%/libhunkravy.a
 	CPU=$* $(RUSTC) $(if $(filter x86-64%,$*),-C target-cpu=$*) -C no-vectorize-slp bench/driver.rs \
 		-L native=$(OUT)/$* -l static=hunkravy -o $@
 
