@@ -84,8 +84,8 @@ $(OUT)/%/aegis_c.a: $(C_SOURCES) crates.txt
 	cp $(C_LIBRARY) $@
 
 # The tests of the C interface: its headers, and over the library with both levels and over each level alone the examples,
-# every call of each header against the stored lines, and forgeries; the C programs under gcc's sanitizers too. A level that
-# this processor lacks is left out.
+# every call of each header against the stored lines, and forgeries; the C programs under gcc's sanitizers too. The header
+# has the exports of the library, all of them and no other. A level that this processor lacks is left out.
 RUNNABLE = $(if $(shell grep -m1 -w avx2 /proc/cpuinfo),$(LEVELS),x86-64-v2)
 
 check-c: check-header $(addprefix check-c-,both $(RUNNABLE)) check-sodium
@@ -102,6 +102,8 @@ check-header:
 C_PROGRAMS = $(C_EXAMPLES) check_calls check_states check_libaegis check_libaegis_written check_libsodium
 
 check-c-%: $(OUT)/%/libhunkravy.a $(OUT)/%/driver
+	diff <(grep -o 'hunkravy_[a-z0-9_]*_nonnull' include/hunkravy.h | sort -u) \
+		<(nm --defined-only -g $< | awk '{ print $$3 }' | grep -x 'hunkravy_aegis.*_nonnull' | sort)
 	for program in $(C_PROGRAMS); do for flags in -O2 '$(SANITIZERS)'; do \
 		source=$${program%_written}; \
 		if [ $$source != $$program ]; then flags="$$flags -DHUNKRAVY_COMPAT_WRITTEN"; fi; \

@@ -232,7 +232,7 @@ static inline void aegis128l_decrypt_unauthenticated(
     int code = hunkravy_aegis128l_state_init(&st, NULL, 0, npub, aegis128l_NPUBBYTES, k, aegis128l_KEYBYTES);
     code = hunkravy_aegis128l_state_decrypt_unverified(&st, m, c, clen);
     (void)code; /* The lengths are right. */
-    hunkravy_clear(&st.state);
+    hunkravy_wipe(&st, sizeof st);
 }
 
 /* Begins a message with `adlen` bytes of associated data. If that is too long each other call refuses the state. */
@@ -514,7 +514,7 @@ static inline void aegis128x2_decrypt_unauthenticated(
     int code = hunkravy_aegis128x2_state_init(&st, NULL, 0, npub, aegis128x2_NPUBBYTES, k, aegis128x2_KEYBYTES);
     code = hunkravy_aegis128x2_state_decrypt_unverified(&st, m, c, clen);
     (void)code; /* The lengths are right. */
-    hunkravy_clear(&st.state);
+    hunkravy_wipe(&st, sizeof st);
 }
 
 /* Begins a message with `adlen` bytes of associated data. If that is too long each other call refuses the state. */
@@ -796,7 +796,7 @@ static inline void aegis128x4_decrypt_unauthenticated(
     int code = hunkravy_aegis128x4_state_init(&st, NULL, 0, npub, aegis128x4_NPUBBYTES, k, aegis128x4_KEYBYTES);
     code = hunkravy_aegis128x4_state_decrypt_unverified(&st, m, c, clen);
     (void)code; /* The lengths are right. */
-    hunkravy_clear(&st.state);
+    hunkravy_wipe(&st, sizeof st);
 }
 
 /* Begins a message with `adlen` bytes of associated data. If that is too long each other call refuses the state. */
@@ -1078,7 +1078,7 @@ static inline void aegis256_decrypt_unauthenticated(
     int code = hunkravy_aegis256_state_init(&st, NULL, 0, npub, aegis256_NPUBBYTES, k, aegis256_KEYBYTES);
     code = hunkravy_aegis256_state_decrypt_unverified(&st, m, c, clen);
     (void)code; /* The lengths are right. */
-    hunkravy_clear(&st.state);
+    hunkravy_wipe(&st, sizeof st);
 }
 
 /* Begins a message with `adlen` bytes of associated data. If that is too long each other call refuses the state. */
@@ -1360,7 +1360,7 @@ static inline void aegis256x2_decrypt_unauthenticated(
     int code = hunkravy_aegis256x2_state_init(&st, NULL, 0, npub, aegis256x2_NPUBBYTES, k, aegis256x2_KEYBYTES);
     code = hunkravy_aegis256x2_state_decrypt_unverified(&st, m, c, clen);
     (void)code; /* The lengths are right. */
-    hunkravy_clear(&st.state);
+    hunkravy_wipe(&st, sizeof st);
 }
 
 /* Begins a message with `adlen` bytes of associated data. If that is too long each other call refuses the state. */
@@ -1642,7 +1642,7 @@ static inline void aegis256x4_decrypt_unauthenticated(
     int code = hunkravy_aegis256x4_state_init(&st, NULL, 0, npub, aegis256x4_NPUBBYTES, k, aegis256x4_KEYBYTES);
     code = hunkravy_aegis256x4_state_decrypt_unverified(&st, m, c, clen);
     (void)code; /* The lengths are right. */
-    hunkravy_clear(&st.state);
+    hunkravy_wipe(&st, sizeof st);
 }
 
 /* Begins a message with `adlen` bytes of associated data. If that is too long each other call refuses the state. */

@@ -4,13 +4,14 @@
  * WHAT YOU MUST NEVER DO. No call detects it:
  *
  * - Never encrypt two messages with the same key and nonce, and never use one nonce for a message and for a
- *   keystream. Whoever sees both ciphertexts learns about both messages, and may forge others. The nonces of 32
- *   bytes may be drawn at random; those of 16 bytes are better counted.
+ *   keystream. Whoever sees both ciphertexts learns about both messages, and may forge others. Nonces of 32
+ *   bytes may be drawn at random; those of 16 bytes too, for up to 2^48 messages under one key. Two copies of a
+ *   state that encrypt different bytes are a nonce that is used twice.
  * - Never let an output buffer overlap another argument, unless the call's comment says that they may be the
  *   same pointer.
- * - Never use decrypted bytes before their tag is verified: do not show, parse or store them, or act on them. The
- *   calls whose names end in `_unverified` write such bytes. Anyone may have forged them, until the final call
- *   returns HUNKRAVY_OK.
+ * - Never use decrypted bytes before their tag is verified: do not show, parse or store them, or act on them.
+ *   The calls whose names end in `_unverified` write such bytes. Anyone may have forged them, until the final
+ *   call returns HUNKRAVY_OK.
  * - Never ignore a returned code. After a code other than HUNKRAVY_OK a buffer that was to be encrypted in
  *   place still holds the message.
  * - Never use the key of a MAC for anything but MACs.
@@ -21,9 +22,9 @@
  *   the pointer is not const, writable. If the length is 0 the pointer may be anything, null too.
  * - No other thread reads or writes an output buffer or a state, or writes an input, until the call returns.
  *
- * PARAMETERS. All lengths are in bytes. `m` is a message, `c` a ciphertext, `mc` a buffer that holds one of them
- * before the call and the other after it, `ad` the associated data, `npub` the nonce, `k` the key, and `mac` a
- * tag or a MAC. The lengths are checked: a call returns the first of the codes below that applies, but
+ * PARAMETERS. All lengths are in bytes. `m` is a message, `c` a ciphertext, `mc` a buffer that holds one of
+ * them before the call and the other after it, `ad` the associated data, `npub` the nonce, `k` the key, and
+ * `mac` a tag or a MAC. The lengths are checked: a call returns the first of the codes below that applies, but
  * HUNKRAVY_WRONG_STATE before all others. After a code for a length or for a state it has written nothing.
  *
  * CALLS. The six variants have the same calls, with these names in the place of NAME: aegis128l, aegis128x2,
@@ -115,17 +116,23 @@ extern "C" {
 int hunkravy_level(void);
 
 /*
+ * Writes zeros over `length` bytes, also if nothing reads them afterwards: for keys, and for states that are
+ * dropped. Not covered: copies that the compiler or the library has made.
+ */
+static inline void hunkravy_wipe(void *bytes, size_t length);
+
+/*
  * What a message or a MAC is made by, between two calls. Use the types hunkravy_NAME_state and
  * hunkravy_NAME_mac_state, which hold one each. Leave the fields alone: the calls are safe on any bytes, but of
  * a state that a caller has written to, what they write is not specified.
  *
  * A state may stand anywhere, be copied by `=`, and be dropped at any time; nothing has to be freed. A state of
- * zeros is refused by each call but an init. Until it has ended a state is as secret as the key: overwrite it
- * if you drop it.
+ * zeros is refused by each call but an init. Until it has ended a state is as secret as the key: hunkravy_wipe
+ * it if you drop it.
  */
 typedef struct hunkravy_state {
     uint64_t mark;
-    uint8_t rows[8][64];
+    uint8_t rows[512];
     uint8_t block[128];
     uint64_t data_bytes;
     uint64_t message_bytes;
@@ -370,7 +377,7 @@ HUNKRAVY_MUST_USE static inline int hunkravy_aegis128l_mac_update(
 
 /*
  * Writes the MAC of `maclen` bytes, 16 or 32, of the input so far to `mac`. The state stays as it is, so the
- * input may go on. Overwrite the state after its last use.
+ * input may go on. A MAC has no end: hunkravy_wipe the state after its last use.
  *
  * Returns HUNKRAVY_OK, HUNKRAVY_WRONG_STATE or HUNKRAVY_WRONG_TAG_LENGTH. After the last two nothing is
  * written.
@@ -627,7 +634,7 @@ HUNKRAVY_MUST_USE static inline int hunkravy_aegis128x2_mac_update(
 
 /*
  * Writes the MAC of `maclen` bytes, 16 or 32, of the input so far to `mac`. The state stays as it is, so the
- * input may go on. Overwrite the state after its last use.
+ * input may go on. A MAC has no end: hunkravy_wipe the state after its last use.
  *
  * Returns HUNKRAVY_OK, HUNKRAVY_WRONG_STATE or HUNKRAVY_WRONG_TAG_LENGTH. After the last two nothing is
  * written.
@@ -884,7 +891,7 @@ HUNKRAVY_MUST_USE static inline int hunkravy_aegis128x4_mac_update(
 
 /*
  * Writes the MAC of `maclen` bytes, 16 or 32, of the input so far to `mac`. The state stays as it is, so the
- * input may go on. Overwrite the state after its last use.
+ * input may go on. A MAC has no end: hunkravy_wipe the state after its last use.
  *
  * Returns HUNKRAVY_OK, HUNKRAVY_WRONG_STATE or HUNKRAVY_WRONG_TAG_LENGTH. After the last two nothing is
  * written.
@@ -1141,7 +1148,7 @@ HUNKRAVY_MUST_USE static inline int hunkravy_aegis256_mac_update(
 
 /*
  * Writes the MAC of `maclen` bytes, 16 or 32, of the input so far to `mac`. The state stays as it is, so the
- * input may go on. Overwrite the state after its last use.
+ * input may go on. A MAC has no end: hunkravy_wipe the state after its last use.
  *
  * Returns HUNKRAVY_OK, HUNKRAVY_WRONG_STATE or HUNKRAVY_WRONG_TAG_LENGTH. After the last two nothing is
  * written.
@@ -1398,7 +1405,7 @@ HUNKRAVY_MUST_USE static inline int hunkravy_aegis256x2_mac_update(
 
 /*
  * Writes the MAC of `maclen` bytes, 16 or 32, of the input so far to `mac`. The state stays as it is, so the
- * input may go on. Overwrite the state after its last use.
+ * input may go on. A MAC has no end: hunkravy_wipe the state after its last use.
  *
  * Returns HUNKRAVY_OK, HUNKRAVY_WRONG_STATE or HUNKRAVY_WRONG_TAG_LENGTH. After the last two nothing is
  * written.
@@ -1655,7 +1662,7 @@ HUNKRAVY_MUST_USE static inline int hunkravy_aegis256x4_mac_update(
 
 /*
  * Writes the MAC of `maclen` bytes, 16 or 32, of the input so far to `mac`. The state stays as it is, so the
- * input may go on. Overwrite the state after its last use.
+ * input may go on. A MAC has no end: hunkravy_wipe the state after its last use.
  *
  * Returns HUNKRAVY_OK, HUNKRAVY_WRONG_STATE or HUNKRAVY_WRONG_TAG_LENGTH. After the last two nothing is
  * written.
@@ -1928,10 +1935,15 @@ static inline void hunkravy_copy(uint8_t *to, const uint8_t *from, size_t length
     }
 }
 
-/* Makes a state that each call but an init refuses. */
-static inline void hunkravy_clear(hunkravy_state *st)
+static inline void hunkravy_wipe(void *bytes, size_t length)
 {
-    memset(st, 0, sizeof *st);
+    if (length != 0) {
+        memset(bytes, 0, length);
+    }
+#if defined(__GNUC__) || defined(__clang__)
+    /* The compiler takes it that this reads the bytes. */
+    __asm__ __volatile__("" : : "r"(bytes) : "memory");
+#endif
 }
 
 /*
@@ -2108,7 +2120,7 @@ static inline int hunkravy_aegis128l_state_init(hunkravy_aegis128l_state *st,
     const uint8_t *ad, size_t adlen, const uint8_t *npub, size_t npublen, const uint8_t *k,
     size_t klen)
 {
-    hunkravy_clear(&st->state);
+    memset(st, 0, sizeof *st);
     return hunkravy_aegis128l_state_init_nonnull(
         &st->state, hunkravy_readable(ad, adlen), adlen, hunkravy_readable(npub, npublen), npublen,
         hunkravy_readable(k, klen), klen);
@@ -2174,7 +2186,7 @@ static inline int hunkravy_aegis128l_state_decrypt_final(
 static inline int hunkravy_aegis128l_mac_init(hunkravy_aegis128l_mac_state *st,
     const uint8_t *npub, size_t npublen, const uint8_t *k, size_t klen)
 {
-    hunkravy_clear(&st->state);
+    memset(st, 0, sizeof *st);
     return hunkravy_aegis128l_state_init_nonnull(
         &st->state, hunkravy_no_bytes(), 0, hunkravy_readable(npub, npublen), npublen,
         hunkravy_readable(k, klen), klen);
@@ -2338,7 +2350,7 @@ static inline int hunkravy_aegis128x2_state_init(hunkravy_aegis128x2_state *st,
     const uint8_t *ad, size_t adlen, const uint8_t *npub, size_t npublen, const uint8_t *k,
     size_t klen)
 {
-    hunkravy_clear(&st->state);
+    memset(st, 0, sizeof *st);
     return hunkravy_aegis128x2_state_init_nonnull(
         &st->state, hunkravy_readable(ad, adlen), adlen, hunkravy_readable(npub, npublen), npublen,
         hunkravy_readable(k, klen), klen);
@@ -2404,7 +2416,7 @@ static inline int hunkravy_aegis128x2_state_decrypt_final(
 static inline int hunkravy_aegis128x2_mac_init(hunkravy_aegis128x2_mac_state *st,
     const uint8_t *npub, size_t npublen, const uint8_t *k, size_t klen)
 {
-    hunkravy_clear(&st->state);
+    memset(st, 0, sizeof *st);
     return hunkravy_aegis128x2_state_init_nonnull(
         &st->state, hunkravy_no_bytes(), 0, hunkravy_readable(npub, npublen), npublen,
         hunkravy_readable(k, klen), klen);
@@ -2568,7 +2580,7 @@ static inline int hunkravy_aegis128x4_state_init(hunkravy_aegis128x4_state *st,
     const uint8_t *ad, size_t adlen, const uint8_t *npub, size_t npublen, const uint8_t *k,
     size_t klen)
 {
-    hunkravy_clear(&st->state);
+    memset(st, 0, sizeof *st);
     return hunkravy_aegis128x4_state_init_nonnull(
         &st->state, hunkravy_readable(ad, adlen), adlen, hunkravy_readable(npub, npublen), npublen,
         hunkravy_readable(k, klen), klen);
@@ -2634,7 +2646,7 @@ static inline int hunkravy_aegis128x4_state_decrypt_final(
 static inline int hunkravy_aegis128x4_mac_init(hunkravy_aegis128x4_mac_state *st,
     const uint8_t *npub, size_t npublen, const uint8_t *k, size_t klen)
 {
-    hunkravy_clear(&st->state);
+    memset(st, 0, sizeof *st);
     return hunkravy_aegis128x4_state_init_nonnull(
         &st->state, hunkravy_no_bytes(), 0, hunkravy_readable(npub, npublen), npublen,
         hunkravy_readable(k, klen), klen);
@@ -2798,7 +2810,7 @@ static inline int hunkravy_aegis256_state_init(hunkravy_aegis256_state *st,
     const uint8_t *ad, size_t adlen, const uint8_t *npub, size_t npublen, const uint8_t *k,
     size_t klen)
 {
-    hunkravy_clear(&st->state);
+    memset(st, 0, sizeof *st);
     return hunkravy_aegis256_state_init_nonnull(
         &st->state, hunkravy_readable(ad, adlen), adlen, hunkravy_readable(npub, npublen), npublen,
         hunkravy_readable(k, klen), klen);
@@ -2864,7 +2876,7 @@ static inline int hunkravy_aegis256_state_decrypt_final(
 static inline int hunkravy_aegis256_mac_init(hunkravy_aegis256_mac_state *st,
     const uint8_t *npub, size_t npublen, const uint8_t *k, size_t klen)
 {
-    hunkravy_clear(&st->state);
+    memset(st, 0, sizeof *st);
     return hunkravy_aegis256_state_init_nonnull(
         &st->state, hunkravy_no_bytes(), 0, hunkravy_readable(npub, npublen), npublen,
         hunkravy_readable(k, klen), klen);
@@ -3028,7 +3040,7 @@ static inline int hunkravy_aegis256x2_state_init(hunkravy_aegis256x2_state *st,
     const uint8_t *ad, size_t adlen, const uint8_t *npub, size_t npublen, const uint8_t *k,
     size_t klen)
 {
-    hunkravy_clear(&st->state);
+    memset(st, 0, sizeof *st);
     return hunkravy_aegis256x2_state_init_nonnull(
         &st->state, hunkravy_readable(ad, adlen), adlen, hunkravy_readable(npub, npublen), npublen,
         hunkravy_readable(k, klen), klen);
@@ -3094,7 +3106,7 @@ static inline int hunkravy_aegis256x2_state_decrypt_final(
 static inline int hunkravy_aegis256x2_mac_init(hunkravy_aegis256x2_mac_state *st,
     const uint8_t *npub, size_t npublen, const uint8_t *k, size_t klen)
 {
-    hunkravy_clear(&st->state);
+    memset(st, 0, sizeof *st);
     return hunkravy_aegis256x2_state_init_nonnull(
         &st->state, hunkravy_no_bytes(), 0, hunkravy_readable(npub, npublen), npublen,
         hunkravy_readable(k, klen), klen);
@@ -3258,7 +3270,7 @@ static inline int hunkravy_aegis256x4_state_init(hunkravy_aegis256x4_state *st,
     const uint8_t *ad, size_t adlen, const uint8_t *npub, size_t npublen, const uint8_t *k,
     size_t klen)
 {
-    hunkravy_clear(&st->state);
+    memset(st, 0, sizeof *st);
     return hunkravy_aegis256x4_state_init_nonnull(
         &st->state, hunkravy_readable(ad, adlen), adlen, hunkravy_readable(npub, npublen), npublen,
         hunkravy_readable(k, klen), klen);
@@ -3324,7 +3336,7 @@ static inline int hunkravy_aegis256x4_state_decrypt_final(
 static inline int hunkravy_aegis256x4_mac_init(hunkravy_aegis256x4_mac_state *st,
     const uint8_t *npub, size_t npublen, const uint8_t *k, size_t klen)
 {
-    hunkravy_clear(&st->state);
+    memset(st, 0, sizeof *st);
     return hunkravy_aegis256x4_state_init_nonnull(
         &st->state, hunkravy_no_bytes(), 0, hunkravy_readable(npub, npublen), npublen,
         hunkravy_readable(k, klen), klen);

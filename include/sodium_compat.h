@@ -69,10 +69,7 @@ static inline void randombytes_buf(void *const buf, const size_t size)
 /* Writes zeros over `len` bytes, also if nothing reads them afterwards. */
 static inline void sodium_memzero(void *const pnt, const size_t len)
 {
-    if (len != 0) {
-        memset(pnt, 0, len);
-    }
-    __asm__ __volatile__("" : : "r"(pnt) : "memory");
+    hunkravy_wipe(pnt, len);
 }
 
 /* ======== AEGIS-128L ======== */
