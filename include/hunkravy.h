@@ -166,8 +166,9 @@ HUNKRAVY_MUST_USE static inline int hunkravy_aegis128l_encrypt_in_place(
  * Decrypts the ciphertext of `mclen` bytes at `mc` in place, if the `maclen` bytes at `mac`, 16 or 32, are its
  * tag.
  *
- * Returns the same codes, or HUNKRAVY_INVALID_TAG if that is not the tag. After HUNKRAVY_INVALID_TAG each byte
- * at `mc` is 0xaa; after a code for a length `mc` still holds the ciphertext.
+ * Returns what hunkravy_aegis128l_encrypt_in_place returns, or HUNKRAVY_INVALID_TAG if that is not the tag.
+ * After HUNKRAVY_INVALID_TAG each byte at `mc` is 0xaa; after a code for a length `mc` still holds the
+ * ciphertext.
  */
 HUNKRAVY_MUST_USE static inline int hunkravy_aegis128l_decrypt_in_place(
     uint8_t *mc, size_t mclen, const uint8_t *ad, size_t adlen, const uint8_t *npub, size_t npublen,
@@ -267,7 +268,7 @@ HUNKRAVY_MUST_USE static inline int hunkravy_aegis128l_mac(
 /*
  * Verifies that the `maclen` bytes at `mac`, 16 or 32, are the MAC of the `inputlen` bytes at `input`.
  *
- * Returns the same codes, or HUNKRAVY_INVALID_TAG if they are not. Nothing is written.
+ * Returns what hunkravy_aegis128l_mac returns, or HUNKRAVY_INVALID_TAG if they are not. Nothing is written.
  */
 HUNKRAVY_MUST_USE static inline int hunkravy_aegis128l_mac_verify(
     const uint8_t *input, size_t inputlen, const uint8_t *npub, size_t npublen, const uint8_t *k,
@@ -340,7 +341,8 @@ HUNKRAVY_MUST_USE static inline int hunkravy_aegis128l_state_decrypt_in_place_un
  * WHETHER THE TAG IS RIGHT, as hunkravy_aegis128l_state_decrypt_in_place_unverified does. `m` may be the same
  * pointer as `c`.
  *
- * Returns the same codes. After any code but HUNKRAVY_OK nothing is written, and the state is as it was.
+ * Returns what hunkravy_aegis128l_state_decrypt_check returns. After any code but HUNKRAVY_OK nothing is
+ * written, and the state is as it was.
  */
 HUNKRAVY_MUST_USE static inline int hunkravy_aegis128l_state_decrypt_unverified(
     hunkravy_aegis128l_state *st, uint8_t *m, const uint8_t *c, size_t clen);
@@ -348,11 +350,13 @@ HUNKRAVY_MUST_USE static inline int hunkravy_aegis128l_state_decrypt_unverified(
 /*
  * Verifies that the `maclen` bytes at `mac`, 16 or 32, are the tag of the chunks, and ends the state: it is one
  * of zeros. `m` is where all the chunks were decrypted to, `mlen` bytes, which are erased if the tag is wrong.
- * Pass 0 bytes if nothing was decrypted; if the chunks are elsewhere, pass 0 bytes and erase them yourself.
+ * If the chunks are at several places, pass 0 bytes and erase them yourself; if they were only checked, pass 0
+ * bytes.
  *
  * Returns HUNKRAVY_OK, HUNKRAVY_INVALID_TAG, HUNKRAVY_WRONG_STATE or HUNKRAVY_WRONG_TAG_LENGTH. After
- * HUNKRAVY_INVALID_TAG the state has ended, and each of the `mlen` bytes at `m` is 0xaa. After the last two
- * nothing is written, the state is as it was, and the bytes at `m` are still unverified.
+ * HUNKRAVY_OK the chunks that were decrypted are the message. After HUNKRAVY_INVALID_TAG the state has ended,
+ * and each of the `mlen` bytes at `m` is 0xaa. After the last two nothing is written, the state is as it was,
+ * and the chunks are still unverified.
  */
 HUNKRAVY_MUST_USE static inline int hunkravy_aegis128l_state_decrypt_final(
     hunkravy_aegis128l_state *st, uint8_t *m, size_t mlen, const uint8_t *mac, size_t maclen);
@@ -423,8 +427,9 @@ HUNKRAVY_MUST_USE static inline int hunkravy_aegis128x2_encrypt_in_place(
  * Decrypts the ciphertext of `mclen` bytes at `mc` in place, if the `maclen` bytes at `mac`, 16 or 32, are its
  * tag.
  *
- * Returns the same codes, or HUNKRAVY_INVALID_TAG if that is not the tag. After HUNKRAVY_INVALID_TAG each byte
- * at `mc` is 0xaa; after a code for a length `mc` still holds the ciphertext.
+ * Returns what hunkravy_aegis128x2_encrypt_in_place returns, or HUNKRAVY_INVALID_TAG if that is not the tag.
+ * After HUNKRAVY_INVALID_TAG each byte at `mc` is 0xaa; after a code for a length `mc` still holds the
+ * ciphertext.
  */
 HUNKRAVY_MUST_USE static inline int hunkravy_aegis128x2_decrypt_in_place(
     uint8_t *mc, size_t mclen, const uint8_t *ad, size_t adlen, const uint8_t *npub, size_t npublen,
@@ -524,7 +529,7 @@ HUNKRAVY_MUST_USE static inline int hunkravy_aegis128x2_mac(
 /*
  * Verifies that the `maclen` bytes at `mac`, 16 or 32, are the MAC of the `inputlen` bytes at `input`.
  *
- * Returns the same codes, or HUNKRAVY_INVALID_TAG if they are not. Nothing is written.
+ * Returns what hunkravy_aegis128x2_mac returns, or HUNKRAVY_INVALID_TAG if they are not. Nothing is written.
  */
 HUNKRAVY_MUST_USE static inline int hunkravy_aegis128x2_mac_verify(
     const uint8_t *input, size_t inputlen, const uint8_t *npub, size_t npublen, const uint8_t *k,
@@ -597,7 +602,8 @@ HUNKRAVY_MUST_USE static inline int hunkravy_aegis128x2_state_decrypt_in_place_u
  * WHETHER THE TAG IS RIGHT, as hunkravy_aegis128x2_state_decrypt_in_place_unverified does. `m` may be the same
  * pointer as `c`.
  *
- * Returns the same codes. After any code but HUNKRAVY_OK nothing is written, and the state is as it was.
+ * Returns what hunkravy_aegis128x2_state_decrypt_check returns. After any code but HUNKRAVY_OK nothing is
+ * written, and the state is as it was.
  */
 HUNKRAVY_MUST_USE static inline int hunkravy_aegis128x2_state_decrypt_unverified(
     hunkravy_aegis128x2_state *st, uint8_t *m, const uint8_t *c, size_t clen);
@@ -605,11 +611,13 @@ HUNKRAVY_MUST_USE static inline int hunkravy_aegis128x2_state_decrypt_unverified
 /*
  * Verifies that the `maclen` bytes at `mac`, 16 or 32, are the tag of the chunks, and ends the state: it is one
  * of zeros. `m` is where all the chunks were decrypted to, `mlen` bytes, which are erased if the tag is wrong.
- * Pass 0 bytes if nothing was decrypted; if the chunks are elsewhere, pass 0 bytes and erase them yourself.
+ * If the chunks are at several places, pass 0 bytes and erase them yourself; if they were only checked, pass 0
+ * bytes.
  *
  * Returns HUNKRAVY_OK, HUNKRAVY_INVALID_TAG, HUNKRAVY_WRONG_STATE or HUNKRAVY_WRONG_TAG_LENGTH. After
- * HUNKRAVY_INVALID_TAG the state has ended, and each of the `mlen` bytes at `m` is 0xaa. After the last two
- * nothing is written, the state is as it was, and the bytes at `m` are still unverified.
+ * HUNKRAVY_OK the chunks that were decrypted are the message. After HUNKRAVY_INVALID_TAG the state has ended,
+ * and each of the `mlen` bytes at `m` is 0xaa. After the last two nothing is written, the state is as it was,
+ * and the chunks are still unverified.
  */
 HUNKRAVY_MUST_USE static inline int hunkravy_aegis128x2_state_decrypt_final(
     hunkravy_aegis128x2_state *st, uint8_t *m, size_t mlen, const uint8_t *mac, size_t maclen);
@@ -680,8 +688,9 @@ HUNKRAVY_MUST_USE static inline int hunkravy_aegis128x4_encrypt_in_place(
  * Decrypts the ciphertext of `mclen` bytes at `mc` in place, if the `maclen` bytes at `mac`, 16 or 32, are its
  * tag.
  *
- * Returns the same codes, or HUNKRAVY_INVALID_TAG if that is not the tag. After HUNKRAVY_INVALID_TAG each byte
- * at `mc` is 0xaa; after a code for a length `mc` still holds the ciphertext.
+ * Returns what hunkravy_aegis128x4_encrypt_in_place returns, or HUNKRAVY_INVALID_TAG if that is not the tag.
+ * After HUNKRAVY_INVALID_TAG each byte at `mc` is 0xaa; after a code for a length `mc` still holds the
+ * ciphertext.
  */
 HUNKRAVY_MUST_USE static inline int hunkravy_aegis128x4_decrypt_in_place(
     uint8_t *mc, size_t mclen, const uint8_t *ad, size_t adlen, const uint8_t *npub, size_t npublen,
@@ -781,7 +790,7 @@ HUNKRAVY_MUST_USE static inline int hunkravy_aegis128x4_mac(
 /*
  * Verifies that the `maclen` bytes at `mac`, 16 or 32, are the MAC of the `inputlen` bytes at `input`.
  *
- * Returns the same codes, or HUNKRAVY_INVALID_TAG if they are not. Nothing is written.
+ * Returns what hunkravy_aegis128x4_mac returns, or HUNKRAVY_INVALID_TAG if they are not. Nothing is written.
  */
 HUNKRAVY_MUST_USE static inline int hunkravy_aegis128x4_mac_verify(
     const uint8_t *input, size_t inputlen, const uint8_t *npub, size_t npublen, const uint8_t *k,
@@ -854,7 +863,8 @@ HUNKRAVY_MUST_USE static inline int hunkravy_aegis128x4_state_decrypt_in_place_u
  * WHETHER THE TAG IS RIGHT, as hunkravy_aegis128x4_state_decrypt_in_place_unverified does. `m` may be the same
  * pointer as `c`.
  *
- * Returns the same codes. After any code but HUNKRAVY_OK nothing is written, and the state is as it was.
+ * Returns what hunkravy_aegis128x4_state_decrypt_check returns. After any code but HUNKRAVY_OK nothing is
+ * written, and the state is as it was.
  */
 HUNKRAVY_MUST_USE static inline int hunkravy_aegis128x4_state_decrypt_unverified(
     hunkravy_aegis128x4_state *st, uint8_t *m, const uint8_t *c, size_t clen);
@@ -862,11 +872,13 @@ HUNKRAVY_MUST_USE static inline int hunkravy_aegis128x4_state_decrypt_unverified
 /*
  * Verifies that the `maclen` bytes at `mac`, 16 or 32, are the tag of the chunks, and ends the state: it is one
  * of zeros. `m` is where all the chunks were decrypted to, `mlen` bytes, which are erased if the tag is wrong.
- * Pass 0 bytes if nothing was decrypted; if the chunks are elsewhere, pass 0 bytes and erase them yourself.
+ * If the chunks are at several places, pass 0 bytes and erase them yourself; if they were only checked, pass 0
+ * bytes.
  *
  * Returns HUNKRAVY_OK, HUNKRAVY_INVALID_TAG, HUNKRAVY_WRONG_STATE or HUNKRAVY_WRONG_TAG_LENGTH. After
- * HUNKRAVY_INVALID_TAG the state has ended, and each of the `mlen` bytes at `m` is 0xaa. After the last two
- * nothing is written, the state is as it was, and the bytes at `m` are still unverified.
+ * HUNKRAVY_OK the chunks that were decrypted are the message. After HUNKRAVY_INVALID_TAG the state has ended,
+ * and each of the `mlen` bytes at `m` is 0xaa. After the last two nothing is written, the state is as it was,
+ * and the chunks are still unverified.
  */
 HUNKRAVY_MUST_USE static inline int hunkravy_aegis128x4_state_decrypt_final(
     hunkravy_aegis128x4_state *st, uint8_t *m, size_t mlen, const uint8_t *mac, size_t maclen);
@@ -937,8 +949,9 @@ HUNKRAVY_MUST_USE static inline int hunkravy_aegis256_encrypt_in_place(
  * Decrypts the ciphertext of `mclen` bytes at `mc` in place, if the `maclen` bytes at `mac`, 16 or 32, are its
  * tag.
  *
- * Returns the same codes, or HUNKRAVY_INVALID_TAG if that is not the tag. After HUNKRAVY_INVALID_TAG each byte
- * at `mc` is 0xaa; after a code for a length `mc` still holds the ciphertext.
+ * Returns what hunkravy_aegis256_encrypt_in_place returns, or HUNKRAVY_INVALID_TAG if that is not the tag.
+ * After HUNKRAVY_INVALID_TAG each byte at `mc` is 0xaa; after a code for a length `mc` still holds the
+ * ciphertext.
  */
 HUNKRAVY_MUST_USE static inline int hunkravy_aegis256_decrypt_in_place(
     uint8_t *mc, size_t mclen, const uint8_t *ad, size_t adlen, const uint8_t *npub, size_t npublen,
@@ -1038,7 +1051,7 @@ HUNKRAVY_MUST_USE static inline int hunkravy_aegis256_mac(
 /*
  * Verifies that the `maclen` bytes at `mac`, 16 or 32, are the MAC of the `inputlen` bytes at `input`.
  *
- * Returns the same codes, or HUNKRAVY_INVALID_TAG if they are not. Nothing is written.
+ * Returns what hunkravy_aegis256_mac returns, or HUNKRAVY_INVALID_TAG if they are not. Nothing is written.
  */
 HUNKRAVY_MUST_USE static inline int hunkravy_aegis256_mac_verify(
     const uint8_t *input, size_t inputlen, const uint8_t *npub, size_t npublen, const uint8_t *k,
@@ -1111,7 +1124,8 @@ HUNKRAVY_MUST_USE static inline int hunkravy_aegis256_state_decrypt_in_place_unv
  * WHETHER THE TAG IS RIGHT, as hunkravy_aegis256_state_decrypt_in_place_unverified does. `m` may be the same
  * pointer as `c`.
  *
- * Returns the same codes. After any code but HUNKRAVY_OK nothing is written, and the state is as it was.
+ * Returns what hunkravy_aegis256_state_decrypt_check returns. After any code but HUNKRAVY_OK nothing is
+ * written, and the state is as it was.
  */
 HUNKRAVY_MUST_USE static inline int hunkravy_aegis256_state_decrypt_unverified(
     hunkravy_aegis256_state *st, uint8_t *m, const uint8_t *c, size_t clen);
@@ -1119,11 +1133,13 @@ HUNKRAVY_MUST_USE static inline int hunkravy_aegis256_state_decrypt_unverified(
 /*
  * Verifies that the `maclen` bytes at `mac`, 16 or 32, are the tag of the chunks, and ends the state: it is one
  * of zeros. `m` is where all the chunks were decrypted to, `mlen` bytes, which are erased if the tag is wrong.
- * Pass 0 bytes if nothing was decrypted; if the chunks are elsewhere, pass 0 bytes and erase them yourself.
+ * If the chunks are at several places, pass 0 bytes and erase them yourself; if they were only checked, pass 0
+ * bytes.
  *
  * Returns HUNKRAVY_OK, HUNKRAVY_INVALID_TAG, HUNKRAVY_WRONG_STATE or HUNKRAVY_WRONG_TAG_LENGTH. After
- * HUNKRAVY_INVALID_TAG the state has ended, and each of the `mlen` bytes at `m` is 0xaa. After the last two
- * nothing is written, the state is as it was, and the bytes at `m` are still unverified.
+ * HUNKRAVY_OK the chunks that were decrypted are the message. After HUNKRAVY_INVALID_TAG the state has ended,
+ * and each of the `mlen` bytes at `m` is 0xaa. After the last two nothing is written, the state is as it was,
+ * and the chunks are still unverified.
  */
 HUNKRAVY_MUST_USE static inline int hunkravy_aegis256_state_decrypt_final(
     hunkravy_aegis256_state *st, uint8_t *m, size_t mlen, const uint8_t *mac, size_t maclen);
@@ -1194,8 +1210,9 @@ HUNKRAVY_MUST_USE static inline int hunkravy_aegis256x2_encrypt_in_place(
  * Decrypts the ciphertext of `mclen` bytes at `mc` in place, if the `maclen` bytes at `mac`, 16 or 32, are its
  * tag.
  *
- * Returns the same codes, or HUNKRAVY_INVALID_TAG if that is not the tag. After HUNKRAVY_INVALID_TAG each byte
- * at `mc` is 0xaa; after a code for a length `mc` still holds the ciphertext.
+ * Returns what hunkravy_aegis256x2_encrypt_in_place returns, or HUNKRAVY_INVALID_TAG if that is not the tag.
+ * After HUNKRAVY_INVALID_TAG each byte at `mc` is 0xaa; after a code for a length `mc` still holds the
+ * ciphertext.
  */
 HUNKRAVY_MUST_USE static inline int hunkravy_aegis256x2_decrypt_in_place(
     uint8_t *mc, size_t mclen, const uint8_t *ad, size_t adlen, const uint8_t *npub, size_t npublen,
@@ -1295,7 +1312,7 @@ HUNKRAVY_MUST_USE static inline int hunkravy_aegis256x2_mac(
 /*
  * Verifies that the `maclen` bytes at `mac`, 16 or 32, are the MAC of the `inputlen` bytes at `input`.
  *
- * Returns the same codes, or HUNKRAVY_INVALID_TAG if they are not. Nothing is written.
+ * Returns what hunkravy_aegis256x2_mac returns, or HUNKRAVY_INVALID_TAG if they are not. Nothing is written.
  */
 HUNKRAVY_MUST_USE static inline int hunkravy_aegis256x2_mac_verify(
     const uint8_t *input, size_t inputlen, const uint8_t *npub, size_t npublen, const uint8_t *k,
@@ -1368,7 +1385,8 @@ HUNKRAVY_MUST_USE static inline int hunkravy_aegis256x2_state_decrypt_in_place_u
  * WHETHER THE TAG IS RIGHT, as hunkravy_aegis256x2_state_decrypt_in_place_unverified does. `m` may be the same
  * pointer as `c`.
  *
- * Returns the same codes. After any code but HUNKRAVY_OK nothing is written, and the state is as it was.
+ * Returns what hunkravy_aegis256x2_state_decrypt_check returns. After any code but HUNKRAVY_OK nothing is
+ * written, and the state is as it was.
  */
 HUNKRAVY_MUST_USE static inline int hunkravy_aegis256x2_state_decrypt_unverified(
     hunkravy_aegis256x2_state *st, uint8_t *m, const uint8_t *c, size_t clen);
@@ -1376,11 +1394,13 @@ HUNKRAVY_MUST_USE static inline int hunkravy_aegis256x2_state_decrypt_unverified
 /*
  * Verifies that the `maclen` bytes at `mac`, 16 or 32, are the tag of the chunks, and ends the state: it is one
  * of zeros. `m` is where all the chunks were decrypted to, `mlen` bytes, which are erased if the tag is wrong.
- * Pass 0 bytes if nothing was decrypted; if the chunks are elsewhere, pass 0 bytes and erase them yourself.
+ * If the chunks are at several places, pass 0 bytes and erase them yourself; if they were only checked, pass 0
+ * bytes.
  *
  * Returns HUNKRAVY_OK, HUNKRAVY_INVALID_TAG, HUNKRAVY_WRONG_STATE or HUNKRAVY_WRONG_TAG_LENGTH. After
- * HUNKRAVY_INVALID_TAG the state has ended, and each of the `mlen` bytes at `m` is 0xaa. After the last two
- * nothing is written, the state is as it was, and the bytes at `m` are still unverified.
+ * HUNKRAVY_OK the chunks that were decrypted are the message. After HUNKRAVY_INVALID_TAG the state has ended,
+ * and each of the `mlen` bytes at `m` is 0xaa. After the last two nothing is written, the state is as it was,
+ * and the chunks are still unverified.
  */
 HUNKRAVY_MUST_USE static inline int hunkravy_aegis256x2_state_decrypt_final(
     hunkravy_aegis256x2_state *st, uint8_t *m, size_t mlen, const uint8_t *mac, size_t maclen);
@@ -1451,8 +1471,9 @@ HUNKRAVY_MUST_USE static inline int hunkravy_aegis256x4_encrypt_in_place(
  * Decrypts the ciphertext of `mclen` bytes at `mc` in place, if the `maclen` bytes at `mac`, 16 or 32, are its
  * tag.
  *
- * Returns the same codes, or HUNKRAVY_INVALID_TAG if that is not the tag. After HUNKRAVY_INVALID_TAG each byte
- * at `mc` is 0xaa; after a code for a length `mc` still holds the ciphertext.
+ * Returns what hunkravy_aegis256x4_encrypt_in_place returns, or HUNKRAVY_INVALID_TAG if that is not the tag.
+ * After HUNKRAVY_INVALID_TAG each byte at `mc` is 0xaa; after a code for a length `mc` still holds the
+ * ciphertext.
  */
 HUNKRAVY_MUST_USE static inline int hunkravy_aegis256x4_decrypt_in_place(
     uint8_t *mc, size_t mclen, const uint8_t *ad, size_t adlen, const uint8_t *npub, size_t npublen,
@@ -1552,7 +1573,7 @@ HUNKRAVY_MUST_USE static inline int hunkravy_aegis256x4_mac(
 /*
  * Verifies that the `maclen` bytes at `mac`, 16 or 32, are the MAC of the `inputlen` bytes at `input`.
  *
- * Returns the same codes, or HUNKRAVY_INVALID_TAG if they are not. Nothing is written.
+ * Returns what hunkravy_aegis256x4_mac returns, or HUNKRAVY_INVALID_TAG if they are not. Nothing is written.
  */
 HUNKRAVY_MUST_USE static inline int hunkravy_aegis256x4_mac_verify(
     const uint8_t *input, size_t inputlen, const uint8_t *npub, size_t npublen, const uint8_t *k,
@@ -1625,7 +1646,8 @@ HUNKRAVY_MUST_USE static inline int hunkravy_aegis256x4_state_decrypt_in_place_u
  * WHETHER THE TAG IS RIGHT, as hunkravy_aegis256x4_state_decrypt_in_place_unverified does. `m` may be the same
  * pointer as `c`.
  *
- * Returns the same codes. After any code but HUNKRAVY_OK nothing is written, and the state is as it was.
+ * Returns what hunkravy_aegis256x4_state_decrypt_check returns. After any code but HUNKRAVY_OK nothing is
+ * written, and the state is as it was.
  */
 HUNKRAVY_MUST_USE static inline int hunkravy_aegis256x4_state_decrypt_unverified(
     hunkravy_aegis256x4_state *st, uint8_t *m, const uint8_t *c, size_t clen);
@@ -1633,11 +1655,13 @@ HUNKRAVY_MUST_USE static inline int hunkravy_aegis256x4_state_decrypt_unverified
 /*
  * Verifies that the `maclen` bytes at `mac`, 16 or 32, are the tag of the chunks, and ends the state: it is one
  * of zeros. `m` is where all the chunks were decrypted to, `mlen` bytes, which are erased if the tag is wrong.
- * Pass 0 bytes if nothing was decrypted; if the chunks are elsewhere, pass 0 bytes and erase them yourself.
+ * If the chunks are at several places, pass 0 bytes and erase them yourself; if they were only checked, pass 0
+ * bytes.
  *
  * Returns HUNKRAVY_OK, HUNKRAVY_INVALID_TAG, HUNKRAVY_WRONG_STATE or HUNKRAVY_WRONG_TAG_LENGTH. After
- * HUNKRAVY_INVALID_TAG the state has ended, and each of the `mlen` bytes at `m` is 0xaa. After the last two
- * nothing is written, the state is as it was, and the bytes at `m` are still unverified.
+ * HUNKRAVY_OK the chunks that were decrypted are the message. After HUNKRAVY_INVALID_TAG the state has ended,
+ * and each of the `mlen` bytes at `m` is 0xaa. After the last two nothing is written, the state is as it was,
+ * and the chunks are still unverified.
  */
 HUNKRAVY_MUST_USE static inline int hunkravy_aegis256x4_state_decrypt_final(
     hunkravy_aegis256x4_state *st, uint8_t *m, size_t mlen, const uint8_t *mac, size_t maclen);
