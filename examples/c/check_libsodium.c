@@ -14,9 +14,20 @@
 
 #include "check.h"
 
+#include <setjmp.h>
+#include <signal.h>
+
 #define KEYS line->nonce.at, line->key.at
 #define AD line->ad.at, line->ad.length
 #define NO_LENGTH 12345
+
+/* Where a call goes on that would have ended the program. */
+static jmp_buf end_of_program;
+
+static void on_abort(int number)
+{
+    longjmp(end_of_program, number);
+}
 
 #define TESTS(NAME)                                                                                \
     static void NAME##_seal(const struct line *line)                                               \
@@ -149,8 +160,23 @@
               -1);                                                                                 \
     }
 
+/* More than the most bytes end the program if they are to be encrypted. */
+#define TOO_LONG(NAME)                                                                             \
+    static void NAME##_too_long(unsigned long long mlen, unsigned long long adlen)                 \
+    {                                                                                              \
+        static uint8_t c[64], k[32];                                                               \
+        signal(SIGABRT, on_abort);                                                                 \
+        if (setjmp(end_of_program) == 0) {                                                         \
+            crypto_aead_##NAME##_encrypt_detached(c, c, NULL, c, mlen, c, adlen, NULL, k, k);      \
+            HOLDS(!"the program goes on");                                                         \
+        }                                                                                          \
+        HOLDS(all_are(c, sizeof c, 0));                                                            \
+    }
+
 TESTS(aegis128l)
 TESTS(aegis256)
+TOO_LONG(aegis128l)
+TOO_LONG(aegis256)
 
 static void check_line(const struct line *line)
 {
@@ -183,6 +209,10 @@ int main(int count, char **arguments)
     }
     aegis128l_rest();
     aegis256_rest();
+    aegis128l_too_long(1ULL << 61, 0);
+    aegis128l_too_long(0, 1ULL << 61);
+    aegis256_too_long(~0ULL, 0);
+    aegis256_too_long(0, ~0ULL);
     memset(bytes, 0x55, sizeof bytes);
     sodium_memzero(bytes, sizeof bytes);
     sodium_memzero(NULL, 0);
