@@ -1,12 +1,14 @@
 /*
  * libaegis's calls, by its own names and parameters, over hunkravy.h. A program that was written for libaegis
  * includes this header in place of aegis.h, aegis128l.h and the others, and is linked with libhunkravy in place
- * of libaegis.
+ * of libaegis. The names and parameters were written from memory of its headers, and have not been compared
+ * with them.
  *
- * libaegis has had two forms of the calls on a state. Without a macro this header has that of newer releases,
- * where an update writes as many bytes as it takes. With HUNKRAVY_COMPAT_WRITTEN defined before the include, it
- * has that of older releases, where each call has the room of its output and `written` as parameters, and the
- * names .._detached_update and .._detached_final.
+ * libaegis has had two forms of the calls on a state. In newer releases an update writes as many bytes as it
+ * takes. In older ones each call also has the room of its output and `written` as parameters.
+ * NAME_state_encrypt_update and NAME_state_encrypt_final have the newer form, or the older one if
+ * HUNKRAVY_COMPAT_WRITTEN is defined before the include; the other calls differ in their names, so both are
+ * there.
  *
  * As in libaegis:
  *
@@ -87,8 +89,6 @@ static inline int hunkravy_compat_result(int code)
     return code == HUNKRAVY_OK ? 0 : -1;
 }
 
-#ifdef HUNKRAVY_COMPAT_WRITTEN
-
 /* Whether a call has room for `length` bytes. If not, errno says so. */
 static inline int hunkravy_compat_has_room(size_t room, size_t length)
 {
@@ -106,8 +106,6 @@ static inline int hunkravy_compat_wrote(size_t *written, int result, size_t leng
     }
     return result;
 }
-
-#endif
 
 /* ======== AEGIS-128L ======== */
 
@@ -270,6 +268,42 @@ static inline int aegis128l_state_encrypt_final(aegis128l_state *st_, uint8_t *m
     return hunkravy_compat_result(hunkravy_aegis128l_state_encrypt_final(&st_->now, mac, maclen));
 }
 
+#else
+
+/* Writes the ciphertext of the next `mlen` bytes of the message to `c`, which has room for `clen_max`. */
+static inline int aegis128l_state_encrypt_update(
+    aegis128l_state *st_, uint8_t *c, size_t clen_max, size_t *written, const uint8_t *m, size_t mlen)
+{
+    int result = -1;
+    if (hunkravy_compat_has_room(clen_max, mlen)) {
+        result = hunkravy_compat_result(hunkravy_aegis128l_state_encrypt(&st_->now, c, m, mlen));
+    }
+    return hunkravy_compat_wrote(written, result, mlen);
+}
+
+/* Writes the tag of `maclen` bytes to `c`, which has room for `clen_max`, and ends the state. */
+static inline int aegis128l_state_encrypt_final(
+    aegis128l_state *st_, uint8_t *c, size_t clen_max, size_t *written, size_t maclen)
+{
+    int result = -1;
+    if (hunkravy_compat_has_room(clen_max, maclen)) {
+        result = hunkravy_compat_result(hunkravy_aegis128l_state_encrypt_final(&st_->now, c, maclen));
+    }
+    return hunkravy_compat_wrote(written, result, maclen);
+}
+
+#endif
+
+/* Writes the tag of `maclen` bytes to `mac` and nothing to `c`, and ends the state. */
+static inline int aegis128l_state_encrypt_detached_final(
+    aegis128l_state *st_, uint8_t *c, size_t clen_max, size_t *written, uint8_t *mac, size_t maclen)
+{
+    int result = hunkravy_compat_result(hunkravy_aegis128l_state_encrypt_final(&st_->now, mac, maclen));
+    (void)c;
+    (void)clen_max;
+    return hunkravy_compat_wrote(written, result, 0);
+}
+
 /*
  * Writes what the next `clen` bytes of the ciphertext are decrypted to, to `m`, BEFORE THE TAG IS VERIFIED.
  * With a null `m` it writes nothing. Returns 0, or -1 with EINVAL.
@@ -286,40 +320,6 @@ HUNKRAVY_MUST_USE static inline int aegis128l_state_decrypt_final(
 {
     return hunkravy_compat_result(
         hunkravy_aegis128l_state_decrypt_final(&st_->now, NULL, 0, mac, maclen));
-}
-
-#else
-
-/* Writes the ciphertext of the next `mlen` bytes of the message to `c`, which has room for `clen_max`. */
-static inline int aegis128l_state_encrypt_update(
-    aegis128l_state *st_, uint8_t *c, size_t clen_max, size_t *written, const uint8_t *m, size_t mlen)
-{
-    int result = -1;
-    if (hunkravy_compat_has_room(clen_max, mlen)) {
-        result = hunkravy_compat_result(hunkravy_aegis128l_state_encrypt(&st_->now, c, m, mlen));
-    }
-    return hunkravy_compat_wrote(written, result, mlen);
-}
-
-/* Writes the tag of `maclen` bytes to `mac` and nothing to `c`, and ends the state. */
-static inline int aegis128l_state_encrypt_detached_final(
-    aegis128l_state *st_, uint8_t *c, size_t clen_max, size_t *written, uint8_t *mac, size_t maclen)
-{
-    int result = hunkravy_compat_result(hunkravy_aegis128l_state_encrypt_final(&st_->now, mac, maclen));
-    (void)c;
-    (void)clen_max;
-    return hunkravy_compat_wrote(written, result, 0);
-}
-
-/* Writes the tag of `maclen` bytes to `c`, which has room for `clen_max`, and ends the state. */
-static inline int aegis128l_state_encrypt_final(
-    aegis128l_state *st_, uint8_t *c, size_t clen_max, size_t *written, size_t maclen)
-{
-    int result = -1;
-    if (hunkravy_compat_has_room(clen_max, maclen)) {
-        result = hunkravy_compat_result(hunkravy_aegis128l_state_encrypt_final(&st_->now, c, maclen));
-    }
-    return hunkravy_compat_wrote(written, result, maclen);
 }
 
 /*
@@ -347,8 +347,6 @@ HUNKRAVY_MUST_USE static inline int aegis128l_state_decrypt_detached_final(
     (void)mlen_max;
     return hunkravy_compat_wrote(written, result, 0);
 }
-
-#endif
 
 /* Begins a MAC. A null nonce is one of zeros. */
 static inline void aegis128l_mac_init(aegis128l_mac_state *st_, const uint8_t *k, const uint8_t *npub)
@@ -552,6 +550,42 @@ static inline int aegis128x2_state_encrypt_final(aegis128x2_state *st_, uint8_t 
     return hunkravy_compat_result(hunkravy_aegis128x2_state_encrypt_final(&st_->now, mac, maclen));
 }
 
+#else
+
+/* Writes the ciphertext of the next `mlen` bytes of the message to `c`, which has room for `clen_max`. */
+static inline int aegis128x2_state_encrypt_update(
+    aegis128x2_state *st_, uint8_t *c, size_t clen_max, size_t *written, const uint8_t *m, size_t mlen)
+{
+    int result = -1;
+    if (hunkravy_compat_has_room(clen_max, mlen)) {
+        result = hunkravy_compat_result(hunkravy_aegis128x2_state_encrypt(&st_->now, c, m, mlen));
+    }
+    return hunkravy_compat_wrote(written, result, mlen);
+}
+
+/* Writes the tag of `maclen` bytes to `c`, which has room for `clen_max`, and ends the state. */
+static inline int aegis128x2_state_encrypt_final(
+    aegis128x2_state *st_, uint8_t *c, size_t clen_max, size_t *written, size_t maclen)
+{
+    int result = -1;
+    if (hunkravy_compat_has_room(clen_max, maclen)) {
+        result = hunkravy_compat_result(hunkravy_aegis128x2_state_encrypt_final(&st_->now, c, maclen));
+    }
+    return hunkravy_compat_wrote(written, result, maclen);
+}
+
+#endif
+
+/* Writes the tag of `maclen` bytes to `mac` and nothing to `c`, and ends the state. */
+static inline int aegis128x2_state_encrypt_detached_final(
+    aegis128x2_state *st_, uint8_t *c, size_t clen_max, size_t *written, uint8_t *mac, size_t maclen)
+{
+    int result = hunkravy_compat_result(hunkravy_aegis128x2_state_encrypt_final(&st_->now, mac, maclen));
+    (void)c;
+    (void)clen_max;
+    return hunkravy_compat_wrote(written, result, 0);
+}
+
 /*
  * Writes what the next `clen` bytes of the ciphertext are decrypted to, to `m`, BEFORE THE TAG IS VERIFIED.
  * With a null `m` it writes nothing. Returns 0, or -1 with EINVAL.
@@ -568,40 +602,6 @@ HUNKRAVY_MUST_USE static inline int aegis128x2_state_decrypt_final(
 {
     return hunkravy_compat_result(
         hunkravy_aegis128x2_state_decrypt_final(&st_->now, NULL, 0, mac, maclen));
-}
-
-#else
-
-/* Writes the ciphertext of the next `mlen` bytes of the message to `c`, which has room for `clen_max`. */
-static inline int aegis128x2_state_encrypt_update(
-    aegis128x2_state *st_, uint8_t *c, size_t clen_max, size_t *written, const uint8_t *m, size_t mlen)
-{
-    int result = -1;
-    if (hunkravy_compat_has_room(clen_max, mlen)) {
-        result = hunkravy_compat_result(hunkravy_aegis128x2_state_encrypt(&st_->now, c, m, mlen));
-    }
-    return hunkravy_compat_wrote(written, result, mlen);
-}
-
-/* Writes the tag of `maclen` bytes to `mac` and nothing to `c`, and ends the state. */
-static inline int aegis128x2_state_encrypt_detached_final(
-    aegis128x2_state *st_, uint8_t *c, size_t clen_max, size_t *written, uint8_t *mac, size_t maclen)
-{
-    int result = hunkravy_compat_result(hunkravy_aegis128x2_state_encrypt_final(&st_->now, mac, maclen));
-    (void)c;
-    (void)clen_max;
-    return hunkravy_compat_wrote(written, result, 0);
-}
-
-/* Writes the tag of `maclen` bytes to `c`, which has room for `clen_max`, and ends the state. */
-static inline int aegis128x2_state_encrypt_final(
-    aegis128x2_state *st_, uint8_t *c, size_t clen_max, size_t *written, size_t maclen)
-{
-    int result = -1;
-    if (hunkravy_compat_has_room(clen_max, maclen)) {
-        result = hunkravy_compat_result(hunkravy_aegis128x2_state_encrypt_final(&st_->now, c, maclen));
-    }
-    return hunkravy_compat_wrote(written, result, maclen);
 }
 
 /*
@@ -629,8 +629,6 @@ HUNKRAVY_MUST_USE static inline int aegis128x2_state_decrypt_detached_final(
     (void)mlen_max;
     return hunkravy_compat_wrote(written, result, 0);
 }
-
-#endif
 
 /* Begins a MAC. A null nonce is one of zeros. */
 static inline void aegis128x2_mac_init(aegis128x2_mac_state *st_, const uint8_t *k, const uint8_t *npub)
@@ -834,6 +832,42 @@ static inline int aegis128x4_state_encrypt_final(aegis128x4_state *st_, uint8_t 
     return hunkravy_compat_result(hunkravy_aegis128x4_state_encrypt_final(&st_->now, mac, maclen));
 }
 
+#else
+
+/* Writes the ciphertext of the next `mlen` bytes of the message to `c`, which has room for `clen_max`. */
+static inline int aegis128x4_state_encrypt_update(
+    aegis128x4_state *st_, uint8_t *c, size_t clen_max, size_t *written, const uint8_t *m, size_t mlen)
+{
+    int result = -1;
+    if (hunkravy_compat_has_room(clen_max, mlen)) {
+        result = hunkravy_compat_result(hunkravy_aegis128x4_state_encrypt(&st_->now, c, m, mlen));
+    }
+    return hunkravy_compat_wrote(written, result, mlen);
+}
+
+/* Writes the tag of `maclen` bytes to `c`, which has room for `clen_max`, and ends the state. */
+static inline int aegis128x4_state_encrypt_final(
+    aegis128x4_state *st_, uint8_t *c, size_t clen_max, size_t *written, size_t maclen)
+{
+    int result = -1;
+    if (hunkravy_compat_has_room(clen_max, maclen)) {
+        result = hunkravy_compat_result(hunkravy_aegis128x4_state_encrypt_final(&st_->now, c, maclen));
+    }
+    return hunkravy_compat_wrote(written, result, maclen);
+}
+
+#endif
+
+/* Writes the tag of `maclen` bytes to `mac` and nothing to `c`, and ends the state. */
+static inline int aegis128x4_state_encrypt_detached_final(
+    aegis128x4_state *st_, uint8_t *c, size_t clen_max, size_t *written, uint8_t *mac, size_t maclen)
+{
+    int result = hunkravy_compat_result(hunkravy_aegis128x4_state_encrypt_final(&st_->now, mac, maclen));
+    (void)c;
+    (void)clen_max;
+    return hunkravy_compat_wrote(written, result, 0);
+}
+
 /*
  * Writes what the next `clen` bytes of the ciphertext are decrypted to, to `m`, BEFORE THE TAG IS VERIFIED.
  * With a null `m` it writes nothing. Returns 0, or -1 with EINVAL.
@@ -850,40 +884,6 @@ HUNKRAVY_MUST_USE static inline int aegis128x4_state_decrypt_final(
 {
     return hunkravy_compat_result(
         hunkravy_aegis128x4_state_decrypt_final(&st_->now, NULL, 0, mac, maclen));
-}
-
-#else
-
-/* Writes the ciphertext of the next `mlen` bytes of the message to `c`, which has room for `clen_max`. */
-static inline int aegis128x4_state_encrypt_update(
-    aegis128x4_state *st_, uint8_t *c, size_t clen_max, size_t *written, const uint8_t *m, size_t mlen)
-{
-    int result = -1;
-    if (hunkravy_compat_has_room(clen_max, mlen)) {
-        result = hunkravy_compat_result(hunkravy_aegis128x4_state_encrypt(&st_->now, c, m, mlen));
-    }
-    return hunkravy_compat_wrote(written, result, mlen);
-}
-
-/* Writes the tag of `maclen` bytes to `mac` and nothing to `c`, and ends the state. */
-static inline int aegis128x4_state_encrypt_detached_final(
-    aegis128x4_state *st_, uint8_t *c, size_t clen_max, size_t *written, uint8_t *mac, size_t maclen)
-{
-    int result = hunkravy_compat_result(hunkravy_aegis128x4_state_encrypt_final(&st_->now, mac, maclen));
-    (void)c;
-    (void)clen_max;
-    return hunkravy_compat_wrote(written, result, 0);
-}
-
-/* Writes the tag of `maclen` bytes to `c`, which has room for `clen_max`, and ends the state. */
-static inline int aegis128x4_state_encrypt_final(
-    aegis128x4_state *st_, uint8_t *c, size_t clen_max, size_t *written, size_t maclen)
-{
-    int result = -1;
-    if (hunkravy_compat_has_room(clen_max, maclen)) {
-        result = hunkravy_compat_result(hunkravy_aegis128x4_state_encrypt_final(&st_->now, c, maclen));
-    }
-    return hunkravy_compat_wrote(written, result, maclen);
 }
 
 /*
@@ -911,8 +911,6 @@ HUNKRAVY_MUST_USE static inline int aegis128x4_state_decrypt_detached_final(
     (void)mlen_max;
     return hunkravy_compat_wrote(written, result, 0);
 }
-
-#endif
 
 /* Begins a MAC. A null nonce is one of zeros. */
 static inline void aegis128x4_mac_init(aegis128x4_mac_state *st_, const uint8_t *k, const uint8_t *npub)
@@ -1116,6 +1114,42 @@ static inline int aegis256_state_encrypt_final(aegis256_state *st_, uint8_t *mac
     return hunkravy_compat_result(hunkravy_aegis256_state_encrypt_final(&st_->now, mac, maclen));
 }
 
+#else
+
+/* Writes the ciphertext of the next `mlen` bytes of the message to `c`, which has room for `clen_max`. */
+static inline int aegis256_state_encrypt_update(
+    aegis256_state *st_, uint8_t *c, size_t clen_max, size_t *written, const uint8_t *m, size_t mlen)
+{
+    int result = -1;
+    if (hunkravy_compat_has_room(clen_max, mlen)) {
+        result = hunkravy_compat_result(hunkravy_aegis256_state_encrypt(&st_->now, c, m, mlen));
+    }
+    return hunkravy_compat_wrote(written, result, mlen);
+}
+
+/* Writes the tag of `maclen` bytes to `c`, which has room for `clen_max`, and ends the state. */
+static inline int aegis256_state_encrypt_final(
+    aegis256_state *st_, uint8_t *c, size_t clen_max, size_t *written, size_t maclen)
+{
+    int result = -1;
+    if (hunkravy_compat_has_room(clen_max, maclen)) {
+        result = hunkravy_compat_result(hunkravy_aegis256_state_encrypt_final(&st_->now, c, maclen));
+    }
+    return hunkravy_compat_wrote(written, result, maclen);
+}
+
+#endif
+
+/* Writes the tag of `maclen` bytes to `mac` and nothing to `c`, and ends the state. */
+static inline int aegis256_state_encrypt_detached_final(
+    aegis256_state *st_, uint8_t *c, size_t clen_max, size_t *written, uint8_t *mac, size_t maclen)
+{
+    int result = hunkravy_compat_result(hunkravy_aegis256_state_encrypt_final(&st_->now, mac, maclen));
+    (void)c;
+    (void)clen_max;
+    return hunkravy_compat_wrote(written, result, 0);
+}
+
 /*
  * Writes what the next `clen` bytes of the ciphertext are decrypted to, to `m`, BEFORE THE TAG IS VERIFIED.
  * With a null `m` it writes nothing. Returns 0, or -1 with EINVAL.
@@ -1132,40 +1166,6 @@ HUNKRAVY_MUST_USE static inline int aegis256_state_decrypt_final(
 {
     return hunkravy_compat_result(
         hunkravy_aegis256_state_decrypt_final(&st_->now, NULL, 0, mac, maclen));
-}
-
-#else
-
-/* Writes the ciphertext of the next `mlen` bytes of the message to `c`, which has room for `clen_max`. */
-static inline int aegis256_state_encrypt_update(
-    aegis256_state *st_, uint8_t *c, size_t clen_max, size_t *written, const uint8_t *m, size_t mlen)
-{
-    int result = -1;
-    if (hunkravy_compat_has_room(clen_max, mlen)) {
-        result = hunkravy_compat_result(hunkravy_aegis256_state_encrypt(&st_->now, c, m, mlen));
-    }
-    return hunkravy_compat_wrote(written, result, mlen);
-}
-
-/* Writes the tag of `maclen` bytes to `mac` and nothing to `c`, and ends the state. */
-static inline int aegis256_state_encrypt_detached_final(
-    aegis256_state *st_, uint8_t *c, size_t clen_max, size_t *written, uint8_t *mac, size_t maclen)
-{
-    int result = hunkravy_compat_result(hunkravy_aegis256_state_encrypt_final(&st_->now, mac, maclen));
-    (void)c;
-    (void)clen_max;
-    return hunkravy_compat_wrote(written, result, 0);
-}
-
-/* Writes the tag of `maclen` bytes to `c`, which has room for `clen_max`, and ends the state. */
-static inline int aegis256_state_encrypt_final(
-    aegis256_state *st_, uint8_t *c, size_t clen_max, size_t *written, size_t maclen)
-{
-    int result = -1;
-    if (hunkravy_compat_has_room(clen_max, maclen)) {
-        result = hunkravy_compat_result(hunkravy_aegis256_state_encrypt_final(&st_->now, c, maclen));
-    }
-    return hunkravy_compat_wrote(written, result, maclen);
 }
 
 /*
@@ -1193,8 +1193,6 @@ HUNKRAVY_MUST_USE static inline int aegis256_state_decrypt_detached_final(
     (void)mlen_max;
     return hunkravy_compat_wrote(written, result, 0);
 }
-
-#endif
 
 /* Begins a MAC. A null nonce is one of zeros. */
 static inline void aegis256_mac_init(aegis256_mac_state *st_, const uint8_t *k, const uint8_t *npub)
@@ -1398,6 +1396,42 @@ static inline int aegis256x2_state_encrypt_final(aegis256x2_state *st_, uint8_t 
     return hunkravy_compat_result(hunkravy_aegis256x2_state_encrypt_final(&st_->now, mac, maclen));
 }
 
+#else
+
+/* Writes the ciphertext of the next `mlen` bytes of the message to `c`, which has room for `clen_max`. */
+static inline int aegis256x2_state_encrypt_update(
+    aegis256x2_state *st_, uint8_t *c, size_t clen_max, size_t *written, const uint8_t *m, size_t mlen)
+{
+    int result = -1;
+    if (hunkravy_compat_has_room(clen_max, mlen)) {
+        result = hunkravy_compat_result(hunkravy_aegis256x2_state_encrypt(&st_->now, c, m, mlen));
+    }
+    return hunkravy_compat_wrote(written, result, mlen);
+}
+
+/* Writes the tag of `maclen` bytes to `c`, which has room for `clen_max`, and ends the state. */
+static inline int aegis256x2_state_encrypt_final(
+    aegis256x2_state *st_, uint8_t *c, size_t clen_max, size_t *written, size_t maclen)
+{
+    int result = -1;
+    if (hunkravy_compat_has_room(clen_max, maclen)) {
+        result = hunkravy_compat_result(hunkravy_aegis256x2_state_encrypt_final(&st_->now, c, maclen));
+    }
+    return hunkravy_compat_wrote(written, result, maclen);
+}
+
+#endif
+
+/* Writes the tag of `maclen` bytes to `mac` and nothing to `c`, and ends the state. */
+static inline int aegis256x2_state_encrypt_detached_final(
+    aegis256x2_state *st_, uint8_t *c, size_t clen_max, size_t *written, uint8_t *mac, size_t maclen)
+{
+    int result = hunkravy_compat_result(hunkravy_aegis256x2_state_encrypt_final(&st_->now, mac, maclen));
+    (void)c;
+    (void)clen_max;
+    return hunkravy_compat_wrote(written, result, 0);
+}
+
 /*
  * Writes what the next `clen` bytes of the ciphertext are decrypted to, to `m`, BEFORE THE TAG IS VERIFIED.
  * With a null `m` it writes nothing. Returns 0, or -1 with EINVAL.
@@ -1414,40 +1448,6 @@ HUNKRAVY_MUST_USE static inline int aegis256x2_state_decrypt_final(
 {
     return hunkravy_compat_result(
         hunkravy_aegis256x2_state_decrypt_final(&st_->now, NULL, 0, mac, maclen));
-}
-
-#else
-
-/* Writes the ciphertext of the next `mlen` bytes of the message to `c`, which has room for `clen_max`. */
-static inline int aegis256x2_state_encrypt_update(
-    aegis256x2_state *st_, uint8_t *c, size_t clen_max, size_t *written, const uint8_t *m, size_t mlen)
-{
-    int result = -1;
-    if (hunkravy_compat_has_room(clen_max, mlen)) {
-        result = hunkravy_compat_result(hunkravy_aegis256x2_state_encrypt(&st_->now, c, m, mlen));
-    }
-    return hunkravy_compat_wrote(written, result, mlen);
-}
-
-/* Writes the tag of `maclen` bytes to `mac` and nothing to `c`, and ends the state. */
-static inline int aegis256x2_state_encrypt_detached_final(
-    aegis256x2_state *st_, uint8_t *c, size_t clen_max, size_t *written, uint8_t *mac, size_t maclen)
-{
-    int result = hunkravy_compat_result(hunkravy_aegis256x2_state_encrypt_final(&st_->now, mac, maclen));
-    (void)c;
-    (void)clen_max;
-    return hunkravy_compat_wrote(written, result, 0);
-}
-
-/* Writes the tag of `maclen` bytes to `c`, which has room for `clen_max`, and ends the state. */
-static inline int aegis256x2_state_encrypt_final(
-    aegis256x2_state *st_, uint8_t *c, size_t clen_max, size_t *written, size_t maclen)
-{
-    int result = -1;
-    if (hunkravy_compat_has_room(clen_max, maclen)) {
-        result = hunkravy_compat_result(hunkravy_aegis256x2_state_encrypt_final(&st_->now, c, maclen));
-    }
-    return hunkravy_compat_wrote(written, result, maclen);
 }
 
 /*
@@ -1475,8 +1475,6 @@ HUNKRAVY_MUST_USE static inline int aegis256x2_state_decrypt_detached_final(
     (void)mlen_max;
     return hunkravy_compat_wrote(written, result, 0);
 }
-
-#endif
 
 /* Begins a MAC. A null nonce is one of zeros. */
 static inline void aegis256x2_mac_init(aegis256x2_mac_state *st_, const uint8_t *k, const uint8_t *npub)
@@ -1680,6 +1678,42 @@ static inline int aegis256x4_state_encrypt_final(aegis256x4_state *st_, uint8_t 
     return hunkravy_compat_result(hunkravy_aegis256x4_state_encrypt_final(&st_->now, mac, maclen));
 }
 
+#else
+
+/* Writes the ciphertext of the next `mlen` bytes of the message to `c`, which has room for `clen_max`. */
+static inline int aegis256x4_state_encrypt_update(
+    aegis256x4_state *st_, uint8_t *c, size_t clen_max, size_t *written, const uint8_t *m, size_t mlen)
+{
+    int result = -1;
+    if (hunkravy_compat_has_room(clen_max, mlen)) {
+        result = hunkravy_compat_result(hunkravy_aegis256x4_state_encrypt(&st_->now, c, m, mlen));
+    }
+    return hunkravy_compat_wrote(written, result, mlen);
+}
+
+/* Writes the tag of `maclen` bytes to `c`, which has room for `clen_max`, and ends the state. */
+static inline int aegis256x4_state_encrypt_final(
+    aegis256x4_state *st_, uint8_t *c, size_t clen_max, size_t *written, size_t maclen)
+{
+    int result = -1;
+    if (hunkravy_compat_has_room(clen_max, maclen)) {
+        result = hunkravy_compat_result(hunkravy_aegis256x4_state_encrypt_final(&st_->now, c, maclen));
+    }
+    return hunkravy_compat_wrote(written, result, maclen);
+}
+
+#endif
+
+/* Writes the tag of `maclen` bytes to `mac` and nothing to `c`, and ends the state. */
+static inline int aegis256x4_state_encrypt_detached_final(
+    aegis256x4_state *st_, uint8_t *c, size_t clen_max, size_t *written, uint8_t *mac, size_t maclen)
+{
+    int result = hunkravy_compat_result(hunkravy_aegis256x4_state_encrypt_final(&st_->now, mac, maclen));
+    (void)c;
+    (void)clen_max;
+    return hunkravy_compat_wrote(written, result, 0);
+}
+
 /*
  * Writes what the next `clen` bytes of the ciphertext are decrypted to, to `m`, BEFORE THE TAG IS VERIFIED.
  * With a null `m` it writes nothing. Returns 0, or -1 with EINVAL.
@@ -1696,40 +1730,6 @@ HUNKRAVY_MUST_USE static inline int aegis256x4_state_decrypt_final(
 {
     return hunkravy_compat_result(
         hunkravy_aegis256x4_state_decrypt_final(&st_->now, NULL, 0, mac, maclen));
-}
-
-#else
-
-/* Writes the ciphertext of the next `mlen` bytes of the message to `c`, which has room for `clen_max`. */
-static inline int aegis256x4_state_encrypt_update(
-    aegis256x4_state *st_, uint8_t *c, size_t clen_max, size_t *written, const uint8_t *m, size_t mlen)
-{
-    int result = -1;
-    if (hunkravy_compat_has_room(clen_max, mlen)) {
-        result = hunkravy_compat_result(hunkravy_aegis256x4_state_encrypt(&st_->now, c, m, mlen));
-    }
-    return hunkravy_compat_wrote(written, result, mlen);
-}
-
-/* Writes the tag of `maclen` bytes to `mac` and nothing to `c`, and ends the state. */
-static inline int aegis256x4_state_encrypt_detached_final(
-    aegis256x4_state *st_, uint8_t *c, size_t clen_max, size_t *written, uint8_t *mac, size_t maclen)
-{
-    int result = hunkravy_compat_result(hunkravy_aegis256x4_state_encrypt_final(&st_->now, mac, maclen));
-    (void)c;
-    (void)clen_max;
-    return hunkravy_compat_wrote(written, result, 0);
-}
-
-/* Writes the tag of `maclen` bytes to `c`, which has room for `clen_max`, and ends the state. */
-static inline int aegis256x4_state_encrypt_final(
-    aegis256x4_state *st_, uint8_t *c, size_t clen_max, size_t *written, size_t maclen)
-{
-    int result = -1;
-    if (hunkravy_compat_has_room(clen_max, maclen)) {
-        result = hunkravy_compat_result(hunkravy_aegis256x4_state_encrypt_final(&st_->now, c, maclen));
-    }
-    return hunkravy_compat_wrote(written, result, maclen);
 }
 
 /*
@@ -1757,8 +1757,6 @@ HUNKRAVY_MUST_USE static inline int aegis256x4_state_decrypt_detached_final(
     (void)mlen_max;
     return hunkravy_compat_wrote(written, result, 0);
 }
-
-#endif
 
 /* Begins a MAC. A null nonce is one of zeros. */
 static inline void aegis256x4_mac_init(aegis256x4_mac_state *st_, const uint8_t *k, const uint8_t *npub)
