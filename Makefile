@@ -1,4 +1,4 @@
-.PHONY: run test check-pages bench bench-peers c-library check-c check-header check-install install install-tool check-tool
+.PHONY: run test check-pages bench bench-peers c-library check-c check-header check-sodium check-install install install-tool check-tool
 .SECONDARY:
 
 SHELL = /bin/bash
@@ -49,15 +49,20 @@ check-pages:
 C_LIBRARY = crates/aegis_c/out/libaegis_c.a
 CC = gcc
 C_FLAGS = -Wall -Wextra -Wpedantic -Werror -Iinclude
+SANITIZERS = -O1 -g -fsanitize=address,undefined -fno-sanitize-recover
 RUSTC = rustc -O --edition 2024
 PREFIX = /usr/local
-VERSION = 0.1.0
+VERSION = $(shell sed -n 's/^.define HUNKRAVY_VERSION "\(.*\)"/\1/p' include/hunkravy.h)
 
 # The processor level. If none is given the library has the builds for both levels, and each name is bound to the
 # best that the processor has when a program is loaded.
 CPU =
 LEVELS = x86-64-v2 x86-64-v3
 LIBRARY = $(OUT)/$(or $(CPU),both)/libhunkravy.a
+
+STORED_LINES = crates/check_lines/data
+HEADERS = hunkravy.h aegis_compat.h sodium_compat.h
+C_EXAMPLES = seal chunks libaegis libaegis_chunks libsodium
 
 C_SOURCES = $(shell find $(addprefix crates/,aegis_aes aegis_base aegis_128 aegis_256 aegis_engine aegis aegis_c) -name out -prune -o -type f -print)
 
@@ -78,42 +83,62 @@ $(OUT)/%/aegis_c.a: $(C_SOURCES) crates.txt
 	cd crates/aegis_c && rt lib --cpu=$*
 	cp $(C_LIBRARY) $@
 
-# The tests of the C interface: its headers, and over the library with both levels and over each level alone the
-# examples, every call of it against the stored lines, and forgeries. A level that this processor lacks is left out.
+# The tests of the C interface: its headers, and over the library with both levels and over each level alone the examples,
+# every call of each header against the stored lines, and forgeries; the C programs under gcc's sanitizers too. The header
+# has the exports of the library, all of them and no other. A level that this processor lacks is left out.
 RUNNABLE = $(if $(shell grep -m1 -w avx2 /proc/cpuinfo),$(LEVELS),x86-64-v2)
 
-check-c: check-header $(addprefix check-c-,both $(RUNNABLE))
+check-c: check-header $(addprefix check-c-,both $(RUNNABLE)) check-sodium
 
-# Each header stands by itself, as C and as C++.
+# Each header is what its template gives, and stands by itself, as C and as C++.
 check-header:
-	for header in hunkravy.h aegis_compat.h; do \
-		echo "#include \"$$header\"" | $(CC) -std=c99 $(C_FLAGS) -fsyntax-only -x c - && \
-		echo "#include \"$$header\"" | $(CC) -std=c++11 $(C_FLAGS) -fsyntax-only -x c++ - || exit 1; \
-	done
+	python3 include/generate.py --check
+	for header in $(HEADERS); do for form in HUNKRAVY_COMPAT HUNKRAVY_COMPAT_WRITTEN; do \
+		echo "#include \"$$header\"" | $(CC) -std=c99 $(C_FLAGS) -D$$form -fsyntax-only -x c - && \
+		echo "#include \"$$header\"" | $(CC) -std=c++11 $(C_FLAGS) -D$$form -fsyntax-only -x c++ - || exit 1; \
+	done; done
+
+# The C programs: the examples, and the tests, which read the stored lines.
+C_PROGRAMS = $(C_EXAMPLES) check_calls check_states check_libaegis check_libaegis_written check_libsodium
 
 check-c-%: $(OUT)/%/libhunkravy.a $(OUT)/%/driver
-	$(CC) -std=c99 $(C_FLAGS) -O2 examples/c/seal.c $< -o $(OUT)/$*/seal-c
-	$(OUT)/$*/seal-c
-	$(CC) -std=c99 $(C_FLAGS) -O2 examples/c/libaegis.c $< -o $(OUT)/$*/libaegis-c
-	$(OUT)/$*/libaegis-c
-	$(CC) -std=c99 $(C_FLAGS) -O2 -g -fsanitize=address,undefined examples/c/chunks.c $< -o $(OUT)/$*/chunks-c
-	$(OUT)/$*/chunks-c
+	diff <(grep -o 'hunkravy_[a-z0-9_]*_nonnull' include/hunkravy.h | sort -u) \
+		<(nm --defined-only -g $< | awk '{ print $$3 }' | grep -x 'hunkravy_aegis.*_nonnull' | sort)
+	for program in $(C_PROGRAMS); do for flags in -O2 '$(SANITIZERS)'; do \
+		source=$${program%_written}; \
+		if [ $$source != $$program ]; then flags="$$flags -DHUNKRAVY_COMPAT_WRITTEN"; fi; \
+		$(CC) -std=c99 $(C_FLAGS) $$flags examples/c/$$source.c $< -o $(OUT)/$*/$$program && \
+		$(OUT)/$*/$$program $(STORED_LINES) || exit 1; \
+	done; done
 	$(RUSTC) examples/rust/seal.rs -L native=$(OUT)/$* -l static=hunkravy -o $(OUT)/$*/seal-rust
 	$(OUT)/$*/seal-rust
 	$(OUT)/$*/driver
 
-# Installs the headers, the library and the file that pkg-config reads.
+# Runs the test of libsodium's calls over libsodium itself, if its release has AEGIS, so that both are found to do the same.
+check-sodium: $(OUT)/both/libhunkravy.a
+	if pkg-config --exists 'libsodium >= 1.0.19'; then \
+		$(CC) -std=c99 $(C_FLAGS) -DWITH_LIBSODIUM examples/c/check_libsodium.c $< \
+			$$(pkg-config --cflags --libs libsodium) -o $(OUT)/check-sodium && \
+		$(OUT)/check-sodium $(STORED_LINES); \
+	else \
+		echo 'libsodium 1.0.19 or newer is not installed, so sodium_compat.h is not compared with it'; \
+	fi
+
+# Installs the headers, the library, the examples, and the file that pkg-config reads.
+EXAMPLES_FOLDER = $(PREFIX)/share/doc/hunkravy/examples
+
 install: $(LIBRARY)
-	install -d $(DESTDIR)$(PREFIX)/include $(DESTDIR)$(PREFIX)/lib/pkgconfig
-	install -m 644 include/hunkravy.h include/aegis_compat.h $(DESTDIR)$(PREFIX)/include
+	install -d $(addprefix $(DESTDIR),$(PREFIX)/include $(PREFIX)/lib/pkgconfig $(EXAMPLES_FOLDER))
+	install -m 644 $(HEADERS:%=include/%) $(DESTDIR)$(PREFIX)/include
 	install -m 644 $(LIBRARY) $(DESTDIR)$(PREFIX)/lib/libhunkravy.a
+	install -m 644 $(C_EXAMPLES:%=examples/c/%.c) $(DESTDIR)$(EXAMPLES_FOLDER)
 	sed -e 's|@PREFIX@|$(abspath $(PREFIX))|' -e 's|@VERSION@|$(VERSION)|' include/hunkravy.pc.in \
 		> $(DESTDIR)$(PREFIX)/lib/pkgconfig/hunkravy.pc
 
-# Builds and runs both C examples over what is installed at PREFIX, by what pkg-config says of it.
+# Builds and runs the examples that are installed at PREFIX, by what pkg-config says of it.
 check-install: | $(OUT)
-	for example in seal libaegis; do \
-		$(CC) -std=c99 examples/c/$$example.c \
+	for example in $(C_EXAMPLES); do \
+		$(CC) -std=c99 $(EXAMPLES_FOLDER)/$$example.c \
 			$$(PKG_CONFIG_PATH=$(PREFIX)/lib/pkgconfig pkg-config --cflags --libs hunkravy) \
 			-o $(OUT)/$$example-installed && $(OUT)/$$example-installed || exit 1; \
 	done
@@ -143,7 +168,7 @@ check-tool: $(TOOL)
 BENCH_CPU = $(or $(CPU),x86-64-v2)
 BENCH_FOLDER = $(if $(filter x86-64-v2,$(BENCH_CPU)),bench,bench/$(BENCH_CPU))
 
-$(OUT)/%/driver: $(wildcard bench/*.rs vectors/*) include/hunkravy.rs $(OUT)/%/libhunkravy.a
+$(OUT)/%/driver: $(wildcard bench/*.rs $(STORED_LINES)/*) include/hunkravy.rs $(OUT)/%/libhunkravy.a
 	CPU=$* $(RUSTC) $(if $(filter x86-64%,$*),-C target-cpu=$*) -C no-vectorize-slp bench/driver.rs \
 		-L native=$(OUT)/$* -l static=hunkravy -o $@
 

@@ -1,5 +1,5 @@
-//! The stored lines of `vectors/`, each through the call of the C interface that it asks for. The answers are the published
-//! ones, or were computed by an independent program.
+//! The stored lines of `crates/check_lines/data`, each through the call of the C interface that it asks for. The answers
+//! are the published ones, or were computed by an independent program.
 
 use crate::hunkravy::{ERASED, Refusal, VARIANTS, Variant};
 use crate::sample::hexadecimal;
@@ -7,8 +7,8 @@ use crate::sample::hexadecimal;
 macro_rules! files {
     ($($name:literal),*) => {
         [$((
-            include_str!(concat!("../vectors/", $name, ".in")),
-            include_str!(concat!("../vectors/", $name, ".out")),
+            include_str!(concat!("../crates/check_lines/data/", $name, ".in")),
+            include_str!(concat!("../crates/check_lines/data/", $name, ".out")),
         )),*]
     };
 }

@@ -36,7 +36,7 @@ static void expect(int holds)
         uint8_t tag[32];                                                                           \
         expect(hunkravy_##NAME##_encrypt_in_place(buffer, length, NULL, 0, nonce, KEY_BYTES, key,  \
                                                   KEY_BYTES, tag, sizeof tag)                      \
-               == HUNKRAVY_DONE);                                                                  \
+               == HUNKRAVY_OK);                                                                  \
     }
 
 #define SODIUM(NAME)                                                                               \

@@ -1,0 +1,348 @@
+/*
+ * What the test programs of this folder share: a table of all calls by variant, the stored lines,
+ * and random bytes.
+ */
+#ifndef CHECK_H
+#define CHECK_H
+
+#include "hunkravy.h"
+
+#include <stdio.h>
+#include <stdlib.h>
+#include <string.h>
+
+#define MOST_BYTES 8192
+#define MOST_FIELDS 8
+#define TAG_BYTES 32
+
+/* ---- Ending the program at the first wrong result */
+
+static unsigned long checks;
+
+static inline void holds(int fact, const char *what, const char *file, int line)
+{
+    checks++;
+    if (!fact) {
+        fprintf(stderr, "%s:%d: not so: %s\n", file, line, what);
+        exit(EXIT_FAILURE);
+    }
+}
+
+#define HOLDS(fact) holds(fact, #fact, __FILE__, __LINE__)
+
+static inline int all_are(const uint8_t *bytes, size_t length, uint8_t value)
+{
+    for (size_t i = 0; i < length; i++) {
+        if (bytes[i] != value) {
+            return 0;
+        }
+    }
+    return 1;
+}
+
+/* ---- Random bytes, the same in each run */
+
+static inline uint64_t next_number(void)
+{
+    static uint64_t seed = UINT64_C(0x9e3779b97f4a7c15);
+    seed ^= seed << 13;
+    seed ^= seed >> 7;
+    seed ^= seed << 17;
+    return seed;
+}
+
+static inline void fill(uint8_t *bytes, size_t length)
+{
+    for (size_t i = 0; i < length; i++) {
+        bytes[i] = (uint8_t)(next_number() >> 32);
+    }
+}
+
+/* Copies bytes to memory of just their length, so that a sanitizer sees each access beyond them. */
+static inline uint8_t *copied(const uint8_t *bytes, size_t length)
+{
+    uint8_t *copy = (uint8_t *)malloc(length);
+    if (length != 0) {
+        HOLDS(copy != NULL);
+        memcpy(copy, bytes, length);
+    }
+    return copy;
+}
+
+/* ---- The calls of a variant */
+
+struct variant {
+    const char *name;
+    size_t key_bytes;
+    int (*encrypt_in_place)(uint8_t *, size_t, const uint8_t *, size_t, const uint8_t *, size_t,
+                            const uint8_t *, size_t, uint8_t *, size_t);
+    int (*decrypt_in_place)(uint8_t *, size_t, const uint8_t *, size_t, const uint8_t *, size_t,
+                            const uint8_t *, size_t, const uint8_t *, size_t);
+    int (*encrypt)(uint8_t *, const uint8_t *, size_t, const uint8_t *, size_t, const uint8_t *,
+                   size_t, const uint8_t *, size_t, uint8_t *, size_t);
+    int (*decrypt)(uint8_t *, const uint8_t *, size_t, const uint8_t *, size_t, const uint8_t *,
+                   size_t, const uint8_t *, size_t, const uint8_t *, size_t);
+    int (*encrypt_combined)(uint8_t *, const uint8_t *, size_t, const uint8_t *, size_t,
+                            const uint8_t *, size_t, const uint8_t *, size_t, size_t);
+    int (*decrypt_combined)(uint8_t *, const uint8_t *, size_t, const uint8_t *, size_t,
+                            const uint8_t *, size_t, const uint8_t *, size_t, size_t);
+    int (*verify)(const uint8_t *, size_t, const uint8_t *, size_t, const uint8_t *, size_t,
+                  const uint8_t *, size_t, const uint8_t *, size_t);
+    int (*stream)(uint8_t *, size_t, const uint8_t *, size_t, const uint8_t *, size_t);
+    int (*stream_xor_in_place)(uint8_t *, size_t, const uint8_t *, size_t, const uint8_t *, size_t);
+    int (*stream_xor)(uint8_t *, const uint8_t *, size_t, const uint8_t *, size_t, const uint8_t *,
+                      size_t);
+    int (*mac)(const uint8_t *, size_t, const uint8_t *, size_t, const uint8_t *, size_t, uint8_t *,
+               size_t);
+    int (*mac_verify)(const uint8_t *, size_t, const uint8_t *, size_t, const uint8_t *, size_t,
+                      const uint8_t *, size_t);
+    int (*state_init)(hunkravy_state *, const uint8_t *, size_t, const uint8_t *, size_t,
+                      const uint8_t *, size_t);
+    int (*state_encrypt_in_place)(hunkravy_state *, uint8_t *, size_t);
+    int (*state_encrypt)(hunkravy_state *, uint8_t *, const uint8_t *, size_t);
+    int (*state_encrypt_final)(hunkravy_state *, uint8_t *, size_t);
+    int (*state_decrypt_check)(hunkravy_state *, const uint8_t *, size_t);
+    int (*state_decrypt_in_place)(hunkravy_state *, uint8_t *, size_t);
+    int (*state_decrypt)(hunkravy_state *, uint8_t *, const uint8_t *, size_t);
+    int (*state_decrypt_final)(hunkravy_state *, uint8_t *, size_t, const uint8_t *, size_t);
+    int (*mac_init)(hunkravy_state *, const uint8_t *, size_t, const uint8_t *, size_t);
+    int (*mac_update)(hunkravy_state *, const uint8_t *, size_t);
+    int (*mac_final)(const hunkravy_state *, uint8_t *, size_t);
+    int (*mac_final_verify)(const hunkravy_state *, const uint8_t *, size_t);
+};
+
+/*
+ * The calls on a variant's own type, as calls on the type that all of them hold, so that one table
+ * has them.
+ */
+#define CALLS(NAME)                                                                                \
+    static int check_##NAME##_state_init(hunkravy_state *st, const uint8_t *ad, size_t adlen,      \
+                                         const uint8_t *npub, size_t npublen, const uint8_t *k,    \
+                                         size_t klen)                                              \
+    {                                                                                              \
+        return hunkravy_##NAME##_state_init((hunkravy_##NAME##_state *)st, ad, adlen, npub,        \
+                                            npublen, k, klen);                                     \
+    }                                                                                              \
+    static int check_##NAME##_state_encrypt_in_place(hunkravy_state *st, uint8_t *mc,              \
+                                                     size_t mclen)                                 \
+    {                                                                                              \
+        return hunkravy_##NAME##_state_encrypt_in_place((hunkravy_##NAME##_state *)st, mc, mclen); \
+    }                                                                                              \
+    static int check_##NAME##_state_encrypt(hunkravy_state *st, uint8_t *c, const uint8_t *m,      \
+                                            size_t mlen)                                           \
+    {                                                                                              \
+        return hunkravy_##NAME##_state_encrypt((hunkravy_##NAME##_state *)st, c, m, mlen);         \
+    }                                                                                              \
+    static int check_##NAME##_state_encrypt_final(hunkravy_state *st, uint8_t *mac, size_t maclen) \
+    {                                                                                              \
+        return hunkravy_##NAME##_state_encrypt_final((hunkravy_##NAME##_state *)st, mac, maclen);  \
+    }                                                                                              \
+    static int check_##NAME##_state_decrypt_check(hunkravy_state *st, const uint8_t *c,            \
+                                                  size_t clen)                                     \
+    {                                                                                              \
+        return hunkravy_##NAME##_state_decrypt_check((hunkravy_##NAME##_state *)st, c, clen);      \
+    }                                                                                              \
+    static int check_##NAME##_state_decrypt_in_place(hunkravy_state *st, uint8_t *mc,              \
+                                                     size_t mclen)                                 \
+    {                                                                                              \
+        return hunkravy_##NAME##_state_decrypt_in_place_unverified((hunkravy_##NAME##_state *)st,  \
+                                                                   mc, mclen);                     \
+    }                                                                                              \
+    static int check_##NAME##_state_decrypt(hunkravy_state *st, uint8_t *m, const uint8_t *c,      \
+                                            size_t clen)                                           \
+    {                                                                                              \
+        return hunkravy_##NAME##_state_decrypt_unverified((hunkravy_##NAME##_state *)st, m, c,     \
+                                                          clen);                                   \
+    }                                                                                              \
+    static int check_##NAME##_state_decrypt_final(hunkravy_state *st, uint8_t *m, size_t mlen,     \
+                                                  const uint8_t *mac, size_t maclen)               \
+    {                                                                                              \
+        return hunkravy_##NAME##_state_decrypt_final((hunkravy_##NAME##_state *)st, m, mlen, mac,  \
+                                                     maclen);                                      \
+    }                                                                                              \
+    static int check_##NAME##_mac_init(hunkravy_state *st, const uint8_t *npub, size_t npublen,    \
+                                       const uint8_t *k, size_t klen)                              \
+    {                                                                                              \
+        return hunkravy_##NAME##_mac_init((hunkravy_##NAME##_mac_state *)st, npub, npublen, k,     \
+                                          klen);                                                   \
+    }                                                                                              \
+    static int check_##NAME##_mac_update(hunkravy_state *st, const uint8_t *input,                 \
+                                         size_t inputlen)                                          \
+    {                                                                                              \
+        return hunkravy_##NAME##_mac_update((hunkravy_##NAME##_mac_state *)st, input, inputlen);   \
+    }                                                                                              \
+    static int check_##NAME##_mac_final(const hunkravy_state *st, uint8_t *mac, size_t maclen)     \
+    {                                                                                              \
+        return hunkravy_##NAME##_mac_final((const hunkravy_##NAME##_mac_state *)st, mac, maclen);  \
+    }                                                                                              \
+    static int check_##NAME##_mac_final_verify(const hunkravy_state *st, const uint8_t *mac,       \
+                                               size_t maclen)                                      \
+    {                                                                                              \
+        return hunkravy_##NAME##_mac_final_verify((const hunkravy_##NAME##_mac_state *)st, mac,    \
+                                                  maclen);                                         \
+    }
+
+CALLS(aegis128l)
+CALLS(aegis128x2)
+CALLS(aegis128x4)
+CALLS(aegis256)
+CALLS(aegis256x2)
+CALLS(aegis256x4)
+
+#define VARIANT(NAME, UPPER)                                                                       \
+    {                                                                                              \
+        #NAME, HUNKRAVY_##UPPER##_KEY_BYTES, hunkravy_##NAME##_encrypt_in_place,                   \
+            hunkravy_##NAME##_decrypt_in_place, hunkravy_##NAME##_encrypt,                         \
+            hunkravy_##NAME##_decrypt, hunkravy_##NAME##_encrypt_combined,                         \
+            hunkravy_##NAME##_decrypt_combined, hunkravy_##NAME##_verify,                          \
+            hunkravy_##NAME##_stream, hunkravy_##NAME##_stream_xor_in_place,                       \
+            hunkravy_##NAME##_stream_xor, hunkravy_##NAME##_mac, hunkravy_##NAME##_mac_verify,     \
+            check_##NAME##_state_init, check_##NAME##_state_encrypt_in_place,                      \
+            check_##NAME##_state_encrypt, check_##NAME##_state_encrypt_final,                      \
+            check_##NAME##_state_decrypt_check, check_##NAME##_state_decrypt_in_place,             \
+            check_##NAME##_state_decrypt, check_##NAME##_state_decrypt_final,                      \
+            check_##NAME##_mac_init, check_##NAME##_mac_update, check_##NAME##_mac_final,          \
+            check_##NAME##_mac_final_verify                                                        \
+    }
+
+static const struct variant VARIANTS[6] = {
+    VARIANT(aegis128l, AEGIS128L), VARIANT(aegis128x2, AEGIS128X2), VARIANT(aegis128x4, AEGIS128X4),
+    VARIANT(aegis256, AEGIS256),   VARIANT(aegis256x2, AEGIS256X2), VARIANT(aegis256x4, AEGIS256X4),
+};
+
+/* ---- The stored lines */
+
+/* Bytes, and the lengths of the chunks that they are cut into. */
+struct bytes {
+    uint8_t at[MOST_BYTES];
+    size_t length;
+    size_t chunks[64];
+    size_t chunk_count;
+};
+
+/* A line of the line program, and its answer. */
+struct line {
+    char command[16];
+    const struct variant *variant;
+    size_t number; /* of the tag's bytes, or of the keystream's */
+    struct bytes key, nonce, ad, text, tag;
+    int is_refused;
+    struct bytes answer[2];
+};
+
+static inline int digit(char c)
+{
+    return c <= '9' ? c - '0' : (c | 32) - 'a' + 10;
+}
+
+static inline void read_bytes(struct bytes *bytes, const char *field)
+{
+    size_t start = 0;
+
+    bytes->length = bytes->chunk_count = 0;
+    for (;; field++) {
+        if (*field == ',' || *field == '\0') {
+            HOLDS(bytes->chunk_count < 64);
+            bytes->chunks[bytes->chunk_count++] = bytes->length - start;
+            start = bytes->length;
+            if (*field == '\0') {
+                return;
+            }
+        } else if (*field != '-') {
+            HOLDS(bytes->length < MOST_BYTES && field[1] != '\0');
+            bytes->at[bytes->length++] = (uint8_t)(digit(field[0]) << 4 | digit(field[1]));
+            field++;
+        }
+    }
+}
+
+/* Cuts a line of text at its spaces. */
+static inline size_t split(char *text, char **words)
+{
+    size_t count = 0;
+    char *word = strtok(text, " \n");
+    for (; word != NULL && count < MOST_FIELDS; word = strtok(NULL, " \n")) {
+        words[count++] = word;
+    }
+    return count;
+}
+
+static inline const struct variant *variant_of(const char *name)
+{
+    for (size_t i = 0; i < 6; i++) {
+        if (strcmp(VARIANTS[i].name, name) == 0) {
+            return &VARIANTS[i];
+        }
+    }
+    HOLDS(!"a variant's name");
+    return NULL;
+}
+
+static inline void read_line(struct line *line, char *text)
+{
+    char *words[MOST_FIELDS] = {""}, **word = words;
+
+    split(text, words);
+    snprintf(line->command, sizeof line->command, "%s", *word++);
+    line->variant = variant_of(*word++);
+    if (line->command[0] != 'x' && strcmp(line->command, "stream") != 0) {
+        line->number = (size_t)strtoul(*word++, NULL, 10);
+    }
+    read_bytes(&line->key, *word++);
+    read_bytes(&line->nonce, *word++);
+    if (strcmp(line->command, "stream") == 0) {
+        line->number = (size_t)strtoul(*word, NULL, 10);
+        return;
+    }
+    if (strcmp(line->command, "seal") == 0 || strcmp(line->command, "open") == 0) {
+        read_bytes(&line->ad, *word++);
+    }
+    read_bytes(&line->text, *word++);
+    if (strcmp(line->command, "open") == 0) {
+        read_bytes(&line->tag, *word);
+    }
+}
+
+static inline void read_answer(struct line *line, char *text)
+{
+    char *words[MOST_FIELDS] = {""};
+    size_t count = split(text, words);
+    size_t first = strcmp(words[0], "ok") == 0;
+
+    line->is_refused = strcmp(words[0], "invalid") == 0;
+    for (size_t i = first; i < count && !line->is_refused; i++) {
+        read_bytes(&line->answer[i - first], words[i]);
+    }
+}
+
+/*
+ * Hands each line of FOLDER/NAME.in, with its answer in FOLDER/NAME.out, to `check`. Returns how
+ * many there are.
+ */
+static inline size_t for_each_line(const char *folder, const char *name,
+                                   void (*check)(const struct line *))
+{
+    static char text[4 * MOST_BYTES];
+    static struct line line;
+    char path[2][1024];
+    FILE *lines, *answers;
+    size_t count = 0;
+
+    snprintf(path[0], sizeof path[0], "%s/%s.in", folder, name);
+    snprintf(path[1], sizeof path[1], "%s/%s.out", folder, name);
+    lines = fopen(path[0], "r");
+    answers = fopen(path[1], "r");
+    HOLDS(lines != NULL && answers != NULL);
+    while (fgets(text, sizeof text, lines) != NULL) {
+        read_line(&line, text);
+        HOLDS(fgets(text, sizeof text, answers) != NULL);
+        read_answer(&line, text);
+        check(&line);
+        count++;
+    }
+    fclose(lines);
+    fclose(answers);
+    return count;
+}
+
+#endif

@@ -1,0 +1,276 @@
+/*
+ * The calls at once, of all six variants: the stored lines by each form of a call, wrong lengths,
+ * and null pointers for no bytes. Its parameter is the folder of the stored lines. It ends with
+ * status 0 only if every result is right.
+ */
+#include "check.h"
+
+/* Each buffer of a call has its own memory, of just its length. */
+struct case_of_line {
+    const struct variant *calls;
+    uint8_t *k, *npub, *ad;
+    size_t bytes, adlen;
+};
+
+static struct case_of_line case_of(const struct line *line)
+{
+    struct case_of_line this;
+    this.calls = line->variant;
+    this.bytes = line->variant->key_bytes;
+    HOLDS(line->key.length == this.bytes && line->nonce.length == this.bytes);
+    this.k = copied(line->key.at, this.bytes);
+    this.npub = copied(line->nonce.at, this.bytes);
+    this.adlen = line->ad.length;
+    this.ad = copied(line->ad.at, this.adlen);
+    return this;
+}
+
+static void drop(struct case_of_line this)
+{
+    free(this.k);
+    free(this.npub);
+    free(this.ad);
+}
+
+#define CONTEXT(this) this.ad, this.adlen, this.npub, this.bytes, this.k, this.bytes
+#define KEYS(this) this.npub, this.bytes, this.k, this.bytes
+
+static void check_seal(const struct line *line)
+{
+    struct case_of_line this = case_of(line);
+    size_t length = line->text.length, maclen = line->number;
+    const uint8_t *expected = line->answer[0].at, *tag = line->answer[1].at;
+    uint8_t *m = copied(line->text.at, length), *mc = copied(m, length), *c = copied(m, length);
+    uint8_t *combined = copied(tag, length + TAG_BYTES), *mac = copied(tag, maclen);
+
+    memset(mac, 0, maclen);
+    HOLDS(this.calls->encrypt_in_place(mc, length, CONTEXT(this), mac, maclen) == HUNKRAVY_OK);
+    HOLDS(memcmp(mc, expected, length) == 0 && memcmp(mac, tag, maclen) == 0);
+    memset(mac, 0, maclen);
+    HOLDS(this.calls->encrypt(c, m, length, CONTEXT(this), mac, maclen) == HUNKRAVY_OK);
+    HOLDS(memcmp(c, expected, length) == 0 && memcmp(mac, tag, maclen) == 0);
+    HOLDS(memcmp(m, line->text.at, length) == 0);
+    HOLDS(this.calls->encrypt(m, m, length, CONTEXT(this), mac, maclen) == HUNKRAVY_OK);
+    HOLDS(memcmp(m, expected, length) == 0);
+
+    memset(combined, 0x55, length + TAG_BYTES);
+    HOLDS(this.calls->encrypt_combined(combined, line->text.at, length, CONTEXT(this), maclen) ==
+          HUNKRAVY_OK);
+    HOLDS(memcmp(combined, expected, length) == 0 && memcmp(combined + length, tag, maclen) == 0);
+    HOLDS(all_are(combined + length + maclen, TAG_BYTES - maclen, 0x55));
+    HOLDS(this.calls->decrypt_combined(combined, combined, length + maclen, CONTEXT(this),
+                                       maclen) == HUNKRAVY_OK);
+    HOLDS(memcmp(combined, line->text.at, length) == 0);
+    free(m);
+    free(mc);
+    free(c);
+    free(combined);
+    free(mac);
+    drop(this);
+}
+
+static void check_open(const struct line *line)
+{
+    struct case_of_line this = case_of(line);
+    size_t length = line->text.length, maclen = line->tag.length;
+    int code = line->is_refused ? HUNKRAVY_INVALID_TAG : HUNKRAVY_OK;
+    uint8_t *c = copied(line->text.at, length), *mc = copied(c, length), *m = copied(c, length);
+    uint8_t *mac = copied(line->tag.at, maclen), expected[MOST_BYTES];
+
+    memset(expected, 0xaa, length);
+    if (!line->is_refused) {
+        memcpy(expected, line->answer[0].at, length);
+    }
+    HOLDS(this.calls->decrypt_in_place(mc, length, CONTEXT(this), mac, maclen) == code);
+    HOLDS(memcmp(mc, expected, length) == 0);
+    memset(m, 0x55, length);
+    HOLDS(this.calls->decrypt(m, c, length, CONTEXT(this), mac, maclen) == code);
+    HOLDS(memcmp(m, expected, length) == 0 && memcmp(c, line->text.at, length) == 0);
+    HOLDS(this.calls->verify(c, length, CONTEXT(this), mac, maclen) == code);
+    HOLDS(memcmp(c, line->text.at, length) == 0);
+    HOLDS(this.calls->decrypt(c, c, length, CONTEXT(this), mac, maclen) == code);
+    HOLDS(memcmp(c, expected, length) == 0);
+    free(m);
+    free(mc);
+    free(c);
+    free(mac);
+    drop(this);
+}
+
+static void check_stream(const struct line *line)
+{
+    struct case_of_line this = case_of(line);
+    uint8_t *out = copied(line->answer[0].at, line->number);
+
+    HOLDS(line->answer[0].length == line->number);
+    memset(out, 0x55, line->number);
+    HOLDS(this.calls->stream(out, line->number, KEYS(this)) == HUNKRAVY_OK);
+    HOLDS(memcmp(out, line->answer[0].at, line->number) == 0);
+    free(out);
+    drop(this);
+}
+
+static void check_xor(const struct line *line)
+{
+    struct case_of_line this = case_of(line);
+    size_t length = line->text.length;
+    uint8_t *m = copied(line->text.at, length), *mc = copied(m, length), *c = copied(m, length);
+
+    HOLDS(this.calls->stream_xor_in_place(mc, length, KEYS(this)) == HUNKRAVY_OK);
+    HOLDS(memcmp(mc, line->answer[0].at, length) == 0);
+    memset(c, 0x55, length);
+    HOLDS(this.calls->stream_xor(c, m, length, KEYS(this)) == HUNKRAVY_OK);
+    HOLDS(memcmp(c, line->answer[0].at, length) == 0);
+    free(m);
+    free(mc);
+    free(c);
+    drop(this);
+}
+
+static void check_mac(const struct line *line)
+{
+    struct case_of_line this = case_of(line);
+    size_t length = line->text.length, maclen = line->number;
+    uint8_t *input = copied(line->text.at, length), *mac = copied(line->answer[0].at, maclen);
+
+    memset(mac, 0, maclen);
+    HOLDS(this.calls->mac(input, length, KEYS(this), mac, maclen) == HUNKRAVY_OK);
+    HOLDS(memcmp(mac, line->answer[0].at, maclen) == 0);
+    HOLDS(this.calls->mac_verify(input, length, KEYS(this), mac, maclen) == HUNKRAVY_OK);
+    mac[next_number() % maclen] ^= (uint8_t)(1 << next_number() % 8);
+    HOLDS(this.calls->mac_verify(input, length, KEYS(this), mac, maclen) == HUNKRAVY_INVALID_TAG);
+    free(input);
+    free(mac);
+    drop(this);
+}
+
+static void check_line(const struct line *line)
+{
+    switch (line->command[0]) {
+    case 'o':
+        check_open(line);
+        break;
+    case 'x':
+        check_xor(line);
+        break;
+    case 'm':
+        check_mac(line);
+        break;
+    default:
+        if (line->command[1] == 'e') {
+            check_seal(line);
+        } else {
+            check_stream(line);
+        }
+    }
+}
+
+/* What each call with a tag returns for these lengths. After a wrong one nothing is written. */
+static void check_refused(const struct variant *calls, size_t npublen, size_t klen, size_t maclen,
+                          int code)
+{
+    uint8_t k[33] = {0}, npub[33] = {0}, bytes[64], out[64], mac[33], tag[33] = {0};
+
+    memset(bytes, 0x55, sizeof bytes);
+    memset(out, 0x66, sizeof out);
+    memset(mac, 0x77, sizeof mac);
+    HOLDS(calls->encrypt_in_place(bytes, 20, NULL, 0, npub, npublen, k, klen, mac, maclen) == code);
+    HOLDS(calls->decrypt_in_place(bytes, 20, NULL, 0, npub, npublen, k, klen, tag, maclen) == code);
+    HOLDS(calls->encrypt(out, bytes, 20, NULL, 0, npub, npublen, k, klen, mac, maclen) == code);
+    HOLDS(calls->decrypt(out, bytes, 20, NULL, 0, npub, npublen, k, klen, tag, maclen) == code);
+    HOLDS(calls->encrypt_combined(out, bytes, 20, NULL, 0, npub, npublen, k, klen, maclen) == code);
+    HOLDS(calls->decrypt_combined(out, bytes, 20 + maclen, NULL, 0, npub, npublen, k, klen,
+                                  maclen) == code);
+    HOLDS(calls->verify(bytes, 20, NULL, 0, npub, npublen, k, klen, tag, maclen) == code);
+    HOLDS(calls->mac(bytes, 20, npub, npublen, k, klen, mac, maclen) == code);
+    HOLDS(calls->mac_verify(bytes, 20, npub, npublen, k, klen, tag, maclen) == code);
+    HOLDS(all_are(bytes, sizeof bytes, 0x55) && all_are(out, sizeof out, 0x66));
+    HOLDS(all_are(mac, sizeof mac, 0x77));
+}
+
+static void check_lengths(const struct variant *calls)
+{
+    static const size_t tags[] = {0, 1, 15, 17, 31, 33};
+    uint8_t bytes[64] = {0}, k[33] = {0}, mac[32] = {0};
+    size_t right = calls->key_bytes, wrong[] = {0, right - 1, right + 1};
+
+    for (size_t i = 0; i < 3; i++) {
+        check_refused(calls, wrong[i], right, 16, HUNKRAVY_WRONG_NONCE_LENGTH);
+        check_refused(calls, right, wrong[i], 16, HUNKRAVY_WRONG_KEY_LENGTH);
+        check_refused(calls, wrong[i], wrong[i], 16, HUNKRAVY_WRONG_NONCE_LENGTH);
+        HOLDS(calls->stream(bytes, 64, k, wrong[i], k, right) == HUNKRAVY_WRONG_NONCE_LENGTH);
+        HOLDS(calls->stream(bytes, 64, k, right, k, wrong[i]) == HUNKRAVY_WRONG_KEY_LENGTH);
+        HOLDS(calls->stream_xor_in_place(bytes, 64, k, wrong[i], k, right) ==
+              HUNKRAVY_WRONG_NONCE_LENGTH);
+        HOLDS(calls->stream_xor(bytes, bytes, 64, k, right, k, wrong[i]) ==
+              HUNKRAVY_WRONG_KEY_LENGTH);
+        HOLDS(all_are(bytes, 64, 0));
+    }
+    for (size_t i = 0; i < sizeof tags / sizeof tags[0]; i++) {
+        check_refused(calls, right, right, tags[i], HUNKRAVY_WRONG_TAG_LENGTH);
+    }
+    /*
+     * No buffer is that long; the calls that look at the length first return before they read a
+     * byte.
+     */
+    HOLDS(calls->encrypt(bytes, bytes, SIZE_MAX, NULL, 0, k, right, k, right, mac, 16) ==
+          HUNKRAVY_MESSAGE_TOO_LONG);
+    HOLDS(calls->decrypt(bytes, bytes, 64, bytes, (size_t)HUNKRAVY_MAX_BYTES + 1, k, right, k,
+                         right, mac, 32) == HUNKRAVY_DATA_TOO_LONG);
+    HOLDS(calls->decrypt_combined(bytes, bytes, 15, NULL, 0, k, right, k, right, 16) ==
+          HUNKRAVY_INVALID_TAG);
+    HOLDS(calls->decrypt_combined(NULL, NULL, 0, NULL, 0, k, right, k, right, 32) ==
+          HUNKRAVY_INVALID_TAG);
+    HOLDS(all_are(bytes, 64, 0));
+}
+
+/* No bytes may be a null pointer. */
+static void check_nothing(const struct variant *calls)
+{
+    uint8_t k[32] = {0}, tag[16], mac[16], c[16];
+    size_t right = calls->key_bytes;
+
+    HOLDS(calls->encrypt_in_place(NULL, 0, NULL, 0, k, right, k, right, tag, 16) == HUNKRAVY_OK);
+    HOLDS(calls->decrypt_in_place(NULL, 0, NULL, 0, k, right, k, right, tag, 16) == HUNKRAVY_OK);
+    HOLDS(calls->encrypt(NULL, NULL, 0, NULL, 0, k, right, k, right, mac, 16) == HUNKRAVY_OK);
+    HOLDS(memcmp(mac, tag, 16) == 0);
+    HOLDS(calls->decrypt(NULL, NULL, 0, NULL, 0, k, right, k, right, tag, 16) == HUNKRAVY_OK);
+    HOLDS(calls->encrypt_combined(c, NULL, 0, NULL, 0, k, right, k, right, 16) == HUNKRAVY_OK);
+    HOLDS(memcmp(c, tag, 16) == 0);
+    HOLDS(calls->decrypt_combined(NULL, c, 16, NULL, 0, k, right, k, right, 16) == HUNKRAVY_OK);
+    HOLDS(calls->verify(NULL, 0, NULL, 0, k, right, k, right, tag, 16) == HUNKRAVY_OK);
+    HOLDS(calls->encrypt_in_place(NULL, 0, NULL, 0, NULL, 0, k, right, tag, 16) ==
+          HUNKRAVY_WRONG_NONCE_LENGTH);
+    HOLDS(calls->encrypt_in_place(NULL, 0, NULL, 0, k, right, NULL, 0, tag, 16) ==
+          HUNKRAVY_WRONG_KEY_LENGTH);
+    HOLDS(calls->encrypt_in_place(NULL, 0, NULL, 0, k, right, k, right, NULL, 0) ==
+          HUNKRAVY_WRONG_TAG_LENGTH);
+    HOLDS(calls->stream(NULL, 0, k, right, k, right) == HUNKRAVY_OK);
+    HOLDS(calls->stream_xor_in_place(NULL, 0, k, right, k, right) == HUNKRAVY_OK);
+    HOLDS(calls->stream_xor(NULL, NULL, 0, k, right, k, right) == HUNKRAVY_OK);
+    HOLDS(calls->mac(NULL, 0, k, right, k, right, mac, 16) == HUNKRAVY_OK);
+    HOLDS(calls->mac_verify(NULL, 0, k, right, k, right, mac, 16) == HUNKRAVY_OK);
+}
+
+int main(int count, char **arguments)
+{
+    static const char *const files[] = {"published", "wycheproof",     "seal",
+                                        "open",      "stream",         "xor",
+                                        "mac",       "seal-in-pieces", "open-in-pieces"};
+    char version[32];
+    size_t lines = 0;
+
+    HOLDS(count == 2);
+    snprintf(version, sizeof version, "%d.%d.%d", HUNKRAVY_VERSION_MAJOR, HUNKRAVY_VERSION_MINOR,
+             HUNKRAVY_VERSION_PATCH);
+    HOLDS(strcmp(version, HUNKRAVY_VERSION) == 0);
+    for (size_t i = 0; i < sizeof files / sizeof files[0]; i++) {
+        lines += for_each_line(arguments[1], files[i], check_line);
+    }
+    for (size_t i = 0; i < 6; i++) {
+        check_lengths(&VARIANTS[i]);
+        check_nothing(&VARIANTS[i]);
+    }
+    printf("hunkravy.h: %lu stored lines, %lu checks, all right\n", (unsigned long)lines, checks);
+    return EXIT_SUCCESS;
+}
