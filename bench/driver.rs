@@ -7,7 +7,7 @@ mod agreement;
 mod baseline;
 mod block;
 mod contender;
-#[path = "../include/hunkravy.rs"]
+#[path = "../rust/src/exports.rs"]
 mod hunkravy;
 mod library;
 mod lines;
