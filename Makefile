@@ -1,4 +1,4 @@
-.PHONY: run test check-pages bench bench-peers c-library check-c check-header check-install install
+.PHONY: run test check-pages bench bench-peers c-library check-c check-header check-rust check-install install
 .SECONDARY:
 
 SHELL = /bin/bash
@@ -78,8 +78,8 @@ $(OUT)/%/aegis_c.a: $(C_SOURCES) crates.txt
 	cd crates/aegis_c && rt lib --cpu=$*
 	cp $(C_LIBRARY) $@
 
-# The tests of the C interface: its headers, and over the library with both levels and over each level alone the
-# examples, every call of it against the stored lines, and forgeries. A level that this processor lacks is left out.
+# The tests of the C interface: its headers, and the examples over the library with both levels and over each level
+# alone. A level that this processor lacks is left out.
 RUNNABLE = $(if $(shell grep -m1 -w avx2 /proc/cpuinfo),$(LEVELS),x86-64-v2)
 
 check-c: check-header $(addprefix check-c-,both $(RUNNABLE))
@@ -91,13 +91,19 @@ check-header:
 		echo "#include \"$$header\"" | $(CC) -std=c++11 $(C_FLAGS) -fsyntax-only -x c++ - || exit 1; \
 	done
 
-check-c-%: $(OUT)/%/libhunkravy.a $(OUT)/%/driver
+check-c-%: $(OUT)/%/libhunkravy.a
 	$(CC) -std=c99 $(C_FLAGS) -O2 examples/c/seal.c $< -o $(OUT)/$*/seal-c
 	$(OUT)/$*/seal-c
 	$(CC) -std=c99 $(C_FLAGS) -O2 examples/c/libaegis.c $< -o $(OUT)/$*/libaegis-c
 	$(OUT)/$*/libaegis-c
-	$(RUSTC) examples/rust/seal.rs -L native=$(OUT)/$* -l static=hunkravy -o $(OUT)/$*/seal-rust
-	$(OUT)/$*/seal-rust
+
+# The tests of the Rust crate and of the calls below it, over the same libraries: the stored lines, forgeries, the samples
+# of the crate's pages, its example, and three other implementations.
+check-rust: $(addprefix check-rust-,both $(RUNNABLE))
+
+check-rust-%: $(OUT)/%/libhunkravy.a $(OUT)/%/driver
+	cd rust && export HUNKRAVY_LIB_DIR=$(abspath $(<D)) CARGO_TARGET_DIR=$(abspath $(<D))/cargo && \
+		cargo test --offline && cargo run --offline --example seal
 	$(OUT)/$*/driver
 
 # Installs the headers, the library and the file that pkg-config reads.
@@ -123,7 +129,7 @@ check-install: | $(OUT)
 BENCH_CPU = $(or $(CPU),x86-64-v2)
 BENCH_FOLDER = $(if $(filter x86-64-v2,$(BENCH_CPU)),bench,bench/$(BENCH_CPU))
 
-$(OUT)/%/driver: $(wildcard bench/*.rs vectors/*) include/hunkravy.rs $(OUT)/%/libhunkravy.a
+$(OUT)/%/driver: $(wildcard bench/*.rs vectors/*) rust/src/exports.rs $(OUT)/%/libhunkravy.a
 	CPU=$* $(RUSTC) $(if $(filter x86-64%,$*),-C target-cpu=$*) -C no-vectorize-slp bench/driver.rs \
 		-L native=$(OUT)/$* -l static=hunkravy -o $@
 
