@@ -73,6 +73,12 @@ impl State {
         self.message_bytes
     }
 
+    /// Counts other bytes than there were, as if the message were nearly as long as may be.
+    #[cfg(test)]
+    pub fn set_message_bytes(&mut self, message_bytes: u64) {
+        self.message_bytes = message_bytes;
+    }
+
     /// Overwrites the state with zeros. The compiler keeps the write even if nothing reads the state again.
     pub fn wipe(&mut self) {
         // SAFETY: the pointer is that of an exclusive borrow of a state.

@@ -27,6 +27,11 @@ pub struct Mac<V: Variant, const TAG_BYTES: usize> {
 }
 
 impl<V: Variant, const TAG_BYTES: usize> Mac<V, TAG_BYTES> {
+    pub(crate) fn of(run: Run<V>) -> Self {
+        assert_tag_bytes::<TAG_BYTES>();
+        Self { run }
+    }
+
     /// Returns the MAC of no input so far under a key and a nonce of zeros. `TAG_BYTES` is 16 or 32: with another length the
     /// program does not compile.
     ///
@@ -51,10 +56,7 @@ impl<V: Variant, const TAG_BYTES: usize> Mac<V, TAG_BYTES> {
     /// assert_ne!(tag, Aegis256X4Mac::new_with_nonce(&[1; 32], &[3; 32]).finalize());
     /// ```
     pub fn new_with_nonce(key: &V::Key, nonce: &V::Key) -> Self {
-        assert_tag_bytes::<TAG_BYTES>();
-        Self {
-            run: Run::new(key, nonce, &[]),
-        }
+        Self::of(Run::new(key, nonce, &[]))
     }
 
     /// Takes in the next chunk of the input.

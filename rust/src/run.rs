@@ -85,3 +85,66 @@ impl<V: Variant> Drop for Run<V> {
         self.state.wipe();
     }
 }
+
+/// The limit on lengths, which no buffer reaches.
+#[cfg(test)]
+mod tests {
+    use super::Run;
+    use crate::aegis256x2::{Decryptor, Encryptor, Error, Marker};
+    use crate::{MAX_AEAD_BYTES, Mac};
+
+    /// A run that has room for one more byte.
+    fn nearly_full() -> Run<Marker> {
+        let mut run = Run::new(&[1; 32], &[2; 32], &[]);
+        run.state.set_message_bytes(MAX_AEAD_BYTES - 1);
+        run
+    }
+
+    #[test]
+    fn a_decryptor_returns_an_error_and_goes_on() {
+        let mut buffer = [0xff; 2];
+        let mut decryptor = Decryptor::<16>::new(nearly_full(), &mut buffer);
+        assert_eq!(decryptor.update(&[0; 3]), Err(Error::OutputBufferTooSmall));
+        assert_eq!(decryptor.update(&[0; 2]), Err(Error::MessageTooLong));
+        assert_eq!(decryptor.update(&[0; 1]), Ok(()));
+        assert_eq!(decryptor.update(&[0; 1]), Err(Error::MessageTooLong));
+        drop(decryptor);
+        assert_eq!(buffer, [0, 0xff]);
+    }
+
+    #[test]
+    fn an_encryptor_counts() {
+        let mut encryptor = Encryptor::<16>::new(nearly_full());
+        assert_eq!(encryptor.remaining(), 1);
+        encryptor.update(&[0], &mut [0]);
+        encryptor.update_in_place(&mut []);
+        assert_eq!(encryptor.remaining(), 0);
+    }
+
+    #[test]
+    #[should_panic = "the message is longer than 2^61 - 1 bytes"]
+    fn an_encryptor_panics() {
+        Encryptor::<16>::new(nearly_full()).update(&[0; 2], &mut [0; 2]);
+    }
+
+    #[test]
+    #[should_panic = "the message is longer than 2^61 - 1 bytes"]
+    fn an_encryptor_in_place_panics() {
+        Encryptor::<16>::new(nearly_full()).update_in_place(&mut [0; 2]);
+    }
+
+    #[test]
+    #[should_panic = "the message is longer than 2^61 - 1 bytes"]
+    fn a_mac_panics() {
+        let mut mac = Mac::<Marker, 16>::of(nearly_full());
+        assert_eq!(mac.remaining(), 1);
+        mac.update(&[0; 2]);
+    }
+
+    #[test]
+    fn a_run_is_overwritten() {
+        let mut run = nearly_full();
+        run.state.wipe();
+        assert_eq!(run.state.message_bytes(), 0);
+    }
+}
