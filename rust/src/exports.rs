@@ -394,3 +394,6 @@ pub const AEGIS256X4: Variant = variant!("aegis256x4", 32);
 pub const VARIANTS: [Variant; 6] = [
     AEGIS128L, AEGIS128X2, AEGIS128X4, AEGIS256, AEGIS256X2, AEGIS256X4,
 ];
+
+#[cfg(test)]
+mod tests;

@@ -140,11 +140,4 @@ mod tests {
         assert_eq!(mac.remaining(), 1);
         mac.update(&[0; 2]);
     }
-
-    #[test]
-    fn a_run_is_overwritten() {
-        let mut run = nearly_full();
-        run.state.wipe();
-        assert_eq!(run.state.message_bytes(), 0);
-    }
 }
