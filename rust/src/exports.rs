@@ -50,7 +50,7 @@ fn read(code: i32) -> Answer {
 #[derive(Clone)]
 pub struct State {
     mark: u64,
-    rows: [[u8; 64]; 8],
+    rows: [[u8; 128]; 4],
     block: [u8; 128],
     data_bytes: u64,
     message_bytes: u64,
@@ -62,7 +62,7 @@ impl State {
     /// A state that each call refuses but the one that begins it.
     pub const ENDED: Self = Self {
         mark: 0,
-        rows: [[0; 64]; 8],
+        rows: [[0; 128]; 4],
         block: [0; 128],
         data_bytes: 0,
         message_bytes: 0,

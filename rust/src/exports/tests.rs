@@ -27,7 +27,7 @@ fn sealed(variant: &Variant) -> ([u8; 150], [u8; 32]) {
 }
 
 /// The state's bytes.
-fn contents(st: &State) -> (u64, [[u8; 64]; 8], [u8; 128], u64, u64) {
+fn contents(st: &State) -> (u64, [[u8; 128]; 4], [u8; 128], u64, u64) {
     let State {
         mark,
         rows,
@@ -195,7 +195,7 @@ fn a_state_of_any_bytes_is_safe() {
     for variant in &VARIANTS {
         for fill in 0..=255_u8 {
             let mut st = begun(variant, &[]);
-            st.rows = [[fill; 64]; 8];
+            st.rows = [[fill; 128]; 4];
             st.block = [fill.rotate_left(3); 128];
             st.message_bytes = u64::from(fill).pow(7) % MAX_AEAD_BYTES;
             let mut mc = [fill; 200];
