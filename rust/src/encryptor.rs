@@ -6,7 +6,8 @@ use core::fmt;
 
 /// Seals a message that comes in chunks of any lengths: a byte of ciphertext for each byte, and the tag at the end.
 ///
-/// [`Cipher::encryptor`](crate::Cipher::encryptor) starts one. It is dropped without a trace if the message ends early.
+/// [`Cipher::encryptor`](crate::Cipher::encryptor) starts one. If it is dropped before [`finalize`](Self::finalize), there is no
+/// tag, and what was sealed cannot be opened.
 ///
 /// ```
 /// use hunkravy::aegis128l::Aegis128L;
