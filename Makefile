@@ -1,4 +1,5 @@
-.PHONY: run test check-pages bench bench-peers c-library check-c check-header check-sodium check-install install install-tool check-tool
+.PHONY: run test check-pages bench bench-peers c-library check-c check-header check-sodium check-rust check-install install \
+	install-tool check-tool
 .SECONDARY:
 
 SHELL = /bin/bash
@@ -101,7 +102,7 @@ check-header:
 # The C programs: the examples, and the tests, which read the stored lines.
 C_PROGRAMS = $(C_EXAMPLES) check_calls check_states check_libaegis check_libaegis_written check_libsodium
 
-check-c-%: $(OUT)/%/libhunkravy.a $(OUT)/%/driver
+check-c-%: $(OUT)/%/libhunkravy.a
 	diff <(grep -o 'hunkravy_[a-z0-9_]*_nonnull' include/hunkravy.h | sort -u) \
 		<(nm --defined-only -g $< | awk '{ print $$3 }' | grep -x 'hunkravy_aegis.*_nonnull' | sort)
 	for program in $(C_PROGRAMS); do for flags in -O2 '$(SANITIZERS)'; do \
@@ -110,9 +111,6 @@ check-c-%: $(OUT)/%/libhunkravy.a $(OUT)/%/driver
 		$(CC) -std=c99 $(C_FLAGS) $$flags examples/c/$$source.c $< -o $(OUT)/$*/$$program && \
 		$(OUT)/$*/$$program $(STORED_LINES) || exit 1; \
 	done; done
-	$(RUSTC) examples/rust/seal.rs -L native=$(OUT)/$* -l static=hunkravy -o $(OUT)/$*/seal-rust
-	$(OUT)/$*/seal-rust
-	$(OUT)/$*/driver
 
 # Runs the test of libsodium's calls over libsodium itself, if its release has AEGIS, so that both are found to do the same.
 check-sodium: $(OUT)/both/libhunkravy.a
@@ -143,6 +141,17 @@ check-install: | $(OUT)
 			-o $(OUT)/$$example-installed && $(OUT)/$$example-installed || exit 1; \
 	done
 
+# ---- The Rust crate over the C library
+
+# Its tests and those of the calls below it, over the library with both levels and over each level alone: the stored lines,
+# forgeries, the samples of the crate's pages, its example, and three other implementations.
+check-rust: $(addprefix check-rust-,both $(RUNNABLE))
+
+check-rust-%: $(OUT)/%/libhunkravy.a $(OUT)/%/driver
+	cd rust && export HUNKRAVY_LIB_DIR=$(abspath $(<D)) CARGO_TARGET_DIR=$(abspath $(<D))/cargo && \
+		cargo test --offline && cargo run --offline --example seal
+	$(OUT)/$*/driver
+
 # ---- The file tool
 
 TOOL = crates/hunkravy/out/hunkravy
@@ -168,7 +177,7 @@ check-tool: $(TOOL)
 BENCH_CPU = $(or $(CPU),x86-64-v2)
 BENCH_FOLDER = $(if $(filter x86-64-v2,$(BENCH_CPU)),bench,bench/$(BENCH_CPU))
 
-$(OUT)/%/driver: $(wildcard bench/*.rs $(STORED_LINES)/*) include/hunkravy.rs $(OUT)/%/libhunkravy.a
+$(OUT)/%/driver: $(wildcard bench/*.rs $(STORED_LINES)/*) rust/src/exports.rs $(OUT)/%/libhunkravy.a
 	CPU=$* $(RUSTC) $(if $(filter x86-64%,$*),-C target-cpu=$*) -C no-vectorize-slp bench/driver.rs \
 		-L native=$(OUT)/$* -l static=hunkravy -o $@
 

@@ -1,13 +1,13 @@
 //! Measures the proved library beside the same ciphers over look-up tables and over the processor's AES instructions.
 //!
 //! `driver` checks that all agree, measures, and writes RESULTS.md and results.svg into the folder that it is given.
-//! `driver` with no folder only checks, every call of the C interface too: by the stored lines, and by what it refuses.
+//! `driver` with no folder only checks, every one-shot call of the C interface too: by the stored lines, and by what it refuses.
 
 mod agreement;
 mod baseline;
 mod block;
 mod contender;
-#[path = "../include/hunkravy.rs"]
+#[path = "../rust/src/exports.rs"]
 mod hunkravy;
 mod library;
 mod lines;

@@ -1,0 +1,334 @@
+//! Ciphers: a key and a nonce, for one message or one keystream.
+
+use crate::error::{accepted, done};
+use crate::run::Run;
+use crate::variant::assert_tag_bytes;
+use crate::{Decryptor, Encryptor, Error, Tag, Variant, chunks_len};
+use alloc::vec::Vec;
+use core::fmt;
+
+/// A cipher with tags of `TAG_BYTES` bytes, 16 or 32: a key and a nonce.
+///
+/// A nonce is for one message or one keystream under a key, which is the caller's to see to. The one-shot calls take the
+/// cipher; the chunked calls borrow it to start. The ciphers of more than one lane are `Copy`.
+///
+/// Lengths are in bytes. Associated data and a message have at most [`MAX_AEAD_BYTES`](crate::MAX_AEAD_BYTES) each, and a
+/// call that seals or opens more panics before it has changed anything; keystreams have no limit. No call allocates but
+/// [`encrypt`](Self::encrypt), [`decrypt`](Self::decrypt) and [`stream_xor`](Self::stream_xor).
+///
+/// ```
+/// use hunkravy::aegis128l::{Aegis128L, Error};
+///
+/// let (key, nonce) = ([1; 16], [2; 16]);
+/// let (ciphertext, tag) = Aegis128L::<16>::new(&key, &nonce).encrypt(b"a message", b"header");
+/// let message = Aegis128L::<16>::new(&key, &nonce).decrypt(&ciphertext, &tag, b"header")?;
+/// assert_eq!(message, b"a message");
+/// # Ok::<(), Error>(())
+/// ```
+pub struct Cipher<V: Variant, const TAG_BYTES: usize> {
+    key: V::Key,
+    nonce: V::Key,
+}
+
+impl<V: Variant, const TAG_BYTES: usize> Cipher<V, TAG_BYTES> {
+    /// Returns the cipher of a key and a nonce. `TAG_BYTES` is 16 or 32: with another length the program does not compile.
+    ///
+    /// ```
+    /// use hunkravy::aegis256::Aegis256;
+    ///
+    /// let cipher = Aegis256::<32>::new(&[1; 32], &[2; 32]);
+    /// assert_eq!(format!("{cipher:?}"), "Aegis256 { .. }");
+    /// ```
+    ///
+    /// ```compile_fail,E0080
+    /// hunkravy::aegis256::Aegis256::<24>::new(&[1; 32], &[2; 32]);
+    /// ```
+    pub fn new(key: &V::Key, nonce: &V::Key) -> Self {
+        assert_tag_bytes::<TAG_BYTES>();
+        Self {
+            key: *key,
+            nonce: *nonce,
+        }
+    }
+
+    /// Returns the ciphertext of a message and its tag, which covers the associated data `ad` too.
+    ///
+    /// ```
+    /// use hunkravy::aegis128x2::Aegis128X2;
+    ///
+    /// let (ciphertext, tag) = Aegis128X2::<32>::new(&[1; 16], &[2; 16]).encrypt(b"a message", b"header");
+    /// assert_eq!((ciphertext.len(), tag.len()), (9, 32));
+    /// ```
+    #[track_caller]
+    pub fn encrypt(self, m: &[u8], ad: &[u8]) -> (Vec<u8>, Tag<TAG_BYTES>) {
+        let mut mc = m.to_vec();
+        let tag = self.encrypt_in_place(&mut mc, ad);
+        (mc, tag)
+    }
+
+    /// Turns the message at `mc` into its ciphertext, and returns its tag, which covers the associated data `ad` too.
+    ///
+    /// ```
+    /// use hunkravy::aegis128x4::Aegis128X4;
+    ///
+    /// let mut buffer = *b"a message";
+    /// let tag = Aegis128X4::<16>::new(&[1; 16], &[2; 16]).encrypt_in_place(&mut buffer, b"header");
+    /// assert_ne!(&buffer, b"a message");
+    /// ```
+    #[track_caller]
+    #[must_use = "the message cannot be opened without its tag"]
+    pub fn encrypt_in_place(self, mc: &mut [u8], ad: &[u8]) -> Tag<TAG_BYTES> {
+        let mut tag = [0; TAG_BYTES];
+        let (nonce, key) = (self.nonce.as_ref(), self.key.as_ref());
+        done(V::EXPORTS.encrypt_in_place(mc, ad, nonce, key, &mut tag));
+        tag
+    }
+
+    /// Returns the message of a ciphertext. The comparison of the tags looks at every byte.
+    ///
+    /// # Errors
+    ///
+    /// [`Error::InvalidTag`] if no message is sealed to this ciphertext and tag.
+    ///
+    /// ```
+    /// use hunkravy::aegis256::{Aegis256, Error};
+    ///
+    /// let (key, nonce) = ([1; 32], [2; 32]);
+    /// let (ciphertext, tag) = Aegis256::<32>::new(&key, &nonce).encrypt(b"a message", b"header");
+    /// let message = Aegis256::<32>::new(&key, &nonce).decrypt(&ciphertext, &tag, b"header");
+    /// assert_eq!(message.as_deref(), Ok(&b"a message"[..]));
+    /// let message = Aegis256::<32>::new(&key, &nonce).decrypt(&ciphertext, &tag, b"another header");
+    /// assert_eq!(message, Err(Error::InvalidTag));
+    /// ```
+    #[track_caller]
+    pub fn decrypt(self, c: &[u8], tag: &Tag<TAG_BYTES>, ad: &[u8]) -> Result<Vec<u8>, Error> {
+        let mut mc = c.to_vec();
+        self.decrypt_in_place(&mut mc, tag, ad)?;
+        Ok(mc)
+    }
+
+    /// Turns the ciphertext at `mc` into its message. The comparison of the tags looks at every byte.
+    ///
+    /// # Errors
+    ///
+    /// [`Error::InvalidTag`] if no message is sealed to this ciphertext and tag. Every byte of `mc` is then
+    /// [`ERASED`](crate::ERASED).
+    ///
+    /// ```
+    /// use hunkravy::aegis256x2::{Aegis256X2, Error};
+    ///
+    /// let mut buffer = *b"no ciphertext";
+    /// let cipher = Aegis256X2::<16>::new(&[1; 32], &[2; 32]);
+    /// let refused = cipher.decrypt_in_place(&mut buffer, &[0; 16], b"header");
+    /// assert_eq!(refused, Err(Error::InvalidTag));
+    /// assert_eq!(buffer, [hunkravy::ERASED; 13]);
+    /// ```
+    #[track_caller]
+    pub fn decrypt_in_place(
+        self,
+        mc: &mut [u8],
+        tag: &Tag<TAG_BYTES>,
+        ad: &[u8],
+    ) -> Result<(), Error> {
+        let (nonce, key) = (self.nonce.as_ref(), self.key.as_ref());
+        accepted(V::EXPORTS.decrypt_in_place(mc, ad, nonce, key, tag))
+    }
+
+    /// Fills `out` with the keystream from its beginning, whatever `out` held. `TAG_BYTES` has no effect on it.
+    ///
+    /// ```
+    /// use hunkravy::aegis128x4::Aegis128X4;
+    ///
+    /// let (mut keystream, mut zeros) = ([0xff; 100], [0; 100]);
+    /// let cipher = Aegis128X4::<16>::new(&[1; 16], &[2; 16]);
+    /// cipher.stream(&mut keystream);
+    /// cipher.stream_xor_in_place(&mut zeros);
+    /// assert_eq!(keystream, zeros);
+    /// ```
+    pub fn stream(self, out: &mut [u8]) {
+        done(V::EXPORTS.stream(out, self.nonce.as_ref(), self.key.as_ref()));
+    }
+
+    /// Returns a message xored with the keystream from its beginning. There is no tag: a change is not noticed.
+    ///
+    /// ```
+    /// use hunkravy::aegis256x4::Aegis256X4;
+    ///
+    /// let cipher = Aegis256X4::<16>::new(&[1; 32], &[2; 32]);
+    /// let ciphertext = cipher.stream_xor(b"a message");
+    /// assert_eq!(cipher.stream_xor(&ciphertext), b"a message");
+    /// ```
+    pub fn stream_xor(self, m: &[u8]) -> Vec<u8> {
+        let mut mc = m.to_vec();
+        self.stream_xor_in_place(&mut mc);
+        mc
+    }
+
+    /// Xors the bytes at `mc` with the keystream from its beginning. Done twice, it gives them back.
+    ///
+    /// ```
+    /// use hunkravy::aegis128l::Aegis128L;
+    ///
+    /// let (key, nonce) = ([1; 16], [2; 16]);
+    /// let mut buffer = *b"a message";
+    /// Aegis128L::<16>::new(&key, &nonce).stream_xor_in_place(&mut buffer);
+    /// Aegis128L::<16>::new(&key, &nonce).stream_xor_in_place(&mut buffer);
+    /// assert_eq!(&buffer, b"a message");
+    /// ```
+    pub fn stream_xor_in_place(self, mc: &mut [u8]) {
+        done(V::EXPORTS.stream_xor_in_place(mc, self.nonce.as_ref(), self.key.as_ref()));
+    }
+
+    /// Starts to seal a message that comes in chunks.
+    ///
+    /// ```
+    /// use hunkravy::aegis128l::Aegis128L;
+    ///
+    /// let mut chunk = *b"AEGIS";
+    /// let mut encryptor = Aegis128L::<16>::new(&[1; 16], &[2; 16]).encryptor(b"header");
+    /// encryptor.update_in_place(&mut chunk);
+    /// let tag = encryptor.finalize();
+    /// ```
+    #[track_caller]
+    pub fn encryptor(&self, associated_data: &[u8]) -> Encryptor<V, TAG_BYTES> {
+        Encryptor::new(Run::new(&self.key, &self.nonce, associated_data))
+    }
+
+    /// Starts to open a message that comes in chunks, in `plaintext`, which has room for all of it.
+    ///
+    /// ```
+    /// use hunkravy::aegis128l::{Aegis128L, Error};
+    ///
+    /// let cipher = Aegis128L::<16>::new(&[1; 16], &[2; 16]);
+    /// let mut ciphertext = [0; 5];
+    /// let tag = cipher.seal_chunks(b"header", &[b"AEGIS"], &mut ciphertext);
+    ///
+    /// let mut buffer = [0; 5];
+    /// let mut decryptor = cipher.decryptor(b"header", &mut buffer);
+    /// decryptor.update(&ciphertext)?;
+    /// assert_eq!(decryptor.finalize(&tag)?, b"AEGIS");
+    /// # Ok::<(), Error>(())
+    /// ```
+    #[track_caller]
+    pub fn decryptor<'a>(
+        &self,
+        associated_data: &[u8],
+        plaintext: &'a mut [u8],
+    ) -> Decryptor<'a, V, TAG_BYTES> {
+        let run = Run::new(&self.key, &self.nonce, associated_data);
+        Decryptor::new(run, plaintext)
+    }
+
+    /// Seals a list of chunks into `out`: the ciphertext of the chunks one after the other. Returns its tag.
+    ///
+    /// # Panics
+    ///
+    /// If `out` is not as long as the chunks together ([`chunks_len`]), before it has changed.
+    ///
+    /// ```
+    /// use hunkravy::aegis128l::Aegis128L;
+    ///
+    /// let cipher = Aegis128L::<16>::new(&[1; 16], &[2; 16]);
+    /// let mut ciphertext = [0; 10];
+    /// let tag = cipher.seal_chunks(b"header", &[b"AEGIS", b" fast"], &mut ciphertext);
+    /// assert_eq!((ciphertext.to_vec(), tag), cipher.encrypt(b"AEGIS fast", b"header"));
+    /// ```
+    #[track_caller]
+    #[must_use = "the message cannot be opened without its tag"]
+    pub fn seal_chunks(&self, ad: &[u8], chunks: &[&[u8]], out: &mut [u8]) -> Tag<TAG_BYTES> {
+        assert_eq!(
+            chunks_len(chunks),
+            Some(out.len() as u64),
+            "the ciphertext is as long as the chunks"
+        );
+        let mut encryptor = self.encryptor(ad);
+        let mut rest = out;
+        for chunk in chunks {
+            let (ciphertext, after) = rest.split_at_mut(chunk.len());
+            encryptor.update(chunk, ciphertext);
+            rest = after;
+        }
+        encryptor.finalize()
+    }
+
+    /// Opens a list of chunks at the front of `dst`, and returns the message. A chunk that does not fit is left out, as if
+    /// [`Decryptor::update`] had refused it.
+    ///
+    /// # Errors
+    ///
+    /// As [`Decryptor::finalize`].
+    ///
+    /// ```
+    /// use hunkravy::aegis256::{Aegis256, Error};
+    ///
+    /// let cipher = Aegis256::<32>::new(&[1; 32], &[2; 32]);
+    /// let mut ciphertext = [0; 10];
+    /// let tag = cipher.seal_chunks(b"header", &[b"AEGIS fast"], &mut ciphertext);
+    ///
+    /// let mut buffer = [0; 100];
+    /// let (first, second) = ciphertext.split_at(3);
+    /// let message = cipher.open_chunks(b"header", &[first, second], &tag, &mut buffer)?;
+    /// assert_eq!(message, b"AEGIS fast");
+    /// # Ok::<(), Error>(())
+    /// ```
+    #[track_caller]
+    pub fn open_chunks<'a>(
+        &self,
+        ad: &[u8],
+        chunks: &[&[u8]],
+        tag: &Tag<TAG_BYTES>,
+        dst: &'a mut [u8],
+    ) -> Result<&'a mut [u8], Error> {
+        let mut decryptor = self.decryptor(ad, dst);
+        for chunk in chunks {
+            // A chunk that is refused changes nothing.
+            let _ = decryptor.update(chunk);
+        }
+        decryptor.finalize(tag)
+    }
+
+    /// Opens a list of chunks at the front of `dst`, as [`open_chunks`](Self::open_chunks) does, and returns the message's
+    /// length in bytes.
+    ///
+    /// For a caller that goes on with `dst` itself.
+    ///
+    /// # Errors
+    ///
+    /// As [`Decryptor::finalize`].
+    ///
+    /// ```
+    /// use hunkravy::aegis256::{Aegis256, Error};
+    ///
+    /// let cipher = Aegis256::<32>::new(&[1; 32], &[2; 32]);
+    /// let mut buffer = *b"no ciphertext";
+    /// let refused = cipher.open_chunks_len(b"", &[b"nope"], &[0; 32], &mut buffer);
+    /// assert_eq!(refused, Err(Error::InvalidTag));
+    /// assert_eq!(&buffer, b"\0\0\0\0iphertext");
+    /// ```
+    #[track_caller]
+    pub fn open_chunks_len(
+        &self,
+        ad: &[u8],
+        chunks: &[&[u8]],
+        tag: &Tag<TAG_BYTES>,
+        dst: &mut [u8],
+    ) -> Result<usize, Error> {
+        Ok(self.open_chunks(ad, chunks, tag, dst)?.len())
+    }
+}
+
+impl<V: Variant + Copy, const TAG_BYTES: usize> Clone for Cipher<V, TAG_BYTES> {
+    fn clone(&self) -> Self {
+        *self
+    }
+}
+
+impl<V: Variant + Copy, const TAG_BYTES: usize> Copy for Cipher<V, TAG_BYTES> {}
+
+/// The type's name, and nothing of the key.
+impl<V: Variant, const TAG_BYTES: usize> fmt::Debug for Cipher<V, TAG_BYTES> {
+    fn fmt(&self, f: &mut fmt::Formatter<'_>) -> fmt::Result {
+        f.write_str(V::CIPHER)?;
+        f.write_str(" { .. }")
+    }
+}

@@ -1,0 +1,136 @@
+//! Opening a message that comes in chunks.
+
+use crate::run::Run;
+use crate::wipe::wipe;
+use crate::{Error, Tag, Variant};
+use core::{fmt, mem};
+
+/// Opens a message that comes in chunks of any lengths, in a destination that it borrows for the whole message.
+///
+/// [`Cipher::decryptor`](crate::Cipher::decryptor) starts one. The destination cannot be read while it is borrowed, and
+/// it is handed out by [`finalize`](Self::finalize) alone, if the tag is right. With a wrong tag, or if the decryptor is
+/// dropped before, zeros are left in the message's place, and the rest of the destination is as it was. That does not
+/// cover a decryptor that is leaked by [`mem::forget`](core::mem::forget).
+///
+/// ```
+/// use hunkravy::aegis128l::{Aegis128L, Error};
+///
+/// let cipher = Aegis128L::<16>::new(&[1; 16], &[2; 16]);
+/// let mut ciphertext = *b"AEGIS is fast";
+/// let mut encryptor = cipher.encryptor(b"header");
+/// encryptor.update_in_place(&mut ciphertext);
+/// let tag = encryptor.finalize();
+///
+/// let mut buffer = [0; 13];
+/// let mut decryptor = cipher.decryptor(b"header", &mut buffer);
+/// for chunk in ciphertext.chunks(4) {
+///     decryptor.update(chunk)?;
+/// }
+/// assert_eq!(decryptor.finalize(&tag)?, b"AEGIS is fast");
+/// # Ok::<(), Error>(())
+/// ```
+pub struct Decryptor<'a, V: Variant, const TAG_BYTES: usize> {
+    run: Run<V>,
+    plaintext: &'a mut [u8],
+    written: usize,
+}
+
+impl<'a, V: Variant, const TAG_BYTES: usize> Decryptor<'a, V, TAG_BYTES> {
+    pub(crate) fn new(run: Run<V>, plaintext: &'a mut [u8]) -> Self {
+        Self {
+            run,
+            plaintext,
+            written: 0,
+        }
+    }
+
+    /// Opens the next chunk of the ciphertext, after what is written to the destination.
+    ///
+    /// # Errors
+    ///
+    /// [`Error::OutputBufferTooSmall`] if the chunk is longer than the room left, and otherwise [`Error::MessageTooLong`] if
+    /// the message would be longer than [`MAX_AEAD_BYTES`](crate::MAX_AEAD_BYTES). Neither changes anything, and the
+    /// decryptor may go on with another chunk.
+    ///
+    /// ```
+    /// use hunkravy::aegis256x2::{Aegis256X2, Error};
+    ///
+    /// let mut buffer = [0; 4];
+    /// let mut decryptor = Aegis256X2::<16>::new(&[1; 32], &[2; 32]).decryptor(b"", &mut buffer);
+    /// assert_eq!(decryptor.update(&[0; 5]), Err(Error::OutputBufferTooSmall));
+    /// assert_eq!(decryptor.update(&[0; 4]), Ok(()));
+    /// ```
+    pub fn update(&mut self, ciphertext: &[u8]) -> Result<(), Error> {
+        let chunk = self.plaintext[self.written..]
+            .get_mut(..ciphertext.len())
+            .ok_or(Error::OutputBufferTooSmall)?;
+        if ciphertext.len() as u64 > self.run.remaining() {
+            return Err(Error::MessageTooLong);
+        }
+        // It is counted first, so that it is erased in any case.
+        self.written += ciphertext.len();
+        chunk.copy_from_slice(ciphertext);
+        self.run.open_unverified(chunk);
+        Ok(())
+    }
+
+    /// Returns the message, which is the front of the destination, if the tag is right.
+    ///
+    /// # Errors
+    ///
+    /// [`Error::InvalidTag`] if no message is sealed to the chunks and this tag. Zeros are then left in the place of what
+    /// was written, and the rest of the destination is as it was.
+    ///
+    /// ```
+    /// use hunkravy::aegis256x4::{Aegis256X4, Error};
+    ///
+    /// let mut buffer = [0xff; 6];
+    /// let mut decryptor = Aegis256X4::<16>::new(&[1; 32], &[2; 32]).decryptor(b"", &mut buffer);
+    /// decryptor.update(b"nope")?;
+    /// assert_eq!(decryptor.finalize(&[0; 16]), Err(Error::InvalidTag));
+    /// assert_eq!(buffer, [0, 0, 0, 0, 0xff, 0xff]);
+    /// # Ok::<(), Error>(())
+    /// ```
+    pub fn finalize(mut self, tag: &Tag<TAG_BYTES>) -> Result<&'a mut [u8], Error> {
+        self.run.check_tag(tag)?;
+        let written = mem::take(&mut self.written);
+        Ok(&mut mem::take(&mut self.plaintext)[..written])
+    }
+
+    /// Leaves the message in the destination if the tag is right, and returns its length in bytes.
+    ///
+    /// For a caller that goes on with the destination itself.
+    ///
+    /// # Errors
+    ///
+    /// As [`finalize`](Self::finalize).
+    ///
+    /// ```
+    /// use hunkravy::aegis128l::{Aegis128L, Error};
+    ///
+    /// let cipher = Aegis128L::<16>::new(&[1; 16], &[2; 16]);
+    /// let mut buffer = [0; 100];
+    /// let tag = cipher.encryptor(b"").finalize();
+    /// let length = cipher.decryptor(b"", &mut buffer).finalize_len(&tag)?;
+    /// assert_eq!(length, 0);
+    /// # Ok::<(), Error>(())
+    /// ```
+    pub fn finalize_len(self, tag: &Tag<TAG_BYTES>) -> Result<usize, Error> {
+        Ok(self.finalize(tag)?.len())
+    }
+}
+
+/// Leaves zeros in the place of what was written.
+impl<V: Variant, const TAG_BYTES: usize> Drop for Decryptor<'_, V, TAG_BYTES> {
+    fn drop(&mut self) {
+        wipe(&mut self.plaintext[..self.written]);
+    }
+}
+
+/// The module's name, and nothing of the state or the destination.
+impl<V: Variant, const TAG_BYTES: usize> fmt::Debug for Decryptor<'_, V, TAG_BYTES> {
+    fn fmt(&self, f: &mut fmt::Formatter<'_>) -> fmt::Result {
+        f.write_str(V::MODULE)?;
+        f.write_str("::Decryptor { .. }")
+    }
+}

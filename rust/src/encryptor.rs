@@ -1,0 +1,117 @@
+//! Sealing a message that comes in chunks.
+
+use crate::run::Run;
+use crate::{Tag, Variant};
+use core::fmt;
+
+/// Seals a message that comes in chunks of any lengths: a byte of ciphertext for each byte, and the tag at the end.
+///
+/// [`Cipher::encryptor`](crate::Cipher::encryptor) starts one. If it is dropped before [`finalize`](Self::finalize), there is no
+/// tag, and what was sealed cannot be opened.
+///
+/// ```
+/// use hunkravy::aegis128l::Aegis128L;
+///
+/// let (key, nonce) = ([1; 16], [2; 16]);
+/// let mut chunks = [*b"AEGIS", *b" fast"];
+/// let mut encryptor = Aegis128L::<16>::new(&key, &nonce).encryptor(b"header");
+/// for chunk in &mut chunks {
+///     encryptor.update_in_place(chunk);
+/// }
+/// let tag = encryptor.finalize();
+///
+/// let at_once = Aegis128L::<16>::new(&key, &nonce).encrypt(b"AEGIS fast", b"header");
+/// assert_eq!((chunks.concat(), tag), at_once);
+/// ```
+pub struct Encryptor<V: Variant, const TAG_BYTES: usize> {
+    run: Run<V>,
+}
+
+impl<V: Variant, const TAG_BYTES: usize> Encryptor<V, TAG_BYTES> {
+    pub(crate) fn new(run: Run<V>) -> Self {
+        Self { run }
+    }
+
+    /// Seals the next chunk into `ciphertext`, which has its length.
+    ///
+    /// # Panics
+    ///
+    /// If the lengths differ, or the message is then longer than [`MAX_AEAD_BYTES`](crate::MAX_AEAD_BYTES). Nothing has
+    /// changed then.
+    ///
+    /// ```
+    /// use hunkravy::aegis256::Aegis256;
+    ///
+    /// let mut encryptor = Aegis256::<32>::new(&[1; 32], &[2; 32]).encryptor(b"header");
+    /// let mut ciphertext = [0; 5];
+    /// encryptor.update(b"AEGIS", &mut ciphertext);
+    /// ```
+    #[track_caller]
+    pub fn update(&mut self, plaintext: &[u8], ciphertext: &mut [u8]) {
+        assert_eq!(
+            plaintext.len(),
+            ciphertext.len(),
+            "a chunk's ciphertext has its length"
+        );
+        assert!(
+            plaintext.len() as u64 <= self.remaining(),
+            "the message is longer than 2^61 - 1 bytes"
+        );
+        ciphertext.copy_from_slice(plaintext);
+        self.update_in_place(ciphertext);
+    }
+
+    /// Seals the next chunk in place.
+    ///
+    /// # Panics
+    ///
+    /// If the message is then longer than [`MAX_AEAD_BYTES`](crate::MAX_AEAD_BYTES). Nothing has changed then.
+    ///
+    /// ```
+    /// use hunkravy::aegis256::Aegis256;
+    ///
+    /// let mut encryptor = Aegis256::<32>::new(&[1; 32], &[2; 32]).encryptor(b"header");
+    /// let mut chunk = *b"AEGIS";
+    /// encryptor.update_in_place(&mut chunk);
+    /// assert_ne!(&chunk, b"AEGIS");
+    /// ```
+    #[track_caller]
+    pub fn update_in_place(&mut self, buffer: &mut [u8]) {
+        self.run.seal(buffer);
+    }
+
+    /// Returns how many more bytes the message may have.
+    ///
+    /// ```
+    /// use hunkravy::{MAX_AEAD_BYTES, aegis128x2::Aegis128X2};
+    ///
+    /// let mut encryptor = Aegis128X2::<16>::new(&[1; 16], &[2; 16]).encryptor(b"");
+    /// encryptor.update_in_place(&mut [0; 100]);
+    /// assert_eq!(encryptor.remaining(), MAX_AEAD_BYTES - 100);
+    /// ```
+    pub fn remaining(&self) -> u64 {
+        self.run.remaining()
+    }
+
+    /// Returns the tag of the message, which covers the associated data too.
+    ///
+    /// ```
+    /// use hunkravy::aegis128x4::Aegis128X4;
+    ///
+    /// let cipher = Aegis128X4::<32>::new(&[1; 16], &[2; 16]);
+    /// let tag = cipher.encryptor(b"header").finalize();
+    /// assert_eq!(tag, cipher.encrypt_in_place(&mut [], b"header"));
+    /// ```
+    #[must_use = "the message cannot be opened without its tag"]
+    pub fn finalize(self) -> Tag<TAG_BYTES> {
+        self.run.tag()
+    }
+}
+
+/// The module's name, and nothing of the state.
+impl<V: Variant, const TAG_BYTES: usize> fmt::Debug for Encryptor<V, TAG_BYTES> {
+    fn fmt(&self, f: &mut fmt::Formatter<'_>) -> fmt::Result {
+        f.write_str(V::MODULE)?;
+        f.write_str("::Encryptor { .. }")
+    }
+}

@@ -1,0 +1,216 @@
+//! The calls on a state, in orders and with lengths that the crate does not make.
+
+use super::{Answer, ERASED, Refusal, State, VARIANTS, Variant};
+use crate::MAX_AEAD_BYTES;
+
+const AD: &[u8] = b"associated data";
+const MESSAGE: &[u8] = &[0x5a; 150];
+/// Lengths that no tag has.
+const OTHER_TAG_BYTES: [usize; 6] = [0, 1, 15, 17, 31, 33];
+
+fn begun(variant: &Variant, ad: &[u8]) -> State {
+    let (key, nonce) = ([1; 32], [2; 32]);
+    let length = variant.key_bytes;
+    let mut st = State::ENDED;
+    let answer = variant.state_init(&mut st, ad, &nonce[..length], &key[..length]);
+    assert_eq!(answer, Ok(()));
+    st
+}
+
+/// A message's ciphertext and tag.
+fn sealed(variant: &Variant) -> ([u8; 150], [u8; 32]) {
+    let (mut mc, mut tag) = ([0x5a; 150], [0; 32]);
+    let mut st = begun(variant, AD);
+    assert_eq!(variant.state_encrypt_in_place(&mut st, &mut mc), Ok(()));
+    assert_eq!(variant.state_encrypt_final(&mut st, &mut tag), Ok(()));
+    (mc, tag)
+}
+
+/// The state's bytes.
+fn contents(st: &State) -> (u64, [[u8; 128]; 4], [u8; 128], u64, u64) {
+    let State {
+        mark,
+        rows,
+        block,
+        data_bytes,
+        message_bytes,
+    } = st.clone();
+    (mark, rows, block, data_bytes, message_bytes)
+}
+
+/// A call on a state and a buffer.
+type Call<'a> = &'a dyn Fn(&mut State, &mut [u8]) -> Answer;
+
+/// Checks that each call on chunks has this answer, and changes nothing.
+fn assert_refused(variant: &Variant, st: &State, expected: Refusal, bytes: usize) {
+    let mut mc = [0x77; 64];
+    let input = [0x77; 64];
+    let calls: [Call; 4] = [
+        &|st, mc| variant.state_encrypt_in_place(st, mc),
+        &|st, mc| variant.state_decrypt_in_place_unverified(st, mc),
+        &|st, _| variant.state_decrypt_check(st, &input[..bytes]),
+        &|st, _| variant.mac_update(st, &input[..bytes]),
+    ];
+    for call in calls {
+        let mut copy = st.clone();
+        assert_eq!(call(&mut copy, &mut mc[..bytes]), Err(expected));
+        assert_eq!(contents(&copy), contents(st));
+        assert_eq!(mc, [0x77; 64]);
+    }
+}
+
+/// Checks that each call that ends a message or a MAC has this answer, and changes nothing.
+fn assert_not_ended(variant: &Variant, st: &State, expected: Refusal, tag_bytes: usize) {
+    let (mut m, mut tags) = ([0x77; 64], [0x66; 40]);
+    let tag = &mut tags[..tag_bytes];
+    let mut copy = st.clone();
+    let answer = variant.state_encrypt_final(&mut copy, tag);
+    assert_eq!(answer, Err(expected));
+    let answer = variant.state_decrypt_final(&mut copy, &mut m, tag);
+    assert_eq!(answer, Err(expected));
+    assert_eq!(variant.mac_final(&copy, tag), Err(expected));
+    assert_eq!(variant.mac_final_verify(&copy, tag), Err(expected));
+    assert_eq!(contents(&copy), contents(st));
+    assert_eq!((m, tags), ([0x77; 64], [0x66; 40]));
+}
+
+#[test]
+fn a_state_that_was_not_begun_or_has_ended_is_refused() {
+    for variant in &VARIANTS {
+        let (mut mc, tag) = sealed(variant);
+        let mut encrypted = begun(variant, &[]);
+        let answer = variant.state_encrypt_final(&mut encrypted, &mut [0; 16]);
+        assert_eq!(answer, Ok(()));
+        let mut accepted = begun(variant, AD);
+        let answer = variant.state_decrypt_in_place_unverified(&mut accepted, &mut mc);
+        assert_eq!((answer, &mc[..]), (Ok(()), MESSAGE));
+        let answer = variant.state_decrypt_final(&mut accepted, &mut mc, &tag);
+        assert_eq!((answer, &mc[..]), (Ok(()), MESSAGE));
+        let mut refused = begun(variant, AD);
+        let answer = variant.state_decrypt_final(&mut refused, &mut mc, &tag);
+        assert_eq!(answer, Err(Refusal::InvalidTag));
+        assert_eq!(mc, [ERASED; 150]);
+
+        for st in [State::ENDED, encrypted, accepted, refused] {
+            assert_refused(variant, &st, Refusal::WrongState, 0);
+            assert_refused(variant, &st, Refusal::WrongState, 64);
+            assert_not_ended(variant, &st, Refusal::WrongState, 16);
+        }
+    }
+}
+
+#[test]
+fn a_key_or_a_nonce_of_another_length_is_refused() {
+    for variant in &VARIANTS {
+        let length = variant.key_bytes;
+        let bytes = [1; 40];
+        for other in [0, 1, length - 1, length + 1, 48 - length] {
+            let (right, wrong) = (&bytes[..length], &bytes[..other]);
+            let st = &mut begun(variant, AD);
+            let before = contents(st);
+            let nonce = Err(Refusal::WrongNonceLength);
+            assert_eq!(variant.state_init(st, AD, wrong, right), nonce);
+            assert_eq!(variant.state_init(st, AD, wrong, wrong), nonce);
+            let key = Err(Refusal::WrongKeyLength);
+            assert_eq!(variant.state_init(st, AD, right, wrong), key);
+            assert_eq!(contents(st), before);
+        }
+    }
+}
+
+#[test]
+fn a_tag_of_another_length_is_refused() {
+    for variant in &VARIANTS {
+        for tag_bytes in OTHER_TAG_BYTES {
+            let st = begun(variant, &[]);
+            assert_not_ended(variant, &st, Refusal::WrongTagLength, tag_bytes);
+        }
+    }
+}
+
+#[test]
+fn a_state_with_associated_data_gives_no_mac() {
+    for variant in &VARIANTS {
+        let st = begun(variant, AD);
+        let refused = Err(Refusal::WrongState);
+        assert_eq!(variant.mac_final(&st, &mut [0; 16]), refused);
+        assert_eq!(variant.mac_final_verify(&st, &[0; 16]), refused);
+    }
+}
+
+#[test]
+fn counts_are_kept_within_the_limit() {
+    for variant in &VARIANTS {
+        let mut st = begun(variant, &[]);
+        st.set_message_bytes(MAX_AEAD_BYTES - 63);
+        assert_refused(variant, &st, Refusal::MessageTooLong, 64);
+        st.set_message_bytes(MAX_AEAD_BYTES + 1);
+        assert_refused(variant, &st, Refusal::WrongState, 0);
+        assert_not_ended(variant, &st, Refusal::WrongState, 32);
+        let mut st = begun(variant, AD);
+        st.data_bytes = u64::MAX;
+        assert_refused(variant, &st, Refusal::WrongState, 64);
+        assert_not_ended(variant, &st, Refusal::WrongState, 16);
+    }
+}
+
+#[test]
+fn a_check_accepts_what_opening_does() {
+    for variant in &VARIANTS {
+        let (mc, mut tag) = sealed(variant);
+        for expected in [Ok(()), Err(Refusal::InvalidTag)] {
+            let mut st = begun(variant, AD);
+            for chunk in mc.chunks(70) {
+                assert_eq!(variant.state_decrypt_check(&mut st, chunk), Ok(()));
+            }
+            let answer = variant.state_decrypt_final(&mut st, &mut [], &tag);
+            assert_eq!(answer, expected);
+            tag[31] ^= 1;
+        }
+    }
+}
+
+#[test]
+fn a_mac_goes_on_after_its_end() {
+    for variant in &VARIANTS {
+        let length = variant.key_bytes;
+        let (key, nonce) = ([1; 32], [2; 32]);
+        let mut st = begun(variant, &[]);
+        let (mut so_far, mut at_once) = ([0; 32], [0; 32]);
+        for end in [0, 70, 140, 150] {
+            let start = st.message_bytes() as usize;
+            assert_eq!(variant.mac_update(&mut st, &MESSAGE[start..end]), Ok(()));
+            assert_eq!(variant.mac_final(&st, &mut so_far), Ok(()));
+            assert_eq!(variant.mac_final_verify(&st, &so_far), Ok(()));
+            let (nonce, key) = (&nonce[..length], &key[..length]);
+            let answer = variant.mac(&MESSAGE[..end], nonce, key, &mut at_once);
+            assert_eq!((answer, so_far), (Ok(()), at_once));
+        }
+    }
+}
+
+/// Bytes that stand for nothing: each call returns.
+#[test]
+fn a_state_of_any_bytes_is_safe() {
+    for variant in &VARIANTS {
+        for fill in 0..=255_u8 {
+            let mut st = begun(variant, &[]);
+            st.rows = [[fill; 128]; 4];
+            st.block = [fill.rotate_left(3); 128];
+            st.message_bytes = u64::from(fill).pow(7) % MAX_AEAD_BYTES;
+            let mut mc = [fill; 200];
+            assert_eq!(variant.state_encrypt_in_place(&mut st, &mut mc), Ok(()));
+            assert_eq!(variant.state_decrypt_check(&mut st, &mc), Ok(()));
+            assert_eq!(variant.mac_update(&mut st, &mc), Ok(()));
+            assert_eq!(variant.mac_final(&st, &mut [0; 32]), Ok(()));
+            assert_eq!(variant.state_encrypt_final(&mut st, &mut [0; 16]), Ok(()));
+        }
+    }
+}
+
+#[test]
+fn a_wiped_state_is_zeros() {
+    let mut st = begun(&VARIANTS[0], AD);
+    st.wipe();
+    assert_eq!(contents(&st), contents(&State::ENDED));
+}

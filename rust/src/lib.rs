@@ -1,0 +1,28 @@
+#![doc = include_str!("../README.md")]
+#![no_std]
+#![deny(missing_docs)]
+#![deny(unsafe_op_in_unsafe_fn)]
+#![deny(clippy::undocumented_unsafe_blocks)]
+
+extern crate alloc;
+
+mod chunks;
+mod cipher;
+mod decryptor;
+mod encryptor;
+mod error;
+mod exports;
+mod mac;
+mod run;
+mod variant;
+mod wipe;
+
+pub use chunks::chunks_len;
+pub use cipher::Cipher;
+pub use decryptor::Decryptor;
+pub use encryptor::Encryptor;
+pub use error::{Error, MAX_AEAD_BYTES};
+pub use exports::ERASED;
+pub use mac::Mac;
+pub use variant::{Tag, Variant};
+pub use variant::{aegis128l, aegis128x2, aegis128x4, aegis256, aegis256x2, aegis256x4};

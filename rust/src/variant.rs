@@ -1,0 +1,196 @@
+//! The six variants: what tells them apart, and a module for each.
+
+/// A tag of an authenticated message, or a MAC.
+///
+/// ```
+/// let tag: hunkravy::Tag<16> = [0; 16];
+/// ```
+pub type Tag<const TAG_BYTES: usize> = [u8; TAG_BYTES];
+
+/// One of the six variants: the marker of a module, by which [`Cipher`](crate::Cipher),
+/// [`Encryptor`](crate::Encryptor), [`Decryptor`](crate::Decryptor) and [`Mac`](crate::Mac) are that module's.
+///
+/// The markers of this crate alone implement it. It is for code that is generic in the variant:
+///
+/// ```
+/// use hunkravy::{Cipher, Tag, Variant, aegis128l::Aegis128L, aegis256::Aegis256};
+///
+/// fn empty<V: Variant>(cipher: Cipher<V, 16>) -> Tag<16> {
+///     cipher.encrypt_in_place(&mut [], b"header")
+/// }
+///
+/// empty(Aegis128L::new(&[1; 16], &[2; 16]));
+/// empty(Aegis256::new(&[1; 32], &[2; 32]));
+/// ```
+pub trait Variant: sealed::Sealed {
+    /// A key, and a nonce, which has the same length.
+    ///
+    /// ```
+    /// let key: <hunkravy::aegis256::Marker as hunkravy::Variant>::Key = [0; 32];
+    /// ```
+    type Key: AsRef<[u8]> + AsMut<[u8]> + Copy + Default;
+}
+
+pub(crate) mod sealed {
+    use crate::exports;
+
+    /// What the crate has of a variant for itself.
+    pub trait Sealed {
+        /// The library's calls.
+        const EXPORTS: exports::Variant;
+        /// The module's name.
+        const MODULE: &'static str;
+        /// The cipher's name.
+        const CIPHER: &'static str;
+    }
+}
+
+/// Stops the compiler at a tag length that there is none of.
+pub(crate) const fn assert_tag_bytes<const TAG_BYTES: usize>() {
+    const {
+        assert!(
+            TAG_BYTES == 16 || TAG_BYTES == 32,
+            "a tag has 16 or 32 bytes"
+        )
+    }
+}
+
+/// A variant's module: a marker, which is `Copy` if the cipher is, and the names of what is generic in it.
+macro_rules! module {
+    (
+        $(#[$use:meta])*
+        mod $module:ident, $standard:literal, $cipher:ident, $mac:ident, $exports:ident, $bytes:literal $(, $copy:meta)?
+    ) => {
+        #[doc = concat!($standard, ": ", $bytes, " bytes of key and of nonce.")]
+        ///
+        $(#[$use])*
+        ///
+        /// ```
+        #[doc = concat!("use hunkravy::", stringify!($module), "::{", stringify!($cipher), ", Error, Key, Nonce};")]
+        ///
+        #[doc = concat!("let (key, nonce): (Key, Nonce) = ([1; ", $bytes, "], [2; ", $bytes, "]);")]
+        /// let mut buffer = *b"a message";
+        #[doc = concat!("let tag = ", stringify!($cipher), "::<16>::new(&key, &nonce).encrypt_in_place(&mut buffer, b\"header\");")]
+        #[doc = concat!(stringify!($cipher), "::<16>::new(&key, &nonce).decrypt_in_place(&mut buffer, &tag, b\"header\")?;")]
+        /// assert_eq!(&buffer, b"a message");
+        /// # Ok::<(), Error>(())
+        /// ```
+        pub mod $module {
+            pub use crate::{Error, Tag};
+
+            #[doc = concat!("A key of ", $standard, ".")]
+            ///
+            /// ```
+            #[doc = concat!("let key: hunkravy::", stringify!($module), "::Key = [1; ", $bytes, "];")]
+            /// ```
+            pub type Key = [u8; $bytes];
+
+            #[doc = concat!("A nonce of ", $standard, ", to be used once under a key.")]
+            ///
+            /// ```
+            #[doc = concat!("let nonce: hunkravy::", stringify!($module), "::Nonce = [2; ", $bytes, "];")]
+            /// ```
+            pub type Nonce = [u8; $bytes];
+
+            #[doc = concat!("The marker of ", $standard, ".")]
+            ///
+            /// ```
+            #[doc = concat!("use hunkravy::{Cipher, ", stringify!($module), "::Marker};")]
+            ///
+            #[doc = concat!("let cipher = Cipher::<Marker, 16>::new(&[1; ", $bytes, "], &[2; ", $bytes, "]);")]
+            #[doc = concat!("assert_eq!(format!(\"{cipher:?}\"), \"", stringify!($cipher), " { .. }\");")]
+            /// ```
+            $(#[$copy])?
+            #[derive(Debug)]
+            pub struct Marker;
+
+            impl crate::Variant for Marker {
+                type Key = Key;
+            }
+
+            impl super::sealed::Sealed for Marker {
+                const EXPORTS: crate::exports::Variant = crate::exports::$exports;
+                const MODULE: &'static str = stringify!($module);
+                const CIPHER: &'static str = stringify!($cipher);
+            }
+
+            #[doc = concat!($standard, " under a key and a nonce. [`Cipher`](crate::Cipher) has its calls.")]
+            ///
+            /// ```
+            #[doc = concat!("use hunkravy::", stringify!($module), "::", stringify!($cipher), ";")]
+            ///
+            #[doc = concat!("let cipher = ", stringify!($cipher), "::<32>::new(&[1; ", $bytes, "], &[2; ", $bytes, "]);")]
+            /// let (ciphertext, tag) = cipher.encrypt(b"a message", b"header");
+            /// ```
+            pub type $cipher<const TAG_BYTES: usize> = crate::Cipher<Marker, TAG_BYTES>;
+
+            #[doc = concat!("Seals a message of ", $standard, " that comes in chunks.")]
+            ///
+            /// ```
+            #[doc = concat!("use hunkravy::", stringify!($module), "::{", stringify!($cipher), ", Encryptor};")]
+            ///
+            #[doc = concat!("let cipher = ", stringify!($cipher), "::new(&[1; ", $bytes, "], &[2; ", $bytes, "]);")]
+            /// let mut encryptor: Encryptor<32> = cipher.encryptor(b"header");
+            /// let mut chunk = *b"a chunk";
+            /// encryptor.update_in_place(&mut chunk);
+            /// let tag = encryptor.finalize();
+            /// ```
+            pub type Encryptor<const TAG_BYTES: usize> = crate::Encryptor<Marker, TAG_BYTES>;
+
+            #[doc = concat!("Opens a message of ", $standard, " that comes in chunks.")]
+            ///
+            /// ```
+            #[doc = concat!("use hunkravy::", stringify!($module), "::{", stringify!($cipher), ", Decryptor, Error};")]
+            ///
+            #[doc = concat!("let cipher = ", stringify!($cipher), "::new(&[1; ", $bytes, "], &[2; ", $bytes, "]);")]
+            /// let mut ciphertext = [0; 7];
+            /// let tag = cipher.seal_chunks(b"header", &[b"a chunk"], &mut ciphertext);
+            ///
+            /// let mut buffer = [0; 7];
+            /// let mut decryptor: Decryptor<'_, 16> = cipher.decryptor(b"header", &mut buffer);
+            /// decryptor.update(&ciphertext)?;
+            /// assert_eq!(decryptor.finalize(&tag)?, b"a chunk");
+            /// # Ok::<(), Error>(())
+            /// ```
+            pub type Decryptor<'a, const TAG_BYTES: usize> = crate::Decryptor<'a, Marker, TAG_BYTES>;
+
+            #[doc = concat!("The MAC of ", $standard, ". [`Mac`](crate::Mac) has its calls.")]
+            ///
+            /// ```
+            #[doc = concat!("use hunkravy::", stringify!($module), "::{", stringify!($mac), ", Error};")]
+            ///
+            #[doc = concat!("let mut mac = ", stringify!($mac), "::<16>::new(&[1; ", $bytes, "]);")]
+            /// mac.update(b"the input");
+            /// let again = mac.clone();
+            /// again.verify(&mac.finalize())?;
+            /// # Ok::<(), Error>(())
+            /// ```
+            pub type $mac<const TAG_BYTES: usize> = crate::Mac<Marker, TAG_BYTES>;
+        }
+    };
+}
+
+module! {
+    /// For most messages.
+    mod aegis128l, "AEGIS-128L", Aegis128L, Aegis128LMac, AEGIS128L, 16
+}
+module! {
+    /// For long messages on processors with vectors of 32 bytes.
+    mod aegis128x2, "AEGIS-128X2", Aegis128X2, Aegis128X2Mac, AEGIS128X2, 16, derive(Clone, Copy)
+}
+module! {
+    /// For long messages on processors with vectors of 32 bytes.
+    mod aegis128x4, "AEGIS-128X4", Aegis128X4, Aegis128X4Mac, AEGIS128X4, 16, derive(Clone, Copy)
+}
+module! {
+    /// For keys of 32 bytes. A nonce has room to be drawn at random.
+    mod aegis256, "AEGIS-256", Aegis256, Aegis256Mac, AEGIS256, 32
+}
+module! {
+    /// For keys of 32 bytes and long messages. A nonce has room to be drawn at random.
+    mod aegis256x2, "AEGIS-256X2", Aegis256X2, Aegis256X2Mac, AEGIS256X2, 32, derive(Clone, Copy)
+}
+module! {
+    /// For keys of 32 bytes and long messages. A nonce has room to be drawn at random.
+    mod aegis256x4, "AEGIS-256X4", Aegis256X4, Aegis256X4Mac, AEGIS256X4, 32, derive(Clone, Copy)
+}

@@ -1,0 +1,166 @@
+//! What calls leave in their buffers, above all those that refuse.
+
+use hunkravy::{Cipher, Error, Variant};
+use hunkravy::{aegis128l, aegis128x2, aegis128x4, aegis256, aegis256x2, aegis256x4};
+use std::panic::{AssertUnwindSafe, catch_unwind};
+
+/// What stands in a destination before a call.
+const UNWRITTEN: u8 = 0xaa;
+/// The most bytes of a rate block.
+const LONGEST_RATE: usize = 128;
+const AD: &[u8] = b"associated data";
+
+fn cipher<V: Variant>() -> Cipher<V, 16> {
+    let (mut key, mut nonce) = (V::Key::default(), V::Key::default());
+    key.as_mut().fill(3);
+    nonce.as_mut().fill(4);
+    Cipher::new(&key, &nonce)
+}
+
+fn sealed<V: Variant>(message: &[u8]) -> (Vec<u8>, [u8; 16]) {
+    cipher::<V>().encrypt(message, AD)
+}
+
+/// Runs a check in each variant.
+macro_rules! in_each_variant {
+    ($($check:ident)*) => {$(
+        #[test]
+        fn $check() {
+            checks::$check::<aegis128l::Marker>();
+            checks::$check::<aegis128x2::Marker>();
+            checks::$check::<aegis128x4::Marker>();
+            checks::$check::<aegis256::Marker>();
+            checks::$check::<aegis256x2::Marker>();
+            checks::$check::<aegis256x4::Marker>();
+        }
+    )*};
+}
+
+in_each_variant! {
+    a_dropped_decryptor_leaves_zeros
+    a_refused_tag_leaves_zeros
+    a_chunk_without_room_changes_nothing
+    the_rest_of_a_destination_stays
+    an_empty_message_has_one_tag
+    several_chunked_calls_of_one_cipher_do_not_meet
+    chunks_that_do_not_fit_are_left_out
+    a_ciphertext_of_another_length_panics
+    a_list_of_another_length_panics
+}
+
+mod checks {
+    use super::*;
+
+    pub fn a_dropped_decryptor_leaves_zeros<V: Variant>() {
+        for written in [0, 1, 16, LONGEST_RATE - 1, LONGEST_RATE, LONGEST_RATE + 2] {
+            let mut buffer = [UNWRITTEN; LONGEST_RATE + 8];
+            let mut decryptor = cipher::<V>().decryptor(AD, &mut buffer);
+            decryptor.update(&vec![1; written]).unwrap();
+            drop(decryptor);
+            assert!(buffer[..written].iter().all(|byte| *byte == 0));
+            assert!(buffer[written..].iter().all(|byte| *byte == UNWRITTEN));
+        }
+    }
+
+    pub fn a_refused_tag_leaves_zeros<V: Variant>() {
+        let (ciphertext, tag) = sealed::<V>(&[5; 114]);
+        for place in 0..16 {
+            let mut wrong = tag;
+            wrong[place] ^= 0x80;
+            let mut buffer = [UNWRITTEN; 120];
+            let mut decryptor = cipher::<V>().decryptor(AD, &mut buffer);
+            decryptor.update(&ciphertext).unwrap();
+            assert_eq!(decryptor.finalize(&wrong), Err(Error::InvalidTag));
+            assert_eq!(buffer[..114], [0; 114]);
+            assert_eq!(buffer[114..], [UNWRITTEN; 6]);
+        }
+    }
+
+    pub fn a_chunk_without_room_changes_nothing<V: Variant>() {
+        let message = [6; 40];
+        let (ciphertext, tag) = sealed::<V>(&message);
+        let mut buffer = [UNWRITTEN; 40];
+        let mut decryptor = cipher::<V>().decryptor(AD, &mut buffer);
+        let refused = Err(Error::OutputBufferTooSmall);
+        assert_eq!(decryptor.update(&[0; 41]), refused);
+        decryptor.update(&ciphertext[..30]).unwrap();
+        assert_eq!(decryptor.update(&[0; 11]), refused);
+        decryptor.update(&ciphertext[30..]).unwrap();
+        assert_eq!(decryptor.update(&[0]), refused);
+        decryptor.update(&[]).unwrap();
+        assert_eq!(decryptor.finalize(&tag).unwrap(), message);
+    }
+
+    pub fn the_rest_of_a_destination_stays<V: Variant>() {
+        let (ciphertext, tag) = sealed::<V>(b"a message");
+        let mut buffer = [UNWRITTEN; 20];
+        let mut decryptor = cipher::<V>().decryptor(AD, &mut buffer);
+        decryptor.update(&ciphertext).unwrap();
+        assert_eq!(decryptor.finalize_len(&tag), Ok(9));
+        assert_eq!(&buffer[..9], b"a message");
+        assert_eq!(buffer[9..], [UNWRITTEN; 11]);
+    }
+
+    pub fn an_empty_message_has_one_tag<V: Variant>() {
+        let tag = cipher::<V>().encryptor(AD).finalize();
+        let mut encryptor = cipher::<V>().encryptor(AD);
+        encryptor.update(&[], &mut []);
+        assert_eq!(encryptor.finalize(), tag);
+        assert_eq!(cipher::<V>().encrypt_in_place(&mut [], AD), tag);
+        assert_eq!(cipher::<V>().seal_chunks(AD, &[], &mut []), tag);
+        let mut buffer = [UNWRITTEN; 3];
+        let opened = cipher::<V>().decryptor(AD, &mut buffer).finalize(&tag);
+        assert_eq!(opened, Ok(&mut [][..]));
+        assert_eq!(buffer, [UNWRITTEN; 3]);
+    }
+
+    pub fn several_chunked_calls_of_one_cipher_do_not_meet<V: Variant>() {
+        let expected = sealed::<V>(&[7; 150]);
+        let cipher = cipher::<V>();
+        let mut first = cipher.encryptor(AD);
+        let mut second = cipher.encryptor(AD);
+        let (mut one, mut two) = ([7; 150], [7; 150]);
+        for (ours, theirs) in one.chunks_mut(50).zip(two.chunks_mut(50)) {
+            first.update_in_place(ours);
+            second.update_in_place(theirs);
+        }
+        assert_eq!((one.to_vec(), first.finalize()), expected);
+        assert_eq!((two.to_vec(), second.finalize()), expected);
+    }
+
+    pub fn chunks_that_do_not_fit_are_left_out<V: Variant>() {
+        let (ciphertext, tag) = sealed::<V>(b"a message");
+        let (front, back) = ciphertext.split_at(4);
+        let chunks = [front, &[0; 7], back, &[0; 2]];
+        let mut buffer = [UNWRITTEN; 10];
+        let opened = cipher::<V>().open_chunks(AD, &chunks, &tag, &mut buffer);
+        assert_eq!(opened.unwrap(), b"a message");
+        assert_eq!(buffer[9], UNWRITTEN);
+    }
+
+    pub fn a_ciphertext_of_another_length_panics<V: Variant>() {
+        let mut encryptor = cipher::<V>().encryptor(AD);
+        let mut ciphertext = [UNWRITTEN; 10];
+        for length in [0, 8, 10] {
+            let update = || encryptor.update(b"a message", &mut ciphertext[..length]);
+            assert!(catch_unwind(AssertUnwindSafe(update)).is_err());
+        }
+        assert_eq!(ciphertext, [UNWRITTEN; 10]);
+        encryptor.update(b"a message", &mut ciphertext[..9]);
+        let (expected, tag) = sealed::<V>(b"a message");
+        assert_eq!(
+            (&ciphertext[..9], encryptor.finalize()),
+            (&expected[..], tag)
+        );
+    }
+
+    pub fn a_list_of_another_length_panics<V: Variant>() {
+        let cipher = cipher::<V>();
+        let mut out = [UNWRITTEN; 10];
+        for length in [0, 8, 10] {
+            let seal = || cipher.seal_chunks(AD, &[b"a ", b"message"], &mut out[..length]);
+            assert!(catch_unwind(AssertUnwindSafe(seal)).is_err());
+        }
+        assert_eq!(out, [UNWRITTEN; 10]);
+    }
+}

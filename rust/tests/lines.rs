@@ -1,0 +1,301 @@
+//! The stored lines of the repository's `vectors/`, each through every call of the crate that gives its answer.
+
+use hunkravy::{Cipher, ERASED, Error, Mac, Variant};
+use hunkravy::{aegis128l, aegis128x2, aegis128x4, aegis256, aegis256x2, aegis256x4};
+use std::fs;
+use std::path::Path;
+
+/// Lengths that messages are cut into, beside their own pieces.
+const CUTS: [usize; 6] = [1, 7, 16, 33, 128, 200];
+/// What stands in a destination before a call, and after it in front of which nothing was written.
+const UNWRITTEN: u8 = 0x55;
+/// How many bytes a destination has after its message.
+const ROOM: usize = 5;
+
+/// The pieces of a field.
+fn pieces(field: &str) -> Vec<Vec<u8>> {
+    field.split(',').map(bytes).collect()
+}
+
+/// The bytes of a field, or of a piece.
+fn bytes(field: &str) -> Vec<u8> {
+    if field == "-" {
+        return Vec::new();
+    }
+    (0..field.len())
+        .step_by(2)
+        .map(|place| u8::from_str_radix(&field[place..place + 2], 16).expect("digits"))
+        .collect()
+}
+
+/// The field that stands for bytes in an answer.
+fn field(bytes: &[u8]) -> String {
+    if bytes.is_empty() {
+        return "-".to_owned();
+    }
+    bytes.iter().map(|byte| format!("{byte:02x}")).collect()
+}
+
+/// A key, or a nonce.
+fn key<V: Variant>(field: &str) -> V::Key {
+    let mut key = V::Key::default();
+    key.as_mut().copy_from_slice(&bytes(field));
+    key
+}
+
+/// A message as its own pieces, and cut into pieces of other lengths.
+fn cuts(field: &str) -> Vec<Vec<Vec<u8>>> {
+    let own = pieces(field);
+    let message = own.concat();
+    let others = CUTS.map(|length| message.chunks(length).map(<[u8]>::to_vec).collect());
+    [own].into_iter().chain(others).collect()
+}
+
+fn slices(pieces: &[Vec<u8>]) -> Vec<&[u8]> {
+    pieces.iter().map(Vec::as_slice).collect()
+}
+
+/// A key, a nonce and associated data, for a cipher a call.
+struct Keys<'a> {
+    key: &'a str,
+    nonce: &'a str,
+    ad: Vec<u8>,
+}
+
+impl<'a> Keys<'a> {
+    fn new(key: &'a str, nonce: &'a str, ad: &str) -> Self {
+        let ad = bytes(ad);
+        Keys { key, nonce, ad }
+    }
+
+    fn cipher<V: Variant, const TAG_BYTES: usize>(&self) -> Cipher<V, TAG_BYTES> {
+        Cipher::new(&key::<V>(self.key), &key::<V>(self.nonce))
+    }
+}
+
+fn seal<V: Variant, const TAG_BYTES: usize>(keys: &Keys, message: &str) -> String {
+    let joined = pieces(message).concat();
+    let (ciphertext, tag) = keys.cipher::<V, TAG_BYTES>().encrypt(&joined, &keys.ad);
+
+    let mut mc = joined.clone();
+    let in_place = keys.cipher::<V, TAG_BYTES>();
+    assert_eq!(in_place.encrypt_in_place(&mut mc, &keys.ad), tag);
+    assert_eq!(mc, ciphertext);
+
+    for mut chunks in cuts(message) {
+        let cipher = keys.cipher::<V, TAG_BYTES>();
+        let mut out = vec![UNWRITTEN; joined.len()];
+        assert_eq!(
+            cipher.seal_chunks(&keys.ad, &slices(&chunks), &mut out),
+            tag
+        );
+        assert_eq!(out, ciphertext);
+
+        let mut copying = cipher.encryptor(&keys.ad);
+        let mut in_place = cipher.encryptor(&keys.ad);
+        for chunk in &mut chunks {
+            let mut sealed = vec![UNWRITTEN; chunk.len()];
+            copying.update(chunk, &mut sealed);
+            in_place.update_in_place(chunk);
+            assert_eq!(*chunk, sealed);
+        }
+        assert_eq!(chunks.concat(), ciphertext);
+        assert_eq!((copying.finalize(), in_place.finalize()), (tag, tag));
+    }
+    format!("{} {}", field(&ciphertext), field(&tag))
+}
+
+/// Opens chunks in a destination with room left, and returns what it holds.
+fn open_chunks<V: Variant, const TAG_BYTES: usize>(
+    keys: &Keys,
+    chunks: &[Vec<u8>],
+    tag: &[u8; TAG_BYTES],
+) -> (Result<Vec<u8>, Error>, Vec<u8>) {
+    let mut buffer = vec![UNWRITTEN; chunks.concat().len() + ROOM];
+    let mut decryptor = keys
+        .cipher::<V, TAG_BYTES>()
+        .decryptor(&keys.ad, &mut buffer);
+    for chunk in chunks {
+        decryptor.update(chunk).expect("there is room");
+    }
+    let opened = decryptor.finalize(tag).map(|message| message.to_vec());
+
+    let mut again = vec![UNWRITTEN; buffer.len()];
+    let cipher = keys.cipher::<V, TAG_BYTES>();
+    let at_once = cipher.open_chunks(&keys.ad, &slices(chunks), tag, &mut again);
+    assert_eq!(at_once.map(|message| message.to_vec()), opened);
+    assert_eq!(again, buffer);
+
+    let length = cipher.open_chunks_len(&keys.ad, &slices(chunks), tag, &mut again);
+    assert_eq!(
+        length,
+        opened.as_ref().map(Vec::len).map_err(|error| *error)
+    );
+    (opened, buffer)
+}
+
+fn open<V: Variant, const TAG_BYTES: usize>(keys: &Keys, ciphertext: &str, tag: &str) -> String {
+    let joined = pieces(ciphertext).concat();
+    let tag = bytes(tag).try_into().expect("a tag of that length");
+    let opened = keys
+        .cipher::<V, TAG_BYTES>()
+        .decrypt(&joined, &tag, &keys.ad);
+
+    let mut mc = joined.clone();
+    let in_place = keys.cipher::<V, TAG_BYTES>();
+    let answer = in_place.decrypt_in_place(&mut mc, &tag, &keys.ad);
+    assert_eq!(answer, opened.as_ref().map(|_| ()).map_err(|error| *error));
+    let erased = vec![ERASED; joined.len()];
+    assert_eq!(mc, *opened.as_ref().unwrap_or(&erased));
+
+    for chunks in cuts(ciphertext) {
+        let (in_chunks, mut buffer) = open_chunks::<V, TAG_BYTES>(keys, &chunks, &tag);
+        assert_eq!(in_chunks, opened);
+        assert_eq!(buffer.split_off(joined.len()), [UNWRITTEN; ROOM]);
+        let zeros = vec![0; joined.len()];
+        assert_eq!(buffer, *opened.as_ref().unwrap_or(&zeros));
+    }
+    match opened {
+        Ok(message) => format!("ok {}", field(&message)),
+        Err(error) => {
+            assert_eq!(error, Error::InvalidTag);
+            "invalid tag".to_owned()
+        }
+    }
+}
+
+fn stream<V: Variant, const TAG_BYTES: usize>(keys: &Keys, length: &str) -> String {
+    let mut out = vec![UNWRITTEN; length.parse().expect("a length")];
+    keys.cipher::<V, TAG_BYTES>().stream(&mut out);
+    let zeros = vec![0; out.len()];
+    assert_eq!(keys.cipher::<V, TAG_BYTES>().stream_xor(&zeros), out);
+    field(&out)
+}
+
+fn xor<V: Variant, const TAG_BYTES: usize>(keys: &Keys, message: &str) -> String {
+    let mut mc = bytes(message);
+    let xored = keys.cipher::<V, TAG_BYTES>().stream_xor(&mc);
+    keys.cipher::<V, TAG_BYTES>().stream_xor_in_place(&mut mc);
+    assert_eq!(mc, xored);
+    field(&mc)
+}
+
+fn mac<V: Variant, const TAG_BYTES: usize>(keys: &Keys, input: &str) -> String {
+    let (key, nonce) = (key::<V>(keys.key), key::<V>(keys.nonce));
+    let empty = Mac::<V, TAG_BYTES>::new_with_nonce(&key, &nonce);
+    let tag = empty.clone().finalize_chunks(&slices(&pieces(input)));
+    for chunks in cuts(input) {
+        let mut mac = empty.clone();
+        for chunk in &chunks {
+            mac.update(chunk);
+        }
+        let mut changed = tag;
+        changed[TAG_BYTES - 1] ^= 1;
+        assert_eq!(mac.clone().verify(&changed), Err(Error::InvalidTag));
+        assert_eq!(mac.clone().verify(&tag), Ok(()));
+        assert_eq!(mac.finalize(), tag);
+    }
+    if nonce.as_ref().iter().all(|byte| *byte == 0) {
+        let without = Mac::<V, TAG_BYTES>::new(&key);
+        assert_eq!(without.finalize_chunks(&slices(&pieces(input))), tag);
+    }
+    field(&tag)
+}
+
+fn answer<V: Variant, const TAG_BYTES: usize>(fields: &[&str]) -> String {
+    match *fields {
+        ["seal", _, _, key, nonce, ad, message] => {
+            seal::<V, TAG_BYTES>(&Keys::new(key, nonce, ad), message)
+        }
+        ["open", _, _, key, nonce, ad, ciphertext, tag] => {
+            open::<V, TAG_BYTES>(&Keys::new(key, nonce, ad), ciphertext, tag)
+        }
+        ["stream", _, key, nonce, length] => {
+            stream::<V, TAG_BYTES>(&Keys::new(key, nonce, "-"), length)
+        }
+        ["xor", _, key, nonce, message] => {
+            xor::<V, TAG_BYTES>(&Keys::new(key, nonce, "-"), message)
+        }
+        ["mac", _, _, key, nonce, input] => mac::<V, TAG_BYTES>(&Keys::new(key, nonce, "-"), input),
+        _ => panic!("no call gives the answer to {fields:?}"),
+    }
+}
+
+/// The answers of a variant, with tags of 16 and of 32 bytes.
+fn answers<V: Variant>(long_tag: bool) -> fn(&[&str]) -> String {
+    if long_tag {
+        answer::<V, 32>
+    } else {
+        answer::<V, 16>
+    }
+}
+
+/// The answer to a line. The tag length of a keystream makes no difference, so both are tried.
+fn line_answer(line: &str) -> String {
+    let fields: Vec<&str> = line.split(' ').collect();
+    let of_variant = match fields[1] {
+        "aegis128l" => answers::<aegis128l::Marker>,
+        "aegis128x2" => answers::<aegis128x2::Marker>,
+        "aegis128x4" => answers::<aegis128x4::Marker>,
+        "aegis256" => answers::<aegis256::Marker>,
+        "aegis256x2" => answers::<aegis256x2::Marker>,
+        "aegis256x4" => answers::<aegis256x4::Marker>,
+        name => panic!("{name} is no variant"),
+    };
+    if matches!(fields[0], "stream" | "xor") {
+        let answer = of_variant(false)(&fields);
+        assert_eq!(of_variant(true)(&fields), answer);
+        return answer;
+    }
+    of_variant(fields[2] == "32")(&fields)
+}
+
+/// Checks that the lines of a file have their answers, and that there are so many of them.
+fn check(name: &str, count: usize) {
+    let folder = Path::new(env!("CARGO_MANIFEST_DIR")).join("../vectors");
+    let read = |ending: &str| {
+        let path = folder.join(format!("{name}.{ending}"));
+        fs::read_to_string(&path).unwrap_or_else(|error| panic!("{}: {error}", path.display()))
+    };
+    let (lines, answers) = (read("in"), read("out"));
+    assert_eq!(
+        (lines.lines().count(), answers.lines().count()),
+        (count, count)
+    );
+    for (line, expected) in lines.lines().zip(answers.lines()) {
+        assert_eq!(line_answer(line), expected, "{line}");
+    }
+}
+
+#[test]
+fn published() {
+    check("published", 30);
+}
+
+#[test]
+fn wycheproof() {
+    check("wycheproof", 1678);
+}
+
+#[test]
+fn sealed() {
+    check("seal", 74);
+    check("seal-in-pieces", 106);
+}
+
+#[test]
+fn opened() {
+    check("open", 63);
+    check("open-in-pieces", 117);
+}
+
+#[test]
+fn streams() {
+    check("stream", 180);
+    check("xor", 180);
+}
+
+#[test]
+fn macs() {
+    check("mac", 180);
+}
