@@ -298,7 +298,8 @@ static inline int aegis128l_state_encrypt_final(
 static inline int aegis128l_state_encrypt_detached_final(
     aegis128l_state *st_, uint8_t *c, size_t clen_max, size_t *written, uint8_t *mac, size_t maclen)
 {
-    int result = hunkravy_compat_result(hunkravy_aegis128l_state_encrypt_final(&st_->now, mac, maclen));
+    int result = hunkravy_compat_result(
+        hunkravy_aegis128l_state_encrypt_final(&st_->now, mac, maclen));
     (void)c;
     (void)clen_max;
     return hunkravy_compat_wrote(written, result, 0);
@@ -580,7 +581,8 @@ static inline int aegis128x2_state_encrypt_final(
 static inline int aegis128x2_state_encrypt_detached_final(
     aegis128x2_state *st_, uint8_t *c, size_t clen_max, size_t *written, uint8_t *mac, size_t maclen)
 {
-    int result = hunkravy_compat_result(hunkravy_aegis128x2_state_encrypt_final(&st_->now, mac, maclen));
+    int result = hunkravy_compat_result(
+        hunkravy_aegis128x2_state_encrypt_final(&st_->now, mac, maclen));
     (void)c;
     (void)clen_max;
     return hunkravy_compat_wrote(written, result, 0);
@@ -862,7 +864,8 @@ static inline int aegis128x4_state_encrypt_final(
 static inline int aegis128x4_state_encrypt_detached_final(
     aegis128x4_state *st_, uint8_t *c, size_t clen_max, size_t *written, uint8_t *mac, size_t maclen)
 {
-    int result = hunkravy_compat_result(hunkravy_aegis128x4_state_encrypt_final(&st_->now, mac, maclen));
+    int result = hunkravy_compat_result(
+        hunkravy_aegis128x4_state_encrypt_final(&st_->now, mac, maclen));
     (void)c;
     (void)clen_max;
     return hunkravy_compat_wrote(written, result, 0);
@@ -1144,7 +1147,8 @@ static inline int aegis256_state_encrypt_final(
 static inline int aegis256_state_encrypt_detached_final(
     aegis256_state *st_, uint8_t *c, size_t clen_max, size_t *written, uint8_t *mac, size_t maclen)
 {
-    int result = hunkravy_compat_result(hunkravy_aegis256_state_encrypt_final(&st_->now, mac, maclen));
+    int result = hunkravy_compat_result(
+        hunkravy_aegis256_state_encrypt_final(&st_->now, mac, maclen));
     (void)c;
     (void)clen_max;
     return hunkravy_compat_wrote(written, result, 0);
@@ -1426,7 +1430,8 @@ static inline int aegis256x2_state_encrypt_final(
 static inline int aegis256x2_state_encrypt_detached_final(
     aegis256x2_state *st_, uint8_t *c, size_t clen_max, size_t *written, uint8_t *mac, size_t maclen)
 {
-    int result = hunkravy_compat_result(hunkravy_aegis256x2_state_encrypt_final(&st_->now, mac, maclen));
+    int result = hunkravy_compat_result(
+        hunkravy_aegis256x2_state_encrypt_final(&st_->now, mac, maclen));
     (void)c;
     (void)clen_max;
     return hunkravy_compat_wrote(written, result, 0);
@@ -1708,7 +1713,8 @@ static inline int aegis256x4_state_encrypt_final(
 static inline int aegis256x4_state_encrypt_detached_final(
     aegis256x4_state *st_, uint8_t *c, size_t clen_max, size_t *written, uint8_t *mac, size_t maclen)
 {
-    int result = hunkravy_compat_result(hunkravy_aegis256x4_state_encrypt_final(&st_->now, mac, maclen));
+    int result = hunkravy_compat_result(
+        hunkravy_aegis256x4_state_encrypt_final(&st_->now, mac, maclen));
     (void)c;
     (void)clen_max;
     return hunkravy_compat_wrote(written, result, 0);

@@ -172,12 +172,14 @@ static inline int crypto_aead_aegis128l_encrypt(
     const unsigned char *ad, unsigned long long adlen, const unsigned char *nsec,
     const unsigned char *npub, const unsigned char *k)
 {
-    int result = crypto_aead_aegis128l_encrypt_detached(c, c + mlen, NULL, m, mlen, ad, adlen, nsec,
-                                                     npub, k);
+    if (mlen > crypto_aead_aegis128l_MESSAGEBYTES_MAX) {
+        abort();
+    }
     if (clen_p != NULL) {
         *clen_p = mlen + crypto_aead_aegis128l_ABYTES;
     }
-    return result;
+    return crypto_aead_aegis128l_encrypt_detached(c, c + mlen, NULL, m, mlen, ad, adlen, nsec, npub,
+                                               k);
 }
 
 /*
@@ -192,7 +194,8 @@ HUNKRAVY_MUST_USE static inline int crypto_aead_aegis128l_decrypt(
 {
     unsigned long long mlen = 0;
     int result = -1;
-    if (clen >= crypto_aead_aegis128l_ABYTES) {
+    if (clen >= crypto_aead_aegis128l_ABYTES &&
+        clen - crypto_aead_aegis128l_ABYTES <= crypto_aead_aegis128l_MESSAGEBYTES_MAX) {
         mlen = clen - crypto_aead_aegis128l_ABYTES;
         result = crypto_aead_aegis128l_decrypt_detached(m, nsec, c, mlen, c + mlen, ad, adlen, npub,
                                                      k);
@@ -303,12 +306,14 @@ static inline int crypto_aead_aegis256_encrypt(
     const unsigned char *ad, unsigned long long adlen, const unsigned char *nsec,
     const unsigned char *npub, const unsigned char *k)
 {
-    int result = crypto_aead_aegis256_encrypt_detached(c, c + mlen, NULL, m, mlen, ad, adlen, nsec,
-                                                     npub, k);
+    if (mlen > crypto_aead_aegis256_MESSAGEBYTES_MAX) {
+        abort();
+    }
     if (clen_p != NULL) {
         *clen_p = mlen + crypto_aead_aegis256_ABYTES;
     }
-    return result;
+    return crypto_aead_aegis256_encrypt_detached(c, c + mlen, NULL, m, mlen, ad, adlen, nsec, npub,
+                                               k);
 }
 
 /*
@@ -323,7 +328,8 @@ HUNKRAVY_MUST_USE static inline int crypto_aead_aegis256_decrypt(
 {
     unsigned long long mlen = 0;
     int result = -1;
-    if (clen >= crypto_aead_aegis256_ABYTES) {
+    if (clen >= crypto_aead_aegis256_ABYTES &&
+        clen - crypto_aead_aegis256_ABYTES <= crypto_aead_aegis256_MESSAGEBYTES_MAX) {
         mlen = clen - crypto_aead_aegis256_ABYTES;
         result = crypto_aead_aegis256_decrypt_detached(m, nsec, c, mlen, c + mlen, ad, adlen, npub,
                                                      k);

@@ -230,6 +230,8 @@ static void check_nothing(const struct variant *calls)
     uint8_t k[32] = {0}, tag[16], mac[16], c[16];
     size_t right = calls->key_bytes;
 
+    /* An export never gets a null pointer. */
+    HOLDS(hunkravy_readable(NULL, 0) != NULL && hunkravy_writable(NULL, 0) != NULL);
     HOLDS(calls->encrypt_in_place(NULL, 0, NULL, 0, k, right, k, right, tag, 16) == HUNKRAVY_OK);
     HOLDS(calls->decrypt_in_place(NULL, 0, NULL, 0, k, right, k, right, tag, 16) == HUNKRAVY_OK);
     HOLDS(calls->encrypt(NULL, NULL, 0, NULL, 0, k, right, k, right, mac, 16) == HUNKRAVY_OK);
