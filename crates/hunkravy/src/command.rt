@@ -68,7 +68,7 @@ fn keygen<'a>(alloc: Global) -> Result<Command<'a>, AllocError> {
 }
 
 // A command that reads one file and writes another under a key.
-fn transfer<'a>(
+fn transfer_command<'a>(
     alloc: Global,
     name: &'a str,
     about: &'a str,
@@ -100,13 +100,13 @@ fn info<'a>(alloc: Global) -> Result<Command<'a>, AllocError> {
 
 /// The commands and their arguments.
 pub fn command<'a>(alloc: Global) -> Result<Command<'a>, AllocError> {
-    let seal = transfer(
+    let seal = transfer_command(
         alloc,
         "seal",
         "Seals a file under a key",
         "Example: hunkravy seal -k backup.key backup.tar backup.sealed",
     )?;
-    let open = transfer(
+    let open = transfer_command(
         alloc,
         "open",
         "Opens a sealed file",
@@ -127,7 +127,7 @@ fn name<'a>(matches: &ArgMatches<'a>, id: &str) -> &'a str {
     matches.get_str(id).unwrap_or("-")
 }
 
-fn place<'a>(matches: &ArgMatches<'a>, id: &str) -> Place<'a> {
+fn place_of<'a>(matches: &ArgMatches<'a>, id: &str) -> Place<'a> {
     match name(matches, id) {
         "-" => Place::Standard,
         file => Place::File(file),
@@ -137,8 +137,8 @@ fn place<'a>(matches: &ArgMatches<'a>, id: &str) -> Place<'a> {
 fn transfer_of<'a>(matches: &ArgMatches<'a>) -> Transfer<'a> {
     Transfer {
         key: name(matches, "key"),
-        input: place(matches, "input"),
-        output: place(matches, "output"),
+        input: place_of(matches, "input"),
+        output: place_of(matches, "output"),
         force: matches.get_flag("force"),
     }
 }
@@ -148,16 +148,16 @@ pub fn parse<'a>(matches: &ArgMatches<'a>) -> Option<Action<'a>> {
     let (subcommand, found) = matches.subcommand()?;
     match subcommand {
         "keygen" => Some(Action::Keygen {
-            output: place(found, "output"),
+            output: place_of(found, "output"),
         }),
         "seal" => Some(Action::Seal(transfer_of(found))),
         "open" => Some(Action::Open(transfer_of(found))),
         "check" => Some(Action::Check {
             key: name(found, "key"),
-            input: place(found, "input"),
+            input: place_of(found, "input"),
         }),
         "info" => Some(Action::Info {
-            input: place(found, "input"),
+            input: place_of(found, "input"),
         }),
         _ => None,
     }

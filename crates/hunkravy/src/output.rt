@@ -47,32 +47,42 @@ pub fn look(
     if force { Ok(()) } else { Err(Failure::Exists) }
 }
 
-/// Writes a file by `write` and puts it in its place. After a failure its part is removed.
-pub fn write_whole(
-    rt: &HostRuntime,
-    output: &str,
-    write: impl FnOnce(&mut File) -> Result<(), FileError>,
-) -> Result<(), Failure> {
-    let part = format!(in rt.alloc(); "{output}.part")?;
-    let mut file = match create(rt, part.as_str()) {
-        Ok(file) => file,
-        Err(error) => {
-            return Err(match error.kind() {
+/// A file OUT.part that is being written.
+#[derive(Drop)]
+pub struct Part<'a> {
+    pub file: File,
+    name: String,
+    output: &'a str,
+}
+
+impl<'a> Part<'a> {
+    /// Makes OUT.part, which must not be there yet.
+    pub fn new(rt: &HostRuntime, output: &'a str) -> Result<Self, Failure> {
+        let name = format!(in rt.alloc(); "{output}.part")?;
+        match create(rt, name.as_str()) {
+            Ok(file) => Ok(Part { file, name, output }),
+            Err(error) => Err(match error.kind() {
                 ErrorKind::AlreadyExists => Failure::Part,
                 _ => Failure::Output(error),
-            });
+            }),
         }
-    };
-    let written = match write(&mut file) {
-        Ok(()) => file.sync_all().map_err(Failure::Output),
-        Err(error) => Err(Failure::File(error)),
-    };
-    let placed = match written {
-        Ok(()) => fs::rename(rt, part.as_str(), output).map_err(Failure::Output),
-        Err(failure) => Err(failure),
-    };
-    if placed.is_err() {
-        let _ = fs::remove_file(rt, part.as_str());
     }
-    placed
+
+    // Syncs the file, and puts it in its place.
+    fn place(&self, rt: &HostRuntime) -> io::Result<()> {
+        self.file.sync_all()?;
+        fs::rename(rt, self.name.as_str(), self.output)
+    }
+
+    /// Puts the file in its place if it was written, or else removes it.
+    pub fn end(self, rt: &HostRuntime, written: Result<(), FileError>) -> Result<(), Failure> {
+        let placed = match written {
+            Ok(()) => self.place(rt).map_err(Failure::Output),
+            Err(error) => Err(Failure::File(error)),
+        };
+        if placed.is_err() {
+            let _ = fs::remove_file(rt, self.name.as_str());
+        }
+        placed
+    }
 }

@@ -2,6 +2,7 @@
 
 use crate::command::{Place, Transfer};
 use crate::failure::Failure;
+use crate::output::Part;
 use crate::progress::Counted;
 use crate::{key, output};
 use aegis::aegis256::Key;
@@ -54,9 +55,11 @@ fn write_to<R: Read>(
 ) -> Result<(), Failure> {
     match place {
         Place::Standard => Ok(carry(rt.alloc(), direction, key, input, &mut rt.stdout())?),
-        Place::File(name) => output::write_whole(rt, name, |file| {
-            carry(rt.alloc(), direction, key, input, file)
-        }),
+        Place::File(name) => {
+            let mut part = Part::new(rt, name)?;
+            let written = carry(rt.alloc(), direction, key, input, &mut part.file);
+            part.end(rt, written)
+        }
     }
 }
 
