@@ -9,6 +9,7 @@ pub mod opening;
 pub mod record_protocol;
 pub mod record_steps;
 pub mod records;
+pub mod sealed_file;
 pub mod session_token;
 pub mod stored_value;
 

@@ -1,0 +1,47 @@
+//! Sealed files in memory.
+
+ghost use Rattle.std.specs.Prelude.{◌≡◌, ◌≤◌, IfErr, IfOk, List, length, ℕ};
+ghost use Rattle.aegis_files.specs.SealedFile.{IfRefused, IsFileOf, IsSealedFile};
+
+use aegis::aegis256::Key;
+use aegis::record::{MAX_CONTEXT_BYTES, RecordError};
+use aegis_files::{FileError, open_stream, seal_stream};
+use std::alloc::Allocator;
+
+/// Seals a text: the bytes are its file.
+pub fn seal_text<A: Allocator + Copy>(
+    alloc: A,
+    key: &Key,
+    prefix: &[u8; 24],
+    context: &[u8],
+    text: &[u8],
+) -> Result<Vec<u8, A>, FileError>
+    requires { length context.now ≤ MAX_CONTEXT_BYTES }
+    ensures { IfOk result
+        (λ file. IsFileOf key.now prefix.now context.now text.now file.items) }
+{
+    let mut file = Vec::new(alloc);
+    let mut input = text;
+    seal_stream(alloc, key, prefix, context, &mut input, &mut file)?;
+    Ok(file)
+}
+
+/// Opens a file: the text is the one that it is the file of. An intact file is refused only if memory runs out.
+pub fn open_text<A: Allocator + Copy>(
+    alloc: A,
+    key: &Key,
+    context: &[u8],
+    file: &[u8],
+) -> Result<Vec<u8, A>, FileError>
+    requires { length context.now ≤ MAX_CONTEXT_BYTES }
+    ensures opened { IfOk result
+        (λ text. IsSealedFile key.now context.now text.items file.now) }
+    ensures accepted { IfErr result (λ e. (text : List ℕ)
+        → IsSealedFile key.now context.now text file.now
+        → IfRefused e (λ why. why ≡ RecordError.OutOfMemory)) }
+{
+    let mut text = Vec::new(alloc);
+    let mut input = file;
+    open_stream(alloc, key, context, &mut input, &mut text)?;
+    Ok(text)
+}
