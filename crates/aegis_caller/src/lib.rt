@@ -6,9 +6,11 @@ pub mod chunks;
 pub mod encrypted_file;
 pub mod headline;
 pub mod opening;
+pub mod record_log;
 pub mod record_protocol;
 pub mod record_steps;
 pub mod records;
+pub mod replaced_value;
 pub mod session_token;
 pub mod stored_value;
 
