@@ -2,6 +2,7 @@ pub mod Frames
 pub mod Fronts
 pub mod Lengths
 mod Pieces
+pub mod Places
 pub mod Reading
 pub mod Sealed
 pub mod Limits

@@ -1,12 +1,13 @@
 -- What the code's values stand for.
 use denote.Ref.{Bor}
-use Rattle.std.specs.Prelude.{◌≡◌, ℕ, ◌≤◌, ◌⊎◌, List, ◌++◌, length, map, Result, Ok, Err}
+use Rattle.std.specs.Prelude.{◌≡◌, ℕ, Bool, ◌≤◌, ◌⊎◌, List, ◌++◌, length, map, Result, Ok, Err}
 use Rattle.std.specs.declared.vec.Vec.{Vec}
 use Rattle.aegis.specs.declared.record.error.RecordError.{RecordError}
 use Rattle.aegis.specs.declared.record.error.RecordError.TheVariants as errors
 use Rattle.aegis.specs.declared.record.frame.Frame.{Frame}
 use Rattle.aegis.specs.declared.record.record_cipher.RecordPlace.{RecordPlace}
 use Rattle.aegis.specs.declared.record.record_cipher.RecordCipher.{RecordCipher}
+use Rattle.aegis.specs.declared.record.record_opener.Opened.{Opened}
 use Rattle.aegis.specs.declared.record.version.Version.{Version}
 use Rattle.aegis.specs.declared.record.version.Version.TheVariants.{Second}
 use Rattle.aegis.specs.Fault.{Parts}
@@ -31,6 +32,11 @@ MigratesTo key prefix context ms (Err e) = e ≡ errors.OutOfMemory
 abbrev pub IsRefused : {A : Type 0} → RecordError → Result (Vec (Vec ℕ A) A) RecordError → Type 0
 IsRefused fault (Ok opened) = ⊥
 IsRefused fault (Err e) = (e ≡ fault) ⊎ (e ≡ errors.OutOfMemory)
+
+-- what an opener returns is this message, whether it is the last, and the bytes after it, unless memory ran out
+abbrev pub OpensRecordTo : {A : Type 0} → Bool → List ℕ → List ℕ → Result (Opened A) RecordError → Type 0
+OpensRecordTo is_last m rest (Ok opened) = (opened.is_last ≡ is_last) × (opened.message.items ≡ m) × (opened.rest.now ≡ rest)
+OpensRecordTo is_last m rest (Err e) = e ≡ errors.OutOfMemory
 
 -- what a reader of one record answers is its parts, or their fault
 abbrev pub AreParts : Result Frame RecordError → Result Parts RecordError → Type 0

@@ -1,6 +1,9 @@
 -- A stream that is sealed or opened a record at a time.
-use Rattle.std.specs.Prelude.{◌≡◌, ℕ, ◌+◌, ◌*◌, Bool, false, List, length}
+use Rattle.std.specs.Prelude.{◌≡◌, ℕ, ◌+◌, ◌*◌, Bool, false, List, length, if◌then◌else◌}
+use Rattle.aegis.specs.declared.record.error.RecordError.{RecordError}
+use Rattle.aegis.specs.declared.record.position.RecordPosition.{RecordPosition}
 use Rattle.aegis.specs.declared.record.version.Version.{Version}
+use Rattle.aegis.specs.Fault.{HasFault, parts}
 use Rattle.aegis.specs.Records.{AreRecords, sealed}
 use Rattle.aegis.specs.RecordStream.{AreWithin, frame, front, total}
 
@@ -41,3 +44,45 @@ Begun p key prefix context ms bytes = BegunStream p key prefix context ms bytes
 -- the bytes are the stream of the messages, in some version
 abbrev pub AreRecordsOfSomeVersion : List ℕ → List ℕ → List ℕ → List (List ℕ) → List ℕ → Type 0
 AreRecordsOfSomeVersion key prefix context ms bytes = (v : Version) × AreRecords v key prefix context ms bytes
+
+-- ---- a record's place
+
+-- the place of the next record
+abbrev pub position_of : Progress → RecordPosition
+position_of p = record { version = p.version; number = p.number; before = p.before }
+
+-- the place of a stream's first record
+abbrev pub first_position : Version → RecordPosition
+first_position v = record { version = v; number = 0; before = 0 }
+
+-- the progress of which the next record stands at this place
+abbrev pub progress_at : List ℕ → List ℕ → List ℕ → RecordPosition → Progress
+progress_at key prefix context position = record {
+  key = key;
+  prefix = prefix;
+  context = context;
+  version = position.version;
+  number = position.number;
+  before = position.before;
+  ended = false;
+}
+
+-- the progress after the next record, if it has this message
+abbrev pub after : Progress → Bool → List ℕ → Progress
+after p is_last m = record {
+  key = p.key;
+  prefix = p.prefix;
+  context = p.context;
+  version = p.version;
+  number = p.number + 1;
+  before = p.before + length m;
+  ended = is_last;
+}
+
+-- a record's flag: 1 for the last one
+abbrev pub last_flag : Bool → ℕ
+last_flag is_last = if is_last then 1 else 0
+
+-- what is wrong with bytes of which the next record is no front, by their parts
+abbrev pub IsRecordFault : Progress → List ℕ → RecordError → Type 0
+IsRecordFault p bytes e = HasFault (sealed p.key p.prefix p.context) p.version p.number p.before (parts p.version bytes) e

@@ -1,17 +1,20 @@
 //! Opening a stream a record at a time.
 
-ghost use Rattle.std.specs.Prelude.{◌≡◌, ◌≢◌, ◌+◌, ◌-◌, ◌<◌, ◌≤◌, ◌⊎◌, ◌++◌, ◌∷◌, [], Err, IfErr, IfOk, IsTrue, List, OnErr, false, length, true, ℕ};
+ghost use Rattle.std.specs.Prelude.{◌≡◌, ◌≢◌, ◌+◌, ◌-◌, ◌*◌, ◌<◌, ◌≤◌, ◌⊎◌, ◌++◌, ◌∷◌, [], Err, IfErr, IfOk, IsTrue, List, OnErr, false, length, true, ℕ};
 ghost use Rattle.std.specs.Bool.{OnFalse, OnTrue};
 ghost use Rattle.aegis_base.specs.declared.error.TheConstants.{MAX_AEAD_BYTES};
+ghost use Rattle.aegis.specs.Calls.{OpensRecordTo};
 ghost use Rattle.aegis.specs.Fault.{parts};
-ghost use Rattle.aegis.specs.Progress.{AreRecordsOfSomeVersion, Begun, record_of, taken};
+ghost use Rattle.aegis.specs.Progress.{AreRecordsOfSomeVersion, Begun, IsRecordFault, after, last_flag, position_of, progress_at, record_of, taken};
 ghost use Rattle.aegis.specs.Records.{IsFault};
+ghost use Rattle.aegis.specs.RecordStream.{limit};
 
 use crate::aegis256::Key;
 use crate::record::error::RecordError;
 use crate::record::frame::TAG_BYTES;
 use crate::record::length::{HEADER_BYTES, RECORD_BYTES};
 use crate::record::open::{open_record, version_of};
+use crate::record::position::RecordPosition;
 use crate::record::record_cipher::{MAX_CONTEXT_BYTES, RecordCipher, RecordPlace};
 use crate::record::version::{MAX_MESSAGE_BYTES, Version};
 use aegis_base::MAX_AEAD_BYTES;
@@ -111,6 +114,54 @@ impl<'a, A: Allocator + Copy> RecordOpener<'a, A> {
         })
     }
 
+    /// Begins to open a stream at one of its records.
+    ///
+    /// What is opened from here on are the records that stand at these places of a stream under this key, prefix and context.
+    /// Nothing is known of the records before them, nor that the stream ends well unless its last record is opened. A position
+    /// is not secret, and a wrong one opens nothing: [`RecordError::Damaged`].
+    ///
+    /// The context has at most [`MAX_CONTEXT_BYTES`], and the record starts within [`MAX_AEAD_BYTES`].
+    /// [`RecordError::OutOfMemory`] is the only error.
+    pub fn begin_at(
+        alloc: A,
+        key: &'a Key,
+        prefix: &'a [u8; 24],
+        context: &'a [u8],
+        position: RecordPosition,
+    ) -> Result<Self, RecordError>
+        requires context_within { length context.now ≤ MAX_CONTEXT_BYTES }
+        requires position_within { 4 + 37 * position.number + position.before ≤ MAX_AEAD_BYTES }
+        ensures progress { IfOk result (λ opener. opener
+            ≡ progress_at key.now prefix.now context.now position) }
+        ensures err { IfErr result (λ e. e ≡ RecordError.OutOfMemory) }
+    {
+        let ad = Vec::with_capacity(alloc, RecordPlace::DATA_BYTES + context.len())?;
+        Ok(RecordOpener {
+            alloc,
+            cipher: RecordCipher {
+                key,
+                prefix,
+                context,
+            },
+            ad,
+            version: position.version,
+            number: position.number,
+            before: position.before,
+            ended: false,
+        })
+    }
+
+    /// Returns where the next record stands, for [`RecordOpener::begin_at`] and [`RecordOpener::open_at`].
+    pub fn position(&self) -> RecordPosition
+        ensures { result ≡ position_of self.now }
+    {
+        RecordPosition {
+            version: self.version,
+            number: self.number,
+            before: self.before,
+        }
+    }
+
     /// Returns how many more bytes of the stream may be opened.
     pub fn remaining(&self) -> u64
         ensures { result ≡ MAX_AEAD_BYTES - taken self.now }
@@ -165,6 +216,18 @@ impl<'a, A: Allocator + Copy> RecordOpener<'a, A> {
             → Begun self.old key prefix context ms before
             → AreRecordsOfSomeVersion key prefix context (ms ++ opened.message.items ∷ [])
             (before ++ record_of self.old 1 opened.message.items))) }
+        ensures progress { IfOk result (λ opened. self.new
+            ≡ after self.old opened.is_last opened.message.items) }
+        ensures accepted { self.old.ended ≡ false → (m rest : List ℕ)
+            → length m ≤ limit self.old.version
+            → bytes.now ≡ record_of self.old 0 m ++ rest
+            → OpensRecordTo false m rest result }
+        ensures accepted_last { self.old.ended ≡ false → (m rest : List ℕ)
+            → length m ≤ limit self.old.version
+            → bytes.now ≡ record_of self.old 1 m ++ rest
+            → OpensRecordTo true m rest result }
+        ensures fault { IfErr result (λ e. self.old.ended ≡ false
+            → (e ≡ RecordError.OutOfMemory) ⊎ IsRecordFault self.old bytes.now e) }
         ensures within { IfOk result (λ opened. length opened.message.items ≤ MAX_MESSAGE_BYTES) }
         ensures taken { IfOk result (λ opened. taken self.new + length opened.rest.now
             ≡ taken self.old + length bytes.now) }
@@ -197,6 +260,51 @@ impl<'a, A: Allocator + Copy> RecordOpener<'a, A> {
         Ok(Opened {
             message,
             is_last: self.ended,
+            rest: frame.rest,
+        })
+    }
+    /// Opens the record that stands at a position, and that `bytes` begin with. The opener goes on where it was.
+    ///
+    /// A message that is returned is the one that was sealed at this position of a stream under this key, prefix and context;
+    /// nothing is known of the other records, nor that the stream ends well. The error is the fault of the record, or
+    /// [`RecordError::OutOfMemory`]: [`RecordError::Damaged`] if no message is sealed to it at this position.
+    pub fn open_at<'b>(
+        &mut self,
+        position: RecordPosition,
+        bytes: &'b [u8],
+    ) -> Result<Opened<'b, A>, RecordError>
+        ensures opened { IfOk result (λ opened. bytes.now
+            ≡ record_of (progress_at self.old.key self.old.prefix self.old.context position)
+            (last_flag opened.is_last) opened.message.items ++ opened.rest.now) }
+        ensures within { IfOk result
+            (λ opened. length opened.message.items ≤ limit position.version) }
+        ensures accepted { (m rest : List ℕ) → length m ≤ limit position.version
+            → bytes.now
+            ≡ record_of (progress_at self.old.key self.old.prefix self.old.context position)
+            0 m ++ rest
+            → OpensRecordTo false m rest result }
+        ensures accepted_last { (m rest : List ℕ) → length m ≤ limit position.version
+            → bytes.now
+            ≡ record_of (progress_at self.old.key self.old.prefix self.old.context position)
+            1 m ++ rest
+            → OpensRecordTo true m rest result }
+        ensures refused { IfErr result (λ e. (e ≡ RecordError.OutOfMemory)
+            ⊎ IsRecordFault (progress_at self.old.key self.old.prefix self.old.context position)
+            bytes.now e) }
+        ensures unchanged { self.new ≡ self.old }
+    {
+        let (frame, message) = open_record(
+            self.alloc,
+            &mut self.ad,
+            &self.cipher,
+            position.version,
+            position.number,
+            position.before,
+            bytes,
+        )?;
+        Ok(Opened {
+            message,
+            is_last: frame.flag == 1,
             rest: frame.rest,
         })
     }

@@ -1,8 +1,8 @@
 //! Sealing a stream a record at a time.
 
-ghost use Rattle.std.specs.Prelude.{◌≡◌, ◌+◌, ◌-◌, ◌≤◌, ◌++◌, ◌∷◌, [], IfErr, IfOk, List, OnErr, OnOk, length, ℕ};
+ghost use Rattle.std.specs.Prelude.{◌≡◌, ◌+◌, ◌-◌, ◌≤◌, ◌++◌, ◌∷◌, [], IfErr, IfOk, List, OnErr, OnOk, false, length, ℕ};
 ghost use Rattle.aegis_base.specs.declared.error.TheConstants.{MAX_AEAD_BYTES};
-ghost use Rattle.aegis.specs.Progress.{Begun, record_of, taken};
+ghost use Rattle.aegis.specs.Progress.{Begun, after, first_position, position_of, progress_at, record_of, taken};
 ghost use Rattle.aegis.specs.Records.{AreRecords};
 ghost use Rattle.aegis.specs.RecordStream.{header};
 ghost use Rattle.aegis.specs.declared.record.version.Version.TheVariants.{Second};
@@ -10,6 +10,7 @@ ghost use Rattle.aegis.specs.declared.record.version.Version.TheVariants.{Second
 use crate::aegis256::Key;
 use crate::record::error::RecordError;
 use crate::record::length::{HEADER_BYTES, RECORD_BYTES};
+use crate::record::position::RecordPosition;
 use crate::record::record_cipher::{MAX_CONTEXT_BYTES, RecordCipher, RecordPlace};
 use crate::record::seal::{WRITTEN, seal_record};
 use crate::record::version::MAX_MESSAGE_BYTES;
@@ -22,6 +23,9 @@ use std::marker::Model;
 /// Each call appends one record to a vector, which the caller may write out and clear before the next call: so a stream of any
 /// length is sealed in the memory of one record. The bytes that all calls append, one after the other, are the stream that
 /// [`seal_records`](crate::record::seal_records) makes of the list of messages.
+///
+/// A stream is appended to only by a sealer that was not dropped: no call begins one at a given number, since a number that is
+/// used twice under one prefix gives both messages away. To change what was sealed, seal a new stream under a new prefix.
 ///
 /// In a contract a sealer stands for a `Progress`: the key, prefix and context, the next record's number, and how many bytes
 /// the messages before it have. `Begun` says of which messages and bytes that is the progress.
@@ -72,6 +76,8 @@ impl<'a, A: Allocator + Copy> RecordSealer<'a, A> {
         ensures appended { OnOk result (out.new.items ≡ out.old.items ++ header Second) }
         ensures begun { IfOk result
             (λ sealer. Begun sealer key.now prefix.now context.now [] (header Second)) }
+        ensures progress { IfOk result (λ sealer. sealer
+            ≡ progress_at key.now prefix.now context.now (first_position Second)) }
         ensures taken { IfOk result (λ sealer. taken sealer ≡ 4) }
         ensures err { IfErr result (λ e. e ≡ RecordError.OutOfMemory) }
         ensures unchanged { OnErr result (out.new.items ≡ out.old.items) }
@@ -97,6 +103,18 @@ impl<'a, A: Allocator + Copy> RecordSealer<'a, A> {
         MAX_AEAD_BYTES - (HEADER_BYTES + RECORD_BYTES * self.number + self.before)
     }
 
+    /// Returns where the next record stands, so that it can be opened without the records before it, by
+    /// [`RecordOpener::open_at`](crate::record::RecordOpener::open_at).
+    pub fn position(&self) -> RecordPosition
+        ensures { result ≡ position_of self.now }
+    {
+        RecordPosition {
+            version: WRITTEN,
+            number: self.number,
+            before: self.before,
+        }
+    }
+
     /// Appends the record of the next message, which is not the last one, to `out`.
     ///
     /// A message has at most [`MAX_MESSAGE_BYTES`], and the whole stream at most [`MAX_AEAD_BYTES`], of which
@@ -113,6 +131,7 @@ impl<'a, A: Allocator + Copy> RecordSealer<'a, A> {
             → Begun self.old key prefix context ms bytes
             → Begun self.new key prefix context
             (ms ++ message.now ∷ []) (bytes ++ record_of self.old 0 message.now)) }
+        ensures progress { OnOk result (self.new ≡ after self.old false message.now) }
         ensures taken { OnOk result (taken self.new ≡ taken self.old + (37 + length message.now)) }
         ensures err { IfErr result (λ e. e ≡ RecordError.OutOfMemory) }
         ensures unchanged { OnErr result (self.new ≡ self.old) }

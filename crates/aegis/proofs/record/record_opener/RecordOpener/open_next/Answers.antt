@@ -1,9 +1,10 @@
-use Rattle.std.proofs.Common.{◌∙◌, ◌+◌, ap, arith, inr, refl}
+use Rattle.std.proofs.Common.{◌∙◌, ℕ, ◌+◌, ap, arith, false, inr, nat_eq, refl, true}
 use Rattle.std.proofs.lemmas.Bool.{true≢false}
 use Rattle.std.proofs.lemmas.Result.{err_from_is_err_and}
 use Rattle.aegis.specs.Calls.{sealing_of}
 use Rattle.aegis.specs.Fault.{parts}
 use Rattle.aegis.specs.Progress.{Progress}
+use Rattle.aegis.proofs.Places.{only_memory, read_one}
 use Rattle.aegis.proofs.Stepwise.{begun_ends, begun_fault_or, begun_next, begun_open, cut_of, last_are, next_are, read_long, read_of, taken_more}
 use Rattle.aegis.proofs.record.record_opener.RecordOpener.open_next.Goals as goal
 
@@ -81,3 +82,53 @@ returns-in_err-frame-clause-cut g c =
     let p = err_from_is_err_and c.from_residual.result c.from_residual.ensures.1 in
     let s = c.self.inside in
     rw (p.1, p.2, ← c.self.view_is) (cut_of (sealing_of s.cipher) s.version s.number s.before (parts s.version c.args.bytes.now) c.in_err-frame.field-0.0 c.in_err-frame.ensures.refused)
+
+pub returns-then-self-clause-accepted : goal.returns-then-self-clause-accepted
+returns-then-self-clause-accepted g c going m rest low e = absurd (true≢false (rw (← c.self.view_is, c.if-self.true) at going))
+
+pub returns-then-self-clause-accepted_last : goal.returns-then-self-clause-accepted_last
+returns-then-self-clause-accepted_last g c going m rest low e = absurd (true≢false (rw (← c.self.view_is, c.if-self.true) at going))
+
+pub returns-then-self-clause-fault : goal.returns-then-self-clause-fault
+returns-then-self-clause-fault g c going = absurd (true≢false (rw (← c.self.view_is, c.if-self.true) at going))
+
+pub returns-in_err-frame-clause-accepted : goal.returns-in_err-frame-clause-accepted
+returns-in_err-frame-clause-accepted g c =
+    let p = err_from_is_err_and c.from_residual.result c.from_residual.ensures.1 in
+    rw (p.1, p.2, ← c.self.view_is) (λ going. only_memory _ c.args.bytes.now _ c.in_err-frame.ensures.refused false)
+
+pub returns-in_err-frame-clause-accepted_last : goal.returns-in_err-frame-clause-accepted_last
+returns-in_err-frame-clause-accepted_last g c =
+    let p = err_from_is_err_and c.from_residual.result c.from_residual.ensures.1 in
+    rw (p.1, p.2, ← c.self.view_is) (λ going. only_memory _ c.args.bytes.now _ c.in_err-frame.ensures.refused true)
+
+pub returns-in_err-frame-clause-fault : goal.returns-in_err-frame-clause-fault
+returns-in_err-frame-clause-fault g c =
+    let p = err_from_is_err_and c.from_residual.result c.from_residual.ensures.1 in
+    rw (p.1, p.2, ← c.self.view_is) (λ going. c.in_err-frame.ensures.refused)
+
+pub returns-clause-accepted : goal.returns-clause-accepted
+returns-clause-accepted g c =
+    rw (← c.self.view_is) (λ going m rest low e.
+    let one = read_one _ _ _ _ _ (read_of _ _ _ _ _ c.in_ok-frame.ensures.opened) false m rest low e in
+    (one.last, one.message, one.others))
+
+pub returns-clause-accepted_last : goal.returns-clause-accepted_last
+returns-clause-accepted_last g c =
+    rw (← c.self.view_is) (λ going m rest low e.
+    let one = read_one _ _ _ _ _ (read_of _ _ _ _ _ c.in_ok-frame.ensures.opened) true m rest low e in
+    (one.last, one.message, one.others))
+
+pub returns-clause-progress : goal.returns-clause-progress
+returns-clause-progress g c =
+    let s = c.self.inside in
+    let at : ℕ → Progress = λ n. record {
+      key = s.cipher.key.now;
+      prefix = s.cipher.prefix.now;
+      context = s.cipher.context.now;
+      version = s.version;
+      number = s.number + 1;
+      before = s.before + n;
+      ended = nat_eq c.in_ok-frame.frame.flag 1;
+    } in
+    rw (← c.self.view_is) (ap at (c.len.ensures ∙ c.in_ok-frame.message.ok.0))

@@ -1,0 +1,61 @@
+//! A log: records are appended while its sealer lives, and read back at their places.
+
+ghost use Rattle.std.specs.Prelude.{◌≡◌, ◌+◌, ◌*◌, ◌≤◌, ◌⊎◌, ◌++◌, IfErr, IfOk, length};
+ghost use Rattle.aegis.specs.Progress.{IsRecordFault, last_flag, progress_at, record_of};
+
+use aegis::MAX_AEAD_BYTES;
+use aegis::record::{
+    MAX_CONTEXT_BYTES, MAX_MESSAGE_BYTES, Opened, RecordError, RecordOpener, RecordPosition,
+    RecordSealer,
+};
+use std::alloc::Allocator;
+
+/// Appends three records to a log, and reads it from the place of the second on: what is read first is the second message.
+pub fn appended_and_read<A: Allocator + Copy>(
+    alloc: A,
+    key: &[u8; 32],
+    prefix: &[u8; 24],
+    context: &[u8],
+    first: &[u8],
+    second: &[u8],
+    third: &[u8],
+) -> Result<Vec<u8, A>, RecordError>
+    requires context_within { length context.now ≤ MAX_CONTEXT_BYTES }
+    requires first_within { length first.now ≤ MAX_MESSAGE_BYTES }
+    requires second_within { length second.now ≤ MAX_MESSAGE_BYTES }
+    requires third_within { length third.now ≤ MAX_MESSAGE_BYTES }
+    ensures { IfOk result (λ read. read.items ≡ second.now) }
+{
+    let mut log = Vec::new(alloc);
+    let mut sealer = RecordSealer::new(alloc, key, prefix, context, &mut log)?;
+    sealer.seal_next(first, &mut log)?;
+    let position = sealer.position();
+    let mut tail = Vec::new(alloc);
+    sealer.seal_next(second, &mut tail)?;
+    sealer.seal_next(third, &mut tail)?;
+    let mut opener = RecordOpener::begin_at(alloc, key, prefix, context, position)?;
+    let opened = opener.open_at(position, &tail)?;
+    Ok(opened.message)
+}
+
+/// Reads the record at a place of a log of which nothing else is known: the bytes begin with the record of the message that is
+/// returned, or the error is their fault.
+pub fn read_at<'b, A: Allocator + Copy>(
+    alloc: A,
+    key: &[u8; 32],
+    prefix: &[u8; 24],
+    context: &[u8],
+    position: RecordPosition,
+    bytes: &'b [u8],
+) -> Result<Opened<'b, A>, RecordError>
+    requires context_within { length context.now ≤ MAX_CONTEXT_BYTES }
+    requires position_within { 4 + 37 * position.number + position.before ≤ MAX_AEAD_BYTES }
+    ensures read { IfOk result (λ opened. bytes.now
+        ≡ record_of (progress_at key.now prefix.now context.now position)
+        (last_flag opened.is_last) opened.message.items ++ opened.rest.now) }
+    ensures refused { IfErr result (λ e. (e ≡ RecordError.OutOfMemory)
+        ⊎ IsRecordFault (progress_at key.now prefix.now context.now position) bytes.now e) }
+{
+    let mut opener = RecordOpener::begin_at(alloc, key, prefix, context, position)?;
+    opener.open_at(position, bytes)
+}
