@@ -1,4 +1,4 @@
-.PHONY: run test check-pages bench bench-peers c-library check-c check-header check-sodium check-rust check-install install \
+.PHONY: run test check-pages bench bench-peers bench-states c-library check-c check-header check-sodium check-rust check-install install \
 	install-tool check-tool
 .SECONDARY:
 
@@ -183,12 +183,18 @@ $(OUT)/%/driver: $(wildcard bench/*.rs $(STORED_LINES)/*) rust/src/exports.rs $(
 
 # Measures the library beside look-up tables and AES instructions, beside libsodium if it is installed, and the chunked calls
 # and record streams beside the one-shot calls. Writes the tables of BENCH_FOLDER and of bench/.
-bench: $(OUT)/$(BENCH_CPU)/driver bench-peers
+bench: $(OUT)/$(BENCH_CPU)/driver bench-peers bench-states
 	mkdir -p $(BENCH_FOLDER)
 	$< $(BENCH_FOLDER)
 	cd crates/bench_calls && rt run -- bench > ../../$(OUT)/speeds
 	(cat bench/calls.md; grep '^| aegis' $(OUT)/speeds) > bench/CALLS.md
 	(cat bench/records.md; grep '^| 16 MiB' $(OUT)/speeds) > bench/RECORDS.md
+
+bench-states: $(OUT)/$(BENCH_CPU)/libhunkravy.a
+	mkdir -p $(BENCH_FOLDER)
+	$(CC) -std=c11 -O2 $(C_FLAGS) bench/states.c $< -o $(OUT)/$(BENCH_CPU)/states
+	($(OUT)/$(BENCH_CPU)/states > $(OUT)/$(BENCH_CPU)/states.md) && \
+		cat bench/states.md $(OUT)/$(BENCH_CPU)/states.md > $(BENCH_FOLDER)/STATES.md
 
 bench-peers: $(OUT)/$(BENCH_CPU)/libhunkravy.a
 	if pkg-config --exists libsodium; then \

@@ -149,12 +149,19 @@ fn print_streams<R: Runtime, A: Allocator + Copy>(
     message: &mut [u8],
 ) -> io::Result<()> {
     let mut in_records = records::turn(rt, alloc, message)?;
+    let mut by_steps = records::turn_by_steps(rt, alloc, message)?;
     let mut in_place = records::turn_in_place(rt, message)?;
     for _turn in 0..20 {
         in_records = in_records.min(records::turn(rt, alloc, message)?);
+        by_steps = by_steps.min(records::turn_by_steps(rt, alloc, message)?);
         in_place = in_place.min(records::turn_in_place(rt, message)?);
     }
-    for (name, times) in [("in records", in_records), ("in place", in_place)] {
+    let rows = [
+        ("in records", in_records),
+        ("a record at a time", by_steps),
+        ("in place", in_place),
+    ];
+    for (name, times) in rows {
         let seal = times.seal.as_micros();
         let open = times.open.as_micros();
         println!(rt; "| 16 MiB {name} | {seal} | {open} |")?;

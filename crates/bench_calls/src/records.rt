@@ -1,4 +1,4 @@
-//! A message sealed and opened as a stream of records, and in its own place.
+//! A message sealed and opened as a stream of records, at once and a record at a time, and in its own place.
 
 ghost use Rattle.std.specs.Prelude.{IfOk};
 ghost use Rattle.aegis_base.specs.Chunks.{texts};
@@ -7,7 +7,7 @@ ghost use Rattle.aegis.specs.declared.record.version.Version.TheVariants.{Second
 
 use crate::{STREAM_BYTES, Times};
 use aegis::aegis256::Aegis256;
-use aegis::record::{open_records, records_len, seal_records};
+use aegis::record::{RecordOpener, RecordSealer, open_records, records_len, seal_records};
 use std::alloc::{AllocError, Allocator};
 use std::io;
 use std::rt::Runtime;
@@ -75,6 +75,70 @@ pub fn turn<R: Runtime, A: Allocator + Copy>(
     let open = start.elapsed(rt)?;
     match opened {
         Ok(messages) if are_same(&messages, &records) => Ok(Times {
+            seal,
+            open,
+            xor: Duration::ZERO,
+        }),
+        _ => Err(io::Error::from(io::ErrorKind::InvalidData)),
+    }
+}
+
+// How many bytes a record has beside its message's.
+const FRAME_BYTES: u64 = 37;
+
+// Seals a message a record at a time, in a vector that holds one of them; none if memory runs out.
+fn seal_by_steps<A: Allocator + Copy>(alloc: A, message: &[u8]) -> Option<()> {
+    let mut record = Vec::with_capacity(alloc, RECORD_BYTES + FRAME_BYTES as usize).ok()?;
+    let mut sealer = RecordSealer::new(alloc, &KEY, &PREFIX, &[], &mut record).ok()?;
+    for piece in message.chunks(RECORD_BYTES) {
+        if piece.len() > RECORD_BYTES || sealer.remaining() < FRAME_BYTES + piece.len() as u64 {
+            return None;
+        }
+        record.clear();
+        sealer.seal_next(piece, &mut record).ok()?;
+    }
+    record.clear();
+    sealer.seal_last(&[], &mut record).ok()
+}
+
+// Opens a stream a record at a time, and counts the bytes of its messages; none if it is refused.
+fn open_by_steps<A: Allocator + Copy>(alloc: A, stream: &[u8]) -> Option<usize> {
+    if stream.len() < 4 {
+        return None;
+    }
+    let (header, mut rest) = stream.split_at(4);
+    let mut opener = RecordOpener::new(alloc, &KEY, &PREFIX, &[], header).ok()?;
+    let mut bytes: usize = 0;
+    for _ in 0..stream.len() {
+        if opener.remaining() < rest.len() as u64 {
+            return None;
+        }
+        let opened = opener.open_next(rest).ok()?;
+        bytes = bytes.saturating_add(opened.message.len());
+        rest = opened.rest;
+        if opened.is_last {
+            return Some(bytes);
+        }
+    }
+    None
+}
+
+/// A message sealed a record at a time, and the stream of its records opened so.
+pub fn turn_by_steps<R: Runtime, A: Allocator + Copy>(
+    rt: &R,
+    alloc: A,
+    message: &[u8],
+) -> io::Result<Times> {
+    let records = records_of(alloc, message)?;
+    let stream = seal(alloc, &records).ok_or(io::Error::from(io::ErrorKind::InvalidData))?;
+    let start = Instant::now(rt)?;
+    let sealed = seal_by_steps(alloc, message);
+    let seal = start.elapsed(rt)?;
+    let start = Instant::now(rt)?;
+    let opened = open_by_steps(alloc, &stream);
+    let open = start.elapsed(rt)?;
+    match (sealed, opened) {
+        (Some(()), Some(bytes)) if bytes == message.len() => Ok(Times {
             seal,
             open,
             xor: Duration::ZERO,
