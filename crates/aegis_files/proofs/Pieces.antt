@@ -1,7 +1,7 @@
 -- Pieces that are put together.
 use Rattle.std.proofs.Common.{◌≡◌, ℕ, ◌-◌, List, [], ◌∷◌, ◌++◌, OnErr, Result, Ok, Err, drop, length, take, refl, sym, ap, ◌∙◌, append_assoc, arith}
 use Rattle.std.proofs.lemmas.List.{append-nil, length-drop, take-append-drop, take_all}
-use Rattle.std.specs.List.{concat}
+use Rattle.std.specs.List.{AllByRecursion, concat}
 
 pub concat-push : (ms : List (List ℕ)) (m : List ℕ) → concat (ms ++ m ∷ []) ≡ concat ms ++ m
 concat-push [] m = append-nil m
@@ -26,3 +26,8 @@ slice-end bytes start = let len = length-drop start bytes in take_all (length by
 pub on_err : {T E P : Type 0} (r : Result T E) → P → OnErr r P
 on_err (Ok x) p = tt
 on_err (Err e) p = p
+
+-- a property of each, and of one more
+pub all_push : (P : List ℕ → Type 0) (ms : List (List ℕ)) (m : List ℕ) → AllByRecursion P ms → P m → AllByRecursion P (ms ++ m ∷ [])
+all_push P [] m all p = (p, tt)
+all_push P (n ∷ ms) m all p = (all.0, all_push P ms m all.1 p)

@@ -1,16 +1,16 @@
 -- What is known between two pieces that are sealed.
-use Rattle.std.proofs.Common.{◌≡◌, ℕ, List, [], ◌∷◌, ◌++◌, Option, None, Some, IfSome, drop, length, take, le_refl, refl, sym, ap, subst, ◌∙◌, append_assoc}
+use Rattle.std.proofs.Common.{◌≡◌, ℕ, List, [], ◌∷◌, ◌++◌, Option, None, Some, IfSome, drop, length, take, le_refl, refl, sym, ap, subst, ◌∙◌, append_assoc, arith}
 use Rattle.std.proofs.KnownBytes.{Appends-kept, Appends-nil, Appends-trans, Consumes-all, Consumes-nil, Consumes-trans}
 use Rattle.std.proofs.lemmas.List.{append-nil, take-append-drop, take_all}
 use Rattle.std.specs.Io.KnownBytes.{Appends, Consumes, IsAtEnd, Keeps}
-use Rattle.std.specs.List.{concat}
+use Rattle.std.specs.List.{AllByRecursion, concat}
 use Rattle.aegis.specs.Progress.{AreRecordsOfSomeVersion, Begun, Progress}
 use Rattle.aegis.specs.declared.record.version.Version.{Version}
 use Rattle.aegis.specs.declared.record.version.Version.TheVariants.{Second}
 use Rattle.aegis.specs.Records.{sealed}
 use Rattle.aegis.specs.RecordStream.{front}
-use Rattle.aegis_files.specs.SealedFile.{IsFileOf, WritesFileFront}
-use Rattle.aegis_files.proofs.Pieces.{concat-push}
+use Rattle.aegis_files.specs.SealedFile.{IsFileOf, IsPiece, WritesFileFront}
+use Rattle.aegis_files.proofs.Pieces.{all_push, concat-push}
 
 -- Of the text the messages were read, and of their stream the bytes `sent` were written behind the prefix; `pending` is to
 -- be written yet.
@@ -20,6 +20,7 @@ pub record SealsSome (p : Progress) (key prefix context : List ℕ) (text left o
   pub begun : Begun p key prefix context messages (sent ++ pending)
   pub read : Consumes text left (concat messages)
   pub written : Appends old new (prefix ++ sent)
+  pub within : AllByRecursion IsPiece messages
 
 pub seals_begin : (p : Progress) (key prefix context : List ℕ) (text old new : Option (List ℕ)) (pending first : List ℕ) → Begun p key prefix context [] first
     → pending ≡ first → Appends old new prefix → SealsSome p key prefix context text text old new pending
@@ -29,6 +30,7 @@ seals_begin p key prefix context text old new pending first begun is written = r
   begun = rw is begun;
   read = Consumes-nil text;
   written = rw append-nil written;
+  within = tt;
 }
 
 abbrev pub IsStep : Progress → Progress → List ℕ → List ℕ → Type 0
@@ -45,8 +47,8 @@ joined sent pending bytes out is = append_assoc sent pending bytes ∙ ap (λ (l
 
 pub seals_more : (p q : Progress) (key prefix context : List ℕ) (text left left' old new new' : Option (List ℕ)) (pending m bytes out none : List ℕ)
     → SealsSome p key prefix context text left old new pending → Consumes left left' m → IsStep p q m bytes → out ≡ pending ++ bytes
-    → Appends new new' out → none ≡ [] → SealsSome q key prefix context text left' old new' none
-seals_more p q key prefix context text left left' old new new' pending m bytes out none s read step is written empty = record {
+    → Appends new new' out → none ≡ [] → IsPiece m → SealsSome q key prefix context text left' old new' none
+seals_more p q key prefix context text left left' old new new' pending m bytes out none s read step is written empty piece = record {
   messages = s.messages ++ m ∷ [];
   sent = s.sent ++ out;
   begun = subst (Begun q key prefix context (s.messages ++ m ∷ []))
@@ -54,19 +56,18 @@ seals_more p q key prefix context text left left' old new new' pending m bytes o
       (step key prefix context s.messages (s.sent ++ pending) s.begun);
   read = subst (Consumes text left') (sym (concat-push s.messages m)) (Consumes-trans text left left' (concat s.messages) m s.read read);
   written = subst (Appends old new') (append_assoc prefix s.sent out) (Appends-trans old new new' (prefix ++ s.sent) out s.written written);
+  within = all_push IsPiece s.messages m s.within piece;
 }
 
 pub seals_end : (p : Progress) (key prefix context : List ℕ) (text left left' old new new' new'' : Option (List ℕ)) (pending bytes out : List ℕ)
     → SealsSome p key prefix context text left old new pending → Consumes left left' [] → IsAtEnd left' → IsLast p [] bytes → out ≡ pending ++ bytes
     → Appends new new' out → Keeps new' new''
-    → IfSome text (λ t. (file : List ℕ) × Appends old new'' file × IsFileOf key prefix context t file)
+    → IfSome text (λ t. (file : List ℕ) × (is : IsFileOf key prefix context t file) × Appends old new'' file × AllByRecursion IsPiece is.messages)
 seals_end p key prefix context None left left' old new new' new'' pending bytes out s read end last is written kept = tt
 seals_end p key prefix context (Some t) left left' old new new' new'' pending bytes out s read end last is written kept =
     let whole : concat s.messages ++ [] ≡ [] ++ t =
     Consumes-all (Some t) left' (concat s.messages ++ []) [] (concat s.messages ++ []) (Consumes-trans (Some t) left left' (concat s.messages) [] s.read read) end refl in (
       prefix ++ (s.sent ++ out),
-      Appends-kept old new' new'' (prefix ++ (s.sent ++ out))
-          (subst (Appends old new') (append_assoc prefix s.sent out) (Appends-trans old new new' (prefix ++ s.sent) out s.written written)) kept,
       record {
         messages = s.messages ++ [] ∷ [];
         stream = s.sent ++ out;
@@ -75,6 +76,9 @@ seals_end p key prefix context (Some t) left left' old new new' new'' pending by
         text_is = sym whole ∙ sym (concat-push s.messages []);
         file_is = refl;
       },
+      Appends-kept old new' new'' (prefix ++ (s.sent ++ out))
+          (subst (Appends old new') (append_assoc prefix s.sent out) (Appends-trans old new new' (prefix ++ s.sent) out s.written written)) kept,
+      all_push IsPiece s.messages [] s.within (omega arith),
     )
 
 -- ---- where sealing stops

@@ -1,7 +1,8 @@
 -- A sealed file: a prefix of 24 bytes, and after it the record stream of messages that are the text when put together.
-use Rattle.std.specs.Prelude.{◌≡◌, ℕ, ◌<◌, ◌⊎◌, List, ◌++◌, Option, ⊤, length}
+use Rattle.std.specs.Prelude.{◌≡◌, ℕ, ◌<◌, ◌≤◌, ◌⊎◌, List, ◌++◌, Option, ⊤, length}
 use Rattle.std.specs.Io.KnownBytes.{Appends}
 use Rattle.std.specs.List.{concat}
+use Rattle.aegis_files.specs.declared.seal.TheConstants.{PIECE_BYTES}
 use Rattle.aegis_files.specs.declared.error.FileError.{FileError}
 use Rattle.aegis_files.specs.declared.error.FileError.TheVariants.{Read, Write, Stream, TooLong}
 use Rattle.aegis.specs.declared.record.error.RecordError.{RecordError}
@@ -24,6 +25,10 @@ pub record IsSealedFile (key context text file : List ℕ) : Type 0 where
   pub prefix : List ℕ
   pub long : length prefix ≡ 24
   pub is : IsFileOf key prefix context text file
+
+-- a piece of a text, as sealing cuts it
+abbrev pub IsPiece : List ℕ → Type 0
+IsPiece m = length m ≤ PIECE_BYTES
 
 -- What was written is a front of a prefix, a header and records. Their messages are a front of the text, and the last of them
 -- has the flag `flag`.

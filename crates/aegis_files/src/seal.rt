@@ -2,7 +2,8 @@
 
 ghost use Rattle.std.specs.Prelude.{◌≡◌, ◌≤◌, IfOk, IfSome, List, OnErr, OnOk, length, ℕ};
 ghost use Rattle.std.specs.Io.KnownBytes.{Appends};
-ghost use Rattle.aegis_files.specs.SealedFile.{IsFileOf, WritesFileFront};
+ghost use Rattle.std.specs.List.{AllByRecursion};
+ghost use Rattle.aegis_files.specs.SealedFile.{IsFileOf, IsPiece, WritesFileFront};
 
 use crate::error::FileError;
 use crate::reading::fill;
@@ -40,8 +41,9 @@ pub fn seal_stream<R: Read, W: Write, A: Allocator + Copy>(
 ) -> Result<(), FileError>
     requires { length context.now ≤ MAX_CONTEXT_BYTES }
     ensures sealed { OnOk result (IfSome (R.remaining input.old) (λ text. (file : List ℕ)
+        × (is : IsFileOf key.now prefix.now context.now text file)
         × Appends (W.contents output.old) (W.contents output.new) file
-        × IsFileOf key.now prefix.now context.now text file)) }
+        × AllByRecursion IsPiece is.messages)) }
     ensures stopped { OnErr result (IfSome (R.remaining input.old)
         (λ text. WritesFileFront key.now prefix.now context.now text
         (W.contents output.old) (W.contents output.new))) }

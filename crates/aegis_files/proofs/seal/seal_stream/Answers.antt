@@ -1,6 +1,6 @@
 use Rattle.std.proofs.Common.{◌<◌, ◌++◌, ◌∙◌, ap, arith, length, subst, sym, take}
 use Rattle.std.proofs.KnownBytes.{Appends-nil}
-use Rattle.std.proofs.lemmas.List.{with_items_is}
+use Rattle.std.proofs.lemmas.List.{length-take, with_items_is}
 use Rattle.std.specs.Io.KnownBytes.{Consumes}
 use Rattle.aegis.specs.RecordStream.{header}
 use Rattle.aegis.specs.declared.record.version.Version.TheVariants.{Second}
@@ -10,7 +10,7 @@ use Rattle.aegis_files.proofs.seal.seal_stream.Goals as goal
 
 pub pieces-init : goal.pieces-init
 pieces-init g c = record {
-  room = omega (arith, c.in_ok-piece.ensures);
+  room = c.in_ok-piece.ensures;
   sealed = seals_begin _ _ _ _ _ _ _ _ _ c.in_ok-sealer.ensures.begun
       (c.in_ok-sealer.ensures.appended ∙ ap (λ l. l ++ header Second) c.in_ok-out.ensures.items) c.in_ok-write.ensures.ok;
 }
@@ -22,9 +22,10 @@ pieces-preserved g c =
     let same = c.deref-in-pieces.ensures.value ∙ filled in
     let size = c.fill.auto.buffer ∙ ap length c.deref_mut.ensures.value in
     record {
-      room = omega (arith, c.pieces.invariant.room, ap length filled, size);
+      room = ap length filled ∙ size ∙ c.pieces.invariant.room;
       sealed = seals_more _ _ _ _ _ _ _ _ _ _ _ _ _ _ _ _ c.pieces.invariant.sealed (subst (Consumes _ _) (ap (take count) (sym same)) c.in_ok-count.ensures.read)
-          c.in_ok-seal_next.ensures.begun (c.deref-in-pieces-2.ensures.value ∙ c.in_ok-seal_next.ensures.appended) c.in_ok-write-3.ensures.ok c.clear.ensures.items;
+          c.in_ok-seal_next.ensures.begun (c.deref-in-pieces-2.ensures.value ∙ c.in_ok-seal_next.ensures.appended) c.in_ok-write-3.ensures.ok c.clear.ensures.items
+          (omega (arith, length-take count c.deref-in-pieces.result.now, ap length same, size, c.pieces.invariant.room));
     }
 
 pub returns-then-count-eq0-clause-sealed : goal.returns-then-count-eq0-clause-sealed

@@ -1,10 +1,11 @@
-use Rattle.std.proofs.Common.{◌<◌, length}
+use Rattle.std.proofs.Common.{◌≡◌, length}
+use Rattle.aegis_files.specs.declared.seal.TheConstants.{PIECE_BYTES}
 use Rattle.aegis_files.proofs.Sealing.{SealsSome}
 use Rattle.aegis_files.proofs.seal.seal_stream.Given as goal
 
 abbrev pub invariant-pieces : goal.invariant-pieces
 invariant-pieces g l = record {
-  room : 0 < length l.piece.items;
+  room : length l.piece.items ≡ PIECE_BYTES;
   sealed : SealsSome l.sealer l.fn.key l.fn.prefix l.fn.context (g.R.Read.remaining l.fn.input) (g.R.Read.remaining l.input)
       (g.W.Write.contents l.fn.output) (g.W.Write.contents l.output) l.out.items;
 }
