@@ -3,6 +3,8 @@
 mod by_hand;
 mod faults;
 mod memory;
+mod positions;
 mod sizes;
+mod steps;
 mod streams;
 mod texts;
