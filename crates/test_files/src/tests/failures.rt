@@ -39,7 +39,7 @@ fn sealing_stops_where_a_read_fails(rt: HostRuntime) -> Result<(), Fail> {
         let result = seal_stream(rt.alloc(), &KEY, &PREFIX, &CONTEXT, &mut input, &mut file);
         assert!(rt; matches!(result, Err(FileError::Read(_))), "at {length}");
         assert!(rt; file.len() < whole.len(), "at {length}");
-        assert_eq!(rt; file.as_slice(), &PREFIX, "at {length}");
+        assert_eq!(rt; file.as_slice(), PREFIX.as_slice(), "at {length}");
     }
     Ok(())
 }

@@ -9,8 +9,8 @@ use std::test::Fail;
 const PLACES: [usize; 4] = [28, 28 + 40, 28 + 40 + 44, 28 + 40 + 44 + 42];
 
 // Whether a file is refused, and what was written before is a front of the small file's text.
-fn is_refused(written: &[u8], result: &Result<(), FileError>) -> bool {
-    TEXT.starts_with(written) && matches!(result, Err(FileError::Stream(_)))
+fn is_refused(written: &[u8], ending: &Result<(), FileError>) -> bool {
+    TEXT.starts_with(written) && matches!(ending, Err(FileError::Stream(_)))
 }
 
 #[test]
