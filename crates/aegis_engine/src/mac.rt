@@ -147,13 +147,13 @@ impl<S: LaneState, V: Names, const KEY_BYTES: usize, const TAG_BYTES: usize> Mac
     }
 
     /// Takes in the next bytes of the input.
-    pub fn update(&mut self, data: &[u8])
-        requires { self.old.message_bytes + length data.now ≤ MAX_AEAD_BYTES }
-        ensures taken { Takes S.VARIANT self.old self.new data.now }
-        ensures length { self.new.message_bytes ≡ self.old.message_bytes + length data.now }
+    pub fn update(&mut self, input: &[u8])
+        requires { self.old.message_bytes + length input.now ≤ MAX_AEAD_BYTES }
+        ensures taken { Takes S.VARIANT self.old self.new input.now }
+        ensures length { self.new.message_bytes ≡ self.old.message_bytes + length input.now }
     {
-        self.state = absorb_more(self.state, &mut self.block, self.bytes.get(), data);
-        let _ = self.bytes.add(data.len() as u64);
+        self.state = absorb_more(self.state, &mut self.block, self.bytes.get(), input);
+        let _ = self.bytes.add(input.len() as u64);
     }
 
     /// How many more bytes the input may have.

@@ -11,6 +11,6 @@ mod seal;
 mod write;
 
 pub use error::FileError;
-pub use reading::fill;
 pub use open::open_stream;
+pub use reading::fill;
 pub use seal::{PIECE_BYTES, seal_stream};

@@ -73,6 +73,9 @@ pub fn info(rt: &HostRuntime, input: Place<'_>) -> Result<(), Failure> {
             outline_of(rt.alloc(), &mut file)?
         }
     };
-    println!(rt; "{} records, {} bytes of text", seen.records, seen.text_bytes)
-        .map_err(Failure::Output)
+    println!(rt;
+        "{} records, {} bytes of text",
+        seen.records, seen.text_bytes
+    )
+    .map_err(Failure::Output)
 }

@@ -24,7 +24,9 @@ pub fn draw(rt: &(impl RandomSource + AllocGlobal)) -> Result<String, Failure> {
 pub fn read(rt: &HostRuntime, name: &str) -> Result<Key, Failure> {
     let mode = fs::metadata(rt, name).map_err(Failure::Key)?.mode();
     if mode & OTHERS != 0 {
-        let _ = eprintln!(rt; "hunkravy: the mode of {name} lets others use this key: chmod 600 {name}");
+        let _ = eprintln!(rt;
+            "hunkravy: the mode of {name} lets others use this key: chmod 600 {name}"
+        );
     }
     let text = fs::read_to_string(rt, name).map_err(Failure::Key)?;
     <Key as FromHex>::from_hex(text.trim_end()).map_err(|_| Failure::NoKey)

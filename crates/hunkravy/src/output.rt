@@ -23,12 +23,7 @@ pub fn create(rt: &HostRuntime, name: &str) -> io::Result<File> {
 }
 
 /// Refuses an output file that exists, unless it may be replaced, and one that is the input.
-pub fn look(
-    rt: &HostRuntime,
-    input: Place<'_>,
-    output: &str,
-    force: bool,
-) -> Result<(), Failure> {
+pub fn look(rt: &HostRuntime, input: Place<'_>, output: &str, force: bool) -> Result<(), Failure> {
     let there = match fs::metadata(rt, output) {
         Ok(there) => there,
         Err(error) => {

@@ -47,11 +47,7 @@ const MESSAGES: [&[u8]; 3] = [b"one", b"and two", b"three"];
 const TEXT: &[u8] = b"oneand twothree";
 
 /// A file of three records, under a key and a prefix.
-fn three_records(
-    alloc: Global,
-    key: &[u8; 32],
-    prefix: &[u8; 24],
-) -> Result<Vec<u8>, FileError> {
+fn three_records(alloc: Global, key: &[u8; 32], prefix: &[u8; 24]) -> Result<Vec<u8>, FileError> {
     let mut file = Vec::new(alloc);
     file.extend_from_slice(prefix)?;
     let mut sealer = RecordSealer::new(alloc, key, prefix, &CONTEXT, &mut file)?;

@@ -263,9 +263,10 @@ impl<'a, A: Allocator + Copy> RecordOpener<'a, A> {
             rest: frame.rest,
         })
     }
+
     /// Opens the record that stands at a position, and that `bytes` begin with. The opener goes on where it was.
     ///
-    /// A message that is returned is the one that was sealed at this position of a stream under this key, prefix and context;
+    /// A message that is returned is the one whose record at this position, under this key, prefix and context, these bytes are;
     /// nothing is known of the other records, nor that the stream ends well. The error is the fault of the record, or
     /// [`RecordError::OutOfMemory`]: [`RecordError::Damaged`] if no message is sealed to it at this position.
     pub fn open_at<'b>(

@@ -57,7 +57,10 @@ fn sealing_stops_where_a_write_fails(rt: HostRuntime) -> Result<(), Fail> {
         };
         let mut input = TEXT;
         let result = seal_stream(rt.alloc(), &KEY, &PREFIX, &CONTEXT, &mut input, &mut file);
-        assert!(rt; matches!(result, Err(FileError::Write(_))), "with room {room}");
+        assert!(rt;
+            matches!(result, Err(FileError::Write(_))),
+            "with room {room}"
+        );
         assert_eq!(rt; file.taken.as_slice(), &whole[..room], "with room {room}");
     }
     Ok(())
@@ -75,7 +78,10 @@ fn opening_stops_where_a_write_fails(rt: HostRuntime) -> Result<(), Fail> {
         };
         let mut input = file.as_slice();
         let result = open_stream(rt.alloc(), &KEY, &CONTEXT, &mut input, &mut text);
-        assert!(rt; matches!(result, Err(FileError::Write(_))), "with room {room}");
+        assert!(rt;
+            matches!(result, Err(FileError::Write(_))),
+            "with room {room}"
+        );
         assert_eq!(rt; text.taken.as_slice(), &TEXT[..room], "with room {room}");
     }
     Ok(())

@@ -49,12 +49,14 @@ fn bytes_after_the_last_record_are_refused(rt: HostRuntime) -> Result<(), Fail> 
     file.push(0)?;
     let (text, result) = opened(rt.alloc(), &file);
     assert_eq!(rt; text.as_slice(), TEXT);
-    let trailing = matches!(
-        result,
-        Err(FileError::Stream(RecordError::Trailing))
-    );
+    let trailing = matches!(result, Err(FileError::Stream(RecordError::Trailing)));
     assert!(rt; trailing);
     Ok(())
+}
+
+// A part of a file, or no bytes where it has none.
+fn cut(file: &[u8], from: usize, to: usize) -> &[u8] {
+    file.get(from..to).unwrap_or(&[])
 }
 
 // Swapped, left out, repeated, and taken from the file of another prefix or key.
@@ -63,17 +65,19 @@ fn records_elsewhere_are_refused(rt: HostRuntime) -> Result<(), Fail> {
     let file = three_records(rt.alloc(), &KEY, &PREFIX)?;
     let other_prefix = three_records(rt.alloc(), &KEY, &[8; 24])?;
     let other_key = three_records(rt.alloc(), &[6; 32], &PREFIX)?;
-    let record = |number: usize| &file[PLACES[number]..PLACES[number + 1]];
-    let front = &file[..PLACES[0]];
+    let front = cut(&file, 0, PLACES[0]);
+    let first = cut(&file, PLACES[0], PLACES[1]);
+    let second = cut(&file, PLACES[1], PLACES[2]);
+    let third = cut(&file, PLACES[2], PLACES[3]);
     let cases = [
-        [front, record(1), record(0), record(2)],
-        [front, record(0), record(2), &[]],
-        [front, record(1), record(2), &[]],
-        [front, record(2), &[], &[]],
-        [front, record(0), record(0), record(2)],
-        [front, &other_prefix[PLACES[0]..], &[], &[]],
-        [front, record(0), &other_prefix[PLACES[1]..], &[]],
-        [front, record(0), &other_key[PLACES[1]..], &[]],
+        [front, second, first, third],
+        [front, first, third, &[]],
+        [front, second, third, &[]],
+        [front, third, &[], &[]],
+        [front, first, first, third],
+        [front, cut(&other_prefix, PLACES[0], PLACES[3]), &[], &[]],
+        [front, first, cut(&other_prefix, PLACES[1], PLACES[3]), &[]],
+        [front, first, cut(&other_key, PLACES[1], PLACES[3]), &[]],
     ];
     for parts in cases {
         let mut changed = Vec::new(rt.alloc());
@@ -91,10 +95,7 @@ fn another_key_is_refused(rt: HostRuntime) -> Result<(), Fail> {
     let file = three_records(rt.alloc(), &KEY, &PREFIX)?;
     let mut input = file.as_slice();
     let (text, result) = opened_with(rt.alloc(), &[6; 32], &mut input);
-    let damaged = matches!(
-        result,
-        Err(FileError::Stream(RecordError::Damaged(0)))
-    );
+    let damaged = matches!(result, Err(FileError::Stream(RecordError::Damaged(0))));
     assert!(rt; damaged);
     assert!(rt; text.is_empty());
     Ok(())

@@ -12,12 +12,12 @@ writes-preserved g c =
     let before = c.writes.invariant in
     elim c.match-write.branch [
       | in-Ok w ↦
-        let more = rw (slice-end all sent) at w.in-Ok.ensures.bytes in
-        let bound = rw (slice-end all sent) at w.in-Ok.ensures.bound in
-        rw w.sent-is (record {
-          within = omega (arith, bound, length-drop sent all);
-          written = rw (take-add sent w.in-Ok.count all) (Appends-trans _ _ _ _ _ before.written more);
-        })
+          let more = rw (slice-end all sent) at w.in-Ok.ensures.bytes in
+          let bound = rw (slice-end all sent) at w.in-Ok.ensures.bound in
+          rw w.sent-is (record {
+            within = omega (arith, bound, length-drop sent all);
+            written = rw (take-add sent w.in-Ok.count all) (Appends-trans _ _ _ _ _ before.written more);
+          })
       | in-Err+else-ne w ↦ rw w.sent-is (record {
         within = before.within;
         written = Appends-kept _ _ _ _ before.written w.in-Err.ensures.bytes;
