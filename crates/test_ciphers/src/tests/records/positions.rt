@@ -1,11 +1,17 @@
 //! Records that are opened at their positions.
 
+ghost use Rattle.std.specs.Prelude.{◌≡◌};
+
+use crate::tests::records::steps::opened;
 use crate::tests::records::streams::{CONTEXT, FIRST, KEY, NEW_PREFIX, PREFIX, SECOND};
 use aegis::record::{RecordError, RecordOpener, RecordPosition, RecordSealer, Version};
 use std::test::Fail;
 
 // The position of the second record of the stored streams.
-fn second(version: Version) -> RecordPosition {
+fn second(version: Version) -> RecordPosition
+    ensures number { result.number ≡ 1 }
+    ensures before { result.before ≡ 0 }
+{
     RecordPosition {
         version,
         number: 1,
@@ -68,7 +74,7 @@ fn a_record_is_opened_at_its_position(rt: HostRuntime) -> Result<(), Fail> {
 fn an_opener_goes_on_from_a_position(rt: HostRuntime) -> Result<(), Fail> {
     let position = second(Version::Second);
     let mut opener = RecordOpener::begin_at(rt.alloc(), &KEY, &PREFIX, &CONTEXT, position)?;
-    let opened = opener.open_next(&SECOND[41..])?;
+    let opened = opened(&mut opener, &SECOND[41..])?;
     assert_eq!(rt; opened.message.as_slice(), b"abc".as_slice());
     assert!(rt; opened.is_last);
     Ok(())

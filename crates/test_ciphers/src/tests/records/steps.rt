@@ -19,12 +19,12 @@ fn sealed<A: Allocator + Copy>(alloc: A) -> Result<Vec<u8, A>, RecordError> {
     Ok(stream)
 }
 
-// Opens the next record of a stream that is not too long for the cipher.
-fn opened<'b, A: Allocator + Copy>(
+/// Opens the next record of a stream that is not too long for the opener.
+pub fn opened<'b, A: Allocator + Copy>(
     opener: &mut RecordOpener<'_, A>,
     bytes: &'b [u8],
 ) -> Result<Opened<'b, A>, RecordError> {
-    if bytes.len() as u64 > opener.remaining() {
+    if bytes.len() as u64 >= opener.remaining() {
         return Err(RecordError::TooLong);
     }
     opener.open_next(bytes)
