@@ -2,14 +2,11 @@
 
 use crate::command::Place;
 use crate::failure::Failure;
-use aegis::record::{RecordError, RecordOpener};
+use aegis::record::{RECORD_BYTES, RecordError, RecordOpener};
 use aegis_files::{FileError, fill};
 use std::alloc::Global;
 use std::fs::File;
 use std::io::Read;
-
-// How many bytes a record has beside its message's: its flag, its length and its tag.
-const RECORD_BYTES: u64 = 37;
 
 // What the lengths of a file show.
 #[derive(Clone, Copy)]
