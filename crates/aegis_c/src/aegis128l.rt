@@ -3,15 +3,16 @@
 ghost use Rattle.std.specs.Prelude.{length};
 ghost use Rattle.aegis_base.specs.Variant.{Aegis128L};
 ghost use Rattle.aegis_base.specs.Message.{keystream, xor_keystream};
-ghost use Rattle.aegis_c.specs.Calls.{Begins, ChecksMac, ChecksMore, EndsOpening, EndsSealing, GivesMac, MakesMac, OpensMore, OpensOrErases, Seals, SealsMore, TakesMore, VerifiesMac, WritesKeystream};
+ghost use Rattle.aegis_c_calls.specs.Calls.{Begins, ChecksMac, ChecksMore, EndsOpening, EndsSealing, GivesMac, MakesMac, OpensMore, OpensOrErases, Seals, SealsMore, TakesMore, VerifiesMac, WritesKeystream};
 
-use crate::answer::*;
-use crate::calls::*;
-use crate::state::*;
-use aegis::aegis128l::{Aegis128L, Aegis128LMac};
+use aegis::aegis128l::Marker;
 use aegis_128::State128;
 use aegis_aes::AesBlock2;
+use aegis_c_calls::message::*;
+use aegis_c_calls::state::*;
 use aegis_engine::SavedRun;
+
+type Lanes = State128<AesBlock2>;
 
 /// Turns the message at `mc` into its ciphertext, and writes its tag to `mac`.
 #[unsafe(no_mangle)]
@@ -24,7 +25,7 @@ pub extern "C" fn hunkravy_aegis128l_encrypt_in_place_nonnull(
 ) -> i32
     ensures { Seals Aegis128L 16 k.now npub.now ad.now mc.old mc.new mac.old mac.new result }
 {
-    encrypt_in_place!(Aegis128L, mc, ad, npub, k, mac)
+    encrypt_in_place::<Lanes, Marker, 16>(mc, ad, npub, k, mac)
 }
 
 /// Turns the ciphertext at `mc` into the message that `mac` is the tag of.
@@ -38,7 +39,7 @@ pub extern "C" fn hunkravy_aegis128l_decrypt_in_place_nonnull(
 ) -> i32
     ensures { OpensOrErases Aegis128L 16 k.now npub.now ad.now mc.old mc.new mac.now result }
 {
-    decrypt_in_place!(Aegis128L, mc, ad, npub, k, mac)
+    decrypt_in_place::<Lanes, Marker, 16>(mc, ad, npub, k, mac)
 }
 
 /// Writes keystream to `out`, whatever was there.
@@ -47,7 +48,7 @@ pub extern "C" fn hunkravy_aegis128l_stream_nonnull(out: &mut [u8], npub: &[u8],
     ensures { WritesKeystream 16 k.now npub.now out.old out.new
         (keystream Aegis128L k.now npub.now (length out.old)) result }
 {
-    stream!(Aegis128L, stream, out, npub, k)
+    stream::<Lanes, Marker, 16>(out, npub, k)
 }
 
 /// Xors the bytes at `mc` with keystream.
@@ -60,7 +61,7 @@ pub extern "C" fn hunkravy_aegis128l_stream_xor_in_place_nonnull(
     ensures { WritesKeystream 16 k.now npub.now mc.old mc.new
         (xor_keystream Aegis128L k.now npub.now mc.old) result }
 {
-    stream!(Aegis128L, stream_xor_in_place, mc, npub, k)
+    stream_xor_in_place::<Lanes, Marker, 16>(mc, npub, k)
 }
 
 /// Writes the MAC of `input` to `mac`.
@@ -73,7 +74,7 @@ pub extern "C" fn hunkravy_aegis128l_mac_nonnull(
 ) -> i32
     ensures { MakesMac Aegis128L 16 k.now npub.now input.now mac.old mac.new result }
 {
-    mac!(Aegis128LMac, input, npub, k, mac)
+    write_mac::<Lanes, 16>(input, npub, k, mac)
 }
 
 /// Whether `mac` is the MAC of `input`.
@@ -86,11 +87,8 @@ pub extern "C" fn hunkravy_aegis128l_mac_verify_nonnull(
 ) -> i32
     ensures { VerifiesMac Aegis128L 16 k.now npub.now input.now mac.now result }
 {
-    mac_verify!(Aegis128LMac, input, npub, k, mac)
+    verify_mac::<Lanes, 16>(input, npub, k, mac)
 }
-
-// The lanes of a state.
-type Lanes = State128<AesBlock2>;
 
 /// Begins a message, or a MAC, which has no associated data, at `st`.
 #[unsafe(no_mangle)]

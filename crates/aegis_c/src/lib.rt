@@ -1,8 +1,7 @@
 //! The AEGIS ciphers for C, as `include/hunkravy.h` declares them.
 //!
-//! Each variant has a module with its calls. A call on a whole message or input checks the lengths that it was given and makes
-//! one call of the library, or a MAC's three, whose clauses it states again; `calls` has the bodies, and `answer` what they
-//! return. The calls on a state that C owns have theirs in `state`, and `sequence` says what they come to together.
+//! Each variant has a module with its exports, each of which is one call of `aegis_c_calls` and has its contract. `sequence` says
+//! what calls on a state come to together.
 //!
 //! A slice comes as a pointer and a length, and the pointer is not null even before no bytes. The last word of each name
 //! says so; the header's own calls, by the names without it, take null there too.
@@ -14,7 +13,4 @@ mod aegis128x4;
 mod aegis256;
 mod aegis256x2;
 mod aegis256x4;
-mod answer;
-mod calls;
 pub mod sequence;
-mod state;

@@ -7,7 +7,7 @@ ghost use Rattle.aegis_base.specs.Message.{Opens, seal};
 ghost use Rattle.aegis_base.specs.Variant.{Aegis128L};
 
 use crate::aegis128l::*;
-use crate::answer::*;
+use aegis_c_calls::answer::*;
 use aegis_engine::SavedRun;
 
 /// Seals a message of two chunks.

@@ -22,5 +22,6 @@ mod tag;
 pub use cipher::{Cipher, ERASED};
 pub use decryptor::Decryptor;
 pub use encryptor::Encryptor;
-pub use mac::Mac;
+pub use mac::{Mac, mac_at_once};
 pub use saved::{BEGUN, ENDED, SavedRun};
+pub use tag::same_bytes;

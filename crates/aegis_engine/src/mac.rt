@@ -115,6 +115,24 @@ pub fn end_input<S: LaneState, const TAG_BYTES: usize>(state: S, block: &RateBlo
     input_lanes(state, block, bytes).finish(8 * bytes, 8 * TAG_BYTES as u64)
 }
 
+/// The MAC of an input that is there at once. The key and the nonce have the variant's length, and the input has at most
+/// [`MAX_AEAD_BYTES`].
+pub fn mac_at_once<S: LaneState, const TAG_BYTES: usize>(
+    key: &[u8],
+    nonce: &[u8],
+    input: &[u8],
+) -> [u8; TAG_BYTES]
+    requires key_length { length key.now ≡ key_length S.VARIANT.family }
+    requires nonce_length { length nonce.now ≡ key_length S.VARIANT.family }
+    requires tag_bytes { IsTagLength TAG_BYTES }
+    requires within { length input.now ≤ MAX_AEAD_BYTES }
+    ensures { result ≡ mac S.VARIANT TAG_BYTES key.now nonce.now input.now }
+{
+    let mut block = ZEROS;
+    let state = absorb_more(begin::<S>(key, nonce, &[]), &mut block, 0, input);
+    folded_tag(end_input::<S, TAG_BYTES>(state, &block, input.len() as u64))
+}
+
 impl<S: LaneState, V: Names, const KEY_BYTES: usize, const TAG_BYTES: usize> Mac<
     S,
     V,

@@ -3,7 +3,7 @@ use Rattle.std.specs.Prelude.{ℕ, ℤ, ◌+◌, ◌==◌, ◌||◌, leb, if◌t
 use Rattle.aegis_base.specs.declared.error.TheConstants.{MAX_AEAD_BYTES}
 use Rattle.aegis_engine.specs.declared.saved.SavedRun.{SavedRun}
 use Rattle.aegis_engine.specs.declared.saved.TheConstants.{BEGUN}
-use Rattle.aegis_c.specs.declared.answer.TheConstants.{DONE, WRONG_NONCE_LENGTH, WRONG_KEY_LENGTH, MESSAGE_TOO_LONG, DATA_TOO_LONG, WRONG_TAG_LENGTH, WRONG_STATE}
+use Rattle.aegis_c_calls.specs.declared.answer.TheConstants.{DONE, WRONG_NONCE_LENGTH, WRONG_KEY_LENGTH, MESSAGE_TOO_LONG, DATA_TOO_LONG, WRONG_TAG_LENGTH, WRONG_STATE}
 
 -- to a tag
 abbrev pub tag_answer : ℕ → ℤ

@@ -4,14 +4,13 @@
 
 ghost use Rattle.std.specs.Prelude.{◌≡◌, ◌≤◌, ℤ, IfErr, OnOk};
 ghost use Rattle.aegis_base.specs.Variant.{key_length};
-ghost use Rattle.aegis_c.specs.Answers.{state_answer};
-ghost use Rattle.aegis_c.specs.Calls.{Begins, ChecksMac, ChecksMore, EndsOpening, EndsSealing, GivesMac, OpensMore, SealsMore, TakesMore};
+ghost use Rattle.aegis_c_calls.specs.Answers.{state_answer};
+ghost use Rattle.aegis_c_calls.specs.Calls.{Begins, ChecksMac, ChecksMore, EndsOpening, EndsSealing, GivesMac, OpensMore, SealsMore, TakesMore};
 
 use crate::answer::*;
-use crate::calls::message_keys;
-use aegis::{ERASED, MAX_AEAD_BYTES};
-use aegis_base::SavedLanes;
-use aegis_engine::{BEGUN, SavedRun};
+use crate::keys::message_keys;
+use aegis_base::{MAX_AEAD_BYTES, SavedLanes};
+use aegis_engine::{BEGUN, ERASED, SavedRun};
 
 // The size that the header gives it.
 const _: () = prove!(size_of::<SavedRun>() == 664);

@@ -8,8 +8,8 @@ use Rattle.aegis_engine.specs.Saved.{HasChecked, HasSealed, HasTaken, IsSaved}
 use Rattle.aegis_engine.specs.declared.cipher.TheConstants.{ERASED}
 use Rattle.aegis_engine.specs.declared.saved.SavedRun.{SavedRun}
 use Rattle.aegis_engine.specs.declared.saved.TheConstants.{ENDED}
-use Rattle.aegis_c.specs.Answers.{chunk_answer, end_answer, key_answer, mac_answer, mac_end_answer, message_answer, seal_answer, keystream_answer}
-use Rattle.aegis_c.specs.declared.answer.TheConstants.{DONE, INVALID_TAG}
+use Rattle.aegis_c_calls.specs.Answers.{chunk_answer, end_answer, key_answer, mac_answer, mac_end_answer, message_answer, seal_answer, keystream_answer}
+use Rattle.aegis_c_calls.specs.declared.answer.TheConstants.{DONE, INVALID_TAG}
 
 -- It seals the message `old` to `new`, and writes the tag over what `tag` had; or it changes nothing.
 pub record Seals (variant : Variant) (n : ℕ) (key nonce ad old new tag tag' : List ℕ) (answer : ℤ) : Type 0 where

@@ -1,0 +1,145 @@
+//! The calls on a whole message or input: each looks at the lengths, and makes one call of the library, or two of a MAC.
+
+ghost use Rattle.std.specs.Prelude.{◌≡◌, length};
+ghost use Rattle.aegis_base.specs.Variant.{key_length};
+ghost use Rattle.aegis_base.specs.Message.{keystream, xor_keystream};
+ghost use Rattle.aegis_c_calls.specs.Calls.{MakesMac, OpensOrErases, Seals, VerifiesMac, WritesKeystream};
+
+use crate::answer::*;
+use crate::keys::{message_keys, nonce_and_key};
+use aegis_base::{LaneState, Names};
+use aegis_engine::{Cipher, mac_at_once, same_bytes};
+
+/// Seals a message in place, and writes its tag to `mac`.
+pub fn encrypt_in_place<S: LaneState, V: Names, const N: usize>(
+    mc: &mut [u8],
+    ad: &[u8],
+    npub: &[u8],
+    k: &[u8],
+    mac: &mut [u8],
+) -> i32
+    requires { N ≡ key_length S.VARIANT.family }
+    ensures { Seals S.VARIANT N k.now npub.now ad.now mc.old mc.new mac.old mac.new result }
+{
+    let (nonce, key) = match message_keys::<N>(npub, k, mc.len(), ad.len()) {
+        Ok(keys) => keys,
+        Err(answer) => return answer,
+    };
+    if mac.len() == 16 {
+        mac.copy_from_slice(&Cipher::<S, V, N, 16>::new(key, nonce).encrypt_in_place(mc, ad));
+        DONE
+    } else if mac.len() == 32 {
+        mac.copy_from_slice(&Cipher::<S, V, N, 32>::new(key, nonce).encrypt_in_place(mc, ad));
+        DONE
+    } else {
+        WRONG_TAG_LENGTH
+    }
+}
+
+/// Opens a ciphertext in place, if `mac` is its tag, and otherwise erases it.
+pub fn decrypt_in_place<S: LaneState, V: Names, const N: usize>(
+    mc: &mut [u8],
+    ad: &[u8],
+    npub: &[u8],
+    k: &[u8],
+    mac: &[u8],
+) -> i32
+    requires { N ≡ key_length S.VARIANT.family }
+    ensures { OpensOrErases S.VARIANT N k.now npub.now ad.now mc.old mc.new mac.now result }
+{
+    let (nonce, key) = match message_keys::<N>(npub, k, mc.len(), ad.len()) {
+        Ok(keys) => keys,
+        Err(answer) => return answer,
+    };
+    let opened = if let Some(tag) = mac.as_array() {
+        Cipher::<S, V, N, 16>::new(key, nonce).decrypt_in_place(mc, tag, ad)
+    } else if let Some(tag) = mac.as_array() {
+        Cipher::<S, V, N, 32>::new(key, nonce).decrypt_in_place(mc, tag, ad)
+    } else {
+        return WRONG_TAG_LENGTH;
+    };
+    if opened.is_ok() { DONE } else { INVALID_TAG }
+}
+
+/// Writes keystream to `out`.
+pub fn stream<S: LaneState, V: Names, const N: usize>(out: &mut [u8], npub: &[u8], k: &[u8]) -> i32
+    requires { N ≡ key_length S.VARIANT.family }
+    ensures { WritesKeystream N k.now npub.now out.old out.new
+        (keystream S.VARIANT k.now npub.now (length out.old)) result }
+{
+    match nonce_and_key::<N>(npub, k) {
+        Ok((nonce, key)) => {
+            Cipher::<S, V, N, 16>::new(key, nonce).stream(out);
+            DONE
+        }
+        Err(answer) => answer,
+    }
+}
+
+/// Xors a message in place with keystream.
+pub fn stream_xor_in_place<S: LaneState, V: Names, const N: usize>(
+    mc: &mut [u8],
+    npub: &[u8],
+    k: &[u8],
+) -> i32
+    requires { N ≡ key_length S.VARIANT.family }
+    ensures { WritesKeystream N k.now npub.now mc.old mc.new
+        (xor_keystream S.VARIANT k.now npub.now mc.old) result }
+{
+    match nonce_and_key::<N>(npub, k) {
+        Ok((nonce, key)) => {
+            Cipher::<S, V, N, 16>::new(key, nonce).stream_xor_in_place(mc);
+            DONE
+        }
+        Err(answer) => answer,
+    }
+}
+
+/// Writes the MAC of `input` to `mac`.
+pub fn write_mac<S: LaneState, const N: usize>(
+    input: &[u8],
+    npub: &[u8],
+    k: &[u8],
+    mac: &mut [u8],
+) -> i32
+    requires { N ≡ key_length S.VARIANT.family }
+    ensures { MakesMac S.VARIANT N k.now npub.now input.now mac.old mac.new result }
+{
+    let (nonce, key) = match message_keys::<N>(npub, k, input.len(), 0) {
+        Ok(keys) => keys,
+        Err(answer) => return answer,
+    };
+    if mac.len() == 16 {
+        mac.copy_from_slice(&mac_at_once::<S, 16>(key, nonce, input));
+        DONE
+    } else if mac.len() == 32 {
+        mac.copy_from_slice(&mac_at_once::<S, 32>(key, nonce, input));
+        DONE
+    } else {
+        WRONG_TAG_LENGTH
+    }
+}
+
+/// Whether `mac` is the MAC of `input`.
+pub fn verify_mac<S: LaneState, const N: usize>(
+    input: &[u8],
+    npub: &[u8],
+    k: &[u8],
+    mac: &[u8],
+) -> i32
+    requires { N ≡ key_length S.VARIANT.family }
+    ensures { VerifiesMac S.VARIANT N k.now npub.now input.now mac.now result }
+{
+    let (nonce, key) = match message_keys::<N>(npub, k, input.len(), 0) {
+        Ok(keys) => keys,
+        Err(answer) => return answer,
+    };
+    let is_right = if mac.len() == 16 {
+        same_bytes(&mac_at_once::<S, 16>(key, nonce, input), mac)
+    } else if mac.len() == 32 {
+        same_bytes(&mac_at_once::<S, 32>(key, nonce, input), mac)
+    } else {
+        return WRONG_TAG_LENGTH;
+    };
+    if is_right { DONE } else { INVALID_TAG }
+}
