@@ -1,6 +1,6 @@
-//! What the calls share: a look at the lengths, and the bodies, each written once for all variants. A macro's arguments are
-//! the variant's cipher and the parameters of the call. A name in a macro is looked up where it is called, so the
-//! variants' modules import the answers.
+//! What the calls share: the checks of lengths, and the bodies, each written once for all variants. The arguments of a
+//! macro are the variant's cipher and the parameters of the call. Names in a macro are resolved where it is called, so
+//! the modules of the variants import the codes.
 
 ghost use Rattle.std.specs.Prelude.{◌≡◌, ◌≢◌, ◌≤◌, ℤ, IfErr, IfOk, length};
 ghost use Rattle.aegis_c.specs.Answers.{key_answer, message_answer};
@@ -8,7 +8,7 @@ ghost use Rattle.aegis_c.specs.Answers.{key_answer, message_answer};
 use crate::answer::*;
 use aegis::MAX_AEAD_BYTES;
 
-/// The nonce and the key as arrays of the length that they are used at. Where one has another, what the call answers.
+/// Returns the nonce and the key as arrays of `N` bytes, or the code of the call if one of them has another length.
 pub fn nonce_and_key<'a, const N: usize>(
     npub: &'a [u8],
     k: &'a [u8],
@@ -31,8 +31,8 @@ pub fn nonce_and_key<'a, const N: usize>(
     Ok((nonce, key))
 }
 
-/// As `nonce_and_key`, but also where the message or its associated data have too many bytes, which are counted here, it is
-/// what the call answers.
+/// The same for a call with so many bytes of a message and of associated data: also returns the code of the call if one
+/// of the two has too many.
 pub fn message_keys<'a, const N: usize>(
     npub: &'a [u8],
     k: &'a [u8],
@@ -62,7 +62,7 @@ pub fn message_keys<'a, const N: usize>(
     Ok(keys)
 }
 
-// What is found, or the call ends with the answer.
+// The value of a result, or the call returns its code.
 macro_rules! or_return {
     ($found:expr) => {
         match $found {
@@ -106,7 +106,7 @@ macro_rules! decrypt_in_place {
     }};
 }
 
-// The bodies of both calls that have a keystream and no tag, whose length then makes no difference.
+// The bodies of both keystream calls. They use no tag, and do not depend on its length.
 macro_rules! stream {
     ($Cipher:ident, $call:ident, $buffer:ident, $npub:ident, $k:ident) => {{
         let (nonce, key) = or_return!(nonce_and_key($npub, $k));
@@ -115,7 +115,7 @@ macro_rules! stream {
     }};
 }
 
-// A MAC that has taken in all of the input.
+// A MAC that has taken in the whole input.
 macro_rules! mac_of {
     ($Mac:ident, $bytes:literal, $key:ident, $nonce:ident, $input:ident) => {{
         let mut mac = $Mac::<$bytes>::new_with_nonce($key, $nonce);

@@ -1,11 +1,11 @@
 //! The AEGIS ciphers for C, as `include/hunkravy.h` declares them.
 //!
-//! Each variant has a module with its calls. A call on a whole message or input checks the lengths that it was given and makes
-//! one call of the library, or a MAC's three, whose clauses it states again; `calls` has the bodies, and `answer` what they
-//! return. The calls on a state that C owns have theirs in `state`, and `sequence` says what they come to together.
+//! Each variant has a module with its calls. A call on a whole message or input checks its lengths and makes one call
+//! of the library, or three for a MAC. Their bodies are in `calls`, and those of the calls on a state that C owns are
+//! in `state`; `answer` has the codes that they return. `sequence` proves what several calls on a state do together.
 //!
-//! A slice comes as a pointer and a length, and the pointer is not null even before no bytes. The last word of each name
-//! says so; the header's own calls, by the names without it, take null there too.
+//! A slice comes as a pointer and a length. The pointer must not be null even if the length is 0, hence the `_nonnull`
+//! in each name; the header has calls without that word, which accept null for a length of 0.
 #![tactic(auto)]
 
 mod aegis128l;
