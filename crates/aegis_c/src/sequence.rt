@@ -60,7 +60,7 @@ pub fn opened_in_two(
     hunkravy_aegis128l_state_decrypt_final_nonnull(st, &mut [], mac) == DONE
 }
 
-/// Checks a ciphertext of two chunks without opening it. It returns `true` only if some message is sealed to it and the tag.
+/// Checks a ciphertext of two chunks without opening it: `true` only if some message is sealed to it and the tag.
 pub fn checked_in_two(
     st: &mut SavedRun,
     ad: &[u8],
