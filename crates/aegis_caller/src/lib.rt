@@ -1,5 +1,5 @@
 //! Callers of the public crate, one of each kind of call and one at each variant, proved from its contracts alone: the
-//! crate has no proof file. `docs/CALLING.md` shows them.
+//! crate has no proof file. `docs/CALLING.md` and the docs of `aegis` show some of them.
 #![tactic(auto)]
 
 pub mod chunks;
@@ -118,8 +118,8 @@ pub fn seal_aegis256x4(
     Aegis256X4::<32>::new(key, nonce).encrypt_in_place(message, associated_data)
 }
 
-/// Opens in place: `Ok` exactly where some message is sealed to the ciphertext and the tag, and the buffer is then that
-/// message; otherwise every byte of it is `aa`.
+/// Opens in place. Returns `Ok` exactly if some message is sealed to the ciphertext and the tag, and the buffer is then
+/// that message. Otherwise every byte of the buffer is [`ERASED`].
 pub fn open(
     key: &[u8; 16],
     nonce: &[u8; 16],
@@ -139,7 +139,7 @@ pub fn open(
     Aegis128L::<16>::new(key, nonce).decrypt_in_place(buffer, tag, associated_data)
 }
 
-/// Seals a message and opens it again, in place: the opening is `Ok`, and the buffer is as it was.
+/// Seals a message in place and opens it again: this returns `Ok`, and the buffer is unchanged.
 pub fn sealed_and_opened(
     key: &[u8; 16],
     nonce: &[u8; 16],
@@ -155,7 +155,7 @@ pub fn sealed_and_opened(
     Aegis128L::<16>::new(key, nonce).decrypt_in_place(buffer, &tag, associated_data)
 }
 
-/// Seals into a fresh vector.
+/// Seals into a new vector.
 pub fn seal_to_vec<A: Allocator>(
     alloc: A,
     key: &[u8; 32],
@@ -176,7 +176,7 @@ pub fn seal_to_vec<A: Allocator>(
     Ok((ciphertext, tag))
 }
 
-/// Opens into a fresh vector.
+/// Opens into a new vector.
 pub fn open_to_vec<A: Allocator>(
     alloc: A,
     key: &[u8; 32],
@@ -195,7 +195,7 @@ pub fn open_to_vec<A: Allocator>(
     Ok(message)
 }
 
-/// Seals a message and opens it again, each into a fresh vector: what is handed out is the message.
+/// Seals a message and opens it again, each into a new vector: the result is the message.
 pub fn sealed_and_opened_to_vec<A: Allocator + Copy>(
     alloc: A,
     key: &[u8; 32],
@@ -227,7 +227,7 @@ pub fn xor_keystream(key: &[u8; 16], nonce: &[u8; 16], message: &mut [u8])
     Aegis128X4::<16>::new(key, nonce).stream_xor_in_place(message)
 }
 
-/// Xors a message with the keystream and then again, which gives it back.
+/// Xors a message with the keystream twice, which leaves it unchanged.
 pub fn xored_twice(key: &[u8; 16], nonce: &[u8; 16], message: &mut [u8])
     ensures { message.new ≡ message.old }
 {
