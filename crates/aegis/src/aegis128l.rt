@@ -3,19 +3,14 @@
 //! A message that is sealed in place and opened again is unchanged:
 //!
 //! ```
-//! pub fn sealed_and_opened(
-//!     key: &[u8; 16],
-//!     nonce: &[u8; 16],
-//!     associated_data: &[u8],
-//!     buffer: &mut [u8],
-//! ) -> Result<(), Error>
-//!     requires message_within { length buffer.old ≤ MAX_AEAD_BYTES }
-//!     requires associated_data_within { length associated_data.now ≤ MAX_AEAD_BYTES }
+//! pub fn round_trip(key: &Key, nonce: &Nonce, header: &[u8], message: &mut [u8]) -> Result<(), Error>
+//!     requires header_within { length header.now ≤ MAX_AEAD_BYTES }
+//!     requires message_within { length message.old ≤ MAX_AEAD_BYTES }
 //!     ensures opened { IsOk result }
-//!     ensures same { buffer.new ≡ buffer.old }
+//!     ensures same { message.new ≡ message.old }
 //! {
-//!     let tag = Aegis128L::<16>::new(key, nonce).encrypt_in_place(buffer, associated_data);
-//!     Aegis128L::<16>::new(key, nonce).decrypt_in_place(buffer, &tag, associated_data)
+//!     let tag = Aegis128L::<32>::new(key, nonce).encrypt_in_place(message, header);
+//!     Aegis128L::new(key, nonce).decrypt_in_place(message, &tag, header)
 //! }
 //! ```
 

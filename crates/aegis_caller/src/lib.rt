@@ -5,6 +5,7 @@
 pub mod chunks;
 pub mod encrypted_file;
 pub mod headline;
+pub mod in_place;
 pub mod opening;
 pub mod record_log;
 pub mod record_protocol;
@@ -139,23 +140,7 @@ pub fn open(
     Aegis128L::<16>::new(key, nonce).decrypt_in_place(buffer, tag, associated_data)
 }
 
-/// Seals a message in place and opens it again: this returns `Ok`, and the buffer is unchanged.
-pub fn sealed_and_opened(
-    key: &[u8; 16],
-    nonce: &[u8; 16],
-    associated_data: &[u8],
-    buffer: &mut [u8],
-) -> Result<(), Error>
-    requires message_within { length buffer.old ≤ MAX_AEAD_BYTES }
-    requires associated_data_within { length associated_data.now ≤ MAX_AEAD_BYTES }
-    ensures opened { IsOk result }
-    ensures same { buffer.new ≡ buffer.old }
-{
-    let tag = Aegis128L::<16>::new(key, nonce).encrypt_in_place(buffer, associated_data);
-    Aegis128L::<16>::new(key, nonce).decrypt_in_place(buffer, &tag, associated_data)
-}
-
-/// Seals into a new vector.
+/// Seals into a fresh vector.
 pub fn seal_to_vec<A: Allocator>(
     alloc: A,
     key: &[u8; 32],
