@@ -1,4 +1,18 @@
-//! AEGIS-128L: one lane, a key and a nonce of 16 bytes, a rate of 32 bytes.
+//! AEGIS-128L: one lane, keys and nonces of 16 bytes, and a rate of 32 bytes.
+//!
+//! A message that is sealed in place and opened again is unchanged:
+//!
+//! ```
+//! pub fn round_trip(key: &Key, nonce: &Nonce, header: &[u8], message: &mut [u8]) -> Result<(), Error>
+//!     requires header_within { length header.now ≤ MAX_AEAD_BYTES }
+//!     requires message_within { length message.old ≤ MAX_AEAD_BYTES }
+//!     ensures opened { IsOk result }
+//!     ensures same { message.new ≡ message.old }
+//! {
+//!     let tag = Aegis128L::<32>::new(key, nonce).encrypt_in_place(message, header);
+//!     Aegis128L::new(key, nonce).decrypt_in_place(message, &tag, header)
+//! }
+//! ```
 
 ghost use Rattle.std.specs.Prelude.{codes};
 
@@ -8,13 +22,13 @@ use aegis_base::Names;
 pub use aegis_base::{Error, Tag};
 use aegis_engine::Cipher;
 
-/// A key.
+/// A key of 16 bytes.
 pub type Key = [u8; 16];
 
-/// A nonce, to be used once under a key.
+/// A nonce of 16 bytes. It must be used only once under a key.
 pub type Nonce = [u8; 16];
 
-/// The marker of AEGIS-128L: the names that its types print.
+/// A marker type with the names of the types of AEGIS-128L.
 pub struct Marker;
 
 impl Names for Marker {
@@ -31,17 +45,19 @@ impl Names for Marker {
     }
 }
 
-/// AEGIS-128L under a key and a nonce. [`Cipher`] has its calls.
+/// AEGIS-128L with tags of `TAG_BYTES` bytes, 16 or 32, under a key and a nonce. Its calls are those of [`Cipher`].
 pub type Aegis128L<const TAG_BYTES: usize> = Cipher<State128<AesBlock2>, Marker, 16, TAG_BYTES>;
 
-/// Seals a message of Aegis128L that comes in chunks; the cipher's `encryptor` starts one.
+/// Seals a message in chunks with AEGIS-128L; [`Cipher::encryptor`] creates one. Its calls are those of
+/// [`aegis_engine::Encryptor`].
 pub type Encryptor<const TAG_BYTES: usize> = aegis_engine::Encryptor<
     State128<AesBlock2>,
     Marker,
     TAG_BYTES,
 >;
 
-/// Opens a message of Aegis128L that comes in chunks; the cipher's `decryptor` starts one.
+/// Opens a ciphertext in chunks with AEGIS-128L; [`Cipher::decryptor`] creates one. Its calls are those of
+/// [`aegis_engine::Decryptor`].
 pub type Decryptor<'a, const TAG_BYTES: usize> = aegis_engine::Decryptor<
     'a,
     State128<AesBlock2>,
@@ -49,7 +65,7 @@ pub type Decryptor<'a, const TAG_BYTES: usize> = aegis_engine::Decryptor<
     TAG_BYTES,
 >;
 
-/// The MAC of Aegis128L, of an input that comes in pieces. [`aegis_engine::Mac`] has its calls.
+/// A MAC of `TAG_BYTES` bytes, 16 or 32, with AEGIS-128L. Its calls are those of [`aegis_engine::Mac`].
 pub type Aegis128LMac<const TAG_BYTES: usize> = aegis_engine::Mac<
     State128<AesBlock2>,
     Marker,

@@ -1,4 +1,30 @@
-//! AEGIS-128X2: two lanes, a key and a nonce of 16 bytes, a rate of 64 bytes.
+//! AEGIS-128X2: two lanes, keys and nonces of 16 bytes, and a rate of 64 bytes.
+//!
+//! A message can be sealed in chunks of any lengths. Its ciphertext and tag are those of the whole message:
+//!
+//! ```
+//! pub fn seal_two_into(
+//!     key: &[u8; 16],
+//!     nonce: &[u8; 16],
+//!     associated_data: &[u8],
+//!     first: &[u8],
+//!     second: &[u8],
+//!     out: &mut [u8],
+//!     more: &mut [u8],
+//! ) -> [u8; 32]
+//!     requires message_within { length first.now + length second.now ≤ MAX_AEAD_BYTES }
+//!     requires associated_data_within { length associated_data.now ≤ MAX_AEAD_BYTES }
+//!     requires first_length { length out.old ≡ length first.now }
+//!     requires second_length { length more.old ≡ length second.now }
+//!     ensures { (out.new ++ more.new, result)
+//!         ≡ seal Aegis128X2 32 key.now nonce.now associated_data.now (first.now ++ second.now) }
+//! {
+//!     let mut encryptor = Aegis128X2::<32>::new(key, nonce).encryptor(associated_data);
+//!     encryptor.update(first, out);
+//!     encryptor.update(second, more);
+//!     encryptor.finalize()
+//! }
+//! ```
 
 ghost use Rattle.std.specs.Prelude.{codes};
 
@@ -8,13 +34,13 @@ use aegis_base::Names;
 pub use aegis_base::{Error, Tag};
 use aegis_engine::Cipher;
 
-/// A key.
+/// A key of 16 bytes.
 pub type Key = [u8; 16];
 
-/// A nonce, to be used once under a key.
+/// A nonce of 16 bytes. It must be used only once under a key.
 pub type Nonce = [u8; 16];
 
-/// The marker of AEGIS-128X2: the names that its types print.
+/// A marker type with the names of the types of AEGIS-128X2.
 #[derive(Clone, Copy)]
 pub struct Marker;
 
@@ -32,7 +58,7 @@ impl Names for Marker {
     }
 }
 
-/// AEGIS-128X2 under a key and a nonce. [`Cipher`] has its calls.
+/// AEGIS-128X2 with tags of `TAG_BYTES` bytes, 16 or 32, under a key and a nonce. Its calls are those of [`Cipher`].
 pub type Aegis128X2<const TAG_BYTES: usize> = Cipher<
     State128<Rows2<AesBlock2>>,
     Marker,
@@ -40,14 +66,16 @@ pub type Aegis128X2<const TAG_BYTES: usize> = Cipher<
     TAG_BYTES,
 >;
 
-/// Seals a message of Aegis128X2 that comes in chunks; the cipher's `encryptor` starts one.
+/// Seals a message in chunks with AEGIS-128X2; [`Cipher::encryptor`] creates one. Its calls are those of
+/// [`aegis_engine::Encryptor`].
 pub type Encryptor<const TAG_BYTES: usize> = aegis_engine::Encryptor<
     State128<Rows2<AesBlock2>>,
     Marker,
     TAG_BYTES,
 >;
 
-/// Opens a message of Aegis128X2 that comes in chunks; the cipher's `decryptor` starts one.
+/// Opens a ciphertext in chunks with AEGIS-128X2; [`Cipher::decryptor`] creates one. Its calls are those of
+/// [`aegis_engine::Decryptor`].
 pub type Decryptor<'a, const TAG_BYTES: usize> = aegis_engine::Decryptor<
     'a,
     State128<Rows2<AesBlock2>>,
@@ -55,7 +83,7 @@ pub type Decryptor<'a, const TAG_BYTES: usize> = aegis_engine::Decryptor<
     TAG_BYTES,
 >;
 
-/// The MAC of Aegis128X2, of an input that comes in pieces. [`aegis_engine::Mac`] has its calls.
+/// A MAC of `TAG_BYTES` bytes, 16 or 32, with AEGIS-128X2. Its calls are those of [`aegis_engine::Mac`].
 pub type Aegis128X2Mac<const TAG_BYTES: usize> = aegis_engine::Mac<
     State128<Rows2<AesBlock2>>,
     Marker,

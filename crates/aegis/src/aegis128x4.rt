@@ -1,4 +1,16 @@
-//! AEGIS-128X4: four lanes, a key and a nonce of 16 bytes, a rate of 128 bytes.
+//! AEGIS-128X4: four lanes, keys and nonces of 16 bytes, and a rate of 128 bytes.
+//!
+//! A message that is xored with the keystream twice is unchanged:
+//!
+//! ```
+//! pub fn xored_twice(key: &[u8; 16], nonce: &[u8; 16], message: &mut [u8])
+//!     ensures { message.new ≡ message.old }
+//! {
+//!     let cipher = Aegis128X4::<16>::new(key, nonce);
+//!     cipher.stream_xor_in_place(message);
+//!     cipher.stream_xor_in_place(message);
+//! }
+//! ```
 
 ghost use Rattle.std.specs.Prelude.{codes};
 
@@ -8,13 +20,13 @@ use aegis_base::Names;
 pub use aegis_base::{Error, Tag};
 use aegis_engine::Cipher;
 
-/// A key.
+/// A key of 16 bytes.
 pub type Key = [u8; 16];
 
-/// A nonce, to be used once under a key.
+/// A nonce of 16 bytes. It must be used only once under a key.
 pub type Nonce = [u8; 16];
 
-/// The marker of AEGIS-128X4: the names that its types print.
+/// A marker type with the names of the types of AEGIS-128X4.
 #[derive(Clone, Copy)]
 pub struct Marker;
 
@@ -32,7 +44,7 @@ impl Names for Marker {
     }
 }
 
-/// AEGIS-128X4 under a key and a nonce. [`Cipher`] has its calls.
+/// AEGIS-128X4 with tags of `TAG_BYTES` bytes, 16 or 32, under a key and a nonce. Its calls are those of [`Cipher`].
 pub type Aegis128X4<const TAG_BYTES: usize> = Cipher<
     State128<Rows2<AesBlock4>>,
     Marker,
@@ -40,14 +52,16 @@ pub type Aegis128X4<const TAG_BYTES: usize> = Cipher<
     TAG_BYTES,
 >;
 
-/// Seals a message of Aegis128X4 that comes in chunks; the cipher's `encryptor` starts one.
+/// Seals a message in chunks with AEGIS-128X4; [`Cipher::encryptor`] creates one. Its calls are those of
+/// [`aegis_engine::Encryptor`].
 pub type Encryptor<const TAG_BYTES: usize> = aegis_engine::Encryptor<
     State128<Rows2<AesBlock4>>,
     Marker,
     TAG_BYTES,
 >;
 
-/// Opens a message of Aegis128X4 that comes in chunks; the cipher's `decryptor` starts one.
+/// Opens a ciphertext in chunks with AEGIS-128X4; [`Cipher::decryptor`] creates one. Its calls are those of
+/// [`aegis_engine::Decryptor`].
 pub type Decryptor<'a, const TAG_BYTES: usize> = aegis_engine::Decryptor<
     'a,
     State128<Rows2<AesBlock4>>,
@@ -55,7 +69,7 @@ pub type Decryptor<'a, const TAG_BYTES: usize> = aegis_engine::Decryptor<
     TAG_BYTES,
 >;
 
-/// The MAC of Aegis128X4, of an input that comes in pieces. [`aegis_engine::Mac`] has its calls.
+/// A MAC of `TAG_BYTES` bytes, 16 or 32, with AEGIS-128X4. Its calls are those of [`aegis_engine::Mac`].
 pub type Aegis128X4Mac<const TAG_BYTES: usize> = aegis_engine::Mac<
     State128<Rows2<AesBlock4>>,
     Marker,

@@ -1,4 +1,25 @@
-//! AEGIS-256X2: two lanes, a key and a nonce of 32 bytes, a rate of 32 bytes.
+//! AEGIS-256X2: two lanes, keys and nonces of 32 bytes, and a rate of 32 bytes.
+//!
+//! A message that is sealed into a new vector and opened into another one is unchanged, unless memory runs out:
+//!
+//! ```
+//! pub fn sealed_and_opened_to_vec<A: Allocator + Copy>(
+//!     alloc: A,
+//!     key: &[u8; 32],
+//!     nonce: &[u8; 32],
+//!     associated_data: &[u8],
+//!     message: &[u8],
+//! ) -> Result<Vec<u8, A>, Error>
+//!     requires message_within { length message.now ≤ MAX_AEAD_BYTES }
+//!     requires associated_data_within { length associated_data.now ≤ MAX_AEAD_BYTES }
+//!     ensures { IfOk result (λ opened. opened.items ≡ message.now) }
+//! {
+//!     let cipher = Aegis256X2::<32>::new(key, nonce);
+//!     let (ciphertext, tag) = cipher.encrypt(alloc, message, associated_data)?;
+//!     let opened = cipher.decrypt(alloc, &ciphertext, &tag, associated_data)?;
+//!     Ok(opened)
+//! }
+//! ```
 
 ghost use Rattle.std.specs.Prelude.{codes};
 
@@ -8,13 +29,13 @@ use aegis_base::Names;
 pub use aegis_base::{Error, Tag};
 use aegis_engine::Cipher;
 
-/// A key.
+/// A key of 32 bytes.
 pub type Key = [u8; 32];
 
-/// A nonce, to be used once under a key.
+/// A nonce of 32 bytes. It must be used only once under a key.
 pub type Nonce = [u8; 32];
 
-/// The marker of AEGIS-256X2: the names that its types print.
+/// A marker type with the names of the types of AEGIS-256X2.
 #[derive(Clone, Copy)]
 pub struct Marker;
 
@@ -32,7 +53,7 @@ impl Names for Marker {
     }
 }
 
-/// AEGIS-256X2 under a key and a nonce. [`Cipher`] has its calls.
+/// AEGIS-256X2 with tags of `TAG_BYTES` bytes, 16 or 32, under a key and a nonce. Its calls are those of [`Cipher`].
 pub type Aegis256X2<const TAG_BYTES: usize> = Cipher<
     State256<Rows2<AesBlock2>>,
     Marker,
@@ -40,14 +61,16 @@ pub type Aegis256X2<const TAG_BYTES: usize> = Cipher<
     TAG_BYTES,
 >;
 
-/// Seals a message of Aegis256X2 that comes in chunks; the cipher's `encryptor` starts one.
+/// Seals a message in chunks with AEGIS-256X2; [`Cipher::encryptor`] creates one. Its calls are those of
+/// [`aegis_engine::Encryptor`].
 pub type Encryptor<const TAG_BYTES: usize> = aegis_engine::Encryptor<
     State256<Rows2<AesBlock2>>,
     Marker,
     TAG_BYTES,
 >;
 
-/// Opens a message of Aegis256X2 that comes in chunks; the cipher's `decryptor` starts one.
+/// Opens a ciphertext in chunks with AEGIS-256X2; [`Cipher::decryptor`] creates one. Its calls are those of
+/// [`aegis_engine::Decryptor`].
 pub type Decryptor<'a, const TAG_BYTES: usize> = aegis_engine::Decryptor<
     'a,
     State256<Rows2<AesBlock2>>,
@@ -55,7 +78,7 @@ pub type Decryptor<'a, const TAG_BYTES: usize> = aegis_engine::Decryptor<
     TAG_BYTES,
 >;
 
-/// The MAC of Aegis256X2, of an input that comes in pieces. [`aegis_engine::Mac`] has its calls.
+/// A MAC of `TAG_BYTES` bytes, 16 or 32, with AEGIS-256X2. Its calls are those of [`aegis_engine::Mac`].
 pub type Aegis256X2Mac<const TAG_BYTES: usize> = aegis_engine::Mac<
     State256<Rows2<AesBlock2>>,
     Marker,

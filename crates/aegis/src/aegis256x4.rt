@@ -1,4 +1,22 @@
-//! AEGIS-256X4: four lanes, a key and a nonce of 32 bytes, a rate of 64 bytes.
+//! AEGIS-256X4: four lanes, keys and nonces of 32 bytes, and a rate of 64 bytes.
+//!
+//! An input is accepted with its MAC:
+//!
+//! ```
+//! pub fn has_mac(
+//!     key: &[u8; 32],
+//!     nonce: &[u8; 32],
+//!     input: &[u8],
+//!     expected: &[u8; 32],
+//! ) -> Result<(), Error>
+//!     requires { length input.now ≤ MAX_AEAD_BYTES }
+//!     ensures { expected.now ≡ mac Aegis256X4 32 key.now nonce.now input.now → IsOk result }
+//! {
+//!     let mut mac = Aegis256X4Mac::<32>::new_with_nonce(key, nonce);
+//!     mac.update(input);
+//!     mac.verify(expected)
+//! }
+//! ```
 
 ghost use Rattle.std.specs.Prelude.{codes};
 
@@ -8,13 +26,13 @@ use aegis_base::Names;
 pub use aegis_base::{Error, Tag};
 use aegis_engine::Cipher;
 
-/// A key.
+/// A key of 32 bytes.
 pub type Key = [u8; 32];
 
-/// A nonce, to be used once under a key.
+/// A nonce of 32 bytes. It must be used only once under a key.
 pub type Nonce = [u8; 32];
 
-/// The marker of AEGIS-256X4: the names that its types print.
+/// A marker type with the names of the types of AEGIS-256X4.
 #[derive(Clone, Copy)]
 pub struct Marker;
 
@@ -32,7 +50,7 @@ impl Names for Marker {
     }
 }
 
-/// AEGIS-256X4 under a key and a nonce. [`Cipher`] has its calls.
+/// AEGIS-256X4 with tags of `TAG_BYTES` bytes, 16 or 32, under a key and a nonce. Its calls are those of [`Cipher`].
 pub type Aegis256X4<const TAG_BYTES: usize> = Cipher<
     State256<Rows2<AesBlock4>>,
     Marker,
@@ -40,14 +58,16 @@ pub type Aegis256X4<const TAG_BYTES: usize> = Cipher<
     TAG_BYTES,
 >;
 
-/// Seals a message of Aegis256X4 that comes in chunks; the cipher's `encryptor` starts one.
+/// Seals a message in chunks with AEGIS-256X4; [`Cipher::encryptor`] creates one. Its calls are those of
+/// [`aegis_engine::Encryptor`].
 pub type Encryptor<const TAG_BYTES: usize> = aegis_engine::Encryptor<
     State256<Rows2<AesBlock4>>,
     Marker,
     TAG_BYTES,
 >;
 
-/// Opens a message of Aegis256X4 that comes in chunks; the cipher's `decryptor` starts one.
+/// Opens a ciphertext in chunks with AEGIS-256X4; [`Cipher::decryptor`] creates one. Its calls are those of
+/// [`aegis_engine::Decryptor`].
 pub type Decryptor<'a, const TAG_BYTES: usize> = aegis_engine::Decryptor<
     'a,
     State256<Rows2<AesBlock4>>,
@@ -55,7 +75,7 @@ pub type Decryptor<'a, const TAG_BYTES: usize> = aegis_engine::Decryptor<
     TAG_BYTES,
 >;
 
-/// The MAC of Aegis256X4, of an input that comes in pieces. [`aegis_engine::Mac`] has its calls.
+/// A MAC of `TAG_BYTES` bytes, 16 or 32, with AEGIS-256X4. Its calls are those of [`aegis_engine::Mac`].
 pub type Aegis256X4Mac<const TAG_BYTES: usize> = aegis_engine::Mac<
     State256<Rows2<AesBlock4>>,
     Marker,

@@ -1,3 +1,3 @@
-//! The AES round on a block, and on two or four blocks side by side.
+//! The AES round (FIPS 197) on a block of 16 bytes, and on two or four blocks side by side.
 
 pub use aegis_aes::{AesBlock, AesBlock2, AesBlock4};

@@ -1,5 +1,7 @@
-//! The AEGIS family of authenticated ciphers: six variants, a module each, streams of sealed records, and the laws that follow
-//! from the definitions.
+//! The AEGIS family of authenticated ciphers: a module for each of the six variants, streams of sealed records, and the
+//! laws that follow from the definitions.
+//!
+//! The samples of the modules are functions of the crate `aegis_caller`, which are proved from the contracts alone.
 #![tactic(auto)]
 
 pub mod aegis128l;

@@ -1,7 +1,7 @@
-//! The lanes of the family AEGIS-128: eight rows, and two blocks of each rate block to a lane.
+//! The lanes of the family AEGIS-128: eight rows. Each lane takes in two blocks of each rate block.
 //!
-//! [`State128`] is entered by the calls of `LaneState` alone. Each private step is one of the standard's, said lane by
-//! lane; only `update` counts.
+//! The public methods of [`State128`] are those of `LaneState` and `SavedLanes`. Each private step is one of the AEGIS
+//! specification, with a contract for each lane; only `update` counts.
 #![tactic(auto)]
 
 ghost use Rattle.std.specs.Prelude.{◌≡◌, ℕ, ◌+◌, ◌*◌, ◌/◌, ◌^◌, ◌<◌, List, [], ◌∷◌};
@@ -12,11 +12,11 @@ ghost use Rattle.aegis_base.specs.Lane.{add_context, first_blocks, high_tag, key
 use aegis_aes::{AesBlock, Pair, Row};
 use aegis_base::{C0, C1, LaneState, SavedLanes, SavedRows, bit_lengths, block_in_all_lanes};
 
-/// The lanes of AEGIS-128L, 128X2 or 128X4: their rows, each with one block of every lane, and the count of updates since the
-/// start.
+/// The lanes of AEGIS-128L, 128X2 or 128X4: their rows, each with one block of every lane, and the number of updates
+/// since the start.
 ///
-/// Rows 0 to 3 lie in pairs with rows 4 to 7, so the rows that an update makes of one pair are the next pair, and those of
-/// the last pair are the first one exchanged.
+/// Row i is in a pair with row i + 4, so that an update computes each pair from the previous one, and the first pair
+/// from the last one with its rows exchanged.
 #[derive(Clone, Copy)]
 pub struct State128<P> {
     s04: P,
@@ -29,8 +29,8 @@ pub struct State128<P> {
 impl<P: Pair> State128<P> {
     ghost use Rattle.aegis_128.specs.Rows.{lane};
 
-    // The rows after one update by two rows of blocks, the private step of every lane, which alone counts. The last rows come
-    // first, so that no round waits for the one just made.
+    // The rows after one update by two rows of blocks (AEGIS, Update). The last rows come first, so that no round waits
+    // for the one just made.
     #[inline(always)]
     fn update(self, m: P) -> Self
         requires { self.updates + 1 < 2 ^ 64 }
@@ -185,7 +185,7 @@ impl<P: Pair> LaneState for State128<P> {
         self.sums().second()
     }
 
-    // Lane 0's own tag is folded in too.
+    // The tag of lane 0 is folded in too.
     fn short_fold_turn(self, tags: P::Row, turn: usize) -> Self {
         let even = block_in_all_lanes(tags, 2 * turn);
         let odd = block_in_all_lanes(tags, 2 * turn + 1);

@@ -1,7 +1,7 @@
-//! The lanes of the family AEGIS-256: six rows, and one block of each rate block to a lane.
+//! The lanes of the family AEGIS-256: six rows. Each lane takes in one block of each rate block.
 //!
-//! [`State256`] is entered by the calls of `LaneState` alone. Each private step is one of the standard's, said lane by
-//! lane; only `update` counts.
+//! The public methods of [`State256`] are those of `LaneState` and `SavedLanes`. Each private step is one of the AEGIS
+//! specification, with a contract for each lane; only `update` counts.
 #![tactic(auto)]
 
 ghost use Rattle.std.specs.Prelude.{◌≡◌, ℕ, ◌+◌, ◌-◌, ◌*◌, ◌^◌, ◌<◌, List, [], ◌∷◌, length};
@@ -29,11 +29,11 @@ fn high_half(bytes: &[u8]) -> AesBlock
     AesBlock::from_bytes(high)
 }
 
-/// The lanes of AEGIS-256, 256X2 or 256X4: their rows, each with one block of every lane, and the count of updates since the
-/// start.
+/// The lanes of AEGIS-256, 256X2 or 256X4: their rows, each with one block of every lane, and the number of updates
+/// since the start.
 ///
-/// Rows 0 to 2 lie in pairs with rows 3 to 5, so the rows that an update makes of one pair are the next pair, and those of
-/// the last pair are the first one exchanged.
+/// Row i is in a pair with row i + 3, so that an update computes each pair from the previous one, and the first pair
+/// from the last one with its rows exchanged.
 #[derive(Clone, Copy)]
 pub struct State256<P> {
     s03: P,
@@ -45,8 +45,8 @@ pub struct State256<P> {
 impl<P: Pair> State256<P> {
     ghost use Rattle.aegis_256.specs.Rows.{lane};
 
-    // The rows after one update by a row of blocks, the private step of every lane, which alone counts. The last rows come
-    // first, so that no round waits for the one just made.
+    // The rows after one update by a row of blocks (AEGIS, Update). The last rows come first, so that no round waits
+    // for the one just made.
     #[inline(always)]
     fn update(self, m: P::Row) -> Self
         requires { self.updates + 1 < 2 ^ 64 }

@@ -48,8 +48,8 @@ xtime-xor a b h k =
 swap : (a b c : ℕ) → bit_xor a (bit_xor b c) ≡ bit_xor b (bit_xor a c)
 swap a b c = sym (xor_assoc a b c) ∙ ap (λ t. bit_xor t c) (xor_comm a b) ∙ xor_assoc b a c
 
--- what MixColumns sums, in the order of the code and in that of each row: a, b, c, d and e are the next rows' bytes,
--- and the doubles of the row's own and of the next
+-- the terms of MixColumns, in the order of the code and in that of each row: a, b and c are the bytes of the next rows,
+-- and d and e the doubles of the row's own byte and of the next
 as-code : (a b c d e : ℕ) → bit_xor (bit_xor a (bit_xor b c)) (bit_xor d e) ≡ bit_xor (bit_xor e a) (bit_xor d (bit_xor b c))
 as-code a b c d e =
     let bc = bit_xor b c in
@@ -119,7 +119,7 @@ byte-at (x ∷ xs) fits zero = fits.0.fits
 byte-at (x ∷ xs) fits (suc i) = byte-at xs fits.1 i
 
 -- ---- bytes that were moved within their blocks
--- a table whose entry n is f n finds byte f (i % 16) of the block in which byte i is
+-- a look-up finds byte j of the block that contains byte i
 from-place : (s : List ℕ) (i j : ℕ) → j < 16 → entry_beside s i j ≡ get_or s (16 * (i / 16) + j) 0
 from-place s i j h = rw (lt-leb 128 j (omega arith)) refl
 
@@ -132,15 +132,15 @@ moved_by f table s at out n all same moved i h =
     let both = and_parts _ _ (agree_below_at (λ k. nat_lt (f k) 16 && get_or table k 0 == f k) (λ _. true) 16 (i % 16) all (omega arith)) in
     moved i h ∙ ap (entry_beside s i) (same i h ∙ eqb-true _ _ both.1) ∙ from-place s i (f (i % 16)) (ltb-true _ _ both.0)
 
--- row `next` rows below its own of the column that ShiftRows brings to byte k of a block
+-- the place from which ShiftRows takes the byte `next` rows below byte k, in the same column
 abbrev pub row_place : ℕ → ℕ → ℕ
 row_place next k = 4 * ((k / 4 + (k % 4 + next) % 4) % 4) + (k % 4 + next) % 4
 
--- two rows on in the same column
+-- the place two rows below, in the same column
 abbrev pub across_place : ℕ → ℕ
 across_place k = 4 * (k / 4) + (k % 4 + 2) % 4
 
--- byte i, in the order of the code, where the three orders of bytes are as they should be
+-- byte i, in the order of the code, if the three tables of places are the right ones
 pub mixed_byte : (s shifted next across doubles key : List ℕ) (n : ℕ) → IsWidth n → Each1 (Fits w8) s
     → length shifted ≡ n → length next ≡ n → length across ≡ n → length key ≡ n
     → ((i : ℕ) → i < n → get_or shifted i 0 ≡ get_or s (16 * (i / 16) + row_place 0 (i % 16)) 0)

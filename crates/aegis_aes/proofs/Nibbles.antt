@@ -35,13 +35,13 @@ is-place : (j : ℕ) (b : Bool) → leb 128 j ≡ b → IsPlace j → T (b || lt
 is-place j true e h = tt
 is-place j false e h = lt→ltb j 16 (omega (arith, leb-false 128 j e))
 
--- what a permutation asks of its places
+-- the condition that a permute has on its places
 pub places_ok : (b size n : ℕ) (at : List ℕ) → size ≡ b * 16 → n ≡ size → length at ≡ n → ArePlaces at → SwzOk w8 16 size 0 (take size at)
 places_ok b size n at e same long p =
     rw (take_all size at (omega (arith, long))) (SwzOk-from_Each1 w8 16 b size 0 at e (omega (arith, long))
     (Each1-weaker IsPlace (λ j. T (leb 128 j || ltb j 16)) (λ j h. is-place j (leb 128 j) refl h) at p.each))
 
--- what a permutation gives
+-- the result of a permute
 pub moved : (size n : ℕ) (from at : List ℕ) → n ≡ size → length from ≡ n → length at ≡ n
     → (i : ℕ) → i < n → get_or (chunk 0 n (swz_l w8 16 (take size from) 0 (take size at))) i 0 ≡ entry_beside from i (get_or at i 0)
 moved size n from at same long-from long-at i lt =
@@ -133,7 +133,7 @@ all_substituted (x ∷ xs) fits =
 pub small : (n : ℕ) → IsWidth n → n * 1 < 2 ^ 63
 small n width = ⊎_elim (λ e. omega arith) (λ e. omega arith) width
 
--- what each step makes of n bytes
+-- the result of each step on n bytes
 module _ (xs : List ℕ) (n : ℕ) (long : length xs ≡ n) where
   pub themselves : xs ≡ map (λ x. x) xs
   themselves = sym (map-id xs)

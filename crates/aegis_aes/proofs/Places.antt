@@ -7,13 +7,13 @@ use borrow.Rule.Slice.PartMut.{put_mid}
 use Rattle.std.specs.Int.Bits.{xor_zero_r}
 use Rattle.aegis_aes.specs.Block.{block_at, bytes_at, xor}
 
--- n bytes are taken, also past the end of the list
+-- there are n of them, even past the end of the list
 pub length-bytes_at : (xs : List ℕ) (i n : ℕ) → length (bytes_at xs i n) ≡ n
 unfolding bytes_at
 length-bytes_at xs i zero = refl
 length-bytes_at xs i (suc n) = let e = length-bytes_at xs (i + 1) n in grind (arith, e)
 
--- byte k of those from place i on is the byte of the list at i + k
+-- byte k of the bytes from place i on is byte i + k of the list
 pub get_or-bytes_at : (xs : List ℕ) (i n k : ℕ) (d : ℕ) → k < n → get_or (bytes_at xs i n) k d ≡ get_or xs (i + k) 0
 unfolding bytes_at
 get_or-bytes_at xs i zero k d lt = absurd (omega arith)
@@ -23,7 +23,7 @@ get_or-bytes_at xs i (suc n) (suc k) d lt =
     let e : i + suc k ≡ (i + 1) + k = omega arith in
     rw e more
 
--- the bytes of xs from place i on are b, where each is
+-- the bytes of xs from place i on are b if each of them is
 pub bytes_at-is : (xs : List ℕ) (i n : ℕ) (b : List ℕ) → length b ≡ n → ((k : ℕ) → k < n → get_or xs (i + k) 0 ≡ get_or b k 0) → bytes_at xs i n ≡ b
 bytes_at-is xs i n b long same =
     let len = length-bytes_at xs i n in
@@ -31,7 +31,7 @@ bytes_at-is xs i n b long same =
     let within : k < n = omega (arith, len) in
     get_or-bytes_at xs i n k d within ∙ (same k within ∙ get_or_default b k 0 d (omega arith)))
 
--- two lists have the same bytes from place i on, where each byte there is the same
+-- two lists have the same n bytes from place i on if each of them is the same
 pub bytes_at-same : (xs ys : List ℕ) (i n : ℕ) → ((k : ℕ) → i ≤ k → k < i + n → get_or xs k 0 ≡ get_or ys k 0) → bytes_at xs i n ≡ bytes_at ys i n
 bytes_at-same xs ys i n same =
     bytes_at-is xs i n (bytes_at ys i n) (length-bytes_at ys i n) (λ k lt.
@@ -42,17 +42,17 @@ pub bytes_at-part : (xs : List ℕ) (i n e : ℕ) → e ≡ i + n → e ≤ leng
 bytes_at-part xs i n e end room =
     sym (bytes_at-is xs i n (take (e - i) (drop i xs)) (grind (arith, places)) (λ k lt. grind (arith, places)))
 
--- the bytes at the place of a write to xs[i..e], of which ys is what was written
+-- after ys is written to xs[i..i + n], the bytes there are ys
 pub bytes_at-put_mid : (xs ys : List ℕ) (i n k : ℕ) → length ys ≡ n → n ≡ k → i + n ≤ length xs → bytes_at (put_mid i k xs ys) i n ≡ ys
 bytes_at-put_mid xs ys i n k long same room =
     bytes_at-is (put_mid i k xs ys) i n ys long (λ m lt. grind (arith, places))
 
--- a block that was written stays, where a later write leaves the bytes below place `from`
+-- a block below place `from` stays if the bytes below `from` do
 pub block_at-kept : (xs ys : List ℕ) (at from : ℕ) (b : List ℕ) → at + 16 ≤ from → ((i : ℕ) → i < from → get_or ys i 0 ≡ get_or xs i 0) → block_at xs at ≡ b → block_at ys at ≡ b
 block_at-kept xs ys at from b room kept was =
     bytes_at-same ys xs at 16 (λ k _ lt. kept k (omega arith)) ∙ was
 
--- what holds of lanes 0 to 3 holds of each lane below 4
+-- if P holds of lanes 0 to 3, it holds of each lane below 4
 pub all_four_lanes : (P : ℕ → Type 0) → P 0 → P 1 → P 2 → P 3 → (j : ℕ) → j < 4 → P j
 all_four_lanes P p0 p1 p2 p3 zero lt = p0
 all_four_lanes P p0 p1 p2 p3 (suc zero) lt = p1
@@ -90,7 +90,7 @@ block_at-put_chunk xs ys at n p long room inside =
     ap (λ (j : ℕ). get_or (put_chunk at xs ys) j 0) (omega arith)
     ∙ get_or-put_chunk_at at xs ys (p + k) 0 (omega (arith, long)) (omega (arith, long)) ∙ sym (get_or-bytes_at ys p 16 k 0 lt))
 
--- a block of two lists one after the other
+-- a block of the first of two lists, one after the other
 pub block_at-first : (a b : List ℕ) (p : ℕ) → p + 16 ≤ length a → block_at (a ++ b) p ≡ block_at a p
 block_at-first a b p room =
     bytes_at-is (a ++ b) p 16 (block_at a p) (length-bytes_at a p 16) (λ k lt.

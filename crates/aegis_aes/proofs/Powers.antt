@@ -55,7 +55,7 @@ high_code x y = bit_xor (bit_xor (bit_xor (part 16 (t4 x) y) (part 32 (t5 x) y))
 abbrev pub product_code : ℕ → ℕ → ℕ
 product_code x y = bit_xor (low_code x y) (high_code x y)
 
--- the test of bit i in the definition of a product
+-- the definition's test of bit i
 abbrev is_set : ℕ → ℕ → Bool
 is_set zero y = y % 2 == 1
 is_set (suc i) y = is_set i (y / 2)
@@ -74,7 +74,7 @@ to-the-right a b c d e = xor_assoc (bit_xor (bit_xor a b) c) d e ∙ xor_assoc (
 four : {a b c d a' b' c' d' : ℕ} → a ≡ a' → b ≡ b' → c ≡ c' → d ≡ d' → bit_xor (bit_xor (bit_xor a b) c) d ≡ bit_xor (bit_xor (bit_xor a' b') c') d'
 four p q r s = ap₂ bit_xor (ap₂ bit_xor (ap₂ bit_xor p q) r) s
 
--- the sum of eight in the order of the code, and in that of the definition
+-- the sum of eight terms, in the order of the code and in that of the definition
 in-order : (a b c d e f g h : ℕ)
     → bit_xor (bit_xor (bit_xor (bit_xor a b) c) d) (bit_xor (bit_xor (bit_xor e f) g) h)
     ≡ bit_xor a (bit_xor b (bit_xor c (bit_xor d (bit_xor e (bit_xor f (bit_xor g (bit_xor h 0)))))))
@@ -82,7 +82,7 @@ in-order a b c d e f g h =
     to-the-right a b c d (bit_xor (bit_xor (bit_xor e f) g) h)
     ∙ ap (λ t. bit_xor a (bit_xor b (bit_xor c (bit_xor d t)))) (sym (xor_zero_r (bit_xor (bit_xor (bit_xor e f) g) h)) ∙ to-the-right e f g h 0)
 
--- the multiple that is taken where bit i is set
+-- the term of bit i
 abbrev term : ℕ → ℕ → ℕ → ℕ
 term i x y = if is_set i y then x else 0
 

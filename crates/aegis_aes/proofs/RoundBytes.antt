@@ -1,4 +1,4 @@
--- The bytes of a round: they are below 256 whatever its block is, where the key's are.
+-- The bytes after a round are below 256, for any block, if the key's are.
 use Rattle.std.proofs.Common.{◌≡◌, ℕ, zero, suc, ◌+◌, ◌*◌, ◌/◌, ◌%◌, ◌^◌, ◌<◌, Bool, true, false, ◌==◌, nat_lt, if◌then◌else◌, List, map, bit_xor, slice_index, refl, arith}
 use Rattle.std.specs.List.{range_with_len, sum}
 use Rattle.std.proofs.lemmas.Bool.{ltb-true}
@@ -36,7 +36,7 @@ affine_bit-below b i =
     xor_lt 1 _ _ (bit-below b i) (xor_lt 1 _ _ (bit-below b (i + 4)) (xor_lt 1 _ _ (bit-below b (i + 5))
     (xor_lt 1 _ _ (bit-below b (i + 6)) (xor_lt 1 _ _ (bit-below b (i + 7)) (bit-below 0x63 i)))))
 
--- eight bits, each weighted by its place
+-- a sum of eight bits, each times its power of 2
 bits-below : (f : ℕ → ℕ) → ((i : ℕ) → f i < 2) → sum (map (λ i. f i * 2 ^ i) (range_with_len 0 8)) < 256
 bits-below f low = omega (arith, low 0, low 1, low 2, low 3, low 4, low 5, low 6, low 7)
 

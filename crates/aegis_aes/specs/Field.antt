@@ -7,7 +7,7 @@ use Rattle.std.specs.List.{position, range_with_len}
 abbrev pub xtime : ℕ → ℕ
 xtime a = if nat_lt a 128 then 2 * a else bit_xor (2 * a % 256) 0x1b
 
--- the xor, over the n lowest bits of b that are set, of a put through `xtime` as often as the bit's place says
+-- the sum (by xor) of the products of a with x^i, for each i below n such that bit i of b is set
 unfoldable pub mul_bits : ℕ → ℕ → ℕ → ℕ
 mul_bits zero a b = 0
 mul_bits (suc n) a b = bit_xor (if b % 2 == 1 then a else 0) (mul_bits n (xtime a) (b / 2))
@@ -16,7 +16,7 @@ mul_bits (suc n) a b = bit_xor (if b % 2 == 1 then a else 0) (mul_bits n (xtime 
 unfoldable pub mul : ℕ → ℕ → ℕ
 mul a b = mul_bits 8 a b
 
--- the least byte whose product with a is 1, or 0 where there is none. `field::inverse_is_unique` proves that each
--- byte but 0 has exactly one such byte, so this is the multiplicative inverse.
+-- the least byte whose product with a is 1, or 0 if there is none. `field::inverse_is_unique` proves that there is
+-- exactly one for each byte but 0, so this is the multiplicative inverse.
 unfoldable pub inverse : ℕ → ℕ
 inverse a = unwrap_or (position (λ b. mul a b == 1) (range_with_len 0 256)) 0

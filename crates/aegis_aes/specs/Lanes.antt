@@ -1,4 +1,4 @@
--- Lanes: D of them run side by side, numbered from 0.
+-- Lanes side by side, numbered from 0.
 use Rattle.std.specs.Prelude.{◌≡◌, ℕ, zero, suc, ◌-◌, List, [], ◌∷◌, ◌⊎◌, replicate}
 use Rattle.aegis_aes.specs.Block.{xor}
 
@@ -6,11 +6,12 @@ use Rattle.aegis_aes.specs.Block.{xor}
 abbrev pub IsLaneCount : ℕ → Type 0
 IsLaneCount d = (d ≡ 1) ⊎ ((d ≡ 2) ⊎ (d ≡ 4))
 
--- the context block of lane j of d (AEGIS): the lane's number, the last lane's number, and zeros
+-- the context block of lane j of d (AEGIS specification, Init of AEGIS-128X and AEGIS-256X): the lane's number, the
+-- last lane's number, and zeros
 abbrev pub context : ℕ → ℕ → List ℕ
 context j d = j ∷ (d - 1) ∷ replicate 14 0
 
--- the xor of what the first d lanes have
+-- the xor of f 0 to f (d - 1), the blocks of the first d lanes
 unfoldable pub xor_lanes : (ℕ → List ℕ) → ℕ → List ℕ
 xor_lanes f zero = []
 xor_lanes f (suc zero) = f zero

@@ -21,7 +21,8 @@ affine b = sum (map (λ i. affine_bit b i * 2 ^ i) (range_with_len 0 8))
 unfoldable pub substitute : ℕ → ℕ
 substitute a = affine (inverse a)
 
--- entry i of row r of the matrix of MixColumns: row 0 is (2 3 1 1), and each row is the one before it, rotated
+-- entry i of row r of the matrix of MixColumns: row 0 is (2 3 1 1), and each row is the previous one, rotated right by
+-- one
 abbrev pub weight : ℕ → ℕ → ℕ
 weight r i = slice_index (2 ∷ 3 ∷ 1 ∷ 1 ∷ []) ((i + 4 - r) % 4)
 

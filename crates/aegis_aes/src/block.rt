@@ -8,8 +8,8 @@ use crate::round::round_by_field;
 use std::marker::Model;
 use std::simd::prelude::*;
 
-/// A block of sixteen bytes: the state or the key of an AES round (FIPS 197, section 3.4). Byte 4c + r
-/// is row r of column c. The default is sixteen zeros.
+/// A block of 16 bytes: the state or the key of an AES round (FIPS 197, section 3.4). Byte 4c + r is row r of column c.
+/// The default is 16 zero bytes.
 #[derive(Clone, Copy, Debug)]
 pub struct AesBlock {
     pub(crate) bytes: u8x16,
@@ -36,7 +36,7 @@ impl Default for AesBlock {
 }
 
 impl AesBlock {
-    /// The block of sixteen bytes, in order.
+    /// Creates a block from 16 bytes, in order.
     #[inline]
     pub fn from_bytes(bytes: &[u8]) -> AesBlock
         requires { length bytes.now ≡ 16 }
@@ -47,7 +47,7 @@ impl AesBlock {
         }
     }
 
-    /// The sixteen bytes, in order.
+    /// Returns the 16 bytes, in order.
     #[inline]
     pub fn to_bytes(self) -> [u8; 16]
         ensures { result ≡ self }
@@ -55,7 +55,7 @@ impl AesBlock {
         self.bytes.to_array()
     }
 
-    /// The xor of two blocks, byte by byte.
+    /// Returns the bitwise xor of two blocks.
     #[inline]
     pub fn xor(&self, other: AesBlock) -> AesBlock
         ensures { result ≡ xor self.now other }
@@ -65,7 +65,7 @@ impl AesBlock {
         }
     }
 
-    /// The and of two blocks, byte by byte.
+    /// Returns the bitwise and of two blocks.
     #[inline]
     pub fn and(&self, other: AesBlock) -> AesBlock
         ensures { result ≡ and self.now other }
@@ -75,8 +75,8 @@ impl AesBlock {
         }
     }
 
-    /// One AES round: SubBytes, ShiftRows, MixColumns, and last the key's bytes added by xor (FIPS 197,
-    /// sections 5.1.1 to 5.1.4). AEGIS calls it AESRound.
+    /// Returns the block after one AES round: SubBytes, ShiftRows, MixColumns, and then the xor with `key` (FIPS 197,
+    /// sections 5.1.1 to 5.1.4). The AEGIS specification calls it AESRound.
     pub fn round(&self, key: AesBlock) -> AesBlock
         ensures { result ≡ round self.now key }
     {

@@ -1,4 +1,4 @@
-//! Two blocks of 16 bytes side by side, as parallel lanes of AEGIS have them.
+//! Two blocks of 16 bytes side by side, as in AEGIS with two lanes.
 
 ghost use Rattle.std.proofs.Common.{ap, inl, inr};
 ghost use Rattle.std.specs.Prelude.{◌≡◌, ℕ, ◌+◌, ◌*◌, ◌<◌, ◌≤◌, ◌++◌, length, List, refl, replicate, slice_index};
@@ -49,7 +49,7 @@ impl AesBlock2 {
         }
     }
 
-    /// The two blocks, the first one first.
+    /// Returns the two blocks, in order.
     pub fn as_blocks(&self) -> (AesBlock, AesBlock)
         ensures first { result.0 ≡ self.now.0 }
         ensures second { result.1 ≡ self.now.1 }
@@ -63,7 +63,7 @@ impl AesBlock2 {
         (AesBlock { bytes: first }, AesBlock { bytes: second })
     }
 
-    /// The second block and then the first.
+    /// Returns the second block and then the first.
     pub fn exchanged(&self) -> AesBlock2
         ensures { result ≡ (self.now.1, self.now.0) }
     {
@@ -75,7 +75,7 @@ impl AesBlock2 {
         }
     }
 
-    /// The bitwise xor, block by block.
+    /// Returns the bitwise xor, block by block.
     pub fn xor(&self, other: AesBlock2) -> AesBlock2
         ensures { result ≡ each_of_two xor self.now other }
     {
@@ -84,7 +84,7 @@ impl AesBlock2 {
         }
     }
 
-    /// The bitwise xor of the first block and another. The second stays.
+    /// Returns the bitwise xor of the first block and `block`, beside the second block as it is.
     pub fn xor_first(&self, block: AesBlock) -> AesBlock2
         ensures { result ≡ (xor self.now.0 block, self.now.1) }
     {
@@ -94,7 +94,7 @@ impl AesBlock2 {
         }
     }
 
-    /// The bitwise and, block by block.
+    /// Returns the bitwise and, block by block.
     pub fn and(&self, other: AesBlock2) -> AesBlock2
         ensures { result ≡ each_of_two and self.now other }
     {
@@ -103,7 +103,8 @@ impl AesBlock2 {
         }
     }
 
-    /// A round of AES (FIPS 197, section 5) on each block, with the block of `key` at the same place as its key.
+    /// Returns each block after one AES round (FIPS 197, sections 5.1.1 to 5.1.4), with the block of `key` at the same
+    /// place as its key.
     pub fn round(&self, key: AesBlock2) -> AesBlock2
         ensures { result ≡ each_of_two round self.now key }
     {

@@ -1,4 +1,4 @@
-//! Four blocks of 16 bytes side by side, as parallel lanes of AEGIS have them.
+//! Four blocks of 16 bytes side by side, as in AEGIS with four lanes.
 
 ghost use Rattle.std.proofs.Common.{inr};
 ghost use Rattle.std.specs.Prelude.{◌≡◌, ℕ, ◌+◌, ◌*◌, ◌<◌, ◌≤◌, length, List, refl, replicate, slice_index};
@@ -38,7 +38,7 @@ impl AesBlock4 {
         }
     }
 
-    /// The four blocks, in their order.
+    /// Returns the four blocks, in order.
     pub fn as_blocks(&self) -> (AesBlock, AesBlock, AesBlock, AesBlock)
         ensures first { result.0 ≡ self.now.0 }
         ensures second { result.1 ≡ self.now.1 }
@@ -50,7 +50,7 @@ impl AesBlock4 {
         (b0, b1, b2, b3)
     }
 
-    /// The bitwise xor, block by block.
+    /// Returns the bitwise xor, block by block.
     pub fn xor(&self, other: AesBlock4) -> AesBlock4
         ensures { result ≡ each_of_four xor self.now other }
     {
@@ -60,7 +60,7 @@ impl AesBlock4 {
         }
     }
 
-    /// The bitwise and, block by block.
+    /// Returns the bitwise and, block by block.
     pub fn and(&self, other: AesBlock4) -> AesBlock4
         ensures { result ≡ each_of_four and self.now other }
     {
@@ -70,7 +70,8 @@ impl AesBlock4 {
         }
     }
 
-    /// A round of AES (FIPS 197, section 5) on each block, with the block of `key` at the same place as its key.
+    /// Returns each block after one AES round (FIPS 197, sections 5.1.1 to 5.1.4), with the block of `key` at the same
+    /// place as its key.
     pub fn round(&self, key: AesBlock4) -> AesBlock4
         ensures { result ≡ each_of_four round self.now key }
     {

@@ -6,9 +6,9 @@ ghost use Rattle.aegis_aes.specs.Field.{inverse, mul, xtime};
 
 use std::simd::prelude::*;
 
-/// Does nothing. Its contract says that `inverse`, which the specification of a round looks for
-/// among the bytes, is the multiplicative inverse of SubBytes (FIPS 197, sections 4.2 and 5.1.1):
-/// each byte but 0 has exactly one byte with product 1, which it finds, and it leaves 0 as it is.
+/// Does nothing. Its contract states that `inverse`, which the definition of a round finds by search, is the
+/// multiplicative inverse of SubBytes (FIPS 197, sections 4.2 and 5.1.1): for each byte but 0 it is the only byte whose
+/// product with it is 1, and for 0 it is 0.
 pub fn inverse_is_unique()
     ensures byte { (a : ℕ) → a < 256 → inverse a < 256 }
     ensures product { (a : ℕ) → a < 256 → 0 < a → mul a (inverse a) ≡ 1 }
@@ -27,7 +27,7 @@ pub(crate) fn times_x<const N: usize>(a: Simd<u8, N>) -> Simd<u8, N>
     (a << 1) ^ reduction
 }
 
-// The bytes of `a` where `b` has the bit, and 0 elsewhere.
+// Each byte of `a` if the byte of `b` at its place has the bit set, and otherwise 0.
 #[inline(always)]
 fn selected<const N: usize>(a: Simd<u8, N>, b: Simd<u8, N>, bit: u8) -> Simd<u8, N>
     ensures { result ≡ zip2 (λ x y. if bit_and y bit == 0 then 0 else x) a.entry b.entry }
@@ -37,7 +37,7 @@ fn selected<const N: usize>(a: Simd<u8, N>, b: Simd<u8, N>, bit: u8) -> Simd<u8,
         .select(Simd::splat(0), a)
 }
 
-/// The products, byte by byte: the sum of the multiples of `a` by the powers of x that `b` has.
+/// The products, byte by byte: the sum of `a` times each power of x that `b` contains.
 pub(crate) fn product<const N: usize>(a: Simd<u8, N>, b: Simd<u8, N>) -> Simd<u8, N>
     ensures { result ≡ zip2 mul a.entry b.entry }
 {
@@ -59,8 +59,8 @@ pub(crate) fn product<const N: usize>(a: Simd<u8, N>, b: Simd<u8, N>) -> Simd<u8
     low ^ high
 }
 
-/// The inverse of each byte, and 0 for 0 (FIPS 197, sections 4.2 and 5.1.1): the power 254, since each byte but 0 has 1 as its
-/// power 255.
+/// Returns the inverse of each byte, and 0 for 0 (FIPS 197, sections 4.2 and 5.1.1). It is the power 254, since the
+/// power 255 of each byte but 0 is 1.
 pub fn power_254<const N: usize>(a: Simd<u8, N>) -> Simd<u8, N>
     ensures { result ≡ map inverse a.entry }
 {

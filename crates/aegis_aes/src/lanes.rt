@@ -15,7 +15,7 @@ fn rotated<const N: usize>(a: Simd<u8, N>, places: u8) -> Simd<u8, N>
     (a << Simd::splat(places)) | (a >> Simd::splat(8 - places))
 }
 
-/// SubBytes of each byte: its inverse, and the affine map of that.
+/// SubBytes of each byte: the affine map of its inverse.
 pub(crate) fn sub_bytes<const N: usize>(a: Simd<u8, N>) -> Simd<u8, N>
     ensures { result ≡ map substitute a.entry }
 {

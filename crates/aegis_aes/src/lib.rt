@@ -1,8 +1,8 @@
 //! The AES round on blocks of sixteen bytes (FIPS 197), and rows of blocks, one for each lane of AEGIS.
 //!
-//! Bytes stand side by side in vectors, and no round reads memory at an address that depends on data. Each round is there
-//! twice, under one contract: that of the blocks themselves does the arithmetic of the field on all bytes at once, and
-//! [`Row::round`], which the ciphers call, is several times as fast by byte permutes.
+//! No round reads memory at an address that depends on data. The round is implemented twice, under one contract:
+//! `round` of the block types computes in the field, on all bytes of a vector at once, and [`Pair::round_pair`], which
+//! the ciphers call, uses byte permutes and is several times as fast.
 #![tactic(auto)]
 
 mod block;

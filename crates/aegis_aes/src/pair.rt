@@ -10,44 +10,45 @@ use crate::block2::AesBlock2;
 use crate::row::Row;
 use std::simd::prelude::*;
 
-/// Two rows, which go through a round together. So a vector of 32 bytes is filled by the rows of one lane too.
+/// Two rows that go through a round together, so that even the rows of a single lane fill a vector of 32 bytes.
 ///
-/// Contracts see the block of each lane by its row, 0 for the first and 1 for the second, and its number.
+/// In contracts, `block pair h j` is the block of lane j in the first row, h = 0, or the second, h = 1.
 pub trait Pair: Copy {
-    /// One of the two.
+    /// The type of each of the two rows.
     type Row: Row;
 
     // the block of a lane in a row
     ghost block: { Self → ℕ → ℕ → List ℕ };
 
-    /// The pair of two rows.
+    /// Creates a pair of two rows.
     fn of(first: Self::Row, second: Self::Row) -> Self
         ensures first { (j : ℕ) → j < Self.Row.LANES
             → block result 0 j ≡ Self.Row.block first j }
         ensures second { (j : ℕ) → j < Self.Row.LANES
             → block result 1 j ≡ Self.Row.block second j };
 
-    /// The first row.
+    /// Returns the first row.
     fn first(self) -> Self::Row
         ensures { (j : ℕ) → j < Self.Row.LANES → Self.Row.block result j ≡ block self 0 j };
 
-    /// The second row.
+    /// Returns the second row.
     fn second(self) -> Self::Row
         ensures { (j : ℕ) → j < Self.Row.LANES → Self.Row.block result j ≡ block self 1 j };
 
-    /// The second row and then the first.
+    /// Returns the pair with its rows exchanged.
     fn swap(self) -> Self
         ensures first { (j : ℕ) → j < Self.Row.LANES → block result 0 j ≡ block self 1 j }
         ensures second { (j : ℕ) → j < Self.Row.LANES → block result 1 j ≡ block self 0 j };
 
-    /// The pair whose blocks stand in `bytes` from byte `at` on, those of the second row after those of the first.
+    /// Reads a pair from `bytes`, beginning at byte `at`: 16 bytes for each lane of the first row, lane after lane, and
+    /// then those of the second row.
     fn load(bytes: &[u8], at: usize) -> Self
         requires { at + 32 * Self.Row.LANES ≤ length bytes.now }
         ensures { (h j : ℕ) → h < 2 → j < Self.Row.LANES
             → block result h j ≡ block_at bytes.now (at + 16 * (h * Self.Row.LANES + j)) };
 
-    /// Writes the blocks into `out` from byte `at` on, those of the second row after those of the first. The other bytes of
-    /// `out` stay as they were.
+    /// Writes the pair into `out`, beginning at byte `at`, in the order of [`Pair::load`]. The other bytes of `out` are
+    /// unchanged.
     fn store(self, out: &mut [u8], at: usize)
         requires { at + 32 * Self.Row.LANES ≤ length out.old }
         ensures written { (h j : ℕ) → h < 2 → j < Self.Row.LANES
@@ -55,23 +56,24 @@ pub trait Pair: Copy {
         ensures below { IsSameBefore at out.old out.new }
         ensures above { IsSameFrom (at + 32 * Self.Row.LANES) out.old out.new };
 
-    /// The bitwise xor, block by block.
+    /// Returns the bitwise xor, block by block.
     fn xor_pair(self, other: Self) -> Self
         ensures { (h j : ℕ) → h < 2 → j < Self.Row.LANES
             → block result h j ≡ xor (block self h j) (block other h j) };
 
-    /// The bitwise xor of a row and the first row of the pair. The second stays.
+    /// Returns the pair with `row` xored into its first row. The second row is unchanged.
     fn xor_first_row(self, row: Self::Row) -> Self
         ensures first { (j : ℕ) → j < Self.Row.LANES
             → block result 0 j ≡ xor (block self 0 j) (Self.Row.block row j) }
         ensures second { (j : ℕ) → j < Self.Row.LANES → block result 1 j ≡ block self 1 j };
 
-    /// The bitwise and, block by block.
+    /// Returns the bitwise and, block by block.
     fn and_pair(self, other: Self) -> Self
         ensures { (h j : ℕ) → h < 2 → j < Self.Row.LANES
             → block result h j ≡ and (block self h j) (block other h j) };
 
-    /// A round of AES (FIPS 197, section 5) on each block, with the block of `key` at the same place as its key.
+    /// Returns each block after one AES round (FIPS 197, sections 5.1.1 to 5.1.4), with the block of `key` at the same
+    /// place as its key.
     fn round_pair(self, key: Self) -> Self
         ensures { (h j : ℕ) → h < 2 → j < Self.Row.LANES
             → block result h j ≡ round (block self h j) (block key h j) };
@@ -126,7 +128,7 @@ impl Pair for AesBlock2 {
     }
 }
 
-/// Two rows of more lanes, each in vectors of its own.
+/// Two rows of two or more lanes, each row in vectors of its own.
 #[derive(Clone, Copy, Debug)]
 pub struct Rows2<R: Row> {
     first: R,
@@ -136,8 +138,8 @@ pub struct Rows2<R: Row> {
 impl<R: Row> Rows2<R> {
     ghost use Rattle.aegis_aes.specs.Pairs.{row_of_two};
 
-    // The round of each row. The second row comes first: the other way round, both rows of two lanes and what an update makes of
-    // them need more registers at the default processor level.
+    // The round of each row. The second row comes first: in the other order, an update of two lanes needs more
+    // registers at the default processor level.
     #[inline(always)]
     fn round_here(self, key: Self) -> Self
         ensures { (h j : ℕ) → h < 2 → j < R.LANES
@@ -220,7 +222,7 @@ impl<R: Row> Pair for Rows2<R> {
         }
     }
 
-    // The rows of four lanes do not fit the registers, and an update of them inlined fills many more with its own values.
+    // The rows of four lanes do not fit into the registers, and an inlined update needs many more.
     fn round_pair(self, key: Self) -> Self {
         if R::LANES == 4 {
             self.round_apart(key)

@@ -1,17 +1,18 @@
-//! SubBytes by byte permutes: each half of a byte is looked up in a constant vector of sixteen bytes, so no memory is read
+//! SubBytes by byte permutes: each half of a byte is looked up in a constant vector of 16 bytes, so no memory is read
 //! at an address that depends on data. After Hamburg, "Accelerating AES with vector permute instructions" (2009).
 //!
-//! A byte is u + v * t, where u and v are of the field of sixteen bytes and t = 0x34 is a root of t^2 = a * t + a, with
-//! a = 0x0c. Elements of the field of sixteen are written by their coordinates in the powers 0 to 3 of its generator
+//! A byte is u + v * t, where u and v are in the subfield of 16 elements and t = 0x34 is a root of t^2 = a * t + a,
+//! with a = 0x0c. Elements of the subfield are represented by their coordinates in the powers 0 to 3 of its generator
 //! 0x0d, and 0x80 stands for 1 / 0. Let
 //!
 //! - p = 1 / (1 / v + a / u) + (u + v)
 //! - q = 1 / (1 / (u + v) + a / u) + v
 //!
-//! Then the inverse of the byte is 1 / p + t * (1 / p + (1 / p + 1 / q) / a) / a, and its part from p and that from q are
-//! looked up with the linear part of the affine map applied.
+//! Then the inverse of the byte is 1 / p + t * (1 / p + (1 / p + 1 / q) / a) / a. This is the sum of a part that
+//! depends on p alone and a part that depends on q alone; the last two tables hold these parts with the linear part of
+//! the affine map applied.
 //!
-//! The constants are public for the tests, which derive them anew from the field.
+//! The constants are public for the tests, which compute them again from the field.
 
 ghost use Rattle.std.specs.Prelude.{◌≡◌, ℕ, ◌+◌, ◌%◌, ◌<◌, ◌≤◌, bit_and, length, map, replicate, slice_index};
 ghost use Rattle.std.specs.Simd.Lanes.{zip2};
@@ -21,32 +22,32 @@ ghost use Rattle.aegis_aes.specs.Round.{substitute};
 
 use std::simd::prelude::*;
 
-/// Entry n has the coordinates of the byte n: those of u in the low four bits, and those of v above.
+/// Entry n holds the coordinates of the byte n: those of u in the low four bits, and those of v in the high four.
 pub const IN_LOW: [u8; 16] = [
     0x00, 0x01, 0x27, 0x26, 0xc0, 0xc1, 0xe7, 0xe6, 0xc3, 0xc2, 0xe4, 0xe5, 0x03, 0x02, 0x24, 0x25,
 ];
-/// Entry n has those of the byte 16n.
+/// Entry n holds the coordinates of the byte 16n, in the same way.
 pub const IN_HIGH: [u8; 16] = [
     0x00, 0xaa, 0x7a, 0xd0, 0xaf, 0x05, 0xd5, 0x7f, 0xd8, 0x72, 0xa2, 0x08, 0x77, 0xdd, 0x0d, 0xa7,
 ];
-/// Entry n is 1 / n, by coordinates, and 0x80 where n is 0.
+/// Entry n is 1 / n, in coordinates, and entry 0 is 0x80.
 pub const INVERSE: [u8; 16] = [
     0x80, 0x01, 0x0c, 0x08, 0x06, 0x0f, 0x04, 0x0e, 0x03, 0x0d, 0x0b, 0x0a, 0x02, 0x09, 0x07, 0x05,
 ];
-/// Entry n is a / n, by coordinates, and 0x80 where n is 0.
+/// Entry n is a / n, in coordinates, and entry 0 is 0x80.
 pub const SCALED: [u8; 16] = [
     0x80, 0x03, 0x0d, 0x01, 0x0a, 0x08, 0x0c, 0x0b, 0x05, 0x0e, 0x04, 0x07, 0x06, 0x02, 0x09, 0x0f,
 ];
-/// Entry p is what SubBytes' affine map, without its constant, makes of the inverse's part from p.
+/// Entry p is the part of the inverse that depends on p, after the linear part of SubBytes' affine map.
 pub const OUT_ONE: [u8; 16] = [
     0x00, 0xfa, 0x35, 0x6a, 0x2b, 0xbb, 0x5f, 0x41, 0x8e, 0xcf, 0xe4, 0x1e, 0x74, 0x90, 0xd1, 0xa5,
 ];
-/// Entry q is what it makes of the part from q.
+/// Entry q is the part of the inverse that depends on q, after the same map.
 pub const OUT_TWO: [u8; 16] = [
     0x00, 0x81, 0x99, 0x76, 0x0a, 0xfd, 0xef, 0x7c, 0x64, 0x18, 0x12, 0x93, 0xe5, 0xf7, 0x8b, 0x6e,
 ];
 
-// The bytes at these places, each in its own block. At a place of 128 or more it is 0.
+// For each byte of `at`, the byte at that place of the same block of `from`, or 0 if the place is 128 or more.
 #[inline(always)]
 pub(crate) fn permute<const N: usize>(from: Simd<u8, N>, at: Simd<u8, N>) -> Simd<u8, N>
     requires width { IsWidth N }
@@ -88,7 +89,7 @@ pub(crate) fn repeated<const N: usize>(bytes: [u8; 16]) -> Simd<u8, N>
     Simd::from_slice(&two)
 }
 
-// The entries at these places. At a place of 128 or more it is 0.
+// The entries of `table` at these places, and 0 for a place of 128 or more.
 #[inline(always)]
 fn look<const N: usize>(table: [u8; 16], at: Simd<u8, N>) -> Simd<u8, N>
     requires width { IsWidth N }
@@ -98,7 +99,7 @@ fn look<const N: usize>(table: [u8; 16], at: Simd<u8, N>) -> Simd<u8, N>
     permute(repeated(table), at)
 }
 
-// The entries of a table of places.
+// The same with a table whose entries are places themselves.
 #[inline(always)]
 fn look_for_place<const N: usize>(table: [u8; 16], at: Simd<u8, N>) -> Simd<u8, N>
     requires width { IsWidth N }

@@ -1,4 +1,4 @@
-//! ShiftRows, MixColumns and AddRoundKey on the bytes of whole blocks, side by side.
+//! ShiftRows, MixColumns and AddRoundKey on blocks side by side.
 
 ghost use Rattle.std.specs.Prelude.{◌≡◌, ℕ, ◌+◌, ◌%◌, ◌<◌, ◌≤◌, bit_xor, length, map, slice_index};
 ghost use Rattle.aegis_aes.specs.Permutes.{IsWidth, mixed_at};
@@ -10,14 +10,14 @@ use crate::permutes::{permute, repeated};
 use crate::{lanes, permutes};
 use std::simd::prelude::*;
 
-// Where ShiftRows finds each byte of a block.
+// The place from which ShiftRows takes each byte of a block.
 const SHIFTED: [u8; 16] = [0, 5, 10, 15, 4, 9, 14, 3, 8, 13, 2, 7, 12, 1, 6, 11];
-// Where it finds the byte of the next row of the same column.
+// The place from which it takes the byte one row below, in the same column.
 const SHIFTED_NEXT: [u8; 16] = [5, 10, 15, 0, 9, 14, 3, 4, 13, 2, 7, 8, 1, 6, 11, 12];
-// Two rows on in the same column.
+// The place two rows below, in the same column.
 const TWO_ROWS_ON: [u8; 16] = [2, 3, 0, 1, 6, 7, 4, 5, 10, 11, 8, 9, 14, 15, 12, 13];
 
-/// Of bytes that SubBytes has changed: ShiftRows, MixColumns, and the key's bytes added by xor.
+/// Completes a round after SubBytes: ShiftRows, MixColumns, and the xor with the key's bytes.
 #[inline(always)]
 pub(crate) fn mixed<const N: usize>(s: Simd<u8, N>, key: Simd<u8, N>) -> Simd<u8, N>
     requires { IsWidth N }
@@ -29,7 +29,7 @@ pub(crate) fn mixed<const N: usize>(s: Simd<u8, N>, key: Simd<u8, N>) -> Simd<u8
     let next = permute(s, repeated(SHIFTED_NEXT));
     let sum = shifted ^ next;
     let across = permute(sum, repeated(TWO_ROWS_ON));
-    // Row r is 2a + 3b + c + d, of its own byte a and those of the next rows.
+    // Row r is 2a + 3b + c + d, where a is its own byte and b, c and d are those of the next rows.
     next ^ across ^ times_x(sum) ^ key
 }
 
@@ -47,7 +47,7 @@ pub(crate) fn round_by_permutes<const N: usize>(
     mixed(permutes::sub_bytes(blocks), keys)
 }
 
-/// The same by the arithmetic of the field.
+/// The same, computed in the field.
 pub(crate) fn round_by_field<const N: usize>(blocks: Simd<u8, N>, keys: Simd<u8, N>) -> Simd<u8, N>
     requires { IsWidth N }
     ensures long { length result ≡ N }

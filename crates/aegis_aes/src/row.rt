@@ -1,4 +1,4 @@
-//! Rows: the blocks that the lanes of a parallel AEGIS have at one place of their states, side by side.
+//! Rows: the blocks at one place of the states of all lanes of AEGIS, side by side.
 
 ghost use Rattle.std.proofs.Common.{inl};
 ghost use Rattle.std.specs.Prelude.{◌≡◌, ℕ, ◌+◌, ◌*◌, ◌<◌, ◌≤◌, length, List, refl, slice_index};
@@ -9,10 +9,10 @@ ghost use Rattle.aegis_aes.specs.Lanes.{IsLaneCount, context, xor_lanes};
 use crate::block::AesBlock;
 use crate::round::round_by_permutes;
 
-/// One block of each lane of AEGIS, where 1, 2 or 4 lanes run side by side. The lanes are numbered from 0, and
-/// contracts see the block of each by its number.
+/// One block of each lane of AEGIS, which has 1, 2 or 4 lanes side by side. The lanes are numbered from 0, and in
+/// contracts `block row j` is the block of lane j.
 pub trait Row: Copy {
-    /// How many lanes there are: 1, 2 or 4.
+    /// The number of lanes: 1, 2 or 4.
     const LANES: usize;
 
     ghost LANES: { ℕ };
@@ -20,22 +20,22 @@ pub trait Row: Copy {
     // the block of a lane
     ghost block: { Self → ℕ → List ℕ };
 
-    /// The row whose lanes all have one block.
+    /// Creates a row with the same block in all lanes.
     fn splat(value: AesBlock) -> Self
         ensures { (j : ℕ) → j < LANES → block result j ≡ value };
 
-    /// The row of the lanes' context blocks (AEGIS): the number of the lane, the number of the last lane, and 14 zero
-    /// bytes.
+    /// Returns the row of the lanes' context blocks (AEGIS specification, Init of AEGIS-128X and AEGIS-256X): the
+    /// number of the lane, the number of the last lane, and 14 zero bytes.
     fn contexts() -> Self
         ensures { (j : ℕ) → j < LANES → block result j ≡ context j LANES };
 
-    /// The row whose blocks stand in `bytes` from byte `at` on, 16 bytes for each lane, lane after lane.
+    /// Reads a row from `bytes`, beginning at byte `at`: 16 bytes for each lane, lane after lane.
     fn load(bytes: &[u8], at: usize) -> Self
         requires { at + 16 * LANES ≤ length bytes.now }
         ensures { (j : ℕ) → j < LANES → block result j ≡ block_at bytes.now (at + 16 * j) };
 
-    /// Writes the blocks into `out` from byte `at` on, 16 bytes for each lane, lane after lane. The other bytes of
-    /// `out` stay as they were.
+    /// Writes the row into `out`, beginning at byte `at`, in the order of [`Row::load`]. The other bytes of `out` are
+    /// unchanged.
     fn store(self, out: &mut [u8], at: usize)
         requires { at + 16 * LANES ≤ length out.old }
         ensures written { (j : ℕ) → j < LANES
@@ -43,22 +43,23 @@ pub trait Row: Copy {
         ensures below { IsSameBefore at out.old out.new }
         ensures above { IsSameFrom (at + 16 * LANES) out.old out.new };
 
-    /// The bitwise xor, lane by lane.
+    /// Returns the bitwise xor, lane by lane.
     fn xor_row(self, other: Self) -> Self
         ensures { (j : ℕ) → j < LANES
             → block result j ≡ xor (block self j) (block other j) };
 
-    /// The bitwise and, lane by lane.
+    /// Returns the bitwise and, lane by lane.
     fn and_row(self, other: Self) -> Self
         ensures { (j : ℕ) → j < LANES
             → block result j ≡ and (block self j) (block other j) };
 
-    /// A round of AES (FIPS 197, section 5) on each lane's block, with the block of `key` at that lane as its key.
+    /// Returns each lane's block after one AES round (FIPS 197, sections 5.1.1 to 5.1.4), with that lane's block of
+    /// `key` as its key.
     fn round_row(self, key: Self) -> Self
         ensures { (j : ℕ) → j < LANES
             → block result j ≡ round (block self j) (block key j) };
 
-    /// The xor of all lanes' blocks, which each have 16 bytes.
+    /// Returns the xor of the lanes' blocks.
     fn xor_of_lanes(self) -> AesBlock
         ensures value { result ≡ xor_lanes (block self) LANES }
         ensures sixteen { (j : ℕ) → j < LANES → length (block self j) ≡ 16 };

@@ -1,11 +1,11 @@
-//! Blocks side by side in one vector, whatever their number.
+//! Any number of blocks side by side in one vector.
 
 ghost use Rattle.std.specs.Prelude.{◌≡◌, ℕ, ◌+◌, ◌*◌, ◌<◌, ◌≤◌, length, slice_index};
 ghost use Rattle.aegis_aes.specs.Block.{IsSameBefore, IsSameFrom, and, block_at, xor};
 
 use std::simd::prelude::*;
 
-/// The blocks that stand in `bytes` from byte `at` on.
+/// Reads blocks from `bytes`, beginning at byte `at`.
 #[inline(always)]
 pub(crate) fn load<const N: usize>(bytes: &[u8], at: usize) -> Simd<u8, N>
     requires { at + N ≤ length bytes.now }
@@ -16,7 +16,7 @@ pub(crate) fn load<const N: usize>(bytes: &[u8], at: usize) -> Simd<u8, N>
     Simd::from_slice(&bytes[at..])
 }
 
-/// Writes the blocks into `out` from byte `at` on.
+/// Writes the blocks into `out`, beginning at byte `at`. The other bytes of `out` are unchanged.
 #[inline(always)]
 pub(crate) fn store<const N: usize>(blocks: Simd<u8, N>, out: &mut [u8], at: usize)
     requires { at + N ≤ length out.old }

@@ -1,4 +1,4 @@
--- A message that goes on: its ciphertext and its run.
+-- A message that continues: its ciphertext and its run.
 use Rattle.std.proofs.Common.{◌≡◌, ◌∙◌, sym, ap, refl, ℕ, ◌+◌, ◌-◌, ◌/◌, ◌%◌, ◌<◌, ⊎_elim, List, [], ◌++◌, length, bit_xor, slice_index, arith}
 use Rattle.std.proofs.Math.Nat.{zero-div, zero-mod}
 use Rattle.std.proofs.lemmas.Bool.{cases_lt}
@@ -11,7 +11,7 @@ use Rattle.aegis_base.proofs.Bijection.{ciphertext-is, ciphertext-reads, length-
 use Rattle.aegis_base.proofs.MessageFacts.{after-none}
 use Rattle.aegis_base.proofs.RunFacts.{along-same}
 
--- bytes that are xored with the keystream along the longer message follow the ciphertext of the shorter one
+-- the ciphertext of a message that continues is that of its beginning, and then the rest xored with the keystream
 pub ciphertext-append : (variant : Variant) (lanes : ℕ → List (List ℕ)) (m p c : List ℕ) → IsLaneCount variant.lanes → length c ≡ length p
     → ((i : ℕ) → i < length p → slice_index c i ≡ bit_xor (slice_index p i) (keystream_byte_along variant lanes (m ++ p) (length m + i)))
     → ciphertext_from variant lanes (m ++ p) ≡ ciphertext_from variant lanes m ++ c
@@ -51,7 +51,7 @@ along-none variant lanes here block x same =
       open_block = λ k h. absurd (omega arith);
     }
 
--- a run along a message is along each longer one
+-- a run along a message is one along each longer message
 pub along-longer : (variant : Variant) (lanes here : ℕ → List (List ℕ)) (block m p : List ℕ)
     → IsAlong variant lanes here block m (length m) → IsAlong variant lanes here block (m ++ p) (length m)
 along-longer variant lanes here block m p on =

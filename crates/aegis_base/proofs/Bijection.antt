@@ -1,5 +1,5 @@
--- From given lanes, sealing is one-to-one and onto on the messages of each length: a byte of the keystream depends on
--- no byte of the message from its own place on.
+-- From given lanes, sealing is one-to-one and onto on the messages of each length, since a byte of the keystream
+-- depends only on the bytes of the message before it.
 use Rattle.std.proofs.Common.{◌≡◌, ◌∙◌, sym, ap, refl, ℕ, zero, suc, ◌*◌, ◌/◌, ◌<◌, ◌≤◌, List, [], ◌∷◌, ◌++◌, length, bit_xor, slice_index, arith, below_more}
 use Rattle.std.specs.Int.Bits.{xor_assoc, xor_self, xor_zero_r}
 use Rattle.std.proofs.Math.Nat.{div-mul-le_self}
@@ -33,7 +33,7 @@ pub ciphertext-is : (variant : Variant) (lanes : ℕ → List (List ℕ)) (m c :
 unfolding ciphertext_from
 ciphertext-is variant lanes m c long reads = fill_by_all (ciphertext_byte variant lanes m) c (length m) 0 long reads
 
--- only the lanes that there are count
+-- the ciphertext depends only on the variant's own lanes
 pub ciphertext-same : (variant : Variant) (f g : ℕ → List (List ℕ)) (m : List ℕ) → IsLaneCount variant.lanes
     → ((j : ℕ) → j < variant.lanes → f j ≡ g j) → ciphertext_from variant f m ≡ ciphertext_from variant g m
 ciphertext-same variant f g m count same =
@@ -53,7 +53,7 @@ keystream_byte_along-same variant lanes x y i count same =
     (λ j. after variant (lanes j) j y (i / rate variant)) i count
     (λ j low. after-same variant (lanes j) j x y (i / rate variant) low same)
 
--- so it depends on the bytes before it alone
+-- it depends only on the bytes before it
 pub keystream_byte_along-before : (variant : Variant) (lanes : ℕ → List (List ℕ)) (x y : List ℕ) (i : ℕ) → IsLaneCount variant.lanes
     → ((k : ℕ) → k < i → slice_index x k ≡ slice_index y k)
     → keystream_byte_along variant lanes x i ≡ keystream_byte_along variant lanes y i
@@ -101,7 +101,8 @@ record IsOpened (variant : Variant) (lanes : ℕ → List (List ℕ)) (c : List 
   long : length m ≡ n
   opens : (i : ℕ) → i < n → ciphertext_byte variant lanes m i ≡ slice_index c i
 
--- the message that is sealed to the first n bytes of c: each byte is c's, xored with the keystream along those before it
+-- the message that is sealed to the first n bytes of c: each byte of c, xored with the keystream along the bytes before
+-- it
 opened : Variant → (ℕ → List (List ℕ)) → List ℕ → ℕ → List ℕ
 opened variant lanes c zero = []
 opened variant lanes c (suc n) =
@@ -140,7 +141,7 @@ opened-opens variant lanes c zero count = record { long = refl; opens = λ i h. 
 opened-opens variant lanes c (suc n) count =
     opened-more variant lanes c n (opened variant lanes c n) count (opened-opens variant lanes c n count)
 
--- from lanes of bytes, a message opened from bytes is bytes
+-- from lanes of bytes, bytes are opened to bytes
 opened-bytes : (variant : Variant) (lanes : ℕ → List (List ℕ)) (c : List ℕ) (n : ℕ) → IsLaneCount variant.lanes
     → ((j : ℕ) → j < variant.lanes → AreRows (lanes j)) → IsBytes c → IsBytes (opened variant lanes c n)
 unfolding opened

@@ -1,5 +1,5 @@
--- Lanes of bytes: where the key, the nonce, the associated data and the message are lists of bytes, so are the rows of
--- the lanes and their keystream.
+-- Lanes of bytes: if the key, the nonce, the associated data and the message are lists of bytes, so are the rows of the
+-- lanes and their keystream.
 use Rattle.std.proofs.Common.{◌≡◌, ℕ, zero, suc, ◌+◌, ◌*◌, ◌/◌, ◌%◌, ◌<◌, Bool, true, ◌&&◌, nat_lt, List, [], ◌∷◌, ◌++◌, take, drop, bit_and, bit_xor, slice_index, refl, arith, inl, inr}
 use Rattle.std.specs.Int.Bits.{and_lt}
 use Rattle.std.specs.Simd.Lanes.{zip2}

@@ -1,4 +1,4 @@
--- What a sealed or opened message stands for, after more of it and after its end.
+-- What the values that seal or open a message stand for, as the message continues and at its end.
 use Rattle.std.proofs.Common.{◌≡◌, ◌∙◌, sym, ap, refl, ℕ, ◌+◌, ◌/◌, ◌<◌, List, [], ◌++◌, length, bit_xor, slice_index, arith}
 use Rattle.std.proofs.Math.Nat.{div-eq_of_lt, zero-div}
 use Rattle.std.proofs.lemmas.List.{length-append}
@@ -39,7 +39,7 @@ module _ (variant : Variant) (lane : ℕ → List (List ℕ)) (updates : ℕ) (b
   unfolding Stands
   follows = rw is.1 (has-after m p)
 
-  -- the run goes on along n bytes p
+  -- the run continues along n bytes p
   pub stands-on : (next : ℕ → List (List ℕ)) (count : ℕ) (last : List ℕ) (n r : ℕ) → n ≡ length p → r ≡ rate variant
       → ((lanes : ℕ → List (List ℕ)) (x : List ℕ) → IsAlong variant lanes lane block x message_bytes → HasFrom x message_bytes p
       → IsAlong variant lanes next last x (message_bytes + n))
@@ -55,7 +55,7 @@ module _ (variant : Variant) (lane : ℕ → List (List ℕ)) (updates : ℕ) (b
       let later : (message_bytes + n) / r ≡ length (m ++ p) / rate variant = ap (λ (q : ℕ). q / r) place ∙ ap (λ (q : ℕ). length (m ++ p) / q) rate_is in
       (is.0, place, omega arith, along-held variant _ next last (m ++ p) _ (rw place at (along (lane_before variant key nonce ad) (m ++ p) begun follows)))
 
-  -- bytes c that are p's, xored with the keystream, follow the ciphertext
+  -- the bytes p xored with the keystream continue the ciphertext
   pub ciphertext-on : (c : List ℕ) → IsLaneCount variant.lanes → length c ≡ length p
       → ((lanes : ℕ → List (List ℕ)) (x : List ℕ) → IsAlong variant lanes lane block x message_bytes → HasFrom x message_bytes p
       → (i : ℕ) → i < length p → slice_index c i ≡ bit_xor (slice_index p i) (keystream_byte_along variant lanes x (message_bytes + i)))
@@ -65,7 +65,7 @@ module _ (variant : Variant) (lane : ℕ → List (List ℕ)) (updates : ℕ) (b
       ciphertext-append variant (lane_before variant key nonce ad) m p c count long
       (λ i low. rw (← is.1) (xored (lane_before variant key nonce ad) (m ++ p) begun follows i low))
 
--- ---- a message of which nothing is taken in yet, and a run without associated data
+-- ---- a message of no bytes so far, and a run without associated data
 
 pub stands-begun : (variant : Variant) (lane : ℕ → List (List ℕ)) (updates : ℕ) (block : List ℕ) (data_bytes : ℕ) (key nonce ad : List ℕ)
     → data_bytes ≡ length ad → updates ≡ block_count variant (length ad)

@@ -1,5 +1,5 @@
--- The stream of a key and a nonce: the ciphertext of a message's beginning is the beginning of its ciphertext, and
--- xoring twice with one list changes nothing.
+-- Keystreams: the ciphertext of a message's beginning is the beginning of its ciphertext, and xoring twice with one
+-- list changes nothing.
 use Rattle.std.proofs.Common.{◌≡◌, ◌∙◌, sym, ap, refl, ℕ, ◌<◌, ◌≤◌, List, [], ◌∷◌, length, bit_xor, replicate, slice_index, take, arith, inl, inr, ◌/◌, ◌*◌}
 use Rattle.std.specs.Int.Bits.{xor_assoc}
 use Rattle.std.proofs.lemmas.Bool.{cases_lt}

@@ -1,10 +1,10 @@
--- The xor of what lanes have, and bytes that two lists have in common.
+-- The xor of the lanes' blocks, and bytes that two lists have in common.
 use Rattle.std.proofs.Common.{◌≡◌, ℕ, zero, suc, ◌+◌, ◌<◌, List, [], ◌∷◌, ◌++◌, length, slice_index, refl, sym, ◌∙◌, arith, inl, inr}
 use Rattle.aegis_aes.specs.Block.{bytes_at, xor}
 use Rattle.aegis_aes.specs.Lanes.{IsLaneCount, xor_lanes}
 use Rattle.aegis_aes.proofs.Places.{bytes_at-is, get_or-bytes_at, length-bytes_at}
 
--- lanes that have the same have the same xor
+-- lanes with the same blocks have the same xor
 pub xor_lanes-same : (f g : ℕ → List ℕ) (d : ℕ) → ((j : ℕ) → j < d → f j ≡ g j) → xor_lanes f d ≡ xor_lanes g d
 unfolding xor_lanes
 xor_lanes-same f g zero same = refl
@@ -19,7 +19,7 @@ pub bytes_at-same : (xs ys : List ℕ) (i k n : ℕ) → ((p : ℕ) → p < n �
 bytes_at-same xs ys i k n same =
     bytes_at-is xs i n (bytes_at ys k n) (length-bytes_at ys k n) (λ p h. same p h ∙ sym (get_or-bytes_at ys k n p 0 h))
 
--- two lists of equal lengths, and what is joined to them, place by place
+-- the xor of two joined lists, if their first parts are equally long
 zip2-append : (xs ys vs ws : List ℕ) → length xs ≡ length ys → xor (xs ++ vs) (ys ++ ws) ≡ xor xs ys ++ xor vs ws
 zip2-append [] [] vs ws e = refl
 zip2-append [] (y ∷ ys) vs ws e = absurd (omega (arith, e))
@@ -36,7 +36,7 @@ length-xor (x ∷ xs) (y ∷ ys) e =
     let shorter : length xs ≡ length ys = omega (arith, e) in
     let rest = length-xor xs ys shorter in omega arith
 
--- the xor of the first lanes is as long as what each has
+-- the xor of the lanes' lists is as long as each of them
 pub length-xor_lanes : (f : ℕ → List ℕ) (n d : ℕ) → ((j : ℕ) → j < suc d → length (f j) ≡ n) → length (xor_lanes f (suc d)) ≡ n
 unfolding xor_lanes
 length-xor_lanes f n zero long = long 0 (omega arith)

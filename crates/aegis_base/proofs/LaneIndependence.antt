@@ -1,5 +1,5 @@
--- No lane reads another's bytes: what a ciphertext has at the places of one lane follows from the lane before the
--- message and from what the message has at these places.
+-- The bytes of a ciphertext at the places of one lane depend only on that lane before the message and on the bytes of
+-- the message at these places.
 use Rattle.std.proofs.Common.{◌≡◌, ◌∙◌, sym, ap, subst, refl, ℕ, zero, suc, ◌+◌, ◌*◌, ◌/◌, ◌<◌, List, length, bit_xor, slice_index, arith, inl, inr}
 use Rattle.std.proofs.lemmas.Bool.{cases_lt}
 use Rattle.std.proofs.lemmas.List.{get_or_past}

@@ -1,5 +1,5 @@
--- The lengths of tags. The rounds of a lane's rows have 16 bytes whatever went in, so that its end, which begins with such
--- a row, leaves 16 bytes in each row, and its tags have the bytes that they are asked for.
+-- The lengths of tags. A round returns 16 bytes for any input, so each row has 16 bytes after a lane's end, and a tag
+-- of n bytes has n bytes.
 use Rattle.std.proofs.Common.{◌≡◌, ◌∙◌, sym, ap, ℕ, zero, suc, ◌/◌, ◌%◌, ◌<◌, List, [], ◌∷◌, ◌++◌, length, drop, take, arith, rules, inl, inr}
 use Rattle.std.proofs.Math.Seq.{drop-append_seam, take-append_seam}
 use Rattle.std.proofs.lemmas.List.{length-append}
@@ -28,7 +28,7 @@ xor-block {a} {b} is also = record { long = length-xor a b (is.long ∙ sym also
 
 -- ---- a lane after at least one update
 
--- the row that the block ending a lane is made of
+-- the row that the input of a lane's last updates is computed from
 abbrev end_row : Family → List (List ℕ) → List ℕ
 end_row Family128 s = block_in s 2
 end_row Family256 s = block_in s 3
@@ -110,7 +110,7 @@ pub length-lane_tag : (family : Family) (n : ℕ) (s : List (List ℕ)) → IsTa
 length-lane_tag family n s (inl e) whole = rw e whole.short
 length-lane_tag family n s (inr e) whole = rw e (omega (arith, length-append (low_tag family s) (high_tag family s), whole.low, whole.high))
 
--- tags of 32 bytes that are the same have the same halves
+-- equal tags of 32 bytes have equal halves
 pub tag-halves : (family : Family) (s t : List (List ℕ)) → IsWhole family s → IsWhole family t
     → lane_tag family 32 s ≡ lane_tag family 32 t → (low_tag family s ≡ low_tag family t) × (high_tag family s ≡ high_tag family t)
 tag-halves family s t whole also e =

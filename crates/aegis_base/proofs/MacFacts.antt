@@ -1,4 +1,4 @@
--- What the fold of the lanes' tags reads, and the MAC from lanes that were run along its input.
+-- What the fold of the lanes' tags depends on, and the MAC from lanes that have taken in its input.
 use Rattle.std.proofs.Common.{◌≡◌, ◌∙◌, sym, ap, refl, ℕ, zero, suc, ◌+◌, ◌-◌, ◌*◌, ◌<◌, ◌≤◌, ◌==◌, ◌⊎◌, if◌then◌else◌, List, [], ◌∷◌, ◌++◌, length, replicate, slice_index, arith, inl, inr}
 use Rattle.std.proofs.lemmas.List.{get_or-replicate, length-replicate}
 use Rattle.std.proofs.lemmas.Nat.{div-mul-add}
@@ -13,7 +13,7 @@ use Rattle.aegis_base.proofs.Lengths.{IsStepped, IsWhole, after-stepped, finish-
 use Rattle.aegis_base.proofs.LaneIndependence.{after_all-in_lane}
 use Rattle.aegis_base.proofs.MessageFacts.{rate-positive, share_at-same}
 
--- ---- a fold reads the tags of the lanes that there are
+-- ---- a fold depends only on the tags of the variant's own lanes
 
 short_fold_turn-same : (family : Family) (d : ℕ) (f g : ℕ → List ℕ) (k : ℕ) (s : List (List ℕ)) → k < short_fold_turns family d
     → ((j : ℕ) → j < d → f j ≡ g j) → short_fold_turn family f k s ≡ short_fold_turn family g k s
@@ -87,7 +87,7 @@ pub mac_tag-one : (variant : Variant) (n : ℕ) (lanes : ℕ → List (List ℕ)
 unfolding mac_tag xor_lanes
 mac_tag-one variant n lanes e = rw e refl
 
--- of several lanes, lane 0 is folded and ended
+-- with several lanes, from lane 0 after the fold and its end
 pub mac_tag-folded : (variant : Variant) (n : ℕ) (lanes : ℕ → List (List ℕ)) → IsLaneCount variant.lanes → (variant.lanes ≡ 1 → ⊥)
     → lane_tag variant.family n (finish variant.family (fold variant n lanes) variant.lanes (8 * n)) ≡ mac_tag variant n lanes
 unfolding mac_tag
@@ -95,7 +95,7 @@ mac_tag-folded variant n lanes (inl one) more = absurd (more one)
 mac_tag-folded variant n lanes (inr (inl two)) more = rw two refl
 mac_tag-folded variant n lanes (inr (inr four)) more = rw four refl
 
--- of 16 bytes, where `tags` has the lanes' tags
+-- of 16 bytes, with `tags` for the lanes' tags
 pub mac_tag-short : (variant : Variant) (number : ℕ) (lanes : ℕ → List (List ℕ)) (tags : ℕ → List ℕ) (folded ended : List (List ℕ))
     → IsLaneCount variant.lanes → variant.lanes ≡ number → (number ≡ 1 → ⊥) → ((j : ℕ) → j < variant.lanes → tags j ≡ short_tag variant.family (lanes j))
     → folded ≡ fold_short variant.family tags (lanes 0) (short_fold_turns variant.family variant.lanes) → ended ≡ finish variant.family folded number 128
@@ -105,7 +105,7 @@ mac_tag-short variant number lanes tags folded ended count is more same fold end
     let several : variant.lanes ≡ 1 → ⊥ = λ one. more (sym is ∙ one) in
     rw (end, fold, read, ← is) (mac_tag-folded variant 16 lanes count several)
 
--- of 32 bytes, where `low` and `high` have the halves of the lanes' tags
+-- of 32 bytes, with `low` and `high` for the halves of the lanes' tags
 pub mac_tag-long : (variant : Variant) (number : ℕ) (lanes : ℕ → List (List ℕ)) (low high : ℕ → List ℕ) (folded ended : List (List ℕ))
     → IsLaneCount variant.lanes → variant.lanes ≡ number → (number ≡ 1 → ⊥) → ((j : ℕ) → j < variant.lanes → low j ≡ low_tag variant.family (lanes j))
     → ((j : ℕ) → j < variant.lanes → high j ≡ high_tag variant.family (lanes j))
@@ -118,12 +118,12 @@ mac_tag-long variant number lanes low high folded ended count is more same also 
 
 -- ---- the MAC of an input
 
--- an input that is there is taken in as it is
+-- an input that is not empty is taken in as it is
 pub mac_input-some : (variant : Variant) (x : List ℕ) → 0 < length x → mac_input variant x ≡ x
 mac_input-some variant [] some = absurd (omega arith)
 mac_input-some variant (byte ∷ rest) some = refl
 
--- where there is none, a lane takes in one rate block of zeros, here those of z from place a on
+-- with an empty input, a lane takes in one rate block of zeros, here those of z from place a on
 pub mac_input-none : (variant : Variant) (s : List (List ℕ)) (j : ℕ) (z : List ℕ) (a : ℕ) → IsLaneCount variant.lanes → j < variant.lanes
     → ((k : ℕ) → k < rate variant → slice_index z (a + k) ≡ 0)
     → step variant.family s (share_at variant j z a) ≡ after_all variant s j (mac_input variant [])
@@ -140,7 +140,7 @@ mac_input-none variant s j z a count inside zeros =
     let long : length (replicate r 0) ≡ r = length-replicate {A = ℕ} r 0 in
     rw (long, one, taken) refl
 
--- the MAC, from lanes after all that an input has them take in, where p and q are the lengths in bits
+-- the MAC, from the lanes after the input; p and q are the lengths in bits
 pub mac-is : (variant : Variant) (n : ℕ) (last ended : ℕ → List (List ℕ)) (key nonce x : List ℕ) (p q : ℕ) → IsLaneCount variant.lanes → IsTagLength n
     → ((j : ℕ) → j < variant.lanes → last j ≡ after_all variant (start variant key nonce j) j (mac_input variant x))
     → ((j : ℕ) → j < variant.lanes → ended j ≡ finish variant.family (last j) p q) → p ≡ 8 * length x → q ≡ 8 * n
@@ -177,7 +177,7 @@ several-more : (d : ℕ) → (d ≡ 2) ⊎ (d ≡ 4) → d ≡ 1 → ⊥
 several-more d (inl two) one = omega arith
 several-more d (inr four) one = omega arith
 
--- of several lanes
+-- with several lanes
 length-folded : (variant : Variant) (n : ℕ) (lanes : ℕ → List (List ℕ)) → IsLaneCount variant.lanes → (variant.lanes ≡ 1 → ⊥)
     → IsTagLength n → IsStepped variant.family (lanes 0) → length (mac_tag variant n lanes) ≡ n
 length-folded variant n lanes count more is stepped =

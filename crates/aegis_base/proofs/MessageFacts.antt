@@ -1,5 +1,4 @@
--- How the definitions of a message read bytes: rate blocks of two messages that agree, places in a rate block, and
--- blocks of keystream byte by byte.
+-- Messages that agree in some bytes, places in a rate block, and blocks of keystream byte by byte.
 use Rattle.std.proofs.Common.{◌≡◌, ◌∙◌, sym, ap, refl, ℕ, zero, suc, ◌+◌, ◌-◌, ◌*◌, ◌/◌, ◌%◌, ◌<◌, ◌≤◌, List, [], ◌∷◌, length, bit_xor, slice_index, arith, add-one, inl, inr}
 use Rattle.std.proofs.Math.Nat.{div-mul-le_self, le-mul_of_pos_right, lt-div-mul-add}
 use Rattle.std.proofs.lemmas.Nat.{div-mul-add, div_below}
@@ -60,7 +59,7 @@ after-more variant s j x n = rw add-one refl
 
 -- ---- places
 
--- the variant of a family and a number of lanes; each is of that form
+-- the variant of a family and a number of lanes
 abbrev pub variant_of : Family → ℕ → Variant
 variant_of family d = record { family = family; lanes = d }
 
@@ -99,7 +98,7 @@ pub keystream_byte-same : (variant : Variant) (f g : ℕ → List (List ℕ)) (i
     → ((j : ℕ) → j < variant.lanes → f j ≡ g j) → keystream_byte variant f i ≡ keystream_byte variant g i
 keystream_byte-same variant f g i count same = rw (same (lane_of variant.lanes i) (lane_of-within variant.lanes i count)) refl
 
--- the places of a rate block are the same in each
+-- the keystream's byte depends only on its place in the rate block
 pub keystream_byte-periodic : (variant : Variant) (f : ℕ → List (List ℕ)) (n k : ℕ) → IsLaneCount variant.lanes
     → keystream_byte variant f (n * rate variant + k) ≡ keystream_byte variant f k
 keystream_byte-periodic variant f n k count =
@@ -108,7 +107,7 @@ keystream_byte-periodic variant f n k count =
 
 -- ---- blocks byte by byte
 
--- the bytes of an xor, as far as it goes
+-- the bytes of an xor
 xor-reads : (xs ys : List ℕ) (p : ℕ) → p < length (xor xs ys) → slice_index (xor xs ys) p ≡ bit_xor (slice_index xs p) (slice_index ys p)
 xor-reads [] ys p h = absurd (omega arith)
 xor-reads (x ∷ xs) [] p h = absurd (omega arith)
@@ -123,7 +122,7 @@ xored-reads new old z a p low e =
     sym (get_or-bytes_at new a 16 p 0 low) ∙ ap (λ (xs : List ℕ). slice_index xs p) e ∙ xor-reads (block_at old a) z p long
     ∙ ap (λ (b : ℕ). bit_xor b (slice_index z p)) (get_or-bytes_at old a 16 p 0 low)
 
--- where byte k of a rate block stands among its blocks
+-- the place of byte k of a rate block among its blocks
 record IsPlace (variant : Variant) (k : ℕ) : Type 0 where
   place : 16 * (k % rate variant / 16 / variant.lanes * variant.lanes + lane_of variant.lanes k) + k % 16 ≡ k
   block : k % rate variant / 16 / variant.lanes < width variant.family
@@ -165,7 +164,7 @@ block_count-whole variant n r e positive whole =
     let place : n + (r - 1) ≡ n / r * r + (r - 1) = omega arith in
     rw (← e, place) (div-mul-add (n / r) r (r - 1) (omega arith))
 
--- no more rate blocks than bytes
+-- there are no more rate blocks than bytes
 pub block_count-below : (variant : Variant) (n : ℕ) → IsLaneCount variant.lanes → block_count variant n ≤ n
 block_count-below variant n count =
     let positive = rate-positive variant count in

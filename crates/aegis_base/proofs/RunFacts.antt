@@ -1,4 +1,4 @@
--- How runs go on: along one more rate block, along a part of one, and along more of the same bytes.
+-- How runs continue: along one more rate block, along a part of one, and along more of the same bytes.
 use Rattle.std.proofs.Common.{◌≡◌, ◌∙◌, sym, ap, refl, ℕ, ◌+◌, ◌-◌, ◌*◌, ◌/◌, ◌%◌, ◌<◌, ◌≤◌, ⊎_elim, List, length, slice_index, arith}
 use Rattle.std.proofs.lemmas.Bool.{cases_lt}
 use Rattle.std.proofs.lemmas.List.{get_or_past}
@@ -14,13 +14,13 @@ use Rattle.aegis_base.proofs.MessageFacts.{after-more, after-same, block_count-p
 
 module _ (variant : Variant) (lanes here : ℕ → List (List ℕ)) (x : List ℕ) (n : ℕ)
     (before : (j : ℕ) → j < variant.lanes → here j ≡ after variant (lanes j) j x n) where
-  -- rate block n of x, which stands at place a of other bytes, is taken in
+  -- rate block n of x is taken in from place a of other bytes
   pub block-lane : (bytes : List ℕ) (a j : ℕ) → j < variant.lanes → ((k : ℕ) → k < rate variant → slice_index bytes (a + k) ≡ slice_index x (n * rate variant + k))
       → step variant.family (here j) (share_at variant j bytes a) ≡ after variant (lanes j) j x (n + 1)
   block-lane bytes a j inside same =
       rw (after-more, ← before j inside) (ap (step variant.family (here j)) (share_at-same variant j bytes x a (n * rate variant) inside same))
 
-  -- its keystream is that of the lanes before it
+  -- the keystream of that rate block is that of the lanes before it
   pub block-byte : (k : ℕ) → IsLaneCount variant.lanes → k < rate variant → keystream_byte_along variant lanes x (n * rate variant + k) ≡ keystream_byte variant here k
   block-byte k count low =
       let rows = λ (j : ℕ). after variant (lanes j) j x n in
@@ -29,7 +29,7 @@ module _ (variant : Variant) (lanes here : ℕ → List (List ℕ)) (x : List �
 
 -- ---- a part of a rate block
 
--- a list that has the same first bytes
+-- a run along a list is one along each list with the same first bytes
 pub along-same : (variant : Variant) (lanes here : ℕ → List (List ℕ)) (block x y : List ℕ) (t : ℕ)
     → ((k : ℕ) → k < t → slice_index x k ≡ slice_index y k) → IsAlong variant lanes here block x t → IsAlong variant lanes here block y t
 along-same variant lanes here block x y t same on =
@@ -39,7 +39,7 @@ along-same variant lanes here block x y t same on =
       open_block = λ k h. on.open_block k h ∙ same (t / rate variant * rate variant + k) (omega arith);
     }
 
--- n more bytes of x are kept in the open block, which was `block` and is `next`
+-- n more bytes of x are kept in the open block, which changes from `block` to `next`
 pub record IsKept (variant : Variant) (lanes here : ℕ → List (List ℕ)) (block next x : List ℕ) (t n : ℕ) : Type 0 where
   pub along : IsAlong variant lanes here block x t
   pub kept : (k : ℕ) → k < t % rate variant → slice_index next k ≡ slice_index block k
@@ -72,7 +72,7 @@ module _ (variant : Variant) (lanes here : ℕ → List (List ℕ)) (block next 
         open_block = λ k h. rw quotient (kept-reads k (omega arith));
       }
 
-  -- they fill the rate block, which is taken in: the lanes are `there`
+  -- they fill the rate block, which is taken in: the lanes become `there`
   pub along-full : (there : ℕ → List (List ℕ)) (last : List ℕ) → IsLaneCount variant.lanes → t % rate variant + n ≡ rate variant
       → ((j : ℕ) → j < variant.lanes → there j ≡ step variant.family (here j) (share_at variant j next 0))
       → IsAlong variant lanes there last x (t + n)
@@ -92,7 +92,7 @@ module _ (variant : Variant) (lanes here : ℕ → List (List ℕ)) (block next 
         open_block = λ k h. absurd (omega arith);
       }
 
--- the keystream of the rest of the open rate block is that of the lanes
+-- the keystream of the open rate block is that of the lanes
 pub along-byte : (variant : Variant) (lanes here : ℕ → List (List ℕ)) (block x : List ℕ) (t k : ℕ) → IsLaneCount variant.lanes
     → IsAlong variant lanes here block x t → t % rate variant + k < rate variant
     → keystream_byte_along variant lanes x (t + k) ≡ keystream_byte variant here (t % rate variant + k)
@@ -146,7 +146,7 @@ along-whole variant lanes here there block x t n count unopened on stepped =
 
 -- ---- the end of a run
 
--- the open block with zeros after its bytes is taken in
+-- the open block is taken in, padded with zeros
 pub padded-step : (variant : Variant) (lanes here : ℕ → List (List ℕ)) (block last x : List ℕ) → IsLaneCount variant.lanes
     → IsAlong variant lanes here block x (length x) → 0 < length x % rate variant
     → ((k : ℕ) → k < length x % rate variant → slice_index last k ≡ slice_index block k)
@@ -166,7 +166,7 @@ padded-step variant lanes here block last x count on some kept zeros j inside =
     (λ (back : length x % r ≤ k). zeros k back ∙ sym (get_or_past x (length x / r * r + k) 0 (omega arith)))
     (cases_lt k (length x % r)))))
 
--- without an open block nothing is missing
+-- without an open block, there is nothing to take in
 pub unpadded : (variant : Variant) (lanes here : ℕ → List (List ℕ)) (block x : List ℕ) → IsLaneCount variant.lanes
     → IsAlong variant lanes here block x (length x) → length x % rate variant ≡ 0
     → (j : ℕ) → j < variant.lanes → here j ≡ after_all variant (lanes j) j x

@@ -1,4 +1,4 @@
--- What lanes that were run along associated data and a message say of its ciphertext and tag.
+-- Ciphertexts and tags, from lanes that have taken in associated data and a message.
 use Rattle.std.proofs.Common.{◌≡◌, ◌∙◌, sym, ap, ℕ, ◌*◌, ◌<◌, List, [], length, replicate, bit_xor, slice_index, arith}
 use Rattle.std.proofs.Math.Nat.{div-eq_of_lt}
 use Rattle.std.proofs.lemmas.Grind.{same_number_lists}
@@ -15,12 +15,12 @@ use Rattle.aegis_base.proofs.LaneFacts.{xor_lanes-same}
 use Rattle.aegis_base.proofs.MessageFacts.{after-none, rate-positive}
 use Rattle.aegis_base.proofs.KeystreamFacts.{length-keystream}
 
--- Lanes that stood for a key and a nonce were run along associated data, and are `lanes`.
+-- `lanes` are the lanes after their start with a key and a nonce and after the associated data
 pub record IsBefore (variant : Variant) (lanes : ℕ → List (List ℕ)) (key nonce ad : List ℕ) : Type 0 where
   pub count : IsLaneCount variant.lanes
   pub before : (j : ℕ) → j < variant.lanes → lanes j ≡ lane_before variant key nonce ad j
 
--- bytes that are the message's, xored with the keystream along it
+-- if c is m xored with the keystream along m, c is the ciphertext of m
 pub sealed-is : (variant : Variant) (lanes : ℕ → List (List ℕ)) (key nonce ad m c : List ℕ) → IsBefore variant lanes key nonce ad
     → length c ≡ length m → ((i : ℕ) → i < length m → slice_index c i ≡ bit_xor (slice_index m i) (keystream_byte_along variant lanes m i))
     → c ≡ ciphertext variant key nonce ad m
@@ -28,7 +28,7 @@ sealed-is variant lanes key nonce ad m c is long xored =
     ciphertext-is variant lanes m c long xored
     ∙ ciphertext-same variant lanes (lane_before variant key nonce ad) m is.count is.before
 
--- bytes that are the ciphertext's, xored with the keystream along themselves
+-- if m is c xored with the keystream along m, c is the ciphertext of m
 pub opened-is : (variant : Variant) (lanes : ℕ → List (List ℕ)) (key nonce ad c m : List ℕ) → IsBefore variant lanes key nonce ad
     → length m ≡ length c → ((i : ℕ) → i < length c → slice_index m i ≡ bit_xor (slice_index c i) (keystream_byte_along variant lanes m i))
     → ciphertext variant key nonce ad m ≡ c
@@ -37,7 +37,7 @@ opened-is variant lanes key nonce ad c m is long xored =
     let within : i < length c = rw long at h in
     rw (xored i within) (sym (bit_xor-twice (slice_index c i) (keystream_byte_along variant lanes m i)))))
 
--- the tag, from the lanes after the message, where a and b are the numbers of bytes
+-- the tag, from the lanes after the message; a and b are the numbers of bytes
 pub tag-is : (variant : Variant) (n : ℕ) (lanes last : ℕ → List (List ℕ)) (key nonce ad m : List ℕ) (a b : ℕ) → IsBefore variant lanes key nonce ad
     → ((j : ℕ) → j < variant.lanes → last j ≡ after_all variant (lanes j) j m) → a ≡ length ad → b ≡ length m
     → xor_lanes (λ j. lane_tag variant.family n (finish variant.family (last j) (8 * a) (8 * b))) variant.lanes ≡ tag variant n key nonce ad m
@@ -64,7 +64,7 @@ before-start variant lanes key nonce count started =
       before = λ j h. rw (none, after-none) (started j h);
     }
 
--- bytes that are xored with the keystream along zeros are xored with the stream
+-- if c is m xored with the keystream along zeros, c is m xored with the stream
 pub streamed-is : (variant : Variant) (lanes : ℕ → List (List ℕ)) (key nonce m c : List ℕ) → IsBefore variant lanes key nonce []
     → length c ≡ length m
     → ((i : ℕ) → i < length m → slice_index c i ≡ bit_xor (slice_index m i) (keystream_byte_along variant lanes (replicate (length m) 0) i))

@@ -12,20 +12,20 @@ texts slices = map (λ slice. slice.now) slices
 abbrev pub joined : List (Bor (List ℕ)) → List ℕ
 joined chunks = concat (map (λ chunk. chunk.now) chunks)
 
--- the kept bytes, and those of one more chunk where a destination of `room` bytes and the limit on a message allow it
+-- the kept bytes, and then one more chunk if it fits in a destination of `room` bytes and within the limit on a message
 abbrev pub keep_chunk : ℕ → List ℕ → List ℕ → List ℕ
 keep_chunk room kept chunk =
     if leb (length kept + length chunk) room && leb (length kept + length chunk) MAX_AEAD_BYTES then kept ++ chunk else kept
 
--- what is kept of chunks after the bytes that are kept already
+-- the kept bytes after all of these chunks
 unfoldable pub accepted_after : ℕ → List ℕ → List (Bor (List ℕ)) → List ℕ
 accepted_after room kept [] = kept
 accepted_after room kept (chunk ∷ chunks) = accepted_after room (keep_chunk room kept chunk.now) chunks
 
--- what a destination of `room` bytes keeps of chunks, from left to right: a chunk that does not fit is left out whole
+-- what a destination of `room` bytes keeps of chunks, in order: a chunk that does not fit is left out whole
 abbrev pub accepted : ℕ → List (Bor (List ℕ)) → List ℕ
 accepted room chunks = accepted_after room [] chunks
 
--- what is left of a destination that was `old` once the n bytes written to its front are refused: zeros, and what follows them
+-- a destination that was `old`, after the n bytes written to its front were refused: n zeros, and then the old bytes
 abbrev pub erased : (n : ℕ) (old : List ℕ) → List ℕ
 erased n old = replicate n 0 ++ drop n old

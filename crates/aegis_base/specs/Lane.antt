@@ -6,11 +6,11 @@ use Rattle.aegis_aes.specs.Lanes.{context}
 use Rattle.aegis_aes.specs.Round.{round}
 use Rattle.aegis_base.specs.Variant.{Family, Family128, Family256, Variant}
 
--- block Si of a lane, and block i of a list of blocks
+-- block Si of a lane, or block i of any list of blocks
 abbrev pub block_in : List (List ℕ) → ℕ → List ℕ
 block_in s i = slice_index_or s i []
 
--- the constants C0 and C1 (AEGIS): the Fibonacci numbers modulo 256
+-- the constants C0 and C1 (AEGIS): the first 32 Fibonacci numbers, modulo 256
 abbrev pub c0 : List ℕ
 c0 = 0x00 ∷ 0x01 ∷ 0x01 ∷ 0x02 ∷ 0x03 ∷ 0x05 ∷ 0x08 ∷ 0x0d ∷ 0x15 ∷ 0x22 ∷ 0x37 ∷ 0x59 ∷ 0x90 ∷ 0xe9 ∷ 0x79 ∷ 0x62 ∷ []
 
@@ -38,7 +38,7 @@ step Family256 s m =
     ∷ round (block_in s 4) (block_in s 5)
     ∷ []
 
--- the lane with its context block c xored into two of its blocks, before an update of the start
+-- the lane with the context block c xored into two of its blocks, as before each update of the start
 abbrev pub add_context : Family → List ℕ → List (List ℕ) → List (List ℕ)
 add_context Family128 c s =
     block_in s 0 ∷ block_in s 1 ∷ block_in s 2 ∷ xor (block_in s 3) c ∷ block_in s 4 ∷ block_in s 5 ∷ block_in s 6 ∷ xor (block_in s 7) c ∷ []
@@ -64,8 +64,8 @@ first_blocks Family256 key nonce =
     xor (low_half key) (low_half nonce) ∷ xor (high_half key) (high_half nonce) ∷ c1 ∷ c0
     ∷ xor (low_half key) c0 ∷ xor (high_half key) c1 ∷ []
 
--- one turn of the start with the context block c: an update by the nonce and the key in the family 128, and in the
--- family 256 four updates, by the key's halves and by their xors with the nonce's
+-- one turn of the start with the context block c: in the family 128 an update by the nonce and the key, and in the
+-- family 256 four updates, by the two halves of the key and then by their xors with the halves of the nonce
 abbrev pub start_turn : Family → List ℕ → List ℕ → List ℕ → List (List ℕ) → List (List ℕ)
 start_turn Family128 key nonce c s = step Family128 (add_context Family128 c s) (nonce ∷ key ∷ [])
 start_turn Family256 key nonce c s =
@@ -101,12 +101,12 @@ keystream_blocks Family256 s = xor (xor (block_in s 1) (block_in s 4)) (xor (blo
 abbrev pub bit_lengths : ℕ → ℕ → List ℕ
 bit_lengths p q = to_le_bytes w64 p ++ to_le_bytes w64 q
 
--- the block that ends a lane: one of its blocks with two numbers of bits xored in
+-- the input of a lane's last updates: one of its blocks, xored with two numbers of bits
 abbrev pub last_block : Family → List (List ℕ) → ℕ → ℕ → List ℕ
 last_block Family128 s p q = xor (block_in s 2) (bit_lengths p q)
 last_block Family256 s p q = xor (block_in s 3) (bit_lengths p q)
 
--- a block as the input of an update, in each of its places
+-- that block as each block of an update's input
 abbrev pub last_input : Family → List ℕ → List (List ℕ)
 last_input Family128 block = block ∷ block ∷ []
 last_input Family256 block = block ∷ []

@@ -1,4 +1,4 @@
--- The laws of sealing and of MACs, of any lane count d: what ciphertexts, tags and streams are, whatever the inputs.
+-- Laws of sealing, keystreams and MACs.
 use Rattle.std.specs.Prelude.{◌≡◌, ℕ, ◌*◌, ◌/◌, ◌<◌, ◌≤◌, List, [], ◌∷◌, bit_xor, length, replicate, slice_index, take}
 use Rattle.aegis_aes.specs.Block.{xor}
 use Rattle.aegis_base.specs.Variant.{Family, Family128, Family256, Variant, rate}
@@ -19,20 +19,20 @@ IsOneToOne variant =
 abbrev pub AreBytes : List ℕ → Type 0
 AreBytes xs = (i : ℕ) → slice_index xs i < 256
 
--- under each key, nonce and associated data every list is the ciphertext of a message of its length, and of a message
--- of bytes where the key, the nonce, the associated data and the list are lists of bytes
+-- under each key, nonce and associated data every list is the ciphertext of a message of its length, which is a list of
+-- bytes if the key, the nonce, the associated data and the ciphertext are
 abbrev pub IsOnto : (variant : Variant) → Type 0
 IsOnto variant =
     (key nonce ad c : List ℕ)
     → (m : List ℕ) × (length m ≡ length c) × (ciphertext variant key nonce ad m ≡ c)
     × (AreBytes key → AreBytes nonce → AreBytes ad → AreBytes c → AreBytes m)
 
--- x and y have the same bytes at the places of lane j of d
+-- x and y have the same bytes at the places that belong to lane j of d
 abbrev pub AgreeInLane : (d j : ℕ) (x y : List ℕ) → Type 0
 AgreeInLane d j x y = (i : ℕ) → lane_of d i ≡ j → slice_index x i ≡ slice_index y i
 
--- what a ciphertext has at a lane's places depends on the key, the nonce, the lengths, and what the associated data and
--- the message have at that lane's places: no lane reads another's bytes
+-- the bytes of a ciphertext at a lane's places depend only on the key, the nonce, the lengths, and the bytes of the
+-- associated data and the message at that lane's places
 abbrev pub AreLanesIndependent : (variant : Variant) → Type 0
 AreLanesIndependent variant =
     (key nonce ad₁ ad₂ m n : List ℕ) (j : ℕ)
@@ -49,8 +49,8 @@ IsCiphertextPrefix variant =
 abbrev pub AgreeBefore : (variant : Variant) (n : ℕ) (x y : List ℕ) → Type 0
 AgreeBefore variant n x y = (i : ℕ) → i < n * rate variant → slice_index x i ≡ slice_index y i
 
--- under one key, nonce and associated data, rate block n of two messages of one length that agree in all rate blocks
--- before it is xored with the same keystream: byte by byte, the xor of its ciphertexts is the xor of the messages
+-- under one key, nonce and associated data, if two messages of one length agree in the first n rate blocks, the next
+-- rate block of both is xored with the same keystream: the xor of the ciphertexts there is the xor of the messages
 abbrev pub IsKeystreamShared : (variant : Variant) → Type 0
 IsKeystreamShared variant =
     (key nonce ad x y : List ℕ) (n i : ℕ)
@@ -74,16 +74,16 @@ IsStartPlain variant =
     (key nonce : List ℕ) → start variant key nonce 0
     ≡ times (start_turns variant.family) (plain_turn variant.family key nonce) (first_blocks variant.family key nonce)
 
--- a tag has the bytes that it is asked for
+-- a tag of n bytes has n bytes
 abbrev pub IsTagLong : (variant : Variant) (tag_bytes : ℕ) → Type 0
 IsTagLong variant tag_bytes = (key nonce ad m : List ℕ) → length (tag variant tag_bytes key nonce ad m) ≡ tag_bytes
 
--- and so has a MAC
+-- a MAC of n bytes has n bytes
 abbrev pub IsMacLong : (variant : Variant) (tag_bytes : ℕ) → Type 0
 IsMacLong variant tag_bytes = (key nonce x : List ℕ) → length (mac variant tag_bytes key nonce x) ≡ tag_bytes
 
--- under one key and nonce, inputs of one length that agree at lane 0's places, and whose other lanes have the same tags
--- at their ends, have the same MAC
+-- under one key and nonce, two inputs of one length that agree at lane 0's places, and for which the other lanes end
+-- with the same tags, have the same MAC
 abbrev pub IsMacOfTags : (variant : Variant) (tag_bytes : ℕ) → Type 0
 IsMacOfTags variant tag_bytes =
     (key nonce x y : List ℕ)
@@ -103,7 +103,7 @@ abbrev pub IsKeystreamUndone : (variant : Variant) → Type 0
 IsKeystreamUndone variant =
     (key nonce m : List ℕ) → xor_keystream variant key nonce (xor_keystream variant key nonce m) ≡ m
 
--- whatever the length n of the tag, the stream is the ciphertext of zeros that are sealed without associated data
+-- for any length n of the tag, the stream is the ciphertext of zeros that are sealed without associated data
 abbrev pub IsKeystreamSealedZeros : (variant : Variant) → Type 0
 IsKeystreamSealedZeros variant =
     (key nonce : List ℕ) (n k : ℕ) → (seal variant n key nonce [] (replicate k 0)).0 ≡ keystream variant key nonce k

@@ -1,10 +1,10 @@
--- Lanes at rest: the rows of a state as bytes.
+-- Saved lanes: the rows of a state as bytes.
 use Rattle.std.specs.Prelude.{ℕ, ◌+◌, ◌*◌, List, [], ◌∷◌}
 use Rattle.aegis_aes.specs.Block.{block_at}
 use Rattle.aegis_base.specs.Variant.{Family, Family128, Family256, Variant}
 use Rattle.aegis_base.specs.declared.saved.SavedRows.{SavedRows}
 
--- the block of lane j in the first row of a saved pair, h = 0, or in the second, h = 1
+-- the block of lane j in row h of a saved pair, the first (0) or the second (1)
 abbrev pub saved_block : (lanes : ℕ) (pair : List ℕ) (h j : ℕ) → List ℕ
 saved_block lanes pair h j = block_at pair (16 * (h * lanes + j))
 

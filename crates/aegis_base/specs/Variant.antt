@@ -1,4 +1,4 @@
--- The six variants of AEGIS: a family, by the bits of its keys, and how many lanes run side by side.
+-- The six variants of AEGIS: a family, named after the number of bits of its keys, and a number of lanes.
 use Rattle.std.specs.Prelude.{ℕ, ◌*◌}
 
 pub data Family : Type 0 where
@@ -27,16 +27,16 @@ Aegis256X2 = record { family = Family256; lanes = 2 }
 abbrev pub Aegis256X4 : Variant
 Aegis256X4 = record { family = Family256; lanes = 4 }
 
--- how many blocks of each rate block one lane takes in
+-- the number of blocks that one lane takes in of each rate block
 abbrev pub width : Family → ℕ
 width Family128 = 2
 width Family256 = 1
 
--- the bytes of a rate block
+-- the length of a rate block, in bytes
 abbrev pub rate : Variant → ℕ
 rate variant = 16 * (width variant.family * variant.lanes)
 
--- the bytes of a key, and of a nonce
+-- the length of a key and of a nonce, in bytes
 abbrev pub key_length : Family → ℕ
 key_length Family128 = 16
 key_length Family256 = 32

@@ -6,7 +6,7 @@ ghost use Rattle.aegis_base.specs.Chunks.{joined};
 use crate::error::MAX_AEAD_BYTES;
 use crate::length::Length;
 
-/// How many bytes chunks have together, or `None` exactly where they have more than [`MAX_AEAD_BYTES`].
+/// Returns the length of all chunks together, in bytes, or `None` exactly if it is more than [`MAX_AEAD_BYTES`].
 pub fn chunks_len(chunks: &[&[u8]]) -> Option<u64>
     ensures within { length (joined chunks.now) ≤ MAX_AEAD_BYTES
         → result ≡ Some (length (joined chunks.now)) }

@@ -1,11 +1,11 @@
-//! The count of a message's bytes.
+//! The length of a message so far.
 
 ghost use Rattle.std.specs.Prelude.{◌≡◌, ◌+◌, ◌-◌, ◌≤◌, ◌↔◌, IfErr, IsOk, OnErr, OnOk};
 
 use crate::error::{Error, MAX_AEAD_BYTES};
 use std::marker::Model;
 
-/// How many bytes of a message there are so far, at most [`MAX_AEAD_BYTES`]. Contracts see the number.
+/// The length of a message so far, in bytes: at most [`MAX_AEAD_BYTES`]. In contracts it is a number.
 #[derive(Clone, Copy)]
 pub struct Length {
     bytes: u64,
@@ -26,14 +26,14 @@ impl Model for Length {
 }
 
 impl Length {
-    /// The length of no bytes.
+    /// Returns the length 0.
     pub fn zero() -> Length
         ensures { result ≡ 0 }
     {
         Length { bytes: 0 }
     }
 
-    /// The length as a number.
+    /// Returns the number of bytes.
     pub fn get(self) -> u64
         ensures value { result ≡ self }
         ensures within { result ≤ MAX_AEAD_BYTES }
@@ -41,15 +41,15 @@ impl Length {
         self.bytes
     }
 
-    /// How many more bytes there may be.
+    /// Returns how many more bytes the message may have.
     pub fn remaining(self) -> u64
         ensures { result ≡ MAX_AEAD_BYTES - self }
     {
         MAX_AEAD_BYTES - self.bytes
     }
 
-    /// Counts `more` bytes. It is [`Error::MessageTooLong`] exactly where they would pass the limit, and then the
-    /// length stays as it was.
+    /// Adds `more` bytes. Returns [`Error::MessageTooLong`] exactly if the sum is more than [`MAX_AEAD_BYTES`], and the
+    /// length is then unchanged.
     pub fn add(&mut self, more: u64) -> Result<(), Error>
         ensures accepted { IsOk result ↔ (self.old + more ≤ MAX_AEAD_BYTES) }
         ensures counted { OnOk result (self.new ≡ self.old + more) }

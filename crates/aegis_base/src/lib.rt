@@ -1,5 +1,5 @@
-//! What the crates of AEGIS share: its definitions (in `specs/`), errors and limits, the traits that a variant is
-//! made of, and the laws that follow from the definitions.
+//! What the crates of AEGIS share: the definitions (in `specs/`), the errors and limits, the traits that each variant
+//! implements, and the laws that follow from the definitions.
 #![tactic(auto)]
 
 mod chunks;

@@ -1,18 +1,19 @@
-//! What each variant's types are called.
+//! The names of each variant's types.
 
 ghost use Rattle.std.specs.Prelude.{◌≡◌, ℕ, List};
 
-/// A marker of one variant of AEGIS: the names that its types print. A cipher is `Copy` where its marker is.
+/// A marker type for one variant of AEGIS, with the names that the variant's types print. A cipher is `Copy` if its
+/// marker is.
 pub trait Names {
     ghost module_name: { List ℕ };
 
     ghost cipher_name: { List ℕ };
 
-    /// The name of the variant's module.
+    /// Returns the name of the variant's module.
     fn module_name() -> &'static str
         ensures { result.now ≡ module_name };
 
-    /// The name of the cipher's type.
+    /// Returns the name of the cipher's type.
     fn cipher_name() -> &'static str
         ensures { result.now ≡ cipher_name };
 }

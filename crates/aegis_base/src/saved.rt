@@ -1,13 +1,13 @@
-//! Lanes at rest: their rows as bytes, which a caller may keep between two calls.
+//! Saved lanes: their rows as bytes, which a caller may keep between two calls.
 
 ghost use Rattle.std.specs.Prelude.{◌≡◌, ℕ, ◌<◌};
 ghost use Rattle.aegis_base.specs.Saved.{saved_lane};
 
 use crate::state::LaneState;
 
-/// The rows of up to four lanes, in the pairs that a state has. Each pair begins at the front of its array: the blocks of its
-/// first row, lane after lane, and then those of its second row. The other bytes have no meaning, and nor has a pair that the
-/// variant lacks.
+/// The rows of up to four lanes, in pairs. Each array begins with the blocks of the pair's first row, lane after lane,
+/// and then those of its second row. Its other bytes have no meaning. A variant of the family 256 has three pairs, and
+/// does not use `fourth_pair`.
 #[repr(C)]
 #[derive(Clone, Copy)]
 pub struct SavedRows {
@@ -19,12 +19,12 @@ pub struct SavedRows {
 
 /// States whose lanes can be written to bytes and read back.
 pub trait SavedLanes: LaneState {
-    /// Writes the lanes' rows.
+    /// Writes the lanes' rows into `rows`.
     fn save(self, rows: &mut SavedRows)
         ensures { (j : ℕ) → j < Self.VARIANT.lanes
             → saved_lane Self.VARIANT rows.new j ≡ Self.lane self j };
 
-    /// The lanes of these rows, with `count` updates counted.
+    /// Returns the lanes that `rows` holds, with `count` updates since the start.
     fn restore(rows: &SavedRows, count: u64) -> Self
         ensures lanes { (j : ℕ) → j < Self.VARIANT.lanes
             → Self.lane result j ≡ saved_lane Self.VARIANT rows.now j }

@@ -1,4 +1,4 @@
-//! The states of a variant: its lanes, side by side, as the block engine uses them.
+//! States: the lanes of a variant, side by side.
 
 ghost use Rattle.std.specs.Prelude.{◌≡◌, ℕ, ◌+◌, ◌-◌, ◌*◌, ◌^◌, ◌<◌, ◌≤◌, ◌++◌, List, length, slice_index};
 ghost use Rattle.aegis_aes.specs.Block.{IsSameBefore, IsSameFrom, block_at, xor};
@@ -13,27 +13,27 @@ use aegis_aes::{AesBlock, Row};
 
 /// The lanes of one variant, side by side.
 ///
-/// Contracts see the blocks of each lane by its number, `lane state j`, and say what happens to each lane as if it ran
-/// alone. A state also counts its updates since the start; only the private step that moves every lane counts.
+/// In contracts, `lane state j` is the list of the blocks of lane j, and each clause states what happens to each lane
+/// as if it ran alone. A state also counts its updates since the start.
 ///
-/// A family gives the standard's steps; the start, the end and the tags are made of them here, once. The crate of a
-/// family is entered by these calls alone, and the block engine calls `new`, `absorb`, `xor_keystream`, `finish`, the
-/// two tags and the two MAC tags.
+/// A family implements the steps of the AEGIS specification, and the start, the end and the tags are composed of them
+/// here. The engine uses only `RATE`, `new`, `absorb`, `xor_keystream`, `finish`, `zeros`, the two tags and the two MAC
+/// tags.
 pub trait LaneState: Copy {
-    /// One block of each lane.
+    /// The type of a row: one block of each lane.
     type Row: Row;
 
-    /// How many turns the start has.
+    /// The number of turns of the start.
     const START_TURNS: usize;
 
     ghost START_TURNS: { ℕ };
 
-    /// How many turns the fold of the lanes' tags of 16 bytes has.
+    /// The number of turns of the fold of the lanes' tags of 16 bytes.
     const SHORT_FOLD_TURNS: usize;
 
     ghost SHORT_FOLD_TURNS: { ℕ };
 
-    /// The bytes of a rate block: what all lanes take in by one update, at most 128.
+    /// The length of a rate block, which all lanes together take in by one update: at most 128 bytes.
     const RATE: usize;
 
     ghost RATE: { ℕ };
@@ -43,10 +43,10 @@ pub trait LaneState: Copy {
     // the blocks of a lane
     ghost lane: { Self → ℕ → List (List ℕ) };
 
-    // how many updates were made since the start
+    // the number of updates since the start
     ghost updates: { Self → ℕ };
 
-    /// The lanes before the updates of their start (AEGIS, Init).
+    /// Returns the lanes before the updates of their start (AEGIS, Init).
     fn first_blocks(key: &[u8], nonce: &[u8]) -> Self
         requires key_length { length key.now ≡ key_length VARIANT.family }
         requires nonce_length { length nonce.now ≡ key_length VARIANT.family }
@@ -54,7 +54,7 @@ pub trait LaneState: Copy {
             → lane result j ≡ first_blocks VARIANT.family key.now nonce.now }
         ensures updates { updates result ≡ 0 };
 
-    /// The lanes after one turn of their start, at most four updates (AEGIS, Init).
+    /// Returns the lanes after one turn of their start, at most four updates (AEGIS, Init).
     fn start_turn(self, key: &[u8], nonce: &[u8]) -> Self
         requires key_length { length key.now ≡ key_length VARIANT.family }
         requires nonce_length { length nonce.now ≡ key_length VARIANT.family }
@@ -64,15 +64,15 @@ pub trait LaneState: Copy {
             ≡ start_turn VARIANT.family key.now nonce.now (context j VARIANT.lanes) (lane self j) }
         ensures updates { updates result ≤ updates self + 4 };
 
-    /// Lanes of zeros, which a state that is no longer used is overwritten with.
+    /// Returns lanes of zeros, to overwrite a state that is no longer used.
     fn zeros() -> Self;
 
-    /// The lanes as they are, with no update counted. Only the start ends so.
+    /// Returns the lanes unchanged, with their updates counted from 0 again. Only the start ends so.
     fn uncounted(self) -> Self
         ensures lanes { (j : ℕ) → j < VARIANT.lanes → lane result j ≡ lane self j }
         ensures updates { updates result ≡ 0 };
 
-    /// The lanes after their start with a key and a nonce (AEGIS, Init), with no update counted.
+    /// Returns the lanes after their start with a key and a nonce (AEGIS, Init). Their updates are counted from there.
     #[tactic(auto, unfolding(crate::specs::Lane::start))]
     final fn new(key: &[u8], nonce: &[u8]) -> Self
         requires key_length { length key.now ≡ key_length VARIANT.family }
@@ -88,7 +88,7 @@ pub trait LaneState: Copy {
         state.uncounted()
     }
 
-    /// The lanes after one update by the rate block of `bytes` that begins at place `at` (AEGIS, Absorb).
+    /// Returns the lanes after one update by the rate block of `bytes` that begins at place `at` (AEGIS, Absorb).
     fn absorb(self, bytes: &[u8], at: usize) -> Self
         requires within { at + RATE ≤ length bytes.now }
         requires countable { updates self + 1 < 2 ^ 64 }
@@ -97,7 +97,8 @@ pub trait LaneState: Copy {
             ≡ step VARIANT.family (lane self j) (share_at VARIANT j bytes.now at) }
         ensures updates { updates result ≡ updates self + 1 };
 
-    /// Xors the rate block of `buffer` that begins at place `at` with the lanes' keystream (AEGIS, Enc). The lanes stay.
+    /// Xors the rate block of `buffer` that begins at place `at` with the lanes' keystream (AEGIS, Enc). The lanes are
+    /// not updated.
     fn xor_keystream(self, buffer: &mut [u8], at: usize)
         requires { at + RATE ≤ length buffer.old }
         ensures written { (j h : ℕ) → j < VARIANT.lanes → h < width VARIANT.family
@@ -107,13 +108,14 @@ pub trait LaneState: Copy {
         ensures below { IsSameBefore at buffer.old buffer.new }
         ensures above { IsSameFrom (at + RATE) buffer.old buffer.new };
 
-    /// The blocks that end the lanes: one row with two lengths in bits xored in (AEGIS, Finalize).
+    /// Returns the input of the lanes' last updates: one of their rows, xored with two lengths in bits (AEGIS,
+    /// Finalize).
     fn last_blocks(self, first_bits: u64, second_bits: u64) -> Self::Row
         ensures { (j : ℕ) → j < VARIANT.lanes
             → Self.Row.block result j
             ≡ last_block VARIANT.family (lane self j) first_bits second_bits };
 
-    /// The lanes after one update by these blocks, in each place of the input.
+    /// Returns the lanes after one update by these blocks, with each lane's block as each block of its input.
     fn end_update(self, last: Self::Row) -> Self
         requires { updates self + 1 < 2 ^ 64 }
         ensures lanes { (j : ℕ) → j < VARIANT.lanes
@@ -122,7 +124,7 @@ pub trait LaneState: Copy {
             (last_input VARIANT.family (Self.Row.block last j)) }
         ensures updates { updates result ≡ updates self + 1 };
 
-    /// The lanes after their end: seven updates by the blocks that end them (AEGIS, Finalize).
+    /// Returns the lanes after their end: seven updates by `last_blocks` (AEGIS, Finalize).
     #[tactic(auto, unfolding(crate::specs::Lane::finish))]
     final fn finish(self, first_bits: u64, second_bits: u64) -> Self
         requires { updates self + 7 < 2 ^ 64 }
@@ -138,22 +140,22 @@ pub trait LaneState: Copy {
         state
     }
 
-    /// The lanes' tags of 16 bytes (AEGIS, Finalize).
+    /// Returns the lanes' tags of 16 bytes (AEGIS, Finalize).
     fn short_tags(self) -> Self::Row
         ensures { (j : ℕ) → j < VARIANT.lanes
             → Self.Row.block result j ≡ short_tag VARIANT.family (lane self j) };
 
-    /// The low halves of the lanes' tags of 32 bytes.
+    /// Returns the low halves of the lanes' tags of 32 bytes.
     fn low_tags(self) -> Self::Row
         ensures { (j : ℕ) → j < VARIANT.lanes
             → Self.Row.block result j ≡ low_tag VARIANT.family (lane self j) };
 
-    /// The high halves of the lanes' tags of 32 bytes.
+    /// Returns the high halves of the lanes' tags of 32 bytes.
     fn high_tags(self) -> Self::Row
         ensures { (j : ℕ) → j < VARIANT.lanes
             → Self.Row.block result j ≡ high_tag VARIANT.family (lane self j) };
 
-    /// The tag of 16 bytes: the xor of the lanes' tags.
+    /// Returns the tag of 16 bytes: the xor of the lanes' tags.
     final fn short_tag(self) -> AesBlock
         ensures { result ≡ xor_lanes (λ j. lane_tag VARIANT.family 16 (lane self j))
             VARIANT.lanes }
@@ -161,7 +163,7 @@ pub trait LaneState: Copy {
         self.short_tags().xor_of_lanes()
     }
 
-    /// The halves of the tag of 32 bytes, low half first: the xor of the lanes' tags.
+    /// Returns the halves of the tag of 32 bytes, low half first: the xor of the lanes' tags.
     final fn long_tag(self) -> (AesBlock, AesBlock)
         ensures { result.0 ++ result.1
             ≡ xor_lanes (λ j. lane_tag VARIANT.family 32 (lane self j)) VARIANT.lanes }
@@ -172,9 +174,9 @@ pub trait LaneState: Copy {
         )
     }
 
-    /// The lanes after one turn of the fold of the lanes' tags of 16 bytes into lane 0: an update by the tags of two
-    /// lanes, from lane 0 on, in the family 128, and by the tag of one lane, from lane 1 on, in the family 256. Only
-    /// lane 0 is looked at from then on.
+    /// Returns the lanes after one turn of the fold of the lanes' tags of 16 bytes into lane 0: in the family 128 an
+    /// update by the tags of two lanes, beginning with lanes 0 and 1, and in the family 256 by the tag of one lane,
+    /// beginning with lane 1. Only lane 0 is used afterwards.
     fn short_fold_turn(self, tags: Self::Row, turn: usize) -> Self
         requires within { turn < SHORT_FOLD_TURNS }
         requires countable { updates self + 1 < 2 ^ 64 }
@@ -182,7 +184,8 @@ pub trait LaneState: Copy {
             ≡ short_fold_turn VARIANT.family (Self.Row.block tags) turn (lane self 0) }
         ensures updates { updates result ≡ updates self + 1 };
 
-    /// The lanes after two more blocks: one update by both in the family 128, and an update by each in the family 256.
+    /// Returns the lanes after two more blocks: one update by both in the family 128, or an update by each in the
+    /// family 256.
     fn step_by_two(self, first: Self::Row, second: Self::Row) -> Self
         requires { updates self + 2 < 2 ^ 64 }
         ensures lanes { (j : ℕ) → j < VARIANT.lanes
@@ -191,7 +194,7 @@ pub trait LaneState: Copy {
             (Self.Row.block second j) }
         ensures updates { updates result ≤ updates self + 2 };
 
-    /// The lanes after the fold of the lanes' tags of 16 bytes into lane 0.
+    /// Returns the lanes after the fold of their tags of 16 bytes into lane 0.
     final fn fold_short(self, tags: Self::Row) -> Self
         requires { updates self + 8 < 2 ^ 64 }
         ensures first { lane result 0
@@ -206,8 +209,8 @@ pub trait LaneState: Copy {
         state
     }
 
-    /// The lanes after the fold of the lanes' tags of 32 bytes into lane 0, from lane 1 on: each by its low and its high
-    /// half.
+    /// Returns the lanes after the fold of their tags of 32 bytes into lane 0, beginning with lane 1: each as its low
+    /// half and its high half.
     final fn fold_long(self, low: Self::Row, high: Self::Row) -> Self
         requires { updates self + 8 < 2 ^ 64 }
         ensures first { lane result 0
@@ -224,8 +227,8 @@ pub trait LaneState: Copy {
         state
     }
 
-    /// The MAC of 16 bytes, where these are the lanes after their first end: the tag of the one lane, or that of lane 0
-    /// after the fold and a second end, with the number of lanes and the MAC's 128 bits.
+    /// Returns the MAC of 16 bytes, from the lanes after their first end: the tag of a single lane, and with more lanes
+    /// the tag of lane 0 after the fold and a second end, with the number of lanes and the MAC's 128 bits.
     final fn short_mac_tag(self) -> AesBlock
         requires { updates self + 16 < 2 ^ 64 }
         ensures { result ≡ mac_tag VARIANT 16 (lane self) }
@@ -239,7 +242,7 @@ pub trait LaneState: Copy {
         block_of_lane(ended.short_tags(), 0)
     }
 
-    /// The halves of the MAC of 32 bytes, low half first, where these are the lanes after their first end.
+    /// Returns the halves of the MAC of 32 bytes, low half first, in the same way, with the MAC's 256 bits.
     final fn long_mac_tag(self) -> (AesBlock, AesBlock)
         requires { updates self + 16 < 2 ^ 64 }
         ensures { result.0 ++ result.1 ≡ mac_tag VARIANT 32 (lane self) }

@@ -1,4 +1,4 @@
-//! Vectors, as slices.
+//! Vectors as slices.
 
 ghost use Rattle.std.specs.Prelude.{◌≡◌, IfOk, map, vec_items};
 ghost use Rattle.std.specs.List.{concat};
@@ -6,7 +6,7 @@ ghost use Rattle.aegis_base.specs.Chunks.{joined, texts};
 
 use std::alloc::{AllocError, Allocator};
 
-/// Each of the vectors as a slice of all its bytes, in their order. The only error is want of memory for the list.
+/// Returns a list of each vector as a slice, in order. The only error is that there is no memory for the list.
 pub fn slices<A: Allocator + Copy>(
     alloc: A,
     vectors: &[Vec<u8, A>],

@@ -1,4 +1,6 @@
-//! AEGIS-256X2.
+//! The exported calls of AEGIS-256X2.
+//!
+//! Each returns a code of `answer`. After a code for a length or a state, nothing has changed.
 
 ghost use Rattle.std.specs.Prelude.{length};
 ghost use Rattle.aegis_base.specs.Variant.{Aegis256X2};
@@ -14,7 +16,7 @@ use aegis_engine::SavedRun;
 
 type Lanes = State256<Rows2<AesBlock2>>;
 
-/// Turns the message at `mc` into its ciphertext, and writes its tag to `mac`.
+/// Encrypts `mc` in place, and writes the tag, of 16 or 32 bytes, to `mac`.
 #[unsafe(no_mangle)]
 pub extern "C" fn hunkravy_aegis256x2_encrypt_in_place_nonnull(
     mc: &mut [u8],
@@ -28,7 +30,7 @@ pub extern "C" fn hunkravy_aegis256x2_encrypt_in_place_nonnull(
     encrypt_in_place::<Lanes, Marker, 32>(mc, ad, npub, k, mac)
 }
 
-/// Turns the ciphertext at `mc` into the message that `mac` is the tag of.
+/// Decrypts `mc` in place. If `mac` is not its tag, each byte of `mc` is 0xaa, and the result is `INVALID_TAG`.
 #[unsafe(no_mangle)]
 pub extern "C" fn hunkravy_aegis256x2_decrypt_in_place_nonnull(
     mc: &mut [u8],
@@ -42,7 +44,7 @@ pub extern "C" fn hunkravy_aegis256x2_decrypt_in_place_nonnull(
     decrypt_in_place::<Lanes, Marker, 32>(mc, ad, npub, k, mac)
 }
 
-/// Writes keystream to `out`, whatever was there.
+/// Overwrites `out` with keystream.
 #[unsafe(no_mangle)]
 pub extern "C" fn hunkravy_aegis256x2_stream_nonnull(out: &mut [u8], npub: &[u8], k: &[u8]) -> i32
     ensures { WritesKeystream 32 k.now npub.now out.old out.new
@@ -51,7 +53,7 @@ pub extern "C" fn hunkravy_aegis256x2_stream_nonnull(out: &mut [u8], npub: &[u8]
     stream::<Lanes, Marker, 32>(out, npub, k)
 }
 
-/// Xors the bytes at `mc` with keystream.
+/// Xors `mc` with keystream, in place.
 #[unsafe(no_mangle)]
 pub extern "C" fn hunkravy_aegis256x2_stream_xor_in_place_nonnull(
     mc: &mut [u8],
@@ -64,7 +66,7 @@ pub extern "C" fn hunkravy_aegis256x2_stream_xor_in_place_nonnull(
     stream_xor_in_place::<Lanes, Marker, 32>(mc, npub, k)
 }
 
-/// Writes the MAC of `input` to `mac`.
+/// Writes the MAC of `input`, of 16 or 32 bytes, to `mac`.
 #[unsafe(no_mangle)]
 pub extern "C" fn hunkravy_aegis256x2_mac_nonnull(
     input: &[u8],
@@ -77,7 +79,7 @@ pub extern "C" fn hunkravy_aegis256x2_mac_nonnull(
     write_mac::<Lanes, 32>(input, npub, k, mac)
 }
 
-/// Whether `mac` is the MAC of `input`.
+/// Returns `DONE` if `mac` is the MAC of `input`, and `INVALID_TAG` if it is not.
 #[unsafe(no_mangle)]
 pub extern "C" fn hunkravy_aegis256x2_mac_verify_nonnull(
     input: &[u8],
@@ -90,7 +92,7 @@ pub extern "C" fn hunkravy_aegis256x2_mac_verify_nonnull(
     verify_mac::<Lanes, 32>(input, npub, k, mac)
 }
 
-/// Begins a message, or a MAC, which has no associated data, at `st`.
+/// Begins a message with the associated data `ad` at `st`, or a MAC, for which `ad` must be empty.
 #[unsafe(no_mangle)]
 pub extern "C" fn hunkravy_aegis256x2_state_init_nonnull(
     st: &mut SavedRun,
@@ -103,7 +105,7 @@ pub extern "C" fn hunkravy_aegis256x2_state_init_nonnull(
     begin::<Lanes, 32>(st, ad, npub, k)
 }
 
-/// Turns the next bytes of the message at `mc` into those of its ciphertext.
+/// Encrypts the next bytes of the message in place.
 #[unsafe(no_mangle)]
 pub extern "C" fn hunkravy_aegis256x2_state_encrypt_in_place_nonnull(
     st: &mut SavedRun,
@@ -114,7 +116,7 @@ pub extern "C" fn hunkravy_aegis256x2_state_encrypt_in_place_nonnull(
     seal_more::<Lanes>(st, mc)
 }
 
-/// Writes the tag of the message to `mac`, and ends the state.
+/// Writes the tag of the message, of 16 or 32 bytes, to `mac`, and ends the state.
 #[unsafe(no_mangle)]
 pub extern "C" fn hunkravy_aegis256x2_state_encrypt_final_nonnull(
     st: &mut SavedRun,
@@ -125,7 +127,7 @@ pub extern "C" fn hunkravy_aegis256x2_state_encrypt_final_nonnull(
     end_sealing::<Lanes>(st, mac)
 }
 
-/// Turns the next bytes of the ciphertext at `mc` into those of its message, whatever the tag will be.
+/// Decrypts the next bytes of the ciphertext in place, before the tag is verified.
 #[unsafe(no_mangle)]
 pub extern "C" fn hunkravy_aegis256x2_state_decrypt_in_place_unverified_nonnull(
     st: &mut SavedRun,
@@ -136,7 +138,7 @@ pub extern "C" fn hunkravy_aegis256x2_state_decrypt_in_place_unverified_nonnull(
     open_more::<Lanes>(st, mc)
 }
 
-/// Takes in the next bytes of the ciphertext, and writes nothing of the message.
+/// Takes in the next bytes of the ciphertext, without writing the message.
 #[unsafe(no_mangle)]
 pub extern "C" fn hunkravy_aegis256x2_state_decrypt_check_nonnull(
     st: &mut SavedRun,
@@ -147,7 +149,8 @@ pub extern "C" fn hunkravy_aegis256x2_state_decrypt_check_nonnull(
     check_more::<Lanes>(st, c)
 }
 
-/// Whether `mac` is the tag of the message, whose bytes at `m` are erased if it is not. Ends the state.
+/// Returns `DONE` if `mac` is the tag of the message. If it is not, each byte of `m` is 0xaa, and the result is
+/// `INVALID_TAG`. Both end the state.
 #[unsafe(no_mangle)]
 pub extern "C" fn hunkravy_aegis256x2_state_decrypt_final_nonnull(
     st: &mut SavedRun,
@@ -167,7 +170,7 @@ pub extern "C" fn hunkravy_aegis256x2_mac_update_nonnull(st: &mut SavedRun, inpu
     take_more::<Lanes>(st, input)
 }
 
-/// Writes the MAC of the input so far to `mac`.
+/// Writes the MAC of the input so far, of 16 or 32 bytes, to `mac`. The state is unchanged.
 #[unsafe(no_mangle)]
 pub extern "C" fn hunkravy_aegis256x2_mac_final_nonnull(st: &SavedRun, mac: &mut [u8]) -> i32
     ensures { GivesMac Aegis256X2 st.now mac.old mac.new result }
@@ -175,7 +178,7 @@ pub extern "C" fn hunkravy_aegis256x2_mac_final_nonnull(st: &SavedRun, mac: &mut
     give_mac::<Lanes>(st, mac)
 }
 
-/// Whether `mac` is the MAC of the input so far.
+/// Returns `DONE` if `mac` is the MAC of the input so far, and `INVALID_TAG` if it is not. The state is unchanged.
 #[unsafe(no_mangle)]
 pub extern "C" fn hunkravy_aegis256x2_mac_final_verify_nonnull(st: &SavedRun, mac: &[u8]) -> i32
     ensures { ChecksMac Aegis256X2 st.now mac.now result }

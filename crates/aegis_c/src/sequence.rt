@@ -1,4 +1,4 @@
-//! What calls on a state give, one after the other: the definition's sealing, opening and MAC of all chunks together. These
+//! Sequences of calls on a state: they seal, open or authenticate all chunks together as the definition does. These
 //! functions are not exported. They are proved from the contracts of the exports alone.
 
 ghost use Rattle.std.specs.Prelude.{◌≡◌, ◌++◌, List, length, true, ℕ};
@@ -10,7 +10,7 @@ use crate::aegis128l::*;
 use aegis_c_calls::answer::*;
 use aegis_engine::SavedRun;
 
-/// Seals a message of two chunks.
+/// Seals a message of two chunks, and returns whether all calls have succeeded.
 pub fn sealed_in_two(
     st: &mut SavedRun,
     ad: &[u8],
@@ -35,7 +35,7 @@ pub fn sealed_in_two(
     hunkravy_aegis128l_state_encrypt_final_nonnull(st, mac) == DONE
 }
 
-/// Opens a ciphertext of two chunks.
+/// Opens a ciphertext of two chunks, and returns whether all calls have succeeded.
 pub fn opened_in_two(
     st: &mut SavedRun,
     ad: &[u8],
@@ -60,7 +60,7 @@ pub fn opened_in_two(
     hunkravy_aegis128l_state_decrypt_final_nonnull(st, &mut [], mac) == DONE
 }
 
-/// Whether a ciphertext of two chunks is that of some message.
+/// Checks a ciphertext of two chunks without opening it: `true` only if some message is sealed to it and the tag.
 pub fn checked_in_two(
     st: &mut SavedRun,
     ad: &[u8],
@@ -85,7 +85,7 @@ pub fn checked_in_two(
     hunkravy_aegis128l_state_decrypt_final_nonnull(st, &mut [], mac) == DONE
 }
 
-/// Writes the MAC of an input of two chunks.
+/// Writes the MAC of an input of two chunks, and returns whether all calls have succeeded.
 pub fn mac_in_two(
     st: &mut SavedRun,
     npub: &[u8],
@@ -109,7 +109,7 @@ pub fn mac_in_two(
     hunkravy_aegis128l_mac_final_nonnull(st, out) == DONE
 }
 
-/// Goes on with a message after its tag was written, which is refused.
+/// Continues a message after its tag was written, which is refused.
 pub fn refused_after_the_tag(st: &mut SavedRun, mac: &mut [u8], mc: &mut [u8]) -> bool
     ensures refused { result ≡ true }
     ensures kept { mc.new ≡ mc.old }

@@ -1,5 +1,5 @@
--- What a call of a variant does: its answer, and the bytes at its pointers before and after it. A call is of a
--- variant, whose keys and nonces have n bytes.
+-- What each call does: the code that it returns (`answer`), and the bytes at its pointers before and after it. Keys and
+-- nonces of the variant have n bytes.
 use Rattle.std.specs.Prelude.{◌≡◌, ◌≢◌, ℕ, ℤ, List, [], length, replicate}
 use Rattle.aegis_base.specs.Variant.{Variant}
 use Rattle.aegis_base.specs.Mac.{mac}
@@ -11,15 +11,15 @@ use Rattle.aegis_engine.specs.declared.saved.TheConstants.{ENDED}
 use Rattle.aegis_c_calls.specs.Answers.{chunk_answer, end_answer, key_answer, mac_answer, mac_end_answer, message_answer, seal_answer, keystream_answer}
 use Rattle.aegis_c_calls.specs.declared.answer.TheConstants.{DONE, INVALID_TAG}
 
--- It seals the message `old` to `new`, and writes the tag over what `tag` had; or it changes nothing.
+-- The call seals the message `old` to `new`, and overwrites `tag` with the tag; or it changes nothing.
 pub record Seals (variant : Variant) (n : ℕ) (key nonce ad old new tag tag' : List ℕ) (answer : ℤ) : Type 0 where
   pub answered : answer ≡ seal_answer n (length key) (length nonce) (length old) (length ad) (length tag)
   pub sealed : answer ≡ DONE → (new, tag') ≡ seal variant (length tag) key nonce ad old
   pub message_kept : answer ≢ DONE → new ≡ old
   pub tag_kept : answer ≢ DONE → tag' ≡ tag
 
--- It opens the ciphertext `old` to the message `new`. Where no message is sealed to it and the tag, it erases every byte; and
--- where a length is wrong, it changes nothing.
+-- The call opens the ciphertext `old` to the message `new`. If no message is sealed to the ciphertext and the tag, it
+-- erases every byte; and if a length is wrong, it changes nothing.
 pub record OpensOrErases (variant : Variant) (n : ℕ) (key nonce ad old new tag : List ℕ) (answer : ℤ) : Type 0 where
   pub answered : answer ≢ INVALID_TAG → answer ≡ seal_answer n (length key) (length nonce) (length old) (length ad) (length tag)
   pub lengths : answer ≡ INVALID_TAG → seal_answer n (length key) (length nonce) (length old) (length ad) (length tag) ≡ DONE
@@ -28,40 +28,40 @@ pub record OpensOrErases (variant : Variant) (n : ℕ) (key nonce ad old new tag
   pub erased : answer ≡ INVALID_TAG → new ≡ replicate (length old) ERASED
   pub kept : answer ≢ DONE → answer ≢ INVALID_TAG → new ≡ old
 
--- It puts `written` in the place of `old`; or it changes nothing.
+-- The call replaces `old` by `written`; or it changes nothing.
 pub record WritesKeystream (n : ℕ) (key nonce old new written : List ℕ) (answer : ℤ) : Type 0 where
   pub answered : answer ≡ keystream_answer n (length key) (length nonce)
   pub done : answer ≡ DONE → new ≡ written
   pub kept : answer ≢ DONE → new ≡ old
 
--- It writes the MAC of `input` over what `old` had; or it changes nothing.
+-- The call overwrites `old` with the MAC of `input`; or it changes nothing.
 pub record MakesMac (variant : Variant) (n : ℕ) (key nonce input old new : List ℕ) (answer : ℤ) : Type 0 where
   pub answered : answer ≡ mac_answer n (length key) (length nonce) (length input) (length old)
   pub made : answer ≡ DONE → new ≡ mac variant (length old) key nonce input
   pub kept : answer ≢ DONE → new ≡ old
 
--- It is done exactly where `expected` is the MAC of `input`, or else says which length is wrong.
+-- The call returns `DONE` exactly if `expected` is the MAC of `input`, unless a length is wrong.
 pub record VerifiesMac (variant : Variant) (n : ℕ) (key nonce input expected : List ℕ) (answer : ℤ) : Type 0 where
   pub answered : answer ≢ INVALID_TAG → answer ≡ mac_answer n (length key) (length nonce) (length input) (length expected)
   pub lengths : answer ≡ INVALID_TAG → mac_answer n (length key) (length nonce) (length input) (length expected) ≡ DONE
   pub verified : answer ≡ DONE → expected ≡ mac variant (length expected) key nonce input
   pub accepted : expected ≡ mac variant (length expected) key nonce input → answer ≢ INVALID_TAG
 
--- ---- Calls on a state that the caller keeps between them. If it stands for nothing, a call's record gives its answer and what
--- is kept, and no more.
+-- ---- Calls on a state that the caller keeps between them. For a state that stands for nothing, a record states the
+-- code and what is unchanged.
 
 -- a state after its end: zeros, which every later call refuses
 abbrev pub IsEnded : SavedRun → Type 0
 IsEnded run = run ≡ ENDED
 
--- It begins a message, or a MAC, with no byte of it taken in; or it changes nothing.
+-- The call begins a message, or a MAC; or it changes nothing.
 pub record Begins (variant : Variant) (n : ℕ) (key nonce ad : List ℕ) (old new : SavedRun) (answer : ℤ) : Type 0 where
   pub answered : answer ≡ key_answer n (length key) (length nonce) (message_answer 0 (length ad) DONE)
   pub begun : answer ≡ DONE → IsSaved variant new key nonce ad []
   pub empty : answer ≡ DONE → ciphertext variant key nonce ad [] ≡ []
   pub kept : answer ≢ DONE → new ≡ old
 
--- It seals the next bytes `plain` of the message to `sealed`; or it changes nothing.
+-- The call seals the next bytes `plain` of the message to `sealed`; or it changes nothing.
 pub record SealsMore (variant : Variant) (old new : SavedRun) (plain sealed : List ℕ) (answer : ℤ) : Type 0 where
   pub answered : answer ≡ chunk_answer old (length plain)
   pub taken : answer ≡ DONE → HasTaken variant old new plain
@@ -69,7 +69,7 @@ pub record SealsMore (variant : Variant) (old new : SavedRun) (plain sealed : Li
   pub state_kept : answer ≢ DONE → new ≡ old
   pub kept : answer ≢ DONE → sealed ≡ plain
 
--- It opens the next bytes `sealed` of the ciphertext to `plain`, whatever the tag will be; or it changes nothing.
+-- The call opens the next bytes `sealed` of the ciphertext to `plain`, before the tag is known; or it changes nothing.
 pub record OpensMore (variant : Variant) (old new : SavedRun) (sealed plain : List ℕ) (answer : ℤ) : Type 0 where
   pub answered : answer ≡ chunk_answer old (length sealed)
   pub taken : answer ≡ DONE → HasTaken variant old new plain
@@ -77,13 +77,13 @@ pub record OpensMore (variant : Variant) (old new : SavedRun) (sealed plain : Li
   pub state_kept : answer ≢ DONE → new ≡ old
   pub kept : answer ≢ DONE → plain ≡ sealed
 
--- It takes in the next bytes of the ciphertext, and writes nothing of the message; or it changes nothing.
+-- The call takes in the next bytes of the ciphertext, without writing the message; or it changes nothing.
 pub record ChecksMore (variant : Variant) (old new : SavedRun) (sealed : List ℕ) (answer : ℤ) : Type 0 where
   pub answered : answer ≡ chunk_answer old (length sealed)
   pub checked : answer ≡ DONE → HasChecked variant old new sealed
   pub state_kept : answer ≢ DONE → new ≡ old
 
--- It writes the tag of the message over what `tag` had, and ends the state; or it changes nothing.
+-- The call overwrites `tag` with the tag of the message, and ends the state; or it changes nothing.
 pub record EndsSealing (variant : Variant) (old new : SavedRun) (tag tag' : List ℕ) (answer : ℤ) : Type 0 where
   pub answered : answer ≡ end_answer old (length tag)
   pub made : (key nonce ad m : List ℕ) → answer ≡ DONE → IsSaved variant old key nonce ad m → tag' ≡ tag_of variant (length tag) key nonce ad m
@@ -91,8 +91,9 @@ pub record EndsSealing (variant : Variant) (old new : SavedRun) (tag tag' : List
   pub state_kept : answer ≢ DONE → new ≡ old
   pub kept : answer ≢ DONE → tag' ≡ tag
 
--- It is done exactly if the message is sealed to its ciphertext and this tag. If no message is, it erases every byte that it is
--- given for that. Both end the state; and if a length or the state is wrong, it changes nothing.
+-- The call returns `DONE` exactly if the message is sealed to its ciphertext and this tag, unless a length or the state
+-- is wrong. If no message is, it erases every byte of `opened`. Both end the state; and if a length or the state is
+-- wrong, it changes nothing.
 pub record EndsOpening (variant : Variant) (old new : SavedRun) (opened opened' tag : List ℕ) (answer : ℤ) : Type 0 where
   pub answered : answer ≢ INVALID_TAG → answer ≡ end_answer old (length tag)
   pub lengths : answer ≡ INVALID_TAG → end_answer old (length tag) ≡ DONE
@@ -106,19 +107,19 @@ pub record EndsOpening (variant : Variant) (old new : SavedRun) (opened opened' 
   pub erased : answer ≡ INVALID_TAG → opened' ≡ replicate (length opened) ERASED
   pub kept : answer ≢ INVALID_TAG → opened' ≡ opened
 
--- It takes in the next bytes of the input of a MAC; or it changes nothing.
+-- The call takes in the next bytes of the input of a MAC; or it changes nothing.
 pub record TakesMore (variant : Variant) (old new : SavedRun) (input : List ℕ) (answer : ℤ) : Type 0 where
   pub answered : answer ≡ chunk_answer old (length input)
   pub taken : answer ≡ DONE → HasTaken variant old new input
   pub state_kept : answer ≢ DONE → new ≡ old
 
--- It writes the MAC of the input so far over what `old` had; or it changes nothing.
+-- The call overwrites `old` with the MAC of the input so far; or it changes nothing.
 pub record GivesMac (variant : Variant) (run : SavedRun) (old new : List ℕ) (answer : ℤ) : Type 0 where
   pub answered : answer ≡ mac_end_answer run (length old)
   pub made : (key nonce x : List ℕ) → answer ≡ DONE → IsSaved variant run key nonce [] x → new ≡ mac variant (length old) key nonce x
   pub kept : answer ≢ DONE → new ≡ old
 
--- It is done exactly if `expected` is the MAC of the input so far, or else says what is wrong.
+-- The call returns `DONE` exactly if `expected` is the MAC of the input so far, unless a length or the state is wrong.
 pub record ChecksMac (variant : Variant) (run : SavedRun) (expected : List ℕ) (answer : ℤ) : Type 0 where
   pub answered : answer ≢ INVALID_TAG → answer ≡ mac_end_answer run (length expected)
   pub lengths : answer ≡ INVALID_TAG → mac_end_answer run (length expected) ≡ DONE

@@ -1,25 +1,25 @@
-//! What a call answers.
+//! The codes that calls return.
 
-/// The call did what it is for.
+/// The call has succeeded.
 pub const DONE: i32 = 0;
 
-/// The tag is not that of the message.
+/// The tag is not that of the message, or the MAC not that of the input.
 pub const INVALID_TAG: i32 = -1;
 
-/// The nonce has another length than the variant's.
+/// The nonce does not have the variant's length.
 pub const WRONG_NONCE_LENGTH: i32 = -2;
 
-/// The key has another length than the variant's.
+/// The key does not have the variant's length.
 pub const WRONG_KEY_LENGTH: i32 = -3;
 
-/// The message has more than `MAX_AEAD_BYTES`.
+/// The message or the input has more than `MAX_AEAD_BYTES` bytes.
 pub const MESSAGE_TOO_LONG: i32 = -4;
 
-/// The associated data have more than `MAX_AEAD_BYTES`.
+/// The associated data has more than `MAX_AEAD_BYTES` bytes.
 pub const DATA_TOO_LONG: i32 = -5;
 
 /// The tag has neither 16 nor 32 bytes.
 pub const WRONG_TAG_LENGTH: i32 = -6;
 
-/// The state has ended, or it was never begun.
+/// The state has ended, was never begun, or is not one for this call.
 pub const WRONG_STATE: i32 = -7;

@@ -6,7 +6,7 @@ ghost use Rattle.aegis_c_calls.specs.Answers.{key_answer, message_answer};
 use crate::answer::*;
 use aegis_base::MAX_AEAD_BYTES;
 
-/// The nonce and the key as arrays of the length that they are used at. Where one has another, what the call answers.
+/// Returns the nonce and the key as arrays of `N` bytes, or the code of the call if one of them has another length.
 pub fn nonce_and_key<'a, const N: usize>(
     npub: &'a [u8],
     k: &'a [u8],
@@ -29,8 +29,8 @@ pub fn nonce_and_key<'a, const N: usize>(
     Ok((nonce, key))
 }
 
-/// As `nonce_and_key`, but also where the message or its associated data have too many bytes, which are counted here, it is
-/// what the call answers.
+/// The same for a call with so many bytes of a message and of associated data: also returns the code of the call if one
+/// of the two has too many.
 pub fn message_keys<'a, const N: usize>(
     npub: &'a [u8],
     k: &'a [u8],

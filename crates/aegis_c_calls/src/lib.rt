@@ -1,8 +1,8 @@
 //! The calls of the C library: their bodies, each written once for all variants.
 //!
-//! A call takes slices of any lengths and returns a number of `answer`. `keys` looks at the lengths, `message` has the calls on
-//! a whole message or input, and `state` those on a state that C owns between them. The contracts are the records of
-//! `specs/Calls.antt`; the exports of `aegis_c` have the same ones.
+//! A call takes slices of any lengths and returns a code of `answer`. `keys` checks the lengths of keys and nonces, `message` has
+//! the calls on a whole message or input, and `state` those on a state that C owns. Their contracts are the records of
+//! `specs/Calls.antt`, which the exports of `aegis_c` have too.
 #![tactic(auto)]
 
 pub mod answer;

@@ -1,4 +1,4 @@
-//! The calls on a whole message or input: each looks at the lengths, and makes one call of the library, or two of a MAC.
+//! The calls on a whole message or input. `N` is the length of the variant's keys and nonces, in bytes.
 
 ghost use Rattle.std.specs.Prelude.{◌≡◌, length};
 ghost use Rattle.aegis_base.specs.Variant.{key_length};
@@ -10,7 +10,7 @@ use crate::keys::{message_keys, nonce_and_key};
 use aegis_base::{LaneState, Names};
 use aegis_engine::{Cipher, mac_at_once, same_bytes};
 
-/// Seals a message in place, and writes its tag to `mac`.
+/// Encrypts `mc` in place, and writes the tag, of 16 or 32 bytes, to `mac`.
 pub fn encrypt_in_place<S: LaneState, V: Names, const N: usize>(
     mc: &mut [u8],
     ad: &[u8],
@@ -36,7 +36,7 @@ pub fn encrypt_in_place<S: LaneState, V: Names, const N: usize>(
     }
 }
 
-/// Opens a ciphertext in place, if `mac` is its tag, and otherwise erases it.
+/// Decrypts `mc` in place. If `mac` is not its tag, each byte of `mc` is `ERASED`, and the result is `INVALID_TAG`.
 pub fn decrypt_in_place<S: LaneState, V: Names, const N: usize>(
     mc: &mut [u8],
     ad: &[u8],
@@ -61,7 +61,7 @@ pub fn decrypt_in_place<S: LaneState, V: Names, const N: usize>(
     if opened.is_ok() { DONE } else { INVALID_TAG }
 }
 
-/// Writes keystream to `out`.
+/// Overwrites `out` with keystream.
 pub fn stream<S: LaneState, V: Names, const N: usize>(out: &mut [u8], npub: &[u8], k: &[u8]) -> i32
     requires { N ≡ key_length S.VARIANT.family }
     ensures { WritesKeystream N k.now npub.now out.old out.new
@@ -76,7 +76,7 @@ pub fn stream<S: LaneState, V: Names, const N: usize>(out: &mut [u8], npub: &[u8
     }
 }
 
-/// Xors a message in place with keystream.
+/// Xors `mc` with keystream, in place.
 pub fn stream_xor_in_place<S: LaneState, V: Names, const N: usize>(
     mc: &mut [u8],
     npub: &[u8],
@@ -95,7 +95,7 @@ pub fn stream_xor_in_place<S: LaneState, V: Names, const N: usize>(
     }
 }
 
-/// Writes the MAC of `input` to `mac`.
+/// Writes the MAC of `input`, of 16 or 32 bytes, to `mac`.
 pub fn write_mac<S: LaneState, const N: usize>(
     input: &[u8],
     npub: &[u8],
@@ -120,7 +120,7 @@ pub fn write_mac<S: LaneState, const N: usize>(
     }
 }
 
-/// Whether `mac` is the MAC of `input`.
+/// Returns `DONE` if `mac` is the MAC of `input`, and `INVALID_TAG` if it is not.
 pub fn verify_mac<S: LaneState, const N: usize>(
     input: &[u8],
     npub: &[u8],

@@ -1,6 +1,6 @@
-//! The calls on a state that C owns between them: their bodies, each written once for all variants. C may pass a state that no
-//! call has begun, or one that it changed. So the mark and the two numbers of bytes are checked, and each body is safe whatever
-//! the other bytes are.
+//! The bodies of the calls on a state that C owns between them, each written once for all variants. C may pass a state
+//! that no call has begun, or one that it has changed. So the mark and the two numbers of bytes are checked, and each
+//! body is safe for any other bytes.
 
 ghost use Rattle.std.specs.Prelude.{◌≡◌, ◌≤◌, ℤ, IfErr, OnOk};
 ghost use Rattle.aegis_base.specs.Variant.{key_length};
@@ -12,10 +12,10 @@ use crate::keys::message_keys;
 use aegis_base::{MAX_AEAD_BYTES, SavedLanes};
 use aegis_engine::{BEGUN, ERASED, SavedRun};
 
-// The size that the header gives it.
+// The size of a state in the header.
 const _: () = prove!(size_of::<SavedRun>() == 664);
 
-// Returns what a call answers if a state lacks the mark, or has a number past the limit.
+// Returns an error with the code of the call if a state lacks the mark or has a number past the limit.
 fn check_state(st: &SavedRun) -> Result<(), i32>
     ensures associated_data { OnOk result (st.now.data_bytes ≤ MAX_AEAD_BYTES) }
     ensures message { OnOk result (st.now.message_bytes ≤ MAX_AEAD_BYTES) }
@@ -62,7 +62,7 @@ pub fn seal_more<S: SavedLanes>(st: &mut SavedRun, mc: &mut [u8]) -> i32
     DONE
 }
 
-/// Opens the next bytes of a ciphertext in place, whatever the tag will be.
+/// Opens the next bytes of a ciphertext in place, before the tag is known.
 pub fn open_more<S: SavedLanes>(st: &mut SavedRun, mc: &mut [u8]) -> i32
     ensures { OpensMore S.VARIANT st.old st.new mc.old mc.new result }
 {
@@ -76,7 +76,7 @@ pub fn open_more<S: SavedLanes>(st: &mut SavedRun, mc: &mut [u8]) -> i32
     DONE
 }
 
-/// Takes in the next bytes of a ciphertext, and writes nothing.
+/// Takes in the next bytes of a ciphertext, without writing the message.
 pub fn check_more<S: SavedLanes>(st: &mut SavedRun, c: &[u8]) -> i32
     ensures { ChecksMore S.VARIANT st.old st.new c.now result }
 {
@@ -90,7 +90,7 @@ pub fn check_more<S: SavedLanes>(st: &mut SavedRun, c: &[u8]) -> i32
     DONE
 }
 
-/// Writes the tag of a message that was sealed.
+/// Writes the tag of a message that was sealed, and ends the state.
 pub fn end_sealing<S: SavedLanes>(st: &mut SavedRun, mac: &mut [u8]) -> i32
     ensures { EndsSealing S.VARIANT st.old st.new mac.old mac.new result }
 {
@@ -108,7 +108,8 @@ pub fn end_sealing<S: SavedLanes>(st: &mut SavedRun, mac: &mut [u8]) -> i32
     DONE
 }
 
-/// Whether `mac` is the tag of a message that was opened. If it is not, every byte at `m` is erased.
+/// Returns `DONE` if `mac` is the tag of a message that was opened. If it is not, returns `INVALID_TAG`, and every byte
+/// of `m` is `ERASED`. Both end the state.
 pub fn end_opening<S: SavedLanes>(st: &mut SavedRun, m: &mut [u8], mac: &[u8]) -> i32
     ensures { EndsOpening S.VARIANT st.old st.new m.old m.new mac.now result }
 {
@@ -145,7 +146,7 @@ pub fn take_more<S: SavedLanes>(st: &mut SavedRun, input: &[u8]) -> i32
     DONE
 }
 
-/// Writes the MAC of the input so far. The state stays.
+/// Writes the MAC of the input so far. The state is unchanged.
 pub fn give_mac<S: SavedLanes>(st: &SavedRun, mac: &mut [u8]) -> i32
     ensures { GivesMac S.VARIANT st.now mac.old mac.new result }
 {
@@ -166,7 +167,7 @@ pub fn give_mac<S: SavedLanes>(st: &SavedRun, mac: &mut [u8]) -> i32
     }
 }
 
-/// Whether `mac` is the MAC of the input so far. The state stays.
+/// Returns `DONE` if `mac` is the MAC of the input so far, and `INVALID_TAG` if it is not. The state is unchanged.
 pub fn check_mac<S: SavedLanes>(st: &SavedRun, mac: &[u8]) -> i32
     ensures { ChecksMac S.VARIANT st.now mac.now result }
 {

@@ -30,8 +30,7 @@ pub fn seal_two(
     encryptor.finalize()
 }
 
-/// Seals a message that comes in two chunks into buffers of their lengths, with an empty chunk between, which changes
-/// nothing.
+/// Seals a message in two chunks, each into a buffer of its length.
 pub fn seal_two_into(
     key: &[u8; 16],
     nonce: &[u8; 16],
@@ -73,7 +72,7 @@ pub fn cut_changes_no_tag(
     (cipher.encrypt_in_place(message, &[]), encryptor.finalize())
 }
 
-/// Seals an empty chunk only: the message is empty.
+/// Seals only an empty chunk: the message is empty.
 pub fn seal_nothing(key: &[u8; 16], nonce: &[u8; 16]) -> [u8; 16]
     ensures { result ≡ tag Aegis128L 16 key.now nonce.now [] [] }
 {
@@ -99,7 +98,7 @@ pub fn seal_list(
     Aegis256X4::<32>::new(key, nonce).seal_chunks(associated_data, chunks, out)
 }
 
-/// The MAC of an input that comes in two pieces.
+/// Returns the MAC of an input in two pieces.
 pub fn mac_two(key: &[u8; 16], first: &[u8], second: &[u8]) -> [u8; 16]
     requires { length first.now + length second.now ≤ MAX_AEAD_BYTES }
     ensures { result ≡ mac Aegis128L 16 key.now (replicate 16 0) (first.now ++ second.now) }
@@ -110,7 +109,7 @@ pub fn mac_two(key: &[u8; 16], first: &[u8], second: &[u8]) -> [u8; 16]
     mac.finalize()
 }
 
-/// Whether an input has a MAC.
+/// Returns `Ok` if this is the MAC of the input.
 pub fn has_mac(
     key: &[u8; 32],
     nonce: &[u8; 32],
@@ -125,7 +124,7 @@ pub fn has_mac(
     mac.verify(expected)
 }
 
-/// The MAC of a list of chunks.
+/// Returns the MAC of a list of chunks.
 pub fn mac_list(key: &[u8; 32], nonce: &[u8; 32], chunks: &[&[u8]]) -> [u8; 16]
     requires { length (joined chunks.now) ≤ MAX_AEAD_BYTES }
     ensures { result ≡ mac Aegis256X4 16 key.now nonce.now (joined chunks.now) }

@@ -8,8 +8,8 @@ ghost use Rattle.aegis_base.specs.Message.{seal};
 use aegis::MAX_AEAD_BYTES;
 use aegis::aegis256::{Aegis256, Error};
 
-/// Seals a message that comes in any chunks, and opens it in two others, wherever its ciphertext is cut: the front of the
-/// destination is the message.
+/// Seals a message in any chunks, and opens it in two others, cut at any place. The front of the destination is then
+/// the message.
 pub fn seal_in_chunks_and_open_in_others(
     key: &[u8; 32],
     nonce: &[u8; 32],
@@ -35,7 +35,7 @@ pub fn seal_in_chunks_and_open_in_others(
     decryptor.finalize_len(&tag)
 }
 
-/// Opens the ciphertext of a message with another tag than its own: nothing is opened, and the destination holds zeros.
+/// Opens the ciphertext of a message with another tag than its own. This is refused, and zeros overwrite the message.
 pub fn open_with_another_tag(
     key: &[u8; 32],
     nonce: &[u8; 32],
@@ -61,7 +61,7 @@ pub fn open_with_another_tag(
     decryptor.finalize_len(tag)
 }
 
-/// Opens a message that was sealed in any chunks from a list of any others that the destination takes.
+/// Opens a message that was sealed in any chunks from a list of others, which fit in the destination.
 pub fn open_from_other_chunks(
     key: &[u8; 32],
     nonce: &[u8; 32],

@@ -1,10 +1,11 @@
 //! Callers of the public crate, one of each kind of call and one at each variant, proved from its contracts alone: the
-//! crate has no proof file. `docs/CALLING.md` shows them.
+//! crate has no proof file. `docs/CALLING.md` and the docs of `aegis` show some of them.
 #![tactic(auto)]
 
 pub mod chunks;
 pub mod encrypted_file;
 pub mod headline;
+pub mod in_place;
 pub mod opening;
 pub mod record_log;
 pub mod record_protocol;
@@ -118,8 +119,8 @@ pub fn seal_aegis256x4(
     Aegis256X4::<32>::new(key, nonce).encrypt_in_place(message, associated_data)
 }
 
-/// Opens in place: `Ok` exactly where some message is sealed to the ciphertext and the tag, and the buffer is then that
-/// message; otherwise every byte of it is `aa`.
+/// Opens in place. Returns `Ok` exactly if some message is sealed to the ciphertext and the tag, and the buffer is then
+/// that message. Otherwise every byte of the buffer is [`ERASED`].
 pub fn open(
     key: &[u8; 16],
     nonce: &[u8; 16],
@@ -137,22 +138,6 @@ pub fn open(
     ensures erased { OnErr result (buffer.new ≡ replicate (length buffer.old) ERASED) }
 {
     Aegis128L::<16>::new(key, nonce).decrypt_in_place(buffer, tag, associated_data)
-}
-
-/// Seals a message and opens it again, in place: the opening is `Ok`, and the buffer is as it was.
-pub fn sealed_and_opened(
-    key: &[u8; 16],
-    nonce: &[u8; 16],
-    associated_data: &[u8],
-    buffer: &mut [u8],
-) -> Result<(), Error>
-    requires message_within { length buffer.old ≤ MAX_AEAD_BYTES }
-    requires associated_data_within { length associated_data.now ≤ MAX_AEAD_BYTES }
-    ensures opened { IsOk result }
-    ensures same { buffer.new ≡ buffer.old }
-{
-    let tag = Aegis128L::<16>::new(key, nonce).encrypt_in_place(buffer, associated_data);
-    Aegis128L::<16>::new(key, nonce).decrypt_in_place(buffer, &tag, associated_data)
 }
 
 /// Seals into a fresh vector.
@@ -176,7 +161,7 @@ pub fn seal_to_vec<A: Allocator>(
     Ok((ciphertext, tag))
 }
 
-/// Opens into a fresh vector.
+/// Opens into a new vector.
 pub fn open_to_vec<A: Allocator>(
     alloc: A,
     key: &[u8; 32],
@@ -195,7 +180,7 @@ pub fn open_to_vec<A: Allocator>(
     Ok(message)
 }
 
-/// Seals a message and opens it again, each into a fresh vector: what is handed out is the message.
+/// Seals a message and opens it again, each into a new vector: the result is the message.
 pub fn sealed_and_opened_to_vec<A: Allocator + Copy>(
     alloc: A,
     key: &[u8; 32],
@@ -227,7 +212,7 @@ pub fn xor_keystream(key: &[u8; 16], nonce: &[u8; 16], message: &mut [u8])
     Aegis128X4::<16>::new(key, nonce).stream_xor_in_place(message)
 }
 
-/// Xors a message with the keystream and then again, which gives it back.
+/// Xors a message with the keystream twice, which leaves it unchanged.
 pub fn xored_twice(key: &[u8; 16], nonce: &[u8; 16], message: &mut [u8])
     ensures { message.new ≡ message.old }
 {

@@ -1,4 +1,4 @@
-//! Opening in chunks: into a destination that is borrowed for the whole message.
+//! Opening in chunks, into a destination that is borrowed until the end of the message.
 
 ghost use Rattle.std.specs.Prelude.{◌≡◌, ℕ, ◌+◌, ◌<◌, ◌≤◌, ◌++◌, IfErr, IfOk, IsOk, List, OnErr, OnOk, [], length, take};
 ghost use Rattle.aegis_base.specs.Chunks.{accepted, erased};
@@ -38,7 +38,7 @@ pub fn open_two_chunks(
     decryptor.finalize_len(tag)
 }
 
-/// Opens a chunk and drops the decryptor before the tag is seen.
+/// Opens a chunk and drops the decryptor: zeros overwrite what was written.
 pub fn drop_early(key: &[u8; 16], nonce: &[u8; 16], chunk: &[u8], message: &mut [u8])
     requires message_within { length chunk.now ≤ MAX_AEAD_BYTES }
     requires room { length chunk.now ≤ length message.old }
@@ -49,7 +49,7 @@ pub fn drop_early(key: &[u8; 16], nonce: &[u8; 16], chunk: &[u8], message: &mut 
     let _ = decryptor.update(chunk);
 }
 
-/// Hands a decryptor a chunk that is longer than its destination.
+/// Opens a chunk that is longer than the destination, which is refused.
 pub fn refuse_a_long_chunk(
     key: &[u8; 16],
     nonce: &[u8; 16],
@@ -114,7 +114,7 @@ pub fn open_list_or_erase(
     cipher.open_chunks_len(associated_data, chunks, tag, buffer)
 }
 
-/// Opens a message that is one chunk, and returns the length of what is handed out.
+/// Opens a message in one chunk, and returns the length of the slice that `finalize` returns.
 pub fn open_one_chunk(
     key: &[u8; 16],
     nonce: &[u8; 16],
@@ -135,7 +135,7 @@ pub fn open_one_chunk(
     Ok(opened.len())
 }
 
-/// Opens a message that is one chunk: what is handed out begins where the destination does.
+/// Opens a message in one chunk: the slice that is returned begins at the destination's address.
 pub fn open_in_place<'a>(
     key: &[u8; 16],
     nonce: &[u8; 16],

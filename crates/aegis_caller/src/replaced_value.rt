@@ -1,4 +1,4 @@
-//! A stored value, a stream of one record, which is replaced under a new prefix.
+//! A stored value: a stream of one record, which is replaced under a new prefix.
 
 ghost use Rattle.std.specs.Prelude.{◌≡◌, ◌≢◌, ◌≤◌, ◌∷◌, [], IfOk, OnErr, OnOk, length};
 ghost use Rattle.aegis.specs.Records.{AreRecords};

@@ -1,4 +1,4 @@
--- What a destination keeps of chunks, one chunk further.
+-- What a destination keeps of chunks, after one more chunk.
 use Rattle.std.proofs.Common.{◌≡◌, ◌∙◌, sym, ap, subst, refl, ℕ, ◌+◌, ◌<◌, ◌≤◌, ◌⊎◌, inl, inr, true, false, List, [], ◌∷◌, ◌++◌, length, get_or, take, Result, arith}
 use lib.Dec.{T}
 use Rattle.std.specs.Prelude.{◌↔◌, IsOk, OnOk, OnErr, leb}
@@ -43,7 +43,7 @@ left-out : (room : ℕ) (kept chunk : List ℕ) → ((length kept + length chunk
     → keep_chunk room kept chunk ≡ kept
 left-out room kept chunk never = left_out_by room kept chunk never (leb_tells (length kept + length chunk) room) (leb_tells (length kept + length chunk) MAX_AEAD_BYTES)
 
--- an answer that says whether a chunk of n bytes is kept behind w bytes, of which `here` have room
+-- P holds exactly if a chunk of n bytes is kept after w bytes, in a destination of `here` bytes
 abbrev pub TakesChunk : Type 0 → ℕ → ℕ → ℕ → Type 0
 TakesChunk P w n here = P ↔ ((w + n ≤ here) × (w + n ≤ MAX_AEAD_BYTES))
 

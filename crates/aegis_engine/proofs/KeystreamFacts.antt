@@ -1,4 +1,4 @@
--- Bytes that a pass xored with the keystream of a key and a nonce, from its beginning.
+-- Bytes that a pass has xored with the keystream of a key and a nonce, from its beginning.
 use Rattle.std.proofs.Common.{◌≡◌, ◌∙◌, sym, ap, refl, ℕ, ◌<◌, List, [], ◌∷◌, bit_xor, length, arith}
 use Rattle.std.proofs.Math.Nat.{div-eq_of_lt}
 use Rattle.std.proofs.lemmas.Nat.{xor_comm}
@@ -13,7 +13,7 @@ use Rattle.aegis_base.proofs.HeldFacts.{stands-begun}
 use Rattle.aegis_base.proofs.MessageFacts.{rate-positive}
 use Rattle.aegis_base.proofs.SealFacts.{before-start}
 
--- lanes right after their start stand for no message, without associated data
+-- the lanes after their start stand for the empty message, without associated data
 pub stands-started : (variant : Variant) (lane : ℕ → List (List ℕ)) (updates : ℕ) (block key nonce : List ℕ) → IsLaneCount variant.lanes
     → updates ≡ 0 → ((j : ℕ) → j < variant.lanes → lane j ≡ start variant key nonce j)
     → Stands variant (held_by variant lane updates block 0 0) key nonce [] []
@@ -22,7 +22,7 @@ stands-started variant lane updates block key nonce count none started =
     let zero : block_count variant 0 ≡ 0 = div-eq_of_lt (omega arith) in
     stands-begun variant lane updates block 0 key nonce [] refl (none ∙ sym zero) (before-start variant lane key nonce count started).before
 
--- the xor with a xor gives the other list back
+-- m xored with the xor of m and c is c
 xor-back : (m c : List ℕ) → length c ≡ length m → xor m (xor m c) ≡ c
 xor-back [] [] e = refl
 xor-back [] (y ∷ c) e = absurd (omega (arith, e))
@@ -32,7 +32,7 @@ xor-back (x ∷ m) (y ∷ c) e =
     let byte : bit_xor x (bit_xor x y) ≡ y = xor_comm x (bit_xor x y) ∙ ap (λ (b : ℕ). bit_xor b x) (xor_comm x y) ∙ bit_xor-twice y x in
     rw (byte, xor-back m c shorter) refl
 
--- bytes that give the keystream when they are xored with a message are the message xored with it
+-- if the xor of m and c is the keystream, c is m xored with the keystream
 pub xored-by : (variant : Variant) (key nonce m c : List ℕ) → length c ≡ length m → keystream variant key nonce (length m) ≡ xor m c
     → c ≡ xor_keystream variant key nonce m
 xored-by variant key nonce m c long is = sym (ap (xor m) is ∙ xor-back m c long)

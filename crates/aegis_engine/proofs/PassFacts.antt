@@ -1,5 +1,5 @@
--- What a pass takes in and what that is sealed to, place by place and in pieces, and how a piece is cut into the part that fills the open block, whole
--- rate blocks and a rest.
+-- What a pass takes in, and its ciphertext, byte by byte and in pieces; and how a piece is cut into the part that fills
+-- the open block, whole rate blocks and a rest.
 use Rattle.std.proofs.Common.{◌≡◌, ◌∙◌, sym, ap, subst, refl, ℕ, zero, suc, ◌+◌, ◌-◌, ◌*◌, ◌/◌, ◌%◌, ◌<◌, ◌≤◌, ⊎_elim, List, [], ◌∷◌, ◌++◌, length, bit_xor, replicate, slice_index, arith}
 use Rattle.std.proofs.Math.Nat.{div-mul-le_self, zero-div}
 use Rattle.std.proofs.lemmas.Bool.{cases_lt}
@@ -15,13 +15,13 @@ use Rattle.aegis_engine.specs.Pass.{sealed, taken}
 use Rattle.aegis_engine.specs.declared.pass.Pass.{Pass}
 use Rattle.aegis_engine.specs.declared.pass.Pass.TheVariants.{Seal, Open, Keystream}
 
--- a list of zeros reads zero everywhere
+-- each byte of a list of zeros is 0
 pub zeros-read : (n i : ℕ) → slice_index (replicate n 0) i ≡ 0
 zeros-read zero i = refl
 zeros-read (suc n) zero = refl
 zeros-read (suc n) (suc i) = zeros-read n i
 
--- what a pass takes in at a place depends on the bytes there alone
+-- what a pass takes in at a place depends only on the bytes there
 pub taken-same : (pass : Pass) (old old2 new new2 : List ℕ) (i : ℕ) → slice_index old i ≡ slice_index old2 i → slice_index new i ≡ slice_index new2 i
     → slice_index (taken pass old new) i ≡ slice_index (taken pass old2 new2) i
 taken-same Seal old old2 new new2 i e f = e
@@ -38,7 +38,7 @@ length-sealed Seal old new e = e
 length-sealed Open old new e = sym e
 length-sealed Keystream old new e = length-zip2 bit_xor old new (sym e) ∙ sym (length-replicate (length old) 0)
 
--- a byte that a pass xored with k: what it took in there was sealed by k
+-- if a pass has xored a byte with k, the ciphertext there is what it took in, xored with k
 pub sealed-byte : (pass : Pass) (old new : List ℕ) (i k : ℕ) → length new ≡ length old → i < length old
     → slice_index new i ≡ bit_xor (slice_index old i) k → slice_index (sealed pass old new) i ≡ bit_xor (slice_index (taken pass old new) i) k
 sealed-byte Seal old new i k long low e = e
@@ -65,7 +65,7 @@ sealed-append Seal a b c d e = refl
 sealed-append Open a b c d e = refl
 sealed-append Keystream a b c d e = xor-append a b c d e
 
--- after the part that fills the open block, whole rate blocks follow only where none is open
+-- after the part that fills the open block, whole rate blocks follow only if none is open
 pub unopened-after : (t first len r q : ℕ) → (first < len → (t + first) % q ≡ 0) → IsUnopened (t + first) ((len - first) / r) q
 unopened-after t first len r q fills some =
     ⊎_elim fills
@@ -73,7 +73,7 @@ unopened-after t first len r q fills some =
     let zero_blocks : (len - first) / r ≡ 0 = ap (λ (n : ℕ). n / r) none ∙ zero-div r in absurd (omega arith))
     (cases_lt first len)
 
--- a piece with no byte before or after its whole rate blocks; r and v are the rate q, as it was read
+-- a piece with no byte before or after its whole rate blocks; r and v are the rate q
 pub only-blocks : (t first len r v q : ℕ) → r ≡ q → v ≡ q → first + (len - (first + (len - first) / r * v)) ≡ 0 → (first < len → (t + first) % q ≡ 0)
     → ((len - first) / r * q ≡ len) × IsUnopened t ((len - first) / r) q
 only-blocks t first len r v q read again none fills =

@@ -1,4 +1,4 @@
--- What a pass in pieces has gone along, and what that is sealed to: one piece more, and all of them.
+-- A pass in pieces: one more piece, and all of them.
 use Rattle.std.proofs.Common.{◌≡◌, ◌∙◌, sym, ap, subst, ℕ, ◌+◌, ◌-◌, List, [], ◌++◌, drop, length, slice_range, take, append_assoc, arith}
 use Rattle.std.proofs.lemmas.List.{append-nil, drop-drop, length-append, take-append-drop}
 use Rattle.aegis_base.specs.Variant.{Variant}
@@ -8,7 +8,7 @@ use Rattle.aegis_engine.specs.Pass.{sealed, taken}
 use Rattle.aegis_engine.specs.declared.pass.Pass.{Pass}
 use Rattle.aegis_engine.proofs.PassFacts.{sealed-append, taken-append}
 
--- from `old` to `new` the pass went along the bytes of `source`, and left `out` in their place
+-- from `old` to `new`, the pass has processed `source`, which became `out`
 pub record IsPassed (variant : Variant) (old new : Held) (pass : Pass) (source out : List ℕ) : Type 0 where
   pub takes : Takes variant old new (taken pass source out)
   pub encrypts : Encrypts variant old (taken pass source out) (sealed pass source out)
@@ -25,13 +25,13 @@ passed-more variant old now new pass a b c d long first next = record {
       ∙ ap (λ (xs : List ℕ). xs ++ sealed pass b d) (first.encrypts key nonce ad m is));
 }
 
--- the next n bytes after the first ones, and what is left of them
+-- the rest of a list is its next n bytes and then the rest after them
 pub cut-at : (source : List ℕ) (at n : ℕ) → drop at source ≡ slice_range source at (at + n) ++ drop (at + n) source
 cut-at source at n =
     let count : at + n - at ≡ n = omega arith in
     rw count (sym (take-append-drop n (drop at source)) ∙ ap (λ (xs : List ℕ). take n (drop at source) ++ xs) (drop-drop n at source))
 
--- of `source` only the rest is left, and `out` is written so far; `now` is what is held, by the number of bytes
+-- all of `source` but `rest` is processed, and `out` is written so far; `now n` is what is held after n bytes
 pub record IsDone (variant : Variant) (old : Held) (now : ℕ → Held) (pass : Pass) (source rest out : List ℕ) : Type 0 where
   pub done : List ℕ
   pub split : done ++ rest ≡ source

@@ -1,4 +1,4 @@
--- What a saved run stands for, from and to the lanes that it keeps.
+-- What a saved run stands for, when its lanes are read and when they are written.
 use Rattle.std.proofs.Common.{◌≡◌, ◌∙◌, ap, ℕ, ◌+◌, ◌/◌, ◌<◌, List, [], ◌++◌, length, append_assoc, refl, sym, arith}
 use Rattle.std.proofs.lemmas.List.{append-nil}
 use Rattle.aegis_base.specs.Variant.{Variant, rate}
@@ -10,7 +10,7 @@ use Rattle.aegis_engine.specs.Saved.{HasChecked, IsSaved, held_in}
 use Rattle.aegis_engine.specs.declared.saved.SavedRun.{SavedRun}
 use Rattle.aegis_engine.specs.declared.saved.TheConstants.{BEGUN}
 
--- what stands for something has the mark
+-- a run that stands for something has the mark
 pub mark-of : (variant : Variant) (run : SavedRun) (key nonce ad m : List ℕ) → IsSaved variant run key nonce ad m → run.mark ≡ BEGUN
 unfolding IsSaved
 mark-of variant run key nonce ad m is = is.0
@@ -25,7 +25,7 @@ saved-of : (variant : Variant) (run : SavedRun) (key nonce ad m : List ℕ) → 
 unfolding IsSaved
 saved-of variant run key nonce ad m marked is = (marked, is)
 
--- other lanes that are the same
+-- equal lanes are along the same run
 along-lanes : (variant : Variant) (lanes here there : ℕ → List (List ℕ)) (block x : List ℕ) (t : ℕ)
     → ((j : ℕ) → j < variant.lanes → there j ≡ here j) → IsAlong variant lanes here block x t → IsAlong variant lanes there block x t
 along-lanes variant lanes here there block x t same on = record {
@@ -33,7 +33,7 @@ along-lanes variant lanes here there block x t same on = record {
   open_block = on.open_block;
 }
 
--- the same lanes after as many updates
+-- equal lanes with as many updates stand for the same
 stands-same : (variant : Variant) (here there : ℕ → List (List ℕ)) (u v : ℕ) (block : List ℕ) (data_bytes message_bytes : ℕ) (key nonce ad m : List ℕ)
     → ((j : ℕ) → j < variant.lanes → there j ≡ here j) → v ≡ block_count variant data_bytes + message_bytes / rate variant
     → Stands variant (held_by variant here u block data_bytes message_bytes) key nonce ad m
@@ -46,7 +46,7 @@ stands-same variant here there u v block data_bytes message_bytes key nonce ad m
     (is.0, is.1, omega arith, along-held variant _ there block m _ on)
 
 module _ (variant : Variant) (lane : ℕ → List (List ℕ)) (updates : ℕ) (run : SavedRun) (key nonce ad m : List ℕ) where
-  -- lanes that are read from a run, with as many updates as its numbers of bytes give
+  -- lanes that are read from a run, with the number of updates that follows from its numbers of bytes
   pub restored : (r : ℕ) → r ≡ rate variant
       → ((j : ℕ) → j < variant.lanes → lane j ≡ saved_lane variant run.rows j)
       → updates ≡ block_count variant run.data_bytes + run.message_bytes / r

@@ -1,4 +1,4 @@
--- What a decryptor holds, and the message so far, which is the front of its destination.
+-- The values that a decryptor holds, and the message so far, which is the front of its destination.
 use Rattle.std.specs.Prelude.{ℕ, List, take}
 use Rattle.aegis_aes.specs.declared.row.Row as row
 use Rattle.aegis_base.specs.Run.{Held}

@@ -1,16 +1,16 @@
--- What runs along a buffer with the lanes, and what it is sealed to.
+-- The bytes that the lanes take in as a buffer is xored with the keystream, and their ciphertext.
 use Rattle.std.specs.Prelude.{ℕ, List, length, replicate}
 use Rattle.aegis_aes.specs.Block.{xor}
 use Rattle.aegis_engine.specs.declared.pass.Pass.{Pass}
 use Rattle.aegis_engine.specs.declared.pass.Pass.TheVariants.{Seal, Open, Keystream}
 
--- what the lanes take in along bytes that are `old` before a pass and `new` after it
+-- what the lanes take in of a buffer that is `old` before a pass and `new` after it
 abbrev pub taken : Pass → List ℕ → List ℕ → List ℕ
 taken Seal old new = old
 taken Open old new = new
 taken Keystream old new = replicate (length old) 0
 
--- the ciphertext of that; of zeros it is the keystream
+-- the ciphertext of what the lanes take in; that of zeros is the keystream
 abbrev pub sealed : Pass → List ℕ → List ℕ → List ℕ
 sealed Seal old new = new
 sealed Open old new = old

@@ -1,4 +1,4 @@
--- Runs at rest.
+-- Saved runs.
 use Rattle.std.specs.Prelude.{◌≡◌, ℕ, ◌+◌, ◌/◌, List, ◌++◌}
 use Rattle.aegis_base.specs.Variant.{Variant, rate}
 use Rattle.aegis_base.specs.Message.{block_count, ciphertext}
@@ -7,28 +7,29 @@ use Rattle.aegis_base.specs.Saved.{saved_lane}
 use Rattle.aegis_engine.specs.declared.saved.SavedRun.{SavedRun}
 use Rattle.aegis_engine.specs.declared.saved.TheConstants.{BEGUN}
 
--- what the bytes of a run hold; its updates are not saved, since the numbers of bytes give them
+-- the values that a saved run holds; the number of updates is not saved, since it follows from the numbers of bytes
 abbrev pub held_in : (variant : Variant) (run : SavedRun) → Held
 held_in variant run =
     held_by variant (saved_lane variant run.rows) (block_count variant run.data_bytes + run.message_bytes / rate variant)
     run.block run.data_bytes run.message_bytes
 
--- a run has the mark, and stands for this key, nonce, associated data and message so far
+-- `run` has the mark, and stands for this key, nonce, associated data and message so far
 unfoldable pub IsSaved : (variant : Variant) (run : SavedRun) (key nonce ad m : List ℕ) → Type 0
 IsSaved variant run key nonce ad m = (run.mark ≡ BEGUN) × Stands variant (held_in variant run) key nonce ad m
 
--- from `old` to `new`, the message grew by these bytes
+-- if `old` stands for some message, `new` stands for it with these bytes appended
 abbrev pub HasTaken : (variant : Variant) (old new : SavedRun) (bytes : List ℕ) → Type 0
 HasTaken variant old new bytes =
     (key nonce ad m : List ℕ) → IsSaved variant old key nonce ad m → IsSaved variant new key nonce ad (m ++ bytes)
 
--- after the message so far, these bytes are sealed to `out`
+-- the ciphertext of the message so far continues with `out` if the message continues with these bytes
 abbrev pub HasSealed : (variant : Variant) (old : SavedRun) (bytes out : List ℕ) → Type 0
 HasSealed variant old bytes out =
     (key nonce ad m : List ℕ) → IsSaved variant old key nonce ad m
     → ciphertext variant key nonce ad (m ++ bytes) ≡ ciphertext variant key nonce ad m ++ out
 
--- from `old` to `new`, the message grew by the bytes that are sealed to c
+-- if `old` stands for some message, `new` stands for it with some bytes appended, and its ciphertext has continued with
+-- c
 abbrev pub HasChecked : (variant : Variant) (old new : SavedRun) (c : List ℕ) → Type 0
 HasChecked variant old new c =
     (key nonce ad m : List ℕ) → IsSaved variant old key nonce ad m

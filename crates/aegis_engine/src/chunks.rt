@@ -1,4 +1,4 @@
-//! Whole messages that come as a list of chunks.
+//! Whole messages as a list of chunks.
 
 ghost use Rattle.std.specs.Prelude.{◌≡◌, ℕ, ◌+◌, ◌^◌, ◌<◌, ◌≤◌, ◌++◌, length, take, List, []};
 ghost use Rattle.aegis_base.specs.Chunks.{joined};
@@ -64,7 +64,7 @@ pub fn seal_all<S: LaneState>(
     state
 }
 
-/// Takes in chunks, one after the other, behind `bytes` so far, and counts them.
+/// Takes in chunks, one after the other, after `bytes` so far, and counts their bytes.
 pub fn absorb_chunks<S: LaneState>(
     state: S,
     block: &mut RateBlock,

@@ -1,7 +1,7 @@
 //! Ciphers: a key and a nonce, for one message or one keystream.
 //!
-//! [`Cipher`] is written once, over a state and a marker of names; the six variants are aliases of it. Its calls are runs
-//! of one piece over `message` and `run`; nothing here knows a family or a lane count.
+//! [`Cipher`] is generic in a state and a marker with names, and the six variants are aliases of it. Nothing here
+//! depends on a family or a number of lanes.
 
 ghost use Rattle.std.specs.Prelude.{◌≡◌, ⊤, ◌≤◌, ◌⊎◌, ◌++◌, IfErr, IfOk, IsOk, List, MatchResult, OnErr, OnOk, Some, codes, drop, false, length, replicate, take, true, ℕ, []};
 ghost use Rattle.aegis_base.specs.Lane.{IsTagLength};
@@ -26,17 +26,17 @@ use std::alloc::{AllocError, Allocator};
 use std::fmt;
 use std::marker::{Model, PhantomData};
 
-/// What a refused opening in place leaves in each byte of the buffer.
+/// The value of each byte of the buffer after `decrypt_in_place` has refused a tag.
 pub const ERASED: u8 = 0xaa;
 
-/// A cipher with tags of `TAG_BYTES` bytes, 16 or 32: a key and a nonce, which is what contracts see of it.
+/// A cipher with tags of `TAG_BYTES` bytes, 16 or 32. In contracts it is a key and a nonce, of `KEY_BYTES` bytes each.
 ///
-/// A nonce is for one message or one keystream under a key. The one-shot calls take the cipher; the chunked calls borrow it
-/// to start. The ciphers of more than one lane are `Copy`.
+/// Under one key, a nonce must be used for one message or one keystream only. The one-shot calls consume the cipher,
+/// and the chunked calls borrow it. The ciphers of more than one lane are `Copy`.
 ///
-/// Lengths are in bytes. Associated data and a message each have at most [`MAX_AEAD_BYTES`], which is the caller's to
-/// see to; keystreams have no limit. No call takes memory but `encrypt`, `decrypt` and `stream_xor`, which make one
-/// reservation of the message's length before they process a byte.
+/// Lengths are in bytes. Associated data and messages must each have at most [`MAX_AEAD_BYTES`]; keystreams have no
+/// limit. Only `encrypt`, `decrypt` and `stream_xor` allocate memory: the message's length, in one reservation before
+/// any byte is processed.
 #[derive(Copy, Drop)]
 pub struct Cipher<S: LaneState, V: Names, const KEY_BYTES: usize, const TAG_BYTES: usize> {
     key: [u8; KEY_BYTES],
@@ -88,7 +88,7 @@ impl<S: LaneState, V: Names, const KEY_BYTES: usize, const TAG_BYTES: usize> Cip
     KEY_BYTES,
     TAG_BYTES,
 > {
-    /// The cipher of a key and a nonce. `TAG_BYTES` has to be 16 or 32.
+    /// Creates a cipher from a key and a nonce. `TAG_BYTES` must be 16 or 32.
     pub fn new(key: &[u8; KEY_BYTES], nonce: &[u8; KEY_BYTES]) -> Self
         requires key_bytes { KEY_BYTES ≡ key_length S.VARIANT.family }
         requires tag_bytes { IsTagLength TAG_BYTES }
@@ -102,8 +102,8 @@ impl<S: LaneState, V: Names, const KEY_BYTES: usize, const TAG_BYTES: usize> Cip
         }
     }
 
-    /// Seals a message in place (AEGIS, Encrypt): `mc` is the message before the call and the ciphertext after it, and
-    /// the answer is the tag, which covers the associated data `ad` too.
+    /// Seals a message in place (AEGIS, Encrypt): `mc` is the message before the call and the ciphertext after it.
+    /// Returns the tag, which covers the associated data `ad` too.
     pub fn encrypt_in_place(self, mc: &mut [u8], ad: &[u8]) -> [u8; TAG_BYTES]
         requires message_within { length mc.old ≤ MAX_AEAD_BYTES }
         requires associated_data_within { length ad.now ≤ MAX_AEAD_BYTES }
@@ -115,7 +115,8 @@ impl<S: LaneState, V: Names, const KEY_BYTES: usize, const TAG_BYTES: usize> Cip
         finish(state, &block, ad.len() as u64, mc.len() as u64)
     }
 
-    // Opens a ciphertext in place whatever its tag, and answers whether this is it. Where it is not, the caller erases.
+    // Opens a ciphertext in place for any tag, and returns whether this is the right one. If it is not, the caller
+    // erases `mc`.
     fn open_unchecked(self, mc: &mut [u8], tag: &[u8; TAG_BYTES], ad: &[u8]) -> bool
         requires message_within { length mc.old ≤ MAX_AEAD_BYTES }
         requires associated_data_within { length ad.now ≤ MAX_AEAD_BYTES }
@@ -136,7 +137,7 @@ impl<S: LaneState, V: Names, const KEY_BYTES: usize, const TAG_BYTES: usize> Cip
         has_tag(state, &block, ad.len() as u64, bytes, tag)
     }
 
-    // The same into a fresh vector, which is reserved before a byte is processed.
+    // The same into a new vector, which is reserved before any byte is processed.
     fn open_copied_unchecked<A: Allocator>(
         self,
         alloc: A,
@@ -166,9 +167,9 @@ impl<S: LaneState, V: Names, const KEY_BYTES: usize, const TAG_BYTES: usize> Cip
 
     /// Opens a ciphertext in place (AEGIS, Decrypt): `mc` is the ciphertext before the call and the message after it.
     ///
-    /// The answer is `Ok` exactly where some message is sealed to this ciphertext and tag, and `mc` is then that
-    /// message. Otherwise it is [`Error::InvalidTag`], and every byte of `mc` is [`ERASED`]. The comparison of the tags
-    /// looks at every byte.
+    /// Returns `Ok` exactly if some message is sealed to this ciphertext and tag, and `mc` is then that message.
+    /// Otherwise returns [`Error::InvalidTag`], and every byte of `mc` is [`ERASED`]. All bytes of the tags are
+    /// compared, whether they are equal or not.
     pub fn decrypt_in_place(
         self,
         mc: &mut [u8],
@@ -196,9 +197,10 @@ impl<S: LaneState, V: Names, const KEY_BYTES: usize, const TAG_BYTES: usize> Cip
         }
     }
 
-    /// Seals a message into a fresh vector: its ciphertext, and its tag, which covers the associated data `ad` too.
+    /// Seals a message into a new vector. Returns the ciphertext, and the tag, which covers the associated data `ad`
+    /// too.
     ///
-    /// [`Error::OutOfMemory`] alone, where the reservation was refused, and then no byte was processed.
+    /// The only error is [`Error::OutOfMemory`], if the allocator refuses the vector. No byte is processed then.
     pub fn encrypt<A: Allocator>(
         self,
         alloc: A,
@@ -221,11 +223,11 @@ impl<S: LaneState, V: Names, const KEY_BYTES: usize, const TAG_BYTES: usize> Cip
         Ok((c, tag))
     }
 
-    /// Opens a ciphertext into a fresh vector.
+    /// Opens a ciphertext into a new vector.
     ///
-    /// [`Error::OutOfMemory`] where the reservation was refused, whatever the tag, before any byte is processed.
-    /// Otherwise `Ok` exactly where some message is sealed to this ciphertext and tag, and the answer is that message,
-    /// else [`Error::InvalidTag`]. Nothing is handed out with a refusal.
+    /// Returns [`Error::OutOfMemory`] if the allocator refuses the vector, for any tag, before any byte is processed.
+    /// Otherwise returns the message that is sealed to this ciphertext and tag if there is one, and
+    /// [`Error::InvalidTag`] if there is none. With an error, no byte of the message is returned.
     pub fn decrypt<A: Allocator>(
         self,
         alloc: A,
@@ -258,9 +260,9 @@ impl<S: LaneState, V: Names, const KEY_BYTES: usize, const TAG_BYTES: usize> Cip
         }
     }
 
-    /// A message xored with the keystream, in a fresh vector.
+    /// Returns a message xored with the keystream, in a new vector.
     ///
-    /// [`Error::OutOfMemory`] alone, where the reservation was refused.
+    /// The only error is [`Error::OutOfMemory`], if the allocator refuses the vector.
     pub fn stream_xor<A: Allocator>(self, alloc: A, m: &[u8]) -> Result<Vec<u8, A>, Error>
         ensures xored { IfOk result (λ c. c.items
             ≡ xor_keystream S.VARIANT self.key self.nonce m.now) }
@@ -275,8 +277,8 @@ impl<S: LaneState, V: Names, const KEY_BYTES: usize, const TAG_BYTES: usize> Cip
         Ok(c)
     }
 
-    /// Fills `out` with the keystream from its beginning, whatever `out` held: the ciphertext of as many zeros, sealed
-    /// without associated data. `TAG_BYTES` has no effect on it.
+    /// Overwrites `out` with the keystream from its beginning: the ciphertext of as many zeros, sealed without
+    /// associated data. It does not depend on `TAG_BYTES`.
     pub fn stream(self, out: &mut [u8])
         ensures { out.new ≡ keystream S.VARIANT self.key self.nonce (length out.old) }
     {
@@ -291,7 +293,7 @@ impl<S: LaneState, V: Names, const KEY_BYTES: usize, const TAG_BYTES: usize> Cip
         );
     }
 
-    /// Xors a message in place with the keystream from its beginning. Done twice, it gives the message back.
+    /// Xors a message in place with the keystream from its beginning. A second such call restores the message.
     pub fn stream_xor_in_place(self, mc: &mut [u8])
         ensures xored { mc.new ≡ xor_keystream S.VARIANT self.key self.nonce mc.old }
         ensures undone { xor_keystream S.VARIANT self.key self.nonce mc.new ≡ mc.old }
@@ -306,7 +308,7 @@ impl<S: LaneState, V: Names, const KEY_BYTES: usize, const TAG_BYTES: usize> Cip
         );
     }
 
-    /// Starts to seal a message that comes in chunks, with the associated data `ad`.
+    /// Returns an encryptor, which seals a message in chunks, with the associated data `ad`.
     pub fn encryptor(&self, ad: &[u8]) -> Encryptor<S, V, TAG_BYTES>
         requires { length ad.now ≤ MAX_AEAD_BYTES }
         ensures stands { Stands S.VARIANT result self.now.key self.now.nonce ad.now [] }
@@ -316,8 +318,8 @@ impl<S: LaneState, V: Names, const KEY_BYTES: usize, const TAG_BYTES: usize> Cip
         Encryptor::new(begin::<S>(&self.key, &self.nonce, ad), ad.len() as u64)
     }
 
-    /// Seals a message that comes as chunks, empty ones too, into `out`, which has the chunks' length together
-    /// (`chunks_len` tells it): the ciphertext of the chunks one after the other, and its tag.
+    /// Seals a message that is a list of chunks, which may be empty. Writes the ciphertext of the chunks, one after the
+    /// other, into `out`, which must be as long as all chunks together (see `chunks_len`). Returns the tag.
     pub fn seal_chunks(&self, ad: &[u8], chunks: &[&[u8]], out: &mut [u8]) -> [u8; TAG_BYTES]
         requires associated_data_within { length ad.now ≤ MAX_AEAD_BYTES }
         requires lengths { length out.old ≡ length (joined chunks.now) }
@@ -331,8 +333,8 @@ impl<S: LaneState, V: Names, const KEY_BYTES: usize, const TAG_BYTES: usize> Cip
         finish(state, &block, ad.len() as u64, out.len() as u64)
     }
 
-    /// Starts to open a message that comes in chunks, with the associated data `ad`, in `plaintext`, which has room for all of
-    /// it.
+    /// Returns a decryptor, which opens a ciphertext in chunks, with the associated data `ad`, and writes the message
+    /// into `plaintext`.
     pub fn decryptor<'a>(
         &self,
         ad: &[u8],
@@ -355,8 +357,8 @@ impl<S: LaneState, V: Names, const KEY_BYTES: usize, const TAG_BYTES: usize> Cip
         )
     }
 
-    // Opens chunks into the front of `dst` whatever their tag, and returns how many bytes are written and whether this is the
-    // tag. If it is not, the caller erases them.
+    // Opens chunks into the front of `dst` for any tag, and returns how many bytes were written and whether the tag is
+    // right. If it is not, the caller erases them.
     fn open_chunks_unchecked(
         &self,
         ad: &[u8],
@@ -396,7 +398,7 @@ impl<S: LaneState, V: Names, const KEY_BYTES: usize, const TAG_BYTES: usize> Cip
         (written.get() as usize, is_right)
     }
 
-    // Opens chunks, with zeros left in the message's place if the tag is wrong.
+    // Opens chunks, and overwrites the message with zeros if the tag is wrong.
     fn settle_chunks<'a>(
         &self,
         ad: &[u8],
@@ -433,11 +435,11 @@ impl<S: LaneState, V: Names, const KEY_BYTES: usize, const TAG_BYTES: usize> Cip
         }
     }
 
-    /// Opens a message that comes in chunks, at the front of `dst` itself.
+    /// Opens a ciphertext that is a list of chunks, and returns the message at the front of `dst`.
     ///
-    /// Each chunk in order is kept where it fits, as `Decryptor::update` would, and is left out whole otherwise. The answer
-    /// is the message that is sealed to the kept chunks and this tag, exactly where there is one. Otherwise it is
-    /// [`Error::InvalidTag`], and zeros are left over as many bytes. The rest of `dst` stays as it was.
+    /// The chunks are taken in order. A chunk that does not fit in the rest of `dst`, or within [`MAX_AEAD_BYTES`], is
+    /// left out whole. Returns the message that is sealed to the other chunks and this tag if there is one. Otherwise
+    /// returns [`Error::InvalidTag`], and as many bytes of `dst` are zeros. The rest of `dst` is unchanged.
     pub fn open_chunks<'a>(
         &self,
         ad: &[u8],
@@ -466,10 +468,11 @@ impl<S: LaneState, V: Names, const KEY_BYTES: usize, const TAG_BYTES: usize> Cip
         handed(self.settle_chunks(ad, chunks, tag, dst))
     }
 
-    /// Opens a message that comes in chunks at the front of `dst`, as `open_chunks` does, and returns its length in bytes.
+    /// Opens a ciphertext that is a list of chunks, as `open_chunks` does, and returns the length of the message in
+    /// bytes. The message is at the front of `dst`.
     ///
-    /// For a caller that goes on with `dst` after a refusal, [`Error::InvalidTag`]: zeros then stand over the kept chunks'
-    /// bytes, and the rest of `dst` is as it was.
+    /// The error and the state of `dst` after it are those of `open_chunks`. Use this call if `dst` is used again: its
+    /// contract states what `dst` holds afterwards.
     pub fn open_chunks_len(
         &self,
         ad: &[u8],

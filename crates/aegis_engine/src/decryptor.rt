@@ -1,4 +1,4 @@
-//! Decryptors: opening a message that comes in chunks.
+//! Decryptors: opening a ciphertext in chunks.
 
 ghost use Rattle.std.specs.Prelude.{◌≡◌, ℕ, ◌+◌, ◌<◌, ◌≤◌, ◌⊎◌, ◌↔◌, ◌++◌, ◌||◌, IfErr, IfOk, IsOk, IsTrue, List, MatchResult, OnErr, OnOk, Some, [], codes, drop, length, nat_eq, take, true, false};
 ghost use Rattle.aegis_base.specs.Chunks.{erased};
@@ -17,23 +17,23 @@ use aegis_base::{Error, LaneState, Length, MAX_AEAD_BYTES, Names};
 use std::fmt;
 use std::marker::PhantomData;
 
-/// Opens a message that comes in chunks of any lengths, in a destination that it borrows for the whole message.
+/// Opens a ciphertext in chunks of any lengths, into a destination that it borrows until the end of the message.
 ///
-/// `Cipher::decryptor` starts one. What is written to the destination is the message's only once `finalize` or `finalize_len`
-/// has accepted the tag. With a wrong tag, and where the decryptor is dropped before, zeros are left in its place.
+/// `Cipher::decryptor` creates one. The bytes that are written to the destination must not be used before `finalize` or
+/// `finalize_len` has accepted the tag. After a wrong tag, or if the decryptor is dropped, they are zeros.
 ///
-/// The fields are for contracts, which say which key, nonce, associated data and message so far a decryptor stands for:
-/// that message is the front of the destination. Nothing is promised to who changes them.
+/// The fields are public for contracts alone, which state the key, nonce, associated data and message so far that a
+/// decryptor stands for: the message is the front of the destination. They must not be changed.
 pub struct Decryptor<'a, S: LaneState, V: Names, const TAG_BYTES: usize> {
     /// The destination.
     pub dst: &'a mut [u8],
-    /// How many bytes of the message are written to its front.
+    /// The number of bytes of the message that are written to the front of the destination.
     pub written: Length,
     /// The lanes.
     pub state: S,
-    /// The bytes of the message after its last whole rate block.
+    /// The open block: the bytes of the message after its last whole rate block.
     pub block: RateBlock,
-    /// How many bytes of associated data there are.
+    /// The length of the associated data, in bytes.
     pub data_bytes: u64,
     variant: PhantomData<V>,
     ghost tag_bytes: { IsTrue (nat_eq TAG_BYTES 16 || nat_eq TAG_BYTES 32) },
@@ -72,7 +72,7 @@ impl<S: LaneState, V: Names, const TAG_BYTES: usize> fmt::Debug for Decryptor<'_
 impl<'a, S: LaneState, V: Names, const TAG_BYTES: usize> Decryptor<'a, S, V, TAG_BYTES> {
     ghost use Rattle.aegis_engine.specs.Front.{front, holds};
 
-    /// A decryptor whose lanes have taken in `data_bytes` of associated data.
+    /// Creates a decryptor from lanes that have taken in `data_bytes` bytes of associated data.
     pub(crate) fn new(state: S, data_bytes: u64, dst: &'a mut [u8]) -> Self
         requires tag_bytes { IsTagLength TAG_BYTES }
         requires counted { S.updates state ≤ data_bytes }
@@ -98,10 +98,11 @@ impl<'a, S: LaneState, V: Names, const TAG_BYTES: usize> Decryptor<'a, S, V, TAG
         }
     }
 
-    /// Opens the next chunk of the ciphertext, behind what is written to the destination.
+    /// Opens the next chunk of the ciphertext, and writes it to the destination after the previous chunks.
     ///
-    /// A chunk that the room left cannot take is [`Error::OutputBufferTooSmall`], and one that fits but makes the message pass
-    /// [`MAX_AEAD_BYTES`] is [`Error::MessageTooLong`]. Neither changes anything, and no other chunk is refused.
+    /// Returns [`Error::OutputBufferTooSmall`] if the chunk is longer than the rest of the destination, and otherwise
+    /// [`Error::MessageTooLong`] if the message would have more than [`MAX_AEAD_BYTES`]. After an error nothing has
+    /// changed, and other chunks may follow.
     pub fn update(&mut self, chunk: &[u8]) -> Result<(), Error>
         ensures same_reference { self.new.dst.ghost_name ≡ self.old.dst.ghost_name }
         ensures same_place { self.new.dst.ref_ptr ≡ self.old.dst.ref_ptr }
@@ -138,7 +139,7 @@ impl<'a, S: LaneState, V: Names, const TAG_BYTES: usize> Decryptor<'a, S, V, TAG
         )
     }
 
-    // Whether the tag is right, with zeros left in the message's place where it is not.
+    // Returns whether the tag is right, and overwrites the message with zeros if it is not.
     fn settle(self, tag: &[u8; TAG_BYTES]) -> Settled<'a>
         ensures same_reference { result.dst.ghost_name ≡ self.entry.dst.ghost_name }
         ensures same_place { result.dst.ref_ptr ≡ self.entry.dst.ref_ptr }
@@ -172,8 +173,8 @@ impl<'a, S: LaneState, V: Names, const TAG_BYTES: usize> Decryptor<'a, S, V, TAG
         }
     }
 
-    /// Hands out the message, the written front of the destination itself, where the tag is right. Otherwise it is
-    /// [`Error::InvalidTag`], and zeros are left in the message's place. The bytes after it stay as they were.
+    /// Returns the message, which is the front of the destination itself, if the tag is right. Otherwise returns
+    /// [`Error::InvalidTag`], and the bytes of the message are zeros. The bytes after it are unchanged.
     pub fn finalize(self, tag: &[u8; TAG_BYTES]) -> Result<&'a mut [u8], Error>
         ensures* writes_back { sem 𝓛 (LendsIfOk (Array u8 0) (Array u8 0) self.entry.dst result
             (λ w. w ++ drop self.entry.written self.entry.dst.now)
@@ -190,8 +191,9 @@ impl<'a, S: LaneState, V: Names, const TAG_BYTES: usize> Decryptor<'a, S, V, TAG
         handed(self.settle(tag))
     }
 
-    /// Ends the borrow where the tag is right: the message stays in the destination, and the answer is its length.
-    /// Otherwise it is [`Error::InvalidTag`], and zeros are left in the message's place.
+    /// Returns the length of the message in bytes, if the tag is right; the message is at the front of the destination.
+    /// Otherwise returns [`Error::InvalidTag`], and the bytes of the message are zeros. The bytes after it are
+    /// unchanged.
     pub fn finalize_len(self, tag: &[u8; TAG_BYTES]) -> Result<usize, Error>
         ensures written { OnOk result (result ≡ Ok self.entry.written) }
         ensures message { OnOk result (self.exit.0.now ≡ self.entry.dst.now) }

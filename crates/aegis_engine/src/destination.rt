@@ -1,4 +1,4 @@
-//! Borrowed destinations: what is written to their front is handed out, or zeros are left there.
+//! Borrowed destinations: the message at their front is returned, or overwritten with zeros.
 
 ghost use Rattle.std.specs.Prelude.{◌≡◌, ℕ, ◌≤◌, ◌++◌, IfErr, MatchResult, OnErr, OnOk, drop, false, length, take, true};
 ghost use Rattle.std.specs.Borrow.{Array, LendsIfOk, sem, u8};
@@ -6,7 +6,7 @@ ghost use Rattle.aegis_base.specs.Chunks.{erased};
 
 use aegis_base::Error;
 
-/// A destination of which the first `written` bytes are a message, which is accepted or not.
+/// A destination whose first `written` bytes are a message. If it is not accepted, they are zeros.
 #[derive(Drop)]
 pub struct Settled<'a> {
     pub dst: &'a mut [u8],
@@ -14,7 +14,7 @@ pub struct Settled<'a> {
     pub accepted: bool,
 }
 
-/// The message, where it is accepted. Otherwise there are zeros in its place already.
+/// Returns the message if it is accepted, and otherwise [`Error::InvalidTag`].
 pub fn handed<'a>(settled: Settled<'a>) -> Result<&'a mut [u8], Error>
     requires within { settled.written ≤ length settled.dst.now }
     requires erased { settled.accepted ≡ false
@@ -40,7 +40,7 @@ pub fn handed<'a>(settled: Settled<'a>) -> Result<&'a mut [u8], Error>
     }
 }
 
-/// Leaves zeros in the place of the first `written` bytes.
+/// Overwrites the first `written` bytes with zeros.
 pub fn erase(dst: &mut [u8], written: usize)
     requires { written ≤ length dst.old }
     ensures { dst.new ≡ erased written dst.old }
@@ -48,7 +48,7 @@ pub fn erase(dst: &mut [u8], written: usize)
     dst[..written].fill(0);
 }
 
-/// Leaves zeros in the place of the first `written` bytes, unless they are accepted.
+/// Overwrites the first `written` bytes with zeros, unless they are accepted.
 #[tactic(auto, using(crate::proofs::DestinationFacts::rest_stays))]
 pub fn erase_unless(dst: &mut [u8], written: usize, accepted: bool)
     requires { written ≤ length dst.old }
@@ -61,7 +61,8 @@ pub fn erase_unless(dst: &mut [u8], written: usize, accepted: bool)
     }
 }
 
-/// The number of bytes of a message that is accepted. Otherwise zeros are left in its place.
+/// Returns the length of the message if it is accepted. Otherwise overwrites it with zeros, and returns
+/// [`Error::InvalidTag`].
 pub fn counted(dst: &mut [u8], written: usize, accepted: bool) -> Result<usize, Error>
     requires { written ≤ length dst.old }
     ensures written { OnOk result (result ≡ Ok written) }

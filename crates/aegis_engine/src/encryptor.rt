@@ -1,4 +1,4 @@
-//! Encryptors: sealing a message that comes in chunks.
+//! Encryptors: sealing a message in chunks.
 
 ghost use Rattle.std.specs.Prelude.{◌≡◌, ℕ, ◌+◌, ◌-◌, ◌<◌, ◌≤◌, ◌⊎◌, ◌++◌, List, [], Some, codes, length};
 ghost use Rattle.aegis_base.specs.Lane.{IsTagLength};
@@ -13,10 +13,10 @@ use aegis_base::{LaneState, Length, MAX_AEAD_BYTES, Names};
 use std::fmt;
 use std::marker::{Model, PhantomData};
 
-/// Seals a message that comes in chunks of any lengths: a byte of ciphertext for each byte, and the tag at the end.
+/// Seals a message in chunks of any lengths: one byte of ciphertext for each byte, and a tag at the end.
 ///
-/// `Cipher::encryptor` starts one. Contracts see what it holds, and say which key, nonce, associated data and message so
-/// far that stands for.
+/// `Cipher::encryptor` creates one. Contracts state the key, nonce, associated data and message so far that an
+/// encryptor stands for.
 pub struct Encryptor<S: LaneState, V: Names, const TAG_BYTES: usize> {
     state: S,
     block: RateBlock,
@@ -65,7 +65,7 @@ impl<S: LaneState, V: Names, const TAG_BYTES: usize> fmt::Debug for Encryptor<S,
 }
 
 impl<S: LaneState, V: Names, const TAG_BYTES: usize> Encryptor<S, V, TAG_BYTES> {
-    /// An encryptor whose lanes have taken in `data_bytes` of associated data.
+    /// Creates an encryptor from lanes that have taken in `data_bytes` bytes of associated data.
     pub(crate) fn new(state: S, data_bytes: u64) -> Self
         requires tag_bytes { IsTagLength TAG_BYTES }
         requires counted { S.updates state ≤ data_bytes }
@@ -85,8 +85,8 @@ impl<S: LaneState, V: Names, const TAG_BYTES: usize> Encryptor<S, V, TAG_BYTES> 
         }
     }
 
-    /// Seals the next chunk in place: `buffer` is the chunk before the call and its ciphertext after it. The message has at
-    /// most [`MAX_AEAD_BYTES`], which `remaining` tells before.
+    /// Seals the next chunk in place: `buffer` is the chunk before the call and its ciphertext after it. The chunk must
+    /// have at most `remaining` bytes.
     pub fn update_in_place(&mut self, buffer: &mut [u8])
         requires { self.old.message_bytes + length buffer.old ≤ MAX_AEAD_BYTES }
         ensures taken { Takes S.VARIANT self.old self.new buffer.old }
@@ -98,7 +98,8 @@ impl<S: LaneState, V: Names, const TAG_BYTES: usize> Encryptor<S, V, TAG_BYTES> 
         let _ = self.message_bytes.add(buffer.len() as u64);
     }
 
-    /// Seals the next chunk into `out`, which has its length. Otherwise as `update_in_place`.
+    /// Seals the next chunk into `out`, which must be as long as the chunk. The chunk must have at most `remaining`
+    /// bytes.
     pub fn update(&mut self, plaintext: &[u8], out: &mut [u8])
         requires lengths { length out.old ≡ length plaintext.now }
         requires within { self.old.message_bytes + length plaintext.now ≤ MAX_AEAD_BYTES }
@@ -119,14 +120,14 @@ impl<S: LaneState, V: Names, const TAG_BYTES: usize> Encryptor<S, V, TAG_BYTES> 
         let _ = self.message_bytes.add(plaintext.len() as u64);
     }
 
-    /// How many more bytes the message may have.
+    /// Returns how many more bytes the message may have, of [`MAX_AEAD_BYTES`].
     pub fn remaining(&self) -> u64
         ensures { result ≡ MAX_AEAD_BYTES - self.now.message_bytes }
     {
         self.message_bytes.remaining()
     }
 
-    /// The tag of the message.
+    /// Returns the tag of the message.
     pub fn finalize(self) -> [u8; TAG_BYTES]
         ensures { (key nonce ad m : List ℕ) → Stands S.VARIANT self key nonce ad m
             → result ≡ tag S.VARIANT TAG_BYTES key nonce ad m }

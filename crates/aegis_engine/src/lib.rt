@@ -1,8 +1,8 @@
-//! The block engine of AEGIS and the calls over it, once for every family and lane count.
+//! The engine of AEGIS: all calls of ciphers and MACs, generic in the family and the number of lanes.
 //!
-//! From below: `pass` runs a state along rate blocks, `run` along bytes that come in any pieces, `message` along associated
-//! data and a message, `pieces` along bytes from another slice, `chunks` along lists of chunks; `cipher`, `encryptor`,
-//! `decryptor` and `mac` have the public calls, and `saved` those on a run that its caller keeps as bytes.
+//! From the lowest module: `pass` processes rate blocks, `run` pieces of any lengths, `message` associated data and a
+//! message, `pieces` bytes that are copied from another slice, and `chunks` lists of chunks. `cipher`, `encryptor`,
+//! `decryptor` and `mac` have the public calls, and `saved` the calls on a run that its caller keeps as bytes.
 #![tactic(auto)]
 
 mod chunks;

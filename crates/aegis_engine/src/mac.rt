@@ -1,4 +1,4 @@
-//! MACs: the tag of an input under a key, with nothing encrypted.
+//! MACs: the tag of an input under a key. Nothing is encrypted.
 
 ghost use Rattle.std.specs.Prelude.{◌≡◌, ⊤, ℕ, ◌+◌, ◌-◌, ◌^◌, ◌<◌, ◌≤◌, ◌++◌, IfErr, IsOk, List, OnOk, Some, [], codes, length, replicate};
 ghost use Rattle.aegis_base.specs.Chunks.{joined};
@@ -19,10 +19,10 @@ use std::alloc::AllocError;
 use std::fmt;
 use std::marker::{Model, PhantomData};
 
-/// A MAC of `TAG_BYTES` bytes, 16 or 32, of an input that comes in pieces of any lengths.
+/// A MAC of `TAG_BYTES` bytes, 16 or 32, of an input that is taken in by pieces of any lengths.
 ///
-/// It is a run along its input without associated data: contracts see what it holds, and say which key, nonce and input so
-/// far that stands for. The input has at most [`MAX_AEAD_BYTES`], which `remaining` tells before. No call takes memory.
+/// The input must have at most [`MAX_AEAD_BYTES`]. Contracts state the key, nonce and input so far that a MAC stands
+/// for. No call allocates memory.
 pub struct Mac<S: LaneState, V: Names, const KEY_BYTES: usize, const TAG_BYTES: usize> {
     state: S,
     block: RateBlock,
@@ -86,7 +86,7 @@ impl<S: LaneState, V: Names, const KEY_BYTES: usize, const TAG_BYTES: usize> fmt
     }
 }
 
-// The lanes after all of the input; an empty one is taken in as a rate block of zeros.
+// The lanes after the input. An empty input is taken in as a rate block of zeros.
 fn input_lanes<S: LaneState>(state: S, block: &RateBlock, bytes: u64) -> S
     requires { S.updates state + 1 < 2 ^ 64 }
     ensures lanes { (key nonce x : List ℕ)
@@ -139,7 +139,7 @@ impl<S: LaneState, V: Names, const KEY_BYTES: usize, const TAG_BYTES: usize> Mac
     KEY_BYTES,
     TAG_BYTES,
 > {
-    /// The MAC under a key, with the nonce of zeros. `TAG_BYTES` has to be 16 or 32.
+    /// Creates a MAC under a key, with a nonce of zeros. `TAG_BYTES` must be 16 or 32.
     pub fn new(key: &[u8; KEY_BYTES]) -> Self
         requires key_bytes { KEY_BYTES ≡ key_length S.VARIANT.family }
         requires tag_bytes { IsTagLength TAG_BYTES }
@@ -149,7 +149,7 @@ impl<S: LaneState, V: Names, const KEY_BYTES: usize, const TAG_BYTES: usize> Mac
         Mac::new_with_nonce(key, &[0; KEY_BYTES])
     }
 
-    /// The MAC under a key and a nonce. `TAG_BYTES` has to be 16 or 32.
+    /// Creates a MAC under a key and a nonce. `TAG_BYTES` must be 16 or 32.
     pub fn new_with_nonce(key: &[u8; KEY_BYTES], nonce: &[u8; KEY_BYTES]) -> Self
         requires key_bytes { KEY_BYTES ≡ key_length S.VARIANT.family }
         requires tag_bytes { IsTagLength TAG_BYTES }
@@ -164,7 +164,7 @@ impl<S: LaneState, V: Names, const KEY_BYTES: usize, const TAG_BYTES: usize> Mac
         }
     }
 
-    /// Takes in the next bytes of the input.
+    /// Takes in the next bytes of the input, of which there must be at most `remaining`.
     pub fn update(&mut self, input: &[u8])
         requires { self.old.message_bytes + length input.now ≤ MAX_AEAD_BYTES }
         ensures taken { Takes S.VARIANT self.old self.new input.now }
@@ -174,14 +174,14 @@ impl<S: LaneState, V: Names, const KEY_BYTES: usize, const TAG_BYTES: usize> Mac
         let _ = self.bytes.add(input.len() as u64);
     }
 
-    /// How many more bytes the input may have.
+    /// Returns how many more bytes the input may have, of [`MAX_AEAD_BYTES`].
     pub fn remaining(&self) -> u64
         ensures { result ≡ MAX_AEAD_BYTES - self.now.message_bytes }
     {
         self.bytes.remaining()
     }
 
-    /// The MAC of the input.
+    /// Returns the MAC of the input.
     pub fn finalize(self) -> [u8; TAG_BYTES]
         ensures { (key nonce x : List ℕ) → Stands S.VARIANT self key nonce [] x
             → result ≡ mac S.VARIANT TAG_BYTES key nonce x }
@@ -189,7 +189,8 @@ impl<S: LaneState, V: Names, const KEY_BYTES: usize, const TAG_BYTES: usize> Mac
         folded_tag(end_input::<S, TAG_BYTES>(self.state, &self.block, self.bytes.get()))
     }
 
-    /// The MAC of the input with chunks behind it, which `remaining` has to allow (`chunks_len` tells their length).
+    /// Returns the MAC of the input followed by all chunks, which must have at most `remaining` bytes (see
+    /// `chunks_len`).
     pub fn finalize_chunks(self, chunks: &[&[u8]]) -> [u8; TAG_BYTES]
         requires { self.message_bytes + length (joined chunks.now) ≤ MAX_AEAD_BYTES }
         ensures { (key nonce x : List ℕ) → Stands S.VARIANT self key nonce [] x
@@ -201,8 +202,8 @@ impl<S: LaneState, V: Names, const KEY_BYTES: usize, const TAG_BYTES: usize> Mac
         folded_tag(end_input::<S, TAG_BYTES>(state, &block, bytes.get()))
     }
 
-    /// Whether the MAC of the input is `expected`: `Ok` exactly where it is, and [`Error::InvalidTag`] otherwise. The
-    /// comparison looks at every byte.
+    /// Returns `Ok` exactly if the MAC of the input is `expected`, and otherwise [`Error::InvalidTag`]. All bytes are
+    /// compared, whether they are equal or not.
     pub fn verify(self, expected: &[u8; TAG_BYTES]) -> Result<(), Error>
         ensures verified { (key nonce x : List ℕ) → Stands S.VARIANT self key nonce [] x
             → OnOk result (expected.now ≡ mac S.VARIANT TAG_BYTES key nonce x) }

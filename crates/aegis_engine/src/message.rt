@@ -1,7 +1,7 @@
-//! Messages: a run along associated data and a message, from the start of the lanes to the tag.
+//! Messages: from the start of the lanes along associated data and a message to the tag.
 //!
-//! What a message is sealed or opened by is a state, the open block and two numbers of bytes, as plain values. Contracts
-//! say which key, nonce, associated data and message so far these stand for.
+//! A message is sealed or opened by plain values: a state, the open block, and the numbers of bytes of associated data
+//! and of the message so far. Contracts state the key, nonce, associated data and message so far that these stand for.
 
 ghost use Rattle.std.specs.Prelude.{◌≡◌, ℕ, ◌+◌, ◌*◌, ◌^◌, ◌<◌, ◌≤◌, ◌⊎◌, ◌++◌, length, List, []};
 ghost use Rattle.aegis_base.specs.Lane.{IsTagLength};
@@ -16,7 +16,7 @@ use crate::run::{absorb_all, pad, pass_all};
 use crate::tag::lanes_tag;
 use aegis_base::{LaneState, MAX_AEAD_BYTES};
 
-/// The lanes after their start and associated data; the open block of a message that follows holds nothing yet.
+/// The lanes after their start and associated data. A message may follow, with any open block.
 #[inline(never)]
 pub fn begin<S: LaneState>(key: &[u8], nonce: &[u8], ad: &[u8]) -> S
     requires key_length { length key.now ≡ key_length S.VARIANT.family }
@@ -33,13 +33,13 @@ pub fn begin<S: LaneState>(key: &[u8], nonce: &[u8], ad: &[u8]) -> S
     pad(state, &block, ad.len() as u64)
 }
 
-/// Overwrites what a message was sealed or opened by with zeros. No clause speaks of values that are no longer used.
+/// Overwrites a state and an open block that are no longer used with zeros. No clause states this.
 pub fn overwrite<S: LaneState>(state: &mut S, block: &mut RateBlock) {
     *state = S::zeros();
     *block = ZEROS;
 }
 
-/// Takes in the next bytes, with nothing written.
+/// The lanes after the next bytes of an input that is only taken in.
 pub fn absorb_more<S: LaneState>(state: S, block: &mut RateBlock, total: u64, bytes: &[u8]) -> S
     requires within { total + length bytes.now < 2 ^ 64 }
     requires countable { S.updates state + length bytes.now < 2 ^ 64 }
@@ -52,8 +52,8 @@ pub fn absorb_more<S: LaneState>(state: S, block: &mut RateBlock, total: u64, by
     absorb_all(state, block, total, bytes)
 }
 
-/// The lanes along the next bytes of a message in their own place: each is xored with the keystream, and the lanes take in
-/// what the pass says.
+/// The lanes after the next bytes of a message, in place: each byte is xored with the keystream, and the lanes take in
+/// the bytes that `pass` selects.
 #[inline(always)]
 pub fn pass_more<S: LaneState>(
     state: S,

@@ -1,8 +1,7 @@
-//! Opening a ciphertext's chunks in a destination, each behind what the ones before it left there, or a whole ciphertext into
-//! a fresh vector.
+//! Opening the chunks of a ciphertext into a destination, one after the other, or a whole ciphertext in place.
 //!
-//! As in `message`, what a message is opened by is plain values. The message so far is the front of the destination, and
-//! contracts say which key, nonce and associated data the values stand for, with that message.
+//! As in `message`, a message is opened by plain values. The message so far is the front of the destination, and
+//! contracts state the key, nonce and associated data that the values stand for, with that message.
 
 ghost use Rattle.std.specs.Prelude.{◌≡◌, ℕ, ◌+◌, ◌^◌, ◌<◌, ◌≤◌, ◌⊎◌, ◌↔◌, ◌++◌, [], IfOk, IsOk, List, OnErr, OnOk, drop, length, take, true};
 ghost use Rattle.aegis_base.specs.Lane.{IsTagLength};
@@ -17,7 +16,7 @@ use crate::pieces::pass_copied;
 use crate::tag::same_bytes;
 use aegis_base::{Error, LaneState, Length, MAX_AEAD_BYTES};
 
-// Opens the next chunk behind the first `written` bytes of the destination, which has room for it.
+// Opens the next chunk into the destination, which has room for it, after the first `written` bytes.
 #[inline(always)]
 fn append<S: LaneState>(
     state: S,
@@ -54,8 +53,9 @@ fn append<S: LaneState>(
     )
 }
 
-/// Opens the next chunk behind the first `written` bytes of the destination and counts it, if it has room there and keeps
-/// the message within its limit. Otherwise nothing changes.
+/// Opens the next chunk into the destination, after the first `written` bytes, and counts its bytes. Returns
+/// [`Error::OutputBufferTooSmall`] if the chunk has no room there, and otherwise [`Error::MessageTooLong`] if the
+/// message would have more than [`MAX_AEAD_BYTES`]. After an error nothing has changed.
 pub fn open_chunk<S: LaneState>(
     state: &mut S,
     block: &mut RateBlock,
@@ -100,8 +100,7 @@ pub fn open_chunk<S: LaneState>(
     Ok(())
 }
 
-/// Opens chunks from left to right. One that has no room in the destination, or would take the message past its limit, is
-/// left out whole.
+/// Opens chunks in order. A chunk that `open_chunk` refuses is left out whole.
 pub fn open_all<S: LaneState>(
     state: &mut S,
     block: &mut RateBlock,
@@ -134,7 +133,7 @@ pub fn open_all<S: LaneState>(
     }
 }
 
-/// Opens a whole ciphertext in its own place.
+/// Opens a whole ciphertext in place.
 #[inline(always)]
 pub fn open_in_place<S: LaneState>(
     state: S,
@@ -155,7 +154,7 @@ pub fn open_in_place<S: LaneState>(
     open_more(state, block, data_bytes, 0, mc)
 }
 
-/// Whether this is the tag of the message.
+/// Returns whether `tag` is the tag of the message.
 pub fn has_tag<S: LaneState, const TAG_BYTES: usize>(
     state: S,
     block: &RateBlock,

@@ -1,9 +1,9 @@
-//! Rate blocks: the lanes of a run along one rate block, a part of one, or many.
+//! Rate blocks: processing one rate block, a part of one, or many.
 //!
 //! Sealing, opening and the xor with a keystream are one pass: each byte of a buffer is xored with the keystream, and
-//! the lanes take in what the pass says, the bytes before that, the bytes after it, or zeros. Associated data and the
-//! input of a MAC are taken in without a buffer. Contracts speak of any bytes `x` that the run goes along, of which the
-//! lanes have taken in those before a place, and which have the bytes of the call from there on.
+//! the lanes take in the bytes before the xor (sealing), the bytes after it (opening), or zeros (a keystream).
+//! Associated data and the input of a MAC are taken in without a buffer. In contracts, `x` is the whole input of the
+//! run: the lanes have taken in its first `total` bytes, and the bytes of the call are those after them.
 
 ghost use Rattle.std.specs.Prelude.{◌≡◌, ℕ, ◌+◌, ◌*◌, ◌/◌, ◌%◌, ◌^◌, ◌<◌, ◌≤◌, bit_xor, length, List, slice_index, replicate};
 ghost use Rattle.aegis_aes.specs.Block.{IsSameBefore, IsSameFrom};
@@ -14,24 +14,24 @@ ghost use Rattle.aegis_engine.specs.Pass.{taken};
 
 use aegis_base::LaneState;
 
-/// What the lanes take in along a buffer.
+/// Selects the bytes that the lanes take in as a buffer is xored with the keystream.
 #[derive(Clone, Copy)]
 pub enum Pass {
-    /// The bytes before the keystream is xored in.
+    /// The bytes before the xor.
     Seal,
-    /// The bytes after that.
+    /// The bytes after the xor.
     Open,
     /// Zeros.
     Keystream,
 }
 
-/// A place for one rate block, which has at most 128 bytes.
+/// A buffer for one rate block, which has at most 128 bytes.
 pub type RateBlock = [u8; 128];
 
 /// A block of zeros.
 pub const ZEROS: RateBlock = [0; 128];
 
-/// Copies `count` bytes of `source`, from `from` on, over those of `target` from `at` on.
+/// Copies `count` bytes of `source`, beginning at place `from`, to `target`, beginning at place `at`.
 #[inline(always)]
 pub fn copy_part(target: &mut [u8], at: usize, source: &[u8], from: usize, count: usize)
     requires target_within { at + count ≤ length target.old }
@@ -44,7 +44,7 @@ pub fn copy_part(target: &mut [u8], at: usize, source: &[u8], from: usize, count
     target[at..at + count].copy_from_slice(&source[from..from + count]);
 }
 
-// A copy of the rate block of `bytes` from `at` on.
+// A copy of the rate block of `bytes` that begins at place `at`.
 #[inline(always)]
 fn copied<S: LaneState>(bytes: &[u8], at: usize) -> RateBlock
     requires { at + S.RATE ≤ length bytes.now }
@@ -56,7 +56,7 @@ fn copied<S: LaneState>(bytes: &[u8], at: usize) -> RateBlock
     block
 }
 
-// Xors a rate block of a buffer with the lanes' keystream, byte by byte.
+// Xors the rate block of a buffer that begins at place `at` with the lanes' keystream.
 #[inline(always)]
 fn xor_block<S: LaneState>(state: S, buffer: &mut [u8], at: usize)
     requires { at + S.RATE ≤ length buffer.old }
@@ -69,7 +69,8 @@ fn xor_block<S: LaneState>(state: S, buffer: &mut [u8], at: usize)
     state.xor_keystream(buffer, at);
 }
 
-// Xors `count` bytes of a buffer, from `at` on, with the lanes' keystream behind `total` bytes, within one rate block.
+// Xors `count` bytes of a buffer, beginning at place `at`, with the keystream after `total` bytes, within one rate
+// block.
 #[inline(never)]
 fn xor_part<S: LaneState>(state: S, total: u64, buffer: &mut [u8], at: usize, count: usize)
     requires within { at + count ≤ length buffer.old }
@@ -90,8 +91,8 @@ fn xor_part<S: LaneState>(state: S, total: u64, buffer: &mut [u8], at: usize, co
     copy_part(buffer, at, &part, place, count);
 }
 
-/// The lanes after `count` bytes, from `at` on, of one rate block. The open block keeps them, and is taken in where they
-/// fill it.
+/// The lanes after `count` more bytes of one rate block, beginning at place `at` of `bytes`. The open block keeps them,
+/// and is taken in if they fill it.
 #[inline(never)]
 pub fn absorb_part<S: LaneState>(
     state: S,
@@ -122,8 +123,8 @@ pub fn absorb_part<S: LaneState>(
     }
 }
 
-/// The lanes after `count` bytes of a buffer, from `at` on, of one rate block: they are xored with the keystream, and the
-/// lanes take in what the pass says.
+/// The lanes after `count` more bytes of one rate block, beginning at place `at` of a buffer: they are xored with the
+/// keystream, and the lanes take in the bytes that `pass` selects.
 pub fn pass_part<S: LaneState>(
     state: S,
     block: &mut RateBlock,
@@ -173,7 +174,7 @@ pub fn pass_part<S: LaneState>(
     }
 }
 
-// The lanes after they take in the rate block of zeros.
+// The lanes after a rate block of zeros.
 #[inline(always)]
 fn absorb_zeros<S: LaneState>(state: S) -> S
     requires { S.updates state + 1 < 2 ^ 64 }
@@ -185,7 +186,8 @@ fn absorb_zeros<S: LaneState>(state: S) -> S
     state.absorb(&ZEROS, 0)
 }
 
-// One rate block of a buffer: it is xored with the lanes' keystream, and the lanes take in what the pass says.
+// The lanes after one rate block of a buffer: it is xored with the keystream, and the lanes take in the bytes that
+// `pass` selects.
 #[inline(always)]
 fn pass_block<S: LaneState>(state: S, pass: Pass, buffer: &mut [u8], at: usize) -> S
     requires within { at + S.RATE ≤ length buffer.old }
@@ -202,7 +204,7 @@ fn pass_block<S: LaneState>(state: S, pass: Pass, buffer: &mut [u8], at: usize) 
     ensures updates { S.updates result ≡ S.updates state + 1 }
 {
     match pass {
-        // The message's block is copied, so that the rows are not needed behind their update.
+        // The block is copied, so that the rows are no longer needed after their update.
         Pass::Seal => {
             let plain = copied::<S>(buffer, at);
             xor_block(state, buffer, at);
@@ -219,7 +221,7 @@ fn pass_block<S: LaneState>(state: S, pass: Pass, buffer: &mut [u8], at: usize) 
     }
 }
 
-/// The lanes after `count` whole rate blocks of `bytes`, from `at` on, where no rate block is open.
+/// The lanes after `count` whole rate blocks of `bytes`, beginning at place `at`, if no rate block is open.
 #[inline(always)]
 pub fn absorb_whole<S: LaneState>(state: S, bytes: &[u8], at: usize, count: usize) -> S
     requires within { at + count * S.RATE ≤ length bytes.now }
@@ -240,8 +242,8 @@ pub fn absorb_whole<S: LaneState>(state: S, bytes: &[u8], at: usize, count: usiz
     state
 }
 
-/// The lanes after `count` whole rate blocks of a buffer, from `at` on, where no rate block is open: each is xored with the
-/// keystream, and the lanes take in what the pass says.
+/// The lanes after `count` whole rate blocks of a buffer, beginning at place `at`, if no rate block is open: each is
+/// xored with the keystream, and the lanes take in the bytes that `pass` selects.
 #[inline(always)]
 pub fn pass_whole<S: LaneState>(
     state: S,

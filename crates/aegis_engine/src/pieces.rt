@@ -1,6 +1,6 @@
-//! Bytes from another slice, in pieces: each is copied to its place, and the rounds run over it there.
+//! Bytes from another slice, in pieces: each piece is copied to its place, and processed there.
 //!
-//! A piece is short, so that the copy of the next one waits for memory while rounds run.
+//! A piece is short, so that the next one can be read from memory while the rounds of this one run.
 
 ghost use Rattle.std.specs.Prelude.{◌≡◌, ℕ, ◌+◌, ◌^◌, ◌<◌, ◌≤◌, IfOk, List, OnOk, [], length};
 ghost use Rattle.aegis_base.specs.Message.{ciphertext};
@@ -13,11 +13,11 @@ use crate::pass::{Pass, RateBlock};
 use aegis_base::LaneState;
 use std::alloc::{AllocError, Allocator};
 
-// A multiple of every rate, and of 256 to 4096 bytes the fastest.
+// A multiple of every rate. Of the lengths from 256 to 4096, this one is the fastest.
 const PIECE_BYTES: usize = 512;
 
-// How many of the next `left` bytes are one piece, after `total` bytes. Each piece but the last ends at a multiple of
-// `PIECE_BYTES`, so only the first one may find a rate block open.
+// The length of the next piece, after `total` bytes and with `left` bytes left. Each piece but the last ends at a
+// multiple of `PIECE_BYTES`, so a rate block can be open only before the first one.
 #[inline(always)]
 fn piece_len(total: u64, left: usize) -> usize
     ensures within { result ≤ left }
@@ -27,7 +27,8 @@ fn piece_len(total: u64, left: usize) -> usize
     left.min(PIECE_BYTES - over)
 }
 
-/// The lanes along the next bytes of a message, which are copied from `source` over those of `out`. Otherwise as `pass_more`.
+/// Copies the next bytes of a message from `source` to `out`, which is as long, and processes them there as `pass_more`
+/// does.
 #[inline(always)]
 pub fn pass_copied<S: LaneState>(
     state: S,
@@ -63,8 +64,8 @@ pub fn pass_copied<S: LaneState>(
     state
 }
 
-/// The lanes along a whole message, which is copied from `source` into an empty vector. A vector with room for all of it takes
-/// no memory here.
+/// Appends a whole message from `source` to an empty vector, and processes it there. A vector with enough capacity
+/// allocates nothing here.
 #[inline(always)]
 pub fn pass_appended<S: LaneState, A: Allocator>(
     state: S,

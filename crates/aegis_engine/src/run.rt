@@ -1,8 +1,8 @@
-//! Runs: the lanes along bytes that come in any pieces.
+//! Runs: processing an input in pieces of any lengths.
 //!
-//! A run is a state, the open block and the number of bytes so far, as plain values. A piece first fills the open block,
-//! then its whole rate blocks are taken in where they stand, and the open block keeps the rest. A call that has all its
-//! bytes at once is a run of one piece.
+//! A run is a state, the open block and the number of bytes so far, as plain values. A piece first fills the open
+//! block; then its whole rate blocks are processed in place, and the open block keeps the rest. A call that has its
+//! whole input at once is a run of one piece.
 
 ghost use Rattle.std.specs.Prelude.{◌≡◌, ℕ, ◌+◌, ◌%◌, ◌/◌, ◌^◌, ◌<◌, ◌≤◌, bit_xor, length, List, slice_index};
 ghost use Rattle.aegis_base.specs.Message.{after_all, block_count, keystream_byte_along};
@@ -14,7 +14,7 @@ use crate::pass::{
 };
 use aegis_base::LaneState;
 
-// How many of the next `count` bytes fill up the rate block that is open after `total` bytes; none where none is open.
+// How many of the next `count` bytes go to the rate block that is open after `total` bytes: 0 if none is open.
 fn filling<S: LaneState>(total: u64, count: usize) -> usize
     ensures within { result ≤ count }
     ensures one_block { total % S.RATE + result ≤ S.RATE }
@@ -28,7 +28,7 @@ fn filling<S: LaneState>(total: u64, count: usize) -> usize
     }
 }
 
-/// The lanes after `bytes`, behind `total` bytes that they have taken in.
+/// The lanes after `bytes`, which follow the `total` bytes that they have taken in.
 #[inline(always)]
 pub fn absorb_all<S: LaneState>(state: S, block: &mut RateBlock, total: u64, bytes: &[u8]) -> S
     requires within { total + length bytes.now < 2 ^ 64 }
@@ -45,7 +45,7 @@ pub fn absorb_all<S: LaneState>(state: S, block: &mut RateBlock, total: u64, byt
     let whole = (bytes.len() - first) / S::RATE;
     let last = first + whole * S::RATE;
     let rest = bytes.len() - last;
-    // As in `pass_all`; no associated data is no rate block.
+    // As in `pass_all`. Empty associated data comes here too.
     if first + rest == 0 {
         return absorb_whole(state, bytes, 0, whole);
     }
@@ -54,8 +54,8 @@ pub fn absorb_all<S: LaneState>(state: S, block: &mut RateBlock, total: u64, byt
     absorb_part(state, block, total + last as u64, bytes, last, rest)
 }
 
-/// The lanes along a buffer, behind `total` bytes that they have taken in: each byte is xored with the keystream, and the
-/// lanes take in what the pass says.
+/// The lanes after a buffer, which follows the `total` bytes that they have taken in: each byte is xored with the
+/// keystream, and the lanes take in the bytes that `pass` selects.
 #[inline(always)]
 pub fn pass_all<S: LaneState>(
     state: S,
@@ -85,7 +85,7 @@ pub fn pass_all<S: LaneState>(
     let whole = (buffer.len() - first) / S::RATE;
     let last = first + whole * S::RATE;
     let rest = buffer.len() - last;
-    // Most chunks are whole rate blocks alone, which go without a copy of the state between parts.
+    // Most pieces are whole rate blocks alone. They need no copy of the state between the three parts.
     if first + rest == 0 {
         return pass_whole(state, pass, buffer, 0, whole);
     }
@@ -94,7 +94,7 @@ pub fn pass_all<S: LaneState>(
     pass_part(state, block, total + last as u64, pass, buffer, last, rest)
 }
 
-/// The lanes after all `total` bytes of a run: where a rate block is open, it is taken in with zeros after its bytes.
+/// The lanes after all `total` bytes of a run: if a rate block is open, it is taken in, padded with zeros.
 #[inline(always)]
 pub fn pad<S: LaneState>(state: S, block: &RateBlock, total: u64) -> S
     requires { S.updates state + 1 < 2 ^ 64 }

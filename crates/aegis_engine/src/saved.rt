@@ -1,9 +1,9 @@
-//! Runs at rest: what a message or a MAC is made by, as bytes and numbers that a caller may keep between two calls.
+//! Saved runs: the values of a message or a MAC as bytes and numbers, which a caller may keep between two calls.
 //!
-//! A saved run has no variant in its type; each call names the state that it is read as. Contracts say which key, nonce,
-//! associated data and message so far a run stands for, and what it stands for after a call. If its bytes stand for nothing
-//! the calls are still safe, as soon as its two numbers are within the limit. The mark tells a run from bytes that were
-//! never begun, or have ended.
+//! The type of a saved run does not name its variant: each call names the state that the bytes are read as. Contracts
+//! state the key, nonce, associated data and message so far that a run stands for before and after a call. If its bytes
+//! stand for nothing, the calls are still safe, provided that its two numbers are within the limit. The mark
+//! distinguishes a run from bytes that were never begun or have ended.
 
 ghost use Rattle.std.specs.Prelude.{◌≡◌, ℕ, ◌+◌, ◌/◌, ◌≤◌, ◌↔◌, ◌++◌, List, [], length, true};
 ghost use Rattle.aegis_base.specs.Lane.{IsTagLength};
@@ -24,11 +24,11 @@ use aegis_base::{LaneState, MAX_AEAD_BYTES, SavedLanes, SavedRows};
 // A ciphertext is checked in copies of at most this many bytes, a multiple of every rate.
 const PIECE_BYTES: usize = 512;
 
-/// The mark of a run from its beginning to its end, which other bytes seldom have by chance.
+/// The mark of a run from its beginning to its end. Other bytes are unlikely to have it by chance.
 pub const BEGUN: u64 = 0x6165_6769_732d_7275;
 
-/// A run between two calls: the mark, the lanes' rows, the open block, and how many bytes of associated data and of the
-/// message were taken in.
+/// A run between two calls: the mark, the rows of the lanes, the open block, and the numbers of bytes of associated
+/// data and of the message that were taken in.
 #[repr(C)]
 #[derive(Clone, Copy)]
 pub struct SavedRun {
@@ -53,7 +53,7 @@ pub const ENDED: SavedRun = SavedRun {
     message_bytes: 0,
 };
 
-// How many updates lanes have made since their start along this many bytes of associated data and of a message.
+// The number of updates since the start, after this many bytes of associated data and of a message.
 fn updates_along<S: LaneState>(data_bytes: u64, message_bytes: u64) -> u64
     requires associated_data_within { data_bytes ≤ MAX_AEAD_BYTES }
     requires message_within { message_bytes ≤ MAX_AEAD_BYTES }
@@ -65,7 +65,7 @@ fn updates_along<S: LaneState>(data_bytes: u64, message_bytes: u64) -> u64
 }
 
 impl SavedRun {
-    // The lanes.
+    // The lanes, with their updates counted.
     fn lanes<S: SavedLanes>(&self) -> S
         requires associated_data_within { self.now.data_bytes ≤ MAX_AEAD_BYTES }
         requires message_within { self.now.message_bytes ≤ MAX_AEAD_BYTES }
@@ -79,7 +79,8 @@ impl SavedRun {
         S::restore(&self.rows, count)
     }
 
-    /// Begins a message, or a MAC, which has no associated data.
+    /// Begins a message with the associated data `ad`, or a MAC, for which `ad` must be empty. The key and the nonce
+    /// have 16 or 32 bytes each, by the variant's family.
     pub fn begin<S: SavedLanes>(&mut self, key: &[u8], nonce: &[u8], ad: &[u8])
         requires key_length { length key.now ≡ key_length S.VARIANT.family }
         requires nonce_length { length nonce.now ≡ key_length S.VARIANT.family }
@@ -94,7 +95,8 @@ impl SavedRun {
         self.message_bytes = 0;
     }
 
-    /// Seals the next bytes of the message in place.
+    /// Seals the next bytes of the message in place. Together with those before, there must be at most
+    /// [`MAX_AEAD_BYTES`].
     pub fn seal<S: SavedLanes>(&mut self, mc: &mut [u8])
         requires associated_data_within { self.old.data_bytes ≤ MAX_AEAD_BYTES }
         requires message_within { self.old.message_bytes + length mc.old ≤ MAX_AEAD_BYTES }
@@ -108,7 +110,7 @@ impl SavedRun {
         self.message_bytes += mc.len() as u64;
     }
 
-    /// Opens the next bytes of the ciphertext in place, whatever the tag will be.
+    /// Opens the next bytes of the ciphertext in place, before the tag is known. The limit is that of `seal`.
     pub fn open<S: SavedLanes>(&mut self, mc: &mut [u8])
         requires associated_data_within { self.old.data_bytes ≤ MAX_AEAD_BYTES }
         requires message_within { self.old.message_bytes + length mc.old ≤ MAX_AEAD_BYTES }
@@ -139,7 +141,7 @@ impl SavedRun {
         self.open::<S>(part);
     }
 
-    /// Takes in the next bytes of the ciphertext, and writes none of the message.
+    /// Takes in the next bytes of the ciphertext, without writing the message. The limit is that of `seal`.
     pub fn check<S: SavedLanes>(&mut self, c: &[u8])
         requires associated_data_within { self.old.data_bytes ≤ MAX_AEAD_BYTES }
         requires message_within { self.old.message_bytes + length c.now ≤ MAX_AEAD_BYTES }
@@ -150,7 +152,7 @@ impl SavedRun {
         }
     }
 
-    /// Takes in the next bytes of the input of a MAC.
+    /// Takes in the next bytes of the input of a MAC. The limit is that of `seal`.
     pub fn absorb<S: SavedLanes>(&mut self, input: &[u8])
         requires associated_data_within { self.old.data_bytes ≤ MAX_AEAD_BYTES }
         requires message_within { self.old.message_bytes + length input.now ≤ MAX_AEAD_BYTES }
@@ -162,7 +164,7 @@ impl SavedRun {
         self.message_bytes += input.len() as u64;
     }
 
-    /// The tag of the message.
+    /// Returns the tag of the message. The run may continue afterwards.
     pub fn tag<S: SavedLanes, const TAG_BYTES: usize>(&self) -> [u8; TAG_BYTES]
         requires tag_bytes { IsTagLength TAG_BYTES }
         requires associated_data_within { self.now.data_bytes ≤ MAX_AEAD_BYTES }
@@ -178,7 +180,7 @@ impl SavedRun {
         )
     }
 
-    /// Whether this is the tag of the message. The comparison looks at every byte.
+    /// Returns whether `tag` is the tag of the message. All bytes are compared, whether they are equal or not.
     pub fn has_tag<S: SavedLanes, const TAG_BYTES: usize>(&self, tag: &[u8; TAG_BYTES]) -> bool
         requires tag_bytes { IsTagLength TAG_BYTES }
         requires associated_data_within { self.now.data_bytes ≤ MAX_AEAD_BYTES }
@@ -200,7 +202,7 @@ impl SavedRun {
         )
     }
 
-    /// The MAC of the input.
+    /// Returns the MAC of the input. The run may continue afterwards.
     pub fn mac<S: SavedLanes, const TAG_BYTES: usize>(&self) -> [u8; TAG_BYTES]
         requires tag_bytes { IsTagLength TAG_BYTES }
         requires no_associated_data { self.now.data_bytes ≡ 0 }
@@ -211,7 +213,7 @@ impl SavedRun {
         folded_tag(end_input::<S, TAG_BYTES>(self.lanes::<S>(), &self.block, self.message_bytes))
     }
 
-    /// Whether this is the MAC of the input. The comparison looks at every byte.
+    /// Returns whether `expected` is the MAC of the input. All bytes are compared, whether they are equal or not.
     pub fn has_mac<S: SavedLanes, const TAG_BYTES: usize>(&self, expected: &[u8; TAG_BYTES]) -> bool
         requires tag_bytes { IsTagLength TAG_BYTES }
         requires no_associated_data { self.now.data_bytes ≡ 0 }
@@ -222,7 +224,7 @@ impl SavedRun {
         same_bytes(&self.mac::<S, TAG_BYTES>(), expected)
     }
 
-    /// Ends the run: it is overwritten with zeros.
+    /// Ends the run, by overwriting it with zeros.
     pub fn end(&mut self)
         ensures { self.new ≡ ENDED }
     {

@@ -8,7 +8,7 @@ ghost use Rattle.aegis_base.specs.Mac.{mac_tag};
 use aegis_aes::AesBlock;
 use aegis_base::LaneState;
 
-/// Whether two slices of one length have the same bytes. It looks at every byte.
+/// Returns whether two slices of the same length are equal. All bytes are compared, whether they are equal or not.
 pub fn same_bytes(a: &[u8], b: &[u8]) -> bool
     requires { length a.now ≡ length b.now }
     ensures { IsTrue result ↔ (a.now ≡ b.now) }
@@ -20,7 +20,7 @@ pub fn same_bytes(a: &[u8], b: &[u8]) -> bool
     difference == 0
 }
 
-// A tag of 16 bytes.
+// The bytes of a tag of 16 bytes.
 fn short_bytes<const TAG_BYTES: usize>(tag: AesBlock) -> [u8; TAG_BYTES]
     requires { TAG_BYTES ≡ 16 }
     ensures { result ≡ tag }
@@ -41,7 +41,7 @@ fn joined(low: AesBlock, high: AesBlock) -> [u8; 32]
     tag
 }
 
-// A tag of 32 bytes, from its halves.
+// The bytes of a tag of 32 bytes, from its halves.
 fn long_bytes<const TAG_BYTES: usize>(low: AesBlock, high: AesBlock) -> [u8; TAG_BYTES]
     requires { TAG_BYTES ≡ 32 }
     ensures { result ≡ low ++ high }
@@ -52,7 +52,7 @@ fn long_bytes<const TAG_BYTES: usize>(low: AesBlock, high: AesBlock) -> [u8; TAG
     bytes
 }
 
-/// The tag of lanes after their end: the xor of the lanes' tags (AEGIS, Finalize).
+/// Returns the tag, from the lanes after their end: the xor of the lanes' tags (AEGIS, Finalize).
 pub fn lanes_tag<S: LaneState, const TAG_BYTES: usize>(end: S) -> [u8; TAG_BYTES]
     requires { IsTagLength TAG_BYTES }
     ensures { result
@@ -66,7 +66,8 @@ pub fn lanes_tag<S: LaneState, const TAG_BYTES: usize>(end: S) -> [u8; TAG_BYTES
     }
 }
 
-/// The MAC of lanes after their end: the tag of the one lane, or that of lane 0 after the lanes' tags are folded into it.
+/// Returns the MAC, from the lanes after their end: the tag of a single lane, and with more lanes the tag of lane 0
+/// after the lanes' tags were folded into it.
 pub fn folded_tag<S: LaneState, const TAG_BYTES: usize>(end: S) -> [u8; TAG_BYTES]
     requires tag_bytes { IsTagLength TAG_BYTES }
     requires countable { S.updates end + 16 < 2 ^ 64 }

@@ -1,4 +1,4 @@
--- What is known if opening fails.
+-- The facts that hold if opening fails.
 use Rattle.std.proofs.Common.{◌≡◌, ◌⊎◌, ℕ, Bool, true, false, List, [], ◌∷◌, ◌++◌, Option, None, Some, IfErr, IfSome, Result, Ok, Err, drop, length, take, refl, sym, ap, subst, ◌∙◌, append_assoc, arith, inl, inr}
 use Rattle.std.proofs.KnownBytes.{Appends-kept, Appends-trans, Consumes-trans}
 use Rattle.std.proofs.lemmas.List.{append-nil, drop_at, length-append, take-append-drop, take_at}
@@ -20,7 +20,7 @@ use Rattle.aegis_files.proofs.Opening.{OpensSome, alone}
 use Rattle.aegis_files.proofs.Pieces.{concat-append, concat-begun, concat-push}
 use Rattle.aegis_files.proofs.Sealing.{IsLast, IsStep, split}
 
--- ---- errors that refuse nothing, and what follows from a reason
+-- ---- errors that are no refusal, and what follows from a reason
 
 unwritten : (e : FileError) (P : RecordError → Type 0) → IsWriteError e → IfRefused e P
 unwritten (Read e) P is = absurd is

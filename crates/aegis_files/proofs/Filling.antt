@@ -1,4 +1,4 @@
--- A buffer that is filled from the front.
+-- A buffer that is filled from its front.
 use Rattle.std.proofs.Common.{◌≡◌, ℕ, zero, suc, replicate, ◌+◌, ◌-◌, ◌≤◌, List, ◌++◌, Option, refl, arith, length, take, drop, slice_range, sym, ap, ◌∙◌, subst, le_refl, drop_at, length-take-le}
 use Rattle.std.proofs.lemmas.Slice.{take-put_mid_below}
 use Rattle.std.specs.Io.KnownBytes.{Consumes}
@@ -21,7 +21,7 @@ slice_range-put_mid a k n xs ys within fits =
     let after = post_of a k xs in
     ap (take ((a + n) - a)) (drop_at (take a xs) (ys ++ after) a (length-take-le a xs within)) ∙ ap (λ (m : ℕ). take m (ys ++ after)) same ∙ take-append-le n ys after fits
 
--- one more read behind what was filled
+-- one more read, after the bytes that are filled already
 pub filled_more : (a b c : Option (List ℕ)) (from n : ℕ) (old part : List ℕ) → from ≤ length old → n ≤ length part
     → Consumes a b (take from old) → Consumes b c (take n part) → Consumes a c (take (from + n) (put_mid from (length old - from) old part))
 filled_more a b c from n old part within fits before read =
@@ -35,7 +35,7 @@ pub filled_same : (a c : Option (List ℕ)) (from : ℕ) (old part : List ℕ) �
     → Consumes a c (take from (put_mid from (length old - from) old part))
 filled_same a c from old part within before = subst (Consumes a c) (sym (take-put_mid_below _ _ _ _ _ (le_refl _) within)) before
 
--- what a vector that was made longer holds once its new end was filled up to n bytes and the rest cut off
+-- a vector that was made longer, after the first n of its new bytes were filled and the rest cut off
 pub appended : {A : Type 0} (v : Vec ℕ A) (all old zeros part : List ℕ) (start n : ℕ) → all ≡ v.items → v.items ≡ old ++ zeros → start ≡ length old
     → length part ≡ length zeros → n ≤ length part
     → take (start + n) (with_items v (put_mid start (length all - start) all part)).items ≡ old ++ take n part
@@ -69,7 +69,7 @@ put_long from old part within same =
     let rest : length after ≡ 0 = omega (arith, length-drop room (drop from old), length-drop from old) in
     omega (arith, size, rest, length-append (take from old) (part ++ after), length-append part after, length-take-le from old within)
 
--- a vector that was made longer by zeros
+-- a vector that is made longer by zeros
 pub longer : (old : List ℕ) (start count len : ℕ) → start ≡ length old → start ≡ len
     → take (start + count) old ++ replicate ((start + count) - len) 0 ≡ old ++ replicate count 0
 longer old start count len size same =

@@ -1,4 +1,4 @@
--- What is known between two records that are opened.
+-- The facts that hold between two records that are opened.
 use Rattle.std.proofs.Common.{◌≡◌, ℕ, List, [], ◌∷◌, ◌++◌, Option, None, Some, IfSome, refl, sym, ap, subst, ◌∙◌}
 use Rattle.std.proofs.KnownBytes.{Appends-kept, Appends-nil, Appends-trans, Consumes-all, Consumes-trans}
 use Rattle.std.proofs.lemmas.List.{append-nil}
@@ -8,7 +8,7 @@ use Rattle.aegis.specs.Progress.{AreRecordsOfSomeVersion, Begun, Progress}
 use Rattle.aegis_files.proofs.Pieces.{concat-push}
 use Rattle.aegis_files.proofs.Sealing.{IsLast, IsStep}
 
--- Of the stream the bytes `taken` were read, and the messages that these begin with were written.
+-- The bytes `taken` of the stream were read, and the messages of the records in them were written.
 pub record OpensSome (p : Progress) (key prefix context : List ℕ) (stream left old new : Option (List ℕ)) : Type 0 where
   pub messages : List (List ℕ)
   pub taken : List ℕ
@@ -26,7 +26,7 @@ opens_begin p key prefix context stream left old header begun read = record {
   written = Appends-nil old;
 }
 
--- the bytes of a record, and nothing behind it
+-- the bytes of a record, and nothing after it
 pub alone : (bytes found rest : List ℕ) → found ≡ bytes ++ rest → rest ≡ [] → bytes ≡ found
 alone bytes found rest is none = sym (is ∙ ap (λ (l : List ℕ). bytes ++ l) none ∙ append-nil bytes)
 

@@ -11,7 +11,7 @@ pub concat-append : (ms ns : List (List ℕ)) → concat (ms ++ ns) ≡ concat m
 concat-append [] ns = refl
 concat-append (m ∷ ms) ns = ap (λ (l : List ℕ). m ++ l) (concat-append ms ns) ∙ sym (append_assoc m (concat ms) (concat ns))
 
--- what begins with messages and a front of one more
+-- messages and a front of one more begin the concatenation of all
 pub concat-begun : (messages ms more : List (List ℕ)) (m : List ℕ) (n : ℕ) → ms ≡ (messages ++ m ∷ []) ++ more
     → concat ms ≡ (concat messages ++ take n m) ++ (drop n m ++ concat more)
 concat-begun messages ms more m n is =
@@ -22,12 +22,12 @@ concat-begun messages ms more m n is =
 pub slice-end : (bytes : List ℕ) (start : ℕ) → take (length bytes - start) (drop start bytes) ≡ drop start bytes
 slice-end bytes start = let len = length-drop start bytes in take_all (length bytes - start) (drop start bytes) (omega arith)
 
--- what holds anyway holds after an error
+-- a fact that always holds does so after an error
 pub on_err : {T E P : Type 0} (r : Result T E) → P → OnErr r P
 on_err (Ok x) p = tt
 on_err (Err e) p = p
 
--- a property of each, and of one more
+-- a property of each message, and of one more
 pub all_push : (P : List ℕ → Type 0) (ms : List (List ℕ)) (m : List ℕ) → AllByRecursion P ms → P m → AllByRecursion P (ms ++ m ∷ [])
 all_push P [] m all p = (p, tt)
 all_push P (n ∷ ms) m all p = (all.0, all_push P ms m all.1 p)

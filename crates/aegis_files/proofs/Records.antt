@@ -1,4 +1,4 @@
--- A record that was read by its length, and no more.
+-- The bytes of exactly one record, read by its length.
 use Rattle.std.proofs.Common.{◌≡◌, ℕ, ◌-◌, ◌<◌, ◌≤◌, List, [], ◌++◌, length, sym, ap, ◌∙◌, arith}
 use Rattle.std.proofs.lemmas.List.{length-append, nil_from_length}
 use Rattle.aegis.specs.Progress.{Progress, record_of}

@@ -1,4 +1,4 @@
--- What is known between two pieces that are sealed.
+-- The facts that hold between two pieces that are sealed.
 use Rattle.std.proofs.Common.{◌≡◌, ℕ, List, [], ◌∷◌, ◌++◌, Option, None, Some, IfSome, drop, length, take, le_refl, refl, sym, ap, subst, ◌∙◌, append_assoc, arith}
 use Rattle.std.proofs.KnownBytes.{Appends-kept, Appends-nil, Appends-trans, Consumes-all, Consumes-nil, Consumes-trans}
 use Rattle.std.proofs.lemmas.List.{append-nil, take-append-drop, take_all}
@@ -12,8 +12,8 @@ use Rattle.aegis.specs.RecordStream.{front}
 use Rattle.aegis_files.specs.SealedFile.{IsFileOf, IsPiece, WritesFileFront}
 use Rattle.aegis_files.proofs.Pieces.{all_push, concat-push}
 
--- Of the text the messages were read, and of their stream the bytes `sent` were written behind the prefix; `pending` is to
--- be written yet.
+-- The messages were read from the text. The bytes `sent` of their stream were written after the prefix, and `pending`
+-- is not written yet.
 pub record SealsSome (p : Progress) (key prefix context : List ℕ) (text left old new : Option (List ℕ)) (pending : List ℕ) : Type 0 where
   pub messages : List (List ℕ)
   pub sent : List ℕ
@@ -41,7 +41,7 @@ abbrev pub IsLast : Progress → List ℕ → List ℕ → Type 0
 IsLast p m bytes = (key prefix context : List ℕ) (ms : List (List ℕ)) (before : List ℕ) → Begun p key prefix context ms before
     → AreRecordsOfSomeVersion key prefix context (ms ++ m ∷ []) (before ++ bytes)
 
--- what is written is what was pending and the record
+-- the bytes to write are those that were pending, and then the record
 joined : (sent pending bytes out : List ℕ) → out ≡ pending ++ bytes → (sent ++ pending) ++ bytes ≡ sent ++ out
 joined sent pending bytes out is = append_assoc sent pending bytes ∙ ap (λ (l : List ℕ). sent ++ l) (sym is)
 
@@ -88,7 +88,7 @@ pub split : (f taken : List ℕ) (left : Option (List ℕ)) → Consumes (Some f
 split f taken None read = absurd read
 split f taken (Some rest) read = (rest, read, refl)
 
--- of the prefix some bytes were written
+-- some bytes of the prefix were written
 pub stops_in_prefix : (key prefix context : List ℕ) (text old new : Option (List ℕ)) (n : ℕ) → Appends old new (take n prefix)
     → IfSome text (λ t. WritesFileFront key prefix context t old new)
 stops_in_prefix key prefix context None old new n written = tt
@@ -122,7 +122,7 @@ begun_bytes : (p : Progress) (key prefix context : List ℕ) (ms : List (List �
 unfolding Begun
 begun_bytes p key prefix context ms bytes b = b.are
 
--- what was written is the prefix and `sent`, and `rest` is left of the records
+-- the prefix and `sent` were written, and `rest` is left of the records
 written_front : (v : Version) (flag : ℕ) (key prefix context t sent rest : List ℕ) (ms : List (List ℕ)) (left old new : Option (List ℕ))
     → sent ++ rest ≡ front (sealed key prefix context) v flag ms → Consumes (Some t) left (concat ms) → Appends old new (prefix ++ sent)
     → WritesFileFront key prefix context t old new
@@ -145,7 +145,7 @@ stops_between p key prefix context (Some t) left old new pending s =
     written_front p.version 0 key prefix context t s.sent pending s.messages left old new
     (begun_bytes p key prefix context s.messages (s.sent ++ pending) s.begun) s.read s.written
 
--- the record was sealed, and of what was to be written some bytes were
+-- the record was sealed, and some of the bytes to write were written
 cut_out : (sent pending bytes out : List ℕ) (n : ℕ) → out ≡ pending ++ bytes → (sent ++ take n out) ++ drop n out ≡ (sent ++ pending) ++ bytes
 cut_out sent pending bytes out n is =
     append_assoc sent (take n out) (drop n out) ∙ ap (λ (l : List ℕ). sent ++ l) (take-append-drop n out) ∙ sym (joined sent pending bytes out is)

@@ -1,4 +1,4 @@
--- What a reader gave, and what is known if opening fails.
+-- The bytes that were read, and the facts that hold if opening fails.
 use Rattle.std.specs.Prelude.{◌≡◌, ℕ, ◌<◌, ◌≤◌, ◌⊎◌, List, ◌++◌, Option, ⊤, length}
 use Rattle.std.specs.Io.KnownBytes.{Appends, Consumes, IsAtEnd}
 use Rattle.std.specs.List.{concat}
@@ -9,7 +9,7 @@ use Rattle.aegis.specs.declared.record.error.RecordError.TheVariants as errors
 use Rattle.aegis.specs.Progress.{AreRecordsOfSomeVersion, Begun, Progress}
 use Rattle.aegis.specs.Records.{IsFault}
 
--- the bytes grew by what the reader gave: so many bytes, or all that there were
+-- the next `count` bytes of the reader were appended, or all that were left
 pub record AppendsRead (old new : List ℕ) (count : ℕ) (left left' : Option (List ℕ)) : Type 0 where
   pub more : List ℕ
   pub within : length more ≤ count
@@ -29,7 +29,8 @@ IsWriteError (Write e) = ⊤
 IsWriteError (Stream e) = ⊥
 IsWriteError TooLong = ⊥
 
--- a refusal at the next record: of what was read of it, whatever follows; or bytes were left behind a stream
+-- a refusal at the next record, which holds for the bytes read of it and any bytes after them; or bytes were left after
+-- a stream
 abbrev pub RefusesNext : Progress → Option (List ℕ) → Option (List ℕ) → FileError → Type 0
 RefusesNext p left left' (Read e) = ⊤
 RefusesNext p left left' (Write e) = ⊥
@@ -38,7 +39,7 @@ RefusesNext p left left' (Stream e) = (e ≡ errors.OutOfMemory)
     × ((key prefix context : List ℕ) (ms : List (List ℕ)) (before more : List ℕ) → Begun p key prefix context ms before → IsFault key prefix context (before ++ (head ++ more)) e))
 RefusesNext p left left' TooLong = ⊥
 
--- what was written is the front of what any stream would open to that these bytes are
+-- a front of the text was written, if these bytes are a stream
 pub record WritesFront (key prefix context stream : List ℕ) (old new : Option (List ℕ)) : Type 0 where
   pub begun : List ℕ
   pub written : Appends old new begun
@@ -49,7 +50,7 @@ pub record FailsUnder (key prefix context stream : List ℕ) (old new : Option (
   pub front : WritesFront key prefix context stream old new
   pub refused : IfRefused e (λ why. (why ≡ errors.OutOfMemory) ⊎ IsFault key prefix context stream why)
 
--- bytes were left
+-- some bytes were left
 abbrev pub LeavesSome : Option (List ℕ) → Option (List ℕ) → FileError → Type 0
 LeavesSome left left' (Read e) = ⊤
 LeavesSome left left' (Write e) = ⊥

@@ -1,4 +1,4 @@
--- A sealed file: a prefix of 24 bytes, and after it the record stream of messages that are the text when put together.
+-- A sealed file: a prefix of 24 bytes, and then a record stream whose messages, one after the other, are the text.
 use Rattle.std.specs.Prelude.{◌≡◌, ℕ, ◌<◌, ◌≤◌, ◌⊎◌, List, ◌++◌, Option, ⊤, length}
 use Rattle.std.specs.Io.KnownBytes.{Appends}
 use Rattle.std.specs.List.{concat}
@@ -30,8 +30,8 @@ pub record IsSealedFile (key context text file : List ℕ) : Type 0 where
 abbrev pub IsPiece : List ℕ → Type 0
 IsPiece m = length m ≤ PIECE_BYTES
 
--- What was written is a front of a prefix, a header and records. Their messages are a front of the text, and the last of them
--- has the flag `flag`.
+-- From `old` to `new`, a front of a prefix, a header and records was written. The messages of the records are a front
+-- of the text, and the last record has the flag `flag`.
 pub record WritesFileFront (key prefix context text : List ℕ) (old new : Option (List ℕ)) : Type 0 where
   pub begun : List ℕ
   pub written : Appends old new begun
@@ -41,26 +41,26 @@ pub record WritesFileFront (key prefix context text : List ℕ) (old new : Optio
   pub of_file : (rest : List ℕ) × (prefix ++ front (sealed key prefix context) version flag messages ≡ begun ++ rest)
   pub of_text : (rest : List ℕ) × (text ≡ concat messages ++ rest)
 
--- what is wrong with a file that is the file of no text: it has no whole prefix, or what follows its prefix is no stream
+-- the fault of a file that is the file of no text: it has no whole prefix, or the bytes after its prefix are no stream
 abbrev pub IsFileFault : List ℕ → List ℕ → List ℕ → RecordError → Type 0
 IsFileFault key context file e =
     ((length file < 24) × (e ≡ errors.Header))
     ⊎ ((prefix : List ℕ) × (stream : List ℕ) × (length prefix ≡ 24) × (file ≡ prefix ++ stream) × IsFault key prefix context stream e)
 
--- what holds of the reason, if the error is a refusal of the file
+-- if the error is a refusal of the file, P holds of the reason
 abbrev pub IfRefused : FileError → (RecordError → Type 0) → Type 0
 IfRefused (Read e) P = ⊤
 IfRefused (Write e) P = ⊤
 IfRefused (Stream e) P = P e
 IfRefused TooLong P = ⊤
 
--- what was written is a front of the text that the file opens to, if it is the file of one
+-- if the file is the file of a text, a front of that text was written
 pub record WritesTextFront (key context file : List ℕ) (old new : Option (List ℕ)) : Type 0 where
   pub begun : List ℕ
   pub written : Appends old new begun
   pub front : (text : List ℕ) → IsSealedFile key context text file → (rest : List ℕ) × (text ≡ begun ++ rest)
 
--- Opening the file failed: what was written is a front of its text, and a refusal is its fault, or want of memory.
+-- Opening the file failed: a front of its text was written, and a refusal is its fault, or that memory ran out.
 pub record FailsWith (key context file : List ℕ) (old new : Option (List ℕ)) (e : FileError) : Type 0 where
   pub front : WritesTextFront key context file old new
   pub refused : IfRefused e (λ why. (why ≡ errors.OutOfMemory) ⊎ IsFileFault key context file why)

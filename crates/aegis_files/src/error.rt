@@ -1,11 +1,12 @@
-//! Why a file is not sealed or opened.
+//! The errors of sealing and opening.
 
 use aegis::record::RecordError;
 use std::alloc::{AllocError, AllocFailed};
 use std::io;
 use thiserror::Error;
 
-/// Why a file is not sealed or not opened.
+/// The error of [`crate::seal_stream`] or [`crate::open_stream`]. Their documentation has what was written before an
+/// error.
 #[derive(Debug, Drop, Error)]
 pub enum FileError {
     /// The input could not be read.
@@ -14,10 +15,10 @@ pub enum FileError {
     /// The output could not be written.
     #[error("writing: {0}")]
     Write(io::Error),
-    /// What the file's stream is refused for, or that memory ran out.
+    /// The fault of the file, or that memory ran out.
     #[error("{0}")]
     Stream(RecordError),
-    /// The stream would pass 2^61 - 1 bytes.
+    /// The record stream would have more than 2^61 - 1 bytes.
     #[error("too long")]
     TooLong,
 }

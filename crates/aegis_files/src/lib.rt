@@ -1,7 +1,7 @@
-//! Sealed files: a prefix of 24 bytes and a record stream under it, written and read a piece at a time.
+//! Sealed files: a prefix of 24 bytes and a record stream under it, written and read one piece at a time.
 //!
-//! [`seal_stream`] and [`open_stream`] go from any reader to any writer, and hold one piece of what they read. The caller
-//! chooses the key and the prefix; nothing detects a prefix that was used before under its key.
+//! [`seal_stream`] and [`open_stream`] read from any reader and write to any writer, and hold one piece in memory. The
+//! caller chooses the key and the prefix. A prefix that was used before under the same key is not detected.
 #![tactic(auto)]
 
 mod error;

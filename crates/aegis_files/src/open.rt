@@ -1,4 +1,4 @@
-//! Opening what a reader gives.
+//! Opening a sealed file, from a reader to a writer.
 
 ghost use Rattle.std.specs.Prelude.{◌≡◌, ◌≤◌, ◌++◌, [], Err, IfErr, IfSome, List, OnOk, length, ℕ};
 ghost use Rattle.std.specs.Io.KnownBytes.{Appends, Consumes, IsAtEnd};
@@ -16,10 +16,10 @@ use aegis::record::{MAX_CONTEXT_BYTES, MAX_MESSAGE_BYTES, RecordError, RecordOpe
 use std::alloc::Allocator;
 use std::io::{Read, Write};
 
-/// How many bytes a record begins with: its flag and its length.
+/// The length of a record's flag and length field together, in bytes.
 const HEAD_BYTES: usize = 5;
 
-// Reads the next record, or what there is of it.
+// Reads the next record, or the bytes that there are of it.
 fn read_record<R: Read, A: Allocator + Copy>(
     input: &mut R,
     opener: &RecordOpener<'_, A>,
@@ -45,7 +45,7 @@ fn read_record<R: Read, A: Allocator + Copy>(
     Ok(())
 }
 
-// Opens what the reader gives of a stream under the prefix.
+// Opens the record stream that follows the prefix.
 fn open_under<R: Read, W: Write, A: Allocator + Copy>(
     alloc: A,
     key: &Key,
@@ -82,7 +82,7 @@ fn open_under<R: Read, W: Write, A: Allocator + Copy>(
     Err(FileError::TooLong)
 }
 
-// Sees that nothing is left to read.
+// Returns an error unless the input is at its end.
 fn end<R: Read>(input: &mut R) -> Result<(), FileError>
     ensures read { OnOk result (Consumes (R.remaining input.old) (R.remaining input.new) []) }
     ensures end { OnOk result (IsAtEnd (R.remaining input.new)) }
@@ -96,14 +96,15 @@ fn end<R: Read>(input: &mut R) -> Result<(), FileError>
     }
 }
 
-/// Opens what a reader gives: reads the prefix and then the record stream, and writes each message after its tag was checked.
+/// Opens a sealed file: reads the prefix and then the record stream, and writes each message after its tag has been
+/// verified.
 ///
-/// `Ok` says that all of the input is the file of the text that was written. A file is refused only if it is the file of no
-/// text, and the error is then its first fault, or if memory runs out. After any error a front of the file's text was written,
-/// if it is the file of one: a caller that needs the whole text has to discard it.
+/// Returns `Ok` only if the whole input is the file of the text that was written. A file is refused only if it is not
+/// the file of any text, and the error is then its first fault, or if memory runs out. After any error, a front of the
+/// file's text was written, if the file has one. A caller that needs the whole text must discard it.
 ///
-/// The context has at most [`MAX_CONTEXT_BYTES`]. Memory is taken for one record and its message, each of up to 16 MiB in a
-/// file that someone else made with the key.
+/// The context must have at most [`MAX_CONTEXT_BYTES`]. Memory is allocated for one record and its message. In a file
+/// that someone else made with the key, each can have up to 16 MiB.
 pub fn open_stream<R: Read, W: Write, A: Allocator + Copy>(
     alloc: A,
     key: &Key,

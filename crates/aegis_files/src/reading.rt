@@ -10,8 +10,8 @@ use std::alloc::Allocator;
 use std::io;
 use std::io::{ErrorKind, Read};
 
-/// Reads until the buffer is full or the input is at its end, and returns how many bytes were read. An interrupted read is
-/// tried again. After an error some bytes may have been read.
+/// Reads until the buffer is full or the input is at its end, and returns the number of bytes read. An interrupted read
+/// is tried again. Returns [`FileError::Read`] if a read fails; some bytes may have been read before.
 pub fn fill<R: Read>(input: &mut R, buffer: &mut [u8]) -> Result<usize, FileError>
     ensures within { IfOk result (λ n. n ≤ length buffer.new) }
     ensures read { IfOk result
@@ -37,7 +37,7 @@ pub fn fill<R: Read>(input: &mut R, buffer: &mut [u8]) -> Result<usize, FileErro
     Err(FileError::Read(io::Error::from(ErrorKind::TimedOut)))
 }
 
-/// Reads that many bytes, or what there is, and appends them to the buffer.
+/// Reads `count` bytes, or all that are left, and appends them to the buffer.
 pub fn append<R: Read, A: Allocator>(
     input: &mut R,
     buffer: &mut Vec<u8, A>,

@@ -1,4 +1,4 @@
-//! Sealing what a reader gives.
+//! Sealing a file, from a reader to a writer.
 
 ghost use Rattle.std.specs.Prelude.{◌≡◌, ◌≤◌, IfOk, IfSome, List, OnErr, OnOk, length, ℕ};
 ghost use Rattle.std.specs.Io.KnownBytes.{Appends};
@@ -13,24 +13,24 @@ use aegis::record::{MAX_CONTEXT_BYTES, RECORD_BYTES, RecordSealer};
 use std::alloc::{AllocError, Allocator};
 use std::io::{Read, Write};
 
-/// How many bytes of the input a record has; the last records may have fewer.
+/// The number of bytes of the input in each record. The last record is empty, and the one before it may be shorter.
 pub const PIECE_BYTES: usize = 65_536;
 
-// Room for a piece.
+// A buffer for one piece.
 fn piece_buffer<A: Allocator>(alloc: A) -> Result<Vec<u8, A>, AllocError>
     ensures { IfOk result (λ piece. length piece.items ≡ PIECE_BYTES) }
 {
     vec![in alloc; 0; PIECE_BYTES]
 }
 
-/// Seals all that a reader gives: writes the prefix, and then the record stream of the input's pieces, with an empty message
-/// last, so that no piece has to wait for the next one.
+/// Seals the whole input: writes the prefix, and then the record stream of the input's pieces. The last message is
+/// empty, so that each piece is written before the next one is read.
 ///
-/// A prefix must be used for one file only under its key. The context has at most [`MAX_CONTEXT_BYTES`]. Memory is taken for
-/// one piece and its record.
+/// Under one key, a prefix must be used for one file only. The context must have at most [`MAX_CONTEXT_BYTES`]. Memory
+/// is allocated for one piece and its record.
 ///
-/// After an error, a front of such a file was written, of pieces that the text begins with. It may be a whole file only if the
-/// last write or the flush failed.
+/// After an error, a front of such a file was written, whose pieces are a front of the text. It can be a whole file
+/// only if the last write or the flush failed.
 pub fn seal_stream<R: Read, W: Write, A: Allocator + Copy>(
     alloc: A,
     key: &Key,

@@ -8,7 +8,8 @@ use crate::error::FileError;
 use std::io;
 use std::io::{ErrorKind, Write};
 
-/// Writes all the bytes. An interrupted write is tried again; after an error a front of them was written.
+/// Writes all bytes. An interrupted write is tried again. Returns [`FileError::Write`] if a write fails; a front of the
+/// bytes was written then.
 pub fn write<W: Write>(output: &mut W, bytes: &[u8]) -> Result<(), FileError>
     ensures ok { OnOk result (Appends (W.contents output.old) (W.contents output.new) bytes.now) }
     ensures err { IfErr result IsWriteError }
@@ -33,7 +34,7 @@ pub fn write<W: Write>(output: &mut W, bytes: &[u8]) -> Result<(), FileError>
     Err(FileError::Write(io::Error::from(ErrorKind::TimedOut)))
 }
 
-/// Hands on what a writer holds back.
+/// Flushes the writer. Returns [`FileError::Write`] if that fails.
 pub fn flush<W: Write>(output: &mut W) -> Result<(), FileError>
     ensures kept { Keeps (W.contents output.old) (W.contents output.new) }
     ensures err { IfErr result IsWriteError }

@@ -1,4 +1,4 @@
--- Associated data and a message, read one after the other: what each reading refuses, and what all of them give.
+-- Associated data and a message, read one after the other: the faults of each reading, and the result of all of them.
 use Rattle.std.proofs.Common.{◌≡◌, ◌⊎◌, ℕ, List, Result, Ok, arith}
 use Rattle.aegis_lines.specs.Command.{cipher_with}
 use Rattle.aegis_lines.specs.Fault.{Refuses}

@@ -1,4 +1,4 @@
--- How the lines behind begun bytes change with each byte.
+-- How the lines after begun bytes change with each byte.
 use Rattle.std.proofs.Common.{◌≡◌, ◌≢◌, ℕ, Bool, true, List, [], ◌∷◌, ◌++◌, map, inl, inr, refl, ap, sym, ◌∙◌}
 use Rattle.std.proofs.lemmas.Bool.Decides.{eqb_tells}
 use Rattle.std.specs.Io.BufRead.{strip_last}

@@ -1,4 +1,4 @@
--- How answers follow on one another.
+-- Answers one after the other.
 use Rattle.std.proofs.Common.{◌≡◌, ℕ, ◌-◌, Result, Ok, Err, OnOk, length-drop, Bool, true, false, ◌||◌, List, [], ◌∷◌, ◌++◌, Option, take, drop, length, refl, ap, sym, ◌∙◌, append_assoc, append-nil, take-append-drop, arith}
 use Rattle.std.proofs.Math.Bool.{or_assoc}
 use Rattle.std.proofs.lemmas.List.{take_all}
@@ -114,7 +114,7 @@ all_beginning first a b x y z p kept = more_beginning first [] a b x y z p (no_b
 pub slice-end : (bytes : List ℕ) (start : ℕ) → take (length bytes - start) (drop start bytes) ≡ drop start bytes
 slice-end bytes start = let len = length-drop start bytes in take_all (length bytes - start) (drop start bytes) (omega arith)
 
--- what follows from two facts of a call that went well
+-- a consequence of two facts of a call that returned `Ok`
 pub on_ok_both : {T E P Q S : Type 0} (r : Result T E) → (P → Q → S) → OnOk r P → OnOk r Q → OnOk r S
 on_ok_both (Ok x) f p q = f p q
 on_ok_both (Err e) f p q = tt

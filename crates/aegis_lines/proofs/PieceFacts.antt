@@ -65,7 +65,7 @@ all_read pieces i read past are =
     let each = rw all at are.each in
     (rw (faultless, each) refl, rw (faultless, each) refl)
 
--- where some pieces are read, some are there
+-- if some pieces are read, there are some
 pub some_read : {A : Type 0} (r : Result (Vec (Vec ℕ A) A) Refusal) (n : ℕ) → 0 < n → IfOk r (λ read. vec_len read ≡ n) → IfOk r (λ read. 0 < vec_len read)
 some_read (Ok read) n some is = omega (arith, some, is)
 some_read (Err refusal) n some is = tt

@@ -1,4 +1,4 @@
--- What is known between two reads.
+-- The facts that hold between two reads.
 use Rattle.std.proofs.Common.{◌≡◌, ℕ, ◌+◌, ◌<◌, ◌==◌, true, inl, inr, length, drop, get_or, add-one, arith, ◌≢◌, Bool, false, List, [], ◌∷◌, ◌++◌, Option, None, Some, IfSome, refl, ap, sym, ◌∙◌, append_assoc, append-nil, subst}
 use Rattle.std.proofs.KnownBytes.{Appends-nil}
 use Rattle.std.proofs.Math.Seq.{drop-cons}
@@ -11,7 +11,7 @@ use Rattle.aegis_lines.specs.Output.{Answers, AnswersRead, AnswersSome}
 use Rattle.aegis_lines.proofs.LinesFacts.{lines_after-alone, lines_after-ended, lines_after-longer, lines_after-none, lines_after-nothing}
 use Rattle.aegis_lines.proofs.OutputFacts.{kept_answers, more_answers, more_beginning, no_answers, no_beginning}
 
--- Of the bytes read, all lines are answered but the begun one, whatever bytes follow.
+-- All lines of the bytes read are answered but the begun one, for any bytes that follow.
 pub record ReadsSome (bytes : List ℕ) (left : Option (List ℕ)) (begun : List ℕ) (saw : Bool) (old new : Option (List ℕ)) : Type 0 where
   pub read : List ℕ
   pub split : Consumes (Some bytes) left read
@@ -20,7 +20,7 @@ pub record ReadsSome (bytes : List ℕ) (left : Option (List ℕ)) (begun : List
 abbrev pub Reads : Option (List ℕ) → Option (List ℕ) → List ℕ → Bool → Option (List ℕ) → Option (List ℕ) → Type 0
 Reads known left begun saw old new = IfSome known (λ bytes. ReadsSome bytes left begun saw old new)
 
--- what `AnswersRead` says of a reader's bytes, where they are known
+-- `AnswersRead` of a reader's bytes, if they are known
 abbrev pub Stops : Option (List ℕ) → Option (List ℕ) → Option (List ℕ) → Option (List ℕ) → Type 0
 Stops known left old new = IfSome known (λ bytes. AnswersRead bytes left old new)
 
@@ -34,7 +34,7 @@ read_more bytes (Some left) (Some rest) read taken before after =
     let parts : left ≡ taken ++ rest = after in
     whole ∙ ap (λ l. read ++ l) parts ∙ sym (append_assoc read taken rest)
 
--- A failed read leaves what there was.
+-- A failed read leaves the bytes as they were.
 kept_left : (bytes : List ℕ) (left left' : Option (List ℕ)) (read : List ℕ) → Consumes (Some bytes) left read → Keeps left left'
     → Consumes (Some bytes) left' read
 kept_left bytes None left' read before kept = absurd before
@@ -139,7 +139,7 @@ pub longer_line : (ends : Bool) (begun begun' more : List ℕ) (byte : ℕ) (saw
 longer_line ends begun begun' more byte saw x other longer =
     rw (longer, lines_after-longer ends begun more byte other) (no_answers _ saw x x (Appends-nil x))
 
--- At the end of the input nothing is left of an empty line, and any other is the last one.
+-- At the end of the input, an empty rest is no line, and any other is the last line.
 pub no_last_line : (begun : List ℕ) (len : ℕ) → len ≡ length begun → (len == 0) ≡ true → lines_after true begun [] ≡ []
 no_last_line [] len size none = lines_after-nothing true
 no_last_line (byte ∷ bytes) len size none = elim (eqb_tells len 0) [

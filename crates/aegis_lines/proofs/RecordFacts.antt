@@ -1,4 +1,4 @@
--- Messages of a stream: whether they are within the limit, and how they are printed.
+-- The messages of a stream: whether they are within the limit, and how they are printed.
 use Rattle.std.proofs.Common.{◌≡◌, ℕ, zero, suc, ◌+◌, ◌<◌, ◌≤◌, ◌&&◌, Bool, true, false, List, [], ◌∷◌, ◌++◌, get_or, leb, length, map, take, add-one, append_assoc, arith, refl, sym, ap, ◌∙◌}
 use Rattle.std.specs.Prelude.{flat_map}
 use Rattle.std.specs.Vec.{vec_items}
@@ -33,7 +33,7 @@ one_past [] i d low past = absurd (omega arith)
 one_past (m ∷ ms) zero d low past = rw (lt-leb _ _ past) refl
 one_past (m ∷ ms) (suc i) d low past = rw (← one_past ms i d (omega arith) past, and_false) refl
 
--- one more message that is not
+-- one more message that is not too long
 pub one_within : {A : Type 0} (messages : List (Vec ℕ A)) (i : ℕ) (d : Vec ℕ A) → i < length messages
     → length (vec_items (get_or messages i d)) ≤ limit Second → are_within (map vec_items (take i messages)) ≡ true
     → are_within (map vec_items (take (i + 1) messages)) ≡ true
@@ -68,7 +68,7 @@ more_shown messages others first i d is low =
     let two : take (i + 1) (first ∷ others) ≡ first ∷ take i others = rw add-one refl in
     rw (is, one, two) (more_of others first i d low)
 
--- a text behind its first bytes, with a comma and one more message
+-- a text after its first bytes, with a comma and one more message
 pub more_text : (first before next text separated new all : List ℕ) → text ≡ first ++ before → separated ≡ text ++ 44 ∷ []
     → new ≡ separated ++ next → all ≡ before ++ 44 ∷ next → new ≡ first ++ all
 more_text first before next text separated new all is comma longer more =

@@ -1,4 +1,4 @@
--- What a command refuses where its first fields do.
+-- The first fault of a command, if its first fields have one, and if those after them do.
 use Rattle.std.proofs.Common.{◌≡◌, ◌⊎◌, ℕ, List, Ok, length, arith}
 use Rattle.std.proofs.lemmas.List.{length-map}
 use Rattle.std.specs.Borrow.{Bor}
@@ -60,7 +60,7 @@ unfolding request_of_command
 open_records_refused fields refusals.OutOfMemory count is = tt
 open_records_refused fields (refusals.Fault fault) count is = grind arith
 
--- the keys are read, and the texts behind them refused
+-- the keys are read, and the texts after them refused
 pub seal_texts_refused : (fields : List (List ℕ)) (refusal : Refusal) (variant : AnyVariant) (n : ℕ) (key nonce : List ℕ) → length fields ≡ 7
     → AreTaggedKeys variant n key nonce fields → Refuses refusal (texts_in (cipher_with variant key nonce) (field_of fields 5) (field_of fields 6))
     → Refuses refusal (request_of_command names.Seal fields)
@@ -167,7 +167,7 @@ pub seal_records_granted : (fields : List (List ℕ)) (key prefix context k p x 
 unfolding request_of_command
 seal_records_granted fields key prefix context k p x ms same count keys ms-is all-is is = grind arith
 
--- likewise of a stream's bytes
+-- the same with the bytes of a stream
 pub open_records_digits_refused : (fields : List (List ℕ)) (refusal : Refusal) (key prefix context : List ℕ) → length fields ≡ 5
     → AreRecordKeys key prefix context fields → Refuses refusal (bytes_in (field_of fields 4))
     → (refusal ≡ refusals.OutOfMemory) ⊎ (refusal ≡ refusals.Fault faults.Hex)

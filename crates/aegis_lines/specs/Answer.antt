@@ -1,4 +1,4 @@
--- The answer of a line.
+-- Answers to lines.
 use Rattle.std.specs.Prelude.{◌≡◌, ℕ, ◌⊎◌, List, ◌++◌, codes, MatchResult}
 use Rattle.aegis_aes.specs.Round.{round}
 use Rattle.aegis_base.specs.Mac.{mac}
@@ -15,8 +15,7 @@ use Rattle.aegis.specs.Records.{records}
 abbrev pub shown_pair : List ℕ × List ℕ → List ℕ
 shown_pair sealed = shown sealed.0 ++ codes " " ++ shown sealed.1
 
--- The answer to an opening, where `IsMessage` says which messages seal to the ciphertext and the tag: such a message,
--- or that there is none.
+-- the text is the answer to an opening: a message for which `IsMessage` holds, or that there is none
 abbrev pub IsOpeningAnswer : (List ℕ → Type 0) → List ℕ → Type 0
 IsOpeningAnswer IsMessage text =
     ((m : List ℕ) × IsMessage m × (text ≡ codes "ok " ++ shown m))
@@ -33,6 +32,6 @@ IsReply (Mac v n key nonce m) text = text ≡ shown (mac (standard_of v) n key n
 IsReply (SealRecords key prefix context ms) text = text ≡ shown (records Second key prefix context ms)
 IsReply (OpenRecords key prefix context bytes) text = IsRecordsAnswer key prefix context bytes text
 
--- this text is the answer of this line: the answer to what it asks for, or its first fault
+-- this text is the answer to this line: the answer to its request, or its first fault
 abbrev pub IsAnswer : List ℕ → List ℕ → Type 0
 IsAnswer line text = MatchResult (request_of line) (λ request. IsReply request text) (λ fault. text ≡ text_of_fault fault)

@@ -1,4 +1,4 @@
--- What the program's values stand for.
+-- The values of the program as the definitions have them.
 use Rattle.std.specs.Prelude.{ℕ, ◌&&◌, ◌==◌, List, Result, Ok, Err, length, map, if◌then◌else◌}
 use Rattle.std.specs.Vec.{vec_items}
 use Rattle.aegis_lines.specs.declared.fault.Fault.{Fault}
@@ -22,7 +22,7 @@ abbrev pub tag_bytes_of : AnyTag → List ℕ
 tag_bytes_of (tags.Short bytes) = bytes
 tag_bytes_of (tags.Long bytes) = bytes
 
--- how many they are
+-- the length of a tag, in bytes
 abbrev pub tag_size_of : AnyTag → ℕ
 tag_size_of (tags.Short bytes) = 16
 tag_size_of (tags.Long bytes) = 32
@@ -31,7 +31,7 @@ tag_size_of (tags.Long bytes) = 32
 abbrev pub tag_with : ℕ → List ℕ → Result (ℕ × List ℕ) Fault
 tag_with n bytes = if length bytes == n then Ok (n, bytes) else Err faults.Length
 
--- the request that a command is
+-- the request of a command
 abbrev pub request_from : {A : Type 0} → Command A → Request
 request_from (commands.Round block key) = Round block key
 request_from (commands.Seal cipher tag_length associated_data message) =

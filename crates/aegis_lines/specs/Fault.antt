@@ -14,12 +14,12 @@ text_of_fault faults.Tag = codes "error tag"
 text_of_fault faults.Hex = codes "error hex"
 text_of_fault faults.Length = codes "error length"
 
--- Reading refused, and this is what reading gives: a fault is the fault, and nothing is said where memory ran out.
+-- a refusal by a fault is the fault that the reading is defined to give; a refusal for lack of memory is always allowed
 abbrev pub Refuses : {Y : Type 0} → Refusal → Result Y Fault → Type 0
 Refuses refusals.OutOfMemory read = Unit {0}
 Refuses (refusals.Fault f) read = read ≡ Err f
 
--- what a function returned, seen by `view`, is what reading gives, unless memory ran out
+-- the result of a function, seen by `view`, is what the reading is defined to give, unless memory ran out
 abbrev pub Gives : {X Y : Type 0} → (X → Y) → Result X Refusal → Result Y Fault → Type 0
 Gives view (Ok x) read = read ≡ Ok (view x)
 Gives view (Err e) read = Refuses e read

@@ -1,4 +1,4 @@
--- The fields of a line, and what a field stands for.
+-- The fields of a line, and their values.
 use Rattle.std.specs.Prelude.{ℕ, ◌==◌, ◌&&◌, nat_le, leb, Bool, List, [], length, map, Result, Ok, Err, is_err, codes, if◌then◌else◌, slice_index_or}
 use Rattle.std.specs.Char.{is_ascii_digit}
 use Rattle.std.specs.List.{concat, list_all, list_any, slice_split}
@@ -16,7 +16,7 @@ use Rattle.aegis_variants.specs.declared.variant.AnyVariant.{AnyVariant}
 use Rattle.aegis_variants.specs.declared.variant.AnyVariant.TheVariants as variants
 use Rattle.aegis_lines.specs.Variant.{tag_length_named, variant_named}
 
--- The pieces of a text between single separators. Two separators together, or one at an end, make an empty piece.
+-- the pieces of a text between single separators; two separators in a row, or one at an end, make an empty piece
 abbrev pub cut_at : ℕ → List ℕ → List (List ℕ)
 cut_at separator text = slice_split (λ byte. byte == separator) text
 
@@ -32,30 +32,30 @@ pieces_of field = cut_at 44 field
 abbrev pub field_of : List (List ℕ) → ℕ → List ℕ
 field_of fields i = slice_index_or fields i []
 
--- any fault of the hexadecimal text is one to a reader of lines
+-- any error of the crate `hex` is a hexadecimal fault
 abbrev pub or_hex_fault : Result (List ℕ) FromHexError → Result (List ℕ) Fault
 or_hex_fault (Ok bytes) = Ok bytes
 or_hex_fault (Err e) = Err faults.Hex
 
--- what a field of bytes stands for: `-` for none, and otherwise pairs of hexadecimal digits of either case, one at
--- least
+-- the bytes of a field: `-` stands for none, and otherwise the field is at least one pair of hexadecimal digits, of
+-- either case
 unfoldable pub bytes_in : List ℕ → Result (List ℕ) Fault
 bytes_in field =
     if length field == 0 then Err faults.Hex
     else if bytes_eq field (codes "-") then Ok []
     else or_hex_fault (decode_of field)
 
--- how bytes are printed
+-- bytes as they are printed
 unfoldable pub shown : List ℕ → List ℕ
 shown bytes = if length bytes == 0 then codes "-" else encode_lower bytes
 
--- the length that a field of one to five decimal digits says, of 65536 at most
+-- the length that a field of one to five decimal digits gives, of at most 65536
 unfoldable pub keystream_length_in : List ℕ → Result ℕ Fault
 keystream_length_in field =
     if nat_le 1 (length field) && nat_le (length field) 5 && list_all is_ascii_digit field && nat_le (digits_value 10 field) 65536
     then Ok (digits_value 10 field) else Err faults.Length
 
--- the bytes that a field without a fault says
+-- the bytes of a field without a fault
 abbrev pub bytes_of : List ℕ → List ℕ
 bytes_of field = result_unwrap_or (bytes_in field) []
 
@@ -63,15 +63,15 @@ bytes_of field = result_unwrap_or (bytes_in field) []
 abbrev pub is_faulty : List ℕ → Bool
 is_faulty piece = is_err (bytes_in piece)
 
--- what pieces stand for together: the bytes of each, one after the other
+-- the bytes of all pieces, one after the other
 abbrev pub joined_from : List (List ℕ) → Result (List ℕ) Fault
 joined_from pieces = if list_any is_faulty pieces then Err faults.Hex else Ok (concat (map bytes_of pieces))
 
--- what a field of pieces stands for
+-- the bytes of all pieces of a field
 unfoldable pub joined_in : List ℕ → Result (List ℕ) Fault
 joined_in field = joined_from (pieces_of field)
 
--- what a field without a fault says: the bytes of its pieces, a variant, the length of a tag, or a count
+-- the value of a field without a fault: the bytes of its pieces, a variant, the length of a tag, or a count
 abbrev pub joined_of : List ℕ → List ℕ
 joined_of field = result_unwrap_or (joined_in field) []
 
@@ -84,7 +84,7 @@ tag_length_in field = result_unwrap_or (tag_length_named field) 0
 abbrev pub count_in : List ℕ → ℕ
 count_in field = result_unwrap_or (keystream_length_in field) 0
 
--- whether associated data or a message is no longer than AEGIS allows
+-- whether associated data or a message is within the limit of AEGIS
 abbrev pub is_within_limit : List ℕ → Bool
 is_within_limit bytes = leb (length bytes) MAX_AEAD_BYTES
 
@@ -92,6 +92,6 @@ is_within_limit bytes = leb (length bytes) MAX_AEAD_BYTES
 abbrev pub together : {A : Type 0} → List (Vec ℕ A) → List ℕ
 together pieces = concat (map vec_items pieces)
 
--- bytes that are no longer than AEGIS allows, or a length fault
+-- bytes within the limit of AEGIS, or a length fault
 abbrev pub limited : List ℕ → Result (List ℕ) Fault
 limited bytes = if is_within_limit bytes then Ok bytes else Err faults.Length

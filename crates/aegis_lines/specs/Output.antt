@@ -1,4 +1,4 @@
--- What the program writes, and the status that it ends with.
+-- The output of the line program, and its exit status.
 use Rattle.std.specs.Prelude.{◌≡◌, ℕ, Bool, true, ◌||◌, ◌==◌, List, [], ◌∷◌, ◌++◌, Option, Some, codes, flat_map, if◌then◌else◌}
 use Rattle.std.specs.List.{list_any, starts_with}
 use Rattle.std.specs.Io.KnownBytes.{Appends, Consumes, IsAtEnd}
@@ -12,11 +12,11 @@ AreAnswers [] (text ∷ texts) = ⊥
 AreAnswers (line ∷ lines) [] = ⊥
 AreAnswers (line ∷ lines) (text ∷ texts) = IsAnswer line text × AreAnswers lines texts
 
--- a text and the line feed behind it
+-- a text and a line feed
 abbrev pub with_line_feed : List ℕ → List ℕ
 with_line_feed text = text ++ 10 ∷ []
 
--- the texts, each with a line feed behind it
+-- the texts, each with a line feed
 abbrev pub output_of : List (List ℕ) → List ℕ
 output_of texts = flat_map with_line_feed texts
 
@@ -24,19 +24,19 @@ output_of texts = flat_map with_line_feed texts
 abbrev pub is_error : List ℕ → Bool
 is_error text = starts_with ◌==◌ text (codes "error ")
 
--- 1 where some text begins with `error `, else 0
+-- 1 if some text begins with `error `, and otherwise 0
 abbrev pub status_of : List (List ℕ) → ℕ
 status_of texts = if list_any is_error texts then 1 else 0
 
--- The lines are answered, each answer stands in what was written, from old to new, with a line feed behind it,
--- and the status is the answers'.
+-- All lines are answered: from `old` to `new`, the answers were written, each with a line feed, and the status is that
+-- of the answers.
 pub record AnswersAll (lines : List (List ℕ)) (old new : Option (List ℕ)) (status : ℕ) : Type 0 where
   pub texts : List (List ℕ)
   pub answers : AreAnswers lines texts
   pub written : Appends old new (output_of texts)
   pub status_is : status ≡ status_of texts
 
--- What was written, from old to new, is a beginning of what answers the first of the lines.
+-- From `old` to `new`, a beginning of the answers to the first of the lines was written.
 pub record AnswersSome (lines : List (List ℕ)) (old new : Option (List ℕ)) : Type 0 where
   pub first : List (List ℕ)
   pub others : List (List ℕ)
@@ -48,8 +48,8 @@ pub record AnswersSome (lines : List (List ℕ)) (old new : Option (List ℕ)) :
   pub begins : output_of texts ≡ begun ++ missing
   pub written : Appends old new begun
 
--- Of a reader's bytes all were read but those that are left. What was written, from old to new, is a beginning of what
--- answers the first of the lines read; a line that no line feed ended is one of them only where the reader was at its end.
+-- All bytes of a reader were read but those that are left. From `old` to `new`, a beginning of the answers to the first
+-- of the lines read was written; a line that no line feed ends is one of them only if the reader was at its end.
 pub record AnswersRead (bytes : List ℕ) (left old new : Option (List ℕ)) : Type 0 where
   pub read : List ℕ
   pub ends : Bool
@@ -57,8 +57,8 @@ pub record AnswersRead (bytes : List ℕ) (left old new : Option (List ℕ)) : T
   pub at_end : ends ≡ true → IsAtEnd left
   pub written : AnswersSome (lines_of ends read) old new
 
--- Of the lines `before` all but the lines `after` were answered: what was written, from old to new, and whether an
--- answer began with `error `, from saw to sees.
+-- All lines of `before` but those of `after` were answered: the answers were written, from `old` to `new`, and `sees`
+-- is whether `saw` or an answer that begins with `error `.
 pub record Answers (before after : List (List ℕ)) (saw sees : Bool) (old new : Option (List ℕ)) : Type 0 where
   pub answered : List (List ℕ)
   pub texts : List (List ℕ)

@@ -1,4 +1,4 @@
--- What lines say of record streams.
+-- Record streams in lines.
 use Rattle.std.specs.Prelude.{◌≡◌, ℕ, ◌==◌, ◌&&◌, ◌⊎◌, Bool, List, [], ◌∷◌, ◌++◌, codes, decimal, flat_map, if◌then◌else◌, leb, length, map, Result, Ok, Err}
 use Rattle.std.specs.List.{list_all, list_any}
 use Rattle.std.specs.Result.{result_unwrap_or}
@@ -14,19 +14,19 @@ use Rattle.aegis.specs.declared.record.version.Version.TheVariants.{Second}
 use Rattle.aegis.specs.Records.{AreRecords, IsFault}
 use Rattle.aegis.specs.RecordStream.{limit, records_length}
 
--- what pieces stand for, each by itself
+-- the bytes of each piece
 abbrev pub each_from : List (List ℕ) → Result (List (List ℕ)) Fault
 each_from pieces = if list_any is_faulty pieces then Err faults.Hex else Ok (map bytes_of pieces)
 
--- the messages that a field of pieces stands for
+-- the messages of a field of pieces
 unfoldable pub messages_in : List ℕ → Result (List (List ℕ)) Fault
 messages_in field = each_from (pieces_of field)
 
--- those of a field without a fault
+-- the messages of a field without a fault
 abbrev pub messages_of : List ℕ → List (List ℕ)
 messages_of field = result_unwrap_or (messages_in field) []
 
--- whether no message is longer than a record's may be
+-- whether each message is within the limit of a record
 abbrev pub are_within : List (List ℕ) → Bool
 are_within ms = list_all (λ m. leb (length m) (limit Second)) ms
 
@@ -34,11 +34,11 @@ are_within ms = list_all (λ m. leb (length m) (limit Second)) ms
 abbrev pub have_record_stream : List (List ℕ) → Bool
 have_record_stream ms = are_within ms && leb (records_length ms) MAX_AEAD_BYTES
 
--- messages that have a stream, or a length fault
+-- messages that are within the limits, or a length fault
 abbrev pub messages_with : List (List ℕ) → Result (List (List ℕ)) Fault
 messages_with ms = if have_record_stream ms then Ok ms else Err faults.Length
 
--- whether the key, the prefix and the context of a stream have their lengths
+-- whether a key, a prefix or a context has an allowed length
 abbrev pub is_key : List ℕ → Bool
 is_key bytes = length bytes == 32
 
@@ -53,12 +53,12 @@ abbrev pub keys_with : List ℕ → List ℕ → List ℕ → Result (List ℕ �
 keys_with key prefix context =
     if is_key key && is_prefix prefix && is_context context then Ok (key, prefix, context) else Err faults.Length
 
--- how messages are printed, with commas between them
+-- messages as they are printed, with commas between them
 abbrev pub shown_messages : List (List ℕ) → List ℕ
 shown_messages [] = []
 shown_messages (m ∷ ms) = shown m ++ flat_map (λ n. 44 ∷ shown n) ms
 
--- the answer where a stream is refused
+-- the answer if a stream is refused
 abbrev pub IsRefusal : RecordError → List ℕ → Type 0
 IsRefusal errors.Header text = text ≡ codes "refused header"
 IsRefusal errors.Truncated text = text ≡ codes "refused truncated"

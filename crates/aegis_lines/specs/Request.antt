@@ -1,4 +1,4 @@
--- What a line asks for.
+-- The requests of lines.
 use Rattle.std.specs.Prelude.{ℕ, List, Option, Some, None, Result, Ok, Err}
 use Rattle.aegis_lines.specs.declared.fault.Fault.{Fault}
 use Rattle.aegis_lines.specs.declared.fault.Fault.TheVariants as faults
@@ -8,7 +8,7 @@ use Rattle.aegis_lines.specs.Record.{messages_of}
 use Rattle.aegis_lines.specs.Table.{Name, fault_in, name_of}
 use Rattle.aegis_lines.specs.Table as names
 
--- A tag's length is a number of bytes, and what is not a number or a variant is a list of bytes.
+-- A request, by its command. The length of a tag is a number of bytes.
 pub data Request : Type 0 where
   Round : (block key : List ℕ) → Request
   Seal : (variant : AnyVariant) (tag_length : ℕ) (key nonce associated_data message : List ℕ) → Request
@@ -19,7 +19,7 @@ pub data Request : Type 0 where
   SealRecords : (key prefix context : List ℕ) (messages : List (List ℕ)) → Request
   OpenRecords : (key prefix context bytes : List ℕ) → Request
 
--- what a line without a fault asks for, field by field
+-- the request of a line without a fault, field by field
 abbrev pub request_in : Name → List (List ℕ) → Request
 request_in names.Round fields = Round (bytes_of (field_of fields 1)) (bytes_of (field_of fields 2))
 request_in names.Seal fields =
@@ -44,20 +44,20 @@ request_in names.OpenRecords fields =
     OpenRecords (bytes_of (field_of fields 1)) (bytes_of (field_of fields 2)) (bytes_of (field_of fields 3))
     (bytes_of (field_of fields 4))
 
--- a request, but for a fault
+-- a request, unless there is a fault
 abbrev pub unless_fault : Option Fault → Request → Result Request Fault
 unless_fault (Some fault) request = Err fault
 unless_fault None request = Ok request
 
--- what the line of a command asks for, or its first fault
+-- the request of a command's line, or its first fault
 unfoldable pub request_of_command : Name → List (List ℕ) → Result Request Fault
 request_of_command name fields = unless_fault (fault_in name fields) (request_in name fields)
 
--- what the line of a command asks for, or its first fault, which is that there is no such command
+-- the request of a command's line, or its first fault; if there is no such command, that is the fault
 abbrev pub request_of_name : Option Name → List (List ℕ) → Result Request Fault
 request_of_name (Some name) fields = request_of_command name fields
 request_of_name None fields = Err faults.Command
 
--- what a line asks for, or its first fault
+-- the request of a line, or its first fault
 unfoldable pub request_of : List ℕ → Result Request Fault
 request_of line = request_of_name (name_of (field_of (fields_of line) 0)) (fields_of line)

@@ -1,4 +1,4 @@
--- The commands, what their fields say, and which fault of a line is found first.
+-- The commands, the kinds of their fields, and the first fault of a line.
 use Rattle.std.specs.Prelude.{ℕ, ◌+◌, ◌==◌, ◌||◌, Bool, false, not, List, [], ◌∷◌, length, Option, Some, None, is_err, codes, if◌then◌else◌}
 use Rattle.std.specs.Str.{bytes_eq}
 use Rattle.aegis_lines.specs.declared.fault.Fault.{Fault}
@@ -20,7 +20,7 @@ pub data Name : Type 0 where
   SealRecords : Name
   OpenRecords : Name
 
--- the command of a name
+-- the command with this name
 abbrev pub name_of : List ℕ → Option Name
 name_of field =
     if bytes_eq field (codes "round") then Some Round
@@ -33,9 +33,9 @@ name_of field =
     else if bytes_eq field (codes "openrec") then Some OpenRecords
     else None
 
--- What a field says: the name of a variant, the length of a tag, the count of a stream's bytes, or bytes. Those are a
--- block, a key or a nonce of the line's variant, bytes that AEGIS takes, in pieces or as one, a tag of the line's length,
--- or any bytes; or the key, the prefix, the context or the messages of a record stream.
+-- The kind of a field: the name of a variant, the length of a tag, a number of bytes of keystream, or bytes. Bytes are
+-- a block, a key or a nonce of the line's variant, associated data or pieces of a message within the limit of AEGIS, a
+-- tag of the line's length, any bytes, or the key, the prefix, the context or the messages of a record stream.
 pub data Kind : Type 0 where
   VariantName : Kind
   TagLength : Kind
@@ -67,7 +67,7 @@ abbrev pub has_variant_fault : Kind → List ℕ → Bool
 has_variant_fault VariantName field = is_err (variant_named field)
 has_variant_fault kind field = false
 
--- whether a field says no length of a tag
+-- whether a field is no length of a tag
 abbrev pub has_tag_fault : Kind → List ℕ → Bool
 has_tag_fault TagLength field = is_err (tag_length_named field)
 has_tag_fault kind field = false
@@ -81,8 +81,8 @@ has_hex_fault Pieces field = is_err (joined_in field)
 has_hex_fault Messages field = is_err (messages_in field)
 has_hex_fault kind field = is_err (bytes_in field)
 
--- Whether a field has a length that is not allowed. `variant` and `n` are the variant and the length of a tag that the
--- line says, and are not asked for where its command has no such field.
+-- whether a field has a length that is not allowed; `variant` and `n` are the variant and the length of a tag of the
+-- line, and are not used if its command has no such field
 abbrev pub has_length_fault : AnyVariant → ℕ → Kind → List ℕ → Bool
 has_length_fault variant n Count field = is_err (keystream_length_in field)
 has_length_fault variant n Block field = not (length (bytes_of field) == 16)
@@ -96,12 +96,12 @@ has_length_fault variant n Context field = not (is_context (bytes_of field))
 has_length_fault variant n Messages field = not (have_record_stream (messages_of field))
 has_length_fault variant n kind field = false
 
--- whether some field has a fault, where the kinds are those of the fields from field i on
+-- whether some field has a fault, from field i on, whose kinds these are
 abbrev pub has_any : (Kind → List ℕ → Bool) → List Kind → ℕ → List (List ℕ) → Bool
 has_any has_fault [] i fields = false
 has_any has_fault (kind ∷ kinds) i fields = has_fault kind (field_of fields i) || has_any has_fault kinds (i + 1) fields
 
--- The first fault of a command's line. Each is looked for in all fields before the next one.
+-- the first fault of a command's line; each is looked for in all fields before the next one
 abbrev pub fault_in : Name → List (List ℕ) → Option Fault
 fault_in name fields =
     if not (length fields == length (kinds_of name) + 1) then Some faults.Fields

@@ -1,4 +1,4 @@
--- The names of variants and of tags' lengths.
+-- The names of variants and of lengths of tags.
 use Rattle.std.specs.Prelude.{ℕ, List, Result, Ok, Err, codes, if◌then◌else◌}
 use Rattle.std.specs.Str.{bytes_eq}
 use Rattle.aegis_lines.specs.declared.fault.Fault.{Fault}
@@ -6,7 +6,7 @@ use Rattle.aegis_lines.specs.declared.fault.Fault.TheVariants as faults
 use Rattle.aegis_variants.specs.declared.variant.AnyVariant.{AnyVariant}
 use Rattle.aegis_variants.specs.declared.variant.AnyVariant.TheVariants as variants
 
--- the variant of a name
+-- the variant with this name
 unfoldable pub variant_named : List ℕ → Result AnyVariant Fault
 variant_named name =
     if bytes_eq name (codes "aegis128l") then Ok variants.Aegis128L

@@ -1,4 +1,4 @@
-//! The answer of a line.
+//! Answers to lines.
 
 ghost use Rattle.std.specs.Prelude.{◌≡◌, ◌++◌, IfErr, IfOk, codes};
 ghost use Rattle.aegis_base.specs.Lane.{IsTagLength};
@@ -21,8 +21,8 @@ use aegis::Error;
 use aegis_variants::{AnyCipher, TagLength};
 use std::alloc::{AllocError, Allocator};
 
-/// The answer of a line, without a line end. The line is any bytes, and a line end in it is a byte
-/// like others. The only error is want of memory.
+/// Returns the answer to a line, without a line end. The line may have any bytes, and a line end in it is a byte like
+/// others. The only error is that there is not enough memory.
 pub fn answer_line<A: Allocator + Copy>(alloc: A, line: &[u8]) -> Result<Vec<u8, A>, Error>
     ensures answer { IfOk result (λ text. IsAnswer line.now text.items) }
     ensures refused { IfErr result (λ error. error ≡ OutOfMemory) }
@@ -76,7 +76,7 @@ fn reply<A: Allocator + Copy>(alloc: A, command: Command<A>) -> Result<Vec<u8, A
     }
 }
 
-/// Bytes, as they are printed.
+/// Returns bytes as they are printed.
 pub fn shown<A: Allocator + Copy>(alloc: A, bytes: &[u8]) -> Result<Vec<u8, A>, AllocError>
     ensures { IfOk result (λ text. text.items ≡ shown bytes.now) }
 {
@@ -100,7 +100,7 @@ fn shown_pair<A: Allocator + Copy>(
     Ok(text)
 }
 
-// The answer to a sealing of a message.
+// The answer to `seal`.
 fn seal<A: Allocator + Copy>(
     alloc: A,
     cipher: AnyCipher,
@@ -127,7 +127,7 @@ fn seal<A: Allocator + Copy>(
     }
 }
 
-// The answer to an opening of a ciphertext.
+// The answer to `open`.
 fn open<A: Allocator + Copy>(
     alloc: A,
     cipher: AnyCipher,
@@ -178,7 +178,7 @@ fn shown_message<A: Allocator + Copy>(alloc: A, message: &[u8]) -> Result<Vec<u8
     Ok(text)
 }
 
-// The answer to the MAC of a message.
+// The answer to `mac`.
 fn mac<A: Allocator + Copy>(
     alloc: A,
     cipher: AnyCipher,

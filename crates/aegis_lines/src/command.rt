@@ -1,4 +1,4 @@
-//! What a line asks for.
+//! The commands of lines.
 
 use crate::limited::Limited;
 use crate::pieces::Pieces;
@@ -8,7 +8,7 @@ use aegis::aes::AesBlock;
 use aegis_variants::{AnyCipher, TagLength};
 use std::alloc::Allocator;
 
-/// A command, with what its fields stand for.
+/// A command, with the values of its fields.
 #[derive(Drop)]
 pub enum Command<A: Allocator> {
     /// One round of AES.
@@ -28,12 +28,12 @@ pub enum Command<A: Allocator> {
         associated_data: Limited<A>,
         ciphertext: Pieces<A>,
     },
-    /// So many bytes of the keystream.
+    /// The first `count` bytes of a keystream.
     Keystream {
         cipher: AnyCipher,
         count: usize,
     },
-    /// A message, xored with the keystream.
+    /// A message xored with the keystream.
     Xor {
         cipher: AnyCipher,
         message: Vec<u8, A>,
@@ -44,12 +44,12 @@ pub enum Command<A: Allocator> {
         tag_length: TagLength,
         message: Pieces<A>,
     },
-    /// The stream of some messages.
+    /// The record stream of some messages.
     SealRecords {
         keys: RecordKeys<A>,
         messages: Messages<A>,
     },
-    /// The messages of a stream.
+    /// The messages of a record stream.
     OpenRecords {
         keys: RecordKeys<A>,
         bytes: Vec<u8, A>,

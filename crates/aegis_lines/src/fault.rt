@@ -1,4 +1,4 @@
-//! What may be wrong with a line.
+//! The faults of lines.
 
 ghost use Rattle.std.specs.Prelude.{◌≡◌};
 ghost use Rattle.aegis_lines.specs.Fault.{text_of_fault};
@@ -6,26 +6,25 @@ ghost use Rattle.aegis_lines.specs.declared.fault.Refusal.TheVariants.{OutOfMemo
 
 use std::alloc::{AllocError, AllocFailed};
 
-/// The faults, in the order in which a line is searched for them: each is looked for in all of the
-/// line's fields before the next one.
+/// The faults of a line, in the order in which they are looked for: each in all fields of the line before the next one.
 #[derive(Clone, Copy, Debug, PartialEq, Eq)]
 pub enum Fault {
     /// The first field is not a command.
     Command,
-    /// The command takes another number of fields.
+    /// The command has another number of fields.
     Fields,
     /// No variant has this name.
     Variant,
-    /// A tag's length is neither 16 nor 32.
+    /// The length of a tag is neither 16 nor 32.
     Tag,
-    /// A field that stands for bytes is neither `-` nor pairs of hexadecimal digits.
+    /// A field of bytes is neither `-` nor pairs of hexadecimal digits.
     Hex,
-    /// A field's length, or the length that it says, is not allowed.
+    /// The length of a field's bytes, or the length that a field gives, is not allowed.
     Length,
 }
 
 impl Fault {
-    /// The answer to a line with this fault.
+    /// Returns the answer to a line with this fault.
     pub fn text(self) -> &'static [u8]
         ensures { result.now ≡ text_of_fault self }
     {
@@ -40,7 +39,7 @@ impl Fault {
     }
 }
 
-/// Why a line was not read: it has a fault, or memory ran out first.
+/// Why a line was not read: it has a fault, or memory ran out before one was found.
 #[derive(Clone, Copy, Debug, PartialEq, Eq)]
 pub enum Refusal {
     Fault(Fault),

@@ -1,4 +1,4 @@
-//! Fields of a line, and what they stand for.
+//! The fields of a line, and their values.
 
 ghost use Rattle.std.specs.Prelude.{◌≡◌, ◌+◌, ◌<◌, ◌≤◌, ◌++◌, List, [], true, length, map, vec_items, vec_len, ◌⊎◌, IfErr, IfOk, OnOk};
 ghost use Rattle.std.specs.Char.{is_ascii_digit};
@@ -15,10 +15,10 @@ use crate::fault::{Fault, Refusal};
 use hex::FromHexError;
 use std::alloc::{AllocError, Allocator};
 
-/// The most bytes of keystream that a line can ask for.
+/// The maximum number of bytes of keystream that a line can ask for.
 const MAX_KEYSTREAM_BYTES: usize = 65536;
 
-/// Room for what stands around the digits of an answer, as `ok -` and a line feed.
+/// The room for the bytes around the digits of an answer, such as `ok -` and a line feed.
 const AROUND_DIGITS: usize = 8;
 
 /// Cuts a text at each separator.
@@ -32,7 +32,7 @@ pub fn split<A: Allocator>(
     text.split(|byte| *byte == separator).collect(alloc)
 }
 
-/// Field `index` of a line; the command is field 0.
+/// Returns field `index` of a line. The command is field 0.
 pub fn field<'a>(fields: &[&'a [u8]], index: usize) -> &'a [u8]
     requires { index < length fields.now }
     ensures { result.now ≡ field_of (texts fields.now) index }
@@ -40,8 +40,7 @@ pub fn field<'a>(fields: &[&'a [u8]], index: usize) -> &'a [u8]
     fields[index]
 }
 
-/// The bytes that a field stands for. It is a hexadecimal fault where the field is neither `-` nor
-/// pairs of digits.
+/// Returns the bytes that a field stands for, or `Fault::Hex` if it is neither `-` nor pairs of digits.
 #[tactic(auto, unfolding(crate::specs::Field::bytes_in))]
 pub fn bytes<A: Allocator>(alloc: A, field: &[u8]) -> Result<Vec<u8, A>, Refusal>
     ensures value { Gives (λ bytes. bytes.items) result (bytes_in field.now) }
@@ -61,8 +60,8 @@ pub fn bytes<A: Allocator>(alloc: A, field: &[u8]) -> Result<Vec<u8, A>, Refusal
     }
 }
 
-/// The bytes that each of the pieces of a field stands for, between single commas; there is one piece at least. It is a
-/// hexadecimal fault where some piece is neither `-` nor pairs of digits.
+/// Returns the bytes of each piece of a field. The pieces stand between single commas, and there is at least one.
+/// Returns `Fault::Hex` if some piece is neither `-` nor pairs of digits.
 #[tactic(auto, unfolding(crate::specs::Field::joined_in, crate::specs::Record::messages_in))]
 pub fn pieces<A: Allocator + Copy>(alloc: A, field: &[u8]) -> Result<Vec<Vec<u8, A>, A>, Refusal>
     ensures value { Gives (λ pieces. together pieces.items) result (joined_in field.now) }
@@ -92,15 +91,15 @@ fn bytes_of_each<A: Allocator + Copy>(
     Ok(read)
 }
 
-/// An empty text with room for so many bytes in digits, for what stands around them, and for a line feed.
+/// Returns an empty text with room for the digits of so many bytes, the bytes around them, and a line feed.
 pub fn text_for<A: Allocator>(alloc: A, bytes: usize) -> Result<Vec<u8, A>, AllocError>
     ensures { IfOk result (λ text. text.items ≡ []) }
 {
-    // A text that grew would take up to three times its length for a while.
+    // A text that grows takes up to three times its length for a while.
     Vec::with_capacity(alloc, bytes.saturating_mul(2).saturating_add(AROUND_DIGITS))
 }
 
-/// Writes bytes at the end of a text, as a field of them reads: in lower case, and no bytes as `-`.
+/// Appends bytes to a text, as a field of them is written: in lower case, and no bytes as `-`.
 #[tactic(auto, unfolding(crate::specs::Field::shown))]
 pub fn push_bytes<A: Allocator>(text: &mut Vec<u8, A>, bytes: &[u8]) -> Result<(), AllocError>
     ensures { OnOk result (text.new.items ≡ text.old.items ++ shown bytes.now) }
@@ -113,15 +112,15 @@ pub fn push_bytes<A: Allocator>(text: &mut Vec<u8, A>, bytes: &[u8]) -> Result<(
         return Err(AllocError);
     };
     text.resize(end, 0)?;
-    // The digits are written in their place: a text of them would take their length once more.
+    // The digits are written in place: a text of their own would take their length once more.
     match hex::encode_to_slice(bytes, &mut text[start..]) {
         Ok(()) => Ok(()),
         Err(_) => Err(AllocError),
     }
 }
 
-/// The length that one to five decimal digits say. It is a length fault where the field is something
-/// else, or the length passes that of the longest keystream.
+/// Returns the length that one to five decimal digits give, or `Fault::Length` if the field is something else or the
+/// length is more than `MAX_KEYSTREAM_BYTES`.
 #[tactic(auto, unfolding(crate::specs::Field::keystream_length_in))]
 pub fn keystream_length(field: &[u8]) -> Result<usize, Refusal>
     ensures value { Gives (λ length. length) result (keystream_length_in field.now) }
@@ -144,7 +143,7 @@ fn all_digits(field: &[u8]) -> bool
     field.iter().all(|byte| byte.is_ascii_digit())
 }
 
-// The number that a few decimal digits write.
+// The number that a few decimal digits give.
 fn decimal(digits: &[u8]) -> usize
     requires few { length digits.now ≤ 5 }
     requires digits { list_all is_ascii_digit digits.now ≡ true }

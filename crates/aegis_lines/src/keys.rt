@@ -1,4 +1,4 @@
-//! What the lines of several commands begin with, before lengths are looked at.
+//! The first fields of several commands, before lengths are checked.
 
 ghost use Rattle.std.specs.Prelude.{◌<◌, length, IfErr, IfOk};
 ghost use Rattle.aegis_lines.specs.Command.{cipher_with};
@@ -17,7 +17,7 @@ use crate::variant::{cipher_with, tag_length_named, variant_named};
 use aegis_variants::{AnyCipher, AnyVariant, TagLength};
 use std::alloc::Allocator;
 
-/// What the fields `V K N` say, before the lengths of key and nonce are looked at.
+/// The values of the fields `V K N`, before the lengths of the key and the nonce are checked.
 #[derive(Drop)]
 pub struct KeyFields<A: Allocator> {
     pub variant: AnyVariant,
@@ -26,7 +26,7 @@ pub struct KeyFields<A: Allocator> {
 }
 
 impl<A: Allocator + Copy> KeyFields<A> {
-    /// The first three fields of a command. It refuses what is wrong with them but for a length.
+    /// Reads the first three fields of a command. Returns their first fault other than a length.
     pub fn read(alloc: A, fields: &[&[u8]]) -> Result<KeyFields<A>, Refusal>
         requires { 3 < length fields.now }
         ensures read { IfOk result
@@ -41,7 +41,7 @@ impl<A: Allocator + Copy> KeyFields<A> {
     }
 }
 
-/// What the fields `V T K N` say, before the lengths of key and nonce are looked at.
+/// The values of the fields `V T K N`, before the lengths of the key and the nonce are checked.
 #[derive(Drop)]
 pub struct TaggedKeyFields<A: Allocator> {
     pub variant: AnyVariant,
@@ -51,7 +51,7 @@ pub struct TaggedKeyFields<A: Allocator> {
 }
 
 impl<A: Allocator + Copy> TaggedKeyFields<A> {
-    /// The first four fields of a command. It refuses what is wrong with them but for a length.
+    /// Reads the first four fields of a command. Returns their first fault other than a length.
     pub fn read(alloc: A, fields: &[&[u8]]) -> Result<TaggedKeyFields<A>, Refusal>
         requires { 4 < length fields.now }
         ensures read { IfOk result
@@ -68,8 +68,8 @@ impl<A: Allocator + Copy> TaggedKeyFields<A> {
         })
     }
 
-    /// The cipher of the keys, and the associated data and the message that the fields `A M` say. No length is looked at
-    /// where a field is neither `-` nor pairs of digits.
+    /// Returns the cipher of the keys, and the associated data and the message of the fields `A M`, or the first fault:
+    /// `Fault::Hex` if one of the two fields is not bytes, and otherwise `Fault::Length` if a length is not allowed.
     pub fn texts(
         &self,
         alloc: A,
@@ -95,7 +95,7 @@ impl<A: Allocator + Copy> TaggedKeyFields<A> {
     }
 }
 
-/// The key, the prefix and the context that the fields `K P X` say, of any lengths.
+/// Returns the key, the prefix and the context of the fields `K P X`, of any lengths.
 pub fn record_keys<A: Allocator + Copy>(
     alloc: A,
     fields: &[&[u8]],

@@ -1,5 +1,5 @@
-//! Lines of test vectors and their answers: `parse` reads a line as a typed command, `answer` carries it out over the
-//! public calls of `aegis`, and `session` answers all lines of a reader into a writer.
+//! Lines of test vectors and their answers: `parse` reads a line as a typed command, `answer` executes it by the public
+//! calls of `aegis`, and `session` answers all lines of a reader into a writer.
 #![tactic(auto)]
 
 mod answer;

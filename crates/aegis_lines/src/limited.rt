@@ -1,4 +1,4 @@
-//! Bytes that AEGIS takes.
+//! Bytes within the limit of AEGIS.
 
 ghost use Rattle.std.specs.Prelude.{◌≤◌, vec_len};
 ghost use Rattle.aegis_base.specs.declared.error.TheConstants.{MAX_AEAD_BYTES};
@@ -9,7 +9,7 @@ use crate::fault::{Fault, Refusal};
 use aegis::MAX_AEAD_BYTES;
 use std::alloc::Allocator;
 
-/// Bytes that are no longer than AEGIS takes.
+/// At most `MAX_AEAD_BYTES` bytes.
 #[derive(Drop)]
 pub struct Limited<A: Allocator> {
     pub bytes: Vec<u8, A>,
@@ -17,7 +17,7 @@ pub struct Limited<A: Allocator> {
 }
 
 impl<A: Allocator> Limited<A> {
-    /// It is a length fault where there are more bytes.
+    /// Returns `Fault::Length` if there are more bytes.
     pub fn new(bytes: Vec<u8, A>) -> Result<Limited<A>, Refusal>
         ensures { Gives (λ limited. limited.bytes.items) result (limited bytes.items) }
     {

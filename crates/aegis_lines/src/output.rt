@@ -1,4 +1,4 @@
-//! Writing, where an interruption counts as a failure.
+//! Writing. An interruption counts as a failure.
 
 ghost use Rattle.std.specs.Prelude.{◌≡◌, ℕ, OnErr, OnOk, take};
 ghost use Rattle.std.specs.Io.KnownBytes.{Appends};
@@ -6,7 +6,7 @@ ghost use Rattle.std.specs.Io.KnownBytes.{Appends};
 use std::io;
 use std::io::{ErrorKind, Write};
 
-/// Writes all the bytes. An interrupted write is a failure, and so is one that takes no byte.
+/// Writes all bytes. An interrupted write is a failure, and so is a write of no byte.
 pub fn write_whole<W: Write>(output: &mut W, bytes: &[u8]) -> io::Result<()>
     ensures ok { OnOk result (Appends (W.contents output.old) (W.contents output.new) bytes.now) }
     ensures err { OnErr result ((n : ℕ)

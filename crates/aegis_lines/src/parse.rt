@@ -1,4 +1,4 @@
-//! From a line to its command.
+//! Reading a line as a command.
 
 ghost use Rattle.std.specs.Prelude.{◌≡◌, length};
 ghost use Rattle.aegis_lines.specs.Command.{request_from};
@@ -20,7 +20,7 @@ use crate::variant::cipher_with;
 use aegis::aes::AesBlock;
 use std::alloc::Allocator;
 
-/// What a line asks for, or its first fault.
+/// Returns the command of a line, or its first fault.
 #[tactic(auto, unfolding(crate::specs::Request::request_of))]
 pub fn parse<A: Allocator + Copy>(alloc: A, line: &[u8]) -> Result<Command<A>, Refusal>
     ensures { Gives request_from result (request_of line.now) }
@@ -29,7 +29,7 @@ pub fn parse<A: Allocator + Copy>(alloc: A, line: &[u8]) -> Result<Command<A>, R
     command(alloc, fields.as_slice())
 }
 
-// The command of some fields.
+// The command that the fields of a line give, or their first fault.
 fn command<A: Allocator + Copy>(alloc: A, fields: &[&[u8]]) -> Result<Command<A>, Refusal>
     ensures { Gives request_from result
         (request_of_name (name_of (field_of (texts fields.now) 0)) (texts fields.now)) }

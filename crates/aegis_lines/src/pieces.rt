@@ -1,4 +1,4 @@
-//! Bytes that come in pieces.
+//! Bytes in pieces.
 
 ghost use Rattle.std.specs.Prelude.{◌≡◌, ◌≤◌, IfOk, length, vec_items};
 ghost use Rattle.aegis_base.specs.Chunks.{joined};
@@ -11,7 +11,7 @@ use aegis::{MAX_AEAD_BYTES, chunks_len};
 use aegis_base::slices;
 use std::alloc::{AllocError, Allocator};
 
-/// Bytes in pieces, which together are no more than AEGIS takes.
+/// Bytes in pieces, of at most `MAX_AEAD_BYTES` bytes together.
 #[derive(Drop)]
 pub struct Pieces<A: Allocator> {
     pub pieces: Vec<Vec<u8, A>, A>,
@@ -21,7 +21,7 @@ pub struct Pieces<A: Allocator> {
 }
 
 impl<A: Allocator + Copy> Pieces<A> {
-    /// It is a length fault where there are more bytes together.
+    /// Returns `Fault::Length` if there are more bytes together.
     pub fn new(alloc: A, pieces: Vec<Vec<u8, A>, A>) -> Result<Pieces<A>, Refusal>
         ensures { Gives (λ limited. together limited.pieces.items) result
             (limited (together pieces.items)) }
@@ -35,7 +35,7 @@ impl<A: Allocator + Copy> Pieces<A> {
         })
     }
 
-    /// The pieces, as the chunks of a run.
+    /// Returns the pieces as chunks of a message.
     pub fn chunks(&self, alloc: A) -> Result<Vec<&[u8], A>, AllocError>
         ensures { IfOk result (λ chunks. joined chunks.items ≡ together self.now.pieces.items) }
     {

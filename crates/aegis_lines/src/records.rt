@@ -1,4 +1,4 @@
-//! Record streams, as lines ask for them.
+//! Record streams in lines.
 
 ghost use Rattle.std.specs.Prelude.{◌≡◌, ◌<◌, ◌≤◌, ◌++◌, IfOk, codes, length, map, true, vec_items, vec_len};
 ghost use Rattle.aegis_base.specs.declared.error.TheConstants.{MAX_AEAD_BYTES};
@@ -19,7 +19,7 @@ use aegis::record::{
 use aegis_base::slices;
 use std::alloc::{AllocError, Allocator};
 
-/// The key, the prefix and the context of a stream.
+/// The key, the prefix and the context of a record stream, of lengths that are allowed.
 #[derive(Drop)]
 pub struct RecordKeys<A: Allocator> {
     pub key: [u8; 32],
@@ -29,7 +29,7 @@ pub struct RecordKeys<A: Allocator> {
 }
 
 impl<A: Allocator> RecordKeys<A> {
-    /// It is a length fault where one of them has a length that is not allowed.
+    /// Returns `Fault::Length` if the length of one of them is not allowed.
     pub fn new(key: &[u8], prefix: &[u8], context: Vec<u8, A>) -> Result<RecordKeys<A>, Refusal>
         ensures { Gives (λ keys. (keys.key, keys.prefix, keys.context.items)) result
             (keys_with key.now prefix.now context.items) }
@@ -51,7 +51,7 @@ impl<A: Allocator> RecordKeys<A> {
     }
 }
 
-/// The messages of a stream, of which there is one at least.
+/// The messages of a record stream: at least one.
 #[derive(Drop)]
 pub struct Messages<A: Allocator> {
     pub messages: Vec<Vec<u8, A>, A>,
@@ -61,7 +61,7 @@ pub struct Messages<A: Allocator> {
 }
 
 impl<A: Allocator + Copy> Messages<A> {
-    /// It is a length fault where a message is longer than a record's may be, or the whole stream is too long.
+    /// Returns `Fault::Length` if a message or the whole stream is too long.
     pub fn new(alloc: A, messages: Vec<Vec<u8, A>, A>) -> Result<Messages<A>, Refusal>
         requires { 0 < vec_len messages }
         ensures { Gives (λ some. map vec_items some.messages.items) result
@@ -74,7 +74,7 @@ impl<A: Allocator + Copy> Messages<A> {
     }
 }
 
-// Whether no message is longer than a record's may be.
+// Whether each message is within the limit of a record.
 fn all_within<A: Allocator>(messages: &[Vec<u8, A>]) -> bool
     ensures { result ≡ are_within (map vec_items messages.now) }
 {
@@ -86,7 +86,7 @@ fn all_within<A: Allocator>(messages: &[Vec<u8, A>]) -> bool
     true
 }
 
-/// The answer to a sealing of messages.
+/// Returns the answer to `sealrec`.
 pub fn answer_sealing<A: Allocator + Copy>(
     alloc: A,
     keys: &RecordKeys<A>,
@@ -103,7 +103,7 @@ pub fn answer_sealing<A: Allocator + Copy>(
     }
 }
 
-/// The answer to an opening of a stream.
+/// Returns the answer to `openrec`.
 pub fn answer_opening<A: Allocator + Copy>(
     alloc: A,
     keys: &RecordKeys<A>,
@@ -119,7 +119,7 @@ pub fn answer_opening<A: Allocator + Copy>(
     }
 }
 
-// Messages, as they are printed after the opening of a stream of so many bytes, which is longer than they are.
+// Messages as they are printed, from a stream of so many bytes, which is longer than they are.
 fn opened_text<A: Allocator + Copy>(
     alloc: A,
     messages: &[Vec<u8, A>],
@@ -141,7 +141,7 @@ fn opened_text<A: Allocator + Copy>(
     Ok(text)
 }
 
-// What is printed for a stream that is refused, but for want of memory.
+// The answer for a stream that is refused, unless memory ran out.
 fn refusal_text<A: Allocator + Copy>(alloc: A, error: RecordError) -> Result<Vec<u8, A>, AllocError>
     ensures { IfOk result (λ text. IsRefusal error text.items) }
 {

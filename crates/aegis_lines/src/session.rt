@@ -1,4 +1,4 @@
-//! The whole program, over a reader and a writer.
+//! The line program, with any reader and writer.
 
 ghost use Rattle.std.specs.Prelude.{◌≡◌, ◌≤◌, ℕ, Bool, List, [], ◌∷◌, ◌++◌, true, false, IfOk, IfSome, OnErr, OnOk};
 ghost use Rattle.std.specs.Io.BufRead.{strip_last};
@@ -21,19 +21,20 @@ const NOT_UNDERSTOOD: u8 = 1;
 /// The input or the output failed, or the allocator did.
 const FAILED: u8 = 2;
 
-/// How many bytes one read may give.
+/// The maximum number of bytes of one read.
 const CHUNK: usize = 4096;
 
-/// Answers each line of the input by one line of the output, and returns the exit status.
+/// Writes the answer to each line of the input as a line of the output, and returns the exit status: 0 if all lines
+/// were understood, 1 if some answer begins with `error `, and 2 if a read, a write or an allocation failed.
 pub fn run<R: Read, W: Write, A: Allocator + Copy>(alloc: A, input: &mut R, output: &mut W) -> u8
     ensures status { result ≤ 2 }
 
-    // With the statuses 0 and 1 all lines are answered.
+    // With the status 0 or 1, all lines are answered.
     ensures end { result ≤ 1 → IsAtEnd (R.remaining input.new) }
     ensures answered { result ≤ 1 → IfSome (R.remaining input.old)
         (λ bytes. AnswersAll (lines bytes) (W.contents output.old) (W.contents output.new) result) }
 
-    // With the status 2 as many bytes of the answers as could be written, for no line that was not read.
+    // With the status 2, the bytes that were written are a beginning of the answers to the lines that were read.
     ensures failed { result ≡ 2 → IfSome (R.remaining input.old)
         (λ bytes. AnswersRead bytes (R.remaining input.new) (W.contents output.old)
         (W.contents output.new)) }
@@ -45,7 +46,7 @@ pub fn run<R: Read, W: Write, A: Allocator + Copy>(alloc: A, input: &mut R, outp
     }
 }
 
-// Whether some answer began with `error `.
+// Answers all lines, and returns whether some answer begins with `error `.
 fn answer_all<R: Read, W: Write, A: Allocator + Copy>(
     alloc: A,
     input: &mut R,
@@ -73,13 +74,13 @@ fn answer_all<R: Read, W: Write, A: Allocator + Copy>(
     Err(io::Error::from(ErrorKind::TimedOut))
 }
 
-/// What is kept from one read to the next.
+/// The values that are kept from one read to the next.
 #[derive(Drop)]
 struct Session<A: Allocator> {
     alloc: A,
-    // what was read of the line that no line feed has ended yet
+    // the bytes of the line that no line feed has ended yet
     line: Vec<u8, A>,
-    // whether an answer began with `error `
+    // whether some answer began with `error `
     saw_error: bool,
 }
 
@@ -95,7 +96,7 @@ impl<A: Allocator + Copy> Session<A> {
         }
     }
 
-    // Answers the lines that the bytes end.
+    // Answers the lines that end in these bytes.
     fn take<W: Write>(&mut self, bytes: &[u8], output: &mut W) -> io::Result<()>
         ensures ok { OnOk result ((ends : Bool) (more : List ℕ) → Answers
             (lines_after ends self.old.line.items (bytes.now
@@ -128,7 +129,7 @@ impl<A: Allocator + Copy> Session<A> {
         }
     }
 
-    // Answers the last line, where no line feed ends it.
+    // Answers the last line, if no line feed ends it.
     fn end<W: Write>(&mut self, output: &mut W) -> io::Result<()>
         ensures ok { OnOk result (Answers (lines_after true self.old.line.items []) []
             self.old.saw_error self.new.saw_error (W.contents output.old) (W.contents output.new)) }
@@ -170,8 +171,8 @@ fn without_carriage_return(line: &[u8]) -> &[u8]
     line.strip_suffix(b"\r").unwrap_or(line)
 }
 
-// Makes the line longer. A line that is full grows by an eighth, and not to twice its length, so that the longest line
-// leaves more of the memory to its answer.
+// Appends a byte to the line. A full line grows by an eighth, not to twice its length, so that a long line leaves more
+// memory to its answer.
 fn push_byte<A: Allocator>(line: &mut Vec<u8, A>, byte: u8) -> Result<(), AllocError>
     ensures { OnOk result (line.new.items ≡ line.old.items ++ byte ∷ []) }
 {

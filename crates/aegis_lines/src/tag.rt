@@ -1,4 +1,4 @@
-//! A tag, as a line gives it.
+//! The tag of a line.
 
 ghost use Rattle.aegis_lines.specs.Command.{tag_bytes_of, tag_size_of, tag_with};
 ghost use Rattle.aegis_lines.specs.Fault.{Gives};
@@ -7,7 +7,7 @@ ghost use Rattle.aegis_variants.specs.Variant.{tag_length_of};
 use crate::fault::{Fault, Refusal};
 use aegis_variants::TagLength;
 
-/// A tag, of either length.
+/// A tag of either length.
 #[derive(Clone, Copy, Debug)]
 pub enum AnyTag {
     Short([u8; 16]),
@@ -15,7 +15,7 @@ pub enum AnyTag {
 }
 
 impl AnyTag {
-    /// It is a length fault where the tag has another length.
+    /// Returns `Fault::Length` if the bytes do not have this length.
     pub fn from_slice(length: TagLength, bytes: &[u8]) -> Result<AnyTag, Refusal>
         ensures { Gives (λ tag. (tag_size_of tag, tag_bytes_of tag)) result
             (tag_with (tag_length_of length) bytes.now) }

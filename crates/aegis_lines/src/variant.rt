@@ -11,7 +11,7 @@ ghost use Rattle.aegis_variants.specs.Variant.{tag_length_of};
 use crate::fault::{Fault, Refusal};
 use aegis_variants::{AnyCipher, AnyVariant, TagLength};
 
-/// The variant of this name, in lower case. It is a variant fault where there is none.
+/// Returns the variant with this name, in lower case, or `Fault::Variant` if there is none.
 #[tactic(auto, unfolding(crate::specs::Variant::variant_named))]
 pub fn variant_named(name: &[u8]) -> Result<AnyVariant, Refusal>
     ensures value { Gives (λ variant. variant) result (variant_named name.now) }
@@ -34,7 +34,7 @@ pub fn variant_named(name: &[u8]) -> Result<AnyVariant, Refusal>
     }
 }
 
-/// The length that is written so. It is a tag fault where the field is neither `16` nor `32`.
+/// Returns the length of a tag, or `Fault::Tag` if the field is neither `16` nor `32`.
 #[tactic(auto, unfolding(crate::specs::Variant::tag_length_named))]
 pub fn tag_length_named(field: &[u8]) -> Result<TagLength, Refusal>
     ensures value { Gives tag_length_of result (tag_length_named field.now) }
@@ -47,7 +47,8 @@ pub fn tag_length_named(field: &[u8]) -> Result<TagLength, Refusal>
     }
 }
 
-/// The cipher of a variant, a key and a nonce. It is a length fault where key or nonce does not have the variant's length.
+/// Returns the cipher of a variant, a key and a nonce, or `Fault::Length` if the key or the nonce does not have the
+/// variant's length.
 pub fn cipher_with(variant: AnyVariant, key: &[u8], nonce: &[u8]) -> Result<AnyCipher, Refusal>
     ensures { Gives parts_of result (cipher_with variant key.now nonce.now) }
 {

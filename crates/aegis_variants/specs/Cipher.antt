@@ -1,4 +1,4 @@
--- What a cipher of a variant stands for, and what it gives.
+-- The variant, key and nonce of a cipher, and the results of its calls.
 use Rattle.std.specs.Prelude.{◌≡◌, ℕ, ◌&&◌, ◌==◌, List, Option, Some, None, length, false}
 use Rattle.aegis_base.specs.Mac.{mac}
 use Rattle.aegis_base.specs.Message.{seal, keystream, xor_keystream}
@@ -38,18 +38,18 @@ nonce_of (ciphers.Aegis256X4 keys) = keys.nonce
 abbrev pub parts_of : AnyCipher → AnyVariant × List ℕ × List ℕ
 parts_of cipher = (variant_of cipher, key_of cipher, nonce_of cipher)
 
--- Where key and nonce have n bytes each, it is the two; otherwise it is nothing.
+-- the result has this key and nonce if both have n bytes, and otherwise it is `None`
 abbrev pub IsKeys : (n : ℕ) → List ℕ → List ℕ → Option (Keys n) → Type 0
 IsKeys n key nonce (Some keys) = (length key ≡ n) × (length nonce ≡ n) × (keys.key ≡ key) × (keys.nonce ≡ nonce)
 IsKeys n key nonce None = (length key == n && length nonce == n) ≡ false
 
--- Where key and nonce have the variant's length, it is the cipher of the three; otherwise it is nothing.
+-- the result is the cipher of this variant, key and nonce if both have the variant's length, and otherwise it is `None`
 abbrev pub IsCipherOf : AnyVariant → List ℕ → List ℕ → Option AnyCipher → Type 0
 IsCipherOf variant key nonce (Some cipher) =
     (length key ≡ key_length_of variant) × (length nonce ≡ key_length_of variant) × (parts_of cipher ≡ (variant, key, nonce))
 IsCipherOf variant key nonce None = (length key == key_length_of variant && length nonce == key_length_of variant) ≡ false
 
--- what a cipher seals associated data and a message to
+-- the ciphertext and the tag of n bytes of a message, under a cipher's key and nonce
 abbrev pub sealed_by : AnyCipher → ℕ → List ℕ → List ℕ → List ℕ × List ℕ
 sealed_by cipher n ad m = seal (standard_of (variant_of cipher)) n (key_of cipher) (nonce_of cipher) ad m
 
@@ -57,7 +57,7 @@ sealed_by cipher n ad m = seal (standard_of (variant_of cipher)) n (key_of ciphe
 abbrev pub keystream_of : AnyCipher → ℕ → List ℕ
 keystream_of cipher n = keystream (standard_of (variant_of cipher)) (key_of cipher) (nonce_of cipher) n
 
--- a message, xored with a cipher's keystream
+-- a message xored with a cipher's keystream
 abbrev pub xored_by : AnyCipher → List ℕ → List ℕ
 xored_by cipher m = xor_keystream (standard_of (variant_of cipher)) (key_of cipher) (nonce_of cipher) m
 

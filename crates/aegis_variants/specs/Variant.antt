@@ -1,4 +1,4 @@
--- The variants' sizes.
+-- The lengths of keys, rate blocks and tags.
 use Rattle.std.specs.Prelude.{ℕ}
 use Rattle.aegis_base.specs.Variant as base
 use Rattle.aegis_variants.specs.declared.variant.AnyVariant.{AnyVariant}
@@ -6,7 +6,7 @@ use Rattle.aegis_variants.specs.declared.variant.AnyVariant.TheVariants as varia
 use Rattle.aegis_variants.specs.declared.variant.TagLength.{TagLength}
 use Rattle.aegis_variants.specs.declared.variant.TagLength.TheVariants as tag_lengths
 
--- a variant in the words of the definitions
+-- a variant as the definitions have it
 abbrev pub standard_of : AnyVariant → base.Variant
 standard_of variants.Aegis128L = base.Aegis128L
 standard_of variants.Aegis128X2 = base.Aegis128X2
@@ -19,15 +19,15 @@ standard_of variants.Aegis256X4 = base.Aegis256X4
 abbrev pub family_of : AnyVariant → base.Family
 family_of variant = (standard_of variant).family
 
--- how many bytes a variant's key has, and its nonce
+-- the length of a variant's key and of its nonce, in bytes
 abbrev pub key_length_of : AnyVariant → ℕ
 key_length_of variant = base.key_length (family_of variant)
 
--- the bytes of its rate blocks
+-- the length of a variant's rate block, in bytes
 abbrev pub rate_of : AnyVariant → ℕ
 rate_of variant = base.rate (standard_of variant)
 
--- how many bytes a tag has
+-- the length of a tag, in bytes
 abbrev pub tag_length_of : TagLength → ℕ
 tag_length_of tag_lengths.Short = 16
 tag_length_of tag_lengths.Long = 32

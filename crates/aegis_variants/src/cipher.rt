@@ -21,7 +21,7 @@ pub struct Keys<const N: usize> {
 }
 
 impl<const N: usize> Keys<N> {
-    /// None where key or nonce has another length.
+    /// Creates the keys from slices. Returns `None` if the key or the nonce does not have `N` bytes.
     pub fn from_slices(key: &[u8], nonce: &[u8]) -> Option<Keys<N>>
         ensures { IsKeys N key.now nonce.now result }
     {
@@ -32,7 +32,7 @@ impl<const N: usize> Keys<N> {
     }
 }
 
-/// A variant, with a key and a nonce of its length.
+/// A cipher of any variant: a key and a nonce of the variant's length.
 #[derive(Clone, Copy)]
 pub enum AnyCipher {
     Aegis128L(Keys<16>),
@@ -57,7 +57,8 @@ impl fmt::Debug for AnyCipher {
     }
 }
 
-/// Makes the call on what a type of the crate `aegis` makes of a variant's keys. There is a type for each variant.
+/// Evaluates a call on a value of one of six types of the crate `aegis`, one for each variant. The value is made from
+/// the keys of a cipher.
 #[macro_export]
 macro_rules! with_type {
     (
@@ -93,7 +94,7 @@ macro_rules! with_type {
     };
 }
 
-/// Makes the call on the cipher that has a variant's keys, with tags of so many bytes.
+/// Evaluates a call on the cipher of the crate `aegis` that has these keys, with tags of so many bytes.
 #[macro_export]
 macro_rules! with_cipher {
     ($of:expr, $tag_bytes:tt, $cipher:ident => $call:expr) => {
@@ -104,7 +105,7 @@ macro_rules! with_cipher {
     };
 }
 
-/// Makes the call on the MAC that has a variant's keys, of so many bytes.
+/// Evaluates a call on a MAC of the crate `aegis` under these keys, of so many bytes.
 #[macro_export]
 macro_rules! with_mac {
     ($of:expr, $tag_bytes:tt, $mac:ident => $call:expr) => {
@@ -115,7 +116,7 @@ macro_rules! with_mac {
     };
 }
 
-// Opens chunks into a destination of their length, which keeps them all.
+// Opens chunks into a destination that is as long as all of them together.
 fn open_whole<S: LaneState, V: aegis_base::Names, const KEY_BYTES: usize, const TAG_BYTES: usize>(
     cipher: &aegis::Cipher<S, V, KEY_BYTES, TAG_BYTES>,
     associated_data: &[u8],
@@ -139,7 +140,7 @@ fn open_whole<S: LaneState, V: aegis_base::Names, const KEY_BYTES: usize, const 
 }
 
 impl AnyCipher {
-    /// None where key or nonce does not have the variant's length.
+    /// Creates a cipher from slices. Returns `None` if the key or the nonce does not have the variant's length.
     pub fn from_slices(variant: AnyVariant, key: &[u8], nonce: &[u8]) -> Option<AnyCipher>
         ensures { IsCipherOf variant key.now nonce.now result }
     {
@@ -153,7 +154,8 @@ impl AnyCipher {
         })
     }
 
-    /// The cipher of a variant, by the keys of its family.
+    /// Creates the cipher of a variant, with the keys that have its length: 16 bytes in the family 128, and 32 in the
+    /// family 256.
     pub fn with_keys(variant: AnyVariant, short: Keys<16>, long: Keys<32>) -> AnyCipher
         ensures variant { variant_of result ≡ variant }
         ensures short { family_of variant ≡ Family128
@@ -171,7 +173,7 @@ impl AnyCipher {
         }
     }
 
-    /// The variant.
+    /// Returns the variant.
     pub fn variant(&self) -> AnyVariant
         ensures { result ≡ variant_of self.now }
     {
@@ -185,7 +187,8 @@ impl AnyCipher {
         }
     }
 
-    /// Writes the ciphertext of a message that comes in chunks, and returns the tag.
+    /// Seals a message that is a list of chunks. Writes the ciphertext into `ciphertext`, which must be as long as all
+    /// chunks together, and returns the tag.
     pub fn seal_chunks<const TAG_BYTES: usize>(
         &self,
         associated_data: &[u8],
@@ -204,8 +207,8 @@ impl AnyCipher {
         })
     }
 
-    /// Opens a ciphertext that comes in chunks into a destination of its length, which is then the message, and returns that
-    /// length in bytes.
+    /// Opens a ciphertext that is a list of chunks. Writes the message into a destination that must be as long as all
+    /// chunks together, and returns that length in bytes.
     ///
     /// The only error is [`Error::InvalidTag`], if no message is sealed to the ciphertext and the tag.
     pub fn open_chunks_len<const TAG_BYTES: usize>(
@@ -232,7 +235,7 @@ impl AnyCipher {
         })
     }
 
-    /// Writes the keystream over a buffer.
+    /// Overwrites a buffer with the keystream.
     pub fn stream(&self, buffer: &mut [u8])
         ensures { buffer.new ≡ keystream_of self.now (length buffer.old) }
     {
@@ -246,7 +249,7 @@ impl AnyCipher {
         with_cipher!(self, 16, cipher => cipher.stream_xor_in_place(buffer))
     }
 
-    /// The MAC of a message that comes in chunks.
+    /// Returns the MAC of a message that is a list of chunks.
     pub fn mac_chunks<const TAG_BYTES: usize>(&self, chunks: &[&[u8]]) -> [u8; TAG_BYTES]
         requires tag { IsTagLength TAG_BYTES }
         requires message { length (joined chunks.now) ≤ MAX_AEAD_BYTES }

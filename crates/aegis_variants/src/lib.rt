@@ -1,7 +1,7 @@
-//! The variants as values, for whoever chooses one while a program runs: a line of test vectors, a test, a measurement.
+//! The variants as values, for programs that choose one at run time: the line program, tests and measurements.
 //!
-//! `Variant` and `TagLength` are the choice, `Cipher` a variant with its key and nonce. The types of `aegis` are matched with
-//! them in two macros, and nowhere else.
+//! [`AnyVariant`] and [`TagLength`] are the choice, and [`AnyCipher`] is a variant with its key and nonce. Only two
+//! macros, [`with_cipher`] and [`with_mac`], match them with the types of `aegis`.
 #![tactic(auto)]
 
 mod cipher;

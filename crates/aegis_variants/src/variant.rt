@@ -25,7 +25,7 @@ pub const VARIANTS: [AnyVariant; 6] = [
 ];
 
 impl AnyVariant {
-    /// The name of its module.
+    /// Returns the name of the variant's module.
     pub fn name(self) -> &'static str {
         match self {
             AnyVariant::Aegis128L => "aegis128l",
@@ -37,7 +37,7 @@ impl AnyVariant {
         }
     }
 
-    /// How many bytes all lanes take in at once.
+    /// Returns the length of a rate block in bytes, which all lanes together take in by one update.
     pub fn rate(self) -> usize
         ensures rate { result ≡ rate_of self }
         ensures least { 16 ≤ result }
@@ -67,7 +67,7 @@ pub enum TagLength {
 pub const TAG_LENGTHS: [TagLength; 2] = [TagLength::Short, TagLength::Long];
 
 impl TagLength {
-    /// How many bytes a tag has.
+    /// Returns the length of a tag in bytes.
     pub fn bytes(self) -> usize
         ensures { result ≡ tag_length_of self }
     {

@@ -1,7 +1,7 @@
-//! Answers lines of test vectors: reads lines from standard input, and writes the answer of each to standard output.
+//! The line program: reads lines of test vectors from standard input, and writes the answer to each to standard output.
 //!
-//! The exit status is 0 where all lines were understood, 1 where some answer begins with `error `, and 2 where a read,
-//! a write or an allocation failed. Arguments are not looked at.
+//! The exit status is 0 if all lines were understood, 1 if some answer begins with `error `, and 2 if a read, a write
+//! or an allocation failed. Arguments are ignored.
 #![tactic(auto)]
 
 use std::process::ExitCode;

@@ -8,15 +8,15 @@ use aegis_variants::{AnyCipher, with_cipher};
 use std::alloc::Allocator;
 use test_tools::calls;
 
-// How many bytes a chunk has.
+// The length of a chunk in bytes.
 const CHUNK_BYTES: usize = 16384;
 
 /// How a message is sealed, opened or xored.
 #[derive(Clone, Copy)]
 pub enum Way {
-    /// In its own place, at once.
+    /// In place, at once.
     InPlace,
-    /// Into a fresh vector.
+    /// Into a new vector.
     Vector,
     /// From one buffer into another, in chunks.
     Chunks,
@@ -32,7 +32,7 @@ pub const WAYS: [(Way, &str); 4] = [
     (Way::List, "as a list"),
 ];
 
-/// Seals a message and returns its tag, or none if memory runs out. In place, the message is what `out` has.
+/// Seals a message and returns its tag, or `None` if memory runs out. In place, the message is in `out`.
 pub fn seal<A: Allocator>(
     cipher: &AnyCipher,
     way: Way,
@@ -77,7 +77,7 @@ fn update_each<S: LaneState, V: Names, const TAG_BYTES: usize>(
     }
 }
 
-/// Opens a ciphertext, and returns whether the tag was right. In place, the ciphertext is what `out` has.
+/// Opens a ciphertext, and returns whether the tag was right. In place, the ciphertext is in `out`.
 pub fn open<A: Allocator>(
     cipher: &AnyCipher,
     way: Way,
@@ -114,8 +114,8 @@ fn open_each<S: LaneState, V: Names, const TAG_BYTES: usize>(
     }
 }
 
-/// Xors a message with the keystream, and returns whether memory sufficed. Only the first two ways are there; the others
-/// do it in place.
+/// Xors a message with the keystream, and returns whether there was enough memory. Only the first two ways exist; the
+/// others do it in place.
 pub fn xor<A: Allocator>(
     cipher: &AnyCipher,
     way: Way,

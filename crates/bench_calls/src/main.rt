@@ -1,8 +1,8 @@
-//! Every way to seal and open a message beside the calls in place, for each variant and from 1 KiB to 16 MiB; and streams of
-//! records beside the calls in place, on 16 MiB.
+//! Measures every way to seal and open a message beside the calls in place, for each variant and from 1 KiB to 16 MiB,
+//! and record streams beside the calls in place, on 16 MiB.
 //!
-//! With a word as its argument it prints two tables, which `make bench` keeps as `bench/CALLS.md` and `bench/RECORDS.md`.
-//! Without one it makes each call once on a small message.
+//! With any argument it prints two tables, which `make bench` writes to `bench/CALLS.md` and `bench/RECORDS.md`.
+//! Without an argument it makes each call once on a small message.
 #![tactic(auto)]
 
 ghost use Rattle.std.specs.Prelude.{◌≡◌, ◌≤◌, length};
@@ -22,7 +22,7 @@ const STREAM_BYTES: usize = 1 << 24;
 
 const SMALL_BYTES: usize = 20_000;
 
-// The sizes of messages, and how many turns are made at each.
+// The lengths of messages, and the number of turns for each.
 const SIZES: [(usize, usize); 4] = [(1 << 10, 2000), (1 << 14, 400), (1 << 20, 20), (1 << 24, 3)];
 
 const SHORT_KEYS: Keys<16> = Keys {
@@ -35,7 +35,7 @@ const LONG_KEYS: Keys<32> = Keys {
     nonce: [7; 32],
 };
 
-/// How long sealing, opening and the xor with a keystream took.
+/// The times of sealing, opening and the xor with a keystream.
 #[derive(Clone, Copy)]
 struct Times {
     seal: Duration,
@@ -44,7 +44,7 @@ struct Times {
 }
 
 impl Times {
-    // The shortest of each.
+    // The shorter of each.
     fn min(self, other: Times) -> Times {
         Times {
             seal: self.seal.min(other.seal),
@@ -54,7 +54,7 @@ impl Times {
     }
 }
 
-// One message sealed, opened and xored in one way. It has to come back.
+// Seals, opens and xors a message in one way. The message must come back.
 fn turn<R: Runtime, A: Allocator + Copy>(
     rt: &R,
     alloc: A,
@@ -118,7 +118,7 @@ fn best<R: Runtime, A: Allocator + Copy>(
     Ok(best)
 }
 
-// Prints a line for each way at the front of the two buffers: nanoseconds for sealing, opening and the xor.
+// Prints a line for each way, at the front of the two buffers: nanoseconds for sealing, opening and the xor.
 fn print_ways<R: Runtime, A: Allocator + Copy>(
     rt: &R,
     alloc: A,
@@ -142,7 +142,7 @@ fn print_ways<R: Runtime, A: Allocator + Copy>(
     Ok(())
 }
 
-// The shortest times of some turns at a stream of 16 MiB, and at the same bytes in place.
+// Prints the shortest times of some turns with a record stream of 16 MiB, and with the same bytes in place.
 fn print_streams<R: Runtime, A: Allocator + Copy>(
     rt: &R,
     alloc: A,

@@ -1,4 +1,4 @@
-//! A message sealed and opened as a stream of records, at once and a record at a time, and in its own place.
+//! A message sealed and opened as a record stream, at once and a record at a time, and in place.
 
 ghost use Rattle.std.specs.Prelude.{IfOk};
 ghost use Rattle.aegis_base.specs.Chunks.{texts};
@@ -13,7 +13,7 @@ use std::io;
 use std::rt::Runtime;
 use std::time::{Duration, Instant};
 
-// How many bytes a record has; the last one may have fewer.
+// The length of a record's message in bytes. The last one may be shorter.
 const RECORD_BYTES: usize = 65536;
 
 const KEY: [u8; 32] = [7; 32];
@@ -35,7 +35,7 @@ fn records_of<A: Allocator>(alloc: A, message: &[u8]) -> Result<Vec<&[u8], A>, A
     Ok(records)
 }
 
-// Seals records as a stream; none where there is no record, they are too long together, or memory runs out.
+// Seals records as a stream, or returns `None` if there is no record, they are too long together, or memory runs out.
 fn seal<A: Allocator + Copy>(alloc: A, records: &[&[u8]]) -> Option<Vec<u8, A>>
     requires { AreWithin Second (texts records.now) }
 {
@@ -59,7 +59,7 @@ fn are_same<A: Allocator>(messages: &[Vec<u8, A>], records: &[&[u8]]) -> bool {
     true
 }
 
-/// A message sealed in records and opened again. It has to come back.
+/// Seals a message in records and opens it again. The message must come back.
 pub fn turn<R: Runtime, A: Allocator + Copy>(
     rt: &R,
     alloc: A,
@@ -83,10 +83,10 @@ pub fn turn<R: Runtime, A: Allocator + Copy>(
     }
 }
 
-// How many bytes a record has beside its message's.
+// The length of a record without its message, in bytes.
 const FRAME_BYTES: u64 = 37;
 
-// Seals a message a record at a time, in a vector that holds one of them; none if memory runs out.
+// Seals a message a record at a time, in a vector that holds one record. Returns `None` if memory runs out.
 fn seal_by_steps<A: Allocator + Copy>(alloc: A, message: &[u8]) -> Option<()> {
     let mut record = Vec::with_capacity(alloc, RECORD_BYTES + FRAME_BYTES as usize).ok()?;
     let mut sealer = RecordSealer::new(alloc, &KEY, &PREFIX, &[], &mut record).ok()?;
@@ -101,7 +101,7 @@ fn seal_by_steps<A: Allocator + Copy>(alloc: A, message: &[u8]) -> Option<()> {
     sealer.seal_last(&[], &mut record).ok()
 }
 
-// Opens a stream a record at a time, and counts the bytes of its messages; none if it is refused.
+// Opens a stream a record at a time, and counts the bytes of its messages. Returns `None` if it is refused.
 fn open_by_steps<A: Allocator + Copy>(alloc: A, stream: &[u8]) -> Option<usize> {
     if stream.len() < 4 {
         return None;
@@ -123,7 +123,7 @@ fn open_by_steps<A: Allocator + Copy>(alloc: A, stream: &[u8]) -> Option<usize> 
     None
 }
 
-/// A message sealed a record at a time, and the stream of its records opened so.
+/// Seals a message a record at a time, and opens the stream of its records in the same way.
 pub fn turn_by_steps<R: Runtime, A: Allocator + Copy>(
     rt: &R,
     alloc: A,
@@ -147,7 +147,7 @@ pub fn turn_by_steps<R: Runtime, A: Allocator + Copy>(
     }
 }
 
-/// A message, or its first 16 MiB, sealed in its place and opened again. It has to come back.
+/// Seals a message, or its first 16 MiB, in place and opens it again. The message must come back.
 pub fn turn_in_place<R: Runtime>(rt: &R, message: &mut [u8]) -> io::Result<Times> {
     let bytes = message.len().min(STREAM_BYTES);
     let message = &mut message[..bytes];

@@ -1,4 +1,4 @@
-//! Answers to lines, by the slow functions.
+//! Answers to lines, by the slow functions of `reference_lanes`.
 
 ghost use Rattle.std.specs.Prelude.{◌<◌, ◌^◌, IfOk, length};
 
@@ -9,12 +9,12 @@ use aegis_variants::{AnyCipher, TagLength};
 use reference_lanes::{SubstitutionTable, TwoBlocks, slow_mac, slow_open, slow_seal};
 use std::alloc::{AllocError, Global};
 
-// No line says more bytes.
+// No line has more bytes.
 const MOST_BYTES: usize = 1 << 20;
 
 const DIGITS: &[u8; 16] = b"0123456789abcdef";
 
-/// The answer to a line.
+/// Returns the answer to a line.
 pub fn expected_answer(
     alloc: Global,
     table: &SubstitutionTable,
@@ -31,7 +31,7 @@ fn field<'a>(fields: &[&'a [u8]], index: usize) -> &'a [u8] {
     fields.get(index).copied().unwrap_or(&[])
 }
 
-// The bytes that a field says.
+// The bytes of a field.
 fn read(alloc: Global, kind: Kind, fields: &[&[u8]], index: usize) -> Result<Vec<u8>, AllocError>
     ensures { IfOk result (λ bytes. length bytes.items < 2 ^ 32) }
 {
@@ -41,7 +41,7 @@ fn read(alloc: Global, kind: Kind, fields: &[&[u8]], index: usize) -> Result<Vec
     }
 }
 
-// The answer to a line without a fault. The commands for which a tag has no length have the key one field earlier.
+// The answer to a line without a fault. Commands without the length of a tag have the key one field earlier.
 fn answer(
     alloc: Global,
     table: &SubstitutionTable,
@@ -68,7 +68,7 @@ fn answer(
     }
 }
 
-// The cipher of a line whose key is in this field.
+// The cipher of a line with the key in this field.
 fn cipher_of(alloc: Global, fields: &[&[u8]], index: usize) -> Result<Option<AnyCipher>, AllocError>
     requires { index < 4 }
 {
@@ -80,7 +80,7 @@ fn cipher_of(alloc: Global, fields: &[&[u8]], index: usize) -> Result<Option<Any
     Ok(AnyCipher::from_slices(variant, &key, &nonce))
 }
 
-// The first bytes, with zeros where there are none.
+// The first `N` bytes, padded with zeros.
 fn array_of<const N: usize>(bytes: &[u8]) -> [u8; N] {
     let mut array = [0; N];
     for (byte, read) in array.iter_mut().zip(bytes) {
@@ -177,7 +177,7 @@ fn xor(
     shown(alloc, &message)
 }
 
-// What the stream of a line is sealed under.
+// The key, the prefix and the context of a line.
 fn record_keys_of(alloc: Global, fields: &[&[u8]]) -> Result<RecordKeys, AllocError> {
     let key = read(alloc, Kind::RecordKey, fields, 1)?;
     let prefix = read(alloc, Kind::Prefix, fields, 2)?;
@@ -232,7 +232,7 @@ fn push_digits(text: &mut Vec<u8>, bytes: &[u8]) -> Result<(), AllocError> {
     Ok(())
 }
 
-// A tag of 16 bytes has zeros behind it, which are not written.
+// A tag of 16 bytes has zeros after it, which are not written.
 fn push_tag(text: &mut Vec<u8>, tag_length: TagLength, tag: &TwoBlocks) -> Result<(), AllocError> {
     push_digits(text, &tag[0])?;
     match tag_length {
@@ -241,7 +241,7 @@ fn push_tag(text: &mut Vec<u8>, tag_length: TagLength, tag: &TwoBlocks) -> Resul
     }
 }
 
-/// Bytes as they are printed, where none are `-`.
+/// Returns bytes as they are printed. No bytes are `-`.
 pub fn shown(alloc: Global, bytes: &[u8]) -> Result<Vec<u8>, AllocError> {
     if bytes.is_empty() {
         return Vec::from_slice(alloc, b"-");

@@ -4,7 +4,7 @@ use crate::fields::{Kind, bytes_of, count_of, kinds_of, tag_length_of, variant_o
 use aegis_variants::AnyVariant;
 use std::alloc::{AllocError, Global};
 
-// What a field may have, in the order in which a line is searched.
+// The faults of a field, in the order in which they are looked for.
 #[derive(Clone, Copy)]
 enum Fault {
     Variant,
@@ -34,7 +34,7 @@ struct Lengths {
 }
 
 impl Lengths {
-    // The variant is in the first field behind the command, and the length of the tag in the second.
+    // The variant is in the first field after the command, and the length of the tag in the second.
     fn of_line(fields: &[&[u8]]) -> Lengths {
         let variant = fields.get(1).and_then(|field| variant_of(field));
         let tag_length = fields.get(2).and_then(|field| tag_length_of(field));
@@ -47,7 +47,7 @@ impl Lengths {
         }
     }
 
-    // The one length that bytes of a kind may have, if there is one.
+    // The only length that bytes of a kind may have, if there is one.
     fn only(self, kind: Kind) -> Option<usize> {
         match kind {
             Kind::Block => Some(16),
@@ -60,13 +60,13 @@ impl Lengths {
     }
 }
 
-// How many bytes the context of a record stream may have.
+// The maximum length of the context of a record stream, in bytes.
 const MAX_CONTEXT_BYTES: usize = 65_535;
 
-// How many digits each of its messages may have.
+// The maximum number of digits of each message of a record stream.
 const MAX_MESSAGE_DIGITS: usize = 2 * 16_777_216;
 
-// Whether a field that says so many bytes has more than its kind allows.
+// Whether a field of so many bytes has more than its kind allows.
 fn is_too_long(kind: Kind, field: &[u8], count: usize) -> bool {
     match kind {
         Kind::Context => count > MAX_CONTEXT_BYTES,
@@ -77,7 +77,7 @@ fn is_too_long(kind: Kind, field: &[u8], count: usize) -> bool {
     }
 }
 
-// Whether a field that does not say bytes has this fault.
+// Whether a field that is not bytes has this fault.
 fn has_word_fault(fault: Fault, kind: Kind, field: &[u8]) -> bool {
     match (fault, kind) {
         (Fault::Variant, Kind::VariantName) => variant_of(field).is_none(),
@@ -107,7 +107,7 @@ fn has_fault(
     })
 }
 
-/// The answer to a line's first fault, where it has one.
+/// Returns the answer to a line's first fault, if it has one.
 pub fn first_fault(alloc: Global, fields: &[&[u8]]) -> Result<Option<&'static [u8]>, AllocError> {
     let Some((command, fields_behind)) = fields.split_first() else {
         return Ok(Some(b"error command"));

@@ -1,11 +1,11 @@
-//! What the fields of a line say, read field by field.
+//! The values of the fields of a line, read field by field.
 
 ghost use Rattle.std.specs.Prelude.{◌<◌, ◌≤◌, IfSome};
 
 use aegis_variants::{AnyVariant, TagLength};
 use std::alloc::{AllocError, Global};
 
-/// What a field says.
+/// The kind of a field.
 #[derive(Clone, Copy)]
 pub enum Kind {
     VariantName,
@@ -19,19 +19,19 @@ pub enum Kind {
     /// Any bytes, cut by commas.
     Pieces,
     Tag,
-    /// How long a stream is.
+    /// A number of bytes of keystream.
     Count,
     /// The key of a record stream.
     RecordKey,
-    /// The prefix of its nonces.
+    /// The prefix of a record stream.
     Prefix,
-    /// Its context.
+    /// The context of a record stream.
     Context,
-    /// Its messages, between commas.
+    /// The messages of a record stream, between commas.
     Messages,
 }
 
-/// What the fields behind a command say.
+/// Returns the kinds of the fields after a command.
 pub fn kinds_of(command: &[u8]) -> Option<&'static [Kind]> {
     match command {
         b"round" => Some(&[Kind::Block, Kind::Block]),
@@ -67,6 +67,7 @@ pub fn kinds_of(command: &[u8]) -> Option<&'static [Kind]> {
     }
 }
 
+/// Returns the variant with this name, if there is one.
 pub fn variant_of(field: &[u8]) -> Option<AnyVariant> {
     match field {
         b"aegis128l" => Some(AnyVariant::Aegis128L),
@@ -79,6 +80,7 @@ pub fn variant_of(field: &[u8]) -> Option<AnyVariant> {
     }
 }
 
+/// Returns the length of a tag that is written as `16` or `32`.
 pub fn tag_length_of(field: &[u8]) -> Option<TagLength> {
     match field {
         b"16" => Some(TagLength::Short),
@@ -87,7 +89,7 @@ pub fn tag_length_of(field: &[u8]) -> Option<TagLength> {
     }
 }
 
-/// The length that one to five digits say, where no stream is longer than 65536 bytes.
+/// Returns the length that one to five digits give, if it is at most 65536.
 pub fn count_of(field: &[u8]) -> Option<usize>
     ensures { IfSome result (λ count. count ≤ 65536) }
 {
@@ -110,7 +112,7 @@ pub fn count_of(field: &[u8]) -> Option<usize>
     }
 }
 
-// The number that a hexadecimal digit of either case says.
+// The value of a hexadecimal digit of either case.
 fn digit_of(letter: u8) -> Option<u8>
     ensures { IfSome result (λ digit. digit < 16) }
 {
@@ -122,8 +124,7 @@ fn digit_of(letter: u8) -> Option<u8>
     }
 }
 
-// Writes the bytes of a piece behind others: `-` is none, and otherwise they are pairs of digits. The answer is whether
-// it is one of these.
+// Appends the bytes of a piece, which is `-` for none or else pairs of digits. Returns whether it is one of these.
 fn push_piece(bytes: &mut Vec<u8>, piece: &[u8]) -> Result<bool, AllocError> {
     if piece == b"-".as_slice() {
         return Ok(true);
@@ -143,7 +144,7 @@ fn push_piece(bytes: &mut Vec<u8>, piece: &[u8]) -> Result<bool, AllocError> {
     Ok(true)
 }
 
-/// The bytes of a field, which only a field of pieces may cut. None where it does not say bytes.
+/// Returns the bytes of a field, joined if its kind has pieces, or `None` if it is not bytes.
 pub fn bytes_of(alloc: Global, kind: Kind, field: &[u8]) -> Result<Option<Vec<u8>>, AllocError> {
     let mut bytes = Vec::new(alloc);
     if !matches!(kind, Kind::Pieces | Kind::Messages) {
@@ -161,7 +162,7 @@ pub fn bytes_of(alloc: Global, kind: Kind, field: &[u8]) -> Result<Option<Vec<u8
     Ok(Some(bytes))
 }
 
-/// The pieces of a field, whose bytes `bytes_of` returns joined.
+/// Returns the pieces of a field, whose bytes `bytes_of` returns joined.
 pub fn pieces_of(alloc: Global, field: &[u8]) -> Result<Vec<Vec<u8>>, AllocError> {
     let mut pieces = Vec::new(alloc);
     for piece in field.split(|byte| *byte == b',') {

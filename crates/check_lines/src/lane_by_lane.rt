@@ -12,22 +12,22 @@ use std::{fmt, io};
 // The longest message or associated data: one byte more than two rate blocks of 128 bytes.
 const LONGEST: usize = 257;
 
-// What the AEGIS-128 ciphers are keyed with.
+// The key and the nonce of the AEGIS-128 ciphers.
 const SHORT_KEYS: Keys<16> = Keys {
     key: *b"lane by lane 128",
     nonce: *b"one nonce, once.",
 };
 
-// What the AEGIS-256 ciphers are keyed with.
+// The key and the nonce of the AEGIS-256 ciphers.
 const LONG_KEYS: Keys<32> = Keys {
     key: *b"lane by lane, one after another.",
     nonce: *b"a longer nonce, also used once..",
 };
 
-// How long the message is while the associated data grows, and the other way round.
+// The length of the message as the associated data grows, and the other way round.
 const FIXED: usize = 17;
 
-// Lengths at which the library and the slow function give something else.
+// Lengths at which the library and the slow functions differ.
 #[derive(Clone, Copy)]
 struct Difference {
     what: &'static str,
@@ -110,8 +110,8 @@ fn compare_mac(
     })
 }
 
-// Compares at each length of message, of associated data and of a MAC's input up to one byte more than two rate blocks,
-// and returns at how many.
+// Compares at each length of the message, of the associated data and of a MAC's input, up to one byte more than two
+// rate blocks. Returns the number of comparisons, or the first difference.
 fn compare(
     table: &SubstitutionTable,
     variant: AnyVariant,
@@ -131,8 +131,8 @@ fn compare(
     Ok(3 * (longest + 1))
 }
 
-/// Compares each variant with tags of either length, and prints at how many lengths it agrees, or the first at which it does
-/// not: whether all agree.
+/// Compares each variant with tags of either length, and prints at how many lengths it agrees, or the first at which it
+/// does not. Returns whether all agree.
 pub fn all_agree(rt: &HostRuntime, table: &SubstitutionTable) -> io::Result<bool> {
     for variant in VARIANTS {
         for tag_length in TAG_LENGTHS {

@@ -1,9 +1,9 @@
 //! The library and the line program, checked against stored answers and a slow reference.
 //!
-//! The lines of `vectors/` are run first, and the answers compared with those that lie beside them. Then the library is
-//! compared with the slow functions of `reference_lanes`, one lane at a time. Last, a generator with a fixed seed changes
-//! good lines, and each answer of the library is compared with that of a second reader: its grammar and its record streams
-//! were written anew, over the slow functions of `reference_lanes`. The exit status is 1 if an answer differs.
+//! The lines of `vectors/` are run first, and the answers are compared with the stored ones. Then the library is
+//! compared with the slow functions of `reference_lanes`, one lane at a time. Last, a generator with a fixed seed
+//! changes good lines, and each answer of the library is compared with that of a second reader, with a grammar and
+//! record streams of its own, over the slow functions of `reference_lanes`. The exit status is 1 if an answer differs.
 #![tactic(auto)]
 
 ghost use Rattle.std.specs.Prelude.{◌<◌};
@@ -25,7 +25,7 @@ use std::process::ExitCode;
 
 const LINES: usize = 10_000;
 
-// Answers that lines have in common; other answers are counted as the last.
+// Answers that many lines have. Any other answer is counted as the last one.
 const ANSWERS: [&str; 16] = [
     "error command",
     "error fields",
@@ -57,7 +57,7 @@ fn place_of(answer: &[u8]) -> usize
     15
 }
 
-// Whether the lines that are changed at random are answered alike by both readers.
+// Whether both readers give the same answers to the lines that are changed at random.
 fn mutations_agree(rt: &HostRuntime, table: &SubstitutionTable) -> io::Result<bool> {
     let mut generator = Generator::new(2024);
     let mut counts = [0u64; 16];

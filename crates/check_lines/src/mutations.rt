@@ -1,11 +1,11 @@
-//! Good lines, and how they are changed.
+//! Good lines, and changes to them.
 
 ghost use Rattle.std.specs.Prelude.{◌<◌};
 
 use std::alloc::{AllocError, Global};
 
-// Each command, and each variant. The last record streams are refused: one has a byte more, one another flag, and two end
-// after the greatest length of their version.
+// Lines of each command and each variant. The last record streams are refused: one has one byte more, one another flag,
+// and two end after the maximum length of their version.
 const GOOD_LINES: [&[u8]; 22] = [
     b"round 000102030405060708090a0b0c0d0e0f 101112131415161718191a1b1c1d1e1f",
     b"seal aegis128l 16 59454c4c4f57205355424d4152494e45 000102030405060708090a0b0c0d0e0f 636f 61,-,62",
@@ -31,7 +31,7 @@ const GOOD_LINES: [&[u8]; 22] = [
     b"openrec 59454c4c4f57205355424d4152494e4579656c6c6f77207375626d6172696e65 000102030405060708090a0b0c0d0e0f1011121314151617 - 414752320000000001",
 ];
 
-// The bytes that lines are made of, and some that they are not.
+// The bytes of good lines, and some others.
 const LETTERS: &[u8] = b"0123456789abcdefABCDEFx ,-lg\t\r\n\0\xff";
 
 /// A generator of numbers: the high bits of a linear congruential one.
@@ -41,11 +41,12 @@ pub struct Generator {
 }
 
 impl Generator {
+    /// Creates a generator.
     pub fn new(seed: u64) -> Generator {
         Generator { state: seed }
     }
 
-    /// The next number, below a bound.
+    /// Returns the next number, which is below the bound.
     pub fn below(&mut self, bound: usize) -> usize
         requires { 0 < bound }
         ensures { result < bound }
@@ -57,7 +58,7 @@ impl Generator {
         (self.state >> 33) as usize % bound
     }
 
-    // One of these, or the first byte of none.
+    // One of these bytes, or 0 if there are none.
     fn pick(&mut self, bytes: &[u8]) -> u8 {
         if bytes.is_empty() {
             0
@@ -67,7 +68,7 @@ impl Generator {
     }
 }
 
-/// A good line, after none to three changes.
+/// Returns a good line after zero to three changes.
 pub fn mutated_line(alloc: Global, generator: &mut Generator) -> Result<Vec<u8>, AllocError> {
     let good = GOOD_LINES[generator.below(22)];
     let mut line = Vec::from_slice(alloc, good)?;
@@ -81,7 +82,7 @@ pub fn mutated_line(alloc: Global, generator: &mut Generator) -> Result<Vec<u8>,
     Ok(line)
 }
 
-// A line with one byte left out, written twice, in the other case, or another.
+// A line with one byte left out, doubled, in the other case, or replaced by another.
 fn with_another_byte(generator: &mut Generator, line: Vec<u8>) -> Result<Vec<u8>, AllocError> {
     let mut line = line;
     if line.is_empty() {
@@ -108,7 +109,7 @@ fn in_other_case(letter: u8) -> u8 {
     }
 }
 
-// A line with one field left out, written twice, or in the place of another.
+// A line with one field left out, doubled, or in the place of another.
 fn with_other_fields(
     alloc: Global,
     generator: &mut Generator,

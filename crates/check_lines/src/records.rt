@@ -1,4 +1,4 @@
-//! Record streams, sealed and opened by the slow functions. The format was written anew.
+//! Record streams, sealed and opened by the slow functions, in an implementation of its own.
 
 ghost use Rattle.std.specs.Prelude.{◌<◌, ◌^◌, IfOk, length};
 
@@ -25,7 +25,7 @@ impl Format {
         }
     }
 
-    // The format that the bytes begin with the header of, if there is one, and what follows it.
+    // The format whose header the bytes begin with, if there is one, and the bytes after the header.
     fn of(bytes: &[u8]) -> Option<(Format, &[u8])> {
         for format in [Format::First, Format::Second] {
             if let Some(rest) = bytes.strip_prefix(format.header()) {
@@ -35,7 +35,7 @@ impl Format {
         None
     }
 
-    // How many bytes a message may have.
+    // The maximum length of a message, in bytes.
     fn limit(self) -> u32 {
         match self {
             Format::First => 1 << 16,
@@ -44,7 +44,7 @@ impl Format {
     }
 }
 
-/// What a stream is sealed under.
+/// The key, the prefix and the context of a stream.
 #[derive(Drop)]
 pub struct RecordKeys {
     pub key: [u8; 32],
@@ -52,12 +52,12 @@ pub struct RecordKeys {
     pub context: Vec<u8>,
 }
 
-// Where a record stands.
+// The position of a record.
 #[derive(Clone, Copy)]
 struct Place {
     format: Format,
     number: u64,
-    // how many bytes the messages before it have
+    // the number of bytes of the messages before it
     before: u64,
     flag: u8,
 }
@@ -108,7 +108,7 @@ impl RecordKeys {
         stream.extend_from_slice(&high)
     }
 
-    /// The stream of messages, of the second version.
+    /// Returns the stream of messages, in the second version.
     pub fn seal(
         &self,
         alloc: Global,
@@ -131,7 +131,7 @@ impl RecordKeys {
         Ok(stream)
     }
 
-    // The message of a record, if the tag is its own.
+    // The message of a record, if its tag is right.
     fn open_record(
         &self,
         alloc: Global,
@@ -151,7 +151,7 @@ impl RecordKeys {
         })
     }
 
-    /// What is printed for the opening of a stream.
+    /// Returns the answer to the opening of a stream.
     pub fn open(
         &self,
         alloc: Global,
@@ -163,7 +163,7 @@ impl RecordKeys {
         };
         let mut text = Vec::from_slice(alloc, b"ok ")?;
         let mut before = 0u64;
-        // Each record has a byte at least.
+        // Each record has at least one byte.
         for number in 0..bytes.len() as u64 {
             let place = Place {
                 format,
@@ -206,7 +206,7 @@ fn push_message(
     text.extend_from_slice(&shown(alloc, message)?)
 }
 
-// The parts of a record, and what follows it.
+// The parts of a record, and the bytes after it.
 #[derive(Drop)]
 struct Record<'a> {
     ciphertext: &'a [u8],
@@ -215,7 +215,7 @@ struct Record<'a> {
 }
 
 impl<'a> Record<'a> {
-    // The record at the front of the bytes, or why there is none.
+    // The record at the front of the bytes, or the fault if there is none.
     fn read(limit: u32, bytes: &'a [u8]) -> Result<Record<'a>, &'static [u8]> {
         match bytes.first() {
             Some(0 | 1) => {}

@@ -1,8 +1,8 @@
-//! The lines of `vectors/`, whose answers lie beside them.
+//! The lines of `vectors/` and their stored answers.
 
 use std::{fs, io};
 
-// The name of a file of lines, without its ending, and the exit status that the program has for them.
+// The name of each file of lines, without its ending, and the exit status of the line program for it.
 const FILES: [(&str, u8); 15] = [
     ("published", 0),
     // The AEGIS tests of Wycheproof (testvectors_v1, Apache-2.0), with its own answers.
@@ -22,8 +22,8 @@ const FILES: [(&str, u8); 15] = [
     ("faults", 1),
 ];
 
-/// Runs the lines of each file through the line program's `run`, and prints whether the answers agree with those that lie
-/// beside them: whether all do.
+/// Runs the lines of each file by the line program's `run`, and prints whether the answers are the stored ones. Returns
+/// whether all are.
 pub fn all_agree(rt: &HostRuntime) -> io::Result<bool> {
     let mut all_agree = true;
     for (name, status) in FILES {
@@ -37,7 +37,7 @@ pub fn all_agree(rt: &HostRuntime) -> io::Result<bool> {
     Ok(all_agree)
 }
 
-// Whether the lines of a file have the answers that lie beside it, and this status.
+// Whether the answers to the lines of a file are the stored ones, and the status is this one.
 fn agrees(rt: &HostRuntime, name: &str, status: u8) -> io::Result<bool> {
     let lines = format!(in rt.alloc(); "{name}.in")?;
     let answers = format!(in rt.alloc(); "{name}.out")?;

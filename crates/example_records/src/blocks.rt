@@ -7,10 +7,10 @@ ghost use Rattle.aegis.specs.declared.record.version.Version.TheVariants.{Second
 
 use std::alloc::{AllocError, Allocator};
 
-/// How many bytes a block has; the last one may have fewer.
+/// The length of a block in bytes. The last block may be shorter.
 pub const BLOCK_BYTES: usize = 64;
 
-/// The blocks of some bytes, of which there is one at least, if only an empty one.
+/// Returns the blocks of some bytes. There is at least one, which may be empty.
 pub fn blocks_of<A: Allocator>(alloc: A, bytes: &[u8]) -> Result<Vec<&[u8], A>, AllocError>
     ensures some { IfOk result (λ blocks. 0 < length blocks.items) }
     ensures within { IfOk result (λ blocks. AreWithin Second (texts blocks.items)) }

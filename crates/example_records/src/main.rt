@@ -1,7 +1,7 @@
 //! Seals the blocks of its input as the records of a stream, and opens them again.
 //!
-//! The key, the prefix and the context stand here so that the example is whole. A program draws its key at random, and each
-//! prefix once under it.
+//! The key, the prefix and the context are constants only so that the example is complete. A program must draw its key
+//! at random, and a new prefix for each stream.
 #![tactic(auto)]
 
 mod blocks;
@@ -18,7 +18,7 @@ const PREFIX: [u8; 24] = *b"once under a key, always";
 
 const CONTEXT: [u8; 7] = *b"example";
 
-// Opens a stream, and puts the messages together again.
+// Opens a stream, and joins its messages.
 fn opened<A: Allocator + Copy>(alloc: A, stream: &[u8]) -> Result<Vec<u8, A>, RecordError> {
     let mut bytes = Vec::new(alloc);
     for message in &open_records(alloc, &KEY, &PREFIX, &CONTEXT, stream)? {

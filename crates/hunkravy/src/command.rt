@@ -10,7 +10,7 @@ pub enum Place<'a> {
     File(&'a str),
 }
 
-/// Where bytes come from and where they go.
+/// The key file, the input and the output of a command.
 #[derive(Clone, Copy)]
 pub struct Transfer<'a> {
     /// The name of the key file.
@@ -21,7 +21,7 @@ pub struct Transfer<'a> {
     pub force: bool,
 }
 
-/// What the command line asks for.
+/// The action that a command line asks for.
 pub enum Action<'a> {
     Keygen { output: Place<'a> },
     Seal(Transfer<'a>),
@@ -143,7 +143,7 @@ fn transfer_of<'a>(matches: &ArgMatches<'a>) -> Transfer<'a> {
     }
 }
 
-/// What the arguments ask for. `None` if there is no subcommand, which [`command`] does not let through.
+/// Returns the action of the arguments, or `None` if there is no subcommand, which [`command`] does not allow.
 pub fn parse<'a>(matches: &ArgMatches<'a>) -> Option<Action<'a>> {
     let (subcommand, found) = matches.subcommand()?;
     match subcommand {

@@ -1,4 +1,4 @@
-//! Why a command fails.
+//! The errors of commands, and the exit statuses.
 
 use aegis::record::RecordError;
 use aegis_files::FileError;
@@ -6,7 +6,7 @@ use std::alloc::AllocError;
 use std::io;
 use thiserror::Error;
 
-/// Why a command failed.
+/// The error of a command.
 #[derive(Debug, Drop, Error)]
 pub enum Failure {
     #[error("{0}")]
@@ -55,7 +55,7 @@ pub const MISUSED: u8 = 2;
 pub const FAILED: u8 = 3;
 
 impl Failure {
-    /// The exit status.
+    /// Returns the exit status.
     pub fn status(&self) -> u8 {
         match self {
             Failure::File(FileError::Stream(RecordError::OutOfMemory)) => FAILED,

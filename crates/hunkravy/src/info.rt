@@ -8,16 +8,16 @@ use std::alloc::Global;
 use std::fs::File;
 use std::io::Read;
 
-// What the lengths of a file show.
+// The numbers that follow from the lengths in a file.
 #[derive(Clone, Copy)]
 struct Outline {
-    /// The number of records, the last one among them.
+    /// The number of records, including the last one.
     records: u64,
-    /// How many bytes the messages have together.
+    /// The length of all messages together, in bytes.
     text_bytes: u64,
 }
 
-// Reads a part whose length is known.
+// Fills a buffer.
 fn part<R: Read>(input: &mut R, buffer: &mut [u8]) -> Result<(), FileError> {
     if fill(input, buffer)? < buffer.len() {
         return Err(FileError::Stream(RecordError::Truncated));
@@ -25,7 +25,7 @@ fn part<R: Read>(input: &mut R, buffer: &mut [u8]) -> Result<(), FileError> {
     Ok(())
 }
 
-// Reads so many bytes and forgets them.
+// Reads so many bytes and discards them.
 fn skip<R: Read>(input: &mut R, count: usize) -> Result<(), FileError> {
     let mut buffer = [0; 4096];
     for _ in 0..count / buffer.len() {
@@ -60,8 +60,8 @@ fn outline_of<R: Read>(alloc: Global, input: &mut R) -> Result<Outline, FileErro
     Err(FileError::TooLong)
 }
 
-/// Shows how many records and how many bytes of text a sealed file has, if its length is that of whole records. Whether they
-/// open, and under which key, is not looked at.
+/// Prints the number of records and of bytes of text of a sealed file, if it consists of whole records. No tag is
+/// verified.
 pub fn info(rt: &HostRuntime, input: Place<'_>) -> Result<(), Failure> {
     let seen = match input {
         Place::Standard => outline_of(rt.alloc(), &mut rt.stdin())?,

@@ -11,7 +11,7 @@ use std::rt::Files;
 // The bits of a file's mode that let others than its owner read or write it.
 const OTHERS: u32 = 0o077;
 
-/// A key drawn at random, as the line of a key file.
+/// Draws a key at random, and returns it as the line of a key file.
 pub fn draw(rt: &(impl RandomSource + AllocGlobal)) -> Result<String, Failure> {
     let mut key = [0; 32];
     rt.fill_bytes(&mut key).map_err(Failure::Random)?;
@@ -20,7 +20,7 @@ pub fn draw(rt: &(impl RandomSource + AllocGlobal)) -> Result<String, Failure> {
     Ok(text)
 }
 
-/// The key of a key file. Says so on standard error if the file's mode lets others read it.
+/// Reads the key of a key file. Warns on standard error if the file's mode lets others read it.
 pub fn read(rt: &HostRuntime, name: &str) -> Result<Key, Failure> {
     let mode = fs::metadata(rt, name).map_err(Failure::Key)?.mode();
     if mode & OTHERS != 0 {

@@ -1,6 +1,6 @@
-//! Output files, which come to their place when they are whole.
+//! Output files, which get their names only once they are complete.
 //!
-//! A file OUT is written as OUT.part, synced, and renamed: so OUT is the whole file, what it was before, or not there.
+//! A file OUT is written as OUT.part, synced, and renamed. So OUT is the complete file, or as it was before.
 
 use crate::command::Place;
 use crate::failure::Failure;
@@ -10,10 +10,10 @@ use std::io::ErrorKind;
 use std::os::unix::fs::{MetadataExt, OpenOptionsExt};
 use std::{fs, io};
 
-// The mode of each file that is made: its owner alone reads and writes it.
+// The mode of new files: only the owner can read and write them.
 const OWNER_ONLY: u32 = 0o600;
 
-/// Makes a file that is not there yet.
+/// Creates a file. It is an error if it exists.
 pub fn create(rt: &HostRuntime, name: &str) -> io::Result<File> {
     OpenOptions::new()
         .write(true)
@@ -22,7 +22,7 @@ pub fn create(rt: &HostRuntime, name: &str) -> io::Result<File> {
         .open(rt, name)
 }
 
-/// Refuses an output file that exists, unless it may be replaced, and one that is the input.
+/// Returns an error if the output file exists, unless it may be replaced, or if it is the input.
 pub fn look(rt: &HostRuntime, input: Place<'_>, output: &str, force: bool) -> Result<(), Failure> {
     let there = match fs::metadata(rt, output) {
         Ok(there) => there,
@@ -51,7 +51,7 @@ pub struct Part<'a> {
 }
 
 impl<'a> Part<'a> {
-    /// Makes OUT.part, which must not be there yet.
+    /// Creates OUT.part. It is an error if it exists.
     pub fn new(rt: &HostRuntime, output: &'a str) -> Result<Self, Failure> {
         let name = format!(in rt.alloc(); "{output}.part")?;
         match create(rt, name.as_str()) {
@@ -63,13 +63,13 @@ impl<'a> Part<'a> {
         }
     }
 
-    // Syncs the file, and puts it in its place.
+    // Syncs the file, and renames it to OUT.
     fn place(&self, rt: &HostRuntime) -> io::Result<()> {
         self.file.sync_all()?;
         fs::rename(rt, self.name.as_str(), self.output)
     }
 
-    /// Puts the file in its place if it was written, or else removes it.
+    /// Renames the file to OUT if all of it was written, and otherwise removes it.
     pub fn end(self, rt: &HostRuntime, written: Result<(), FileError>) -> Result<(), Failure> {
         let placed = match written {
             Ok(()) => self.place(rt).map_err(Failure::Output),

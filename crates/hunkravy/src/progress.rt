@@ -1,18 +1,18 @@
-//! How much of a long input has been read, on a terminal.
+//! Progress of a long input, shown on a terminal.
 
 use std::io;
 use std::io::Read;
 
-/// How many bytes are read from one message to the next.
+/// The number of bytes from one message to the next.
 const STEP: u64 = 64 * 1024 * 1024;
 
 const MEBIBYTE: u64 = 1024 * 1024;
 
-/// A reader that says how much was read from it.
+/// A reader that shows how much was read from it.
 #[derive(Drop)]
 pub struct Counted<'a, R: Read + Drop, E: Eprint> {
     inner: R,
-    /// Where it says so, if anywhere.
+    /// The terminal, if there is one.
     terminal: Option<&'a E>,
     read: u64,
     said: u64,

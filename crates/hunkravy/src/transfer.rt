@@ -13,17 +13,17 @@ use std::io;
 use std::io::{IsTerminal, Read, Write};
 use std::random::RandomSource;
 
-/// What every file is sealed under, beside its key and its prefix.
+/// The context that every file is sealed under, with its key and its prefix.
 const CONTEXT: [u8; 11] = *b"hunkravy v1";
 
-// What is done to the bytes of the input.
+// Whether the input is sealed or opened.
 #[derive(Clone, Copy)]
 enum Direction {
     Seal { prefix: [u8; 24] },
     Open,
 }
 
-// Reads all of the input, and writes what it is sealed or opened to.
+// Reads the whole input, and writes its sealed file or its text.
 fn carry<R: Read, W: Write>(
     alloc: Global,
     direction: Direction,
@@ -37,7 +37,7 @@ fn carry<R: Read, W: Write>(
     }
 }
 
-// Where progress is shown: on standard error if it is a terminal.
+// Progress is shown on standard error if it is a terminal.
 fn terminal(rt: &HostRuntime) -> Option<&HostRuntime> {
     if rt.stderr().is_terminal() {
         Some(rt)
@@ -88,13 +88,13 @@ pub fn seal(rt: &HostRuntime, paths: Transfer<'_>) -> Result<(), Failure> {
     transfer(rt, Direction::Seal { prefix }, paths)
 }
 
-/// Opens a sealed file. On standard output a text is written as far as it was opened, so there the exit status has to be
-/// looked at before the text is used.
+/// Opens a sealed file. On standard output the text is written as it is opened, so the exit status must be checked
+/// before the text is used.
 pub fn open(rt: &HostRuntime, paths: Transfer<'_>) -> Result<(), Failure> {
     transfer(rt, Direction::Open, paths)
 }
 
-/// Opens a sealed file and writes nothing.
+/// Opens a sealed file without writing its text.
 pub fn check(rt: &HostRuntime, key: &str, input: Place<'_>) -> Result<(), Failure> {
     let key = key::read(rt, key)?;
     let mut output = io::sink();

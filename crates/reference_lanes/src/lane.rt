@@ -28,11 +28,11 @@ pub enum Lane {
     Aegis256([PlainBlock; 6]),
 }
 
-/// Two blocks: what a lane takes in at once, a piece of its keystream, or a tag. Where there is one block alone, the
+/// Two blocks: the input of an update of a lane, a piece of its keystream, or a tag. If there is only one block, the
 /// second is zero.
 pub type TwoBlocks = [PlainBlock; 2];
 
-// Tells the lanes of one cipher apart, and ciphers with other numbers of lanes. It is zero at a single lane.
+// The context block of a lane: its index and the last index. It is zero for a single lane.
 fn context(index: u8, lanes: u8) -> PlainBlock {
     let mut block = ZERO;
     block[0] = index;
@@ -132,7 +132,7 @@ fn two_numbers(first: u64, second: u64) -> PlainBlock {
 }
 
 impl Lane {
-    /// The lane of this index, of so many lanes.
+    /// Returns the lane of this index, of so many lanes, after its start.
     pub fn start(table: &SubstitutionTable, keys: &KeyBlocks, index: u8, lanes: u8) -> Lane {
         let context = context(index, lanes);
         match keys {
@@ -146,6 +146,7 @@ impl Lane {
         }
     }
 
+    /// Returns the lane after one update.
     pub fn update(self, table: &SubstitutionTable, share: &TwoBlocks) -> Lane {
         match self {
             Lane::Aegis128(rows) => Lane::Aegis128(update_128(table, &rows, &share[0], &share[1])),
@@ -153,6 +154,7 @@ impl Lane {
         }
     }
 
+    /// Returns the next piece of the lane's keystream.
     pub fn keystream(&self) -> TwoBlocks {
         match self {
             Lane::Aegis128(s) => [
@@ -163,7 +165,7 @@ impl Lane {
         }
     }
 
-    /// The lane after its end, which takes in two numbers.
+    /// Returns the lane after its end, which takes in two numbers.
     pub fn finish(self, table: &SubstitutionTable, first: u64, second: u64) -> Lane {
         let row = match self {
             Lane::Aegis128(rows) => rows[2],
@@ -177,7 +179,7 @@ impl Lane {
         lane
     }
 
-    // The lane's tag of 16 bytes. AEGIS-128 leaves its last row out.
+    // The lane's tag of 16 bytes. In AEGIS-128 the last row does not enter it.
     fn short_tag(&self) -> PlainBlock {
         match self {
             Lane::Aegis128(rows) => sum(&rows[..7]),
@@ -185,7 +187,7 @@ impl Lane {
         }
     }
 
-    /// The lane's tag. One of 16 bytes comes with zeros behind it.
+    /// Returns the lane's tag. A tag of 16 bytes has zeros after it.
     pub fn tag(&self, tag_length: TagLength) -> TwoBlocks {
         match tag_length {
             TagLength::Short => [self.short_tag(), ZERO],

@@ -1,5 +1,5 @@
-//! Sealing, opening and MACs by slow functions, written from the definitions one lane at a time. They share nothing with
-//! the library but how a cipher is named, and are what programs compare it with.
+//! Slow functions for sealing, opening and MACs, written from the definitions, one lane at a time, for comparison with
+//! the library. They share nothing with it but the types that name a cipher.
 #![tactic(auto)]
 
 mod lane;

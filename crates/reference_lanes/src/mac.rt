@@ -7,7 +7,7 @@ use crate::round::SubstitutionTable;
 use crate::slow::{Layout, keys};
 use aegis_variants::{AnyCipher, TagLength};
 
-// What the lanes of a MAC share.
+// The values that all lanes of a MAC share.
 #[derive(Drop)]
 struct Input<'a> {
     layout: Layout,
@@ -34,7 +34,7 @@ fn input_lane(table: &SubstitutionTable, input: &Input, index: u8) -> Lane {
     )
 }
 
-// A lane after the tags of 16 bytes of all lanes of AEGIS-128, two at a time.
+// A lane after it has taken in the tags of 16 bytes of all lanes of AEGIS-128, two at a time.
 fn fold_pairs(table: &SubstitutionTable, lane: Lane, input: &Input) -> Lane {
     let mut lane = lane;
     for pair in 0..input.layout.lanes / 2 {
@@ -45,8 +45,8 @@ fn fold_pairs(table: &SubstitutionTable, lane: Lane, input: &Input) -> Lane {
     lane
 }
 
-// A lane after the tags of all lanes but the first: AEGIS-128 takes the halves in at once, and AEGIS-256 one after the
-// other.
+// A lane after it has taken in the tags of all lanes but the first: AEGIS-128 takes in both halves at once, and
+// AEGIS-256 one after the other.
 fn fold_single(table: &SubstitutionTable, lane: Lane, input: &Input) -> Lane {
     let mut lane = lane;
     for index in 1..input.layout.lanes {
@@ -63,7 +63,7 @@ fn fold_single(table: &SubstitutionTable, lane: Lane, input: &Input) -> Lane {
     lane
 }
 
-/// The MAC of an input. One of 16 bytes comes with zeros behind it.
+/// Returns the MAC of an input. A MAC of 16 bytes has zeros after it.
 pub fn slow_mac(
     table: &SubstitutionTable,
     cipher: &AnyCipher,

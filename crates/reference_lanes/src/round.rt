@@ -25,7 +25,7 @@ fn product(a: u8, b: u8) -> u8 {
     sum
 }
 
-// The byte whose product with `a` is 1, found by trying each; 0 has none, and 0 stands for it.
+// The byte whose product with `a` is 1, found by trying all bytes, or 0 if there is none.
 fn inverse(a: u8) -> u8 {
     for b in 0..=255u8 {
         if product(a, b) == 1 {
@@ -57,13 +57,14 @@ fn substitute(a: u8) -> u8 {
     substituted
 }
 
-/// What the substitution makes of each byte, computed once.
+/// SubBytes of each byte, computed once.
 #[derive(Drop)]
 pub struct SubstitutionTable {
     bytes: [u8; 256],
 }
 
 impl SubstitutionTable {
+    /// Computes the table.
     pub fn new() -> SubstitutionTable {
         let mut bytes = [0; 256];
         for a in 0..=255u8 {
@@ -116,6 +117,7 @@ fn mix_columns(block: &PlainBlock) -> PlainBlock {
     mixed
 }
 
+/// Returns the bitwise xor of two blocks.
 pub fn xor(a: &PlainBlock, b: &PlainBlock) -> PlainBlock {
     let mut sum = [0; 16];
     for i in 0..16usize {
@@ -124,6 +126,7 @@ pub fn xor(a: &PlainBlock, b: &PlainBlock) -> PlainBlock {
     sum
 }
 
+/// Returns the bitwise and of two blocks.
 pub fn and(a: &PlainBlock, b: &PlainBlock) -> PlainBlock {
     let mut both = [0; 16];
     for i in 0..16usize {

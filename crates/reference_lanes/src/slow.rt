@@ -6,7 +6,7 @@ use crate::lane::{KeyBlocks, Lane, TwoBlocks, ZERO};
 use crate::round::{PlainBlock, SubstitutionTable, xor};
 use aegis_variants::{AnyCipher, TagLength};
 
-/// Where the lanes of a cipher find their blocks.
+/// The places of the lanes' blocks in a rate block.
 #[derive(Clone, Copy)]
 pub struct Layout {
     pub lanes: u8,
@@ -18,6 +18,7 @@ pub struct Layout {
 }
 
 impl Layout {
+    /// Returns the layout of a cipher's variant.
     pub fn new(cipher: &AnyCipher) -> Layout {
         match cipher {
             AnyCipher::Aegis128L(_) => Layout {
@@ -53,7 +54,7 @@ impl Layout {
         }
     }
 
-    /// What a lane takes in of a rate block.
+    /// Returns the blocks that a lane takes in of a rate block.
     pub fn share(&self, index: u8, rate_block: &[u8]) -> TwoBlocks {
         let first = 16 * index as usize;
         let second = match self.second {
@@ -73,7 +74,7 @@ impl Layout {
     }
 }
 
-// The block from `at` on, with zeros past the end.
+// The block that begins at place `at`, with zeros past the end.
 fn block_at(bytes: &[u8], at: usize) -> PlainBlock
     requires { at < 2 ^ 33 }
 {
@@ -86,7 +87,7 @@ fn block_at(bytes: &[u8], at: usize) -> PlainBlock
     block
 }
 
-// Xors the block from `at` on, where there are bytes.
+// Xors the block that begins at place `at`, as far as there are bytes.
 fn xor_at(bytes: &mut [u8], at: usize, block: &PlainBlock)
     requires { at < 2 ^ 33 }
 {
@@ -115,14 +116,14 @@ pub fn keys(cipher: &AnyCipher) -> KeyBlocks {
     }
 }
 
-// What the bytes of a buffer are.
+// Whether a buffer is a message or a ciphertext.
 #[derive(Clone, Copy)]
 enum Bytes {
     Message,
     Ciphertext,
 }
 
-// Seals or opens the bytes of one lane in their places, and returns the lane at its end. It takes in the message.
+// Seals or opens the bytes of one lane in place, and returns the lane at its end. The lane takes in the message.
 fn pass_lane(
     table: &SubstitutionTable,
     layout: Layout,
@@ -176,7 +177,7 @@ fn pass(
     tag
 }
 
-/// Seals a message in its place. A tag of 16 bytes comes with zeros behind it.
+/// Seals a message in place, and returns the tag. A tag of 16 bytes has zeros after it.
 pub fn slow_seal(
     table: &SubstitutionTable,
     cipher: &AnyCipher,
@@ -190,7 +191,7 @@ pub fn slow_seal(
     pass(table, cipher, tag_length, ad, Bytes::Message, buffer)
 }
 
-/// Turns a ciphertext in its place into the message that is sealed to it, whose tag is returned as by `slow_seal`.
+/// Opens a ciphertext in place, and returns the tag of the message as `slow_seal` does.
 pub fn slow_open(
     table: &SubstitutionTable,
     cipher: &AnyCipher,

@@ -1,5 +1,5 @@
-//! Tests of the crate `aegis`, and of the round below it. They are one crate, so that each call of a variant is linked and
-//! compiled once for all.
+//! Tests of the crate `aegis`, and of the round. They are one crate, so that each call of a variant is compiled and
+//! linked only once.
 #![tactic(auto)]
 
 #[cfg(test)]

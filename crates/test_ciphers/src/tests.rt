@@ -1,4 +1,4 @@
-//! The tests, and comparisons that they share, each proved once.
+//! The tests, and the comparisons that they share.
 
 mod chunks;
 mod hostile;
@@ -12,22 +12,22 @@ use std::fmt::Debug;
 use std::process::Abort;
 use std::test::Fail;
 
-// Bytes are what is expected, in the case that is named.
+// Asserts that bytes are the expected ones, and names the case otherwise.
 fn assert_bytes<R: Abort, C: Debug>(rt: &R, bytes: &[u8], expected: &[u8], case: &C) {
     assert_eq!(rt; bytes, expected, "{case:?}");
 }
 
-// A call is refused, and by this error.
+// Asserts that a call returns this error.
 fn assert_error<R: Abort>(rt: &R, error: Option<Error>, expected: Error) {
     assert_eq!(rt; error, Some(expected));
 }
 
-// A text is what is expected.
+// Asserts that a text is the expected one.
 fn assert_text<R: Abort>(rt: &R, text: &str, expected: &str) {
     assert_eq!(rt; text, expected);
 }
 
-// A value prints the same text in either form.
+// Asserts that a value prints the same text in both debug forms.
 fn check_text<R: Abort + AllocGlobal, T: Debug>(
     rt: &R,
     value: &T,

@@ -23,7 +23,7 @@ fn sealed<A: Allocator + Copy>(alloc: A, text: &[u8]) -> Result<Vec<u8, A>, File
     Ok(file)
 }
 
-/// The text of a file under a key, and what was written if it is refused.
+/// Opens a file under a key. Returns what was written, and the result.
 fn opened_with<R: Read>(
     alloc: Global,
     key: &[u8; 32],
@@ -34,7 +34,7 @@ fn opened_with<R: Read>(
     (text, result)
 }
 
-/// The text of a file.
+/// Opens a file. Returns what was written, and the result.
 fn opened(alloc: Global, file: &[u8]) -> (Vec<u8>, Result<(), FileError>) {
     let mut input = file;
     opened_with(alloc, &KEY, &mut input)

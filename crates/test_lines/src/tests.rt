@@ -1,4 +1,4 @@
-//! Answers one by one, record streams, whole sessions, and want of memory.
+//! Answers one by one, record streams, whole sessions, and no memory.
 
 mod answers;
 mod long_lines;

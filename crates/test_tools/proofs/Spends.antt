@@ -1,4 +1,4 @@
--- `is_spent` at a call: what it is handed, and what a caller has of it. Assumes `Logic`.
+-- `is_spent` at a call: its argument, and the caller's facts. Assumes `Logic`.
 use Rattle.std.proofs.Common.{◌≡◌, ℕ, List, [], ◌∷◌, refl, ap}
 use seplogic.Ra.Ura.{Ura}
 use mathlib.Core.Bool.{Bool}

@@ -1,4 +1,4 @@
-//! The one-shot calls of a cipher, whichever its variant, and a key and a nonce for each family.
+//! The one-shot calls of a cipher of any variant, and a key and a nonce for each family.
 
 ghost use Rattle.std.specs.Prelude.{◌≡◌, ◌⊎◌, ◌≤◌, length};
 ghost use Rattle.aegis_base.specs.Lane.{IsTagLength};
@@ -7,19 +7,19 @@ use aegis::{Error, MAX_AEAD_BYTES};
 use aegis_variants::{AnyCipher, AnyVariant, Keys, with_cipher};
 use std::alloc::Allocator;
 
-/// What the AEGIS-128 ciphers are keyed with.
+/// The key of the AEGIS-128 ciphers.
 pub const SHORT_KEY: [u8; 16] = *b"YELLOW SUBMARINE";
 
 /// Their nonce.
 pub const SHORT_NONCE: [u8; 16] = *b"used only once..";
 
-/// What the AEGIS-256 ciphers are keyed with.
+/// The key of the AEGIS-256 ciphers.
 pub const LONG_KEY: [u8; 32] = *b"YELLOW SUBMARINEyellow submarine";
 
 /// Their nonce.
 pub const LONG_NONCE: [u8; 32] = *b"a longer nonce, used only once..";
 
-/// The cipher of a variant, under the key and the nonce of its family.
+/// Returns the cipher of a variant, under the key and the nonce of its family.
 pub fn keyed(variant: AnyVariant) -> AnyCipher {
     let short = Keys {
         key: SHORT_KEY,
@@ -59,7 +59,7 @@ pub fn decrypt_in_place<const TAG_BYTES: usize>(
     with_cipher!(cipher, TAG_BYTES, cipher => cipher.decrypt_in_place(mc, tag, ad))
 }
 
-/// Seals a message into a fresh vector.
+/// Seals a message into a new vector.
 pub fn encrypt<A: Allocator, const TAG_BYTES: usize>(
     cipher: &AnyCipher,
     alloc: A,
@@ -73,7 +73,7 @@ pub fn encrypt<A: Allocator, const TAG_BYTES: usize>(
     with_cipher!(cipher, TAG_BYTES, cipher => cipher.encrypt(alloc, m, ad))
 }
 
-/// Opens a ciphertext into a fresh vector.
+/// Opens a ciphertext into a new vector.
 pub fn decrypt<A: Allocator, const TAG_BYTES: usize>(
     cipher: &AnyCipher,
     alloc: A,
@@ -88,7 +88,7 @@ pub fn decrypt<A: Allocator, const TAG_BYTES: usize>(
     with_cipher!(cipher, TAG_BYTES, cipher => cipher.decrypt(alloc, c, tag, ad))
 }
 
-/// Writes the keystream over a buffer.
+/// Overwrites a buffer with the keystream.
 pub fn stream<const TAG_BYTES: usize>(cipher: &AnyCipher, out: &mut [u8])
     requires { IsTagLength TAG_BYTES }
 {
@@ -102,7 +102,7 @@ pub fn stream_xor_in_place<const TAG_BYTES: usize>(cipher: &AnyCipher, mc: &mut 
     with_cipher!(cipher, TAG_BYTES, cipher => cipher.stream_xor_in_place(mc))
 }
 
-/// A message xored with the keystream, in a fresh vector.
+/// Returns a message xored with the keystream, in a new vector.
 pub fn stream_xor<A: Allocator, const TAG_BYTES: usize>(
     cipher: &AnyCipher,
     alloc: A,
@@ -113,7 +113,7 @@ pub fn stream_xor<A: Allocator, const TAG_BYTES: usize>(
     with_cipher!(cipher, TAG_BYTES, cipher => cipher.stream_xor(alloc, m))
 }
 
-/// Bytes that count up from `first`, and start over after 255.
+/// Returns bytes that count up from `first`, with 0 after 255.
 pub fn counting<const N: usize>(first: u8) -> [u8; N] {
     let mut bytes = [0; N];
     let mut next = first;

@@ -3,7 +3,7 @@
 use std::io;
 use std::io::{ErrorKind, Read, Write};
 
-/// Gives its bytes, and then an error in place of the end.
+/// A reader that returns its bytes, and then an error instead of the end.
 #[derive(Drop)]
 pub struct CutOff<'a> {
     pub left: &'a [u8],
@@ -19,12 +19,12 @@ impl Read for CutOff<'_> {
     }
 }
 
-/// Takes one byte of each write while there is room, and then none, or gives the error.
+/// A writer that takes one byte of each write while there is room, and then takes none or returns the error.
 #[derive(Drop)]
 pub struct Narrow {
     /// The bytes that it took.
     pub taken: Vec<u8>,
-    /// How many bytes it takes.
+    /// The number of bytes that it takes.
     pub room: usize,
     /// What a write after these returns, or `None` for `Ok(0)`.
     pub error: Option<ErrorKind>,

@@ -1,5 +1,5 @@
-//! What tests share: the calls of a cipher whichever its variant, an allocator that refuses, readers and writers that fail,
-//! and worked examples.
+//! What the tests share: the calls of a cipher of any variant, an allocator that refuses requests, readers and writers
+//! that fail, and worked examples.
 #![tactic(auto)]
 
 pub mod calls;

@@ -3,13 +3,14 @@
 use std::alloc::{AllocError, Allocator};
 use std::cell::Cell;
 
-/// An allocator that passes so many requests on, and refuses those after them.
+/// An allocator that passes on some requests, and refuses those after them.
 pub struct Rationed<B: Allocator> {
     inner: B,
     left: Cell<u64>,
 }
 
 impl<B: Allocator> Rationed<B> {
+    /// Creates an allocator that passes on so many requests.
     pub fn new(inner: B, requests: u64) -> Rationed<B> {
         Rationed {
             inner,
@@ -17,7 +18,7 @@ impl<B: Allocator> Rationed<B> {
         }
     }
 
-    /// How many requests it would still pass on.
+    /// Returns the number of requests that it would still pass on.
     pub fn left(&self) -> u64 {
         self.left.get()
     }
@@ -29,7 +30,7 @@ impl<B: Allocator> Drop for Rationed<B> {
     }
 }
 
-// Takes one request off those that are left, or returns that none is.
+// Counts one request off those that are left, or returns `true` if none is left.
 fn is_spent(left: &Cell<u64>) -> bool {
     let requests = left.get();
     left.set(requests.saturating_sub(1));

@@ -5,7 +5,7 @@ ghost use Rattle.std.specs.Prelude.{◌<◌, ◌^◌, length};
 use aegis_variants::{AnyCipher, TagLength, with_cipher, with_mac};
 use reference_lanes::{TwoBlocks, halves};
 
-/// Seals a message in its place. A tag of 16 bytes comes with zeros behind it.
+/// Seals a message in place. A tag of 16 bytes has zeros after it.
 pub fn library_seal(
     cipher: &AnyCipher,
     tag_length: TagLength,
@@ -26,7 +26,7 @@ pub fn library_seal(
     }
 }
 
-/// The MAC of an input. One of 16 bytes comes with zeros behind it.
+/// Returns the MAC of an input. A MAC of 16 bytes has zeros after it.
 pub fn library_mac(cipher: &AnyCipher, tag_length: TagLength, input: &[u8]) -> TwoBlocks
     requires { length input.now < 2 ^ 32 }
 {

@@ -1,5 +1,5 @@
-//! Sealing and opening in chunks, and MACs. Most tests compare, at each variant and length of tag, with what the one-shot
-//! calls give.
+//! Sealing and opening in chunks, and MACs. Most tests compare with the one-shot calls, for each variant and length of
+//! tag.
 
 pub mod chunked;
 mod cuts;

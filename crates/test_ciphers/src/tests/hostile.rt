@@ -1,4 +1,4 @@
-//! Hostile use, at each variant and length of tag: want of memory, wrong tags, chunks that are refused, decryptors that are
+//! Hostile use, for each variant and length of tag: no memory, wrong tags, chunks that are refused, decryptors that are
 //! dropped, and parts of a message that are swapped or moved.
 
 mod decryptors;

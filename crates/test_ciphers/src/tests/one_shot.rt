@@ -1,4 +1,4 @@
-//! One-shot calls, keystreams and texts: worked examples of what the contracts say, and tests of what no contract says.
+//! One-shot calls, keystreams and texts: worked examples of the contracts, and tests of what no contract states.
 
 mod examples;
 mod keystreams;

@@ -1,4 +1,5 @@
-//! The round: known blocks, a plain round beside one by a table, and each round of the library beside that.
+//! The round: known blocks, a plain round compared with one by a table, and each round of the library compared with
+//! that.
 
 mod bodies;
 mod permutes;
@@ -12,7 +13,7 @@ use aegis_aes::{AesBlock, Row};
 use std::simd::prelude::*;
 use table::{COLUMNS, round_by_table};
 
-// Blocks, their keys, and what a round makes of them.
+// Blocks, their keys, and the blocks after a round.
 const KNOWN: [(u128, u128, u128); 4] = [
     (0, 0, 0x63636363636363636363636363636363),
     (
@@ -36,7 +37,7 @@ const KNOWN: [(u128, u128, u128); 4] = [
 // How many blocks the rounds are compared at.
 const CASES: usize = 256 + 16 + KNOWN.len();
 
-// A block and its key: one of the 256 of equal bytes, one of counted bytes from each place on, or a known one.
+// A block and its key: one of the 256 blocks of equal bytes, one of bytes that count up, or a known one.
 fn case(number: usize) -> (u128, u128)
     requires { number < 276 }
 {

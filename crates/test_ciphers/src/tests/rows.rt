@@ -19,7 +19,7 @@ fn counted() -> [u8; 144] {
     bytes
 }
 
-// What a row stores from place 8 on, among bytes that are 0xee.
+// The bytes after a row is stored at place 8, among bytes 0xee.
 fn stored<R: Row>(row: R) -> [u8; 80]
     requires { R.LANES ≤ 4 }
 {
@@ -62,7 +62,7 @@ fn works<R: Row>(rt: &impl Abort)
     }
 }
 
-// What a pair stores from place 8 on, among bytes that are 0xee.
+// The bytes after a pair is stored at place 8, among bytes 0xee.
 fn stored_pair<P: Pair>(pair: P) -> [u8; 144]
     requires { P.Row.LANES ≤ 4 }
 {
@@ -110,7 +110,7 @@ fn works_in_pairs<P: Pair>(rt: &impl Abort)
     }
 }
 
-// The xor of the lanes that are filled with 1, 2, 4 and 8.
+// The xor of lanes that are filled with 1, 2, 4 and 8.
 fn xor_of_powers<R: Row>() -> [u8; 16]
     requires { R.LANES ≤ 4 }
 {

@@ -8,7 +8,7 @@ use std::test::Fail;
 use test_tools::ends::{CutOff, Narrow};
 use test_tools::memory::Rationed;
 
-// More requests than sealing or opening a small file makes.
+// More requests than are made to seal or open a small file.
 const REQUESTS: u64 = 40;
 
 // A reader that fails after each number of bytes: the error is the reader's, and what was written is a front of the text.
@@ -44,7 +44,7 @@ fn sealing_stops_where_a_read_fails(rt: HostRuntime) -> Result<(), Fail> {
     Ok(())
 }
 
-// A writer that fails after each number of bytes has a front of what is written.
+// A writer that fails after each number of bytes has a front of the file.
 #[test]
 fn sealing_stops_where_a_write_fails(rt: HostRuntime) -> Result<(), Fail> {
     let whole = sealed(rt.alloc(), TEXT)?;
@@ -87,7 +87,7 @@ fn opening_stops_where_a_write_fails(rt: HostRuntime) -> Result<(), Fail> {
     Ok(())
 }
 
-// With memory refused in turn a file is sealed and opened as with ample memory, or the error is the want of it.
+// With each request refused in turn, a file is sealed and opened as with enough memory, or the error is `OutOfMemory`.
 #[test]
 fn memory_is_refused_in_turn(rt: HostRuntime) -> Result<(), Fail> {
     let whole = sealed(rt.alloc(), TEXT)?;

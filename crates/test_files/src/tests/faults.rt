@@ -5,10 +5,10 @@ use aegis::record::RecordError;
 use aegis_files::FileError;
 use std::test::Fail;
 
-// Where the records of the small file begin, and where it ends: a record has 37 bytes beside its message.
+// The places of the small file's records and of its end. A record has 37 bytes more than its message.
 const PLACES: [usize; 4] = [28, 28 + 40, 28 + 40 + 44, 28 + 40 + 44 + 42];
 
-// Whether a file is refused, and what was written before is a front of the small file's text.
+// Whether a file is refused after a front of the small file's text was written.
 fn is_refused(written: &[u8], ending: &Result<(), FileError>) -> bool {
     TEXT.starts_with(written) && matches!(ending, Err(FileError::Stream(_)))
 }
@@ -54,7 +54,7 @@ fn bytes_after_the_last_record_are_refused(rt: HostRuntime) -> Result<(), Fail> 
     Ok(())
 }
 
-// A part of a file, or no bytes where it has none.
+// A part of a file, or no bytes if it does not have this part.
 fn cut(file: &[u8], from: usize, to: usize) -> &[u8] {
     file.get(from..to).unwrap_or(&[])
 }

@@ -4,7 +4,7 @@ use aegis_lines::answer_line;
 use std::process::Abort;
 use std::test::Fail;
 
-// Each line has the answer beside it.
+// Asserts that each line has the answer next to it.
 fn answers<R: Abort + AllocGlobal>(rt: &R, cases: &[(&str, &str)]) -> Result<(), Fail> {
     for (line, expected) in cases {
         let answer = answer_line(rt.alloc(), line.as_bytes())
@@ -161,7 +161,7 @@ fn sealings(rt: HostRuntime) -> Result<(), Fail> {
     answers(&rt, &cases)
 }
 
-// The message, or that the tag is not its own.
+// The message, or that the tag is wrong.
 #[test]
 fn openings(rt: HostRuntime) -> Result<(), Fail> {
     let cases = [

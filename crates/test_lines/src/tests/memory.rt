@@ -1,4 +1,4 @@
-//! Want of memory in the line program: each of its allocations refused in turn.
+//! No memory in the line program: each allocation refused in turn.
 
 use aegis::Error;
 use aegis_lines::{answer_line, run};
@@ -18,7 +18,7 @@ sealrec 0000000000000000000000000000000000000000000000000000000000000000 0000000
 openrec 0000000000000000000000000000000000000000000000000000000000000000 000000000000000000000000000000000000000000000000 - 414752320000000000e461028be45b3bfca49bbe24f5c16f9859fa03f3edf9bfb703e83a6913335cdd0103000000d705c1b8264f3e694c9097788eed0974e1a76904c814f5a76b34c0b417a5c3de40a5c0
 ";
 
-// A line is answered as with ample memory, or with want of memory.
+// A line is answered as with enough memory, or the error is that there is none.
 #[test]
 fn each_line_or_want_of_memory(rt: HostRuntime) -> Result<(), Fail> {
     for line in LINES.split(|byte| *byte == b'\n') {
@@ -38,7 +38,7 @@ fn each_line_or_want_of_memory(rt: HostRuntime) -> Result<(), Fail> {
     Ok(())
 }
 
-// The program ends with status 2 and a beginning of its answers, or as with ample memory.
+// The program ends with status 2 after a beginning of its answers, or as with enough memory.
 #[test]
 fn all_lines_or_status_two(rt: HostRuntime) -> Result<(), Fail> {
     let mut expected = Vec::new(rt.alloc());

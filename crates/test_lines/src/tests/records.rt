@@ -4,7 +4,7 @@ use aegis_lines::answer_line;
 use std::alloc::Global;
 use std::test::Fail;
 
-// How many bytes a message of the first version had at most, and how many one of the second has.
+// The maximum length of a message in the first version, and in the second.
 const MAX_FIRST_MESSAGE_BYTES: usize = 65_536;
 
 const MAX_MESSAGE_BYTES: usize = 16_777_216;
@@ -35,7 +35,7 @@ fn answer(
     Ok(answer_line(alloc, &line)?)
 }
 
-// It is sealed in the second version, and opened again.
+// The message is sealed in the second version, and opened again.
 #[test]
 fn a_message_past_the_first_limit(rt: HostRuntime) -> Result<(), Fail> {
     let bytes = MAX_FIRST_MESSAGE_BYTES + 1;

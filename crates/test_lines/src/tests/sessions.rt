@@ -1,4 +1,4 @@
-//! The program over readers and writers in memory.
+//! The line program with readers and writers in memory.
 
 use aegis_lines::run;
 use std::io::ErrorKind;
@@ -41,7 +41,7 @@ fn answers_each_line(rt: HostRuntime) -> Result<(), Fail> {
     Ok(())
 }
 
-// One carriage return before a line's end is taken off, and nothing else.
+// One carriage return in front of a line's end is removed, and nothing else.
 #[test]
 fn takes_line_ends_off(rt: HostRuntime) -> Result<(), Fail> {
     let cases = [
@@ -65,7 +65,7 @@ fn takes_line_ends_off(rt: HostRuntime) -> Result<(), Fail> {
     Ok(())
 }
 
-// A length of tag that there is not, an odd number of digits, and a key of 15 bytes.
+// A wrong length of a tag, an odd number of digits, and a key of 15 bytes.
 #[test]
 fn faults_end_with_status_one(rt: HostRuntime) -> Result<(), Fail> {
     let cases = [
@@ -115,14 +115,14 @@ fn answers_a_thousand_lines(rt: HostRuntime) -> Result<(), Fail> {
     Ok(())
 }
 
-// Three lines, and what answers them.
+// Three lines and their answers.
 fn three_lines<R: AllocGlobal>(rt: &R) -> Result<(String, String), Fail> {
     let input = format!(in rt.alloc(); "{ROUND}\n{STREAM}\r\n{ROUND}\n")?;
     let wanted = format!(in rt.alloc(); "{ROUND_ANSWER}{STREAM_ANSWER}{ROUND_ANSWER}")?;
     Ok((input, wanted))
 }
 
-// The answers of the lines that are read, and none of a line that is cut off. The last reader fails after all its bytes.
+// The lines that were read are answered, and a line that is cut off is not. The last reader fails after all its bytes.
 #[test]
 fn stops_where_a_read_fails(rt: HostRuntime) -> Result<(), Fail> {
     let (input, wanted) = three_lines(&rt)?;
@@ -151,7 +151,7 @@ fn stops_where_a_read_fails(rt: HostRuntime) -> Result<(), Fail> {
     Ok(())
 }
 
-// A writer that has room for some bytes, and then fails or takes none, holds just these.
+// A writer that has room for some bytes, and then fails or takes none, has exactly these.
 #[test]
 fn stops_where_a_write_fails(rt: HostRuntime) -> Result<(), Fail> {
     let (input, wanted) = three_lines(&rt)?;
@@ -175,7 +175,7 @@ fn stops_where_a_write_fails(rt: HostRuntime) -> Result<(), Fail> {
     Ok(())
 }
 
-// A writer that takes a byte at a time gets the whole output, also where its flush then fails.
+// A writer that takes one byte at a time gets the whole output, even if its flush then fails.
 #[test]
 fn writes_a_byte_at_a_time(rt: HostRuntime) -> Result<(), Fail> {
     let (input, wanted) = three_lines(&rt)?;

@@ -4,7 +4,7 @@ use Rattle.std.proofs.lemmas.Bool.{agree_below, agree_below_at, and_from, and_pa
 use Rattle.aegis_aes.specs.Field.{inverse, mul, mul_bits}
 use Rattle.aegis_aes.proofs.field.inverse_is_unique.Goals as goal
 
--- i is a byte, and the product of a and b is 1 just where a is not 0 and b is i
+-- i is a byte, and the product of a and b is 1 exactly if a is not 0 and b is i
 abbrev is_the_inverse : ℕ → ℕ → Bool
 is_the_inverse a i = nat_lt i 256 && agree_below (λ b. mul a b == 1) (λ b. nat_lt 0 a && b == i) 256
 

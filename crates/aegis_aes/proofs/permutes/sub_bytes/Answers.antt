@@ -1,4 +1,4 @@
--- Each step gives a function of the bytes; their composition is SubBytes by computing all 256.
+-- Each step is a function of one byte. That their composition is SubBytes is computed for all 256 bytes.
 use Rattle.std.proofs.Common.{◌/◌, ◌^◌, ◌∙◌, bit_xor}
 use Rattle.std.proofs.lemmas.Simd.{splat_is_map}
 use Rattle.aegis_aes.specs.Permutes.{entry}

@@ -1,6 +1,6 @@
--- The front of a settled destination is handed out where the message is accepted, and nothing otherwise. By hand, since a
--- slice that a struct holds is lent, which gets no generated proof: the walk takes the struct apart, and each arm ends by
--- one lemma of `Prefix` and one of `Results`. Assumes `Logic`.
+-- The front of a settled destination is returned if the message is accepted. By hand, since no proof is generated for a
+-- function that lends a slice of a struct: the walk takes the struct apart, and each arm ends by one lemma of `Prefix`
+-- and one of `Results`. Assumes `Logic`.
 use mathlib.Core.Path.{◌≡◌, refl, sym, subst, ◌∙◌}
 use mathlib.Core.Bool.{Bool, true, false, not}
 use Prim.Native.Nat.{ℕ, ◌≤◌, ◌<◌, ◌^◌, ◌*◌}

@@ -1,4 +1,4 @@
--- The bytes of the copy are those of the block, so its shares are.
+-- The bytes of the copy are those of the block, and so are the lanes' shares of them.
 use Rattle.std.proofs.Common.{◌∙◌}
 use Rattle.aegis_base.proofs.MessageFacts.{share_at-same}
 use Rattle.aegis_engine.proofs.pass.copied.Goals as goal

@@ -1,4 +1,4 @@
--- Each turn goes on from what was there before, at the same places of the bytes that the run goes along.
+-- Each turn continues from the state before it, at the next places of the run's input.
 use Rattle.std.proofs.Common.{◌≡◌, ◌∙◌, sym, ap, refl, ℕ, ◌+◌, ◌-◌, ◌*◌, ◌/◌, ◌<◌, ⊎_elim, List, bit_xor, slice_index, arith}
 use Rattle.std.proofs.lemmas.Bool.{cases_lt}
 use Rattle.aegis_base.specs.Variant.{rate}

@@ -1,4 +1,4 @@
--- The part that fills the open block, the whole rate blocks and the rest follow each other along the same bytes.
+-- The part that fills the open block, the whole rate blocks and the rest follow each other in the run's input.
 use Rattle.std.proofs.Common.{◌≡◌, ◌∙◌, sym, ap, ℕ, ◌+◌, ◌-◌, ◌*◌, ◌/◌, ◌<◌, ◌≤◌, slice_index, length, arith}
 use Rattle.std.proofs.Math.Nat.{div-mul-le_self, le-mul_of_pos_right}
 use Rattle.aegis_base.proofs.MessageFacts.{rate-positive}

@@ -1,5 +1,5 @@
--- The part that fills the open block, the whole rate blocks and the rest follow each other along the same bytes, and each
--- leaves the others' bytes of the buffer as they are.
+-- The part that fills the open block, the whole rate blocks and the rest follow each other in the run's input, and each
+-- leaves the others' bytes of the buffer unchanged.
 use Rattle.std.proofs.Common.{◌≡◌, ◌∙◌, sym, ap, refl, ℕ, ◌+◌, ◌-◌, ◌*◌, ◌/◌, ◌<◌, ◌≤◌, ⊎_elim, List, bit_xor, slice_index, length, arith}
 use Rattle.std.proofs.Math.Nat.{div-mul-le_self, le-mul_of_pos_right}
 use Rattle.std.proofs.lemmas.Bool.{cases_lt}
@@ -122,7 +122,7 @@ returns-clause-few g c =
     let same : n * c.RATE-2.result ≡ n * c.RATE.result = ap (λ (r : ℕ). n * r) (read2 ∙ sym read) in
     omega arith
 
--- a piece of whole rate blocks alone: how many bytes they have, where the run is, and what they take in of x
+-- a piece of whole rate blocks alone: their length, that no block is open, and the bytes of x that they take in
 record AreBlocks (g : _) (c : goal.After-slice_known-then-first-rest-eq0-1 g) (x : List ℕ) : Type 0 where
   all : (length c.args.buffer.now - c.filling-first.result) / c.RATE.result * g.S.LaneState.RATE ≡ length c.args.buffer.now
   unopened : IsUnopened c.args.total ((length c.args.buffer.now - c.filling-first.result) / c.RATE.result) g.S.LaneState.RATE

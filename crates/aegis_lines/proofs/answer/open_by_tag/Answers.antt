@@ -1,4 +1,4 @@
--- What the cipher refuses is printed so.
+-- The answer if the cipher refuses the tag.
 use Rattle.std.proofs.Common.{◌≡◌, IfOk, List, Ok, Err, Result, inr, sym, true≢false, ℕ}
 use Rattle.std.specs.Prelude.{codes}
 use Rattle.std.specs.declared.vec.Vec.{Vec}

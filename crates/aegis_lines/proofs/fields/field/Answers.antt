@@ -1,4 +1,4 @@
--- A field of the texts is the text of a field.
+-- Field i of the texts is the text of field i.
 use Rattle.std.proofs.Common.{[], sym}
 use Rattle.std.proofs.lemmas.List.{get_or-map}
 use Rattle.aegis_lines.proofs.fields.field.Goals as goal

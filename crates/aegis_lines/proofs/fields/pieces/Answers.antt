@@ -1,4 +1,4 @@
--- There is one piece at least.
+-- There is at least one piece.
 use Rattle.std.proofs.Common.{◌==◌, ◌<◌, ap, arith, length}
 use Rattle.std.proofs.lemmas.List.{length-map}
 use Rattle.std.proofs.lemmas.List.Splits.{length-slice_split}

@@ -1,4 +1,4 @@
--- The parts that `split` gives, collected.
+-- The parts of `split`, collected.
 use Rattle.std.proofs.Common.{rules, tests}
 use Rattle.std.proofs.lemmas.Iterator.Consumers.{map_from_collect}
 use Rattle.std.proofs.lemmas.Iterator.Splits.{YieldsList-from_slice_split}

@@ -1,4 +1,4 @@
--- What the first fields refuse, the command refuses, and what the texts behind them refuse.
+-- A fault of the first fields is the command's, and so is one of the texts after them.
 use Rattle.std.proofs.Common.{arith}
 use Rattle.std.proofs.lemmas.Result.{err_from_is_err_and}
 use Rattle.aegis_lines.proofs.RequestFacts.{count_texts, seal_granted, seal_refused, seal_texts_refused}

@@ -1,4 +1,4 @@
--- What the first fields refuse, the command refuses.
+-- A fault of the first fields is the command's.
 use Rattle.std.proofs.Common.{arith}
 use Rattle.std.proofs.lemmas.Result.{err_from_is_err_and}
 use Rattle.aegis_lines.proofs.RequestFacts.{count_texts, messages_digits_refused, messages_length_refused, seal_keys_refused, seal_records_granted, seal_records_refused}

@@ -1,4 +1,4 @@
--- What the first fields refuse, the command refuses.
+-- A fault of the first fields is the command's.
 use Rattle.std.proofs.Common.{arith}
 use Rattle.std.proofs.lemmas.Result.{err_from_is_err_and}
 use Rattle.aegis_lines.proofs.RequestFacts.{count_texts, xor_refused}

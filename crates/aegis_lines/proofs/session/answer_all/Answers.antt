@@ -1,4 +1,4 @@
--- What was read, and what was written, after one more chunk, at the end of the input, and where a read failed.
+-- What was read and written after one more chunk, at the end of the input, and if a read failed.
 use Rattle.std.proofs.Common.{◌<◌, length, rules}
 use Rattle.std.proofs.KnownBytes.{Keeps-refl}
 use Rattle.std.proofs.lemmas.Result.{err_from_is_err_and}

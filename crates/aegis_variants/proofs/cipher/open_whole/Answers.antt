@@ -1,4 +1,4 @@
--- What is accepted is all of the chunks, and the message fills the destination.
+-- All chunks are kept, and the message fills the destination.
 use Rattle.std.proofs.Common.{◌≡◌, ◌≤◌, length, take, arith}
 use Rattle.std.proofs.lemmas.List.{take_all}
 use Rattle.aegis_base.specs.Chunks.{joined}

@@ -1,4 +1,4 @@
-//! The chunked calls of a cipher, whichever its variant. The loops over chunks are written once for every type of cipher.
+//! The chunked calls of a cipher of any variant. The loops over chunks are generic in the type of the cipher.
 
 ghost use Rattle.std.specs.Prelude.{◌≡◌, ◌⊎◌, ◌≤◌, length};
 ghost use Rattle.aegis_base.specs.Lane.{IsTagLength};
@@ -9,7 +9,7 @@ use aegis_variants::{AnyCipher, with_cipher};
 use std::alloc::{AllocError, Global};
 use std::process::Abort;
 
-/// The pieces of these lengths, and what is left behind them. The bytes may end before.
+/// Returns the pieces of these lengths, and the rest after them. The bytes may end before.
 pub fn pieces<'a>(
     alloc: Global,
     bytes: &'a [u8],
@@ -26,7 +26,7 @@ pub fn pieces<'a>(
     Ok(pieces)
 }
 
-// Hands an encryptor chunks by `update`.
+// Passes chunks to an encryptor by `update`.
 fn update_all<S: LaneState, V: Names, const TAG_BYTES: usize>(
     encryptor: &mut Encryptor<S, V, TAG_BYTES>,
     chunks: &[&[u8]],
@@ -43,8 +43,8 @@ fn update_all<S: LaneState, V: Names, const TAG_BYTES: usize>(
     }
 }
 
-/// Seals chunks by `update`. Returns the tag, and the room that is said to be left. The ciphertext is as long as the chunks
-/// are together.
+/// Seals chunks by `update`. Returns the tag, and what `remaining` returns. The ciphertext must be as long as all
+/// chunks together.
 pub fn seal_by_update<const TAG_BYTES: usize>(
     cipher: &AnyCipher,
     associated_data: &[u8],
@@ -62,7 +62,7 @@ pub fn seal_by_update<const TAG_BYTES: usize>(
     })
 }
 
-// Hands an encryptor chunks by `update_in_place`.
+// Passes chunks to an encryptor by `update_in_place`.
 fn update_all_in_place<S: LaneState, V: Names, const TAG_BYTES: usize>(
     encryptor: &mut Encryptor<S, V, TAG_BYTES>,
     chunks: &[&[u8]],
@@ -79,7 +79,7 @@ fn update_all_in_place<S: LaneState, V: Names, const TAG_BYTES: usize>(
     }
 }
 
-/// Seals chunks by `update_in_place`, in a buffer that holds the message. Otherwise as `seal_by_update`.
+/// Seals chunks by `update_in_place`, in a buffer with the message. Otherwise as `seal_by_update`.
 pub fn seal_in_place<const TAG_BYTES: usize>(
     cipher: &AnyCipher,
     associated_data: &[u8],
@@ -113,7 +113,7 @@ pub fn seal_at_once<R: Abort, const TAG_BYTES: usize>(
     Some(cipher.seal_chunks(associated_data, chunks, ciphertext))
 }
 
-// Hands a decryptor chunks, up to one that it refuses.
+// Passes chunks to a decryptor, up to one that it refuses.
 fn open_each<S: LaneState, V: Names, const TAG_BYTES: usize>(
     decryptor: &mut Decryptor<S, V, TAG_BYTES>,
     chunks: &[&[u8]],

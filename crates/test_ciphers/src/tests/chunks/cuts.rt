@@ -1,4 +1,4 @@
-//! Messages in chunks, wherever they are cut: the chunked calls give what the one-shot calls give.
+//! Messages in chunks, cut at any place: the chunked calls have the results of the one-shot calls.
 
 ghost use Rattle.std.specs.Prelude.{◌≡◌, ◌⊎◌, ◌≤◌, length};
 ghost use Rattle.aegis_base.specs.Lane.{IsTagLength};
@@ -16,7 +16,7 @@ use test_tools::worked::{ASSOCIATED_DATA, MESSAGE};
 // One byte more than two rate blocks of 128 bytes.
 const LONGEST: usize = 257;
 
-// Seals a message in pieces of these lengths, in each way that there is.
+// Seals a message in pieces of these lengths, by each call.
 fn check_sealing<R: Abort + AllocGlobal, const TAG_BYTES: usize>(
     rt: &R,
     cipher: &AnyCipher,
@@ -49,7 +49,7 @@ fn check_sealing<R: Abort + AllocGlobal, const TAG_BYTES: usize>(
     Ok(())
 }
 
-// Opens a ciphertext in pieces of these lengths, in both ways that there are.
+// Opens a ciphertext in pieces of these lengths, by both calls.
 fn check_opening<R: Abort + AllocGlobal, const TAG_BYTES: usize>(
     rt: &R,
     cipher: &AnyCipher,

@@ -12,7 +12,7 @@ use std::test::Fail;
 use test_tools::calls::{encrypt_in_place, keyed};
 use test_tools::worked::{ASSOCIATED_DATA, MESSAGE};
 
-// A chunk that is longer than the room left is as if it were not there.
+// A chunk that is longer than the room left has no effect.
 #[test]
 fn chunk_without_room(rt: HostRuntime) -> Result<(), Fail> {
     let cipher = Aegis128L::<16>::new(&[0; 16], &[0; 16]);
@@ -25,8 +25,8 @@ fn chunk_without_room(rt: HostRuntime) -> Result<(), Fail> {
     Ok(())
 }
 
-// What is handed out is the front of the destination itself: what is written to it is in the destination. The bytes behind
-// it stay.
+// The slice that is returned is the front of the destination itself: a write to it is seen in the destination. The
+// bytes after it are unchanged.
 fn check_front<R: Abort, const TAG_BYTES: usize>(rt: &R, cipher: &AnyCipher) -> Result<(), Fail>
     requires { IsTagLength TAG_BYTES }
 {

@@ -1,4 +1,4 @@
-//! How the opening of the worked example ends, and what its destination then holds.
+//! The ends of opening the worked example, and the destination after each.
 
 use crate::tests::assert_bytes;
 use aegis::Error;
@@ -26,7 +26,7 @@ fn wrong_tag() -> Result<[u8; 16], Fail> {
     Ok(tag)
 }
 
-// The first 114 bytes are these, and six come after them that were not written.
+// These 114 bytes, and six bytes after them that were not written.
 fn then_unwritten(bytes: [u8; 114]) -> [u8; 120] {
     let mut destination = [0xaa; 120];
     destination[..114].copy_from_slice(&bytes);

@@ -58,7 +58,7 @@ fn room_after_six_pieces(rt: HostRuntime) -> Result<(), Fail> {
     Ok(())
 }
 
-// The cipher of a variant, with key and nonce of zeros.
+// The cipher of a variant, with a key and a nonce of zeros.
 fn zeros(variant: AnyVariant) -> AnyCipher {
     let short = Keys {
         key: [0; 16],
@@ -98,7 +98,7 @@ fn sealed_in_pieces_and_opened_in_others(rt: HostRuntime) -> Result<(), Fail> {
     Ok(())
 }
 
-// Of no chunk, and of an empty one. Opened, it is empty too.
+// The message of no chunk, and of an empty one. It opens to an empty message.
 fn check_empty<R: Abort, const TAG_BYTES: usize>(rt: &R, cipher: &AnyCipher) -> Result<(), Fail>
     requires { IsTagLength TAG_BYTES }
 {

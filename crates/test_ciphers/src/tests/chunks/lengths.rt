@@ -1,4 +1,4 @@
-//! The count of a message's bytes, at its ends.
+//! The length of a message, at its limits.
 
 use aegis::{Error, MAX_AEAD_BYTES};
 use aegis_base::Length;

@@ -15,7 +15,7 @@ use std::test::Fail;
 use test_tools::calls::{SHORT_KEY, keyed};
 use test_tools::worked::MESSAGE;
 
-// It was not made by the library. A clone made before the update is as good.
+// The MAC was not made by the library. A clone that is made before the update gives the same.
 #[test]
 fn aegis128l_of_one_byte(rt: HostRuntime) -> Result<(), Fail> {
     let expected = <[u8; 16] as FromHex>::from_hex("7b1e31c93ef8a9b70d3a7aae2980d6a0")?;
@@ -42,7 +42,7 @@ fn finalize_all<S: LaneState, V: Names, const KEY_BYTES: usize, const TAG_BYTES:
     (mac.finalize(), remaining)
 }
 
-// The MAC of pieces, one after the other, and the room that is said to be left behind them.
+// The MAC of pieces, one after the other, and what `remaining` returns after them.
 fn update_all<const TAG_BYTES: usize>(
     cipher: &AnyCipher,
     pieces: &[&[u8]],
@@ -52,7 +52,7 @@ fn update_all<const TAG_BYTES: usize>(
     with_mac!(cipher, TAG_BYTES, mac => finalize_all(mac, pieces))
 }
 
-// A MAC and the room behind its input.
+// Asserts a MAC, and what `remaining` returns after its input.
 fn assert_mac<R: Abort, const TAG_BYTES: usize>(
     rt: &R,
     found: ([u8; TAG_BYTES], u64),
@@ -63,7 +63,7 @@ fn assert_mac<R: Abort, const TAG_BYTES: usize>(
     assert_eq!(rt; found.1, room);
 }
 
-// The MAC of no input is that of empty pieces. Otherwise pieces are as good as the whole, in either call.
+// The MAC of pieces is that of the whole input, by both calls. The MAC of no input is that of empty pieces.
 fn check_pieces<R: Abort + AllocGlobal, const TAG_BYTES: usize>(
     rt: &R,
     cipher: &AnyCipher,
@@ -106,7 +106,7 @@ fn pieces_and_the_whole(rt: HostRuntime) -> Result<(), Fail> {
     Ok(())
 }
 
-// A MAC of the message and its clone, which take in other bytes from then on.
+// A MAC and its clone, which take in different bytes from then on.
 fn finalize_both<S: LaneState, V: Names, const KEY_BYTES: usize, const TAG_BYTES: usize>(
     mac: Mac<S, V, KEY_BYTES, TAG_BYTES>,
 ) -> Result<([u8; TAG_BYTES], [u8; TAG_BYTES]), Fail>
@@ -169,7 +169,7 @@ fn verify<const TAG_BYTES: usize>(
     with_mac!(cipher, TAG_BYTES, mac => verify_message(mac, expected))
 }
 
-// A MAC with one byte changed is refused, whichever the byte.
+// A MAC with any one byte changed is refused.
 fn check_verify<R: Abort, const TAG_BYTES: usize>(rt: &R, cipher: &AnyCipher) -> Result<(), Fail>
     requires { IsTagLength TAG_BYTES }
 {

@@ -1,4 +1,4 @@
-//! Decryptors that are handed chunks which do not fit, and decryptors that are dropped.
+//! Decryptors that get chunks which do not fit, and decryptors that are dropped.
 
 ghost use Rattle.std.specs.Prelude.{◌≡◌, ◌⊎◌, ◌≤◌, length};
 ghost use Rattle.aegis_base.specs.Lane.{IsTagLength};
@@ -18,7 +18,7 @@ const LONGEST: usize = 385;
 
 const TOO_SMALL: Result<(), Error> = Err(Error::OutputBufferTooSmall);
 
-// A chunk, and what a decryptor says to it.
+// A chunk, and what `update` returns for it.
 type Step<'a> = (&'a [u8], Result<(), Error>);
 
 fn assert_answer<R: Abort>(rt: &R, answer: Result<(), Error>, expected: Result<(), Error>) {
@@ -35,7 +35,7 @@ fn take_steps<R: Abort, S: LaneState, V: Names, const TAG_BYTES: usize>(
     }
 }
 
-// Takes these steps, and then finalizes the decryptor, or drops it where there is no tag.
+// Takes these steps, and then finalizes the decryptor, or drops it if there is no tag.
 fn end_by_steps<'a, R: Abort, const TAG_BYTES: usize>(
     rt: &R,
     cipher: &AnyCipher,
@@ -114,7 +114,7 @@ fn refused_chunks(rt: HostRuntime) -> Result<(), Fail> {
     Ok(())
 }
 
-// After these steps and a drop there are so many zeros at the front of the destination, and the rest is as it was.
+// After these steps and a drop, so many zeros are at the front of the destination, and the rest is unchanged.
 fn check_drop<R: Abort, const TAG_BYTES: usize>(
     rt: &R,
     cipher: &AnyCipher,

@@ -1,4 +1,4 @@
-//! What is reserved: the vector that is answered, at once, and nothing else.
+//! Reservations: each call reserves the vector that it returns, at once, and nothing else.
 
 ghost use Rattle.std.specs.Prelude.{◌≡◌, ◌⊎◌, ◌≤◌, length};
 ghost use Rattle.aegis_base.specs.Lane.{IsTagLength};
@@ -16,7 +16,7 @@ use test_tools::worked::ASSOCIATED_DATA;
 
 const MESSAGE_BYTES: [usize; 2] = [114, 65537];
 
-// Where the first request is refused, each call says so, also where the tag is wrong.
+// If the first request is refused, each call returns `OutOfMemory`, even if the tag is wrong.
 fn check_no_memory<R: Abort + AllocGlobal, const TAG_BYTES: usize>(
     rt: &R,
     cipher: &AnyCipher,
@@ -53,7 +53,7 @@ fn first_request_refused(rt: HostRuntime) -> Result<(), Fail> {
     Ok(())
 }
 
-// What is sealed and opened where a second request would be refused is what the calls in place give.
+// If a second request would be refused, sealing and opening have the results of the calls in place.
 fn check_one_request<R: Abort + AllocGlobal, const TAG_BYTES: usize>(
     rt: &R,
     cipher: &AnyCipher,
@@ -81,7 +81,7 @@ fn check_one_request<R: Abort + AllocGlobal, const TAG_BYTES: usize>(
     Ok(())
 }
 
-// The same of keystreams.
+// The same for keystreams.
 fn check_one_request_of_keystream<R: Abort + AllocGlobal, const TAG_BYTES: usize>(
     rt: &R,
     cipher: &AnyCipher,

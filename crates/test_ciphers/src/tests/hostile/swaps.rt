@@ -1,4 +1,4 @@
-//! Parts of a sealed message that are swapped or moved, and tags of one byte alone: opening refuses them.
+//! Parts of a sealed message that are swapped or moved, and tags of a single repeated byte: opening refuses them.
 
 ghost use Rattle.std.specs.Prelude.{◌≡◌, ◌⊎◌, ◌≤◌, length};
 ghost use Rattle.aegis_base.specs.Lane.{IsTagLength};
@@ -13,7 +13,7 @@ use test_tools::calls::{
 };
 use test_tools::worked::{ASSOCIATED_DATA, MESSAGE};
 
-// The associated data and the message, one behind the other.
+// The length of the associated data and the message together.
 const LONGEST: usize = 17 + 114;
 
 fn assert_refused<R: Abort, const TAG_BYTES: usize>(
@@ -35,7 +35,7 @@ fn assert_refused<R: Abort, const TAG_BYTES: usize>(
     assert!(rt; is_all(opened, 0xaa), "{cipher:?}");
 }
 
-// The cipher with the key of another as its nonce, and the other way round.
+// The cipher with its key and nonce exchanged.
 fn exchanged(variant: AnyVariant) -> AnyCipher {
     let short = Keys {
         key: SHORT_NONCE,
@@ -75,7 +75,7 @@ fn swapped_parts(rt: HostRuntime) {
     }
 }
 
-// The associated data, and a message or a ciphertext behind it.
+// The associated data, and then a message or a ciphertext.
 fn behind_data(bytes: &[u8; 114]) -> [u8; LONGEST] {
     let mut both = [0; LONGEST];
     both[..17].copy_from_slice(&ASSOCIATED_DATA);
@@ -101,7 +101,7 @@ fn check_moved_message<R: Abort, const TAG_BYTES: usize>(rt: &R, cipher: &AnyCip
     assert_refused(rt, cipher, sealed, &tag, &ASSOCIATED_DATA);
 }
 
-// Associated data moved to the front of the ciphertext, and a front of the message taken for associated data.
+// Associated data moved to the front of the ciphertext, and a front of the message moved to the associated data.
 #[test]
 fn moved_associated_data(rt: HostRuntime) {
     for variant in VARIANTS {

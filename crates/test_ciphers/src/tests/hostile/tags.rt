@@ -1,4 +1,4 @@
-//! Tags with one byte changed, whichever the byte: each way of opening refuses them, and leaves what it says.
+//! Tags with any one byte changed: each way of opening refuses them, and leaves the bytes that it should.
 
 ghost use Rattle.std.specs.Prelude.{◌≡◌, ◌⊎◌, ◌≤◌, length};
 ghost use Rattle.aegis_base.specs.Lane.{IsTagLength};
@@ -16,10 +16,10 @@ use test_tools::worked::ASSOCIATED_DATA;
 // One byte more than two rate blocks of 128 bytes.
 const LONGEST: usize = 257;
 
-// How much longer the destinations are than the messages.
+// The number of bytes of the destinations after the messages.
 const BEHIND: usize = 6;
 
-// What the destinations hold before.
+// The bytes of the destinations before.
 const FILLER: u8 = 0x5c;
 
 // Opens at once in place, which leaves 0xaa, and into a vector.
@@ -42,7 +42,7 @@ fn check_at_once<R: Abort + AllocGlobal, const TAG_BYTES: usize>(
     Ok(())
 }
 
-// Opens in chunks, which leaves zeros over the message, and the bytes behind it as they were.
+// Opens in chunks, which leaves zeros in place of the message, and the bytes after it unchanged.
 fn check_in_chunks<R: Abort, const TAG_BYTES: usize>(
     rt: &R,
     cipher: &AnyCipher,
@@ -88,7 +88,7 @@ fn check_tags<R: Abort + AllocGlobal, const TAG_BYTES: usize>(
     Ok(())
 }
 
-// Also of an empty message, whose destination stays as it was.
+// An empty message too, whose destination is unchanged.
 #[test]
 fn wrong_tags_are_refused(rt: HostRuntime) -> Result<(), Fail> {
     let message: [u8; LONGEST] = counting(1);

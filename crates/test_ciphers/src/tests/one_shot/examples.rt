@@ -92,7 +92,7 @@ fn aegis256_opens(rt: HostRuntime) -> Result<(), Fail> {
     Ok(())
 }
 
-// The length of the tag has no effect on the ciphertext.
+// The ciphertext does not depend on the length of the tag.
 #[test]
 fn long_tags_open(rt: HostRuntime) -> Result<(), Fail> {
     let mut buffer = MESSAGE;

@@ -11,8 +11,8 @@ use test_tools::calls;
 
 const MESSAGE: [u8; 13] = *b"AEGIS is fast";
 
-// The keystream is the ciphertext of zeros, whatever it is written over. A message that is xored with it twice is as
-// it was.
+// The keystream is the ciphertext of zeros, whatever the buffer held. A message that is xored with it twice is
+// unchanged.
 fn check_keystream<R: Abort + AllocGlobal, const TAG_BYTES: usize>(
     rt: &R,
     variant: AnyVariant,

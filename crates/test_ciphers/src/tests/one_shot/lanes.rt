@@ -1,4 +1,4 @@
-//! Lanes that do not see one another, and ciphers of several lanes, which are copied.
+//! Lanes that are independent of each other, and ciphers of several lanes, which are `Copy`.
 
 use crate::tests::assert_bytes;
 use aegis::aegis128x2::Aegis128X2;
@@ -9,7 +9,7 @@ use std::process::Abort;
 use std::test::Fail;
 use test_tools::calls::{LONG_KEY, LONG_NONCE, SHORT_KEY, SHORT_NONCE};
 
-// The first byte of a message is in the first of four lanes.
+// The first byte of a message belongs to the first of four lanes.
 #[test]
 fn other_lanes_stay(rt: HostRuntime) {
     let mut first = [7; 256];
@@ -25,7 +25,7 @@ fn other_lanes_stay(rt: HostRuntime) {
     }
 }
 
-// What a cipher seals 33 bytes to, and the tag.
+// The ciphertext of 33 bytes, and the tag.
 macro_rules! sealed {
     ($cipher:expr) => {{
         let mut buffer = [7; 33];

@@ -12,7 +12,7 @@ use test_tools::calls;
 // One byte more than two rate blocks of 128 bytes.
 const LONGEST: usize = 257;
 
-// What either form seals, both open.
+// Both ways of opening open what each way of sealing has sealed.
 fn opens<R: Abort + AllocGlobal, const TAG_BYTES: usize>(
     rt: &R,
     variant: AnyVariant,
@@ -39,7 +39,7 @@ fn opens<R: Abort + AllocGlobal, const TAG_BYTES: usize>(
     Ok(())
 }
 
-// Of no byte, one byte, one rate block or two, and a byte less or more.
+// Lengths of no byte, one byte, one rate block or two, and a byte less or more.
 #[test]
 fn what_is_sealed_is_opened(rt: HostRuntime) -> Result<(), Fail> {
     let message = calls::counting::<LONGEST>(1);

@@ -1,4 +1,5 @@
-//! The stream of "abc" and no bytes, beside records that are sealed one by one under the associated data of the format.
+//! The stream of "abc" and an empty message, compared with records that are sealed one by one under the associated data
+//! of the format.
 
 ghost use Rattle.std.specs.Prelude.{◌≤◌};
 
@@ -8,8 +9,8 @@ use aegis::record::{open_records, seal_records};
 use std::alloc::{AllocError, Global};
 use std::test::Fail;
 
-// What is sealed with each record, after the header: its number, in the second version how many bytes the messages before
-// it have, and its flag.
+// The associated data of each record: the header, its number, in the second version the number of bytes of the messages
+// before it, and its flag.
 const FIRST_DATA: [[u8; 13]; 2] = [*b"AGR1\0\0\0\0\0\0\0\0\0", *b"AGR1\x01\0\0\0\0\0\0\0\x01"];
 
 const SECOND_DATA: [[u8; 21]; 2] = [
@@ -17,7 +18,7 @@ const SECOND_DATA: [[u8; 21]; 2] = [
     *b"AGR2\x01\0\0\0\0\0\0\0\x03\0\0\0\0\0\0\0\x01",
 ];
 
-// The stream whose records are sealed with this.
+// The stream whose records are sealed under this associated data.
 fn sealed_by_hand<const N: usize>(
     alloc: Global,
     header: &[u8],

@@ -4,12 +4,12 @@ use crate::tests::records::streams::{CONTEXT, FIRST, KEY, PREFIX, SECOND};
 use aegis::record::{RecordError, open_records};
 use std::test::Fail;
 
-// Why bytes are refused.
+// The error for which bytes are refused.
 fn refusal(rt: &HostRuntime, bytes: &[u8]) -> Option<RecordError> {
     open_records(rt.alloc(), &KEY, &PREFIX, &CONTEXT, bytes).err()
 }
 
-// The number of a front that is refused otherwise than it should.
+// The length of a front that is not refused as it should be.
 fn wrong_front(rt: &HostRuntime, stream: &[u8]) -> Option<usize> {
     for length in 0..stream.len() {
         let expected = if length < 4 {
@@ -44,7 +44,7 @@ fn a_byte_behind_the_last_record_is_refused(rt: HostRuntime) -> Result<(), Fail>
     Ok(())
 }
 
-// What is refused where the byte at this place has another last bit.
+// The error if the last bit of the byte at this place is changed.
 fn refusal_of_changed(place: usize, is_first_version: bool) -> RecordError {
     match place {
         0..4 => RecordError::Header,
@@ -67,7 +67,7 @@ fn refusal_of_changed(place: usize, is_first_version: bool) -> RecordError {
     }
 }
 
-// The place of a changed byte that is refused otherwise than it should.
+// The place of a changed byte that is not refused as it should be.
 fn wrong_change(rt: &HostRuntime, sealed: &[u8; 81], is_first_version: bool) -> Option<usize> {
     for place in 0..81 {
         let mut stream = *sealed;
@@ -103,7 +103,7 @@ fn another_flag_is_refused(rt: HostRuntime) {
     }
 }
 
-// Each version has its own limit, and it is asked for before the bytes are counted.
+// Each version has its own limit, which is checked before the bytes are counted.
 #[test]
 fn a_length_past_the_limit_is_refused(rt: HostRuntime) {
     let past_first = b"AGR1\x01\x01\x00\x01\x00";
@@ -126,7 +126,7 @@ fn another_header_is_refused(rt: HostRuntime) {
     }
 }
 
-// The header is bound by each tag, so neither version's records pass as the other's.
+// Each tag covers the header, so the records of one version are no records of the other.
 #[test]
 fn the_other_versions_header_is_refused(rt: HostRuntime) {
     let mut stream = FIRST;

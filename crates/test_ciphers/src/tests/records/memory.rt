@@ -1,4 +1,4 @@
-//! Want of memory: each request refused in turn.
+//! No memory: each request refused in turn.
 
 use crate::tests::records::streams::{
     CONTEXT, FIRST, KEY, MESSAGES, MIGRATED, PREFIX, SECOND, migrated, opens_to_messages,
@@ -26,7 +26,7 @@ fn sealing_makes_two_requests(rt: HostRuntime) -> Result<(), Fail> {
     Ok(())
 }
 
-// A stream is refused for want of memory, or opens to the messages.
+// Opening a stream returns `OutOfMemory` or the messages.
 fn check_opening<R: Abort + AllocGlobal>(rt: &R, stream: &[u8]) {
     let mut refused = 0;
     for requests in 0..REQUESTS {

@@ -8,10 +8,10 @@ use aegis_lines::answer_line;
 use std::alloc::Allocator;
 use std::test::Fail;
 
-/// How many records there are where there are many.
+/// The number of records in the tests of many records.
 const MANY: usize = 10_000;
 
-// Whether a message is sealed to a stream of its length, and opened again.
+// Whether the stream of a message has the right length, and opens to the message.
 fn opens_again<A: Allocator + Copy>(alloc: A, message: &[u8]) -> Result<bool, RecordError>
     requires { length message.now ≤ MAX_MESSAGE_BYTES }
 {
@@ -25,7 +25,7 @@ fn opens_again<A: Allocator + Copy>(alloc: A, message: &[u8]) -> Result<bool, Re
     )
 }
 
-// Whether a message of so many bytes is.
+// The same for a message of so many bytes.
 fn length_opens_again<A: Allocator + Copy>(alloc: A, length: usize) -> Result<bool, RecordError>
     requires { length ≤ MAX_MESSAGE_BYTES }
 {
@@ -41,7 +41,7 @@ fn long_messages(rt: HostRuntime) -> Result<(), Fail> {
     Ok(())
 }
 
-// How long the streams of a message are, before and after a migration.
+// The lengths of the stream of a message, before and after a migration.
 fn migrates<A: Allocator + Copy>(alloc: A, message: &[u8]) -> Result<(usize, usize), RecordError>
     requires { length message.now ≤ MAX_MESSAGE_BYTES }
 {

@@ -1,4 +1,4 @@
-//! A record at a time.
+//! Record streams, sealed and opened a record at a time.
 
 use crate::tests::records::streams::{CONTEXT, FIRST, KEY, MESSAGES, PREFIX, SECOND};
 use aegis::record::{Opened, RecordError, RecordOpener, RecordSealer, seal_records};
@@ -9,7 +9,7 @@ use test_tools::memory::Rationed;
 // Three messages.
 const THREE: [&[u8]; 3] = [b"one", b"", b"three"];
 
-// The stream of the three, sealed one by one.
+// The stream of the three messages, sealed one by one.
 fn sealed<A: Allocator + Copy>(alloc: A) -> Result<Vec<u8, A>, RecordError> {
     let mut stream = Vec::new(alloc);
     let mut sealer = RecordSealer::new(alloc, &KEY, &PREFIX, &CONTEXT, &mut stream)?;
@@ -30,7 +30,7 @@ pub fn opened<'b, A: Allocator + Copy>(
     opener.open_next(bytes)
 }
 
-// Why the first record of a stream is refused, or its header.
+// The error for which the header or the first record of a stream is refused.
 fn refusal(rt: &HostRuntime, stream: &[u8]) -> Option<RecordError> {
     let (header, records) = stream.split_at(stream.len().min(4));
     match RecordOpener::new(rt.alloc(), &KEY, &PREFIX, &CONTEXT, header) {

@@ -1,4 +1,4 @@
-//! Streams that are stored, and what is sealed, opened and migrated.
+//! Stored streams, compared with streams that are sealed, opened and migrated.
 
 ghost use Rattle.std.specs.Prelude.{◌≤◌, length};
 
@@ -7,11 +7,13 @@ use aegis::record::{RecordError, migrate, open_records, records_len, seal_record
 use std::alloc::Allocator;
 use std::test::Fail;
 
-/// The key, the prefix and the context of the stored streams.
+/// The key of the stored streams.
 pub const KEY: [u8; 32] = [0; 32];
 
+/// The prefix of the stored streams.
 pub const PREFIX: [u8; 24] = [0; 24];
 
+/// The context of the stored streams.
 pub const CONTEXT: [u8; 0] = [];
 
 /// Another prefix.
@@ -22,7 +24,7 @@ pub const NEW_PREFIX: [u8; 24] = [
 /// The messages of the stored streams.
 pub const MESSAGES: [&[u8]; 2] = [b"", b"abc"];
 
-/// Their stream of version 1: a header, the record of no bytes, and the record of three.
+/// Their stream of version 1: a header, the record of the empty message, and the record of three bytes.
 pub const FIRST: [u8; 81] = [
     0x41, 0x47, 0x52, 0x31, //
     0x00, 0x00, 0x00, 0x00, 0x00, //
@@ -84,7 +86,7 @@ fn both_versions_are_opened(rt: HostRuntime) -> Result<(), Fail> {
     Ok(())
 }
 
-/// A stream under the other prefix.
+/// Migrates a stream to the other prefix.
 pub fn migrated<A: Allocator + Copy>(alloc: A, stream: &[u8]) -> Result<Vec<u8, A>, RecordError>
     requires { length stream.now ≤ MAX_AEAD_BYTES }
 {
@@ -113,7 +115,7 @@ fn a_damaged_stream_is_not_migrated(rt: HostRuntime) {
     assert_eq!(rt; refused, Some(RecordError::Damaged(1)));
 }
 
-// Another key, prefix or context opens nothing.
+// A stream does not open under another key, prefix or context.
 #[test]
 fn only_its_own_keys_open_a_stream(rt: HostRuntime) {
     let key = [1; 32];

@@ -1,6 +1,6 @@
-//! Each round of the library, by its own name, beside that by the table.
+//! Each round of the library, compared with the round by the table.
 //!
-//! The blocks have rounds by the arithmetic of the field, their rows and the pairs of rows by byte permutes.
+//! The rounds of blocks compute in the field; those of rows and of pairs of rows use byte permutes.
 
 ghost use Rattle.std.specs.Prelude.{ℕ, ◌+◌, ◌*◌, ◌<◌, ◌≤◌};
 
@@ -56,7 +56,7 @@ impl Places {
         AesBlock::from_bytes(&self.keys[16 * place..16 * place + 16])
     }
 
-    // The block that a round makes at this place is the table's.
+    // Asserts that the block after a round at this place is the table's.
     fn check(&self, rt: &impl Abort, place: usize, end: AesBlock)
         requires { place < 8 }
     {

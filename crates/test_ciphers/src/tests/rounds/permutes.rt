@@ -1,4 +1,4 @@
-//! The constants of the byte permutes, derived anew from the tower field.
+//! The constants of the byte permutes, computed again from the tower field.
 
 use super::{plain_inverse, product};
 use crate::tests::assert_bytes;
@@ -10,7 +10,7 @@ const SCALE: u8 = 0x0c;
 
 const ROOT: u8 = 0x34;
 
-// What stands for 1 / 0.
+// The value that stands for 1 / 0.
 const INFINITY: u8 = 0x80;
 
 // The element of the field of sixteen with these coordinates: bit i is that of the generator's power i.

@@ -4,7 +4,7 @@ use Rattle.aegis_aes.specs.Blocks.{block_of_four}
 use Rattle.aegis_aes.proofs.Places.{all_four_lanes, block_at-kept}
 use Rattle.aegis_aes.proofs.block4.AesBlock4Row.store.Goals as goal
 
--- the front stays where it was written, since the second write leaves what is below it
+-- the front stays as it was written, since the second write does not change the bytes below it
 pub returns-clause-written : goal.returns-clause-written
 returns-clause-written c =
     let at = c.args.at in

@@ -2,7 +2,7 @@ use Rattle.std.proofs.Common.{◌≡◌, zero, suc, ◌+◌, ◌*◌, arith}
 use Rattle.aegis_aes.proofs.Places.{block_at-kept}
 use Rattle.aegis_aes.proofs.pair.Rows2Pair.store.Goals as goal
 
--- the first row stays where it was written, since the second write leaves what is below it
+-- the first row stays as it was written, since the second write does not change the bytes below it
 pub returns-clause-written : goal.returns-clause-written
 returns-clause-written g c zero j low inside =
     let place : c.args.at + 16 * (0 * g.R.Row.LANES + j) ≡ c.args.at + 16 * j = omega arith in

@@ -1,6 +1,6 @@
--- The message of the kept chunks is handed out where there is one, and what is left of the destination otherwise. By hand,
--- in the same form as a decryptor's `finalize`, with the destination as a parameter: the walk makes the two calls, of
--- `settle_chunks` and of `handed`, and puts the facts of their contracts together. Assumes `Logic`.
+-- The message of the kept chunks is returned if there is one, and otherwise the destination is erased. By hand, in the
+-- same form as a decryptor's `finalize`, with the destination as a parameter: the walk makes the two calls, of
+-- `settle_chunks` and of `handed`, and combines the facts of their contracts. Assumes `Logic`.
 use mathlib.Core.Path.{◌≡◌, refl, sym, subst, ◌∙◌}
 use mathlib.Core.Bool.{true, false}
 use Prim.Native.Nat.{ℕ, ◌≤◌}

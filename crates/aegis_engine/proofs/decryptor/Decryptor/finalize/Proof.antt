@@ -1,6 +1,6 @@
--- The message is handed out where the tag is right, and what is left of the destination otherwise. By hand, since the
--- result lends on what a struct holds: the walk makes the two calls, of `settle` and of `handed`, takes the facts of their
--- contracts, and puts them together in three rewrites, without a look at the lanes. Assumes `Logic`.
+-- The message is returned if the tag is right, and otherwise it is erased. By hand, since the result lends a slice that
+-- a struct holds: the walk makes the two calls, of `settle` and of `handed`, and combines the facts of their contracts
+-- by three rewrites. Assumes `Logic`.
 use mathlib.Core.Path.{◌≡◌, refl, ap, ◌∙◌}
 use mathlib.Core.Bool.{true, false}
 use Prim.Native.Nat.{ℕ, ◌≤◌}

@@ -1,4 +1,4 @@
--- What each of the readings refuses, and what they give.
+-- The faults of each reading, and the result.
 use Rattle.std.proofs.lemmas.Result.{err_from_is_err_and}
 use Rattle.aegis_lines.specs.Command.{cipher_with}
 use Rattle.aegis_lines.proofs.KeyFacts.{ad_digits, ad_length, key_lengths, m_digits, m_length, texts_read}

@@ -1,4 +1,4 @@
--- What was written after one line, where its answer was written whole, in part or not at all.
+-- The output after one line, if its answer was written in whole, in part or not at all.
 use Rattle.std.proofs.Common.{◌≡◌, ap, ◌∙◌, rules}
 use Rattle.std.proofs.KnownBytes.{Appends-nil}
 use Rattle.std.proofs.lemmas.Result.{err_from_is_err_and}

@@ -3,7 +3,7 @@ use Rattle.aegis_lines.specs.Lines.{lines_after}
 use Rattle.aegis_lines.specs.Output.{Answers}
 use Rattle.aegis_lines.proofs.session.Session.take.Given as goal
 
--- All lines are answered but those of the bytes that are left.
+-- All lines are answered but those of the bytes after these.
 abbrev pub invariant-loop-byte : goal.invariant-loop-byte
 invariant-loop-byte g l = (ends : Bool) (more : List ℕ) → Answers
     (lines_after ends l.fn.self.line.items (l.bytes ++ more)) (lines_after ends l.self.line.items (drop l.byte-index l.bytes ++ more))

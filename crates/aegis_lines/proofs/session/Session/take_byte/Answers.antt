@@ -1,4 +1,4 @@
--- A byte ends the line or is one more of it.
+-- A byte ends the line or is appended to it.
 use Rattle.std.proofs.KnownBytes.{Appends-nil}
 use Rattle.std.proofs.lemmas.Result.{err_from_is_err_and, on_err_weaker}
 use Rattle.aegis_lines.proofs.OutputFacts.{no_beginning, on_ok_both}

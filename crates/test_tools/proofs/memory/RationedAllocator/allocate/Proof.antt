@@ -1,4 +1,4 @@
--- It refuses where nothing is left, and else answers what the inner allocator answers. Assumes `Logic`.
+-- It refuses if nothing is left, and otherwise returns the result of the inner allocator. Assumes `Logic`.
 use Rattle.std.proofs.Common.{◌≡◌, ℕ, ◌+◌, ◌^◌, ◌<◌, true, false, List, [], ◌∷◌, Ok, Err, refl, w64, Bor}
 use seplogic.Ra.Ura.{Ura}
 use mir.Syntax.{Ty, Args, Fn, a_type, dnil, dcons}
