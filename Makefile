@@ -91,7 +91,7 @@ RUNNABLE = $(if $(shell grep -m1 -w avx2 /proc/cpuinfo),$(LEVELS),x86-64-v2)
 
 check-c: check-header $(addprefix check-c-,both $(RUNNABLE)) check-sodium
 
-# Each header is what its template gives, and stands by itself, as C and as C++.
+# Each header is what its template generates, and compiles alone, as C and as C++.
 check-header:
 	python3 include/generate.py --check
 	for header in $(HEADERS); do for form in HUNKRAVY_COMPAT HUNKRAVY_COMPAT_WRITTEN; do \
@@ -112,7 +112,7 @@ check-c-%: $(OUT)/%/libhunkravy.a
 		$(OUT)/$*/$$program $(STORED_LINES) || exit 1; \
 	done; done
 
-# Runs the test of libsodium's calls over libsodium itself, if its release has AEGIS, so that both are found to do the same.
+# Runs the test of libsodium's calls with libsodium itself, if its release has AEGIS, to see that both behave the same.
 check-sodium: $(OUT)/both/libhunkravy.a
 	if pkg-config --exists 'libsodium >= 1.0.19'; then \
 		$(CC) -std=c99 $(C_FLAGS) -DWITH_LIBSODIUM examples/c/check_libsodium.c $< \
@@ -172,8 +172,9 @@ check-tool: $(TOOL)
 
 # ---- Speed
 
-# One level is measured, x86-64-v2 if CPU gives none, and what the library is compared with is built for it too. Without
-# `no-vectorize-slp` the compiler gathers look-ups into vectors, which makes the four tables a third slower at four lanes.
+# One level is measured, x86-64-v2 unless CPU gives another, and the code that the library is compared with is built for
+# it too. Without `no-vectorize-slp` the compiler gathers look-ups into vectors, which makes the four tables a third
+# slower at four lanes.
 BENCH_CPU = $(or $(CPU),x86-64-v2)
 BENCH_FOLDER = $(if $(filter x86-64-v2,$(BENCH_CPU)),bench,bench/$(BENCH_CPU))
 
@@ -181,8 +182,8 @@ $(OUT)/%/driver: $(wildcard bench/*.rs $(STORED_LINES)/*) rust/src/exports.rs $(
 	CPU=$* $(RUSTC) $(if $(filter x86-64%,$*),-C target-cpu=$*) -C no-vectorize-slp bench/driver.rs \
 		-L native=$(OUT)/$* -l static=hunkravy -o $@
 
-# Measures the library beside look-up tables and AES instructions, beside libsodium if it is installed, and the chunked calls
-# and record streams beside the one-shot calls. Writes the tables of BENCH_FOLDER and of bench/.
+# Compares the library with look-up tables and AES instructions, with libsodium if it is installed, and the chunked
+# calls and record streams with the one-shot calls. Writes the tables of BENCH_FOLDER and of bench/.
 bench: $(OUT)/$(BENCH_CPU)/driver bench-peers bench-states
 	mkdir -p $(BENCH_FOLDER)
 	$< $(BENCH_FOLDER)

@@ -1,5 +1,5 @@
 #!/bin/bash
-# What hunkravy does with files, pipes, full devices and kills, which no proof reaches. `make check-tool` runs it.
+# Tests hunkravy with files, pipes, full devices and kills, which no proof covers. `make check-tool` runs it.
 #
 #   check.sh TOOL
 set -euo pipefail
@@ -14,7 +14,7 @@ fail() {
     exit 1
 }
 
-# status WANTED COMMAND..: the command ends with this status.
+# status WANTED COMMAND..: runs the command, which must end with this status.
 status() {
     local wanted=$1 found=0
     shift
@@ -22,12 +22,12 @@ status() {
     [ "$found" = "$wanted" ] || fail "status $found, not $wanted: $*: $(cat said)"
 }
 
-# says TEXT: the last command said so.
+# says TEXT: the output of the last command must have this text.
 says() {
     grep -q -- "$1" said || fail "'$1' is not in: $(cat said)"
 }
 
-# refuses FILE: the file is not opened, and nothing is left of it.
+# refuses FILE: the file must not open, and no output must be left.
 refuses() {
     status 1 "$tool" open -k key "$1" text
     [ ! -e text ] && [ ! -e text.part ] || fail "$1 was refused, and something is left"

@@ -1,4 +1,4 @@
--- The length of a stream, as a sum over its messages.
+-- The length of a stream as a sum over its messages.
 use denote.Ref.{Bor}
 use Rattle.std.proofs.Common.{◌≡◌, ℕ, zero, suc, ◌+◌, ◌<◌, ◌≤◌, List, [], ◌∷◌, ◌++◌, length, take, slice_index_or, add-one, refl, ap, arith}
 use Rattle.std.specs.Int.{w32, to_le_bytes}

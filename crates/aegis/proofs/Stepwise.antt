@@ -1,4 +1,4 @@
--- What a stream that is sealed or opened a record at a time has so far, and after one more record.
+-- A stream that is sealed or opened a record at a time: so far, and after one more record.
 use Rattle.std.proofs.Common.{◌≡◌, ◌≢◌, ◌⊎◌, ℕ, zero, suc, ◌+◌, ◌<◌, ◌≤◌, true, false, List, [], ◌∷◌, ◌++◌, length, take, drop, get_or, Result, Ok, Err, refl, sym, ap, subst, ◌∙◌, append_assoc, arith, inl, inr, ltb, nat_eq}
 use Rattle.std.proofs.lemmas.Bool.{cases_lt, le-ltb, lt-ltb}
 use Rattle.std.proofs.lemmas.Bool.Decides.{eqb_tells}
@@ -91,7 +91,7 @@ begun_last p m low key prefix context ms bytes b =
 
 -- ---- faults
 
--- a fault that is no want of bytes stays one, whatever follows
+-- a fault other than missing bytes stays a fault for any bytes that follow
 parts_after_more : (s : Sealing) (v : Version) (k o f : ℕ) (bytes more : List ℕ) (e : RecordError) → HasFault s v k o (parts_after v f bytes) e
     → (e ≡ errors.Truncated → more ≡ []) → HasFault s v k o (parts_after v f (bytes ++ more)) e
 parts_after_more s v k o f bytes more e h cut = elim (cases_lt 1 f) [
@@ -150,7 +150,7 @@ begun_fault_or p bytes e (inr fault) = inr (begun_fault p bytes e fault)
 
 -- ---- the record that was read
 
--- its flag is 0 or 1, and what follows is as `IsRecord` says
+-- a record and the rest of the bytes, as in `IsRecord`
 pub record Read (p : Progress) (flag : ℕ) (m rest bytes : List ℕ) : Type 0 where
   pub known : flag ≤ 1
   pub within : length m ≤ limit p.version
@@ -296,7 +296,7 @@ pub begun_open : (p : Progress) (key prefix context : List ℕ) (ms : List (List
 unfolding Begun
 begun_open p key prefix context ms before b = b.unended
 
--- ---- bytes that are cut short
+-- ---- bytes that are cut off
 
 cut_from : (s : Sealing) (v : Version) (k o : ℕ) (r : Result Parts RecordError) (e : RecordError) → HasFault s v k o r e → e ≡ errors.Truncated → r ≡ Err errors.Truncated
 cut_from s v k o (Err f) e h cut = ap (λ d. Err d) (sym h ∙ cut)

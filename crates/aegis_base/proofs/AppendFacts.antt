@@ -40,7 +40,7 @@ ciphertext-none variant lanes = sym (ciphertext-is variant lanes [] [] refl (λ 
 
 -- ---- runs
 
--- where a run begins
+-- the beginning of a run
 pub along-none : (variant : Variant) (lanes here : ℕ → List (List ℕ)) (block x : List ℕ)
     → ((j : ℕ) → j < variant.lanes → here j ≡ lanes j) → IsAlong variant lanes here block x 0
 along-none variant lanes here block x same =

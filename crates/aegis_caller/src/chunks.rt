@@ -11,7 +11,7 @@ use aegis::aegis128l::{Aegis128L, Aegis128LMac, Error};
 use aegis::aegis128x2::Aegis128X2;
 use aegis::aegis256x4::{Aegis256X4, Aegis256X4Mac};
 
-/// Seals a message that comes in two chunks.
+/// Seals a message in two chunks.
 pub fn seal_two(
     key: &[u8; 16],
     nonce: &[u8; 16],

@@ -1,4 +1,4 @@
-//! An encrypted file: it is read and written by blocks, and each is sealed in its place under the file's key.
+//! An encrypted file, which is read and written by blocks. Each block is sealed in place under the file's key.
 
 ghost use Rattle.std.specs.Prelude.{◌≡◌, ◌≤◌, IsOk, length};
 ghost use Rattle.std.specs.Int.{to_le_bytes, w64};
@@ -41,7 +41,7 @@ pub fn read_block(
     Aegis256X2::new(key, &header.nonce).decrypt_in_place(block, &header.tag, &number.to_le_bytes())
 }
 
-/// A block that was just written is read as it was.
+/// Writes a block and reads it back: it is unchanged.
 pub fn written_and_read(
     key: &Key,
     number: u64,

@@ -8,7 +8,7 @@ ghost use Rattle.aegis_base.specs.Message.{Opens};
 use aegis::MAX_AEAD_BYTES;
 use aegis::aegis128l::{Aegis128L, Error};
 
-/// Opens a message that comes in two chunks.
+/// Opens a message in two chunks.
 pub fn open_two_chunks(
     key: &[u8; 16],
     nonce: &[u8; 16],
@@ -89,8 +89,8 @@ pub fn open_in_one_call(
     Ok(opened.len())
 }
 
-/// Opens a list of chunks in a buffer that is used again after a refusal: zeros then stand over the chunks that were kept,
-/// and the rest is as it was.
+/// Opens a list of chunks in a buffer that is used again after a wrong tag: zeros then overwrite the chunks that were
+/// kept, and the rest is unchanged.
 pub fn open_list_or_erase(
     key: &[u8; 16],
     nonce: &[u8; 16],

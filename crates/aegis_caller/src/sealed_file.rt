@@ -8,7 +8,7 @@ use aegis::record::{MAX_CONTEXT_BYTES, RecordError};
 use aegis_files::{FileError, open_stream, seal_stream};
 use std::alloc::Allocator;
 
-/// Seals a text: the bytes are its file.
+/// Seals a text, and returns its file.
 pub fn seal_text<A: Allocator + Copy>(
     alloc: A,
     key: &Key,
@@ -26,7 +26,7 @@ pub fn seal_text<A: Allocator + Copy>(
     Ok(file)
 }
 
-/// Opens a file: the text is the one that it is the file of. An intact file is refused only if memory runs out.
+/// Opens a file, and returns its text. An intact file is refused only if memory runs out.
 pub fn open_text<A: Allocator + Copy>(
     alloc: A,
     key: &Key,

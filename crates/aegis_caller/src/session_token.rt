@@ -1,4 +1,4 @@
-//! A session token: claims in the open, and a MAC of them under the server's key.
+//! A session token: claims, which are not encrypted, and their MAC under the server's key.
 
 ghost use Rattle.std.specs.Prelude.{◌≡◌, ◌≢◌, ◌≤◌, IsErr, IsOk, length, replicate};
 ghost use Rattle.aegis_base.specs.Variant.{Aegis128L};

@@ -439,7 +439,8 @@ impl<S: LaneState, V: Names, const KEY_BYTES: usize, const TAG_BYTES: usize> Cip
     ///
     /// The chunks are taken in order. A chunk that does not fit in the rest of `dst`, or within [`MAX_AEAD_BYTES`], is
     /// left out whole. Returns the message that is sealed to the other chunks and this tag if there is one. Otherwise
-    /// returns [`Error::InvalidTag`], and as many bytes of `dst` are zeros. The rest of `dst` is unchanged.
+    /// returns [`Error::InvalidTag`], and zeros overwrite as many bytes of `dst` as the other chunks have. The rest of
+    /// `dst` is unchanged in both cases.
     pub fn open_chunks<'a>(
         &self,
         ad: &[u8],

@@ -3,7 +3,7 @@
 //! Sealing, opening and the xor with a keystream are one pass: each byte of a buffer is xored with the keystream, and
 //! the lanes take in the bytes before the xor (sealing), the bytes after it (opening), or zeros (a keystream).
 //! Associated data and the input of a MAC are taken in without a buffer. In contracts, `x` is the whole input of the
-//! run: the lanes have taken in its first `total` bytes, and the bytes of the call are those after them.
+//! run: the lanes have taken in its first `total` bytes, and a call takes in the bytes after them.
 
 ghost use Rattle.std.specs.Prelude.{◌≡◌, ℕ, ◌+◌, ◌*◌, ◌/◌, ◌%◌, ◌^◌, ◌<◌, ◌≤◌, bit_xor, length, List, slice_index, replicate};
 ghost use Rattle.aegis_aes.specs.Block.{IsSameBefore, IsSameFrom};

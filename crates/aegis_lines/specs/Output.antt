@@ -57,8 +57,8 @@ pub record AnswersRead (bytes : List ℕ) (left old new : Option (List ℕ)) : T
   pub at_end : ends ≡ true → IsAtEnd left
   pub written : AnswersSome (lines_of ends read) old new
 
--- All lines of `before` but those of `after` were answered: the answers were written, from `old` to `new`, and `sees`
--- is whether `saw` or an answer that begins with `error `.
+-- All lines of `before` but those of `after` were answered: from `old` to `new`, the answers were written, and `sees`
+-- is true if `saw` is or an answer begins with `error `.
 pub record Answers (before after : List (List ℕ)) (saw sees : Bool) (old new : Option (List ℕ)) : Type 0 where
   pub answered : List (List ℕ)
   pub texts : List (List ℕ)

@@ -19,6 +19,7 @@ pub struct Counted<'a, R: Read + Drop, E: Eprint> {
 }
 
 impl<'a, R: Read + Drop, E: Eprint> Counted<'a, R, E> {
+    /// Creates a reader that has shown nothing yet.
     pub fn new(inner: R, terminal: Option<&'a E>) -> Self {
         Counted {
             inner,

@@ -1,7 +1,7 @@
 //! The round by one table of 256 columns, which the tests compare with the library's two.
 
-// Entry a is the column 2s, s, s, 3s, with row 0 in the lowest byte, where s is SubBytes of a: MixColumns of the column
-// with s in row 0 and zeros below it.
+/// Entry a is the column 2s, s, s, 3s, with row 0 in the lowest byte, where s is SubBytes of a: MixColumns of the
+/// column with s in row 0 and zeros below it.
 pub static COLUMNS: [u32; 256] = [
     0xa56363c6, 0x847c7cf8, 0x997777ee, 0x8d7b7bf6, 0x0df2f2ff, 0xbd6b6bd6, 0xb16f6fde, 0x54c5c591,
     0x50303060, 0x03010102, 0xa96767ce, 0x7d2b2b56, 0x19fefee7, 0x62d7d7b5, 0xe6abab4d, 0x9a7676ec,
