@@ -1,5 +1,5 @@
 .PHONY: run test check-pages bench bench-peers bench-states c-library check-c check-header check-sodium check-rust check-install install \
-	install-tool check-tool
+	install-tool check-tool gcc-aarch64-linux-gnu qemu-user
 .SECONDARY:
 
 SHELL = /bin/bash
@@ -45,7 +45,7 @@ check-pages:
 	sh docs/check_samples.sh README.md docs/CALLING.md
 	python3 docs/check_clauses.py
 
-# ---- The C library, for x86-64 Linux. What follows builds with stock gcc and rustc, and proves nothing but that library.
+# ---- The C library, for Linux. What follows builds with stock gcc and rustc, and proves nothing but that library.
 
 C_LIBRARY = crates/aegis_c/out/libaegis_c.a
 CC = gcc
@@ -55,11 +55,22 @@ RUSTC = rustc -O --edition 2024
 PREFIX = /usr/local
 VERSION = $(shell sed -n 's/^.define HUNKRAVY_VERSION "\(.*\)"/\1/p' include/hunkravy.h)
 
-# The processor level. If none is given the library has the builds for both levels, and each name is bound to the
+# The platform. If TARGET is that of ARM, there is one build, and its programs run here under an emulator.
+TARGET = x86_64-unknown-linux-gnu
+ARM = aarch64-unknown-linux-gnu
+TOOLS_aarch64 = aarch64-linux-gnu-
+RUN_aarch64 = qemu-aarch64 -L /usr/aarch64-linux-gnu
+
+# The level of x86-64. If none is given the library has the builds for both levels, and each name is bound to the
 # best that the processor has when a program is loaded.
 CPU =
 LEVELS = x86-64-v2 x86-64-v3
-LIBRARY = $(OUT)/$(or $(CPU),both)/libhunkravy.a
+
+# The folder of the library below OUT.
+FOLDER_x86_64-unknown-linux-gnu = $(or $(CPU),both)
+FOLDER_$(ARM) = aarch64
+FOLDER = $(or $(FOLDER_$(TARGET)),$(error TARGET is x86_64-unknown-linux-gnu or $(ARM)))
+LIBRARY = $(OUT)/$(FOLDER)/libhunkravy.a
 
 STORED_LINES = crates/check_lines/data
 HEADERS = hunkravy.h aegis_compat.h sodium_compat.h
@@ -74,22 +85,34 @@ $(OUT)/both/libhunkravy.a: $(LEVELS:%=$(OUT)/%/aegis_c.a) levels/join.sh levels/
 	levels/join.sh $@ $(LEVELS:%=$(OUT)/%/aegis_c.a)
 
 $(OUT)/%/libhunkravy.a: $(OUT)/%/aegis_c.a levels/join.sh levels/choose.c
-	LEVEL=$(patsubst x86-64-v%,%,$*) levels/join.sh $@ $<
+	LEVEL=$(patsubst x86-64-v%,%,$(filter x86-64-v%,$*)) CC=$(TOOLS_$*)gcc AR=$(TOOLS_$*)ar levels/join.sh $@ $<
 
 # Both levels are built in one folder, so one after the other.
 $(OUT)/x86-64-v3/aegis_c.a: | $(if $(CPU),,$(OUT)/x86-64-v2/aegis_c.a)
 
 $(OUT)/%/aegis_c.a: $(C_SOURCES) crates.txt
 	mkdir -p $(@D)
-	cd crates/aegis_c && rt lib --cpu=$*
+	cd crates/aegis_c && rt lib $(if $(filter aarch64,$*),--target=$(ARM),--cpu=$*)
 	cp $(C_LIBRARY) $@
+
+# The packages that have the tools for ARM.
+$(OUT)/aarch64/aegis_c.a: | gcc-aarch64-linux-gnu
+check-c-aarch64: | qemu-user
+
+gcc-aarch64-linux-gnu: PROGRAM = aarch64-linux-gnu-gcc
+qemu-user: PROGRAM = qemu-aarch64
+gcc-aarch64-linux-gnu qemu-user:
+	@command -v $(PROGRAM) > /dev/null || \
+		{ echo '$(PROGRAM) is not installed: TARGET=$(ARM) needs the package $@' >&2; exit 1; }
 
 # The tests of the C interface: its headers, and over the library with both levels and over each level alone the examples,
 # every call of each header against the stored lines, and forgeries; the C programs under gcc's sanitizers too. The header
-# has the exports of the library, all of them and no other. A level that this processor lacks is left out.
+# has the exports of the library, all of them and no other. A level that this processor lacks is left out. For ARM the
+# programs run under an emulator, where the sanitizers do not look for leaks.
 RUNNABLE = $(if $(shell grep -m1 -w avx2 /proc/cpuinfo),$(LEVELS),x86-64-v2)
 
-check-c: check-header $(addprefix check-c-,both $(RUNNABLE)) check-sodium
+check-c: $(if $(filter aarch64,$(FOLDER)),check-c-aarch64,check-header $(addprefix check-c-,both $(RUNNABLE)) check-sodium)
+check-c-aarch64: export ASAN_OPTIONS = detect_leaks=0
 
 # Each header is what its template generates, and compiles alone, as C and as C++.
 check-header:
@@ -104,12 +127,12 @@ C_PROGRAMS = $(C_EXAMPLES) check_calls check_states check_libaegis check_libaegi
 
 check-c-%: $(OUT)/%/libhunkravy.a
 	diff <(grep -o 'hunkravy_[a-z0-9_]*_nonnull' include/hunkravy.h | sort -u) \
-		<(nm --defined-only -g $< | awk '{ print $$3 }' | grep -x 'hunkravy_aegis.*_nonnull' | sort)
+		<($(TOOLS_$*)nm --defined-only -g $< | awk '{ print $$3 }' | grep -x 'hunkravy_aegis.*_nonnull' | sort)
 	for program in $(C_PROGRAMS); do for flags in -O2 '$(SANITIZERS)'; do \
 		source=$${program%_written}; \
 		if [ $$source != $$program ]; then flags="$$flags -DHUNKRAVY_COMPAT_WRITTEN"; fi; \
-		$(CC) -std=c99 $(C_FLAGS) $$flags examples/c/$$source.c $< -o $(OUT)/$*/$$program && \
-		$(OUT)/$*/$$program $(STORED_LINES) || exit 1; \
+		$(TOOLS_$*)$(CC) -std=c99 $(C_FLAGS) $$flags examples/c/$$source.c $< -o $(OUT)/$*/$$program && \
+		$(RUN_$*) $(OUT)/$*/$$program $(STORED_LINES) || exit 1; \
 	done; done
 
 # Runs the test of libsodium's calls with libsodium itself, if its release has AEGIS, to see that both behave the same.
@@ -134,11 +157,11 @@ install: $(LIBRARY)
 		> $(DESTDIR)$(PREFIX)/lib/pkgconfig/hunkravy.pc
 
 # Builds and runs the examples that are installed at PREFIX, by what pkg-config says of it.
-check-install: | $(OUT)
+check-install: | $(OUT) $(if $(filter aarch64,$(FOLDER)),gcc-aarch64-linux-gnu qemu-user)
 	for example in $(C_EXAMPLES); do \
-		$(CC) -std=c99 $(EXAMPLES_FOLDER)/$$example.c \
+		$(TOOLS_$(FOLDER))$(CC) -std=c99 $(EXAMPLES_FOLDER)/$$example.c \
 			$$(PKG_CONFIG_PATH=$(PREFIX)/lib/pkgconfig pkg-config --cflags --libs hunkravy) \
-			-o $(OUT)/$$example-installed && $(OUT)/$$example-installed || exit 1; \
+			-o $(OUT)/$$example-installed && $(RUN_$(FOLDER)) $(OUT)/$$example-installed || exit 1; \
 	done
 
 # ---- The Rust crate over the C library

@@ -14,23 +14,24 @@
  *
  * - A key has NAME_KEYBYTES bytes, a nonce NAME_NPUBBYTES; no parameter says so and nothing checks it. A tag
  *   has 16 or 32 bytes, by `maclen`.
- * - Message and ciphertext may be the same buffer, and otherwise do not overlap.
+ * - Message and ciphertext may be the same buffer, and must not overlap otherwise.
  * - A decryption that is refused returns -1 and leaves zeros in the place of the message; if `m` is null, a
  *   decryption verifies the tag and writes nothing.
- * - A refused length returns -1 with EINVAL in errno, or with ERANGE for too little room in the form with
- *   `written`, and nothing is written.
- * - For NAME_stream and NAME_mac_init a null nonce is one of zeros.
+ * - On a wrong length a call returns -1 and writes nothing. errno is then EINVAL, or ERANGE for too little room
+ *   in the form with `written`.
+ * - In NAME_stream and NAME_mac_init a null nonce stands for one of zeros.
  * - Never use what NAME_state_decrypt_update writes before NAME_state_decrypt_final has returned 0, and never
  *   encrypt two messages with the same key and nonce.
  *
- * Otherwise than in libaegis:
+ * What differs:
  *
- * - More than 2^61 - 1 bytes of a message, of associated data or of a MAC's input are a refused length.
+ * - More than 2^61 - 1 bytes of a message, of associated data or of a MAC's input are a wrong length.
  * - An output buffer must not overlap the key, the nonce, the associated data or the tag.
  * - An update always writes as many bytes as it takes, so the last call of the form with `written` writes the
  *   tag alone, or no byte at all.
- * - A state that has ended is refused with EINVAL. A state need not be aligned, and may be copied by `=`.
- * - After NAME_mac_final and NAME_mac_verify the input of a MAC may go on, with no reset.
+ * - A call on a state that has ended returns -1 with EINVAL. A state needs no alignment of its own, and may be
+ *   copied by `=`.
+ * - After NAME_mac_final and NAME_mac_verify more input of a MAC may follow, without a reset.
  * - The calls are inline: there is no symbol of libaegis's names to link with, and no call to choose an
  *   implementation.
  *
@@ -58,7 +59,7 @@ static inline int aegis_init(void)
     return 0;
 }
 
-/* Returns 0 if the bytes are the same, and -1 otherwise, after it has looked at all of them. */
+/* Returns 0 if the bytes are the same, and -1 otherwise. Reads all of them in both cases. */
 static inline int hunkravy_compat_verify(const uint8_t *x, const uint8_t *y, size_t length)
 {
     volatile uint8_t different = 0;
@@ -80,7 +81,7 @@ HUNKRAVY_MUST_USE static inline int aegis_verify_32(const uint8_t *x, const uint
     return hunkravy_compat_verify(x, y, 32);
 }
 
-/* Returns what libaegis returns for a code: 0, or -1 with errno, which a wrong tag leaves alone. */
+/* Returns what libaegis returns for a code: 0, or -1. Sets errno, but not for a wrong tag. */
 static inline int hunkravy_compat_result(int code)
 {
     if (code != HUNKRAVY_OK && code != HUNKRAVY_INVALID_TAG) {
@@ -89,7 +90,7 @@ static inline int hunkravy_compat_result(int code)
     return code == HUNKRAVY_OK ? 0 : -1;
 }
 
-/* Whether a call has room for `length` bytes. If not, errno says so. */
+/* Returns whether there is room for `length` bytes. If there is not, sets errno. */
 static inline int hunkravy_compat_has_room(size_t room, size_t length)
 {
     if (room < length) {
@@ -98,7 +99,7 @@ static inline int hunkravy_compat_has_room(size_t room, size_t length)
     return room >= length;
 }
 
-/* Tells how many bytes a call wrote that returns `result`, and returns that. */
+/* Sets `*written`, unless it is null, to what a call that returns `result` wrote. Returns `result`. */
 static inline int hunkravy_compat_wrote(size_t *written, int result, size_t length)
 {
     if (written != NULL) {
@@ -120,7 +121,7 @@ typedef struct aegis128l_state {
     hunkravy_aegis128l_state now;
 } aegis128l_state;
 
-/* A MAC whose input comes in chunks, and its beginning, for a reset. */
+/* A MAC whose input comes in chunks: as it was begun, for a reset, and as it is now. */
 typedef struct aegis128l_mac_state {
     hunkravy_aegis128l_mac_state begun;
     hunkravy_aegis128l_mac_state now;
@@ -160,7 +161,7 @@ static inline int aegis128l_encrypt_detached(
         c, m, mlen, ad, adlen, npub, aegis128l_NPUBBYTES, k, aegis128l_KEYBYTES, mac, maclen));
 }
 
-/* Writes the message to `m`, and returns 0, if `mac` is the tag. With a null `m` it verifies alone. */
+/* Writes the message to `m` and returns 0 if `mac` is the tag. If `m` is null, it only verifies. */
 HUNKRAVY_MUST_USE static inline int aegis128l_decrypt_detached(
     uint8_t *m, const uint8_t *c, size_t clen, const uint8_t *mac, size_t maclen, const uint8_t *ad,
     size_t adlen, const uint8_t *npub, const uint8_t *k)
@@ -188,8 +189,8 @@ static inline int aegis128l_encrypt(
 }
 
 /*
- * Writes the message to `m`, and returns 0, if the last `maclen` of the `clen` bytes at `c` are its tag. With a
- * null `m` it verifies alone.
+ * Writes the message to `m` and returns 0 if the last `maclen` of the `clen` bytes at `c` are its tag. If `m` is
+ * null, it only verifies.
  */
 HUNKRAVY_MUST_USE static inline int aegis128l_decrypt(
     uint8_t *m, const uint8_t *c, size_t clen, size_t maclen, const uint8_t *ad, size_t adlen,
@@ -203,7 +204,7 @@ HUNKRAVY_MUST_USE static inline int aegis128l_decrypt(
                                    npub, k);
 }
 
-/* Writes `len` bytes of keystream to `out`. A null nonce is one of zeros. */
+/* Writes `len` bytes of keystream to `out`. A null nonce stands for one of zeros. */
 static inline void aegis128l_stream(uint8_t *out, size_t len, const uint8_t *npub, const uint8_t *k)
 {
     static const uint8_t zeros[aegis128l_NPUBBYTES] = {0};
@@ -212,7 +213,7 @@ static inline void aegis128l_stream(uint8_t *out, size_t len, const uint8_t *npu
     (void)code; /* Both lengths are right. */
 }
 
-/* Writes the ciphertext of `m`, without associated data, to `c`, and no tag: nobody can verify it. */
+/* Writes the ciphertext of `m`, without associated data, to `c`, and no tag, so that nobody can verify it. */
 static inline void aegis128l_encrypt_unauthenticated(
     uint8_t *c, const uint8_t *m, size_t mlen, const uint8_t *npub, const uint8_t *k)
 {
@@ -222,7 +223,7 @@ static inline void aegis128l_encrypt_unauthenticated(
     (void)code; /* The lengths are right. */
 }
 
-/* Writes what `c` is decrypted to, to `m`. ANYONE MAY HAVE FORGED IT. */
+/* Decrypts `c` to `m`, and verifies nothing: IT MAY BE FORGED. */
 static inline void aegis128l_decrypt_unauthenticated(
     uint8_t *m, const uint8_t *c, size_t clen, const uint8_t *npub, const uint8_t *k)
 {
@@ -233,16 +234,16 @@ static inline void aegis128l_decrypt_unauthenticated(
     hunkravy_wipe(&st, sizeof st);
 }
 
-/* Begins a message with `adlen` bytes of associated data. If that is too long each other call refuses the state. */
+/* Begins a message. If its `adlen` bytes of associated data are too many, each other call refuses the state. */
 static inline void aegis128l_state_init(aegis128l_state *st_, const uint8_t *ad, size_t adlen,
                                      const uint8_t *npub, const uint8_t *k)
 {
     int code = hunkravy_aegis128l_state_init(&st_->now, ad, adlen, npub, aegis128l_NPUBBYTES, k,
                                           aegis128l_KEYBYTES);
-    (void)code; /* After any code but HUNKRAVY_OK the state is refused. */
+    (void)code; /* After any code but HUNKRAVY_OK each other call refuses the state. */
 }
 
-/* The two ways to take in the next bytes of a ciphertext. */
+/* Takes in the next bytes of a ciphertext, and decrypts them unless `m` is null. */
 static inline int hunkravy_compat_aegis128l_decrypt_update(
     aegis128l_state *st_, uint8_t *m, const uint8_t *c, size_t clen)
 {
@@ -306,8 +307,8 @@ static inline int aegis128l_state_encrypt_detached_final(
 }
 
 /*
- * Writes what the next `clen` bytes of the ciphertext are decrypted to, to `m`, BEFORE THE TAG IS VERIFIED.
- * With a null `m` it writes nothing. Returns 0, or -1 with EINVAL.
+ * Decrypts the next `clen` bytes of the ciphertext to `m`, BEFORE THE TAG IS VERIFIED. If `m` is null, it writes
+ * nothing but the state. Returns 0, or -1 with EINVAL.
  */
 HUNKRAVY_MUST_USE static inline int aegis128l_state_decrypt_update(
     aegis128l_state *st_, uint8_t *m, const uint8_t *c, size_t clen)
@@ -315,7 +316,7 @@ HUNKRAVY_MUST_USE static inline int aegis128l_state_decrypt_update(
     return hunkravy_compat_aegis128l_decrypt_update(st_, m, c, clen);
 }
 
-/* Returns 0 if `mac` is the tag of the chunks, and -1 otherwise. Erase the chunks then. Ends the state. */
+/* Returns 0 if `mac` is the tag of the chunks, and otherwise -1: then erase the chunks. Ends the state. */
 HUNKRAVY_MUST_USE static inline int aegis128l_state_decrypt_final(
     aegis128l_state *st_, const uint8_t *mac, size_t maclen)
 {
@@ -324,8 +325,8 @@ HUNKRAVY_MUST_USE static inline int aegis128l_state_decrypt_final(
 }
 
 /*
- * Writes what the next `clen` bytes of the ciphertext are decrypted to, to `m`, which has room for `mlen_max`,
- * BEFORE THE TAG IS VERIFIED. With a null `m` it writes nothing.
+ * Decrypts the next `clen` bytes of the ciphertext to `m`, which has room for `mlen_max`, BEFORE THE TAG IS
+ * VERIFIED. If `m` is null, it writes nothing but the state.
  */
 HUNKRAVY_MUST_USE static inline int aegis128l_state_decrypt_detached_update(
     aegis128l_state *st_, uint8_t *m, size_t mlen_max, size_t *written, const uint8_t *c, size_t clen)
@@ -337,7 +338,7 @@ HUNKRAVY_MUST_USE static inline int aegis128l_state_decrypt_detached_update(
     return hunkravy_compat_wrote(written, result, clen);
 }
 
-/* Returns 0 if `mac` is the tag of the chunks, and -1 otherwise. Erase the chunks then. Ends the state. */
+/* Returns 0 if `mac` is the tag of the chunks, and otherwise -1: then erase the chunks. Ends the state. */
 HUNKRAVY_MUST_USE static inline int aegis128l_state_decrypt_detached_final(
     aegis128l_state *st_, uint8_t *m, size_t mlen_max, size_t *written, const uint8_t *mac,
     size_t maclen)
@@ -349,7 +350,7 @@ HUNKRAVY_MUST_USE static inline int aegis128l_state_decrypt_detached_final(
     return hunkravy_compat_wrote(written, result, 0);
 }
 
-/* Begins a MAC. A null nonce is one of zeros. */
+/* Begins a MAC. A null nonce stands for one of zeros. */
 static inline void aegis128l_mac_init(aegis128l_mac_state *st_, const uint8_t *k, const uint8_t *npub)
 {
     static const uint8_t zeros[aegis128l_NPUBBYTES] = {0};
@@ -384,7 +385,7 @@ static inline void aegis128l_mac_reset(aegis128l_mac_state *st_)
     st_->now = st_->begun;
 }
 
-/* Copies a MAC as it is. */
+/* Copies a MAC. */
 static inline void aegis128l_mac_state_clone(aegis128l_mac_state *dst, const aegis128l_mac_state *src)
 {
     *dst = *src;
@@ -403,7 +404,7 @@ typedef struct aegis128x2_state {
     hunkravy_aegis128x2_state now;
 } aegis128x2_state;
 
-/* A MAC whose input comes in chunks, and its beginning, for a reset. */
+/* A MAC whose input comes in chunks: as it was begun, for a reset, and as it is now. */
 typedef struct aegis128x2_mac_state {
     hunkravy_aegis128x2_mac_state begun;
     hunkravy_aegis128x2_mac_state now;
@@ -443,7 +444,7 @@ static inline int aegis128x2_encrypt_detached(
         c, m, mlen, ad, adlen, npub, aegis128x2_NPUBBYTES, k, aegis128x2_KEYBYTES, mac, maclen));
 }
 
-/* Writes the message to `m`, and returns 0, if `mac` is the tag. With a null `m` it verifies alone. */
+/* Writes the message to `m` and returns 0 if `mac` is the tag. If `m` is null, it only verifies. */
 HUNKRAVY_MUST_USE static inline int aegis128x2_decrypt_detached(
     uint8_t *m, const uint8_t *c, size_t clen, const uint8_t *mac, size_t maclen, const uint8_t *ad,
     size_t adlen, const uint8_t *npub, const uint8_t *k)
@@ -471,8 +472,8 @@ static inline int aegis128x2_encrypt(
 }
 
 /*
- * Writes the message to `m`, and returns 0, if the last `maclen` of the `clen` bytes at `c` are its tag. With a
- * null `m` it verifies alone.
+ * Writes the message to `m` and returns 0 if the last `maclen` of the `clen` bytes at `c` are its tag. If `m` is
+ * null, it only verifies.
  */
 HUNKRAVY_MUST_USE static inline int aegis128x2_decrypt(
     uint8_t *m, const uint8_t *c, size_t clen, size_t maclen, const uint8_t *ad, size_t adlen,
@@ -486,7 +487,7 @@ HUNKRAVY_MUST_USE static inline int aegis128x2_decrypt(
                                    npub, k);
 }
 
-/* Writes `len` bytes of keystream to `out`. A null nonce is one of zeros. */
+/* Writes `len` bytes of keystream to `out`. A null nonce stands for one of zeros. */
 static inline void aegis128x2_stream(uint8_t *out, size_t len, const uint8_t *npub, const uint8_t *k)
 {
     static const uint8_t zeros[aegis128x2_NPUBBYTES] = {0};
@@ -495,7 +496,7 @@ static inline void aegis128x2_stream(uint8_t *out, size_t len, const uint8_t *np
     (void)code; /* Both lengths are right. */
 }
 
-/* Writes the ciphertext of `m`, without associated data, to `c`, and no tag: nobody can verify it. */
+/* Writes the ciphertext of `m`, without associated data, to `c`, and no tag, so that nobody can verify it. */
 static inline void aegis128x2_encrypt_unauthenticated(
     uint8_t *c, const uint8_t *m, size_t mlen, const uint8_t *npub, const uint8_t *k)
 {
@@ -505,7 +506,7 @@ static inline void aegis128x2_encrypt_unauthenticated(
     (void)code; /* The lengths are right. */
 }
 
-/* Writes what `c` is decrypted to, to `m`. ANYONE MAY HAVE FORGED IT. */
+/* Decrypts `c` to `m`, and verifies nothing: IT MAY BE FORGED. */
 static inline void aegis128x2_decrypt_unauthenticated(
     uint8_t *m, const uint8_t *c, size_t clen, const uint8_t *npub, const uint8_t *k)
 {
@@ -516,16 +517,16 @@ static inline void aegis128x2_decrypt_unauthenticated(
     hunkravy_wipe(&st, sizeof st);
 }
 
-/* Begins a message with `adlen` bytes of associated data. If that is too long each other call refuses the state. */
+/* Begins a message. If its `adlen` bytes of associated data are too many, each other call refuses the state. */
 static inline void aegis128x2_state_init(aegis128x2_state *st_, const uint8_t *ad, size_t adlen,
                                      const uint8_t *npub, const uint8_t *k)
 {
     int code = hunkravy_aegis128x2_state_init(&st_->now, ad, adlen, npub, aegis128x2_NPUBBYTES, k,
                                           aegis128x2_KEYBYTES);
-    (void)code; /* After any code but HUNKRAVY_OK the state is refused. */
+    (void)code; /* After any code but HUNKRAVY_OK each other call refuses the state. */
 }
 
-/* The two ways to take in the next bytes of a ciphertext. */
+/* Takes in the next bytes of a ciphertext, and decrypts them unless `m` is null. */
 static inline int hunkravy_compat_aegis128x2_decrypt_update(
     aegis128x2_state *st_, uint8_t *m, const uint8_t *c, size_t clen)
 {
@@ -589,8 +590,8 @@ static inline int aegis128x2_state_encrypt_detached_final(
 }
 
 /*
- * Writes what the next `clen` bytes of the ciphertext are decrypted to, to `m`, BEFORE THE TAG IS VERIFIED.
- * With a null `m` it writes nothing. Returns 0, or -1 with EINVAL.
+ * Decrypts the next `clen` bytes of the ciphertext to `m`, BEFORE THE TAG IS VERIFIED. If `m` is null, it writes
+ * nothing but the state. Returns 0, or -1 with EINVAL.
  */
 HUNKRAVY_MUST_USE static inline int aegis128x2_state_decrypt_update(
     aegis128x2_state *st_, uint8_t *m, const uint8_t *c, size_t clen)
@@ -598,7 +599,7 @@ HUNKRAVY_MUST_USE static inline int aegis128x2_state_decrypt_update(
     return hunkravy_compat_aegis128x2_decrypt_update(st_, m, c, clen);
 }
 
-/* Returns 0 if `mac` is the tag of the chunks, and -1 otherwise. Erase the chunks then. Ends the state. */
+/* Returns 0 if `mac` is the tag of the chunks, and otherwise -1: then erase the chunks. Ends the state. */
 HUNKRAVY_MUST_USE static inline int aegis128x2_state_decrypt_final(
     aegis128x2_state *st_, const uint8_t *mac, size_t maclen)
 {
@@ -607,8 +608,8 @@ HUNKRAVY_MUST_USE static inline int aegis128x2_state_decrypt_final(
 }
 
 /*
- * Writes what the next `clen` bytes of the ciphertext are decrypted to, to `m`, which has room for `mlen_max`,
- * BEFORE THE TAG IS VERIFIED. With a null `m` it writes nothing.
+ * Decrypts the next `clen` bytes of the ciphertext to `m`, which has room for `mlen_max`, BEFORE THE TAG IS
+ * VERIFIED. If `m` is null, it writes nothing but the state.
  */
 HUNKRAVY_MUST_USE static inline int aegis128x2_state_decrypt_detached_update(
     aegis128x2_state *st_, uint8_t *m, size_t mlen_max, size_t *written, const uint8_t *c, size_t clen)
@@ -620,7 +621,7 @@ HUNKRAVY_MUST_USE static inline int aegis128x2_state_decrypt_detached_update(
     return hunkravy_compat_wrote(written, result, clen);
 }
 
-/* Returns 0 if `mac` is the tag of the chunks, and -1 otherwise. Erase the chunks then. Ends the state. */
+/* Returns 0 if `mac` is the tag of the chunks, and otherwise -1: then erase the chunks. Ends the state. */
 HUNKRAVY_MUST_USE static inline int aegis128x2_state_decrypt_detached_final(
     aegis128x2_state *st_, uint8_t *m, size_t mlen_max, size_t *written, const uint8_t *mac,
     size_t maclen)
@@ -632,7 +633,7 @@ HUNKRAVY_MUST_USE static inline int aegis128x2_state_decrypt_detached_final(
     return hunkravy_compat_wrote(written, result, 0);
 }
 
-/* Begins a MAC. A null nonce is one of zeros. */
+/* Begins a MAC. A null nonce stands for one of zeros. */
 static inline void aegis128x2_mac_init(aegis128x2_mac_state *st_, const uint8_t *k, const uint8_t *npub)
 {
     static const uint8_t zeros[aegis128x2_NPUBBYTES] = {0};
@@ -667,7 +668,7 @@ static inline void aegis128x2_mac_reset(aegis128x2_mac_state *st_)
     st_->now = st_->begun;
 }
 
-/* Copies a MAC as it is. */
+/* Copies a MAC. */
 static inline void aegis128x2_mac_state_clone(aegis128x2_mac_state *dst, const aegis128x2_mac_state *src)
 {
     *dst = *src;
@@ -686,7 +687,7 @@ typedef struct aegis128x4_state {
     hunkravy_aegis128x4_state now;
 } aegis128x4_state;
 
-/* A MAC whose input comes in chunks, and its beginning, for a reset. */
+/* A MAC whose input comes in chunks: as it was begun, for a reset, and as it is now. */
 typedef struct aegis128x4_mac_state {
     hunkravy_aegis128x4_mac_state begun;
     hunkravy_aegis128x4_mac_state now;
@@ -726,7 +727,7 @@ static inline int aegis128x4_encrypt_detached(
         c, m, mlen, ad, adlen, npub, aegis128x4_NPUBBYTES, k, aegis128x4_KEYBYTES, mac, maclen));
 }
 
-/* Writes the message to `m`, and returns 0, if `mac` is the tag. With a null `m` it verifies alone. */
+/* Writes the message to `m` and returns 0 if `mac` is the tag. If `m` is null, it only verifies. */
 HUNKRAVY_MUST_USE static inline int aegis128x4_decrypt_detached(
     uint8_t *m, const uint8_t *c, size_t clen, const uint8_t *mac, size_t maclen, const uint8_t *ad,
     size_t adlen, const uint8_t *npub, const uint8_t *k)
@@ -754,8 +755,8 @@ static inline int aegis128x4_encrypt(
 }
 
 /*
- * Writes the message to `m`, and returns 0, if the last `maclen` of the `clen` bytes at `c` are its tag. With a
- * null `m` it verifies alone.
+ * Writes the message to `m` and returns 0 if the last `maclen` of the `clen` bytes at `c` are its tag. If `m` is
+ * null, it only verifies.
  */
 HUNKRAVY_MUST_USE static inline int aegis128x4_decrypt(
     uint8_t *m, const uint8_t *c, size_t clen, size_t maclen, const uint8_t *ad, size_t adlen,
@@ -769,7 +770,7 @@ HUNKRAVY_MUST_USE static inline int aegis128x4_decrypt(
                                    npub, k);
 }
 
-/* Writes `len` bytes of keystream to `out`. A null nonce is one of zeros. */
+/* Writes `len` bytes of keystream to `out`. A null nonce stands for one of zeros. */
 static inline void aegis128x4_stream(uint8_t *out, size_t len, const uint8_t *npub, const uint8_t *k)
 {
     static const uint8_t zeros[aegis128x4_NPUBBYTES] = {0};
@@ -778,7 +779,7 @@ static inline void aegis128x4_stream(uint8_t *out, size_t len, const uint8_t *np
     (void)code; /* Both lengths are right. */
 }
 
-/* Writes the ciphertext of `m`, without associated data, to `c`, and no tag: nobody can verify it. */
+/* Writes the ciphertext of `m`, without associated data, to `c`, and no tag, so that nobody can verify it. */
 static inline void aegis128x4_encrypt_unauthenticated(
     uint8_t *c, const uint8_t *m, size_t mlen, const uint8_t *npub, const uint8_t *k)
 {
@@ -788,7 +789,7 @@ static inline void aegis128x4_encrypt_unauthenticated(
     (void)code; /* The lengths are right. */
 }
 
-/* Writes what `c` is decrypted to, to `m`. ANYONE MAY HAVE FORGED IT. */
+/* Decrypts `c` to `m`, and verifies nothing: IT MAY BE FORGED. */
 static inline void aegis128x4_decrypt_unauthenticated(
     uint8_t *m, const uint8_t *c, size_t clen, const uint8_t *npub, const uint8_t *k)
 {
@@ -799,16 +800,16 @@ static inline void aegis128x4_decrypt_unauthenticated(
     hunkravy_wipe(&st, sizeof st);
 }
 
-/* Begins a message with `adlen` bytes of associated data. If that is too long each other call refuses the state. */
+/* Begins a message. If its `adlen` bytes of associated data are too many, each other call refuses the state. */
 static inline void aegis128x4_state_init(aegis128x4_state *st_, const uint8_t *ad, size_t adlen,
                                      const uint8_t *npub, const uint8_t *k)
 {
     int code = hunkravy_aegis128x4_state_init(&st_->now, ad, adlen, npub, aegis128x4_NPUBBYTES, k,
                                           aegis128x4_KEYBYTES);
-    (void)code; /* After any code but HUNKRAVY_OK the state is refused. */
+    (void)code; /* After any code but HUNKRAVY_OK each other call refuses the state. */
 }
 
-/* The two ways to take in the next bytes of a ciphertext. */
+/* Takes in the next bytes of a ciphertext, and decrypts them unless `m` is null. */
 static inline int hunkravy_compat_aegis128x4_decrypt_update(
     aegis128x4_state *st_, uint8_t *m, const uint8_t *c, size_t clen)
 {
@@ -872,8 +873,8 @@ static inline int aegis128x4_state_encrypt_detached_final(
 }
 
 /*
- * Writes what the next `clen` bytes of the ciphertext are decrypted to, to `m`, BEFORE THE TAG IS VERIFIED.
- * With a null `m` it writes nothing. Returns 0, or -1 with EINVAL.
+ * Decrypts the next `clen` bytes of the ciphertext to `m`, BEFORE THE TAG IS VERIFIED. If `m` is null, it writes
+ * nothing but the state. Returns 0, or -1 with EINVAL.
  */
 HUNKRAVY_MUST_USE static inline int aegis128x4_state_decrypt_update(
     aegis128x4_state *st_, uint8_t *m, const uint8_t *c, size_t clen)
@@ -881,7 +882,7 @@ HUNKRAVY_MUST_USE static inline int aegis128x4_state_decrypt_update(
     return hunkravy_compat_aegis128x4_decrypt_update(st_, m, c, clen);
 }
 
-/* Returns 0 if `mac` is the tag of the chunks, and -1 otherwise. Erase the chunks then. Ends the state. */
+/* Returns 0 if `mac` is the tag of the chunks, and otherwise -1: then erase the chunks. Ends the state. */
 HUNKRAVY_MUST_USE static inline int aegis128x4_state_decrypt_final(
     aegis128x4_state *st_, const uint8_t *mac, size_t maclen)
 {
@@ -890,8 +891,8 @@ HUNKRAVY_MUST_USE static inline int aegis128x4_state_decrypt_final(
 }
 
 /*
- * Writes what the next `clen` bytes of the ciphertext are decrypted to, to `m`, which has room for `mlen_max`,
- * BEFORE THE TAG IS VERIFIED. With a null `m` it writes nothing.
+ * Decrypts the next `clen` bytes of the ciphertext to `m`, which has room for `mlen_max`, BEFORE THE TAG IS
+ * VERIFIED. If `m` is null, it writes nothing but the state.
  */
 HUNKRAVY_MUST_USE static inline int aegis128x4_state_decrypt_detached_update(
     aegis128x4_state *st_, uint8_t *m, size_t mlen_max, size_t *written, const uint8_t *c, size_t clen)
@@ -903,7 +904,7 @@ HUNKRAVY_MUST_USE static inline int aegis128x4_state_decrypt_detached_update(
     return hunkravy_compat_wrote(written, result, clen);
 }
 
-/* Returns 0 if `mac` is the tag of the chunks, and -1 otherwise. Erase the chunks then. Ends the state. */
+/* Returns 0 if `mac` is the tag of the chunks, and otherwise -1: then erase the chunks. Ends the state. */
 HUNKRAVY_MUST_USE static inline int aegis128x4_state_decrypt_detached_final(
     aegis128x4_state *st_, uint8_t *m, size_t mlen_max, size_t *written, const uint8_t *mac,
     size_t maclen)
@@ -915,7 +916,7 @@ HUNKRAVY_MUST_USE static inline int aegis128x4_state_decrypt_detached_final(
     return hunkravy_compat_wrote(written, result, 0);
 }
 
-/* Begins a MAC. A null nonce is one of zeros. */
+/* Begins a MAC. A null nonce stands for one of zeros. */
 static inline void aegis128x4_mac_init(aegis128x4_mac_state *st_, const uint8_t *k, const uint8_t *npub)
 {
     static const uint8_t zeros[aegis128x4_NPUBBYTES] = {0};
@@ -950,7 +951,7 @@ static inline void aegis128x4_mac_reset(aegis128x4_mac_state *st_)
     st_->now = st_->begun;
 }
 
-/* Copies a MAC as it is. */
+/* Copies a MAC. */
 static inline void aegis128x4_mac_state_clone(aegis128x4_mac_state *dst, const aegis128x4_mac_state *src)
 {
     *dst = *src;
@@ -969,7 +970,7 @@ typedef struct aegis256_state {
     hunkravy_aegis256_state now;
 } aegis256_state;
 
-/* A MAC whose input comes in chunks, and its beginning, for a reset. */
+/* A MAC whose input comes in chunks: as it was begun, for a reset, and as it is now. */
 typedef struct aegis256_mac_state {
     hunkravy_aegis256_mac_state begun;
     hunkravy_aegis256_mac_state now;
@@ -1009,7 +1010,7 @@ static inline int aegis256_encrypt_detached(
         c, m, mlen, ad, adlen, npub, aegis256_NPUBBYTES, k, aegis256_KEYBYTES, mac, maclen));
 }
 
-/* Writes the message to `m`, and returns 0, if `mac` is the tag. With a null `m` it verifies alone. */
+/* Writes the message to `m` and returns 0 if `mac` is the tag. If `m` is null, it only verifies. */
 HUNKRAVY_MUST_USE static inline int aegis256_decrypt_detached(
     uint8_t *m, const uint8_t *c, size_t clen, const uint8_t *mac, size_t maclen, const uint8_t *ad,
     size_t adlen, const uint8_t *npub, const uint8_t *k)
@@ -1037,8 +1038,8 @@ static inline int aegis256_encrypt(
 }
 
 /*
- * Writes the message to `m`, and returns 0, if the last `maclen` of the `clen` bytes at `c` are its tag. With a
- * null `m` it verifies alone.
+ * Writes the message to `m` and returns 0 if the last `maclen` of the `clen` bytes at `c` are its tag. If `m` is
+ * null, it only verifies.
  */
 HUNKRAVY_MUST_USE static inline int aegis256_decrypt(
     uint8_t *m, const uint8_t *c, size_t clen, size_t maclen, const uint8_t *ad, size_t adlen,
@@ -1052,7 +1053,7 @@ HUNKRAVY_MUST_USE static inline int aegis256_decrypt(
                                    npub, k);
 }
 
-/* Writes `len` bytes of keystream to `out`. A null nonce is one of zeros. */
+/* Writes `len` bytes of keystream to `out`. A null nonce stands for one of zeros. */
 static inline void aegis256_stream(uint8_t *out, size_t len, const uint8_t *npub, const uint8_t *k)
 {
     static const uint8_t zeros[aegis256_NPUBBYTES] = {0};
@@ -1061,7 +1062,7 @@ static inline void aegis256_stream(uint8_t *out, size_t len, const uint8_t *npub
     (void)code; /* Both lengths are right. */
 }
 
-/* Writes the ciphertext of `m`, without associated data, to `c`, and no tag: nobody can verify it. */
+/* Writes the ciphertext of `m`, without associated data, to `c`, and no tag, so that nobody can verify it. */
 static inline void aegis256_encrypt_unauthenticated(
     uint8_t *c, const uint8_t *m, size_t mlen, const uint8_t *npub, const uint8_t *k)
 {
@@ -1071,7 +1072,7 @@ static inline void aegis256_encrypt_unauthenticated(
     (void)code; /* The lengths are right. */
 }
 
-/* Writes what `c` is decrypted to, to `m`. ANYONE MAY HAVE FORGED IT. */
+/* Decrypts `c` to `m`, and verifies nothing: IT MAY BE FORGED. */
 static inline void aegis256_decrypt_unauthenticated(
     uint8_t *m, const uint8_t *c, size_t clen, const uint8_t *npub, const uint8_t *k)
 {
@@ -1082,16 +1083,16 @@ static inline void aegis256_decrypt_unauthenticated(
     hunkravy_wipe(&st, sizeof st);
 }
 
-/* Begins a message with `adlen` bytes of associated data. If that is too long each other call refuses the state. */
+/* Begins a message. If its `adlen` bytes of associated data are too many, each other call refuses the state. */
 static inline void aegis256_state_init(aegis256_state *st_, const uint8_t *ad, size_t adlen,
                                      const uint8_t *npub, const uint8_t *k)
 {
     int code = hunkravy_aegis256_state_init(&st_->now, ad, adlen, npub, aegis256_NPUBBYTES, k,
                                           aegis256_KEYBYTES);
-    (void)code; /* After any code but HUNKRAVY_OK the state is refused. */
+    (void)code; /* After any code but HUNKRAVY_OK each other call refuses the state. */
 }
 
-/* The two ways to take in the next bytes of a ciphertext. */
+/* Takes in the next bytes of a ciphertext, and decrypts them unless `m` is null. */
 static inline int hunkravy_compat_aegis256_decrypt_update(
     aegis256_state *st_, uint8_t *m, const uint8_t *c, size_t clen)
 {
@@ -1155,8 +1156,8 @@ static inline int aegis256_state_encrypt_detached_final(
 }
 
 /*
- * Writes what the next `clen` bytes of the ciphertext are decrypted to, to `m`, BEFORE THE TAG IS VERIFIED.
- * With a null `m` it writes nothing. Returns 0, or -1 with EINVAL.
+ * Decrypts the next `clen` bytes of the ciphertext to `m`, BEFORE THE TAG IS VERIFIED. If `m` is null, it writes
+ * nothing but the state. Returns 0, or -1 with EINVAL.
  */
 HUNKRAVY_MUST_USE static inline int aegis256_state_decrypt_update(
     aegis256_state *st_, uint8_t *m, const uint8_t *c, size_t clen)
@@ -1164,7 +1165,7 @@ HUNKRAVY_MUST_USE static inline int aegis256_state_decrypt_update(
     return hunkravy_compat_aegis256_decrypt_update(st_, m, c, clen);
 }
 
-/* Returns 0 if `mac` is the tag of the chunks, and -1 otherwise. Erase the chunks then. Ends the state. */
+/* Returns 0 if `mac` is the tag of the chunks, and otherwise -1: then erase the chunks. Ends the state. */
 HUNKRAVY_MUST_USE static inline int aegis256_state_decrypt_final(
     aegis256_state *st_, const uint8_t *mac, size_t maclen)
 {
@@ -1173,8 +1174,8 @@ HUNKRAVY_MUST_USE static inline int aegis256_state_decrypt_final(
 }
 
 /*
- * Writes what the next `clen` bytes of the ciphertext are decrypted to, to `m`, which has room for `mlen_max`,
- * BEFORE THE TAG IS VERIFIED. With a null `m` it writes nothing.
+ * Decrypts the next `clen` bytes of the ciphertext to `m`, which has room for `mlen_max`, BEFORE THE TAG IS
+ * VERIFIED. If `m` is null, it writes nothing but the state.
  */
 HUNKRAVY_MUST_USE static inline int aegis256_state_decrypt_detached_update(
     aegis256_state *st_, uint8_t *m, size_t mlen_max, size_t *written, const uint8_t *c, size_t clen)
@@ -1186,7 +1187,7 @@ HUNKRAVY_MUST_USE static inline int aegis256_state_decrypt_detached_update(
     return hunkravy_compat_wrote(written, result, clen);
 }
 
-/* Returns 0 if `mac` is the tag of the chunks, and -1 otherwise. Erase the chunks then. Ends the state. */
+/* Returns 0 if `mac` is the tag of the chunks, and otherwise -1: then erase the chunks. Ends the state. */
 HUNKRAVY_MUST_USE static inline int aegis256_state_decrypt_detached_final(
     aegis256_state *st_, uint8_t *m, size_t mlen_max, size_t *written, const uint8_t *mac,
     size_t maclen)
@@ -1198,7 +1199,7 @@ HUNKRAVY_MUST_USE static inline int aegis256_state_decrypt_detached_final(
     return hunkravy_compat_wrote(written, result, 0);
 }
 
-/* Begins a MAC. A null nonce is one of zeros. */
+/* Begins a MAC. A null nonce stands for one of zeros. */
 static inline void aegis256_mac_init(aegis256_mac_state *st_, const uint8_t *k, const uint8_t *npub)
 {
     static const uint8_t zeros[aegis256_NPUBBYTES] = {0};
@@ -1233,7 +1234,7 @@ static inline void aegis256_mac_reset(aegis256_mac_state *st_)
     st_->now = st_->begun;
 }
 
-/* Copies a MAC as it is. */
+/* Copies a MAC. */
 static inline void aegis256_mac_state_clone(aegis256_mac_state *dst, const aegis256_mac_state *src)
 {
     *dst = *src;
@@ -1252,7 +1253,7 @@ typedef struct aegis256x2_state {
     hunkravy_aegis256x2_state now;
 } aegis256x2_state;
 
-/* A MAC whose input comes in chunks, and its beginning, for a reset. */
+/* A MAC whose input comes in chunks: as it was begun, for a reset, and as it is now. */
 typedef struct aegis256x2_mac_state {
     hunkravy_aegis256x2_mac_state begun;
     hunkravy_aegis256x2_mac_state now;
@@ -1292,7 +1293,7 @@ static inline int aegis256x2_encrypt_detached(
         c, m, mlen, ad, adlen, npub, aegis256x2_NPUBBYTES, k, aegis256x2_KEYBYTES, mac, maclen));
 }
 
-/* Writes the message to `m`, and returns 0, if `mac` is the tag. With a null `m` it verifies alone. */
+/* Writes the message to `m` and returns 0 if `mac` is the tag. If `m` is null, it only verifies. */
 HUNKRAVY_MUST_USE static inline int aegis256x2_decrypt_detached(
     uint8_t *m, const uint8_t *c, size_t clen, const uint8_t *mac, size_t maclen, const uint8_t *ad,
     size_t adlen, const uint8_t *npub, const uint8_t *k)
@@ -1320,8 +1321,8 @@ static inline int aegis256x2_encrypt(
 }
 
 /*
- * Writes the message to `m`, and returns 0, if the last `maclen` of the `clen` bytes at `c` are its tag. With a
- * null `m` it verifies alone.
+ * Writes the message to `m` and returns 0 if the last `maclen` of the `clen` bytes at `c` are its tag. If `m` is
+ * null, it only verifies.
  */
 HUNKRAVY_MUST_USE static inline int aegis256x2_decrypt(
     uint8_t *m, const uint8_t *c, size_t clen, size_t maclen, const uint8_t *ad, size_t adlen,
@@ -1335,7 +1336,7 @@ HUNKRAVY_MUST_USE static inline int aegis256x2_decrypt(
                                    npub, k);
 }
 
-/* Writes `len` bytes of keystream to `out`. A null nonce is one of zeros. */
+/* Writes `len` bytes of keystream to `out`. A null nonce stands for one of zeros. */
 static inline void aegis256x2_stream(uint8_t *out, size_t len, const uint8_t *npub, const uint8_t *k)
 {
     static const uint8_t zeros[aegis256x2_NPUBBYTES] = {0};
@@ -1344,7 +1345,7 @@ static inline void aegis256x2_stream(uint8_t *out, size_t len, const uint8_t *np
     (void)code; /* Both lengths are right. */
 }
 
-/* Writes the ciphertext of `m`, without associated data, to `c`, and no tag: nobody can verify it. */
+/* Writes the ciphertext of `m`, without associated data, to `c`, and no tag, so that nobody can verify it. */
 static inline void aegis256x2_encrypt_unauthenticated(
     uint8_t *c, const uint8_t *m, size_t mlen, const uint8_t *npub, const uint8_t *k)
 {
@@ -1354,7 +1355,7 @@ static inline void aegis256x2_encrypt_unauthenticated(
     (void)code; /* The lengths are right. */
 }
 
-/* Writes what `c` is decrypted to, to `m`. ANYONE MAY HAVE FORGED IT. */
+/* Decrypts `c` to `m`, and verifies nothing: IT MAY BE FORGED. */
 static inline void aegis256x2_decrypt_unauthenticated(
     uint8_t *m, const uint8_t *c, size_t clen, const uint8_t *npub, const uint8_t *k)
 {
@@ -1365,16 +1366,16 @@ static inline void aegis256x2_decrypt_unauthenticated(
     hunkravy_wipe(&st, sizeof st);
 }
 
-/* Begins a message with `adlen` bytes of associated data. If that is too long each other call refuses the state. */
+/* Begins a message. If its `adlen` bytes of associated data are too many, each other call refuses the state. */
 static inline void aegis256x2_state_init(aegis256x2_state *st_, const uint8_t *ad, size_t adlen,
                                      const uint8_t *npub, const uint8_t *k)
 {
     int code = hunkravy_aegis256x2_state_init(&st_->now, ad, adlen, npub, aegis256x2_NPUBBYTES, k,
                                           aegis256x2_KEYBYTES);
-    (void)code; /* After any code but HUNKRAVY_OK the state is refused. */
+    (void)code; /* After any code but HUNKRAVY_OK each other call refuses the state. */
 }
 
-/* The two ways to take in the next bytes of a ciphertext. */
+/* Takes in the next bytes of a ciphertext, and decrypts them unless `m` is null. */
 static inline int hunkravy_compat_aegis256x2_decrypt_update(
     aegis256x2_state *st_, uint8_t *m, const uint8_t *c, size_t clen)
 {
@@ -1438,8 +1439,8 @@ static inline int aegis256x2_state_encrypt_detached_final(
 }
 
 /*
- * Writes what the next `clen` bytes of the ciphertext are decrypted to, to `m`, BEFORE THE TAG IS VERIFIED.
- * With a null `m` it writes nothing. Returns 0, or -1 with EINVAL.
+ * Decrypts the next `clen` bytes of the ciphertext to `m`, BEFORE THE TAG IS VERIFIED. If `m` is null, it writes
+ * nothing but the state. Returns 0, or -1 with EINVAL.
  */
 HUNKRAVY_MUST_USE static inline int aegis256x2_state_decrypt_update(
     aegis256x2_state *st_, uint8_t *m, const uint8_t *c, size_t clen)
@@ -1447,7 +1448,7 @@ HUNKRAVY_MUST_USE static inline int aegis256x2_state_decrypt_update(
     return hunkravy_compat_aegis256x2_decrypt_update(st_, m, c, clen);
 }
 
-/* Returns 0 if `mac` is the tag of the chunks, and -1 otherwise. Erase the chunks then. Ends the state. */
+/* Returns 0 if `mac` is the tag of the chunks, and otherwise -1: then erase the chunks. Ends the state. */
 HUNKRAVY_MUST_USE static inline int aegis256x2_state_decrypt_final(
     aegis256x2_state *st_, const uint8_t *mac, size_t maclen)
 {
@@ -1456,8 +1457,8 @@ HUNKRAVY_MUST_USE static inline int aegis256x2_state_decrypt_final(
 }
 
 /*
- * Writes what the next `clen` bytes of the ciphertext are decrypted to, to `m`, which has room for `mlen_max`,
- * BEFORE THE TAG IS VERIFIED. With a null `m` it writes nothing.
+ * Decrypts the next `clen` bytes of the ciphertext to `m`, which has room for `mlen_max`, BEFORE THE TAG IS
+ * VERIFIED. If `m` is null, it writes nothing but the state.
  */
 HUNKRAVY_MUST_USE static inline int aegis256x2_state_decrypt_detached_update(
     aegis256x2_state *st_, uint8_t *m, size_t mlen_max, size_t *written, const uint8_t *c, size_t clen)
@@ -1469,7 +1470,7 @@ HUNKRAVY_MUST_USE static inline int aegis256x2_state_decrypt_detached_update(
     return hunkravy_compat_wrote(written, result, clen);
 }
 
-/* Returns 0 if `mac` is the tag of the chunks, and -1 otherwise. Erase the chunks then. Ends the state. */
+/* Returns 0 if `mac` is the tag of the chunks, and otherwise -1: then erase the chunks. Ends the state. */
 HUNKRAVY_MUST_USE static inline int aegis256x2_state_decrypt_detached_final(
     aegis256x2_state *st_, uint8_t *m, size_t mlen_max, size_t *written, const uint8_t *mac,
     size_t maclen)
@@ -1481,7 +1482,7 @@ HUNKRAVY_MUST_USE static inline int aegis256x2_state_decrypt_detached_final(
     return hunkravy_compat_wrote(written, result, 0);
 }
 
-/* Begins a MAC. A null nonce is one of zeros. */
+/* Begins a MAC. A null nonce stands for one of zeros. */
 static inline void aegis256x2_mac_init(aegis256x2_mac_state *st_, const uint8_t *k, const uint8_t *npub)
 {
     static const uint8_t zeros[aegis256x2_NPUBBYTES] = {0};
@@ -1516,7 +1517,7 @@ static inline void aegis256x2_mac_reset(aegis256x2_mac_state *st_)
     st_->now = st_->begun;
 }
 
-/* Copies a MAC as it is. */
+/* Copies a MAC. */
 static inline void aegis256x2_mac_state_clone(aegis256x2_mac_state *dst, const aegis256x2_mac_state *src)
 {
     *dst = *src;
@@ -1535,7 +1536,7 @@ typedef struct aegis256x4_state {
     hunkravy_aegis256x4_state now;
 } aegis256x4_state;
 
-/* A MAC whose input comes in chunks, and its beginning, for a reset. */
+/* A MAC whose input comes in chunks: as it was begun, for a reset, and as it is now. */
 typedef struct aegis256x4_mac_state {
     hunkravy_aegis256x4_mac_state begun;
     hunkravy_aegis256x4_mac_state now;
@@ -1575,7 +1576,7 @@ static inline int aegis256x4_encrypt_detached(
         c, m, mlen, ad, adlen, npub, aegis256x4_NPUBBYTES, k, aegis256x4_KEYBYTES, mac, maclen));
 }
 
-/* Writes the message to `m`, and returns 0, if `mac` is the tag. With a null `m` it verifies alone. */
+/* Writes the message to `m` and returns 0 if `mac` is the tag. If `m` is null, it only verifies. */
 HUNKRAVY_MUST_USE static inline int aegis256x4_decrypt_detached(
     uint8_t *m, const uint8_t *c, size_t clen, const uint8_t *mac, size_t maclen, const uint8_t *ad,
     size_t adlen, const uint8_t *npub, const uint8_t *k)
@@ -1603,8 +1604,8 @@ static inline int aegis256x4_encrypt(
 }
 
 /*
- * Writes the message to `m`, and returns 0, if the last `maclen` of the `clen` bytes at `c` are its tag. With a
- * null `m` it verifies alone.
+ * Writes the message to `m` and returns 0 if the last `maclen` of the `clen` bytes at `c` are its tag. If `m` is
+ * null, it only verifies.
  */
 HUNKRAVY_MUST_USE static inline int aegis256x4_decrypt(
     uint8_t *m, const uint8_t *c, size_t clen, size_t maclen, const uint8_t *ad, size_t adlen,
@@ -1618,7 +1619,7 @@ HUNKRAVY_MUST_USE static inline int aegis256x4_decrypt(
                                    npub, k);
 }
 
-/* Writes `len` bytes of keystream to `out`. A null nonce is one of zeros. */
+/* Writes `len` bytes of keystream to `out`. A null nonce stands for one of zeros. */
 static inline void aegis256x4_stream(uint8_t *out, size_t len, const uint8_t *npub, const uint8_t *k)
 {
     static const uint8_t zeros[aegis256x4_NPUBBYTES] = {0};
@@ -1627,7 +1628,7 @@ static inline void aegis256x4_stream(uint8_t *out, size_t len, const uint8_t *np
     (void)code; /* Both lengths are right. */
 }
 
-/* Writes the ciphertext of `m`, without associated data, to `c`, and no tag: nobody can verify it. */
+/* Writes the ciphertext of `m`, without associated data, to `c`, and no tag, so that nobody can verify it. */
 static inline void aegis256x4_encrypt_unauthenticated(
     uint8_t *c, const uint8_t *m, size_t mlen, const uint8_t *npub, const uint8_t *k)
 {
@@ -1637,7 +1638,7 @@ static inline void aegis256x4_encrypt_unauthenticated(
     (void)code; /* The lengths are right. */
 }
 
-/* Writes what `c` is decrypted to, to `m`. ANYONE MAY HAVE FORGED IT. */
+/* Decrypts `c` to `m`, and verifies nothing: IT MAY BE FORGED. */
 static inline void aegis256x4_decrypt_unauthenticated(
     uint8_t *m, const uint8_t *c, size_t clen, const uint8_t *npub, const uint8_t *k)
 {
@@ -1648,16 +1649,16 @@ static inline void aegis256x4_decrypt_unauthenticated(
     hunkravy_wipe(&st, sizeof st);
 }
 
-/* Begins a message with `adlen` bytes of associated data. If that is too long each other call refuses the state. */
+/* Begins a message. If its `adlen` bytes of associated data are too many, each other call refuses the state. */
 static inline void aegis256x4_state_init(aegis256x4_state *st_, const uint8_t *ad, size_t adlen,
                                      const uint8_t *npub, const uint8_t *k)
 {
     int code = hunkravy_aegis256x4_state_init(&st_->now, ad, adlen, npub, aegis256x4_NPUBBYTES, k,
                                           aegis256x4_KEYBYTES);
-    (void)code; /* After any code but HUNKRAVY_OK the state is refused. */
+    (void)code; /* After any code but HUNKRAVY_OK each other call refuses the state. */
 }
 
-/* The two ways to take in the next bytes of a ciphertext. */
+/* Takes in the next bytes of a ciphertext, and decrypts them unless `m` is null. */
 static inline int hunkravy_compat_aegis256x4_decrypt_update(
     aegis256x4_state *st_, uint8_t *m, const uint8_t *c, size_t clen)
 {
@@ -1721,8 +1722,8 @@ static inline int aegis256x4_state_encrypt_detached_final(
 }
 
 /*
- * Writes what the next `clen` bytes of the ciphertext are decrypted to, to `m`, BEFORE THE TAG IS VERIFIED.
- * With a null `m` it writes nothing. Returns 0, or -1 with EINVAL.
+ * Decrypts the next `clen` bytes of the ciphertext to `m`, BEFORE THE TAG IS VERIFIED. If `m` is null, it writes
+ * nothing but the state. Returns 0, or -1 with EINVAL.
  */
 HUNKRAVY_MUST_USE static inline int aegis256x4_state_decrypt_update(
     aegis256x4_state *st_, uint8_t *m, const uint8_t *c, size_t clen)
@@ -1730,7 +1731,7 @@ HUNKRAVY_MUST_USE static inline int aegis256x4_state_decrypt_update(
     return hunkravy_compat_aegis256x4_decrypt_update(st_, m, c, clen);
 }
 
-/* Returns 0 if `mac` is the tag of the chunks, and -1 otherwise. Erase the chunks then. Ends the state. */
+/* Returns 0 if `mac` is the tag of the chunks, and otherwise -1: then erase the chunks. Ends the state. */
 HUNKRAVY_MUST_USE static inline int aegis256x4_state_decrypt_final(
     aegis256x4_state *st_, const uint8_t *mac, size_t maclen)
 {
@@ -1739,8 +1740,8 @@ HUNKRAVY_MUST_USE static inline int aegis256x4_state_decrypt_final(
 }
 
 /*
- * Writes what the next `clen` bytes of the ciphertext are decrypted to, to `m`, which has room for `mlen_max`,
- * BEFORE THE TAG IS VERIFIED. With a null `m` it writes nothing.
+ * Decrypts the next `clen` bytes of the ciphertext to `m`, which has room for `mlen_max`, BEFORE THE TAG IS
+ * VERIFIED. If `m` is null, it writes nothing but the state.
  */
 HUNKRAVY_MUST_USE static inline int aegis256x4_state_decrypt_detached_update(
     aegis256x4_state *st_, uint8_t *m, size_t mlen_max, size_t *written, const uint8_t *c, size_t clen)
@@ -1752,7 +1753,7 @@ HUNKRAVY_MUST_USE static inline int aegis256x4_state_decrypt_detached_update(
     return hunkravy_compat_wrote(written, result, clen);
 }
 
-/* Returns 0 if `mac` is the tag of the chunks, and -1 otherwise. Erase the chunks then. Ends the state. */
+/* Returns 0 if `mac` is the tag of the chunks, and otherwise -1: then erase the chunks. Ends the state. */
 HUNKRAVY_MUST_USE static inline int aegis256x4_state_decrypt_detached_final(
     aegis256x4_state *st_, uint8_t *m, size_t mlen_max, size_t *written, const uint8_t *mac,
     size_t maclen)
@@ -1764,7 +1765,7 @@ HUNKRAVY_MUST_USE static inline int aegis256x4_state_decrypt_detached_final(
     return hunkravy_compat_wrote(written, result, 0);
 }
 
-/* Begins a MAC. A null nonce is one of zeros. */
+/* Begins a MAC. A null nonce stands for one of zeros. */
 static inline void aegis256x4_mac_init(aegis256x4_mac_state *st_, const uint8_t *k, const uint8_t *npub)
 {
     static const uint8_t zeros[aegis256x4_NPUBBYTES] = {0};
@@ -1799,7 +1800,7 @@ static inline void aegis256x4_mac_reset(aegis256x4_mac_state *st_)
     st_->now = st_->begun;
 }
 
-/* Copies a MAC as it is. */
+/* Copies a MAC. */
 static inline void aegis256x4_mac_state_clone(aegis256x4_mac_state *dst, const aegis256x4_mac_state *src)
 {
     *dst = *src;

@@ -1,31 +1,32 @@
 /*
- * Hunkravy: the six AEGIS ciphers and their MACs, for x86-64 Linux. No call allocates memory.
+ * Hunkravy: the six AEGIS ciphers and their MACs, for Linux on x86-64 and on ARM (aarch64). No call allocates
+ * memory.
  *
  * WHAT YOU MUST NEVER DO. No call detects it:
  *
  * - Never encrypt two messages with the same key and nonce, and never use one nonce for a message and for a
  *   keystream. Whoever sees both ciphertexts learns about both messages, and may forge others. Nonces of 32
- *   bytes may be drawn at random; those of 16 bytes too, for up to 2^48 messages under one key. Two copies of a
- *   state that encrypt different bytes are a nonce that is used twice.
+ *   bytes may be drawn at random; those of 16 bytes too, for up to 2^48 messages under one key. To encrypt
+ *   different bytes by two copies of one state is to use its nonce twice.
  * - Never let an output buffer overlap another argument, unless the call's comment says that they may be the
  *   same pointer.
  * - Never use decrypted bytes before their tag is verified: do not show, parse or store them, or act on them.
- *   The calls whose names end in `_unverified` write such bytes. Anyone may have forged them, until the final
- *   call returns HUNKRAVY_OK.
+ *   The calls whose names end in `_unverified` write such bytes. Until the final call has returned HUNKRAVY_OK,
+ *   they may be forged.
  * - Never ignore a returned code. After a code other than HUNKRAVY_OK a buffer that was to be encrypted in
  *   place still holds the message.
  * - Never use the key of a MAC for anything but MACs.
  *
- * The library is proved; nothing checks its C callers. So each call also needs these of its caller:
+ * The library is proved, but nothing checks its C callers. In each call the caller must also ensure:
  *
- * - A pointer points to as many bytes as the length after it says, all of them initialised, readable and, if
- *   the pointer is not const, writable. If the length is 0 the pointer may be anything, null too.
+ * - A pointer points to as many bytes as the length after it. The bytes are initialised, or only written by the
+ *   call; if the pointer is not const they are writable. If the length is 0 the pointer may be null.
  * - No other thread reads or writes an output buffer or a state, or writes an input, until the call returns.
  *
  * PARAMETERS. All lengths are in bytes. `m` is a message, `c` a ciphertext, `mc` a buffer that holds one of
  * them before the call and the other after it, `ad` the associated data, `npub` the nonce, `k` the key, and
- * `mac` a tag or a MAC. The lengths are checked: a call returns the first of the codes below that applies, but
- * HUNKRAVY_WRONG_STATE before all others. After a code for a length or for a state it has written nothing.
+ * `mac` a tag or a MAC. On a wrong length or a wrong state a call returns the first code below that applies,
+ * HUNKRAVY_WRONG_STATE before all others, and changes nothing. Only an init then writes zeros to its state.
  *
  * CALLS. The six variants have the same calls, with these names in the place of NAME: aegis128l, aegis128x2,
  * aegis128x4, aegis256, aegis256x2, aegis256x4. Their comments are the same too, so it is enough to read those
@@ -69,9 +70,9 @@ extern "C" {
 #define HUNKRAVY_OK 0
 /* The tag is not that of the message, or the MAC not that of the input. Each byte of a message's buffer is 0xaa. */
 #define HUNKRAVY_INVALID_TAG (-1)
-/* The nonce has another length than the variant's. */
+/* The nonce's length is not that of the variant. */
 #define HUNKRAVY_WRONG_NONCE_LENGTH (-2)
-/* The key has another length than the variant's. */
+/* The key's length is not that of the variant. */
 #define HUNKRAVY_WRONG_KEY_LENGTH (-3)
 /* The message, or the input of a MAC, has more than HUNKRAVY_MAX_BYTES. */
 #define HUNKRAVY_MESSAGE_TOO_LONG (-4)
@@ -79,7 +80,7 @@ extern "C" {
 #define HUNKRAVY_DATA_TOO_LONG (-5)
 /* The tag, or the MAC, has neither HUNKRAVY_SHORT_TAG_BYTES nor HUNKRAVY_LONG_TAG_BYTES. */
 #define HUNKRAVY_WRONG_TAG_LENGTH (-6)
-/* The state was not begun, or has ended; or a MAC is asked of a state with associated data. */
+/* The state was not begun, or has ended; or a call for a MAC has a state with associated data. */
 #define HUNKRAVY_WRONG_STATE (-7)
 
 /* ---- Lengths in bytes */
@@ -112,23 +113,25 @@ extern "C" {
 #define HUNKRAVY_MUST_USE
 #endif
 
-/* Returns the processor level whose build of the library runs: 3 for x86-64-v3, 2 for x86-64-v2, 0 for another. */
+/*
+ * Returns which build of the library runs: 3 if it is the one for x86-64-v3, 2 if it is the one for x86-64-v2,
+ * and 0 if it is another. On ARM there is one build, and it returns 0.
+ */
 int hunkravy_level(void);
 
 /*
- * Writes zeros over `length` bytes, also if nothing reads them afterwards: for keys, and for states that are
- * dropped. Not covered: copies that the compiler or the library has made.
+ * Overwrites `length` bytes with zeros, even if nothing reads them afterwards. Use it for keys, and for states
+ * that are dropped. Copies that the compiler or the library has made are not overwritten.
  */
 static inline void hunkravy_wipe(void *bytes, size_t length);
 
 /*
- * What a message or a MAC is made by, between two calls. Use the types hunkravy_NAME_state and
- * hunkravy_NAME_mac_state, which hold one each. Leave the fields alone: the calls are safe on any bytes, but of
- * a state that a caller has written to, what they write is not specified.
+ * A message or a MAC between two calls. Use the types hunkravy_NAME_state and hunkravy_NAME_mac_state, each of
+ * which holds one. Do not write to the fields: the calls are safe on any bytes, but what they then write is not
+ * specified.
  *
- * A state may stand anywhere, be copied by `=`, and be dropped at any time; nothing has to be freed. A state of
- * zeros is refused by each call but an init. Until it has ended a state is as secret as the key: hunkravy_wipe
- * it if you drop it.
+ * A state may be copied by `=`, and dropped at any time; nothing has to be freed. Each call but an init refuses
+ * a state of zeros. Until it has ended a state is as secret as the key: if you drop it, call hunkravy_wipe.
  */
 typedef struct hunkravy_state {
     uint64_t mark;
@@ -275,7 +278,7 @@ HUNKRAVY_MUST_USE static inline int hunkravy_aegis128l_mac_verify(
     size_t klen, const uint8_t *mac, size_t maclen);
 
 /*
- * Begins a message at `st`, whatever was there, with `adlen` bytes of associated data.
+ * Begins a message with `adlen` bytes of associated data. `st` may hold anything before.
  *
  * Returns HUNKRAVY_OK, HUNKRAVY_WRONG_NONCE_LENGTH, HUNKRAVY_WRONG_KEY_LENGTH or HUNKRAVY_DATA_TOO_LONG. After
  * any code but HUNKRAVY_OK the state is one of zeros, which each other call refuses.
@@ -316,9 +319,9 @@ HUNKRAVY_MUST_USE static inline int hunkravy_aegis128l_state_encrypt_final(
 
 /*
  * Takes in the next `clen` bytes of the ciphertext, and writes nothing but the state. If
- * hunkravy_aegis128l_state_decrypt_final then returns HUNKRAVY_OK, the tag is right for these chunks. So a
- * ciphertext that can be read twice is decrypted without a look at forged bytes: check it first, and then begin
- * again and decrypt. End the second pass too, since the ciphertext may have changed meanwhile.
+ * hunkravy_aegis128l_state_decrypt_final then returns HUNKRAVY_OK, the tag is right for these chunks. If a
+ * ciphertext can be read twice, no forged byte has to be decrypted: check it first, then begin again and
+ * decrypt. Verify the tag after the second pass too, since the ciphertext may have changed in between.
  *
  * Returns HUNKRAVY_OK, HUNKRAVY_WRONG_STATE, or HUNKRAVY_MESSAGE_TOO_LONG if the message would have more than
  * HUNKRAVY_MAX_BYTES in all. After any code but HUNKRAVY_OK the state is as it was.
@@ -349,9 +352,9 @@ HUNKRAVY_MUST_USE static inline int hunkravy_aegis128l_state_decrypt_unverified(
 
 /*
  * Verifies that the `maclen` bytes at `mac`, 16 or 32, are the tag of the chunks, and ends the state: it is one
- * of zeros. `m` is where all the chunks were decrypted to, `mlen` bytes, which are erased if the tag is wrong.
- * If the chunks are at several places, pass 0 bytes and erase them yourself; if they were only checked, pass 0
- * bytes.
+ * of zeros. `m` holds what all the chunks were decrypted to, `mlen` bytes, which are erased if the tag is
+ * wrong. If the chunks are at several places, pass 0 bytes and erase them yourself; if they were only checked,
+ * pass 0 bytes.
  *
  * Returns HUNKRAVY_OK, HUNKRAVY_INVALID_TAG, HUNKRAVY_WRONG_STATE or HUNKRAVY_WRONG_TAG_LENGTH. After
  * HUNKRAVY_OK the chunks that were decrypted are the message. After HUNKRAVY_INVALID_TAG the state has ended,
@@ -362,7 +365,7 @@ HUNKRAVY_MUST_USE static inline int hunkravy_aegis128l_state_decrypt_final(
     hunkravy_aegis128l_state *st, uint8_t *m, size_t mlen, const uint8_t *mac, size_t maclen);
 
 /*
- * Begins a MAC at `st`, whatever was there. If you have no nonce, pass one of zeros.
+ * Begins a MAC. `st` may hold anything before. If you have no nonce, pass one of zeros.
  *
  * Returns HUNKRAVY_OK, HUNKRAVY_WRONG_NONCE_LENGTH or HUNKRAVY_WRONG_KEY_LENGTH. After the last two the state
  * is one of zeros, which each other call refuses.
@@ -380,8 +383,8 @@ HUNKRAVY_MUST_USE static inline int hunkravy_aegis128l_mac_update(
     hunkravy_aegis128l_mac_state *st, const uint8_t *input, size_t inputlen);
 
 /*
- * Writes the MAC of `maclen` bytes, 16 or 32, of the input so far to `mac`. The state stays as it is, so the
- * input may go on. A MAC has no end: hunkravy_wipe the state after its last use.
+ * Writes the MAC of `maclen` bytes, 16 or 32, of the input so far to `mac`. The state is not changed, so more
+ * input may follow. No call ends a MAC: after its last use call hunkravy_wipe.
  *
  * Returns HUNKRAVY_OK, HUNKRAVY_WRONG_STATE or HUNKRAVY_WRONG_TAG_LENGTH. After the last two nothing is
  * written.
@@ -390,8 +393,8 @@ HUNKRAVY_MUST_USE static inline int hunkravy_aegis128l_mac_final(
     const hunkravy_aegis128l_mac_state *st, uint8_t *mac, size_t maclen);
 
 /*
- * Verifies that the `maclen` bytes at `mac`, 16 or 32, are the MAC of the input so far. The state stays as it
- * is.
+ * Verifies that the `maclen` bytes at `mac`, 16 or 32, are the MAC of the input so far. The state is not
+ * changed.
  *
  * Returns HUNKRAVY_OK, HUNKRAVY_INVALID_TAG, HUNKRAVY_WRONG_STATE or HUNKRAVY_WRONG_TAG_LENGTH. Nothing is
  * written.
@@ -536,7 +539,7 @@ HUNKRAVY_MUST_USE static inline int hunkravy_aegis128x2_mac_verify(
     size_t klen, const uint8_t *mac, size_t maclen);
 
 /*
- * Begins a message at `st`, whatever was there, with `adlen` bytes of associated data.
+ * Begins a message with `adlen` bytes of associated data. `st` may hold anything before.
  *
  * Returns HUNKRAVY_OK, HUNKRAVY_WRONG_NONCE_LENGTH, HUNKRAVY_WRONG_KEY_LENGTH or HUNKRAVY_DATA_TOO_LONG. After
  * any code but HUNKRAVY_OK the state is one of zeros, which each other call refuses.
@@ -577,9 +580,9 @@ HUNKRAVY_MUST_USE static inline int hunkravy_aegis128x2_state_encrypt_final(
 
 /*
  * Takes in the next `clen` bytes of the ciphertext, and writes nothing but the state. If
- * hunkravy_aegis128x2_state_decrypt_final then returns HUNKRAVY_OK, the tag is right for these chunks. So a
- * ciphertext that can be read twice is decrypted without a look at forged bytes: check it first, and then begin
- * again and decrypt. End the second pass too, since the ciphertext may have changed meanwhile.
+ * hunkravy_aegis128x2_state_decrypt_final then returns HUNKRAVY_OK, the tag is right for these chunks. If a
+ * ciphertext can be read twice, no forged byte has to be decrypted: check it first, then begin again and
+ * decrypt. Verify the tag after the second pass too, since the ciphertext may have changed in between.
  *
  * Returns HUNKRAVY_OK, HUNKRAVY_WRONG_STATE, or HUNKRAVY_MESSAGE_TOO_LONG if the message would have more than
  * HUNKRAVY_MAX_BYTES in all. After any code but HUNKRAVY_OK the state is as it was.
@@ -610,9 +613,9 @@ HUNKRAVY_MUST_USE static inline int hunkravy_aegis128x2_state_decrypt_unverified
 
 /*
  * Verifies that the `maclen` bytes at `mac`, 16 or 32, are the tag of the chunks, and ends the state: it is one
- * of zeros. `m` is where all the chunks were decrypted to, `mlen` bytes, which are erased if the tag is wrong.
- * If the chunks are at several places, pass 0 bytes and erase them yourself; if they were only checked, pass 0
- * bytes.
+ * of zeros. `m` holds what all the chunks were decrypted to, `mlen` bytes, which are erased if the tag is
+ * wrong. If the chunks are at several places, pass 0 bytes and erase them yourself; if they were only checked,
+ * pass 0 bytes.
  *
  * Returns HUNKRAVY_OK, HUNKRAVY_INVALID_TAG, HUNKRAVY_WRONG_STATE or HUNKRAVY_WRONG_TAG_LENGTH. After
  * HUNKRAVY_OK the chunks that were decrypted are the message. After HUNKRAVY_INVALID_TAG the state has ended,
@@ -623,7 +626,7 @@ HUNKRAVY_MUST_USE static inline int hunkravy_aegis128x2_state_decrypt_final(
     hunkravy_aegis128x2_state *st, uint8_t *m, size_t mlen, const uint8_t *mac, size_t maclen);
 
 /*
- * Begins a MAC at `st`, whatever was there. If you have no nonce, pass one of zeros.
+ * Begins a MAC. `st` may hold anything before. If you have no nonce, pass one of zeros.
  *
  * Returns HUNKRAVY_OK, HUNKRAVY_WRONG_NONCE_LENGTH or HUNKRAVY_WRONG_KEY_LENGTH. After the last two the state
  * is one of zeros, which each other call refuses.
@@ -641,8 +644,8 @@ HUNKRAVY_MUST_USE static inline int hunkravy_aegis128x2_mac_update(
     hunkravy_aegis128x2_mac_state *st, const uint8_t *input, size_t inputlen);
 
 /*
- * Writes the MAC of `maclen` bytes, 16 or 32, of the input so far to `mac`. The state stays as it is, so the
- * input may go on. A MAC has no end: hunkravy_wipe the state after its last use.
+ * Writes the MAC of `maclen` bytes, 16 or 32, of the input so far to `mac`. The state is not changed, so more
+ * input may follow. No call ends a MAC: after its last use call hunkravy_wipe.
  *
  * Returns HUNKRAVY_OK, HUNKRAVY_WRONG_STATE or HUNKRAVY_WRONG_TAG_LENGTH. After the last two nothing is
  * written.
@@ -651,8 +654,8 @@ HUNKRAVY_MUST_USE static inline int hunkravy_aegis128x2_mac_final(
     const hunkravy_aegis128x2_mac_state *st, uint8_t *mac, size_t maclen);
 
 /*
- * Verifies that the `maclen` bytes at `mac`, 16 or 32, are the MAC of the input so far. The state stays as it
- * is.
+ * Verifies that the `maclen` bytes at `mac`, 16 or 32, are the MAC of the input so far. The state is not
+ * changed.
  *
  * Returns HUNKRAVY_OK, HUNKRAVY_INVALID_TAG, HUNKRAVY_WRONG_STATE or HUNKRAVY_WRONG_TAG_LENGTH. Nothing is
  * written.
@@ -797,7 +800,7 @@ HUNKRAVY_MUST_USE static inline int hunkravy_aegis128x4_mac_verify(
     size_t klen, const uint8_t *mac, size_t maclen);
 
 /*
- * Begins a message at `st`, whatever was there, with `adlen` bytes of associated data.
+ * Begins a message with `adlen` bytes of associated data. `st` may hold anything before.
  *
  * Returns HUNKRAVY_OK, HUNKRAVY_WRONG_NONCE_LENGTH, HUNKRAVY_WRONG_KEY_LENGTH or HUNKRAVY_DATA_TOO_LONG. After
  * any code but HUNKRAVY_OK the state is one of zeros, which each other call refuses.
@@ -838,9 +841,9 @@ HUNKRAVY_MUST_USE static inline int hunkravy_aegis128x4_state_encrypt_final(
 
 /*
  * Takes in the next `clen` bytes of the ciphertext, and writes nothing but the state. If
- * hunkravy_aegis128x4_state_decrypt_final then returns HUNKRAVY_OK, the tag is right for these chunks. So a
- * ciphertext that can be read twice is decrypted without a look at forged bytes: check it first, and then begin
- * again and decrypt. End the second pass too, since the ciphertext may have changed meanwhile.
+ * hunkravy_aegis128x4_state_decrypt_final then returns HUNKRAVY_OK, the tag is right for these chunks. If a
+ * ciphertext can be read twice, no forged byte has to be decrypted: check it first, then begin again and
+ * decrypt. Verify the tag after the second pass too, since the ciphertext may have changed in between.
  *
  * Returns HUNKRAVY_OK, HUNKRAVY_WRONG_STATE, or HUNKRAVY_MESSAGE_TOO_LONG if the message would have more than
  * HUNKRAVY_MAX_BYTES in all. After any code but HUNKRAVY_OK the state is as it was.
@@ -871,9 +874,9 @@ HUNKRAVY_MUST_USE static inline int hunkravy_aegis128x4_state_decrypt_unverified
 
 /*
  * Verifies that the `maclen` bytes at `mac`, 16 or 32, are the tag of the chunks, and ends the state: it is one
- * of zeros. `m` is where all the chunks were decrypted to, `mlen` bytes, which are erased if the tag is wrong.
- * If the chunks are at several places, pass 0 bytes and erase them yourself; if they were only checked, pass 0
- * bytes.
+ * of zeros. `m` holds what all the chunks were decrypted to, `mlen` bytes, which are erased if the tag is
+ * wrong. If the chunks are at several places, pass 0 bytes and erase them yourself; if they were only checked,
+ * pass 0 bytes.
  *
  * Returns HUNKRAVY_OK, HUNKRAVY_INVALID_TAG, HUNKRAVY_WRONG_STATE or HUNKRAVY_WRONG_TAG_LENGTH. After
  * HUNKRAVY_OK the chunks that were decrypted are the message. After HUNKRAVY_INVALID_TAG the state has ended,
@@ -884,7 +887,7 @@ HUNKRAVY_MUST_USE static inline int hunkravy_aegis128x4_state_decrypt_final(
     hunkravy_aegis128x4_state *st, uint8_t *m, size_t mlen, const uint8_t *mac, size_t maclen);
 
 /*
- * Begins a MAC at `st`, whatever was there. If you have no nonce, pass one of zeros.
+ * Begins a MAC. `st` may hold anything before. If you have no nonce, pass one of zeros.
  *
  * Returns HUNKRAVY_OK, HUNKRAVY_WRONG_NONCE_LENGTH or HUNKRAVY_WRONG_KEY_LENGTH. After the last two the state
  * is one of zeros, which each other call refuses.
@@ -902,8 +905,8 @@ HUNKRAVY_MUST_USE static inline int hunkravy_aegis128x4_mac_update(
     hunkravy_aegis128x4_mac_state *st, const uint8_t *input, size_t inputlen);
 
 /*
- * Writes the MAC of `maclen` bytes, 16 or 32, of the input so far to `mac`. The state stays as it is, so the
- * input may go on. A MAC has no end: hunkravy_wipe the state after its last use.
+ * Writes the MAC of `maclen` bytes, 16 or 32, of the input so far to `mac`. The state is not changed, so more
+ * input may follow. No call ends a MAC: after its last use call hunkravy_wipe.
  *
  * Returns HUNKRAVY_OK, HUNKRAVY_WRONG_STATE or HUNKRAVY_WRONG_TAG_LENGTH. After the last two nothing is
  * written.
@@ -912,8 +915,8 @@ HUNKRAVY_MUST_USE static inline int hunkravy_aegis128x4_mac_final(
     const hunkravy_aegis128x4_mac_state *st, uint8_t *mac, size_t maclen);
 
 /*
- * Verifies that the `maclen` bytes at `mac`, 16 or 32, are the MAC of the input so far. The state stays as it
- * is.
+ * Verifies that the `maclen` bytes at `mac`, 16 or 32, are the MAC of the input so far. The state is not
+ * changed.
  *
  * Returns HUNKRAVY_OK, HUNKRAVY_INVALID_TAG, HUNKRAVY_WRONG_STATE or HUNKRAVY_WRONG_TAG_LENGTH. Nothing is
  * written.
@@ -1058,7 +1061,7 @@ HUNKRAVY_MUST_USE static inline int hunkravy_aegis256_mac_verify(
     size_t klen, const uint8_t *mac, size_t maclen);
 
 /*
- * Begins a message at `st`, whatever was there, with `adlen` bytes of associated data.
+ * Begins a message with `adlen` bytes of associated data. `st` may hold anything before.
  *
  * Returns HUNKRAVY_OK, HUNKRAVY_WRONG_NONCE_LENGTH, HUNKRAVY_WRONG_KEY_LENGTH or HUNKRAVY_DATA_TOO_LONG. After
  * any code but HUNKRAVY_OK the state is one of zeros, which each other call refuses.
@@ -1099,9 +1102,9 @@ HUNKRAVY_MUST_USE static inline int hunkravy_aegis256_state_encrypt_final(
 
 /*
  * Takes in the next `clen` bytes of the ciphertext, and writes nothing but the state. If
- * hunkravy_aegis256_state_decrypt_final then returns HUNKRAVY_OK, the tag is right for these chunks. So a
- * ciphertext that can be read twice is decrypted without a look at forged bytes: check it first, and then begin
- * again and decrypt. End the second pass too, since the ciphertext may have changed meanwhile.
+ * hunkravy_aegis256_state_decrypt_final then returns HUNKRAVY_OK, the tag is right for these chunks. If a
+ * ciphertext can be read twice, no forged byte has to be decrypted: check it first, then begin again and
+ * decrypt. Verify the tag after the second pass too, since the ciphertext may have changed in between.
  *
  * Returns HUNKRAVY_OK, HUNKRAVY_WRONG_STATE, or HUNKRAVY_MESSAGE_TOO_LONG if the message would have more than
  * HUNKRAVY_MAX_BYTES in all. After any code but HUNKRAVY_OK the state is as it was.
@@ -1132,9 +1135,9 @@ HUNKRAVY_MUST_USE static inline int hunkravy_aegis256_state_decrypt_unverified(
 
 /*
  * Verifies that the `maclen` bytes at `mac`, 16 or 32, are the tag of the chunks, and ends the state: it is one
- * of zeros. `m` is where all the chunks were decrypted to, `mlen` bytes, which are erased if the tag is wrong.
- * If the chunks are at several places, pass 0 bytes and erase them yourself; if they were only checked, pass 0
- * bytes.
+ * of zeros. `m` holds what all the chunks were decrypted to, `mlen` bytes, which are erased if the tag is
+ * wrong. If the chunks are at several places, pass 0 bytes and erase them yourself; if they were only checked,
+ * pass 0 bytes.
  *
  * Returns HUNKRAVY_OK, HUNKRAVY_INVALID_TAG, HUNKRAVY_WRONG_STATE or HUNKRAVY_WRONG_TAG_LENGTH. After
  * HUNKRAVY_OK the chunks that were decrypted are the message. After HUNKRAVY_INVALID_TAG the state has ended,
@@ -1145,7 +1148,7 @@ HUNKRAVY_MUST_USE static inline int hunkravy_aegis256_state_decrypt_final(
     hunkravy_aegis256_state *st, uint8_t *m, size_t mlen, const uint8_t *mac, size_t maclen);
 
 /*
- * Begins a MAC at `st`, whatever was there. If you have no nonce, pass one of zeros.
+ * Begins a MAC. `st` may hold anything before. If you have no nonce, pass one of zeros.
  *
  * Returns HUNKRAVY_OK, HUNKRAVY_WRONG_NONCE_LENGTH or HUNKRAVY_WRONG_KEY_LENGTH. After the last two the state
  * is one of zeros, which each other call refuses.
@@ -1163,8 +1166,8 @@ HUNKRAVY_MUST_USE static inline int hunkravy_aegis256_mac_update(
     hunkravy_aegis256_mac_state *st, const uint8_t *input, size_t inputlen);
 
 /*
- * Writes the MAC of `maclen` bytes, 16 or 32, of the input so far to `mac`. The state stays as it is, so the
- * input may go on. A MAC has no end: hunkravy_wipe the state after its last use.
+ * Writes the MAC of `maclen` bytes, 16 or 32, of the input so far to `mac`. The state is not changed, so more
+ * input may follow. No call ends a MAC: after its last use call hunkravy_wipe.
  *
  * Returns HUNKRAVY_OK, HUNKRAVY_WRONG_STATE or HUNKRAVY_WRONG_TAG_LENGTH. After the last two nothing is
  * written.
@@ -1173,8 +1176,8 @@ HUNKRAVY_MUST_USE static inline int hunkravy_aegis256_mac_final(
     const hunkravy_aegis256_mac_state *st, uint8_t *mac, size_t maclen);
 
 /*
- * Verifies that the `maclen` bytes at `mac`, 16 or 32, are the MAC of the input so far. The state stays as it
- * is.
+ * Verifies that the `maclen` bytes at `mac`, 16 or 32, are the MAC of the input so far. The state is not
+ * changed.
  *
  * Returns HUNKRAVY_OK, HUNKRAVY_INVALID_TAG, HUNKRAVY_WRONG_STATE or HUNKRAVY_WRONG_TAG_LENGTH. Nothing is
  * written.
@@ -1319,7 +1322,7 @@ HUNKRAVY_MUST_USE static inline int hunkravy_aegis256x2_mac_verify(
     size_t klen, const uint8_t *mac, size_t maclen);
 
 /*
- * Begins a message at `st`, whatever was there, with `adlen` bytes of associated data.
+ * Begins a message with `adlen` bytes of associated data. `st` may hold anything before.
  *
  * Returns HUNKRAVY_OK, HUNKRAVY_WRONG_NONCE_LENGTH, HUNKRAVY_WRONG_KEY_LENGTH or HUNKRAVY_DATA_TOO_LONG. After
  * any code but HUNKRAVY_OK the state is one of zeros, which each other call refuses.
@@ -1360,9 +1363,9 @@ HUNKRAVY_MUST_USE static inline int hunkravy_aegis256x2_state_encrypt_final(
 
 /*
  * Takes in the next `clen` bytes of the ciphertext, and writes nothing but the state. If
- * hunkravy_aegis256x2_state_decrypt_final then returns HUNKRAVY_OK, the tag is right for these chunks. So a
- * ciphertext that can be read twice is decrypted without a look at forged bytes: check it first, and then begin
- * again and decrypt. End the second pass too, since the ciphertext may have changed meanwhile.
+ * hunkravy_aegis256x2_state_decrypt_final then returns HUNKRAVY_OK, the tag is right for these chunks. If a
+ * ciphertext can be read twice, no forged byte has to be decrypted: check it first, then begin again and
+ * decrypt. Verify the tag after the second pass too, since the ciphertext may have changed in between.
  *
  * Returns HUNKRAVY_OK, HUNKRAVY_WRONG_STATE, or HUNKRAVY_MESSAGE_TOO_LONG if the message would have more than
  * HUNKRAVY_MAX_BYTES in all. After any code but HUNKRAVY_OK the state is as it was.
@@ -1393,9 +1396,9 @@ HUNKRAVY_MUST_USE static inline int hunkravy_aegis256x2_state_decrypt_unverified
 
 /*
  * Verifies that the `maclen` bytes at `mac`, 16 or 32, are the tag of the chunks, and ends the state: it is one
- * of zeros. `m` is where all the chunks were decrypted to, `mlen` bytes, which are erased if the tag is wrong.
- * If the chunks are at several places, pass 0 bytes and erase them yourself; if they were only checked, pass 0
- * bytes.
+ * of zeros. `m` holds what all the chunks were decrypted to, `mlen` bytes, which are erased if the tag is
+ * wrong. If the chunks are at several places, pass 0 bytes and erase them yourself; if they were only checked,
+ * pass 0 bytes.
  *
  * Returns HUNKRAVY_OK, HUNKRAVY_INVALID_TAG, HUNKRAVY_WRONG_STATE or HUNKRAVY_WRONG_TAG_LENGTH. After
  * HUNKRAVY_OK the chunks that were decrypted are the message. After HUNKRAVY_INVALID_TAG the state has ended,
@@ -1406,7 +1409,7 @@ HUNKRAVY_MUST_USE static inline int hunkravy_aegis256x2_state_decrypt_final(
     hunkravy_aegis256x2_state *st, uint8_t *m, size_t mlen, const uint8_t *mac, size_t maclen);
 
 /*
- * Begins a MAC at `st`, whatever was there. If you have no nonce, pass one of zeros.
+ * Begins a MAC. `st` may hold anything before. If you have no nonce, pass one of zeros.
  *
  * Returns HUNKRAVY_OK, HUNKRAVY_WRONG_NONCE_LENGTH or HUNKRAVY_WRONG_KEY_LENGTH. After the last two the state
  * is one of zeros, which each other call refuses.
@@ -1424,8 +1427,8 @@ HUNKRAVY_MUST_USE static inline int hunkravy_aegis256x2_mac_update(
     hunkravy_aegis256x2_mac_state *st, const uint8_t *input, size_t inputlen);
 
 /*
- * Writes the MAC of `maclen` bytes, 16 or 32, of the input so far to `mac`. The state stays as it is, so the
- * input may go on. A MAC has no end: hunkravy_wipe the state after its last use.
+ * Writes the MAC of `maclen` bytes, 16 or 32, of the input so far to `mac`. The state is not changed, so more
+ * input may follow. No call ends a MAC: after its last use call hunkravy_wipe.
  *
  * Returns HUNKRAVY_OK, HUNKRAVY_WRONG_STATE or HUNKRAVY_WRONG_TAG_LENGTH. After the last two nothing is
  * written.
@@ -1434,8 +1437,8 @@ HUNKRAVY_MUST_USE static inline int hunkravy_aegis256x2_mac_final(
     const hunkravy_aegis256x2_mac_state *st, uint8_t *mac, size_t maclen);
 
 /*
- * Verifies that the `maclen` bytes at `mac`, 16 or 32, are the MAC of the input so far. The state stays as it
- * is.
+ * Verifies that the `maclen` bytes at `mac`, 16 or 32, are the MAC of the input so far. The state is not
+ * changed.
  *
  * Returns HUNKRAVY_OK, HUNKRAVY_INVALID_TAG, HUNKRAVY_WRONG_STATE or HUNKRAVY_WRONG_TAG_LENGTH. Nothing is
  * written.
@@ -1580,7 +1583,7 @@ HUNKRAVY_MUST_USE static inline int hunkravy_aegis256x4_mac_verify(
     size_t klen, const uint8_t *mac, size_t maclen);
 
 /*
- * Begins a message at `st`, whatever was there, with `adlen` bytes of associated data.
+ * Begins a message with `adlen` bytes of associated data. `st` may hold anything before.
  *
  * Returns HUNKRAVY_OK, HUNKRAVY_WRONG_NONCE_LENGTH, HUNKRAVY_WRONG_KEY_LENGTH or HUNKRAVY_DATA_TOO_LONG. After
  * any code but HUNKRAVY_OK the state is one of zeros, which each other call refuses.
@@ -1621,9 +1624,9 @@ HUNKRAVY_MUST_USE static inline int hunkravy_aegis256x4_state_encrypt_final(
 
 /*
  * Takes in the next `clen` bytes of the ciphertext, and writes nothing but the state. If
- * hunkravy_aegis256x4_state_decrypt_final then returns HUNKRAVY_OK, the tag is right for these chunks. So a
- * ciphertext that can be read twice is decrypted without a look at forged bytes: check it first, and then begin
- * again and decrypt. End the second pass too, since the ciphertext may have changed meanwhile.
+ * hunkravy_aegis256x4_state_decrypt_final then returns HUNKRAVY_OK, the tag is right for these chunks. If a
+ * ciphertext can be read twice, no forged byte has to be decrypted: check it first, then begin again and
+ * decrypt. Verify the tag after the second pass too, since the ciphertext may have changed in between.
  *
  * Returns HUNKRAVY_OK, HUNKRAVY_WRONG_STATE, or HUNKRAVY_MESSAGE_TOO_LONG if the message would have more than
  * HUNKRAVY_MAX_BYTES in all. After any code but HUNKRAVY_OK the state is as it was.
@@ -1654,9 +1657,9 @@ HUNKRAVY_MUST_USE static inline int hunkravy_aegis256x4_state_decrypt_unverified
 
 /*
  * Verifies that the `maclen` bytes at `mac`, 16 or 32, are the tag of the chunks, and ends the state: it is one
- * of zeros. `m` is where all the chunks were decrypted to, `mlen` bytes, which are erased if the tag is wrong.
- * If the chunks are at several places, pass 0 bytes and erase them yourself; if they were only checked, pass 0
- * bytes.
+ * of zeros. `m` holds what all the chunks were decrypted to, `mlen` bytes, which are erased if the tag is
+ * wrong. If the chunks are at several places, pass 0 bytes and erase them yourself; if they were only checked,
+ * pass 0 bytes.
  *
  * Returns HUNKRAVY_OK, HUNKRAVY_INVALID_TAG, HUNKRAVY_WRONG_STATE or HUNKRAVY_WRONG_TAG_LENGTH. After
  * HUNKRAVY_OK the chunks that were decrypted are the message. After HUNKRAVY_INVALID_TAG the state has ended,
@@ -1667,7 +1670,7 @@ HUNKRAVY_MUST_USE static inline int hunkravy_aegis256x4_state_decrypt_final(
     hunkravy_aegis256x4_state *st, uint8_t *m, size_t mlen, const uint8_t *mac, size_t maclen);
 
 /*
- * Begins a MAC at `st`, whatever was there. If you have no nonce, pass one of zeros.
+ * Begins a MAC. `st` may hold anything before. If you have no nonce, pass one of zeros.
  *
  * Returns HUNKRAVY_OK, HUNKRAVY_WRONG_NONCE_LENGTH or HUNKRAVY_WRONG_KEY_LENGTH. After the last two the state
  * is one of zeros, which each other call refuses.
@@ -1685,8 +1688,8 @@ HUNKRAVY_MUST_USE static inline int hunkravy_aegis256x4_mac_update(
     hunkravy_aegis256x4_mac_state *st, const uint8_t *input, size_t inputlen);
 
 /*
- * Writes the MAC of `maclen` bytes, 16 or 32, of the input so far to `mac`. The state stays as it is, so the
- * input may go on. A MAC has no end: hunkravy_wipe the state after its last use.
+ * Writes the MAC of `maclen` bytes, 16 or 32, of the input so far to `mac`. The state is not changed, so more
+ * input may follow. No call ends a MAC: after its last use call hunkravy_wipe.
  *
  * Returns HUNKRAVY_OK, HUNKRAVY_WRONG_STATE or HUNKRAVY_WRONG_TAG_LENGTH. After the last two nothing is
  * written.
@@ -1695,8 +1698,8 @@ HUNKRAVY_MUST_USE static inline int hunkravy_aegis256x4_mac_final(
     const hunkravy_aegis256x4_mac_state *st, uint8_t *mac, size_t maclen);
 
 /*
- * Verifies that the `maclen` bytes at `mac`, 16 or 32, are the MAC of the input so far. The state stays as it
- * is.
+ * Verifies that the `maclen` bytes at `mac`, 16 or 32, are the MAC of the input so far. The state is not
+ * changed.
  *
  * Returns HUNKRAVY_OK, HUNKRAVY_INVALID_TAG, HUNKRAVY_WRONG_STATE or HUNKRAVY_WRONG_TAG_LENGTH. Nothing is
  * written.
@@ -1707,9 +1710,9 @@ HUNKRAVY_MUST_USE static inline int hunkravy_aegis256x4_mac_final_verify(
 /* ======== The library's exports, and the calls above over them: a caller has nothing to read below ======== */
 
 /*
- * An export takes what the call of the same name above takes and returns the same, for programs in other
- * languages, with these differences: a pointer is never null, even if its length is 0, and what `st` points to
- * is initialised even for an init.
+ * The exports are for the calls above and for programs in other languages. Each has the parameters of the call
+ * of the same name and returns the same, with two differences: a pointer must not be null, even if its length
+ * is 0, and what `st` points to must be initialised, even for an init.
  */
 
 HUNKRAVY_MUST_USE int hunkravy_aegis128l_encrypt_in_place_nonnull(
@@ -1928,13 +1931,13 @@ HUNKRAVY_MUST_USE int hunkravy_aegis256x4_mac_final_nonnull(
 HUNKRAVY_MUST_USE int hunkravy_aegis256x4_mac_final_verify_nonnull(
     const hunkravy_state *st, const uint8_t *mac, size_t maclen);
 
-/* The state is as long as the library has it. */
+/* The library's state has the same size. */
 typedef char hunkravy_state_has_664_bytes[sizeof(hunkravy_state) == 664 ? 1 : -1];
 
 /* The mark of a state between its init and its end. */
 #define HUNKRAVY_STATE_MARK UINT64_C(0x61656769732d7275)
 
-/* Returns the address for a pointer with no bytes. Nothing is read or written there. */
+/* Returns an address to pass if there are no bytes. Nothing is read or written there. */
 static inline uint8_t *hunkravy_no_bytes(void)
 {
     static uint8_t none[1];
@@ -1951,7 +1954,7 @@ static inline uint8_t *hunkravy_writable(uint8_t *bytes, size_t length)
     return length == 0 ? hunkravy_no_bytes() : bytes;
 }
 
-/* Copies bytes that may be in their place already, or that are none, before null pointers too. */
+/* Copies `length` bytes. The pointers may be the same, and may be null if `length` is 0. */
 static inline void hunkravy_copy(uint8_t *to, const uint8_t *from, size_t length)
 {
     if (length != 0 && to != from) {
@@ -1965,14 +1968,14 @@ static inline void hunkravy_wipe(void *bytes, size_t length)
         memset(bytes, 0, length);
     }
 #if defined(__GNUC__) || defined(__clang__)
-    /* The compiler takes it that this reads the bytes. */
+    /* The compiler must assume that this reads the bytes. */
     __asm__ __volatile__("" : : "r"(bytes) : "memory");
 #endif
 }
 
 /*
- * Returns the code of the first wrong length. A call that writes to another buffer asks before it copies the
- * message there, since after a wrong length it must have written nothing.
+ * Returns the code of the first wrong length. A call that writes to another buffer checks the lengths before
+ * it copies the message there, since on a wrong length it must write nothing.
  */
 static inline int hunkravy_check_lengths(size_t key_bytes, size_t npublen, size_t klen,
                                          size_t mlen, size_t adlen, size_t maclen)
@@ -1995,7 +1998,7 @@ static inline int hunkravy_check_lengths(size_t key_bytes, size_t npublen, size_
     return HUNKRAVY_OK;
 }
 
-/* Returns what a call with the next `length` bytes returns for a state, for the same reason. */
+/* Returns the code of a call on a state with the next `length` bytes; used for the same reason. */
 static inline int hunkravy_check_state(const hunkravy_state *st, size_t length)
 {
     if (st->mark != HUNKRAVY_STATE_MARK || st->data_bytes > HUNKRAVY_MAX_BYTES ||

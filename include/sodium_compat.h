@@ -7,19 +7,18 @@
  *
  * - Tags have 32 bytes; in the combined form the tag is after the ciphertext. The bytes are the same as
  *   libsodium's.
- * - Message and ciphertext may be the same buffer, and otherwise do not overlap.
+ * - Message and ciphertext may be the same buffer, and must not overlap otherwise.
  * - A decryption that is refused returns -1 and leaves zeros in the place of the message; if `m` is null, a
  *   decryption verifies the tag and writes nothing.
- * - What a parameter that ends in `_p` points to is set to a length; it may be null. After a refused decryption
- *   the length is 0.
+ * - A parameter whose name ends in `_p` is null or points to a length, which the call sets. After a refused
+ *   decryption the length is 0.
  * - `nsec` is not used; pass null.
- * - More bytes than crypto_aead_.._MESSAGEBYTES_MAX end the program if they are to be encrypted, and are
- *   refused if they are to be decrypted.
+ * - On more than crypto_aead_.._MESSAGEBYTES_MAX bytes encryption ends the program, and decryption returns -1.
  * - Never encrypt two messages with the same key and nonce.
  *
- * Otherwise than in libsodium:
+ * What differs:
  *
- * - It is software alone, without look-up tables: the processor's AES instructions are not used.
+ * - The processor's AES instructions are not used. Nor are look-up tables.
  * - An output buffer must not overlap the key, the nonce, the associated data or, in the detached form, the
  *   tag.
  * - The calls are inline: there is no symbol of libsodium's names to link with. A source file includes this
@@ -66,7 +65,7 @@ static inline void randombytes_buf(void *const buf, const size_t size)
     }
 }
 
-/* Writes zeros over `len` bytes, also if nothing reads them afterwards. */
+/* Overwrites `len` bytes with zeros, even if nothing reads them afterwards. */
 static inline void sodium_memzero(void *const pnt, const size_t len)
 {
     hunkravy_wipe(pnt, len);
@@ -134,8 +133,8 @@ static inline int crypto_aead_aegis128l_encrypt_detached(
 }
 
 /*
- * Writes the message to `m`, and returns 0, if `mac` is the tag of the `clen` bytes at `c`. Otherwise returns
- * -1, and the `clen` bytes at `m` are zeros. With a null `m` it verifies alone.
+ * Writes the message to `m` and returns 0 if `mac` is the tag of the `clen` bytes at `c`. Otherwise returns -1,
+ * and the `clen` bytes at `m` are zeros. If `m` is null, it only verifies.
  */
 HUNKRAVY_MUST_USE static inline int crypto_aead_aegis128l_decrypt_detached(
     unsigned char *m, unsigned char *nsec, const unsigned char *c, unsigned long long clen,
@@ -183,9 +182,9 @@ static inline int crypto_aead_aegis128l_encrypt(
 }
 
 /*
- * Writes the message to `m`, sets `*mlen_p` to `clen - 32` and returns 0, if the last 32 of the `clen` bytes at
- * `c` are its tag. Otherwise sets `*mlen_p` to 0 and returns -1, and `clen - 32` bytes at `m` are zeros. With a
- * null `m` it verifies alone.
+ * Writes the message to `m`, sets `*mlen_p` to `clen - 32` and returns 0 if the last 32 of the `clen` bytes at
+ * `c` are its tag. Otherwise sets `*mlen_p` to 0 and returns -1, and `clen - 32` bytes at `m` are zeros. If `m`
+ * is null, it only verifies.
  */
 HUNKRAVY_MUST_USE static inline int crypto_aead_aegis128l_decrypt(
     unsigned char *m, unsigned long long *mlen_p, unsigned char *nsec, const unsigned char *c,
@@ -268,8 +267,8 @@ static inline int crypto_aead_aegis256_encrypt_detached(
 }
 
 /*
- * Writes the message to `m`, and returns 0, if `mac` is the tag of the `clen` bytes at `c`. Otherwise returns
- * -1, and the `clen` bytes at `m` are zeros. With a null `m` it verifies alone.
+ * Writes the message to `m` and returns 0 if `mac` is the tag of the `clen` bytes at `c`. Otherwise returns -1,
+ * and the `clen` bytes at `m` are zeros. If `m` is null, it only verifies.
  */
 HUNKRAVY_MUST_USE static inline int crypto_aead_aegis256_decrypt_detached(
     unsigned char *m, unsigned char *nsec, const unsigned char *c, unsigned long long clen,
@@ -317,9 +316,9 @@ static inline int crypto_aead_aegis256_encrypt(
 }
 
 /*
- * Writes the message to `m`, sets `*mlen_p` to `clen - 32` and returns 0, if the last 32 of the `clen` bytes at
- * `c` are its tag. Otherwise sets `*mlen_p` to 0 and returns -1, and `clen - 32` bytes at `m` are zeros. With a
- * null `m` it verifies alone.
+ * Writes the message to `m`, sets `*mlen_p` to `clen - 32` and returns 0 if the last 32 of the `clen` bytes at
+ * `c` are its tag. Otherwise sets `*mlen_p` to 0 and returns -1, and `clen - 32` bytes at `m` are zeros. If `m`
+ * is null, it only verifies.
  */
 HUNKRAVY_MUST_USE static inline int crypto_aead_aegis256_decrypt(
     unsigned char *m, unsigned long long *mlen_p, unsigned char *nsec, const unsigned char *c,

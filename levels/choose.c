@@ -18,7 +18,7 @@ int hunkravy_level(void)
 
 #include <features.h>
 
-/* Whether the processor has what the higher level needs. It may run before any constructor. */
+/* Returns whether the processor has what the higher level needs. It may run before any constructor. */
 static int has_level_3(void)
 {
     __builtin_cpu_init();

@@ -1,6 +1,6 @@
 #!/bin/sh
 # join.sh OUT.a V2.a V3.a: one static library of the builds for x86-64-v2 and x86-64-v3.
-# join.sh OUT.a ONE.a: one of a single build, whose level is LEVEL (0 if it is no level of x86-64).
+# join.sh OUT.a ONE.a: one of a single build, whose level is LEVEL (0, as for ARM, if it is no level of x86-64).
 #
 # A build is one object, whose only global names are its exports. For two builds each export hunkravy_NAME becomes
 # hunkravy_v2_NAME or hunkravy_v3_NAME, and choose.c has the exports' own names.

@@ -31,10 +31,13 @@ fn main() {
 /// An error if the library cannot be built for what is compiled for.
 fn target() -> Result<(), String> {
     let target = env::var("TARGET").map_err(|error| error.to_string())?;
-    if target.starts_with("x86_64-") && target.contains("-linux-") {
+    let has_build = target.starts_with("x86_64-") || target.starts_with("aarch64-");
+    if has_build && target.contains("-linux-") {
         Ok(())
     } else {
-        Err(format!("{ARCHIVE} is for x86-64 Linux, not for {target}"))
+        Err(format!(
+            "{ARCHIVE} is for Linux on x86-64 and aarch64, not for {target}"
+        ))
     }
 }
 

@@ -21,7 +21,7 @@
 #define AD line->ad.at, line->ad.length
 #define NO_LENGTH 12345
 
-/* Where a call goes on that would have ended the program. */
+/* The program continues here after a call that would have ended it. */
 static jmp_buf end_of_program;
 
 static void on_abort(int number)

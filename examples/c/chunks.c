@@ -52,8 +52,8 @@ static int encrypt_file(FILE *out, FILE *plain, const uint8_t *key)
 }
 
 /*
- * Goes through an encrypted file once. If `out` is null the chunks are only checked, and else their
- * message is written to it. Returns 0 if the tag is right, and -1 otherwise.
+ * Reads an encrypted file once. If `out` is null, the chunks are only checked; otherwise they are
+ * decrypted and written to it. Returns 0 if the tag is right, and -1 otherwise.
  */
 static int pass(FILE *out, FILE *encrypted, const uint8_t *key)
 {
@@ -83,9 +83,8 @@ static int pass(FILE *out, FILE *encrypted, const uint8_t *key)
 }
 
 /*
- * Writes the message of an encrypted file to `out`. Returns 0, or -1 if the file is forged, and
- * then nothing was written. After -1 because a file failed, or was changed between the passes, drop
- * the output.
+ * Writes the message of an encrypted file to `out`. Returns 0, or -1. If the file is forged,
+ * nothing was written; but if a file failed, or changed between the passes, drop the output.
  */
 static int decrypt_file(FILE *out, FILE *encrypted, const uint8_t *key)
 {
@@ -93,8 +92,7 @@ static int decrypt_file(FILE *out, FILE *encrypted, const uint8_t *key)
 }
 
 /*
- * A file of many chunks, its encryption and its decryption. Returns 0 if they are as they should
- * be.
+ * Encrypts and decrypts a file of several chunks. Returns 0 if all is as it should be.
  */
 static int try_files(FILE *plain, FILE *encrypted, FILE *decrypted, const uint8_t *key)
 {
@@ -114,7 +112,7 @@ static int try_files(FILE *plain, FILE *encrypted, FILE *decrypted, const uint8_
             return -1;
         }
     }
-    /* One byte more at the end is a forgery. */
+    /* With one byte more at the end it is forged. */
     fseek(encrypted, 0, SEEK_END);
     putc(0, encrypted);
     return decrypt_file(decrypted, encrypted, key) == 0 ? -1 : 0;

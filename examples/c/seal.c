@@ -16,12 +16,12 @@
 #define TAG_BYTES HUNKRAVY_LONG_TAG_BYTES
 #define PACKET_BYTES(message_bytes) (NONCE_BYTES + (message_bytes) + TAG_BYTES)
 
-/* What both sides know: it is authenticated with the message, and not sent. */
+/* Both sides know it: it is authenticated with the message, and not sent. */
 static const uint8_t CONTEXT[] = "example packets, version 1";
 
 /*
- * Writes the packet of a message, PACKET_BYTES(length) bytes. Returns 0, or -1 if there is nothing
- * to send.
+ * Writes the packet of a message, PACKET_BYTES(length) bytes. Returns 0, or -1 if it failed; there
+ * is then nothing to send.
  */
 static int seal_packet(uint8_t *packet, const uint8_t *message, size_t length, const uint8_t *key)
 {

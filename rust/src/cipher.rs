@@ -9,8 +9,8 @@ use core::fmt;
 
 /// A cipher with tags of `TAG_BYTES` bytes, 16 or 32: a key and a nonce.
 ///
-/// A nonce is for one message or one keystream under a key, which is the caller's to see to. The one-shot calls take the
-/// cipher; the chunked calls borrow it to start. The ciphers of more than one lane are `Copy`.
+/// A nonce must be used for one message or one keystream under a key, and never again; nothing checks it. The one-shot calls
+/// take the cipher; the chunked calls borrow it to start. The ciphers of more than one lane are `Copy`.
 ///
 /// Lengths are in bytes. Associated data and a message have at most [`MAX_AEAD_BYTES`](crate::MAX_AEAD_BYTES) each, and a
 /// call that seals or opens more panics before it has changed anything; keystreams have no limit. No call allocates but
@@ -149,7 +149,7 @@ impl<V: Variant, const TAG_BYTES: usize> Cipher<V, TAG_BYTES> {
         done(V::EXPORTS.stream(out, self.nonce.as_ref(), self.key.as_ref()));
     }
 
-    /// Returns a message xored with the keystream from its beginning. There is no tag: a change is not noticed.
+    /// Returns a message xored with the keystream from its beginning. There is no tag: changes are not detected.
     ///
     /// ```
     /// use hunkravy::aegis256x4::Aegis256X4;
@@ -164,7 +164,7 @@ impl<V: Variant, const TAG_BYTES: usize> Cipher<V, TAG_BYTES> {
         mc
     }
 
-    /// Xors the bytes at `mc` with the keystream from its beginning. Done twice, it gives them back.
+    /// Xors the bytes at `mc` with the keystream from its beginning. Done twice, it restores them.
     ///
     /// ```
     /// use hunkravy::aegis128l::Aegis128L;
@@ -290,7 +290,7 @@ impl<V: Variant, const TAG_BYTES: usize> Cipher<V, TAG_BYTES> {
     /// Opens a list of chunks at the front of `dst`, as [`open_chunks`](Self::open_chunks) does, and returns the message's
     /// length in bytes.
     ///
-    /// For a caller that goes on with `dst` itself.
+    /// For a caller that uses `dst` afterwards.
     ///
     /// # Errors
     ///

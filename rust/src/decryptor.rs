@@ -99,7 +99,7 @@ impl<'a, V: Variant, const TAG_BYTES: usize> Decryptor<'a, V, TAG_BYTES> {
 
     /// Leaves the message in the destination if the tag is right, and returns its length in bytes.
     ///
-    /// For a caller that goes on with the destination itself.
+    /// For a caller that uses the destination afterwards.
     ///
     /// # Errors
     ///

@@ -41,7 +41,7 @@ impl fmt::Display for Error {
 
 impl core::error::Error for Error {}
 
-/// Whether the tag was right. Panics as [`done`] does.
+/// Returns an error if the tag was wrong. Panics as [`done`] does.
 #[track_caller]
 pub(crate) fn accepted(answer: Answer) -> Result<(), Error> {
     if answer == Err(Refusal::InvalidTag) {

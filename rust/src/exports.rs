@@ -1,7 +1,7 @@
 //! The exports of `libhunkravy.a` as safe calls over slices.
 //!
-//! The library checks each length, so what is left to a caller is what borrows say. This file needs nothing else of the
-//! crate: a program that is built without cargo may take it in as a module by `#[path]`.
+//! The library checks each length, and Rust's borrows ensure all else that a caller must. This file needs nothing else of
+//! the crate: a program that is built without cargo may include it as a module by `#[path]`.
 #![allow(dead_code)]
 #![deny(missing_docs)]
 #![deny(unsafe_op_in_unsafe_fn)]
@@ -14,9 +14,9 @@ pub const ERASED: u8 = 0xaa;
 pub enum Refusal {
     /// The tag is not that of the message, whose buffer is then all [`ERASED`]; or the MAC is not that of the input.
     InvalidTag,
-    /// The nonce has another length than the variant's. As after each refused length, nothing has changed.
+    /// The nonce's length is not that of the variant. As after each wrong length, nothing has changed.
     WrongNonceLength,
-    /// The key has another length than the variant's.
+    /// The key's length is not that of the variant.
     WrongKeyLength,
     /// The message, or the input of a MAC, has more than 2^61 - 1 bytes.
     MessageTooLong,
@@ -24,7 +24,7 @@ pub enum Refusal {
     DataTooLong,
     /// The tag, or the MAC, has neither 16 nor 32 bytes.
     WrongTagLength,
-    /// The state was not begun, it has ended, or it has associated data and is to give a MAC.
+    /// The state was not begun, or has ended; or a call for a MAC has a state with associated data.
     WrongState,
 }
 
@@ -59,7 +59,7 @@ pub struct State {
 const _: () = assert!(size_of::<State>() == 664);
 
 impl State {
-    /// A state that each call refuses but the one that begins it.
+    /// A state that every call refuses but the one that begins it.
     pub const ENDED: Self = Self {
         mark: 0,
         rows: [[0; 128]; 4],
@@ -73,7 +73,7 @@ impl State {
         self.message_bytes
     }
 
-    /// Counts other bytes than there were, as if the message were nearly as long as may be.
+    /// Sets the count of bytes, as if the message were nearly as long as it may be.
     #[cfg(test)]
     pub fn set_message_bytes(&mut self, message_bytes: u64) {
         self.message_bytes = message_bytes;

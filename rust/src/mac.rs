@@ -7,7 +7,7 @@ use core::fmt;
 
 /// The MAC of an input that comes in chunks of any lengths.
 ///
-/// Its key is used for nothing else. A clone goes on by itself from the input so far.
+/// Use its key for nothing else. A clone continues on its own from the input so far.
 ///
 /// ```
 /// use hunkravy::aegis128l::{Aegis128LMac, Error};

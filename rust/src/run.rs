@@ -47,7 +47,7 @@ impl<V: Variant> Run<V> {
         done(V::EXPORTS.state_decrypt_in_place_unverified(&mut self.state, chunk));
     }
 
-    /// Whether this is the tag of the message that was opened. The caller erases what it was opened into.
+    /// Returns an error if this is not the tag of the message that was opened. The caller then erases the message.
     pub fn check_tag(&mut self, tag: &[u8]) -> Result<(), Error> {
         accepted(V::EXPORTS.state_decrypt_final(&mut self.state, &mut [], tag))
     }
@@ -65,7 +65,7 @@ impl<V: Variant> Run<V> {
         mac
     }
 
-    /// Whether this is the MAC of the input.
+    /// Returns an error if this is not the MAC of the input.
     pub fn check_mac(&self, expected: &[u8]) -> Result<(), Error> {
         accepted(V::EXPORTS.mac_final_verify(&self.state, expected))
     }
@@ -86,7 +86,7 @@ impl<V: Variant> Drop for Run<V> {
     }
 }
 
-/// The limit on lengths, which no buffer reaches.
+/// The limit on lengths, which is more than any buffer has.
 #[cfg(test)]
 mod tests {
     use super::Run;

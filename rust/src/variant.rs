@@ -10,7 +10,7 @@ pub type Tag<const TAG_BYTES: usize> = [u8; TAG_BYTES];
 /// One of the six variants: the marker of a module, by which [`Cipher`](crate::Cipher),
 /// [`Encryptor`](crate::Encryptor), [`Decryptor`](crate::Decryptor) and [`Mac`](crate::Mac) are that module's.
 ///
-/// The markers of this crate alone implement it. It is for code that is generic in the variant:
+/// Only the markers of this crate implement it. It is for code that is generic in the variant:
 ///
 /// ```
 /// use hunkravy::{Cipher, Tag, Variant, aegis128l::Aegis128L, aegis256::Aegis256};
@@ -34,7 +34,7 @@ pub trait Variant: sealed::Sealed {
 pub(crate) mod sealed {
     use crate::exports;
 
-    /// What the crate has of a variant for itself.
+    /// What only this crate uses of a variant.
     pub trait Sealed {
         /// The library's calls.
         const EXPORTS: exports::Variant;
@@ -45,7 +45,7 @@ pub(crate) mod sealed {
     }
 }
 
-/// Stops the compiler at a tag length that there is none of.
+/// Fails to compile for any tag length but 16 and 32 bytes.
 pub(crate) const fn assert_tag_bytes<const TAG_BYTES: usize>() {
     const {
         assert!(
@@ -55,7 +55,7 @@ pub(crate) const fn assert_tag_bytes<const TAG_BYTES: usize>() {
     }
 }
 
-/// A variant's module: a marker, which is `Copy` if the cipher is, and the names of what is generic in it.
+/// A variant's module: a marker, which is `Copy` if the cipher is, and names for the generic types with that marker.
 macro_rules! module {
     (
         $(#[$use:meta])*

@@ -1,4 +1,4 @@
-//! Overwriting what is not to be left in memory.
+//! Overwriting what must not be left in memory.
 
 /// Overwrites the bytes with zeros. The compiler keeps the writes even if nothing reads the bytes again.
 pub(crate) fn wipe(bytes: &mut [u8]) {
