@@ -1,4 +1,4 @@
-//! Laws: functions that do nothing, whose contracts say what holds of the definitions that the other contracts cite.
+//! Laws: functions that do nothing, and whose contracts are facts about the definitions that the other contracts cite.
 
 pub use crate::record::laws::{one_fault, one_record_stream, record_stream_lengths};
 pub use aegis_base::laws::{
