@@ -6,6 +6,7 @@ pub mod chunks;
 pub mod encrypted_file;
 pub mod headline;
 pub mod opening;
+pub mod record_in_place;
 pub mod record_log;
 pub mod record_protocol;
 pub mod record_steps;
