@@ -122,7 +122,7 @@ header_one Second Second a b e = (refl, append_cancel_left (header Second) a b e
 header_one First Second a b e = absurd (differ 49 refl (ap (λ (l : List ℕ). get_or l 3 0) e))
 header_one Second First a b e = absurd (differ 50 (ap (λ (l : List ℕ). get_or l 3 0) e) refl)
 
--- a front of records with flag 0, and what stands behind it
+-- a front of records with flag 0, and what follows it
 pub record Fronts (sealing : Sealing) (v : Version) (ms : List (List ℕ)) (x bytes : List ℕ) : Type 0 where
   pub within : AreWithin v ms
   pub stops : IsStop sealing v (length ms) (total ms) x

@@ -51,7 +51,7 @@ begun_front p key prefix context ms bytes b ns more (v, s) =
     let same : fs ++ more ≡ frames sealing p.version 1 0 0 ns = h.1 ∙ ap (λ u. frames sealing u 1 0 0 ns) (sym h.0) in
     front_of sealing (sealed-is key prefix context) p.version 0 0 ms ns more b.within within s.some same
 
-pub behind_a_stream : (key prefix context : List ℕ) (ms : List (List ℕ)) (bytes rest : List ℕ) → AreRecordsOfSomeVersion key prefix context ms bytes
+pub after_a_stream : (key prefix context : List ℕ) (ms : List (List ℕ)) (bytes rest : List ℕ) → AreRecordsOfSomeVersion key prefix context ms bytes
     → 0 < length rest → IsFault key prefix context (bytes ++ rest) errors.Trailing
 unfolding IsFaultOf
-behind_a_stream key prefix context ms bytes rest (v, s) some = AtEnd v ms bytes rest s refl some refl
+after_a_stream key prefix context ms bytes rest (v, s) some = AtEnd v ms bytes rest s refl some refl

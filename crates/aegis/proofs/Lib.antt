@@ -1,5 +1,6 @@
 pub mod Frames
 pub mod Fronts
+mod InPlace
 pub mod Lengths
 mod Pieces
 pub mod Places

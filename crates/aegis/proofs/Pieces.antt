@@ -1,4 +1,4 @@
--- A message that is sealed piece by piece behind what a stream holds.
+-- A message that is sealed piece by piece after the bytes of a stream.
 use borrow.Rule.Slice.PartMut.{put_mid}
 use Rattle.std.proofs.Common.{◌≡◌, ℕ, ◌-◌, ◌≤◌, List, [], ◌++◌, length, take, drop, refl, sym, ap, ◌∙◌, append_assoc, arith}
 use Rattle.std.proofs.lemmas.List.{append-nil, drop_at, length-append, nil_from_length, take_at, with_items_is}
@@ -28,7 +28,7 @@ abbrev pub StandsFor : RecordCipher → RecordPlace → Held → List ℕ → Ty
 StandsFor cipher place encryptor m =
     Stands Aegis256 encryptor cipher.key.now (nonce_of cipher place) (data_of cipher place) m
 
--- of a record's message `rest` is to be sealed yet, and the ciphertext of the bytes before it is behind what the stream held
+-- of a record's message `rest` is to be sealed yet, and the ciphertext of the bytes before it follows what the stream held
 pub record HasSealed (cipher : RecordCipher) (place : RecordPlace) (message rest : List ℕ) (encryptor : Held) (before out : List ℕ) : Type 0 where
   pub done : List ℕ
   pub parts : done ++ rest ≡ message

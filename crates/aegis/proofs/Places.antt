@@ -1,8 +1,7 @@
 -- A record that is opened at its place, whatever is known of the records before it.
-use Rattle.std.proofs.Common.{◌≡◌, ◌⊎◌, ℕ, zero, suc, ◌≤◌, Bool, true, false, List, ◌++◌, length, refl, sym, ap, subst, ◌∙◌, arith, inl, inr, nat_eq}
+use Rattle.std.proofs.Common.{◌≡◌, ◌⊎◌, ℕ, zero, suc, ◌≤◌, Bool, true, false, List, ◌++◌, length, refl, sym, subst, ◌∙◌, arith, inl, inr, nat_eq}
 use Rattle.aegis.specs.declared.record.error.RecordError.{RecordError}
 use Rattle.aegis.specs.declared.record.error.RecordError.TheVariants as errors
-use Rattle.aegis.specs.Fault.{HasFault, parts}
 use Rattle.aegis.specs.Progress.{IsRecordFault, Progress, last_flag, record_of}
 use Rattle.aegis.specs.Records.{sealed}
 use Rattle.aegis.specs.RecordStream.{limit}
@@ -33,7 +32,7 @@ read_one p flag m rest bytes r is_last n after low e =
     r.known (flag_within is_last) r.within low (sym r.are ∙ e) in
     record { last = flag_tells is_last flag one.0; message = one.1; others = one.2 }
 
-no_fault : (p : Progress) (bytes : List ℕ) (e : RecordError) → IsRecordFault p bytes e
+pub no_fault : (p : Progress) (bytes : List ℕ) (e : RecordError) → IsRecordFault p bytes e
     → (is_last : Bool) (n after : List ℕ) → length n ≤ limit p.version → bytes ≡ record_of p (last_flag is_last) n ++ after → ⊥
 unfolding record_of
 no_fault p bytes e fault is_last n after low is =

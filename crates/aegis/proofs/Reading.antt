@@ -34,9 +34,16 @@ pub record Parted (v : Version) (flag : ℕ) (sealed after bytes : List ℕ) : T
   pub within : length sealed ≤ limit v + 32
   pub are : bytes ≡ flag ∷ (to_le_bytes w32 (length sealed - 32) ++ (sealed ++ after))
 
-parts_after_sound : (v : Version) (f : ℕ) (bytes : List ℕ) (p : Parts) → ((i : ℕ) → get_or bytes i 0 < 256) → parts_after v f bytes ≡ Ok p
-    → Parted v p.0 p.1 p.2 (f ∷ bytes)
-parts_after_sound v f bytes p fits e =
+-- the tests that bytes after a flag pass if they have parts
+record Passed (v : Version) (f : ℕ) (bytes : List ℕ) : Type 0 where
+  known : f ≤ 1
+  four : 4 ≤ length bytes
+  within : length_at bytes ≤ limit v
+  there : length_at bytes + 32 ≤ length (drop 4 bytes)
+
+parts_after_passed : (v : Version) (f : ℕ) (bytes : List ℕ) (p : Parts) → parts_after v f bytes ≡ Ok p
+    → Passed v f bytes × (p ≡ (f, take (length_at bytes + 32) (drop 4 bytes), drop (length_at bytes + 32) (drop 4 bytes)))
+parts_after_passed v f bytes p e =
     let n : ℕ = length_at bytes in
     let body : List ℕ = drop 4 bytes in
     let last : Result Parts RecordError = Ok (f, take (n + 32) body, drop (n + 32) body) in
@@ -46,11 +53,21 @@ parts_after_sound v f bytes p fits e =
     let a = guard (ltb 1 f) errors.Flag g2 p e in
     let b = guard (ltb (length bytes) 4) errors.Truncated g3 p a.1 in
     let c = guard (ltb (limit v) n) errors.TooLong g4 p b.1 in
-    let d = guard (ltb (length body) (n + 32)) errors.Truncated last p c.1 in
-    let known : f ≤ 1 = ltb-false _ _ a.0 in
-    let four : 4 ≤ length bytes = ltb-false _ _ b.0 in
-    let within : n ≤ limit v = ltb-false _ _ c.0 in
-    let there : n + 32 ≤ length body = ltb-false _ _ d.0 in
+    let d = guard (ltb (length body) (n + 32)) errors.Truncated last p c.1 in (
+      record { known = ltb-false _ _ a.0; four = ltb-false _ _ b.0; within = ltb-false _ _ c.0; there = ltb-false _ _ d.0 },
+      ok_is p (f, take (n + 32) body, drop (n + 32) body) (sym d.1),
+    )
+
+parts_after_sound : (v : Version) (f : ℕ) (bytes : List ℕ) (p : Parts) → ((i : ℕ) → i < 4 → get_or bytes i 0 < 256) → parts_after v f bytes ≡ Ok p
+    → Parted v p.0 p.1 p.2 (f ∷ bytes)
+parts_after_sound v f bytes p fits e =
+    let n : ℕ = length_at bytes in
+    let body : List ℕ = drop 4 bytes in
+    let passed = parts_after_passed v f bytes p e in
+    let known = passed.0.known in
+    let four = passed.0.four in
+    let within = passed.0.within in
+    let there = passed.0.there in
     let size : length (take (n + 32) body) ≡ n + 32 = omega (arith, length-take (n + 32) body) in
     let front_size : length (take 4 bytes) ≡ 4 = omega (arith, length-take 4 bytes) in
     let small : (i : ℕ) → get_or (take 4 bytes) i 0 < 256 = small_front bytes fits in
@@ -61,22 +78,77 @@ parts_after_sound v f bytes p fits e =
     ∙ ap (λ (l : List ℕ). to_le_bytes w32 (length (take (n + 32) body) - 32) ++ l) (sym (take-append-drop (n + 32) body))) in
     let is : Parted v f (take (n + 32) body) (drop (n + 32) body) (f ∷ bytes) =
     record { known = known; long = omega arith; within = omega arith; are = are } in
-    subst (λ (q : Parts). Parted v q.0 q.1 q.2 (f ∷ bytes)) (ok_is (f, take (n + 32) body, drop (n + 32) body) p d.1) is
+    subst (λ (q : Parts). Parted v q.0 q.1 q.2 (f ∷ bytes)) (sym passed.1) is
   where
-    small_front : (bytes : List ℕ) → ((i : ℕ) → get_or bytes i 0 < 256) → (i : ℕ) → get_or (take 4 bytes) i 0 < 256
+    small_front : (bytes : List ℕ) → ((i : ℕ) → i < 4 → get_or bytes i 0 < 256) → (i : ℕ) → get_or (take 4 bytes) i 0 < 256
     small_front bytes fits i = elim (cases_lt i 4) [
-      | inl lt ↦ rw (get_or-take 4 bytes i 0 lt) (fits i)
+      | inl lt ↦ rw (get_or-take 4 bytes i 0 lt) (fits i lt)
       | inr le ↦ rw (get_or_past (take 4 bytes) i 0 (omega (arith, length-take 4 bytes))) (omega arith)
     ]
 
-pub parts_sound : (v : Version) (bytes : List ℕ) (p : Parts) → ((i : ℕ) → get_or bytes i 0 < 256) → parts v bytes ≡ Ok p
+pub parts_sound : (v : Version) (bytes : List ℕ) (p : Parts) → ((i : ℕ) → i < 5 → get_or bytes i 0 < 256) → parts v bytes ≡ Ok p
     → Parted v p.0 p.1 p.2 bytes
 unfolding parts
 parts_sound v [] p fits e = absurd cc
-parts_sound v (f ∷ bytes) p fits e = parts_after_sound v f bytes p (λ i. fits (suc i)) e
+parts_sound v (f ∷ bytes) p fits e = parts_after_sound v f bytes p (λ i low. fits (suc i) (omega arith)) e
+
+-- where the bytes are cut into these parts
+pub record Cut (v : Version) (sealed after bytes : List ℕ) : Type 0 where
+  pub five : 5 ≤ length bytes
+  pub long : 32 ≤ length sealed
+  pub within : length sealed ≤ limit v + 32
+  pub number : length_at (drop 1 bytes) + 32 ≡ length sealed
+  pub body : drop 5 bytes ≡ sealed ++ after
+
+parts_after_cut : (v : Version) (f : ℕ) (bytes : List ℕ) (p : Parts) → parts_after v f bytes ≡ Ok p → Cut v p.1 p.2 (f ∷ bytes)
+parts_after_cut v f bytes p e =
+    let n : ℕ = length_at bytes in
+    let body : List ℕ = drop 4 bytes in
+    let passed = parts_after_passed v f bytes p e in
+    let four = passed.0.four in
+    let within = passed.0.within in
+    let there = passed.0.there in
+    let size : length (take (n + 32) body) ≡ n + 32 = omega (arith, length-take (n + 32) body) in
+    let is : Cut v (take (n + 32) body) (drop (n + 32) body) (f ∷ bytes) = record {
+      five = omega arith;
+      long = omega arith;
+      within = omega arith;
+      number = sym size;
+      body = sym (take-append-drop (n + 32) body);
+    } in
+    subst (λ (q : Parts). Cut v q.1 q.2 (f ∷ bytes)) (sym passed.1) is
+
+pub parts_cut : (v : Version) (bytes : List ℕ) (p : Parts) → parts v bytes ≡ Ok p → Cut v p.1 p.2 bytes
+unfolding parts
+parts_cut v [] p e = absurd cc
+parts_cut v (f ∷ bytes) p e = parts_after_cut v f bytes p e
+
+-- the fault of bytes that have no parts is not a wrong tag
+or_next : (b : Bool) (d : RecordError) (r : Result Parts RecordError) (e : RecordError) → d ≢ e → cond b (Err d) r ≡ Err e → r ≡ Err e
+or_next true d r e other is = absurd (other cc)
+or_next false d r e other is = is
+
+parts_after_known : (v : Version) (f : ℕ) (bytes : List ℕ) (k : ℕ) → parts_after v f bytes ≡ Err (errors.Damaged k) → ⊥
+parts_after_known v f bytes k e =
+    let n : ℕ = length_at bytes in
+    let body : List ℕ = drop 4 bytes in
+    let last : Result Parts RecordError = Ok (f, take (n + 32) body, drop (n + 32) body) in
+    let g4 : Result Parts RecordError = cond (ltb (length body) (n + 32)) (Err errors.Truncated) last in
+    let g3 : Result Parts RecordError = cond (ltb (limit v) n) (Err errors.TooLong) g4 in
+    let g2 : Result Parts RecordError = cond (ltb (length bytes) 4) (Err errors.Truncated) g3 in
+    let a : g2 ≡ Err (errors.Damaged k) = or_next (ltb 1 f) errors.Flag g2 (errors.Damaged k) (λ x. absurd cc) e in
+    let b : g3 ≡ Err (errors.Damaged k) = or_next (ltb (length bytes) 4) errors.Truncated g3 (errors.Damaged k) (λ x. absurd cc) a in
+    let c : g4 ≡ Err (errors.Damaged k) = or_next (ltb (limit v) n) errors.TooLong g4 (errors.Damaged k) (λ x. absurd cc) b in
+    let d : last ≡ Err (errors.Damaged k) = or_next (ltb (length body) (n + 32)) errors.Truncated last (errors.Damaged k) (λ x. absurd cc) c in
+    absurd cc
+
+pub parts_known : (v : Version) (bytes : List ℕ) (k : ℕ) → parts v bytes ≡ Err (errors.Damaged k) → ⊥
+unfolding parts
+parts_known v [] k e = absurd cc
+parts_known v (f ∷ bytes) k e = parts_after_known v f bytes k e
 
 pub record_sound : (sealing : Sealing) (is : IsSealing sealing) (v : Version) (k o flag : ℕ) (m sealed after bytes : List ℕ)
-    → ((i : ℕ) → get_or bytes i 0 < 256) → parts v bytes ≡ Ok (flag, sealed, after) → sealing v k o flag m ≡ sealed
+    → ((i : ℕ) → i < 5 → get_or bytes i 0 < 256) → parts v bytes ≡ Ok (flag, sealed, after) → sealing v k o flag m ≡ sealed
     → IsRecord sealing v k o flag m after bytes
 record_sound sealing is v k o flag m sealed after bytes fits e opened =
     let p : Parted v flag sealed after bytes = parts_sound v bytes (flag, sealed, after) fits e in
@@ -127,7 +199,7 @@ pub AtFront-none : (sealing : Sealing) (v : Version) (rest bytes : List ℕ) →
 unfolding frames
 AtFront-none sealing v rest bytes e = record { within = tt; are = e ∙ ap (λ (l : List ℕ). l ++ rest) (sym (append-nil (header v))) }
 
--- the front and a record behind it, with the flag `last`
+-- the front and a record after it, with the flag `last`
 push : (sealing : Sealing) (v : Version) (last : ℕ) (ms : List (List ℕ)) (m after rest bytes : List ℕ) → AtFront sealing v ms rest bytes
     → IsRecord sealing v (length ms) (total ms) last m after rest → bytes ≡ front sealing v last (ms ++ m ∷ []) ++ after
 push sealing v last ms m after rest bytes p r =
@@ -180,7 +252,7 @@ pub or_fault : (sealing : Sealing) (v : Version) (k o : ℕ) (ms : List (List �
 or_fault sealing v k o ms rest bytes e p ke oe (inl memory) = inl memory
 or_fault sealing v k o ms rest bytes e p ke oe (inr fault) = inr (record_fault sealing v k o ms rest bytes e p ke oe fault)
 
--- bytes behind the last record
+-- bytes after the last record
 pub trailing_fault : (sealing : Sealing) (v : Version) (ms : List (List ℕ)) (after bytes : List ℕ) → IsRecordStream sealing v ms (front sealing v 1 ms)
     → bytes ≡ front sealing v 1 ms ++ after → 0 < length after → IsFaultOf sealing bytes errors.Trailing
 unfolding IsFaultOf

@@ -27,7 +27,7 @@ nonce_filled a z b p le ae long size be =
 tag_long : (key nonce ad m : List ℕ) → length (tag Aegis256 32 key nonce ad m) ≡ 32
 tag_long key nonce ad m = length-tag Aegis256 32 key nonce ad m (inl refl) (inr refl)
 
--- bytes whose front opens with the tag behind it are what the message is sealed to
+-- bytes whose front opens with the tag after it are what the message is sealed to
 pub opened : (key prefix context : List ℕ) (v : Version) (k o flag : ℕ) (m bytes c t : List ℕ)
     → Opens Aegis256 32 key (nonce prefix k) (associated_data v k o flag context) c t m
     → c ≡ take (length bytes - 32) bytes → t ≡ drop (length bytes - 32) bytes → sealed key prefix context v k o flag m ≡ bytes

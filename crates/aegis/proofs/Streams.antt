@@ -63,7 +63,7 @@ one_record_stream sealing is v w ms ns a b x y p q e =
 
 -- ---- faults
 
--- what is wrong behind the longest front of records with flag 0
+-- what is wrong after the longest front of records with flag 0
 abbrev IsTailFault : Sealing → Version → ℕ → ℕ → List ℕ → RecordError → Type 0
 IsTailFault sealing v k o x e =
     HasFault sealing v k o (parts v x) e

@@ -1,4 +1,4 @@
--- What is wrong with bytes that are the stream of no list: the first fault that a reader from the front meets.
+-- The fault of bytes that are the stream of no list of messages: the first one, read from the front.
 use Rattle.std.specs.Prelude.{◌≡◌, ◌≢◌, ℕ, ◌+◌, ◌<◌, List, [], ◌∷◌, ◌++◌, drop, length, nat_lt, take, Result, Ok, Err, if◌then◌else◌}
 use Rattle.std.specs.Int.{w32, from_le_bytes}
 use Rattle.aegis.specs.declared.record.error.RecordError.{RecordError}
@@ -6,15 +6,15 @@ use Rattle.aegis.specs.declared.record.error.RecordError.TheVariants as errors
 use Rattle.aegis.specs.declared.record.version.Version.{Version}
 use Rattle.aegis.specs.RecordStream.{AreWithin, IsRecordStream, Sealing, front, header, limit, total}
 
--- the number in the first four bytes, the least first
+-- the number in the first four bytes, least byte first
 abbrev pub length_at : List ℕ → ℕ
 length_at bytes = from_le_bytes w32 (take 4 bytes)
 
--- a record's flag, its sealed message, and the bytes behind it
+-- a record's flag, its sealed message, and the bytes after the record
 abbrev pub Parts : Type 0
 Parts = ℕ × List ℕ × List ℕ
 
--- the parts of bytes that go on behind this flag, by the length there, or the first fault
+-- the parts of a record with this flag, of which these are the bytes after the flag, or the first fault
 abbrev pub parts_after : Version → ℕ → List ℕ → Result Parts RecordError
 parts_after v flag bytes =
     if nat_lt 1 flag then Err errors.Flag
@@ -23,7 +23,7 @@ parts_after v flag bytes =
     else if nat_lt (length (drop 4 bytes)) (length_at bytes + 32) then Err errors.Truncated
     else Ok (flag, take (length_at bytes + 32) (drop 4 bytes), drop (length_at bytes + 32) (drop 4 bytes))
 
--- the parts of bytes that begin with a record, whatever seals it, or the first fault
+-- the parts of bytes that begin with a record, sealed or not, or the first fault
 unfoldable pub parts : Version → List ℕ → Result Parts RecordError
 parts v [] = Err errors.Truncated
 parts v (flag ∷ bytes) = parts_after v flag bytes
@@ -32,14 +32,14 @@ parts v (flag ∷ bytes) = parts_after v flag bytes
 abbrev pub IsDamaged : Sealing → Version → ℕ → ℕ → ℕ → List ℕ → Type 0
 IsDamaged sealing v k o flag bytes = (m : List ℕ) → sealing v k o flag m ≢ bytes
 
--- the fault of record k, from the parts that the bytes there have
+-- the fault of record k, by the parts of its bytes
 abbrev pub HasFault : Sealing → Version → ℕ → ℕ → Result Parts RecordError → RecordError → Type 0
 HasFault sealing v k o (Err fault) e = e ≡ fault
 HasFault sealing v k o (Ok found) e = IsDamaged sealing v k o found.0 found.1 × (e ≡ errors.Damaged k)
 
--- The fault of bytes, by where it is: they begin with no header; or behind a header and whole records with the flag 0 the next
--- record has a fault; or bytes follow a stream. The records in the second case are as many as there are, since where the next
--- one has a fault there is no whole one.
+-- The fault of bytes, by its position: they begin with no header; or after a header and whole records with the flag 0 the next
+-- record has a fault; or bytes follow a stream. In the second case these are all the whole records, since the next one has a
+-- fault.
 pub data FirstFault (sealing : Sealing) (bytes : List ℕ) (e : RecordError) : Type 0 where
   AtHeader : ((v : Version) → take 4 bytes ≢ header v) → e ≡ errors.Header → FirstFault sealing bytes e
   AtRecord : (v : Version) (ms : List (List ℕ)) (rest : List ℕ) → AreWithin v ms → bytes ≡ front sealing v 0 ms ++ rest
@@ -47,11 +47,11 @@ pub data FirstFault (sealing : Sealing) (bytes : List ℕ) (e : RecordError) : T
   AtEnd : (v : Version) (ms : List (List ℕ)) (stream rest : List ℕ) → IsRecordStream sealing v ms stream → bytes ≡ stream ++ rest
       → 0 < length rest → e ≡ errors.Trailing → FirstFault sealing bytes e
 
--- the fault of bytes, as one fact: a tactic that is handed it does not take it apart, and so finds what follows from the whole
+-- the same as one fact, which tactics do not take apart
 unfoldable pub IsFaultOf : Sealing → List ℕ → RecordError → Type 0
 IsFaultOf sealing bytes e = FirstFault sealing bytes e
 
--- bytes have one fault at most, and a stream has none
+-- bytes have at most one fault, and a stream has none
 abbrev pub IsOneFault : Sealing → Type 0
 IsOneFault sealing =
     ((bytes : List ℕ) (d e : RecordError) → IsFaultOf sealing bytes d → IsFaultOf sealing bytes e → d ≡ e)

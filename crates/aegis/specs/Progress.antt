@@ -7,8 +7,8 @@ use Rattle.aegis.specs.Fault.{HasFault, parts}
 use Rattle.aegis.specs.Records.{AreRecords, sealed}
 use Rattle.aegis.specs.RecordStream.{AreWithin, frame, front, total}
 
--- What is known between two records: under what the stream is sealed, its version, the next record's number, how many bytes the
--- messages before it have together, and whether there is no next record, since the last one was met.
+-- What is known between two records: the key, prefix and context of the stream, its version, the next record's number, how many
+-- bytes the messages before it have together, and whether the last record was opened, so that there is no next one.
 pub record Progress : Type 0 where
   pub key : List ℕ
   pub prefix : List ℕ
@@ -45,17 +45,17 @@ Begun p key prefix context ms bytes = BegunStream p key prefix context ms bytes
 abbrev pub AreRecordsOfSomeVersion : List ℕ → List ℕ → List ℕ → List (List ℕ) → List ℕ → Type 0
 AreRecordsOfSomeVersion key prefix context ms bytes = (v : Version) × AreRecords v key prefix context ms bytes
 
--- ---- a record's place
+-- ---- a record's position
 
--- the place of the next record
+-- the position of the next record
 abbrev pub position_of : Progress → RecordPosition
 position_of p = record { version = p.version; number = p.number; before = p.before }
 
--- the place of a stream's first record
+-- the position of a stream's first record
 abbrev pub first_position : Version → RecordPosition
 first_position v = record { version = v; number = 0; before = 0 }
 
--- the progress of which the next record stands at this place
+-- the progress whose next record has this position
 abbrev pub progress_at : List ℕ → List ℕ → List ℕ → RecordPosition → Progress
 progress_at key prefix context position = record {
   key = key;
@@ -83,6 +83,6 @@ after p is_last m = record {
 abbrev pub last_flag : Bool → ℕ
 last_flag is_last = if is_last then 1 else 0
 
--- what is wrong with bytes of which the next record is no front, by their parts
+-- the fault of bytes that do not begin with the next record, by their parts
 abbrev pub IsRecordFault : Progress → List ℕ → RecordError → Type 0
 IsRecordFault p bytes e = HasFault (sealed p.key p.prefix p.context) p.version p.number p.before (parts p.version bytes) e

@@ -9,7 +9,7 @@ use Rattle.aegis.specs.declared.record.version.Version.TheVariants.{First, Secon
 use Rattle.aegis.specs.Fault.{IsFaultOf}
 use Rattle.aegis.specs.RecordStream.{IsRecordStream, Sealing, front, header}
 
--- the nonce of record k: the stream's prefix and the number, the least byte first
+-- the nonce of record k: the stream's prefix and the number, least byte first
 abbrev pub nonce : List ℕ → ℕ → List ℕ
 nonce prefix k = prefix ++ to_le_bytes w64 k
 
@@ -25,11 +25,11 @@ sealed key prefix context v k o flag m =
     ciphertext Aegis256 key (nonce prefix k) (associated_data v k o flag context) m
     ++ tag Aegis256 32 key (nonce prefix k) (associated_data v k o flag context) m
 
--- the stream of messages
+-- the stream of the messages
 abbrev pub records : Version → List ℕ → List ℕ → List ℕ → List (List ℕ) → List ℕ
 records v key prefix context ms = front (sealed key prefix context) v 1 ms
 
--- the bytes are the stream of the messages: there is one at least, and none is longer than the version allows
+-- the bytes are the stream of the messages: there is at least one, and none is longer than the version allows
 abbrev pub AreRecords : Version → List ℕ → List ℕ → List ℕ → List (List ℕ) → List ℕ → Type 0
 AreRecords v key prefix context ms bytes = IsRecordStream (sealed key prefix context) v ms bytes
 

@@ -7,6 +7,7 @@ pub mod encrypted_file;
 pub mod headline;
 pub mod in_place;
 pub mod opening;
+pub mod record_in_place;
 pub mod record_log;
 pub mod record_protocol;
 pub mod record_steps;

@@ -1,7 +1,8 @@
 //! A log: records are appended while its sealer lives, and read back at their places.
 
-ghost use Rattle.std.specs.Prelude.{◌≡◌, ◌+◌, ◌*◌, ◌≤◌, ◌⊎◌, ◌++◌, IfErr, IfOk, length};
-ghost use Rattle.aegis.specs.Progress.{IsRecordFault, last_flag, progress_at, record_of};
+ghost use Rattle.std.specs.Prelude.{◌≡◌, ◌+◌, ◌*◌, ◌≤◌, ◌⊎◌, ◌++◌, ◌∷◌, [], IfErr, IfOk, IfSome, false, length};
+ghost use Rattle.std.specs.Bool.{OnFalse, OnTrue};
+ghost use Rattle.aegis.specs.Progress.{AreRecordsOfSomeVersion, IsRecordFault, after, last_flag, progress_at, record_of};
 
 use aegis::MAX_AEAD_BYTES;
 use aegis::record::{
@@ -58,4 +59,68 @@ pub fn read_at<'b, A: Allocator + Copy>(
 {
     let mut opener = RecordOpener::begin_at(alloc, key, prefix, context, position)?;
     opener.open_at(position, bytes)
+}
+
+/// Reads two records of a log from a position on: the first message, and what [`RecordOpener::open_next`] returns after it. It
+/// is `None` if the log ends with the first.
+pub fn read_on<'b, A: Allocator + Copy>(
+    alloc: A,
+    key: &[u8; 32],
+    prefix: &[u8; 24],
+    context: &[u8],
+    position: RecordPosition,
+    bytes: &'b [u8],
+) -> Result<Option<(Vec<u8, A>, Opened<'b, A>)>, RecordError>
+    requires context_within { length context.now ≤ MAX_CONTEXT_BYTES }
+    requires bytes_within { 4 + 37 * position.number + position.before + length bytes.now
+        ≤ MAX_AEAD_BYTES }
+    ensures next { IfOk result (λ found. IfSome found (λ read. OnFalse read.1.is_last
+        (bytes.now ≡ record_of (progress_at key.now prefix.now context.now position)
+        0 read.0.items
+        ++ (record_of (after (progress_at key.now prefix.now context.now position)
+        false read.0.items) 0 read.1.message.items ++ read.1.rest.now)))) }
+    ensures last { IfOk result (λ found. IfSome found (λ read. OnTrue read.1.is_last
+        (bytes.now ≡ record_of (progress_at key.now prefix.now context.now position)
+        0 read.0.items
+        ++ (record_of (after (progress_at key.now prefix.now context.now position)
+        false read.0.items) 1 read.1.message.items ++ read.1.rest.now)))) }
+{
+    let mut opener = RecordOpener::begin_at(alloc, key, prefix, context, position)?;
+    let first = opener.open_next(bytes)?;
+    if first.is_last {
+        return Ok(None);
+    }
+    let second = opener.open_next(first.rest)?;
+    Ok(Some((first.message, second)))
+}
+
+/// Reads one record of a stream, keeps the position alone, and goes on there with another opener: if the stream ends with the
+/// second record, the two messages are all of its list.
+pub fn stopped_and_read_on<A: Allocator + Copy>(
+    alloc: A,
+    key: &[u8; 32],
+    prefix: &[u8; 24],
+    context: &[u8],
+    header: &[u8; 4],
+    records: &[u8],
+) -> Result<Option<(Vec<u8, A>, Vec<u8, A>)>, RecordError>
+    requires context_within { length context.now ≤ MAX_CONTEXT_BYTES }
+    requires records_within { 4 + length records.now ≤ MAX_AEAD_BYTES }
+    ensures { IfOk result (λ found. IfSome found (λ pair.
+        AreRecordsOfSomeVersion key.now prefix.now context.now
+        (pair.0.items ∷ pair.1.items ∷ []) (header.now ++ records.now))) }
+{
+    let mut opener = RecordOpener::new(alloc, key, prefix, context, header)?;
+    let first = opener.open_next(records)?;
+    if first.is_last {
+        return Ok(None);
+    }
+    let position = opener.position();
+    let mut later = RecordOpener::begin_at(alloc, key, prefix, context, position)?;
+    let second = later.open_next(first.rest)?;
+    if second.is_last && second.rest.is_empty() {
+        Ok(Some((first.message, second.message)))
+    } else {
+        Ok(None)
+    }
 }

@@ -1,14 +1,15 @@
 //! Record streams.
 
-ghost use Rattle.std.specs.Prelude.{◌≡◌, ◌<◌, ◌≤◌, List, length, ℕ};
+ghost use Rattle.std.specs.Prelude.{◌≡◌, ◌<◌, ◌≤◌, IfOk, List, length, ℕ};
 ghost use Rattle.aegis_base.specs.Chunks.{texts};
-ghost use Rattle.aegis.specs.Calls.{IsRefused, OpensTo};
+ghost use Rattle.aegis.specs.Calls.{IsRefused, OpensTo, messages};
 ghost use Rattle.aegis.specs.Records.{AreRecords, IsFault};
 ghost use Rattle.aegis.specs.RecordStream.{AreWithin, records_length};
 ghost use Rattle.aegis.specs.declared.record.version.Version.{Version};
 ghost use Rattle.aegis.specs.declared.record.version.Version.TheVariants.{Second};
 
 use aegis::MAX_AEAD_BYTES;
+use aegis::laws::record_stream_lengths;
 use aegis::record::{MAX_CONTEXT_BYTES, RecordError, open_records, seal_records};
 use std::alloc::Allocator;
 
@@ -60,5 +61,20 @@ pub fn open_faulty_records<A: Allocator + Copy>(
     requires stream { IsFault key.now prefix.now context.now stream.now fault }
     ensures { IsRefused fault result }
 {
+    open_records(alloc, key, prefix, context, stream)
+}
+
+/// Opens a stream. By a law its length is 4, and for each message that is returned 37 and the message's length.
+pub fn open_records_of_its_length<A: Allocator + Copy>(
+    alloc: A,
+    key: &[u8; 32],
+    prefix: &[u8; 24],
+    context: &[u8],
+    stream: &[u8],
+) -> Result<Vec<Vec<u8, A>, A>, RecordError>
+    requires { length context.now ≤ MAX_CONTEXT_BYTES }
+    ensures { IfOk result (λ opened. length stream.now ≡ records_length (messages opened.items)) }
+{
+    record_stream_lengths();
     open_records(alloc, key, prefix, context, stream)
 }

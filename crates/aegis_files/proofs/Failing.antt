@@ -9,7 +9,7 @@ use Rattle.aegis.specs.declared.record.error.RecordError.{RecordError}
 use Rattle.aegis.specs.declared.record.error.RecordError.TheVariants as errors
 use Rattle.aegis.specs.Progress.{AreRecordsOfSomeVersion, Begun, Progress, record_of}
 use Rattle.aegis.specs.Records.{IsFault, sealed}
-use Rattle.aegis.proofs.Fronts.{begun_front, behind_a_stream}
+use Rattle.aegis.proofs.Fronts.{begun_front, after_a_stream}
 use Rattle.aegis.proofs.Sealed.{sealed-is}
 use Rattle.aegis.proofs.Streams.{one_fault, one_record_stream}
 use Rattle.aegis_files.specs.declared.error.FileError.{FileError}
@@ -181,7 +181,7 @@ ended_fails key prefix context f left left' old new (Stream e) s why =
       front = ended_front key prefix context f left old new s;
       refused = inr (subst (λ d. IsFault key prefix context f d) (sym why.0)
           (subst (λ (l : List ℕ). IsFault key prefix context l errors.Trailing) (sym (parts.1 ∙ append_assoc s.taken more parts.0))
-          (behind_a_stream key prefix context s.messages s.taken (more ++ parts.0) s.are (omega (arith, why.1.1, length-append more parts.0)))));
+          (after_a_stream key prefix context s.messages s.taken (more ++ parts.0) s.are (omega (arith, why.1.1, length-append more parts.0)))));
     }
 ended_fails key prefix context f left left' old new TooLong s why = absurd why
 

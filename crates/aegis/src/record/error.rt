@@ -6,13 +6,13 @@ ghost use Rattle.aegis.specs.declared.record.error.RecordError.TheVariants.{OutO
 use std::alloc::{AllocError, AllocFailed};
 use thiserror::Error;
 
-/// Why a stream of records is refused: the first fault of its bytes, read from the front, or that memory ran out.
+/// Why a record stream is refused: the first fault of its bytes, read from the front, or want of memory.
 #[derive(Clone, Copy, Debug, PartialEq, Eq, Error)]
 pub enum RecordError {
     /// The bytes begin with no known header.
     #[error("Bad header")]
     Header,
-    /// The bytes end where a record, or the rest of one, should stand.
+    /// The bytes end before a record, or inside one.
     #[error("Truncated")]
     Truncated,
     /// The first byte of a record is neither 0 nor 1.

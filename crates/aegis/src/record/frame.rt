@@ -1,4 +1,4 @@
-//! Where a record's parts are.
+//! The parts of a record.
 
 ghost use Rattle.std.specs.Prelude.{◌≡◌};
 ghost use Rattle.aegis.specs.Calls.{AreParts};
@@ -19,12 +19,12 @@ pub struct Frame<'a> {
     pub flag: u8,
     /// The ciphertext and the tag.
     pub sealed: &'a [u8],
-    /// What follows the record.
+    /// The bytes after the record.
     pub rest: &'a [u8],
 }
 
 impl<'a> Frame<'a> {
-    /// Reads a record's flag and length, and cuts the bytes behind it off. Nothing is opened.
+    /// Splits the bytes into the parts of their first record and the bytes after it. Nothing is opened.
     #[tactic(auto, unfolding(crate::specs::Fault::parts))]
     pub fn read(version: Version, bytes: &'a [u8]) -> Result<Frame<'a>, RecordError>
         ensures { AreParts result (parts version bytes.now) }

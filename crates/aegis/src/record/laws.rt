@@ -1,4 +1,4 @@
-//! Laws of record streams: functions that do nothing, whose contracts say what holds of the definitions that the other
+//! Laws of record streams: functions that do nothing, and whose contracts are facts about the definitions that the other
 //! contracts cite.
 
 ghost use Rattle.std.specs.Prelude.{◌≡◌, ◌<◌, ◌++◌, List, length, ℕ};
@@ -9,13 +9,13 @@ ghost use Rattle.aegis.specs.RecordStream.{IsOneRecordStream, records_length};
 ghost use Rattle.aegis.specs.declared.record.error.RecordError.TheVariants.{Trailing};
 ghost use Rattle.aegis.specs.declared.record.version.Version.{Version};
 
-/// Two lists of messages, or two versions, never have one stream where key, prefix and context are the same, nor is a stream
-/// the front of a longer one.
+/// Under one key, prefix and context two lists of messages, or two versions, never have the same stream, and no stream is a
+/// proper front of another.
 pub fn one_record_stream()
     ensures { (key prefix context : List ℕ) → IsOneRecordStream (sealed key prefix context) }
 {}
 
-/// Under one key, prefix and context bytes have at most one fault, and a stream has none.
+/// Under one key, prefix and context, bytes have at most one fault, and a stream has none.
 pub fn one_fault()
     ensures { (key prefix context : List ℕ) → IsOneFault (sealed key prefix context) }
 {}
@@ -27,7 +27,7 @@ pub fn record_stream_lengths()
         → AreRecords v key prefix context ms bytes → length bytes ≡ records_length ms }
 {}
 
-/// The messages before the last record are a proper front of the list of any stream that begins with the same bytes: so no
+/// The messages before the last record are a proper front of the list of any stream that begins with the same bytes, so no
 /// stream ends there.
 pub fn begun_is_a_front()
     ensures { (p : Progress) (key prefix context : List ℕ) (ms : List (List ℕ)) (bytes : List ℕ)
@@ -36,8 +36,8 @@ pub fn begun_is_a_front()
         → (rest : List (List ℕ)) × (ns ≡ ms ++ rest) × (0 < length rest) }
 {}
 
-/// Bytes after a stream are its fault.
-pub fn bytes_behind_a_stream()
+/// Bytes that are a stream and more have the fault [`Trailing`](crate::record::RecordError::Trailing).
+pub fn bytes_after_a_stream()
     ensures { (key prefix context : List ℕ) (ms : List (List ℕ)) (bytes rest : List ℕ)
         → AreRecordsOfSomeVersion key prefix context ms bytes
         → 0 < length rest → IsFault key prefix context (bytes ++ rest) Trailing }

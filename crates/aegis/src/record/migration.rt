@@ -1,4 +1,4 @@
-//! From one prefix, and from any version, to another prefix and the version that is written.
+//! Sealing a stream's messages again, under another prefix.
 
 ghost use Rattle.std.specs.Prelude.{◌≡◌, ◌≢◌, ◌≤◌, ◌⊎◌, IfErr, IfOk, List, length, ℕ};
 ghost use Rattle.aegis_base.specs.declared.error.TheConstants.{MAX_AEAD_BYTES};
@@ -16,12 +16,13 @@ use crate::record::seal::seal_records;
 use aegis_base::slices;
 use std::alloc::Allocator;
 
-/// Opens a stream of either version, and seals its messages anew in version 2 under another prefix of the same key.
+/// Opens a stream of either version, and seals its messages again in version 2 under another prefix of the same key.
 ///
-/// The two prefixes have to differ, since a stream of its own under a prefix uses up all nonces that begin with it. The context
-/// has at most [`MAX_CONTEXT_BYTES`], and the stream at most `MAX_AEAD_BYTES`, so that the new one, which has its length, may
-/// be sealed. The call refuses what [`open_records`] refuses under the old prefix, and hands nothing out then; while it runs
-/// it holds the messages beside the new stream.
+/// The two prefixes must differ, since a stream uses all nonces that begin with its prefix. The context has at most
+/// [`MAX_CONTEXT_BYTES`], and the stream at most `MAX_AEAD_BYTES`, so that the new one, which is as long, can be sealed.
+///
+/// The error is that of [`open_records`] under the old prefix, or [`RecordError::OutOfMemory`]. The messages and the new stream
+/// are in memory together.
 pub fn migrate<A: Allocator + Copy>(
     alloc: A,
     key: &Key,

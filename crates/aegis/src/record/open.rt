@@ -1,6 +1,6 @@
 //! Opening a stream.
 
-ghost use Rattle.std.specs.Prelude.{◌≡◌, ◌≢◌, ◌≤◌, ◌⊎◌, ◌++◌, IfErr, IfNone, IfOk, IfSome, List, length, take, ℕ};
+ghost use Rattle.std.specs.Prelude.{◌≡◌, ◌≢◌, ◌≤◌, ◌⊎◌, ◌++◌, IfErr, IfNone, IfOk, IfSome, List, length, take, vec_capacity, ℕ};
 ghost use Rattle.aegis.specs.Calls.{IsRecord, IsRefused, OpensTo, messages, sealing_of};
 ghost use Rattle.aegis.specs.Fault.{HasFault, parts};
 ghost use Rattle.aegis.specs.Records.{AreRecords, IsFault};
@@ -13,7 +13,7 @@ use crate::record::record_cipher::{MAX_CONTEXT_BYTES, RecordCipher, RecordPlace}
 use crate::record::version::Version;
 use std::alloc::Allocator;
 
-// The version that the header names, and what follows the header.
+// Returns the version of the header that the bytes begin with, and the bytes after it.
 pub(crate) fn version_of(bytes: &[u8]) -> Option<(Version, &[u8])>
     ensures some { IfSome result (λ found. bytes.now ≡ header found.0 ++ found.1.now) }
     ensures none { IfNone result ((v : Version) → take 4 bytes.now ≢ header v) }
@@ -31,7 +31,7 @@ pub(crate) fn version_of(bytes: &[u8]) -> Option<(Version, &[u8])>
     }
 }
 
-// Reads and opens the record at the front of the bytes: where its parts are, and its message.
+// Opens the record that the bytes begin with. Returns its parts and its message.
 pub(crate) fn open_record<'a, A: Allocator>(
     alloc: A,
     ad: &mut Vec<u8, A>,
@@ -47,6 +47,7 @@ pub(crate) fn open_record<'a, A: Allocator>(
         found.0.rest.now bytes.now) }
     ensures refused { IfErr result (λ e. (e ≡ RecordError.OutOfMemory)
         ⊎ HasFault (sealing_of cipher.now) version number before (parts version bytes.now) e) }
+    ensures capacity { vec_capacity ad.old ≤ vec_capacity ad.new }
 {
     let frame = Frame::read(version, bytes)?;
     let place = RecordPlace {
@@ -59,7 +60,7 @@ pub(crate) fn open_record<'a, A: Allocator>(
     Ok((frame, message))
 }
 
-// The messages of a stream, read from record to record.
+// Returns the messages of a stream, opened one record after the other.
 #[tactic(auto, unfolding(crate::specs::Fault::IsFaultOf))]
 fn open_each<A: Allocator + Copy>(
     alloc: A,
@@ -101,11 +102,11 @@ fn open_each<A: Allocator + Copy>(
     }
 }
 
-/// Opens a stream, of the version that its header names: the messages of the list whose stream the bytes are.
+/// Opens a stream, of the version of its header, and returns the list of messages whose stream the bytes are.
 ///
-/// The answer is `Ok` exactly where there is such a list, unless memory runs out. Otherwise it is the first fault of the
-/// bytes, read from the front; [`RecordError::Damaged`] has the number of a record that no message is sealed to. With a
-/// refusal nothing is handed out, not even the messages of the records before it.
+/// It returns `Ok` exactly if there is such a list, unless memory runs out. Otherwise the error is the first fault of the
+/// bytes, read from the front; [`RecordError::Damaged`] has the number of a record that no message is sealed to. After an error
+/// no message is returned, not even those of the records before the fault.
 ///
 /// The context has at most [`MAX_CONTEXT_BYTES`]. Memory is taken for the messages, a vector each, for the list of them, and
 /// once for the associated data.

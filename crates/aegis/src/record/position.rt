@@ -1,8 +1,8 @@
-//! Where a record stands in its stream.
+//! The position of a record in its stream.
 
 use crate::record::version::Version;
 
-/// Where a record stands in its stream: what a reader has to know to open it without the records before it.
+/// The position of a record in its stream: what a reader must know to open it without the records before it.
 ///
 /// The record starts at byte `4 + 37 * number + before` of the stream.
 #[derive(Clone, Copy, Debug, PartialEq, Eq)]

@@ -1,6 +1,7 @@
 //! The cipher of a stream's records.
 
-ghost use Rattle.std.specs.Prelude.{◌≡◌, ◌≢◌, ◌≤◌, ◌⊎◌, ◌+◌, ◌++◌, IfErr, IfOk, List, OnErr, OnOk, length, ℕ};
+ghost use Rattle.std.specs.Prelude.{◌≡◌, ◌≢◌, ◌-◌, ◌≤◌, ◌⊎◌, ◌+◌, ◌++◌, IfErr, IfOk, IsOk, List, OnErr, OnOk, drop, length, replicate, take, vec_capacity, ℕ};
+ghost use Rattle.aegis_engine.specs.declared.cipher.TheConstants.{ERASED};
 ghost use Rattle.aegis.specs.Calls.{sealed_at};
 ghost use Rattle.aegis.specs.Records.{associated_data, nonce};
 ghost use Rattle.aegis.specs.RecordStream.{limit};
@@ -14,8 +15,8 @@ use std::alloc::Allocator;
 /// How many bytes the context of a stream may have.
 pub const MAX_CONTEXT_BYTES: usize = 65_535;
 
-// A message is copied and sealed in pieces of so many bytes: few enough that a copy waits for memory while rounds run, and of
-// 128 to 16384 the fastest.
+// A message is copied and sealed in pieces of this many bytes: so few that a copy waits for memory while rounds run, and the
+// fastest of 128 to 16384.
 const PIECE_BYTES: usize = 512;
 
 /// What all records of a stream are sealed under.
@@ -26,7 +27,7 @@ pub struct RecordCipher<'a> {
     pub context: &'a [u8],
 }
 
-/// Where a record stands in its stream.
+/// The position of a record in its stream, and its flag.
 #[derive(Clone, Copy)]
 pub struct RecordPlace {
     pub version: Version,
@@ -38,7 +39,7 @@ pub struct RecordPlace {
     pub flag: u8,
 }
 
-// The nonce of a record.
+// Returns the nonce of a record.
 fn nonce(prefix: &[u8; 24], number: u64) -> Nonce
     ensures { result ≡ nonce prefix.now number }
 {
@@ -52,7 +53,7 @@ impl RecordPlace {
     /// How many bytes the associated data has at most, but for the context: a header, a number, a sum of lengths and a flag.
     pub const DATA_BYTES: usize = 4 + 8 + 8 + 1;
 
-    // Writes the associated data of the record over what `ad` holds.
+    // Replaces the bytes of `ad` by the associated data of the record. Memory is taken only if `ad` has too little room.
     fn write_data<A: Allocator>(
         self,
         ad: &mut Vec<u8, A>,
@@ -61,6 +62,8 @@ impl RecordPlace {
         ensures ok { OnOk result (ad.new.items
             ≡ associated_data self.version self.number self.before self.flag context.now) }
         ensures err { IfErr result (λ e. e ≡ RecordError.OutOfMemory) }
+        ensures capacity { vec_capacity ad.old ≤ vec_capacity ad.new }
+        ensures succeeds { 21 + length context.now ≤ vec_capacity ad.old → IsOk result }
     {
         ad.clear();
         ad.extend_from_slice(self.version.header())?;
@@ -75,7 +78,7 @@ impl RecordPlace {
 }
 
 impl RecordCipher<'_> {
-    /// Appends the ciphertext and the tag of a record to a stream. `ad` holds the associated data meanwhile.
+    /// Appends the ciphertext and the tag of a record to a stream. `ad` is overwritten.
     pub fn seal<A: Allocator>(
         &self,
         out: &mut Vec<u8, A>,
@@ -102,7 +105,7 @@ impl RecordCipher<'_> {
         Ok(())
     }
 
-    /// The message that is sealed to the bytes of a record, ciphertext and tag, in a fresh vector.
+    /// Returns the message that is sealed to the bytes of a record, ciphertext and tag, in a fresh vector. `ad` is overwritten.
     pub fn open<A: Allocator>(
         &self,
         alloc: A,
@@ -117,6 +120,7 @@ impl RecordCipher<'_> {
         ensures refused { IfErr result (λ e. (e ≡ RecordError.OutOfMemory)
             ⊎ (((m : List ℕ) → sealed_at self.now place m ≢ sealed.now)
             × (e ≡ RecordError.Damaged place.number))) }
+        ensures capacity { vec_capacity ad.old ≤ vec_capacity ad.new }
     {
         let (ciphertext, tag) = sealed.split_last_chunk::<TAG_BYTES>().unwrap();
         place.write_data(ad, self.context)?;
@@ -125,6 +129,38 @@ impl RecordCipher<'_> {
             Ok(message) => Ok(message),
             Err(Error::InvalidTag) => Err(RecordError::Damaged(place.number)),
             Err(_) => Err(RecordError::OutOfMemory),
+        }
+    }
+
+    /// Opens the bytes of a record, ciphertext and tag, in place: the message is written over the ciphertext, or
+    /// [`ERASED`](crate::ERASED) bytes if no message is sealed to these. `ad` is overwritten, and has room for the associated data.
+    pub fn open_in_place<A: Allocator>(
+        &self,
+        ad: &mut Vec<u8, A>,
+        place: RecordPlace,
+        sealed: &mut [u8],
+    ) -> Result<(), RecordError>
+        requires context { length self.now.context.now ≤ MAX_CONTEXT_BYTES }
+        requires room { 21 + length self.now.context.now ≤ vec_capacity ad.old }
+        requires long { 32 ≤ length sealed.old }
+        requires within { length sealed.old ≤ limit place.version + 32 }
+        ensures opened { OnOk result
+            (sealed_at self.now place (take (length sealed.old - 32) sealed.new) ≡ sealed.old) }
+        ensures refused { IfErr result
+            (λ e. ((m : List ℕ) → sealed_at self.now place m ≢ sealed.old)
+            × (e ≡ RecordError.Damaged place.number)) }
+        ensures erased { OnErr result (take (length sealed.old - 32) sealed.new
+            ≡ replicate (length sealed.old - 32) ERASED) }
+        ensures tag { drop (length sealed.old - 32) sealed.new
+            ≡ drop (length sealed.old - 32) sealed.old }
+        ensures capacity { vec_capacity ad.old ≤ vec_capacity ad.new }
+    {
+        place.write_data(ad, self.context)?;
+        let cipher = Aegis256::<TAG_BYTES>::new(self.key, &nonce(self.prefix, place.number));
+        let (ciphertext, tag) = sealed.split_last_chunk_mut::<TAG_BYTES>().unwrap();
+        match cipher.decrypt_in_place(ciphertext, tag, ad) {
+            Ok(()) => Ok(()),
+            Err(_) => Err(RecordError::Damaged(place.number)),
         }
     }
 }

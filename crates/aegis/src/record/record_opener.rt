@@ -1,11 +1,12 @@
 //! Opening a stream a record at a time.
+mod in_place;
 
 ghost use Rattle.std.specs.Prelude.{◌≡◌, ◌≢◌, ◌+◌, ◌-◌, ◌*◌, ◌<◌, ◌≤◌, ◌⊎◌, ◌++◌, ◌∷◌, [], Err, IfErr, IfOk, IsTrue, List, OnErr, false, length, true, ℕ};
 ghost use Rattle.std.specs.Bool.{OnFalse, OnTrue};
 ghost use Rattle.aegis_base.specs.declared.error.TheConstants.{MAX_AEAD_BYTES};
 ghost use Rattle.aegis.specs.Calls.{OpensRecordTo};
 ghost use Rattle.aegis.specs.Fault.{parts};
-ghost use Rattle.aegis.specs.Progress.{AreRecordsOfSomeVersion, Begun, IsRecordFault, after, last_flag, position_of, progress_at, record_of, taken};
+ghost use Rattle.aegis.specs.Progress.{AreRecordsOfSomeVersion, Begun, IsRecordFault, after, first_position, last_flag, position_of, progress_at, record_of, taken};
 ghost use Rattle.aegis.specs.Records.{IsFault};
 ghost use Rattle.aegis.specs.RecordStream.{limit};
 
@@ -18,6 +19,7 @@ use crate::record::position::RecordPosition;
 use crate::record::record_cipher::{MAX_CONTEXT_BYTES, RecordCipher, RecordPlace};
 use crate::record::version::{MAX_MESSAGE_BYTES, Version};
 use aegis_base::MAX_AEAD_BYTES;
+pub use in_place::OpenedInPlace;
 use std::alloc::Allocator;
 use std::marker::Model;
 
@@ -35,8 +37,8 @@ pub struct Opened<'b, A: Allocator> {
 /// next record are needed, so a stream of any length is opened in the memory of one record.
 ///
 /// The messages that are returned before the last record are a proper front of the list of any stream that begins with the
-/// same bytes. A stream that was cut off shows as [`RecordError::Truncated`] only at the cut, so a caller that needs all of
-/// the messages has to wait for the last one.
+/// same bytes. A stream that was cut off is [`RecordError::Truncated`] only at the cut, so a caller that needs all of the
+/// messages must wait for the last one.
 ///
 /// In a contract an opener stands for a `Progress`: the key, prefix and context, the version, the next record's number, how
 /// many bytes the messages before it have, and whether the last record was opened. `Begun` says of which messages and bytes
@@ -53,7 +55,7 @@ pub struct RecordOpener<'a, A: Allocator> {
 }
 
 impl<'a, A: Allocator> Model for RecordOpener<'a, A> {
-    ghost use Rattle.std.specs.Prelude.{◌+◌, ◌*◌, ◌≤◌, length};
+    ghost use Rattle.std.specs.Prelude.{◌+◌, ◌*◌, ◌≤◌, length, vec_capacity};
     ghost use Rattle.aegis_base.specs.declared.error.TheConstants.{MAX_AEAD_BYTES};
     ghost use Rattle.aegis.specs.Progress.{Progress};
     ghost use Rattle.aegis.specs.declared.record.record_cipher.TheConstants.{MAX_CONTEXT_BYTES};
@@ -71,7 +73,8 @@ impl<'a, A: Allocator> Model for RecordOpener<'a, A> {
     } };
 
     ghost invariant = { λ s. (length s.cipher.context.now ≤ MAX_CONTEXT_BYTES)
-        × (4 + 37 * s.number + s.before ≤ MAX_AEAD_BYTES) };
+        × (4 + 37 * s.number + s.before ≤ MAX_AEAD_BYTES)
+        × (21 + length s.cipher.context.now ≤ vec_capacity s.ad) };
 }
 
 impl<'a, A: Allocator + Copy> RecordOpener<'a, A> {
@@ -90,6 +93,8 @@ impl<'a, A: Allocator + Copy> RecordOpener<'a, A> {
         requires header_within { length header.now ≤ 4 }
         ensures begun { IfOk result
             (λ opener. Begun opener key.now prefix.now context.now [] header.now) }
+        ensures progress { IfOk result (λ opener. opener
+            ≡ progress_at key.now prefix.now context.now (first_position opener.version)) }
         ensures taken { IfOk result (λ opener. taken opener ≡ 4) }
         ensures refused { IfErr result (λ e. (e ≡ RecordError.OutOfMemory)
             ⊎ ((more : List ℕ) → (length header.now < 4 → more ≡ [])
@@ -116,11 +121,11 @@ impl<'a, A: Allocator + Copy> RecordOpener<'a, A> {
 
     /// Begins to open a stream at one of its records.
     ///
-    /// What is opened from here on are the records that stand at these places of a stream under this key, prefix and context.
-    /// Nothing is known of the records before them, nor that the stream ends well unless its last record is opened. A position
-    /// is not secret, and a wrong one opens nothing: [`RecordError::Damaged`].
+    /// The opener opens the records at this position and after it, of a stream under this key, prefix and context. Nothing is
+    /// known of the records before them, nor that the stream is whole, unless its last record is opened. A position is not
+    /// secret; at a wrong one the error is [`RecordError::Damaged`].
     ///
-    /// The context has at most [`MAX_CONTEXT_BYTES`], and the record starts within [`MAX_AEAD_BYTES`].
+    /// The context has at most [`MAX_CONTEXT_BYTES`], and the record starts at byte [`MAX_AEAD_BYTES`] of the stream at most.
     /// [`RecordError::OutOfMemory`] is the only error.
     pub fn begin_at(
         alloc: A,
@@ -151,7 +156,7 @@ impl<'a, A: Allocator + Copy> RecordOpener<'a, A> {
         })
     }
 
-    /// Returns where the next record stands, for [`RecordOpener::begin_at`] and [`RecordOpener::open_at`].
+    /// Returns the position of the next record, for [`RecordOpener::begin_at`] and [`RecordOpener::open_at`].
     pub fn position(&self) -> RecordPosition
         ensures { result ≡ position_of self.now }
     {
@@ -171,8 +176,7 @@ impl<'a, A: Allocator + Copy> RecordOpener<'a, A> {
 
     /// Returns how many bytes the next record has, from its first five bytes.
     ///
-    /// Nothing is authenticated: the length is what the bytes say. The error is [`RecordError::Flag`] or
-    /// [`RecordError::TooLong`].
+    /// The bytes are not authenticated. The error is [`RecordError::Flag`] or [`RecordError::TooLong`].
     pub fn record_len(&self, head: &[u8; 5]) -> Result<usize, RecordError>
         ensures least { IfOk result (λ n. 37 ≤ n) }
         ensures most { IfOk result (λ n. n ≤ 16777253) }
@@ -196,10 +200,10 @@ impl<'a, A: Allocator + Copy> RecordOpener<'a, A> {
         Ok(head.len() + length as usize + TAG_BYTES)
     }
 
-    /// Opens the record that `bytes` begin with. They are at least that record, or all that is left of the stream.
+    /// Opens the next record, which `bytes` begin with. They have at least that record, or all that is left of the stream.
     ///
     /// The error is the first fault of the stream, or [`RecordError::OutOfMemory`], and leaves the opener as it was. After the
-    /// last record every call is [`RecordError::Trailing`].
+    /// last record it is always [`RecordError::Trailing`].
     pub fn open_next<'b>(&mut self, bytes: &'b [u8]) -> Result<Opened<'b, A>, RecordError>
         requires { taken self.old + length bytes.now ≤ MAX_AEAD_BYTES }
         ensures next { IfOk result (λ opened. OnFalse opened.is_last
@@ -264,11 +268,11 @@ impl<'a, A: Allocator + Copy> RecordOpener<'a, A> {
         })
     }
 
-    /// Opens the record that stands at a position, and that `bytes` begin with. The opener goes on where it was.
+    /// Opens the record at a position, which `bytes` begin with. The opener is as it was.
     ///
-    /// A message that is returned is the one whose record at this position, under this key, prefix and context, these bytes are;
-    /// nothing is known of the other records, nor that the stream ends well. The error is the fault of the record, or
-    /// [`RecordError::OutOfMemory`]: [`RecordError::Damaged`] if no message is sealed to it at this position.
+    /// The message is the one whose record at this position, under this key, prefix and context, `bytes` begin with. Nothing is
+    /// known of the other records, nor that the stream is whole. The error is the fault of the record, as
+    /// [`RecordError::Damaged`] if no message is sealed to it at this position, or [`RecordError::OutOfMemory`].
     pub fn open_at<'b>(
         &mut self,
         position: RecordPosition,

@@ -20,12 +20,12 @@ use std::marker::Model;
 
 /// Seals a stream a record at a time, in version 2.
 ///
-/// Each call appends one record to a vector, which the caller may write out and clear before the next call: so a stream of any
+/// Each call appends one record to a vector, which the caller may write out and clear before the next call, so a stream of any
 /// length is sealed in the memory of one record. The bytes that all calls append, one after the other, are the stream that
 /// [`seal_records`](crate::record::seal_records) makes of the list of messages.
 ///
-/// A stream is appended to only by a sealer that was not dropped: no call begins one at a given number, since a number that is
-/// used twice under one prefix gives both messages away. To change what was sealed, seal a new stream under a new prefix.
+/// Only the sealer that began a stream appends to it. No call begins a sealer at a given number, since a number that is used
+/// twice under one prefix gives both messages away. To change what was sealed, seal a new stream under a new prefix.
 ///
 /// In a contract a sealer stands for a `Progress`: the key, prefix and context, the next record's number, and how many bytes
 /// the messages before it have. `Begun` says of which messages and bytes that is the progress.
@@ -103,8 +103,8 @@ impl<'a, A: Allocator + Copy> RecordSealer<'a, A> {
         MAX_AEAD_BYTES - (HEADER_BYTES + RECORD_BYTES * self.number + self.before)
     }
 
-    /// Returns where the next record stands, so that it can be opened without the records before it, by
-    /// [`RecordOpener::open_at`](crate::record::RecordOpener::open_at).
+    /// Returns the position of the next record, at which [`RecordOpener::open_at`](crate::record::RecordOpener::open_at) opens
+    /// it without the records before it.
     pub fn position(&self) -> RecordPosition
         ensures { result ≡ position_of self.now }
     {
@@ -119,8 +119,8 @@ impl<'a, A: Allocator + Copy> RecordSealer<'a, A> {
     ///
     /// A message has at most [`MAX_MESSAGE_BYTES`], and the whole stream at most [`MAX_AEAD_BYTES`], of which
     /// [`RecordSealer::remaining`] are left. [`RecordError::OutOfMemory`] is the only error; the sealer and `out` are then as
-    /// they were. The next call uses the same record number, so if the message of a failed call is not the one that is sealed
-    /// next, nothing of `out`'s spare memory may be handed out.
+    /// they were. The next call uses the same record number, so `out`'s spare memory must not be given to anyone if the next
+    /// message differs from that of the failed call.
     pub fn seal_next(&mut self, message: &[u8], out: &mut Vec<u8, A>) -> Result<(), RecordError>
         requires within { length message.now ≤ MAX_MESSAGE_BYTES }
         requires fits { taken self.old + (37 + length message.now) ≤ MAX_AEAD_BYTES }
@@ -160,8 +160,8 @@ impl<'a, A: Allocator + Copy> RecordSealer<'a, A> {
     /// Appends the record of the last message to `out`, and ends the stream: the sealer is taken by value, so no record can
     /// follow.
     ///
-    /// A message has at most [`MAX_MESSAGE_BYTES`]. [`RecordError::OutOfMemory`] is the only error; `out` is then as it was,
-    /// and has no last record.
+    /// A message has at most [`MAX_MESSAGE_BYTES`]. [`RecordError::OutOfMemory`] is the only error; `out` is then as it was, and
+    /// the stream has no end.
     pub fn seal_last(self, message: &[u8], out: &mut Vec<u8, A>) -> Result<(), RecordError>
         requires within { length message.now ≤ MAX_MESSAGE_BYTES }
         ensures appended { OnOk result

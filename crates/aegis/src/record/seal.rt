@@ -15,10 +15,10 @@ use crate::record::record_cipher::{MAX_CONTEXT_BYTES, RecordCipher, RecordPlace}
 use crate::record::version::{MAX_MESSAGE_BYTES, Version};
 use std::alloc::Allocator;
 
-/// The version that is written.
+/// The version in which streams are sealed.
 pub const WRITTEN: Version = Version::Second;
 
-// Appends a record.
+// Appends a record to a stream.
 pub(crate) fn seal_record<A: Allocator>(
     out: &mut Vec<u8, A>,
     ad: &mut Vec<u8, A>,
@@ -40,7 +40,7 @@ pub(crate) fn seal_record<A: Allocator>(
     cipher.seal(out, ad, place, message)
 }
 
-// The stream of messages in the version that is written.
+// Returns the stream of the messages.
 fn seal_all<A: Allocator + Copy>(
     alloc: A,
     cipher: &RecordCipher<'_>,
@@ -75,10 +75,10 @@ fn seal_all<A: Allocator + Copy>(
     Ok(out)
 }
 
-/// The stream of the messages, of which there is one at least, in version 2, under a key, a prefix and a context.
+/// Returns the stream of the messages, in version 2, under a key, a prefix and a context. There is at least one message.
 ///
-/// A message has at most [`MAX_MESSAGE_BYTES`] and the context [`MAX_CONTEXT_BYTES`], and [`records_len`] has to give a number,
-/// which is the length of the stream. [`RecordError::OutOfMemory`] is the only refusal. Memory is taken twice: for the whole
+/// A message has at most [`MAX_MESSAGE_BYTES`] and the context [`MAX_CONTEXT_BYTES`], and [`records_len`] must return a number,
+/// which is the length of the stream. [`RecordError::OutOfMemory`] is the only error. Memory is taken twice: for the whole
 /// stream, in which the messages are sealed piece by piece, and for the associated data.
 pub fn seal_records<A: Allocator + Copy>(
     alloc: A,

@@ -2,6 +2,7 @@
 
 mod by_hand;
 mod faults;
+mod in_place;
 mod memory;
 mod positions;
 mod sizes;

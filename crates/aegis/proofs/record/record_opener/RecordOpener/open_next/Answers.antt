@@ -32,7 +32,7 @@ invariant_of-self-2 g c =
     let long = read_long p _ _ _ _ (read_of p _ _ _ _ c.in_ok-frame.ensures.opened) in
     let fits = rw (← c.self.view_is) at c.requires in
     let size = c.len.ensures ∙ c.in_ok-frame.message.ok.0 in
-    (c.self.invariant.0, omega (arith, long, fits, size))
+    (c.self.invariant.0, omega (arith, long, fits, size), omega (arith, c.self.invariant.2, c.open_record.ensures.capacity))
 
 pub returns-clause-next : goal.returns-clause-next
 returns-clause-next g c = rw (← c.self.view_is) (next_are _ _ _ _ _ (read_of _ _ _ _ _ c.in_ok-frame.ensures.opened))

@@ -1,0 +1,156 @@
+//! Opening a record in the buffer that holds it.
+
+ghost use Rattle.std.specs.Prelude.{◌≡◌, ◌≢◌, ◌+◌, ◌≤◌, ◌++◌, ◌∷◌, [], Err, IfErr, IfOk, IsTrue, List, OnErr, false, length, true, vec_capacity, ℕ};
+ghost use Rattle.std.specs.Bool.{OnFalse, OnTrue};
+ghost use Rattle.aegis_base.specs.declared.error.TheConstants.{MAX_AEAD_BYTES};
+ghost use Rattle.aegis.specs.Calls.{IsRecord, OpensInPlaceTo, message_at, message_of, rest_at, rest_of, sealing_of, with_erased, with_message};
+ghost use Rattle.aegis.specs.Fault.{HasFault, parts};
+ghost use Rattle.aegis.specs.Progress.{AreRecordsOfSomeVersion, Begun, IsRecordFault, after, record_of, taken};
+ghost use Rattle.aegis.specs.Records.{IsFault};
+ghost use Rattle.aegis.specs.RecordStream.{limit};
+
+use crate::record::error::RecordError;
+use crate::record::frame::{Frame, TAG_BYTES};
+use crate::record::length::RECORD_HEAD_BYTES;
+use crate::record::record_cipher::{MAX_CONTEXT_BYTES, RecordCipher, RecordPlace};
+use crate::record::record_opener::RecordOpener;
+use crate::record::version::{MAX_MESSAGE_BYTES, Version};
+use aegis_base::MAX_AEAD_BYTES;
+use std::alloc::Allocator;
+
+/// A record that was opened in the buffer that holds it.
+///
+/// The message starts at byte [`RECORD_HEAD_BYTES`] of the buffer, and the next record at byte
+/// [`RECORD_BYTES`](crate::record::RECORD_BYTES)` + message_len`.
+#[derive(Clone, Copy, Debug, PartialEq, Eq)]
+pub struct OpenedInPlace {
+    /// How many bytes the message has.
+    pub message_len: usize,
+    /// Whether it is the stream's last record.
+    pub is_last: bool,
+}
+
+// Opens the record that the bytes begin with, in place. Returns its flag, and how many bytes its message has.
+fn open_record_in_place<A: Allocator>(
+    ad: &mut Vec<u8, A>,
+    cipher: &RecordCipher<'_>,
+    version: Version,
+    number: u64,
+    before: u64,
+    bytes: &mut [u8],
+) -> Result<(u8, usize), RecordError>
+    requires context { length cipher.now.context.now ≤ MAX_CONTEXT_BYTES }
+    requires room { 21 + length cipher.now.context.now ≤ vec_capacity ad.old }
+    ensures opened { IfOk result
+        (λ found. IsRecord (sealing_of cipher.now) version number before found.0
+        (message_at found.1 bytes.new) (rest_at found.1 bytes.new) bytes.old) }
+    ensures message_len { IfOk result
+        (λ found. length (message_at found.1 bytes.new) ≡ found.1) }
+    ensures written { IfOk result
+        (λ found. bytes.new ≡ with_message bytes.old (message_at found.1 bytes.new)) }
+    ensures refused { IfErr result
+        (λ e. HasFault (sealing_of cipher.now) version number before (parts version bytes.old) e) }
+    ensures erased { IfErr result
+        (λ e. e ≡ RecordError.Damaged number → bytes.new ≡ with_erased bytes.old) }
+    ensures kept { IfErr result (λ e. e ≢ RecordError.Damaged number → bytes.new ≡ bytes.old) }
+    ensures capacity { vec_capacity ad.old ≤ vec_capacity ad.new }
+{
+    let frame = Frame::read(version, bytes)?;
+    let flag = frame.flag;
+    let sealed_len = frame.sealed.len();
+    let place = RecordPlace {
+        version,
+        number,
+        before,
+        flag,
+    };
+    let (_, body) = bytes.split_at_mut(RECORD_HEAD_BYTES);
+    let (sealed, _) = body.split_at_mut(sealed_len);
+    match cipher.open_in_place(ad, place, sealed) {
+        Ok(()) => Ok((flag, sealed_len - TAG_BYTES)),
+        Err(error) => Err(error),
+    }
+}
+
+impl<'a, A: Allocator + Copy> RecordOpener<'a, A> {
+    /// Opens the next record, which `bytes` begin with, in place: its message is written over its ciphertext. `bytes` have at
+    /// least that record, or all that is left of the stream.
+    ///
+    /// This is [`RecordOpener::open_next`] with no vector: it allocates nothing, and never returns
+    /// [`RecordError::OutOfMemory`]. The error is the first fault of the stream, and leaves the opener as it was. If it is
+    /// [`RecordError::Damaged`], every byte of the ciphertext is [`ERASED`](crate::ERASED) and the others are as they were; after
+    /// any other error `bytes` are as they were. After the last record the error is always [`RecordError::Trailing`].
+    pub fn open_next_in_place(&mut self, bytes: &mut [u8]) -> Result<OpenedInPlace, RecordError>
+        requires { taken self.old + length bytes.old ≤ MAX_AEAD_BYTES }
+        ensures next { IfOk result (λ opened. OnFalse opened.is_last
+            (bytes.old ≡ record_of self.old 0 (message_of opened bytes.new)
+            ++ rest_of opened bytes.new)) }
+        ensures begun { IfOk result (λ opened. OnFalse opened.is_last
+            ((key prefix context : List ℕ) (ms : List (List ℕ)) (before : List ℕ)
+            → Begun self.old key prefix context ms before
+            → Begun self.new key prefix context (ms ++ message_of opened bytes.new ∷ [])
+            (before ++ record_of self.old 0 (message_of opened bytes.new)))) }
+        ensures last { IfOk result (λ opened. OnTrue opened.is_last
+            (bytes.old ≡ record_of self.old 1 (message_of opened bytes.new)
+            ++ rest_of opened bytes.new)) }
+        ensures whole { IfOk result (λ opened. OnTrue opened.is_last
+            ((key prefix context : List ℕ) (ms : List (List ℕ)) (before : List ℕ)
+            → Begun self.old key prefix context ms before
+            → AreRecordsOfSomeVersion key prefix context (ms ++ message_of opened bytes.new ∷ [])
+            (before ++ record_of self.old 1 (message_of opened bytes.new)))) }
+        ensures progress { IfOk result (λ opened. self.new
+            ≡ after self.old opened.is_last (message_of opened bytes.new)) }
+        ensures message_len { IfOk result
+            (λ opened. length (message_of opened bytes.new) ≡ opened.message_len) }
+        ensures written { IfOk result
+            (λ opened. bytes.new ≡ with_message bytes.old (message_of opened bytes.new)) }
+        ensures accepted { self.old.ended ≡ false → (m rest : List ℕ)
+            → length m ≤ limit self.old.version
+            → bytes.old ≡ record_of self.old 0 m ++ rest
+            → OpensInPlaceTo false m rest bytes.new result }
+        ensures accepted_last { self.old.ended ≡ false → (m rest : List ℕ)
+            → length m ≤ limit self.old.version
+            → bytes.old ≡ record_of self.old 1 m ++ rest
+            → OpensInPlaceTo true m rest bytes.new result }
+        ensures fault { IfErr result (λ e. self.old.ended ≡ false
+            → IsRecordFault self.old bytes.old e) }
+        ensures erased { IfErr result (λ e. e ≡ RecordError.Damaged self.old.number
+            → bytes.new ≡ with_erased bytes.old) }
+        ensures kept { IfErr result (λ e. e ≢ RecordError.Damaged self.old.number
+            → bytes.new ≡ bytes.old) }
+        ensures within { IfOk result (λ opened. opened.message_len ≤ MAX_MESSAGE_BYTES) }
+        ensures taken { IfOk result (λ opened. taken self.new + length (rest_of opened bytes.new)
+            ≡ taken self.old + length bytes.old) }
+        ensures size { IfOk result (λ opened. 37 + opened.message_len
+            + length (rest_of opened bytes.new) ≡ length bytes.old) }
+        ensures after_the_last { IsTrue self.old.ended → result ≡ Err RecordError.Trailing }
+        ensures ended { IfOk result (λ opened. self.new.ended ≡ opened.is_last) }
+        ensures refused { IfErr result
+            (λ e. (key prefix context : List ℕ) (ms : List (List ℕ)) (before more : List ℕ)
+            → Begun self.old key prefix context ms before
+            → (e ≡ RecordError.Truncated → more ≡ [])
+            → IsFault key prefix context (before ++ (bytes.old ++ more)) e) }
+        ensures cut { IfErr result (λ e. e ≡ RecordError.Truncated
+            → parts self.old.version bytes.old ≡ Err RecordError.Truncated) }
+        ensures unchanged { OnErr result (self.new ≡ self.old) }
+    {
+        if self.ended {
+            return Err(RecordError::Trailing);
+        }
+        let (flag, message_len) = open_record_in_place(
+            &mut self.ad,
+            &self.cipher,
+            self.version,
+            self.number,
+            self.before,
+            bytes,
+        )?;
+        self.number += 1;
+        self.before += message_len as u64;
+        self.ended = flag == 1;
+        Ok(OpenedInPlace {
+            message_len,
+            is_last: self.ended,
+        })
+    }
+}

@@ -1,0 +1,149 @@
+//! Records that are opened in the buffer that holds them.
+
+use crate::tests::records::streams::{CONTEXT, FIRST, KEY, MESSAGES, PREFIX, SECOND};
+use aegis::ERASED;
+use aegis::record::{OpenedInPlace, RecordError, RecordOpener};
+use std::alloc::Allocator;
+use std::test::Fail;
+use test_tools::memory::Rationed;
+
+// What opening the two stored records returns.
+const OPENED: [OpenedInPlace; 2] = [
+    OpenedInPlace {
+        message_len: 0,
+        is_last: false,
+    },
+    OpenedInPlace {
+        message_len: 3,
+        is_last: true,
+    },
+];
+
+// Opens the next record of a stream that is not too long for the opener.
+fn opened<A: Allocator + Copy>(
+    opener: &mut RecordOpener<'_, A>,
+    bytes: &mut [u8],
+) -> Result<OpenedInPlace, RecordError> {
+    if bytes.len() as u64 >= opener.remaining() {
+        return Err(RecordError::TooLong);
+    }
+    opener.open_next_in_place(bytes)
+}
+
+#[test]
+fn records_are_opened_in_their_buffer(rt: HostRuntime) -> Result<(), Fail> {
+    for stream in [FIRST, SECOND] {
+        let mut buffer = stream;
+        let mut opener = RecordOpener::new(rt.alloc(), &KEY, &PREFIX, &CONTEXT, &stream[..4])?;
+        assert_eq!(rt; opened(&mut opener, &mut buffer[4..]), Ok(OPENED[0]));
+        assert_eq!(rt; opened(&mut opener, &mut buffer[41..]), Ok(OPENED[1]));
+        let mut expected = stream;
+        expected[46..49].copy_from_slice(MESSAGES[1]);
+        assert_eq!(rt; buffer, expected);
+    }
+    Ok(())
+}
+
+#[test]
+fn what_opens_in_place_opens_into_a_vector(rt: HostRuntime) -> Result<(), Fail> {
+    let mut opener = RecordOpener::new(rt.alloc(), &KEY, &PREFIX, &CONTEXT, &SECOND[..4])?;
+    let mut buffer = SECOND;
+    assert_eq!(rt; opened(&mut opener, &mut buffer[4..]), Ok(OPENED[0]));
+    if opener.remaining() > 40 {
+        let second = opener.open_next(&buffer[41..])?;
+        assert_eq!(rt; second.message.as_slice(), MESSAGES[1]);
+        assert!(rt; second.is_last);
+    }
+    Ok(())
+}
+
+#[test]
+fn no_memory_is_taken_in_place(rt: HostRuntime) -> Result<(), Fail> {
+    let heap = Rationed::new(rt.alloc(), 1);
+    let mut opener = RecordOpener::new(&heap, &KEY, &PREFIX, &CONTEXT, &SECOND[..4])?;
+    assert_eq!(rt; heap.left(), 0);
+    let mut buffer = SECOND;
+    assert_eq!(rt; opened(&mut opener, &mut buffer[4..]), Ok(OPENED[0]));
+    assert_eq!(rt; opened(&mut opener, &mut buffer[41..]), Ok(OPENED[1]));
+    Ok(())
+}
+
+// The stored stream with one byte changed.
+fn changed(place: usize, byte: u8) -> [u8; 81]
+    requires { place < 81 }
+{
+    let mut stream = SECOND;
+    stream[place] = byte;
+    stream
+}
+
+// Why the second record of a stream is refused, once the first one is opened.
+fn refusal(rt: &HostRuntime, stream: &mut [u8; 81], end: usize) -> Option<RecordError>
+    requires start { 41 ≤ end }
+    requires end { end ≤ 81 }
+{
+    match RecordOpener::new(rt.alloc(), &KEY, &PREFIX, &CONTEXT, &SECOND[..4]) {
+        Ok(mut opener) => {
+            let first = opened(&mut opener, &mut stream[4..]);
+            first
+                .err()
+                .or(opened(&mut opener, &mut stream[41..end]).err())
+        }
+        Err(error) => Some(error),
+    }
+}
+
+#[test]
+fn a_wrong_tag_erases_the_ciphertext(rt: HostRuntime) {
+    for place in 46..81usize {
+        let mut stream = changed(place, SECOND[place] ^ 1);
+        let mut expected = stream;
+        expected[46..49].fill(ERASED);
+        assert_eq!(rt;
+            refusal(&rt, &mut stream, 81),
+            Some(RecordError::Damaged(1)),
+            "{place}"
+        );
+        assert_eq!(rt; stream, expected, "{place}");
+    }
+}
+
+#[test]
+fn no_other_refusal_changes_the_buffer(rt: HostRuntime) {
+    let faults = [
+        (41, 2, RecordError::Flag),
+        (45, 2, RecordError::TooLong),
+        (42, 4, RecordError::Truncated),
+    ];
+    for (place, byte, error) in faults {
+        let mut stream = changed(place, byte);
+        let expected = stream;
+        assert_eq!(rt; refusal(&rt, &mut stream, 81), Some(error), "{place}");
+        assert_eq!(rt; stream, expected, "{place}");
+    }
+    for end in 41..81usize {
+        let mut stream = SECOND;
+        assert_eq!(rt;
+            refusal(&rt, &mut stream, end),
+            Some(RecordError::Truncated),
+            "{end}"
+        );
+        assert_eq!(rt; stream, SECOND, "{end}");
+    }
+}
+
+#[test]
+fn after_the_last_record_the_buffer_is_left(rt: HostRuntime) -> Result<(), Fail> {
+    let mut opener = RecordOpener::new(rt.alloc(), &KEY, &PREFIX, &CONTEXT, &SECOND[..4])?;
+    let mut stream = SECOND;
+    opened(&mut opener, &mut stream[4..])?;
+    opened(&mut opener, &mut stream[41..])?;
+    let mut record = SECOND;
+    assert_eq!(rt;
+        opened(&mut opener, &mut record[4..]),
+        Err(RecordError::Trailing)
+    );
+    assert_eq!(rt; record, SECOND);
+    assert_eq!(rt; opened(&mut opener, &mut []), Err(RecordError::Trailing));
+    Ok(())
+}
