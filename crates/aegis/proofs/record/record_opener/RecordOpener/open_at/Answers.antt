@@ -1,4 +1,4 @@
-use Rattle.std.proofs.Common.{false, refl, true}
+use Rattle.std.proofs.Common.{false, true}
 use Rattle.std.proofs.lemmas.Result.{err_from_is_err_and}
 use Rattle.aegis.proofs.Places.{are_last, only_memory, read_one}
 use Rattle.aegis.proofs.Stepwise.{read_of}
