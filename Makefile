@@ -76,7 +76,7 @@ STORED_LINES = crates/check_lines/data
 HEADERS = hunkravy.h aegis_compat.h sodium_compat.h
 C_EXAMPLES = seal chunks libaegis libaegis_chunks libsodium
 
-C_SOURCES = $(shell find $(addprefix crates/,aegis_aes aegis_base aegis_128 aegis_256 aegis_engine aegis aegis_c) -name out -prune -o -type f -print)
+C_SOURCES = $(shell find $(addprefix crates/,aegis_aes aegis_base aegis_128 aegis_256 aegis_engine aegis aegis_c_calls aegis_c) -name out -prune -o -type f -print)
 
 c-library: $(LIBRARY)
 
