@@ -1,6 +1,7 @@
 /*
  * Encrypting a message of 64 KiB in chunks by the calls on a state, beside the call at once, as lines of a table: the speed
- * of each in multiples of the call's at once. They take turns, and the best turn of each counts.
+ * of each in multiples of the call's at once. They take turns, and the best turn of each counts. How fast a loop is depends
+ * on where its vectors on the stack lie in the lines of the cache, so the turns are made at four places of the stack.
  */
 #define _POSIX_C_SOURCE 199309L
 #include "hunkravy.h"
@@ -10,6 +11,7 @@
 #include <time.h>
 
 #define TURNS 400
+#define PLACES 4
 #define MESSAGE_BYTES (64 * 1024)
 
 static const size_t CHUNKS[] = {64, 256, 1000, 1024, 4096, 16 * 1024, MESSAGE_BYTES};
@@ -67,12 +69,16 @@ ENCRYPTING(aegis256, 32)
 ENCRYPTING(aegis256x2, 32)
 ENCRYPTING(aegis256x4, 32)
 
-/* Keeps the shorter time of this turn and those before it. */
-static void turn(encrypting *encrypt, size_t chunk, double *best)
+/* Keeps the shorter time of this turn and those before it. The place is in steps of 16 bytes. */
+static void turn(encrypting *encrypt, size_t chunk, size_t place, double *best)
 {
-    double start = now(), took;
+    volatile uint8_t room[16 * (place + 1)];
+    double start, took;
+    room[place] = 0;
+    start = now();
     encrypt(chunk);
     took = now() - start;
+    expect(room[place] == 0);
     if (took < *best) {
         *best = took;
     }
@@ -86,9 +92,9 @@ static void line(const char *name, encrypting *at_once, encrypting *in_chunks)
         best[i] = 1e18;
     }
     for (turns = 0; turns < TURNS; turns++) {
-        turn(at_once, 0, &whole);
+        turn(at_once, 0, turns % PLACES, &whole);
         for (i = 0; i < CHUNK_COUNT; i++) {
-            turn(in_chunks, CHUNKS[i], &best[i]);
+            turn(in_chunks, CHUNKS[i], turns % PLACES, &best[i]);
         }
     }
     printf("| %s | %.0f |", name, MESSAGE_BYTES / whole * 1e3);

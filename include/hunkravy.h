@@ -2,6 +2,9 @@
  * Hunkravy: the six AEGIS ciphers and their MACs, for Linux on x86-64 and on ARM (aarch64). No call allocates
  * memory.
  *
+ * To build a program: `cc program.c $(pkg-config --cflags --libs hunkravy)`. If the library was installed by `make
+ * install PREFIX=/some/where`, set PKG_CONFIG_PATH to /some/where/lib/pkgconfig first.
+ *
  * WHAT YOU MUST NEVER DO. No call detects it:
  *
  * - Never encrypt two messages with the same key and nonce, and never use one nonce for a message and for a

@@ -208,7 +208,8 @@ impl<P: Pair> LaneState for State128<P> {
 }
 
 impl<P: Pair> SavedLanes for State128<P> {
-    #[inline(always)]
+    // Inlined, it changes which rows a loop before it keeps in registers.
+    #[inline(never)]
     fn save(self, rows: &mut SavedRows) {
         self.s04.store(&mut rows.first_pair, 0);
         self.s15.store(&mut rows.second_pair, 0);

@@ -235,7 +235,8 @@ impl<P: Pair> LaneState for State256<P> {
 }
 
 impl<P: Pair> SavedLanes for State256<P> {
-    #[inline(always)]
+    // Inlined, it changes which rows a loop before it keeps in registers.
+    #[inline(never)]
     fn save(self, rows: &mut SavedRows) {
         self.s03.store(&mut rows.first_pair, 0);
         self.s14.store(&mut rows.second_pair, 0);
