@@ -5,6 +5,7 @@
 pub mod chunks;
 pub mod encrypted_file;
 pub mod headline;
+pub mod in_place;
 pub mod opening;
 pub mod record_log;
 pub mod record_protocol;
@@ -137,22 +138,6 @@ pub fn open(
     ensures erased { OnErr result (buffer.new ≡ replicate (length buffer.old) ERASED) }
 {
     Aegis128L::<16>::new(key, nonce).decrypt_in_place(buffer, tag, associated_data)
-}
-
-/// Seals a message and opens it again, in place: the opening is `Ok`, and the buffer is as it was.
-pub fn sealed_and_opened(
-    key: &[u8; 16],
-    nonce: &[u8; 16],
-    associated_data: &[u8],
-    buffer: &mut [u8],
-) -> Result<(), Error>
-    requires message_within { length buffer.old ≤ MAX_AEAD_BYTES }
-    requires associated_data_within { length associated_data.now ≤ MAX_AEAD_BYTES }
-    ensures opened { IsOk result }
-    ensures same { buffer.new ≡ buffer.old }
-{
-    let tag = Aegis128L::<16>::new(key, nonce).encrypt_in_place(buffer, associated_data);
-    Aegis128L::<16>::new(key, nonce).decrypt_in_place(buffer, &tag, associated_data)
 }
 
 /// Seals into a fresh vector.

@@ -1,0 +1,18 @@
+//! Seals a message in its place, and opens it again.
+
+ghost use Rattle.std.specs.Prelude.{◌≡◌, ◌≤◌, IsOk, length};
+
+use aegis::MAX_AEAD_BYTES;
+use aegis::aegis128l::{Aegis128L, Error, Key, Nonce};
+
+/// What is sealed always opens, to the message that it was.
+pub fn seal_and_open(key: &Key, nonce: &Nonce, data: &[u8], buffer: &mut [u8]) -> Result<(), Error>
+    requires data_within { length data.now ≤ MAX_AEAD_BYTES }
+    requires message_within { length buffer.old ≤ MAX_AEAD_BYTES }
+    ensures opened { IsOk result }
+    ensures same { buffer.new ≡ buffer.old }
+{
+    let cipher = Aegis128L::<32>::new(key, nonce);
+    let tag = cipher.encrypt_in_place(buffer, data);
+    cipher.decrypt_in_place(buffer, &tag, data)
+}
