@@ -12,7 +12,6 @@ pub fn seal_and_open(key: &Key, nonce: &Nonce, data: &[u8], buffer: &mut [u8]) -
     ensures opened { IsOk result }
     ensures same { buffer.new ≡ buffer.old }
 {
-    let cipher = Aegis128L::<32>::new(key, nonce);
-    let tag = cipher.encrypt_in_place(buffer, data);
-    cipher.decrypt_in_place(buffer, &tag, data)
+    let tag = Aegis128L::<32>::new(key, nonce).encrypt_in_place(buffer, data);
+    Aegis128L::new(key, nonce).decrypt_in_place(buffer, &tag, data)
 }
