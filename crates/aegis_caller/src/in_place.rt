@@ -6,12 +6,12 @@ use aegis::MAX_AEAD_BYTES;
 use aegis::aegis128l::{Aegis128L, Error, Key, Nonce};
 
 /// What is sealed always opens, to the message that it was.
-pub fn seal_and_open(key: &Key, nonce: &Nonce, data: &[u8], buffer: &mut [u8]) -> Result<(), Error>
-    requires data_within { length data.now ≤ MAX_AEAD_BYTES }
-    requires message_within { length buffer.old ≤ MAX_AEAD_BYTES }
+pub fn seal_and_open(key: &Key, nonce: &Nonce, ad: &[u8], message: &mut [u8]) -> Result<(), Error>
+    requires data_within { length ad.now ≤ MAX_AEAD_BYTES }
+    requires message_within { length message.old ≤ MAX_AEAD_BYTES }
     ensures opened { IsOk result }
-    ensures same { buffer.new ≡ buffer.old }
+    ensures same { message.new ≡ message.old }
 {
-    let tag = Aegis128L::<32>::new(key, nonce).encrypt_in_place(buffer, data);
-    Aegis128L::new(key, nonce).decrypt_in_place(buffer, &tag, data)
+    let tag = Aegis128L::<32>::new(key, nonce).encrypt_in_place(message, ad);
+    Aegis128L::new(key, nonce).decrypt_in_place(message, &tag, ad)
 }
