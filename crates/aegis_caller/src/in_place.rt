@@ -6,12 +6,12 @@ use aegis::MAX_AEAD_BYTES;
 use aegis::aegis128l::{Aegis128L, Error, Key, Nonce};
 
 /// What is sealed always opens, to the message that it was.
-pub fn seal_and_open(key: &Key, nonce: &Nonce, ad: &[u8], message: &mut [u8]) -> Result<(), Error>
-    requires data_within { length ad.now ≤ MAX_AEAD_BYTES }
+pub fn round_trip(key: &Key, nonce: &Nonce, header: &[u8], message: &mut [u8]) -> Result<(), Error>
+    requires header_within { length header.now ≤ MAX_AEAD_BYTES }
     requires message_within { length message.old ≤ MAX_AEAD_BYTES }
     ensures opened { IsOk result }
     ensures same { message.new ≡ message.old }
 {
-    let tag = Aegis128L::<32>::new(key, nonce).encrypt_in_place(message, ad);
-    Aegis128L::new(key, nonce).decrypt_in_place(message, &tag, ad)
+    let tag = Aegis128L::<32>::new(key, nonce).encrypt_in_place(message, header);
+    Aegis128L::new(key, nonce).decrypt_in_place(message, &tag, header)
 }
