@@ -40,7 +40,7 @@ $(OUT)/line-program: $(RUN_SOURCES) crates.txt | $(OUT)
 test: check-pages
 	RT_JOBS=$(CHECKS) rt ci
 
-# Each Rust sample of the pages is a part of a proved crate, and no line of a contract is longer than 100 columns.
+# Each Rust sample of the pages is a part of a proved crate, and no line of a contract or a page and no decision is too long.
 check-pages:
 	sh docs/check_samples.sh README.md docs/CALLING.md
 	python3 docs/check_clauses.py

@@ -83,17 +83,22 @@ Written by `make bench`, in one run.
 - Compiler of the driver and of what it compares with: {}
 - Date: {}
 
-The library is called through its C interface. The three others are the driver's own code, generic in the family and in
-the number of lanes like the library: the tables have their AES round by four look-up tables of 256 words, the one
-rotated table has it by the first of these, whose entries it rotates by 8, 16 and 24 bits for the other rows, and the
-third has it by the processor's AES instructions, one block each, which the library does not use. The library and all
-the tables are built for the same processor level, {LEVEL}, and the tables with `-C no-vectorize-slp`, which makes the
-four faster, and the one mostly slower.
+The library is called through its C interface, and is compared with three implementations of the driver's own, which are
+generic in the family and in the number of lanes like the library:
+
+| Name | AES round |
+|---|---|
+| tables | four look-up tables of 256 words |
+| one rotated table | the first of these, whose entries are rotated by 8, 16 and 24 bits for the other rows |
+| AES instructions | the processor's AES instructions, one block each, which the library does not use |
+
+The library and the tables are built for the processor level {LEVEL}. The tables are built with `-C no-vectorize-slp`,
+which makes the four faster, and the one mostly slower.
 
 Each call does all of its work on one message with no associated data, from the key to the tag of 16 bytes, in place.
-Before anything is timed, all four give the same ciphertexts, tags of both lengths, opened messages, refusals and
+Before the measurement all four give the same ciphertexts, tags of both lengths, opened messages, refusals and
 keystreams at each size, and the known answers. They take turns, a hundred each, and the best turn counts. A turn is
-32 KiB in messages of one size, or one message. MB are 10^6 bytes. A ratio above 1 says that the library is faster.
+32 KiB in messages of one size, or one message. MB are 10^6 bytes. If a ratio is above 1, the library is faster.
 
 ![The library's speed in sealing, as a multiple of the tables'](results.svg)
 
