@@ -133,6 +133,8 @@ impl Pair for AesBlock2 {
 pub struct Rows2<R: Row> {
     first: R,
     second: R,
+    // It holds nothing, and aligns the rows to 16 bytes, so that no block of theirs crosses a cache line.
+    aligned: [u128; 0],
 }
 
 impl<R: Row> Rows2<R> {
@@ -149,6 +151,7 @@ impl<R: Row> Rows2<R> {
         Rows2 {
             second: self.second.round_row(key.second),
             first: self.first.round_row(key.first),
+            aligned: [],
         }
     }
 
@@ -171,7 +174,11 @@ impl<R: Row> Pair for Rows2<R> {
     ghost block = { λ p h. R.block (row_of_two p h) };
 
     fn of(first: R, second: R) -> Self {
-        Rows2 { first, second }
+        Rows2 {
+            first,
+            second,
+            aligned: [],
+        }
     }
 
     fn first(self) -> R {
@@ -186,6 +193,7 @@ impl<R: Row> Pair for Rows2<R> {
         Rows2 {
             first: self.second,
             second: self.first,
+            aligned: [],
         }
     }
 
@@ -193,6 +201,7 @@ impl<R: Row> Pair for Rows2<R> {
         Rows2 {
             first: R::load(bytes, at),
             second: R::load(bytes, at + 16 * R::LANES),
+            aligned: [],
         }
     }
 
@@ -205,6 +214,7 @@ impl<R: Row> Pair for Rows2<R> {
         Rows2 {
             first: self.first.xor_row(other.first),
             second: self.second.xor_row(other.second),
+            aligned: [],
         }
     }
 
@@ -212,6 +222,7 @@ impl<R: Row> Pair for Rows2<R> {
         Rows2 {
             first: self.first.xor_row(row),
             second: self.second,
+            aligned: [],
         }
     }
 
@@ -219,6 +230,7 @@ impl<R: Row> Pair for Rows2<R> {
         Rows2 {
             first: self.first.and_row(other.first),
             second: self.second.and_row(other.second),
+            aligned: [],
         }
     }
 
