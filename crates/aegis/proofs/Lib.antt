@@ -6,7 +6,7 @@ mod Pieces
 pub mod Places
 pub mod Reading
 pub mod Sealed
-pub mod Limits
+mod Migrating
 pub mod Stepwise
 pub mod Streams
 pub mod Writing

@@ -2,18 +2,18 @@
 
 ghost use Rattle.std.specs.Prelude.{◌≡◌, ◌≢◌, ◌≤◌, ◌⊎◌, IfErr, IfOk, List, length, ℕ};
 ghost use Rattle.aegis_base.specs.declared.error.TheConstants.{MAX_AEAD_BYTES};
-ghost use Rattle.aegis_base.specs.Chunks.{texts};
-ghost use Rattle.aegis.specs.Calls.{MigratesTo, messages};
+ghost use Rattle.aegis.specs.Calls.{MigratesTo};
 ghost use Rattle.aegis.specs.Records.{AreRecords, IsFault};
 ghost use Rattle.aegis.specs.declared.record.version.Version.{Version};
 ghost use Rattle.aegis.specs.declared.record.version.Version.TheVariants.{Second};
 
 use crate::aegis256::Key;
 use crate::record::error::RecordError;
-use crate::record::open::open_records;
+use crate::record::open::version_of;
+use crate::record::position::RecordPosition;
 use crate::record::record_cipher::MAX_CONTEXT_BYTES;
-use crate::record::seal::seal_records;
-use aegis_base::slices;
+use crate::record::record_opener::RecordOpener;
+use crate::record::record_sealer::RecordSealer;
 use std::alloc::Allocator;
 
 /// Opens a stream of either version, and seals its messages again in version 2 under another prefix of the same key.
@@ -21,8 +21,8 @@ use std::alloc::Allocator;
 /// The two prefixes must differ, since a stream uses all nonces that begin with its prefix. The context has at most
 /// [`MAX_CONTEXT_BYTES`], and the stream at most `MAX_AEAD_BYTES`, so that the new one, which is as long, can be sealed.
 ///
-/// The error is that of [`open_records`] under the old prefix, or [`RecordError::OutOfMemory`]. The messages and the new stream
-/// are in memory together.
+/// The error is that of [`open_records`](crate::record::open_records) under the old prefix, or [`RecordError::OutOfMemory`]. One
+/// message at a time is in memory beside the new stream.
 pub fn migrate<A: Allocator + Copy>(
     alloc: A,
     key: &Key,
@@ -44,7 +44,27 @@ pub fn migrate<A: Allocator + Copy>(
         ⊎ IsFault key.now old_prefix.now context.now bytes.now e) }
     ensures length { IfOk result (λ stream. length stream.items ≡ length bytes.now) }
 {
-    let messages = open_records(alloc, key, old_prefix, context, bytes)?;
-    let slices = slices(alloc, &messages)?;
-    seal_records(alloc, key, new_prefix, context, &slices)
+    let Some((version, mut rest)) = version_of(bytes) else {
+        return Err(RecordError::Header);
+    };
+    let first = RecordPosition {
+        version,
+        number: 0,
+        before: 0,
+    };
+    let mut opener = RecordOpener::begin_at(alloc, key, old_prefix, context, first)?;
+    let mut stream = Vec::with_capacity(alloc, bytes.len())?;
+    let mut sealer = RecordSealer::new(alloc, key, new_prefix, context, &mut stream)?;
+    'records: loop {
+        let opened = opener.open_next(rest)?;
+        if opened.is_last {
+            if !opened.rest.is_empty() {
+                return Err(RecordError::Trailing);
+            }
+            sealer.seal_last(&opened.message, &mut stream)?;
+            return Ok(stream);
+        }
+        sealer.seal_next(&opened.message, &mut stream)?;
+        rest = opened.rest;
+    }
 }

@@ -1,5 +1,7 @@
 //! Records that are opened in the buffer that holds them.
 
+ghost use Rattle.std.specs.Prelude.{◌<◌, ◌≤◌};
+
 use crate::tests::records::streams::{CONTEXT, FIRST, KEY, MESSAGES, PREFIX, SECOND};
 use aegis::ERASED;
 use aegis::record::{OpenedInPlace, RecordError, RecordOpener};
