@@ -12,8 +12,8 @@
  *
  * As in libaegis:
  *
- * - A key has NAME_KEYBYTES bytes, a nonce NAME_NPUBBYTES; no parameter says so and nothing checks it. A tag
- *   has 16 or 32 bytes, by `maclen`.
+ * - A key has NAME_KEYBYTES bytes and a nonce NAME_NPUBBYTES; these lengths are not parameters, and nothing
+ *   checks them. A tag has 16 or 32 bytes, by `maclen`.
  * - Message and ciphertext may be the same buffer, and must not overlap otherwise.
  * - A decryption that is refused returns -1 and leaves zeros in the place of the message; if `m` is null, a
  *   decryption verifies the tag and writes nothing.
@@ -29,7 +29,7 @@
  * - An output buffer must not overlap the key, the nonce, the associated data or the tag.
  * - An update always writes as many bytes as it takes, so the last call of the form with `written` writes the
  *   tag alone, or no byte at all.
- * - A call on a state that has ended returns -1 with EINVAL. A state needs no alignment of its own, and may be
+ * - A call on a state that has ended returns -1 with EINVAL. A state needs no special alignment, and may be
  *   copied by `=`.
  * - After NAME_mac_final and NAME_mac_verify more input of a MAC may follow, without a reset.
  * - The calls are inline: there is no symbol of libaegis's names to link with, and no call to choose an

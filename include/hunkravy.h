@@ -22,14 +22,14 @@
  *
  * The library is proved, but nothing checks its C callers. In each call the caller must also ensure:
  *
- * - A pointer points to as many bytes as the length after it. The bytes are initialised, or only written by the
- *   call; if the pointer is not const they are writable. If the length is 0 the pointer may be null.
+ * - A pointer points to as many bytes as the length after it. They are initialised if the call reads them, and
+ *   writable if the pointer is not const. If the length is 0 the pointer may be null.
  * - No other thread reads or writes an output buffer or a state, or writes an input, until the call returns.
  *
  * PARAMETERS. All lengths are in bytes. `m` is a message, `c` a ciphertext, `mc` a buffer that holds one of
  * them before the call and the other after it, `ad` the associated data, `npub` the nonce, `k` the key, and
  * `mac` a tag or a MAC. On a wrong length or a wrong state a call returns the first code below that applies,
- * HUNKRAVY_WRONG_STATE before all others, and changes nothing. Only an init then writes zeros to its state.
+ * HUNKRAVY_WRONG_STATE before all others, and changes nothing, except that an init writes zeros to its state.
  *
  * CALLS. The six variants have the same calls, with these names in the place of NAME: aegis128l, aegis128x2,
  * aegis128x4, aegis256, aegis256x2, aegis256x4. Their comments are the same too, so it is enough to read those
