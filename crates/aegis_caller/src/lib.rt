@@ -18,20 +18,18 @@ pub mod session_token;
 pub mod stored_value;
 
 ghost use Rattle.std.specs.Prelude.{◌≡◌, ◌≤◌, IfOk, IsOk, List, OnErr, OnOk, length, replicate, ℕ};
-ghost use Rattle.aegis_base.specs.Variant.{Aegis128L, Aegis128X2, Aegis128X4, Aegis256, Aegis256X2, Aegis256X4};
+ghost use Rattle.aegis_base.specs.Variant.{Aegis128L, Aegis128X4, Aegis256};
 ghost use Rattle.aegis_base.specs.Message.{Opens, seal, keystream, xor_keystream};
 
 use aegis::aegis128l::{Aegis128L, Error, Tag};
-use aegis::aegis128x2::Aegis128X2;
 use aegis::aegis128x4::Aegis128X4;
 use aegis::aegis256::Aegis256;
 use aegis::aegis256x2::Aegis256X2;
-use aegis::aegis256x4::Aegis256X4;
 use aegis::{ERASED, MAX_AEAD_BYTES};
 use std::alloc::Allocator;
 
-/// Seals with Aegis128L and a tag of 32 bytes.
-pub fn seal_aegis128l(
+/// Seals a message in place, with a tag of 32 bytes.
+pub fn seal_in_place(
     key: &[u8; 16],
     nonce: &[u8; 16],
     associated_data: &[u8],
@@ -43,81 +41,6 @@ pub fn seal_aegis128l(
         ≡ seal Aegis128L 32 key.now nonce.now associated_data.now message.old }
 {
     Aegis128L::<32>::new(key, nonce).encrypt_in_place(message, associated_data)
-}
-
-/// Seals with Aegis128X2 and a tag of 32 bytes.
-pub fn seal_aegis128x2(
-    key: &[u8; 16],
-    nonce: &[u8; 16],
-    associated_data: &[u8],
-    message: &mut [u8],
-) -> [u8; 32]
-    requires message_within { length message.old ≤ MAX_AEAD_BYTES }
-    requires associated_data_within { length associated_data.now ≤ MAX_AEAD_BYTES }
-    ensures { (message.new, result)
-        ≡ seal Aegis128X2 32 key.now nonce.now associated_data.now message.old }
-{
-    Aegis128X2::<32>::new(key, nonce).encrypt_in_place(message, associated_data)
-}
-
-/// Seals with Aegis128X4 and a tag of 32 bytes.
-pub fn seal_aegis128x4(
-    key: &[u8; 16],
-    nonce: &[u8; 16],
-    associated_data: &[u8],
-    message: &mut [u8],
-) -> [u8; 32]
-    requires message_within { length message.old ≤ MAX_AEAD_BYTES }
-    requires associated_data_within { length associated_data.now ≤ MAX_AEAD_BYTES }
-    ensures { (message.new, result)
-        ≡ seal Aegis128X4 32 key.now nonce.now associated_data.now message.old }
-{
-    Aegis128X4::<32>::new(key, nonce).encrypt_in_place(message, associated_data)
-}
-
-/// Seals with Aegis256 and a tag of 32 bytes.
-pub fn seal_aegis256(
-    key: &[u8; 32],
-    nonce: &[u8; 32],
-    associated_data: &[u8],
-    message: &mut [u8],
-) -> [u8; 32]
-    requires message_within { length message.old ≤ MAX_AEAD_BYTES }
-    requires associated_data_within { length associated_data.now ≤ MAX_AEAD_BYTES }
-    ensures { (message.new, result)
-        ≡ seal Aegis256 32 key.now nonce.now associated_data.now message.old }
-{
-    Aegis256::<32>::new(key, nonce).encrypt_in_place(message, associated_data)
-}
-
-/// Seals with Aegis256X2 and a tag of 32 bytes.
-pub fn seal_aegis256x2(
-    key: &[u8; 32],
-    nonce: &[u8; 32],
-    associated_data: &[u8],
-    message: &mut [u8],
-) -> [u8; 32]
-    requires message_within { length message.old ≤ MAX_AEAD_BYTES }
-    requires associated_data_within { length associated_data.now ≤ MAX_AEAD_BYTES }
-    ensures { (message.new, result)
-        ≡ seal Aegis256X2 32 key.now nonce.now associated_data.now message.old }
-{
-    Aegis256X2::<32>::new(key, nonce).encrypt_in_place(message, associated_data)
-}
-
-/// Seals with Aegis256X4 and a tag of 32 bytes.
-pub fn seal_aegis256x4(
-    key: &[u8; 32],
-    nonce: &[u8; 32],
-    associated_data: &[u8],
-    message: &mut [u8],
-) -> [u8; 32]
-    requires message_within { length message.old ≤ MAX_AEAD_BYTES }
-    requires associated_data_within { length associated_data.now ≤ MAX_AEAD_BYTES }
-    ensures { (message.new, result)
-        ≡ seal Aegis256X4 32 key.now nonce.now associated_data.now message.old }
-{
-    Aegis256X4::<32>::new(key, nonce).encrypt_in_place(message, associated_data)
 }
 
 /// Opens in place. Returns `Ok` exactly if some message is sealed to the ciphertext and the tag, and the buffer is then

@@ -13,8 +13,8 @@ use crate::pass::{Pass, RateBlock};
 use aegis_base::LaneState;
 use std::alloc::{AllocError, Allocator};
 
-// A multiple of every rate. Of the lengths from 256 to 4096, this one is the fastest.
-const PIECE_BYTES: usize = 512;
+/// The length of a piece, in bytes: a multiple of every rate. Of the lengths from 256 to 4096, this one is the fastest.
+pub const PIECE_BYTES: usize = 512;
 
 // The length of the next piece, after `total` bytes and with `left` bytes left. Each piece but the last ends at a
 // multiple of `PIECE_BYTES`, so a rate block can be open only before the first one.

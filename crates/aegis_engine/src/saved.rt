@@ -18,11 +18,9 @@ use crate::mac::end_input;
 use crate::message::{absorb_more, begin, finish, open_more, seal_more};
 use crate::opening::has_tag;
 use crate::pass::{RateBlock, ZEROS};
+use crate::pieces::PIECE_BYTES;
 use crate::tag::{folded_tag, same_bytes};
 use aegis_base::{LaneState, MAX_AEAD_BYTES, SavedLanes, SavedRows};
-
-// A ciphertext is checked in copies of at most this many bytes, a multiple of every rate.
-const PIECE_BYTES: usize = 512;
 
 /// The mark of a run from its beginning to its end. Other bytes are unlikely to have it by chance.
 pub const BEGUN: u64 = 0x6165_6769_732d_7275;
@@ -128,7 +126,7 @@ impl SavedRun {
 
     // Takes in a piece of the ciphertext, which is opened in a copy.
     fn check_piece<S: SavedLanes>(&mut self, piece: &[u8])
-        requires short { length piece.now ≤ 512 }
+        requires short { length piece.now ≤ PIECE_BYTES }
         requires associated_data_within { self.old.data_bytes ≤ MAX_AEAD_BYTES }
         requires message_within { self.old.message_bytes + length piece.now ≤ MAX_AEAD_BYTES }
         ensures checked { HasChecked S.VARIANT self.old self.new piece.now }
