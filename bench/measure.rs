@@ -10,7 +10,8 @@ pub const SIZES: [usize; 4] = [64, 1024, 16 * 1024, 1024 * 1024];
 /// The size of the keystreams.
 pub const STREAM_SIZE: usize = 16 * 1024;
 
-const TURNS: usize = 100;
+/// A quarter of them at each of four places of the stack.
+const TURNS: usize = 200;
 /// A turn works on this many bytes, in as many messages as that makes, and on one message at least.
 const TURN_BYTES: usize = 32 * 1024;
 const TAG_BYTES: usize = 16;
@@ -109,6 +110,25 @@ fn turn(calls: &Calls, messages: &mut Messages, best: &mut Best) {
     }
 }
 
+#[inline(never)]
+fn with_room<const BYTES: usize>(work: impl FnOnce()) {
+    let room = [0u8; BYTES];
+    black_box(&room);
+    work();
+    black_box(&room);
+}
+
+/// Works at one of four places of the stack, 16 bytes apart: how fast a loop is depends on where its vectors on the stack
+/// lie in the lines of the cache.
+fn at_place(place: usize, work: impl FnOnce()) {
+    match place % 4 {
+        0 => with_room::<16>(work),
+        1 => with_room::<32>(work),
+        2 => with_room::<48>(work),
+        _ => with_room::<64>(work),
+    }
+}
+
 /// One variant at one size.
 struct Race {
     variant: &'static str,
@@ -130,9 +150,9 @@ impl Race {
         }
     }
 
-    fn turn_of_each(&mut self) {
+    fn turn_of_each(&mut self, place: usize) {
         for (calls, best) in self.contenders.iter().zip(&mut self.best) {
-            turn(calls, &mut self.messages, best);
+            at_place(place, || turn(calls, &mut self.messages, best));
         }
     }
 
@@ -166,8 +186,8 @@ impl Race {
 pub fn measure(variants: &[Variant]) -> Vec<Line> {
     let race = |variant| SIZES.map(|size| Race::new(variant, size));
     let mut races: Vec<Race> = variants.iter().flat_map(race).collect();
-    for _turn in 0..TURNS {
-        races.iter_mut().for_each(Race::turn_of_each);
+    for turn in 0..TURNS {
+        races.iter_mut().for_each(|race| race.turn_of_each(turn));
     }
     races.iter().flat_map(Race::lines).collect()
 }

@@ -3,7 +3,8 @@
  *
  * libsodium's AEGIS is measured before sodium_init, where it runs in software, and after it, where it runs by the
  * processor's AES instructions if there are any; its ChaCha20-Poly1305 after it. The contenders take turns, and the best
- * turn of each counts. Each call does all of its work on one message with no associated data; AEGIS makes tags of 32 bytes.
+ * turn of each counts. How fast a loop is depends on where its vectors on the stack lie in the lines of the cache, so the
+ * turns are made at four places of the stack. Each call does all of its work on one message with no associated data; AEGIS makes tags of 32 bytes.
  */
 #include "hunkravy.h"
 
@@ -13,7 +14,9 @@
 #include <string.h>
 #include <time.h>
 
-#define TURNS 60
+/* The turns, a quarter of them at each of four places of the stack, which are 16 bytes apart. */
+#define TURNS 120
+#define PLACES 4
 #define TURN_BYTES (64 * 1024)
 #define LONGEST (1024 * 1024)
 
@@ -73,25 +76,29 @@ static double now(void)
 }
 
 /* The speed of one turn: as many messages as TURN_BYTES make, and one at least, after one that is not timed. */
-static double turn(const struct contender *contender, size_t length)
+static double turn(const struct contender *contender, size_t length, size_t place)
 {
+    volatile uint8_t room[16 * (place + 1)];
     size_t count = length < TURN_BYTES ? TURN_BYTES / length : 1;
-    double begin;
+    double begin, speed;
 
+    room[place] = 0;
     contender->seal(length);
     begin = now();
     for (size_t i = 0; i < count; i++) {
         contender->seal(length);
     }
-    return (double)(count * length) / (now() - begin) / 1e6;
+    speed = (double)(count * length) / (now() - begin) / 1e6;
+    expect(room[place] == 0);
+    return speed;
 }
 
 static void measure(struct contender *contenders, size_t count)
 {
     for (size_t size = 0; size < SIZE_COUNT; size++) {
-        for (int i = 0; i < TURNS; i++) {
+        for (size_t i = 0; i < TURNS; i++) {
             for (size_t c = 0; c < count; c++) {
-                double speed = turn(&contenders[c], SIZES[size]);
+                double speed = turn(&contenders[c], SIZES[size], i % PLACES);
                 if (speed > contenders[c].best[size]) {
                     contenders[c].best[size] = speed;
                 }

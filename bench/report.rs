@@ -97,8 +97,9 @@ which makes the four faster, and the one mostly slower.
 
 Each call does all of its work on one message with no associated data, from the key to the tag of 16 bytes, in place.
 Before the measurement all four give the same ciphertexts, tags of both lengths, opened messages, refusals and
-keystreams at each size, and the known answers. They take turns, a hundred each, and the best turn counts. A turn is
-32 KiB in messages of one size, or one message. MB are 10^6 bytes. If a ratio is above 1, the library is faster.
+keystreams at each size, and the known answers. They take turns, 50 each at each of four places of the stack, and the
+best turn counts. A turn is 32 KiB in messages of one size, or one message. MB are 10^6 bytes. If a ratio is above 1,
+the library is faster.
 
 ![The library's speed in sealing, as a multiple of the tables'](results.svg)
 

@@ -87,6 +87,33 @@ fn opening_stops_where_a_write_fails(rt: HostRuntime) -> Result<(), Fail> {
     Ok(())
 }
 
+// A writer that takes all bytes, and whose flush fails.
+fn without_flush(rt: &HostRuntime) -> Narrow {
+    Narrow {
+        taken: Vec::new(rt.alloc()),
+        room: usize::MAX,
+        error: None,
+        flushes: false,
+    }
+}
+
+// A flush that fails is reported, though all bytes were written.
+#[test]
+fn a_failed_flush_is_reported(rt: HostRuntime) -> Result<(), Fail> {
+    let whole = sealed(rt.alloc(), TEXT)?;
+    let mut file = without_flush(&rt);
+    let mut input = TEXT;
+    let result = seal_stream(rt.alloc(), &KEY, &PREFIX, &CONTEXT, &mut input, &mut file);
+    assert!(rt; matches!(result, Err(FileError::Write(_))));
+    assert_eq!(rt; file.taken.as_slice(), whole.as_slice());
+    let mut text = without_flush(&rt);
+    let mut input = whole.as_slice();
+    let result = open_stream(rt.alloc(), &KEY, &CONTEXT, &mut input, &mut text);
+    assert!(rt; matches!(result, Err(FileError::Write(_))));
+    assert_eq!(rt; text.taken.as_slice(), TEXT);
+    Ok(())
+}
+
 // With each request refused in turn, a file is sealed and opened as with enough memory, or the error is `OutOfMemory`.
 #[test]
 fn memory_is_refused_in_turn(rt: HostRuntime) -> Result<(), Fail> {
