@@ -4,7 +4,8 @@
  * libsodium's AEGIS is measured before sodium_init, where it runs in software, and after it, where it runs by the
  * processor's AES instructions if there are any; its ChaCha20-Poly1305 after it. The contenders take turns, and the best
  * turn of each counts. How fast a loop is depends on where its vectors on the stack lie in the lines of the cache, so the
- * turns are made at four places of the stack. Each call does all of its work on one message with no associated data; AEGIS makes tags of 32 bytes.
+ * turns are made at four places of the stack. Each call does all of its work on one message with no associated data;
+ * AEGIS makes tags of 32 bytes.
  */
 #include "hunkravy.h"
 
