@@ -123,7 +123,7 @@ fn open_whole<S: LaneState, V: aegis_base::Names, const KEY_BYTES: usize, const 
     chunks: &[&[u8]],
     tag: &[u8; TAG_BYTES],
     message: &mut [u8],
-) -> Result<usize, Error>
+) -> Result<(), Error>
     requires associated_data { length associated_data.now ≤ MAX_AEAD_BYTES }
     requires ciphertext { length (joined chunks.now) ≤ MAX_AEAD_BYTES }
     requires lengths { length message.old ≡ length (joined chunks.now) }
@@ -136,7 +136,8 @@ fn open_whole<S: LaneState, V: aegis_base::Names, const KEY_BYTES: usize, const 
         → IsOk result }
     ensures error { IfErr result (λ e. e ≡ Error.InvalidTag) }
 {
-    cipher.open_chunks_len(associated_data, chunks, tag, message)
+    cipher.open_chunks_len(associated_data, chunks, tag, message)?;
+    Ok(())
 }
 
 impl AnyCipher {
@@ -208,16 +209,16 @@ impl AnyCipher {
     }
 
     /// Opens a ciphertext that is a list of chunks. Writes the message into a destination that must be as long as all
-    /// chunks together, and returns that length in bytes.
+    /// chunks together.
     ///
     /// The only error is [`Error::InvalidTag`], if no message is sealed to the ciphertext and the tag.
-    pub fn open_chunks_len<const TAG_BYTES: usize>(
+    pub fn open_chunks<const TAG_BYTES: usize>(
         &self,
         associated_data: &[u8],
         chunks: &[&[u8]],
         tag: &[u8; TAG_BYTES],
         message: &mut [u8],
-    ) -> Result<usize, Error>
+    ) -> Result<(), Error>
         requires tag { IsTagLength TAG_BYTES }
         requires associated_data { length associated_data.now ≤ MAX_AEAD_BYTES }
         requires ciphertext { length (joined chunks.now) ≤ MAX_AEAD_BYTES }

@@ -93,7 +93,7 @@ pub fn open<A: Allocator>(
         Way::InPlace => calls::decrypt_in_place(cipher, out, tag, &[]).is_ok(),
         Way::Vector => calls::decrypt(cipher, alloc, ciphertext, tag, &[]).is_ok(),
         Way::Chunks => open_in_chunks(cipher, ciphertext, tag, out),
-        Way::List => cipher.open_chunks_len(&[], &[ciphertext], tag, out).is_ok(),
+        Way::List => cipher.open_chunks(&[], &[ciphertext], tag, out).is_ok(),
     }
 }
 
