@@ -123,7 +123,7 @@ fn open_whole<S: LaneState, V: aegis_base::Names, const KEY_BYTES: usize, const 
     chunks: &[&[u8]],
     tag: &[u8; TAG_BYTES],
     message: &mut [u8],
-) -> Result<(), Error>
+) -> Result<usize, Error>
     requires associated_data { length associated_data.now ≤ MAX_AEAD_BYTES }
     requires ciphertext { length (joined chunks.now) ≤ MAX_AEAD_BYTES }
     requires lengths { length message.old ≡ length (joined chunks.now) }
@@ -136,8 +136,7 @@ fn open_whole<S: LaneState, V: aegis_base::Names, const KEY_BYTES: usize, const 
         → IsOk result }
     ensures error { IfErr result (λ e. e ≡ Error.InvalidTag) }
 {
-    cipher.open_chunks_len(associated_data, chunks, tag, message)?;
-    Ok(())
+    cipher.open_chunks_len(associated_data, chunks, tag, message)
 }
 
 impl AnyCipher {
@@ -233,7 +232,8 @@ impl AnyCipher {
     {
         with_cipher!(self, TAG_BYTES, cipher => {
             open_whole(&cipher, associated_data, chunks, tag, message)
-        })
+        })?;
+        Ok(())
     }
 
     /// Overwrites a buffer with the keystream.
