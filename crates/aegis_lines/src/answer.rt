@@ -161,10 +161,10 @@ fn open_by_tag<A: Allocator + Copy, const TAG_BYTES: usize>(
 {
     let chunks = ciphertext.chunks(alloc)?;
     let mut buffer = vec![in alloc; 0u8; ciphertext.len]?;
-    match cipher.open_chunks(&associated_data.bytes, &chunks, tag, &mut buffer) {
-        Ok(()) => shown_message(alloc, &buffer),
-        Err(_) => Vec::from_slice(alloc, b"invalid tag"),
-    }
+    let Ok(()) = cipher.open_chunks(&associated_data.bytes, &chunks, tag, &mut buffer) else {
+        return Vec::from_slice(alloc, b"invalid tag");
+    };
+    shown_message(alloc, &buffer)
 }
 
 // A message that was opened, as it is printed.
