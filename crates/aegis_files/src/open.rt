@@ -12,12 +12,11 @@ use crate::error::FileError;
 use crate::reading::{append, fill};
 use crate::write::{flush, write};
 use aegis::aegis256::Key;
-use aegis::record::{MAX_CONTEXT_BYTES, MAX_MESSAGE_BYTES, RecordError, RecordOpener};
+use aegis::record::{
+    MAX_CONTEXT_BYTES, MAX_MESSAGE_BYTES, RECORD_HEAD_BYTES, RecordError, RecordOpener,
+};
 use std::alloc::Allocator;
 use std::io::{Read, Write};
-
-/// The length of a record's flag and length field together, in bytes.
-const HEAD_BYTES: usize = 5;
 
 // Reads the next record, or the bytes that there are of it.
 fn read_record<R: Read, A: Allocator + Copy>(
@@ -34,13 +33,13 @@ fn read_record<R: Read, A: Allocator + Copy>(
     ensures refused { IfErr result
         (λ e. RefusesNext opener.now (R.remaining input.old) (R.remaining input.new) e) }
 {
-    let mut head = [0; HEAD_BYTES];
+    let mut head = [0; RECORD_HEAD_BYTES];
     let count = fill(input, &mut head)?;
     bytes.clear();
     bytes.extend_from_slice(&head[..count])?;
-    if count == HEAD_BYTES {
+    if count == RECORD_HEAD_BYTES {
         let len = opener.record_len(&head)?;
-        append(input, bytes, len - HEAD_BYTES)?;
+        append(input, bytes, len - RECORD_HEAD_BYTES)?;
     }
     Ok(())
 }

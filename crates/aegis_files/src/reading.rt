@@ -1,11 +1,11 @@
 //! Reading until a buffer is full.
 
-ghost use Rattle.std.specs.Prelude.{◌≡◌, ◌<◌, ◌≤◌, ◌⊎◌, IfErr, IfOk, OnOk, length, take};
+ghost use Rattle.std.specs.Prelude.{◌≡◌, ◌+◌, ◌<◌, ◌≤◌, ◌⊎◌, IfErr, IfOk, OnOk, length, take};
 ghost use Rattle.std.specs.Io.KnownBytes.{Consumes, IsAtEnd};
 ghost use Rattle.aegis_files.specs.Reading.{AppendsRead, IsReadError};
 
 use crate::error::FileError;
-use aegis::record::RecordError;
+use aegis::record::{MAX_MESSAGE_BYTES, RECORD_BYTES, RecordError};
 use std::alloc::Allocator;
 use std::io;
 use std::io::{ErrorKind, Read};
@@ -43,7 +43,7 @@ pub fn append<R: Read, A: Allocator>(
     buffer: &mut Vec<u8, A>,
     count: usize,
 ) -> Result<(), FileError>
-    requires { count ≤ 16777253 }
+    requires { count ≤ RECORD_BYTES + MAX_MESSAGE_BYTES }
     ensures ok { OnOk result (AppendsRead buffer.old.items buffer.new.items count
         (R.remaining input.old) (R.remaining input.new)) }
     ensures err { IfErr result

@@ -7,14 +7,16 @@ ghost use Rattle.aegis.specs.declared.record.version.Version.TheVariants.{Second
 
 use crate::{STREAM_BYTES, Times};
 use aegis::aegis256::Aegis256;
-use aegis::record::{RecordOpener, RecordSealer, open_records, records_len, seal_records};
+use aegis::record::{
+    RECORD_BYTES, RecordOpener, RecordSealer, open_records, records_len, seal_records,
+};
 use std::alloc::{AllocError, Allocator};
 use std::io;
 use std::rt::Runtime;
 use std::time::{Duration, Instant};
 
 // The length of a record's message in bytes. The last one may be shorter.
-const RECORD_BYTES: usize = 65536;
+const PIECE_BYTES: usize = 65536;
 
 const KEY: [u8; 32] = [7; 32];
 
@@ -27,8 +29,8 @@ fn records_of<A: Allocator>(alloc: A, message: &[u8]) -> Result<Vec<&[u8], A>, A
     ensures { IfOk result (λ records. AreWithin Second (texts records.items)) }
 {
     let mut records = Vec::new(alloc);
-    for record in message.chunks(RECORD_BYTES) {
-        if record.len() <= RECORD_BYTES {
+    for record in message.chunks(PIECE_BYTES) {
+        if record.len() <= PIECE_BYTES {
             records.push(record)?;
         }
     }
@@ -83,15 +85,12 @@ pub fn turn<R: Runtime, A: Allocator + Copy>(
     }
 }
 
-// The length of a record without its message, in bytes.
-const FRAME_BYTES: u64 = 37;
-
 // Seals a message a record at a time, in a vector that holds one record. Returns `None` if memory runs out.
 fn seal_by_steps<A: Allocator + Copy>(alloc: A, message: &[u8]) -> Option<()> {
-    let mut record = Vec::with_capacity(alloc, RECORD_BYTES + FRAME_BYTES as usize).ok()?;
+    let mut record = Vec::with_capacity(alloc, PIECE_BYTES + RECORD_BYTES as usize).ok()?;
     let mut sealer = RecordSealer::new(alloc, &KEY, &PREFIX, &[], &mut record).ok()?;
-    for piece in message.chunks(RECORD_BYTES) {
-        if piece.len() > RECORD_BYTES || sealer.remaining() < FRAME_BYTES + piece.len() as u64 {
+    for piece in message.chunks(PIECE_BYTES) {
+        if piece.len() > PIECE_BYTES || sealer.remaining() < RECORD_BYTES + piece.len() as u64 {
             return None;
         }
         record.clear();

@@ -2,7 +2,7 @@
 
 use crate::command::Place;
 use crate::failure::Failure;
-use aegis::record::{RECORD_BYTES, RecordError, RecordOpener};
+use aegis::record::{RECORD_BYTES, RECORD_HEAD_BYTES, RecordError, RecordOpener};
 use aegis_files::{FileError, fill};
 use std::alloc::Global;
 use std::fs::File;
@@ -44,7 +44,7 @@ fn outline_of<R: Read>(alloc: Global, input: &mut R) -> Result<Outline, FileErro
         text_bytes: 0,
     };
     for _ in 0..u64::MAX {
-        let mut head = [0; 5];
+        let mut head = [0; RECORD_HEAD_BYTES];
         part(input, &mut head)?;
         let length = lengths.record_len(&head)?;
         skip(input, length - head.len())?;

@@ -178,8 +178,8 @@ impl<'a, A: Allocator + Copy> RecordOpener<'a, A> {
     ///
     /// The bytes are not authenticated. The error is [`RecordError::Flag`] or [`RecordError::TooLong`].
     pub fn record_len(&self, head: &[u8; 5]) -> Result<usize, RecordError>
-        ensures least { IfOk result (λ n. 37 ≤ n) }
-        ensures most { IfOk result (λ n. n ≤ 16777253) }
+        ensures least { IfOk result (λ n. RECORD_BYTES ≤ n) }
+        ensures most { IfOk result (λ n. n ≤ RECORD_BYTES + MAX_MESSAGE_BYTES) }
         ensures len { IfOk result (λ n. (flag : ℕ) (m body rest : List ℕ)
             → length m ≤ MAX_MESSAGE_BYTES
             → head.now ++ body ≡ record_of self.now flag m ++ rest
