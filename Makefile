@@ -24,16 +24,28 @@ run: $(OUT)/line-program
 		rt run; \
 	fi
 
-# The line program's crates, two side by side if neither waits for the other; each is named once it is proved.
+# The line program's crates and what each waits for. The two families are proved beside the engine.
 RUN_CRATES = aegis_aes aegis_base aegis_128 aegis_256 aegis_engine aegis aegis_variants aegis_lines aegis_vectors
-RUN_SOURCES = $(shell find $(addprefix crates/,$(RUN_CRATES)) -name out -prune -o -type f -print)
+PROVE = $(RUN_CRATES:%=prove-%)
+.PHONY: $(PROVE)
+prove-aegis_base: prove-aegis_aes
+prove-aegis_128 prove-aegis_256 prove-aegis_engine: prove-aegis_base
+prove-aegis: prove-aegis_128 prove-aegis_256 prove-aegis_engine
+prove-aegis_variants: prove-aegis
+prove-aegis_lines: prove-aegis_variants
+prove-aegis_vectors: prove-aegis_lines
+prove-aegis_128 prove-aegis_256: RUN_JOBS = 1
 
-$(OUT)/line-program: $(RUN_SOURCES) crates.txt | $(OUT)
-	@echo 'proving the $(words $(RUN_CRATES)) crates of the line program' >&2
-	@cd crates/aegis_vectors && rt all check | tee $(abspath $@).log | { n=0; \
-	while IFS= read -r line; do case "$$line" in "== aegis"*) n=$$((n + 1)); \
-		echo "$$n of $(words $(RUN_CRATES)): $${line#== } is proved" >&2;; esac; done; } || \
-	{ cat $(abspath $@).log; exit 1; }
+# The processors that one proof of the line program uses.
+RUN_JOBS = $(CHECKS)
+
+$(PROVE): prove-%: | $(OUT)
+	@echo 'proving $*' >&2
+	@cd crates/$* && rt $(if $(filter %_vectors,$*),check,lib) --jobs $(RUN_JOBS) > $(abspath $(OUT))/$@.log 2>&1 || \
+		{ cat $(abspath $(OUT))/$@.log; exit 1; }
+
+$(OUT)/line-program: $(shell find $(RUN_CRATES:%=crates/%) -name out -prune -o -type f -print) crates.txt | $(OUT)
+	@$(MAKE) --no-print-directory -j3 $(PROVE)
 	@touch $@
 
 # The merge gate: the pages, every proof from nothing, the must-fail edits, the tests and the programs.
