@@ -24,28 +24,15 @@ run: $(OUT)/line-program
 		rt run; \
 	fi
 
-# The line program's crates and what each waits for. The two families are proved beside the engine.
+# The line program's crates, lowest first. They are proved one after the other, since rt locks the crates below its own.
 RUN_CRATES = aegis_aes aegis_base aegis_128 aegis_256 aegis_engine aegis aegis_variants aegis_lines aegis_vectors
-PROVE = $(RUN_CRATES:%=prove-%)
-.PHONY: $(PROVE)
-prove-aegis_base: prove-aegis_aes
-prove-aegis_128 prove-aegis_256 prove-aegis_engine: prove-aegis_base
-prove-aegis: prove-aegis_128 prove-aegis_256 prove-aegis_engine
-prove-aegis_variants: prove-aegis
-prove-aegis_lines: prove-aegis_variants
-prove-aegis_vectors: prove-aegis_lines
-prove-aegis_128 prove-aegis_256: RUN_JOBS = 1
-
-# The processors that one proof of the line program uses.
-RUN_JOBS = $(CHECKS)
-
-$(PROVE): prove-%: | $(OUT)
-	@echo 'proving $*' >&2
-	@cd crates/$* && rt $(if $(filter %_vectors,$*),check,lib) --jobs $(RUN_JOBS) > $(abspath $(OUT))/$@.log 2>&1 || \
-		{ cat $(abspath $(OUT))/$@.log; exit 1; }
 
 $(OUT)/line-program: $(shell find $(RUN_CRATES:%=crates/%) -name out -prune -o -type f -print) crates.txt | $(OUT)
-	@$(MAKE) --no-print-directory -j3 $(PROVE)
+	@number=0; for crate in $(RUN_CRATES); do \
+		number=$$((number + 1)); echo "proving $$crate ($$number of $(words $(RUN_CRATES)))" >&2; \
+		(cd crates/$$crate && if [ -e src/main.rt ]; then rt check --jobs $(CHECKS); else rt lib --jobs $(CHECKS); fi) \
+			> $(OUT)/proof.log 2>&1 || { cat $(OUT)/proof.log; exit 1; }; \
+	done
 	@touch $@
 
 # The merge gate: the pages, every proof from nothing, the must-fail edits, the tests and the programs.

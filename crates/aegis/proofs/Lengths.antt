@@ -2,13 +2,11 @@
 use denote.Ref.{Bor}
 use Rattle.std.proofs.Common.{◌≡◌, ℕ, zero, suc, ◌+◌, ◌<◌, ◌≤◌, List, [], ◌∷◌, ◌++◌, length, take, slice_index_or, add-one, refl, ap, arith}
 use Rattle.std.specs.Int.{w32, to_le_bytes}
-use Rattle.std.specs.Prelude.{Err, IfOk, Ok, Result, Vec}
-use Rattle.aegis.specs.declared.record.error.RecordError.{RecordError}
 use Rattle.std.proofs.lemmas.List.{length-append}
 use Rattle.aegis.specs.declared.record.version.Version.{Version}
 use Rattle.aegis.specs.declared.record.version.Version.TheVariants.{First, Second}
 use Rattle.aegis_base.specs.Chunks.{texts}
-use Rattle.aegis.specs.RecordStream.{IsSealing, IsRecordStream, Sealing, flag_before, frames, frames_length, header, records_length, total}
+use Rattle.aegis.specs.RecordStream.{IsSealing, IsRecordStream, Sealing, flag_before, frames, frames_length, header, records_length}
 
 header_long : (v : Version) → length (header v) ≡ 4
 header_long First = refl
@@ -34,10 +32,6 @@ length-stream sealing is v ms bytes p =
     let four = header_long v in
     omega (arith, length-append (header v) (frames sealing v 1 0 0 ms))
 
-pub total-below : (ms : List (List ℕ)) → total ms ≤ frames_length ms
-total-below [] = omega arith
-total-below (m ∷ ms) = let rest = total-below ms in omega arith
-
 -- one more message
 frames_length-next : (slices : List (Bor (List ℕ))) (i : ℕ) (d : Bor (List ℕ)) → i < length slices
     → frames_length (texts (take (suc i) slices)) ≡ frames_length (texts (take i slices)) + (37 + length (slice_index_or slices i d).now)
@@ -54,9 +48,3 @@ frames_length-within [] zero = omega arith
 frames_length-within [] (suc i) = omega arith
 frames_length-within (m ∷ ms) zero = omega arith
 frames_length-within (m ∷ ms) (suc i) = let rest = frames_length-within ms i in omega arith
-
--- a stream that was sealed
-pub sealed_length : {A : Type 0} (sealing : Sealing) → IsSealing sealing → (v : Version) (ms : List (List ℕ)) (r : Result (Vec ℕ A) RecordError)
-    → IfOk r (λ stream. IsRecordStream sealing v ms stream.items) → IfOk r (λ stream. length stream.items ≡ records_length ms)
-sealed_length sealing is v ms (Ok stream) p = length-stream sealing is v ms stream.items p
-sealed_length sealing is v ms (Err e) p = tt

@@ -2,9 +2,10 @@
 
 ghost use Rattle.std.specs.Prelude.{◌≡◌, ◌+◌, ◌-◌, ◌≤◌, ◌++◌, ◌∷◌, [], IfErr, IfOk, List, OnErr, OnOk, false, length, ℕ};
 ghost use Rattle.aegis_base.specs.declared.error.TheConstants.{MAX_AEAD_BYTES};
+ghost use Rattle.aegis.specs.Calls.{sealing_of};
 ghost use Rattle.aegis.specs.Progress.{Begun, after, first_position, position_of, progress_at, record_of, taken};
 ghost use Rattle.aegis.specs.Records.{AreRecords};
-ghost use Rattle.aegis.specs.RecordStream.{header};
+ghost use Rattle.aegis.specs.RecordStream.{frame, header, limit};
 ghost use Rattle.aegis.specs.declared.record.version.Version.TheVariants.{Second};
 
 use crate::aegis256::Key;
@@ -12,11 +13,60 @@ use crate::record::error::RecordError;
 use crate::record::length::{HEADER_BYTES, RECORD_BYTES};
 use crate::record::position::RecordPosition;
 use crate::record::record_cipher::{MAX_CONTEXT_BYTES, RecordCipher, RecordPlace};
-use crate::record::seal::{WRITTEN, seal_record};
-use crate::record::version::MAX_MESSAGE_BYTES;
+use crate::record::version::{MAX_MESSAGE_BYTES, Version};
 use aegis_base::MAX_AEAD_BYTES;
 use std::alloc::Allocator;
 use std::marker::Model;
+
+// The version in which streams are sealed.
+const WRITTEN: Version = Version::Second;
+
+// Appends a record to `out`. After an error `out` may have a part of it.
+fn append_record<A: Allocator>(
+    out: &mut Vec<u8, A>,
+    ad: &mut Vec<u8, A>,
+    cipher: &RecordCipher<'_>,
+    place: RecordPlace,
+    message: &[u8],
+) -> Result<(), RecordError>
+    requires context { length cipher.now.context.now ≤ MAX_CONTEXT_BYTES }
+    requires within { length message.now ≤ limit place.version }
+    ensures ok { OnOk result (out.new.items
+        ≡ out.old.items
+        ++ frame (sealing_of cipher.now) place.version place.number place.before place.flag
+        message.now) }
+    ensures err { IfErr result (λ e. e ≡ RecordError.OutOfMemory) }
+    ensures kept { OnErr result ((part : List ℕ) × (out.new.items ≡ out.old.items ++ part)) }
+{
+    out.push(place.flag)?;
+    out.extend_from_slice(&(message.len() as u32).to_le_bytes())?;
+    cipher.seal(out, ad, place, message)
+}
+
+// Appends a record to `out`, which is as it was after an error.
+fn seal_record<A: Allocator>(
+    out: &mut Vec<u8, A>,
+    ad: &mut Vec<u8, A>,
+    cipher: &RecordCipher<'_>,
+    place: RecordPlace,
+    message: &[u8],
+) -> Result<(), RecordError>
+    requires context { length cipher.now.context.now ≤ MAX_CONTEXT_BYTES }
+    requires within { length message.now ≤ limit place.version }
+    ensures ok { OnOk result (out.new.items
+        ≡ out.old.items
+        ++ frame (sealing_of cipher.now) place.version place.number place.before place.flag
+        message.now) }
+    ensures err { IfErr result (λ e. e ≡ RecordError.OutOfMemory) }
+    ensures kept { OnErr result (out.new.items ≡ out.old.items) }
+{
+    let start = out.len();
+    let appended = append_record(out, ad, cipher, place, message);
+    if appended.is_err() {
+        out.truncate(start);
+    }
+    appended
+}
 
 /// Seals a stream a record at a time, in version 2.
 ///
@@ -143,18 +193,10 @@ impl<'a, A: Allocator + Copy> RecordSealer<'a, A> {
             before: self.before,
             flag: 0,
         };
-        let start = out.len();
-        match seal_record(out, &mut self.ad, &self.cipher, place, message) {
-            Ok(()) => {
-                self.number += 1;
-                self.before += message.len() as u64;
-                Ok(())
-            }
-            Err(error) => {
-                out.truncate(start);
-                Err(error)
-            }
-        }
+        seal_record(out, &mut self.ad, &self.cipher, place, message)?;
+        self.number += 1;
+        self.before += message.len() as u64;
+        Ok(())
     }
 
     /// Appends the record of the last message to `out`, and ends the stream: the sealer is taken by value, so no record can
@@ -186,13 +228,7 @@ impl<'a, A: Allocator + Copy> RecordSealer<'a, A> {
             before,
             flag: 1,
         };
-        let start = out.len();
-        match seal_record(out, &mut ad, &cipher, place, message) {
-            Ok(()) => Ok(()),
-            Err(error) => {
-                out.truncate(start);
-                Err(error)
-            }
-        }
+        seal_record(out, &mut ad, &cipher, place, message)?;
+        Ok(())
     }
 }

@@ -1,11 +1,67 @@
+use Rattle.std.proofs.Common.{◌≡◌, ◌-◌, ◌++◌, ◌∙◌, [], List, add-one, ap, arith, length, subst, take, ℕ}
 use Rattle.aegis_base.specs.Chunks.{texts}
-use Rattle.aegis.specs.Records.{sealed}
-use Rattle.aegis.proofs.Lengths.{sealed_length}
+use Rattle.aegis.specs.Progress.{Begun}
+use Rattle.aegis.specs.Records.{AreRecords, sealed}
+use Rattle.aegis.specs.RecordStream.{frames_length, header}
+use Rattle.aegis.specs.declared.record.version.Version.TheVariants.{Second}
+use Rattle.aegis.proofs.Lengths.{length-stream}
 use Rattle.aegis.proofs.Sealed.{sealed-is}
+use Rattle.aegis.proofs.Writing.{drop_texts, take_texts, with_the_last, within_at}
 use Rattle.aegis.proofs.record.seal.seal_records.Goals as goal
+
+pub records-init : goal.records-init
+records-init g c =
+    let made = c.in_ok-sealer.ensures.appended ∙ ap (λ (l : List ℕ). l ++ header Second) c.in_ok-stream.ensures.items in
+    let four = c.in_ok-sealer.ensures.taken in
+    record { sealed = rw made c.in_ok-sealer.ensures.begun; counted = omega arith }
+
+pub seal_next-requires-clause-within : goal.seal_next-requires-clause-within
+seal_next-requires-clause-within g c =
+    let test = c.records-test.true in
+    within_at Second c.args.messages.now c.records.number _ (omega arith) c.requires.within
+
+pub seal_next-requires-clause-fits : goal.seal_next-requires-clause-fits
+seal_next-requires-clause-fits g c =
+    let test = c.records-test.true in
+    let sizes = ap frames_length (drop_texts c.args.messages.now c.records.number (record { ref_ptr = (0, 0); now = [] }) (omega arith)) in
+    let counted = c.records.invariant.counted in
+    let fits = c.requires.fits in
+    omega arith
+
+pub records-preserved : goal.records-preserved
+records-preserved g c =
+    let a = c.args in
+    let k = c.records.number in
+    let test = c.records-test.true in
+    let sizes = ap frames_length (drop_texts a.messages.now k (record { ref_ptr = (0, 0); now = [] }) (omega arith)) in
+    let counted = c.records.invariant.counted in
+    let taken_more = c.in_ok-seal_next.ensures.taken in
+    record {
+      sealed = rw (add-one, take_texts a.messages.now k (record { ref_ptr = (0, 0); now = [] }) (omega arith), c.in_ok-seal_next.ensures.appended)
+          (c.in_ok-seal_next.ensures.begun a.key.now a.prefix.now a.context.now (take k (texts a.messages.now)) c.records.stream.items c.records.invariant.sealed);
+      counted = rw add-one (omega arith);
+    }
+
+pub seal_last-requires : goal.seal_last-requires
+seal_last-requires g c =
+    let some = c.requires.some in
+    record { within = within_at Second c.args.messages.now (length c.args.messages.now - 1) _ (omega arith) c.requires.within }
+
+pub returns-clause-sealed : goal.returns-clause-sealed
+returns-clause-sealed g c =
+    let a = c.args in
+    let ms = a.messages.now in
+    let some = c.requires.some in
+    let test = c.records-test.false in
+    let end = c.records.auto.number-end in
+    let at : c.records.number ≡ length ms - 1 = omega arith in
+    let begun = subst (λ (k : ℕ). Begun c.records.sealer a.key.now a.prefix.now a.context.now (take k (texts ms)) c.records.stream.items) at c.records.invariant.sealed in
+    let is = c.in_ok-seal_last.ensures.whole a.key.now a.prefix.now a.context.now (take (length ms - 1) (texts ms)) c.records.stream.items begun in
+    let all = with_the_last ms (length ms - 1) (record { ref_ptr = (0, 0); now = [] }) (omega arith) in
+    subst (λ (l : List (List ℕ)). AreRecords Second a.key.now a.prefix.now a.context.now l c.seal_last.new.out.items) all (rw c.in_ok-seal_last.ensures.appended is)
 
 pub returns-clause-length : goal.returns-clause-length
 returns-clause-length g c =
     let a = c.args in
-    sealed_length (sealed a.key.now a.prefix.now a.context.now) (sealed-is a.key.now a.prefix.now a.context.now) _ (texts a.messages.now) c.seal_all.result
-    c.seal_all.ensures.sealed
+    length-stream (sealed a.key.now a.prefix.now a.context.now) (sealed-is a.key.now a.prefix.now a.context.now) Second (texts a.messages.now) c.seal_last.new.out.items
+    (returns-clause-sealed g c)
