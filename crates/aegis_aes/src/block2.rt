@@ -8,7 +8,7 @@ ghost use Rattle.aegis_aes.specs.Round.{round};
 
 use crate::block::AesBlock;
 use crate::permutes::repeated;
-use crate::round::{round_by_field, round_by_permutes};
+use crate::round::{round_apart, round_by_field, round_by_permutes};
 use crate::row::{Row, context_block};
 use crate::vectors::{and_each, load, store, xor_each};
 use std::marker::Model;
@@ -110,6 +110,16 @@ impl AesBlock2 {
     {
         AesBlock2 {
             bytes: round_by_field(self.bytes, key.bytes),
+        }
+    }
+
+    // The round of `Row::round_row`, out of line.
+    #[inline(always)]
+    pub(crate) fn round_apart(self, key: AesBlock2) -> AesBlock2
+        ensures { result ≡ each_of_two round self key }
+    {
+        AesBlock2 {
+            bytes: round_apart(self.bytes, key.bytes),
         }
     }
 }

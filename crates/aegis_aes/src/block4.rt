@@ -134,10 +134,11 @@ impl Row for AesBlock4 {
         AesBlock4::and(&self, other)
     }
 
+    // The rows of four lanes do not fit into the registers, and an inlined update needs many more.
     fn round_row(self, key: AesBlock4) -> AesBlock4 {
         AesBlock4 {
-            front: self.front.round_row(key.front),
-            back: self.back.round_row(key.back),
+            front: self.front.round_apart(key.front),
+            back: self.back.round_apart(key.back),
         }
     }
 

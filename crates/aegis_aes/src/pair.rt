@@ -137,35 +137,6 @@ pub struct Rows2<R: Row> {
     aligned: [u128; 0],
 }
 
-impl<R: Row> Rows2<R> {
-    ghost use Rattle.aegis_aes.specs.Pairs.{row_of_two};
-
-    // The round of each row. The second row comes first: in the other order, an update of two lanes needs more
-    // registers at the default processor level.
-    #[inline(always)]
-    fn round_here(self, key: Self) -> Self
-        ensures { (h j : ℕ) → h < 2 → j < R.LANES
-            → R.block (row_of_two result h) j
-            ≡ round (R.block (row_of_two self h) j) (R.block (row_of_two key h) j) }
-    {
-        Rows2 {
-            second: self.second.round_row(key.second),
-            first: self.first.round_row(key.first),
-            aligned: [],
-        }
-    }
-
-    // The same, out of line.
-    #[inline(never)]
-    fn round_apart(self, key: Self) -> Self
-        ensures { (h j : ℕ) → h < 2 → j < R.LANES
-            → R.block (row_of_two result h) j
-            ≡ round (R.block (row_of_two self h) j) (R.block (row_of_two key h) j) }
-    {
-        self.round_here(key)
-    }
-}
-
 impl<R: Row> Pair for Rows2<R> {
     ghost use Rattle.aegis_aes.specs.Pairs.{row_of_two};
 
@@ -234,12 +205,13 @@ impl<R: Row> Pair for Rows2<R> {
         }
     }
 
-    // The rows of four lanes do not fit into the registers, and an inlined update needs many more.
+    // The second row comes first: in the other order, an update of two lanes needs more registers at the default
+    // processor level.
     fn round_pair(self, key: Self) -> Self {
-        if R::LANES == 4 {
-            self.round_apart(key)
-        } else {
-            self.round_here(key)
+        Rows2 {
+            second: self.second.round_row(key.second),
+            first: self.first.round_row(key.first),
+            aligned: [],
         }
     }
 }

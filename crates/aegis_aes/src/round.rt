@@ -47,7 +47,17 @@ pub(crate) fn round_by_permutes<const N: usize>(
     mixed(permutes::sub_bytes(blocks), keys)
 }
 
-/// The same, computed in the field.
+/// The same for two blocks, out of line. A call passes vectors in registers, and structs of vectors in memory.
+#[inline(never)]
+pub(crate) fn round_apart(blocks: u8x32, keys: u8x32) -> u8x32
+    ensures long { length result ≡ 32 }
+    ensures each { (p : ℕ) → p % 16 ≡ 0 → p + 16 ≤ 32
+        → block_at result p ≡ round (block_at blocks p) (block_at keys p) }
+{
+    round_by_permutes(blocks, keys)
+}
+
+/// A round of AES on each block, computed in the field.
 pub(crate) fn round_by_field<const N: usize>(blocks: Simd<u8, N>, keys: Simd<u8, N>) -> Simd<u8, N>
     requires { IsWidth N }
     ensures long { length result ≡ N }
