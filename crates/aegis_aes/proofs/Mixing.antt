@@ -6,7 +6,7 @@ use Rattle.std.specs.Int.Bits.{xor_assoc}
 use Rattle.aegis_aes.specs.Field.{mul, mul_bits, xtime}
 use Rattle.std.proofs.lemmas.List.FromFn.{get_or-map-range_with_len, length-map-range_with_len}
 use Rattle.aegis_aes.specs.Block.{block_at}
-use Rattle.aegis_aes.specs.Round.{mixed, round, round_byte, substitute}
+use Rattle.aegis_aes.specs.Round.{complete_byte, complete_round, mixed}
 use Rattle.aegis_aes.proofs.Places.{bytes_at-is, get_or-bytes_at}
 use Rattle.std.specs.Simd.Lanes.{Each1, sel_l, top, zip2}
 use Rattle.aegis_aes.specs.Permutes.{IsWidth, entry_beside, mixed_at, shifted_row}
@@ -184,24 +184,22 @@ mixed_long shifted next across doubles key n l-shifted l-next l-across l-key e =
     let l-three = length-zip2 bit_xor (zip2 bit_xor next across) doubles (l-two ∙ sym l-doubles) ∙ l-two in
     length-zip2 bit_xor (zip2 bit_xor (zip2 bit_xor next across) doubles) key (l-three ∙ sym l-key) ∙ l-three
 
--- ---- rounds of whole blocks
+-- ---- whole blocks
 mixed-same : {a b c d r a' b' c' d' r' : ℕ} → a ≡ a' → b ≡ b' → c ≡ c' → d ≡ d' → r ≡ r' → mixed a b c d r ≡ mixed a' b' c' d' r'
 mixed-same {a} {b} {c} {d} {r} {a'} {b'} {c'} {d'} {r'} p q s t u =
     ap₂ (λ x y. mixed x y c d r) p q ∙ ap₂ (λ x y. mixed a' b' x y r) s t ∙ ap (λ (x : ℕ). mixed a' b' c' d' x) u
 
-pub rounds : (x keys out : List ℕ) (n : ℕ) → length x ≡ n
-    → ((i : ℕ) → i < n → get_or out i 0 ≡ bit_xor (mixed_at (map substitute x) i) (get_or keys i 0))
-    → (p : ℕ) → p % 16 ≡ 0 → p + 16 ≤ n → block_at out p ≡ round (block_at x p) (block_at keys p)
-unfolding round
-rounds x keys out n long each p whole room =
+pub completed : (x keys out : List ℕ) (n : ℕ)
+    → ((i : ℕ) → i < n → get_or out i 0 ≡ bit_xor (mixed_at x i) (get_or keys i 0))
+    → (p : ℕ) → p % 16 ≡ 0 → p + 16 ≤ n → block_at out p ≡ complete_round (block_at x p) (block_at keys p)
+unfolding complete_round
+completed x keys out n each p whole room =
     let block = block_at x p in
     let key = block_at keys p in
-    bytes_at-is out p 16 (round block key) (length-map-range_with_len (λ m. round_byte block key (m / 4) (m % 4)) 0 16) (λ m lt.
-    let byte : (k : ℕ) → k < 4 → shifted_row (map substitute x) (p + m) k ≡ substitute (get_or block (4 * ((m / 4 + k) % 4) + k) 0) = λ k h.
-    ap (λ (j : ℕ). get_or (map substitute x) j 0) (omega arith)
-    ∙ get_or-map substitute x (p + (4 * ((m / 4 + k) % 4) + k)) 0 0 (omega (arith, long))
-    ∙ ap substitute (sym (get_or-bytes_at x p 16 (4 * ((m / 4 + k) % 4) + k) 0 (omega arith))) in
+    bytes_at-is out p 16 (complete_round block key) (length-map-range_with_len (λ m. complete_byte block key (m / 4) (m % 4)) 0 16) (λ m lt.
+    let byte : (k : ℕ) → k < 4 → shifted_row x (p + m) k ≡ get_or block (4 * ((m / 4 + k) % 4) + k) 0 = λ k h.
+    ap (λ (j : ℕ). get_or x j 0) (omega arith) ∙ sym (get_or-bytes_at x p 16 (4 * ((m / 4 + k) % 4) + k) 0 (omega arith)) in
     each (p + m) (omega arith)
     ∙ ap₂ bit_xor (mixed-same (byte 0 (omega arith)) (byte 1 (omega arith)) (byte 2 (omega arith)) (byte 3 (omega arith)) (omega arith))
     (ap (λ (j : ℕ). get_or keys j 0) (omega arith) ∙ sym (get_or-bytes_at keys p 16 (4 * (m / 4) + m % 4) 0 (omega arith)))
-    ∙ sym (get_or-map-range_with_len (λ m. round_byte block key (m / 4) (m % 4)) 0 16 m m 0 lt (omega arith)))
+    ∙ sym (get_or-map-range_with_len (λ m. complete_byte block key (m / 4) (m % 4)) 0 16 m m 0 lt (omega arith)))

@@ -1,6 +1,6 @@
 -- Bytes and blocks at places of a list.
-use Rattle.std.proofs.Common.{◌≡◌, ℕ, zero, suc, ◌+◌, ◌-◌, ◌%◌, ◌<◌, ◌≤◌, List, [], ◌∷◌, ◌++◌, length, get_or, replicate, take, drop, refl, sym, ap, ap₂, ◌∙◌, arith}
-use Rattle.std.proofs.lemmas.List.{places, same_lists, get_or_default, get_or_append_left, get_or-append_right}
+use Rattle.std.proofs.Common.{◌≡◌, ℕ, zero, suc, ◌+◌, ◌-◌, ◌%◌, ◌<◌, ◌≤◌, List, [], ◌∷◌, ◌++◌, length, map, get_or, replicate, take, drop, refl, sym, ap, ap₂, ◌∙◌, arith}
+use Rattle.std.proofs.lemmas.List.{get_or-map, length-map, places, same_lists, get_or_default, get_or_append_left, get_or-append_right}
 use Rattle.std.proofs.lemmas.Simd.{get_or-chunk, get_or-put_chunk_at, get_or-zip2, length-zip2}
 use Rattle.std.specs.Simd.Lanes.{chunk, put_chunk, zip2}
 use borrow.Rule.Slice.PartMut.{put_mid}
@@ -77,6 +77,13 @@ block_at-zip2 f a b n p la lb room =
     get_or-zip2 f a b (p + k) 0 0 0 (omega (arith, la)) (omega (arith, lb))
     ∙ ap₂ f (sym (get_or-bytes_at a p 16 k 0 lt)) (sym (get_or-bytes_at b p 16 k 0 lt))
     ∙ sym (get_or-zip2 f x y k 0 0 0 (omega (arith, lx)) (omega (arith, ly))))
+
+pub block_at-map : (f : ℕ → ℕ) (a : List ℕ) (n p : ℕ) → length a ≡ n → p + 16 ≤ n → block_at (map f a) p ≡ map f (block_at a p)
+block_at-map f a n p long room =
+    let x = block_at a p in
+    let lx = length-bytes_at a p 16 in
+    bytes_at-is (map f a) p 16 (map f x) (length-map x f ∙ lx) (λ k lt.
+    get_or-map f a (p + k) 0 0 (omega (arith, long)) ∙ ap f (sym (get_or-bytes_at a p 16 k 0 lt)) ∙ sym (get_or-map f x k 0 0 (omega (arith, lx))))
 
 pub block_at-chunk : (xs : List ℕ) (at n p : ℕ) → p + 16 ≤ n → block_at (chunk at n xs) p ≡ block_at xs (at + p)
 block_at-chunk xs at n p room =

@@ -1,10 +1,10 @@
 -- The bytes after a round are below 256, for any block, if the key's are.
-use Rattle.std.proofs.Common.{◌≡◌, ℕ, zero, suc, ◌+◌, ◌*◌, ◌/◌, ◌%◌, ◌^◌, ◌<◌, Bool, true, false, ◌==◌, nat_lt, if◌then◌else◌, List, map, bit_xor, slice_index, refl, arith}
+use Rattle.std.proofs.Common.{◌≡◌, ℕ, zero, suc, ◌+◌, ◌*◌, ◌/◌, ◌%◌, ◌^◌, ◌<◌, Bool, true, false, ◌==◌, nat_lt, if◌then◌else◌, List, [], ◌∷◌, map, bit_xor, slice_index, refl, arith}
 use Rattle.std.specs.List.{range_with_len, sum}
 use Rattle.std.proofs.lemmas.Bool.{ltb-true}
 use Rattle.std.proofs.lemmas.Nat.{xor_lt}
 use Rattle.aegis_aes.specs.Field.{inverse, mul, mul_bits, xtime}
-use Rattle.aegis_aes.specs.Round.{affine, affine_bit, bit, mixed, round, round_byte, substitute, weight}
+use Rattle.aegis_aes.specs.Round.{affine, affine_bit, bit, complete_byte, complete_round, mixed, round, sub_bytes, substitute, weight}
 
 either-below : (t : Bool) (a b n : ℕ) → a < n → b < n → (if t then a else b) < n
 either-below true a b n low rest = low
@@ -58,10 +58,15 @@ map-below f a zero i low = omega arith
 map-below f a (suc n) zero low = low a
 map-below f a (suc n) (suc i) low = map-below f (a + 1) n i low
 
+sub_bytes-below : (b : List ℕ) (i : ℕ) → slice_index (map substitute b) i < 256
+sub_bytes-below [] i = omega arith
+sub_bytes-below (x ∷ b) zero = substitute-below x
+sub_bytes-below (x ∷ b) (suc i) = sub_bytes-below b i
+
 pub round-bytes : (b : List ℕ) {k : List ℕ} → IsBytes k → IsBytes (round b k)
-unfolding round
+unfolding round sub_bytes complete_round
 round-bytes b {k} is = record {
-  below = λ i. map-below (λ n. round_byte b k (n / 4) (n % 4)) 0 16 i (λ n.
-      xor_lt 8 _ _ (mixed-below _ _ _ _ (n % 4) (substitute-below _) (substitute-below _) (substitute-below _) (substitute-below _))
+  below = λ i. map-below (λ n. complete_byte (map substitute b) k (n / 4) (n % 4)) 0 16 i (λ n.
+      xor_lt 8 _ _ (mixed-below _ _ _ _ (n % 4) (sub_bytes-below b _) (sub_bytes-below b _) (sub_bytes-below b _) (sub_bytes-below b _))
       (is.below (4 * (n / 4) + n % 4)));
 }

@@ -26,20 +26,28 @@ substitute a = affine (inverse a)
 abbrev pub weight : ℕ → ℕ → ℕ
 weight r i = slice_index (2 ∷ 3 ∷ 1 ∷ 1 ∷ []) ((i + 4 - r) % 4)
 
--- row i of column c after ShiftRows and SubBytes
+-- SubBytes of a block
+unfoldable pub sub_bytes : List ℕ → List ℕ
+sub_bytes b = map substitute b
+
+-- row i of column c after ShiftRows
 abbrev pub shifted : List ℕ → ℕ → ℕ → ℕ
-shifted b c i = substitute (slice_index b (4 * ((c + i) % 4) + i))
+shifted b c i = slice_index b (4 * ((c + i) % 4) + i)
 
 -- row r, after MixColumns, of a column whose rows are s0, s1, s2 and s3
 abbrev pub mixed : ℕ → ℕ → ℕ → ℕ → ℕ → ℕ
 mixed s0 s1 s2 s3 r =
     bit_xor (bit_xor (bit_xor (mul s0 (weight r 0)) (mul s1 (weight r 1))) (mul s2 (weight r 2))) (mul s3 (weight r 3))
 
--- row r of column c after MixColumns, with the key added
-abbrev pub round_byte : List ℕ → List ℕ → ℕ → ℕ → ℕ
-round_byte b k c r =
+-- row r of column c after ShiftRows and MixColumns, with the key added
+abbrev pub complete_byte : List ℕ → List ℕ → ℕ → ℕ → ℕ
+complete_byte b k c r =
     bit_xor (mixed (shifted b c 0) (shifted b c 1) (shifted b c 2) (shifted b c 3) r) (slice_index k (4 * c + r))
+
+-- a round after SubBytes: ShiftRows, MixColumns and AddRoundKey
+unfoldable pub complete_round : List ℕ → List ℕ → List ℕ
+complete_round b k = map (λ n. complete_byte b k (n / 4) (n % 4)) (range_with_len 0 16)
 
 -- a round of AES on the block b with the key k
 unfoldable pub round : List ℕ → List ℕ → List ℕ
-round b k = map (λ n. round_byte b k (n / 4) (n % 4)) (range_with_len 0 16)
+round b k = complete_round (sub_bytes b) k

@@ -4,11 +4,11 @@ ghost use Rattle.std.proofs.Common.{ap, inl, inr};
 ghost use Rattle.std.specs.Prelude.{◌≡◌, ℕ, ◌+◌, ◌*◌, ◌<◌, ◌≤◌, ◌++◌, length, List, refl, replicate, slice_index};
 ghost use Rattle.aegis_aes.specs.Block.{and, block_at, xor};
 ghost use Rattle.aegis_aes.specs.Blocks.{block_of_two, each_of_two, two_blocks};
-ghost use Rattle.aegis_aes.specs.Round.{round};
+ghost use Rattle.aegis_aes.specs.Round.{round, sub_bytes};
 
 use crate::block::AesBlock;
-use crate::permutes::repeated;
-use crate::round::{round_apart, round_by_field, round_by_permutes};
+use crate::permutes::{repeated, sub_bytes, sub_bytes_apart};
+use crate::round::{complete, round_by_field};
 use crate::row::{Row, context_block};
 use crate::vectors::{and_each, load, store, xor_each};
 use std::marker::Model;
@@ -113,13 +113,13 @@ impl AesBlock2 {
         }
     }
 
-    // The round of `Row::round_row`, out of line.
+    // `Row::sub_bytes_row`, out of line.
     #[inline(always)]
-    pub(crate) fn round_apart(self, key: AesBlock2) -> AesBlock2
-        ensures { result ≡ each_of_two round self key }
+    pub(crate) fn sub_bytes_apart(self) -> AesBlock2
+        ensures { (j : ℕ) → j < 2 → block_of_two result j ≡ sub_bytes (block_of_two self j) }
     {
         AesBlock2 {
-            bytes: round_apart(self.bytes, key.bytes),
+            bytes: sub_bytes_apart(self.bytes),
         }
     }
 }
@@ -169,9 +169,15 @@ impl Row for AesBlock2 {
         AesBlock2::and(&self, other)
     }
 
-    fn round_row(self, key: AesBlock2) -> AesBlock2 {
+    fn sub_bytes_row(self) -> AesBlock2 {
         AesBlock2 {
-            bytes: round_by_permutes(self.bytes, key.bytes),
+            bytes: sub_bytes(self.bytes),
+        }
+    }
+
+    fn complete_row(self, key: AesBlock2) -> AesBlock2 {
+        AesBlock2 {
+            bytes: complete(self.bytes, key.bytes),
         }
     }
 

@@ -134,11 +134,18 @@ impl Row for AesBlock4 {
         AesBlock4::and(&self, other)
     }
 
-    // The rows of four lanes do not fit into the registers, and an inlined update needs many more.
-    fn round_row(self, key: AesBlock4) -> AesBlock4 {
+    // The rows of four lanes do not fit into the registers, and an inlined SubBytes needs many more.
+    fn sub_bytes_row(self) -> AesBlock4 {
         AesBlock4 {
-            front: self.front.round_apart(key.front),
-            back: self.back.round_apart(key.back),
+            front: self.front.sub_bytes_apart(),
+            back: self.back.sub_bytes_apart(),
+        }
+    }
+
+    fn complete_row(self, key: AesBlock4) -> AesBlock4 {
+        AesBlock4 {
+            front: self.front.complete_row(key.front),
+            back: self.back.complete_row(key.back),
         }
     }
 

@@ -123,8 +123,9 @@ impl Pair for AesBlock2 {
         AesBlock2::and(&self, other)
     }
 
+    #[tactic(auto, unfolding(crate::specs::Round::round))]
     fn round_pair(self, key: AesBlock2) -> AesBlock2 {
-        self.round_row(key)
+        self.sub_bytes_row().complete_row(key)
     }
 }
 
@@ -205,12 +206,14 @@ impl<R: Row> Pair for Rows2<R> {
         }
     }
 
-    // The second row comes first: in the other order, an update of two lanes needs more registers at the default
-    // processor level.
+    // SubBytes of both rows comes first, so that a processor has steps of both rounds to execute at the same time.
+    #[tactic(auto, unfolding(crate::specs::Round::round))]
     fn round_pair(self, key: Self) -> Self {
+        let second = self.second.sub_bytes_row();
+        let first = self.first.sub_bytes_row();
         Rows2 {
-            second: self.second.round_row(key.second),
-            first: self.first.round_row(key.first),
+            second: second.complete_row(key.second),
+            first: first.complete_row(key.first),
             aligned: [],
         }
     }

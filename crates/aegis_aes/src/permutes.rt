@@ -18,7 +18,7 @@ ghost use Rattle.std.specs.Prelude.{◌≡◌, ℕ, ◌+◌, ◌%◌, ◌<◌, �
 ghost use Rattle.std.specs.Simd.Lanes.{zip2};
 ghost use Rattle.aegis_aes.specs.Block.{block_at};
 ghost use Rattle.aegis_aes.specs.Permutes.{ArePlaces, IsWidth, entry, entry_beside};
-ghost use Rattle.aegis_aes.specs.Round.{substitute};
+ghost use Rattle.aegis_aes.specs.Round.{sub_bytes, substitute};
 
 use std::simd::prelude::*;
 
@@ -125,7 +125,9 @@ fn low<const N: usize>(xs: Simd<u8, N>) -> Simd<u8, N>
 #[tactic(auto, using(crate::proofs::Nibbles::xor_places, crate::proofs::Nibbles::inverse_places, crate::proofs::Nibbles::scaled_places))]
 pub(crate) fn sub_bytes<const N: usize>(bytes: Simd<u8, N>) -> Simd<u8, N>
     requires { IsWidth N }
-    ensures { result ≡ map substitute bytes.entry }
+    ensures bytes { result ≡ map substitute bytes.entry }
+    ensures blocks { (p : ℕ) → p % 16 ≡ 0 → p + 16 ≤ N
+        → block_at result p ≡ sub_bytes (block_at bytes.entry p) }
 {
     let coordinates = look(IN_LOW, low(bytes)) ^ look(IN_HIGH, low(bytes >> 4));
     let u = low(coordinates);
@@ -135,4 +137,13 @@ pub(crate) fn sub_bytes<const N: usize>(bytes: Simd<u8, N>) -> Simd<u8, N>
     let p = look_for_place(INVERSE, look_for_place(INVERSE, v) ^ scaled) ^ sum;
     let q = look_for_place(INVERSE, look_for_place(INVERSE, sum) ^ scaled) ^ v;
     look(OUT_ONE, p) ^ look(OUT_TWO, q) ^ Simd::splat(0x63)
+}
+
+/// The same for two blocks, out of line. A call passes vectors in registers.
+#[inline(never)]
+pub(crate) fn sub_bytes_apart(blocks: u8x32) -> u8x32
+    ensures { (p : ℕ) → p % 16 ≡ 0 → p + 16 ≤ 32
+        → block_at result p ≡ sub_bytes (block_at blocks p) }
+{
+    sub_bytes(blocks)
 }

@@ -1,13 +1,13 @@
 //! ShiftRows, MixColumns and AddRoundKey on blocks side by side.
 
-ghost use Rattle.std.specs.Prelude.{◌≡◌, ℕ, ◌+◌, ◌%◌, ◌<◌, ◌≤◌, bit_xor, length, map, slice_index};
-ghost use Rattle.aegis_aes.specs.Permutes.{IsWidth, mixed_at};
+ghost use Rattle.std.specs.Prelude.{◌≡◌, ℕ, ◌+◌, ◌%◌, ◌≤◌, length};
+ghost use Rattle.aegis_aes.specs.Permutes.{IsWidth};
 ghost use Rattle.aegis_aes.specs.Block.{block_at};
-ghost use Rattle.aegis_aes.specs.Round.{round};
+ghost use Rattle.aegis_aes.specs.Round.{complete_round, round};
 
 use crate::field::times_x;
+use crate::lanes;
 use crate::permutes::{permute, repeated};
-use crate::{lanes, permutes};
 use std::simd::prelude::*;
 
 // The place from which ShiftRows takes each byte of a block.
@@ -17,44 +17,21 @@ const SHIFTED_NEXT: [u8; 16] = [5, 10, 15, 0, 9, 14, 3, 4, 13, 2, 7, 8, 1, 6, 11
 // The place two rows below, in the same column.
 const TWO_ROWS_ON: [u8; 16] = [2, 3, 0, 1, 6, 7, 4, 5, 10, 11, 8, 9, 14, 15, 12, 13];
 
-/// Completes a round after SubBytes: ShiftRows, MixColumns, and the xor with the key's bytes.
+/// The rest of a round on each block after SubBytes: ShiftRows, MixColumns and AddRoundKey.
 #[inline(always)]
-pub(crate) fn mixed<const N: usize>(s: Simd<u8, N>, key: Simd<u8, N>) -> Simd<u8, N>
-    requires { IsWidth N }
-    ensures long { length result ≡ N }
-    ensures each { (i : ℕ) → i < N
-        → slice_index result i ≡ bit_xor (mixed_at s.entry i) (slice_index key.entry i) }
-{
-    let shifted = permute(s, repeated(SHIFTED));
-    let next = permute(s, repeated(SHIFTED_NEXT));
-    let sum = shifted ^ next;
-    let across = permute(sum, repeated(TWO_ROWS_ON));
-    // Row r is 2a + 3b + c + d, where a is its own byte and b, c and d are those of the next rows.
-    next ^ across ^ times_x(sum) ^ key
-}
-
-/// A round of AES on each block, by byte permutes.
-#[inline(always)]
-pub(crate) fn round_by_permutes<const N: usize>(
-    blocks: Simd<u8, N>,
-    keys: Simd<u8, N>,
-) -> Simd<u8, N>
+pub(crate) fn complete<const N: usize>(blocks: Simd<u8, N>, keys: Simd<u8, N>) -> Simd<u8, N>
     requires { IsWidth N }
     ensures long { length result ≡ N }
     ensures each { (p : ℕ) → p % 16 ≡ 0 → p + 16 ≤ N
-        → block_at result p ≡ round (block_at blocks.entry p) (block_at keys.entry p) }
+        → block_at result p
+        ≡ complete_round (block_at blocks.entry p) (block_at keys.entry p) }
 {
-    mixed(permutes::sub_bytes(blocks), keys)
-}
-
-/// The same for two blocks, out of line. A call passes vectors in registers, and structs of vectors in memory.
-#[inline(never)]
-pub(crate) fn round_apart(blocks: u8x32, keys: u8x32) -> u8x32
-    ensures long { length result ≡ 32 }
-    ensures each { (p : ℕ) → p % 16 ≡ 0 → p + 16 ≤ 32
-        → block_at result p ≡ round (block_at blocks p) (block_at keys p) }
-{
-    round_by_permutes(blocks, keys)
+    let shifted = permute(blocks, repeated(SHIFTED));
+    let next = permute(blocks, repeated(SHIFTED_NEXT));
+    let sum = shifted ^ next;
+    let across = permute(sum, repeated(TWO_ROWS_ON));
+    // Row r is 2a + 3b + c + d, where a is its own byte and b, c and d are those of the next rows.
+    next ^ across ^ times_x(sum) ^ keys
 }
 
 /// A round of AES on each block, computed in the field.
@@ -64,5 +41,5 @@ pub(crate) fn round_by_field<const N: usize>(blocks: Simd<u8, N>, keys: Simd<u8,
     ensures each { (p : ℕ) → p % 16 ≡ 0 → p + 16 ≤ N
         → block_at result p ≡ round (block_at blocks.entry p) (block_at keys.entry p) }
 {
-    mixed(lanes::sub_bytes(blocks), keys)
+    complete(lanes::sub_bytes(blocks), keys)
 }

@@ -3,11 +3,12 @@
 ghost use Rattle.std.proofs.Common.{inl};
 ghost use Rattle.std.specs.Prelude.{◌≡◌, ℕ, ◌+◌, ◌*◌, ◌<◌, ◌≤◌, length, List, refl, slice_index};
 ghost use Rattle.aegis_aes.specs.Block.{IsSameBefore, IsSameFrom, and, block_at, xor};
-ghost use Rattle.aegis_aes.specs.Round.{round};
+ghost use Rattle.aegis_aes.specs.Round.{complete_round, sub_bytes};
 ghost use Rattle.aegis_aes.specs.Lanes.{IsLaneCount, context, xor_lanes};
 
 use crate::block::AesBlock;
-use crate::round::round_by_permutes;
+use crate::permutes::sub_bytes;
+use crate::round::complete;
 
 /// One block of each lane of AEGIS, which has 1, 2 or 4 lanes side by side. The lanes are numbered from 0, and in
 /// contracts `block row j` is the block of lane j.
@@ -53,11 +54,15 @@ pub trait Row: Copy {
         ensures { (j : ℕ) → j < LANES
             → block result j ≡ and (block self j) (block other j) };
 
-    /// Returns each lane's block after one AES round (FIPS 197, sections 5.1.1 to 5.1.4), with that lane's block of
-    /// `key` as its key.
-    fn round_row(self, key: Self) -> Self
+    /// Returns each lane's block after SubBytes (FIPS 197, section 5.1.1), the first step of an AES round.
+    fn sub_bytes_row(self) -> Self
+        ensures { (j : ℕ) → j < LANES → block result j ≡ sub_bytes (block self j) };
+
+    /// Returns each lane's block after the other steps of an AES round (FIPS 197, sections 5.1.2 to 5.1.4), with that
+    /// lane's block of `key` as its key.
+    fn complete_row(self, key: Self) -> Self
         ensures { (j : ℕ) → j < LANES
-            → block result j ≡ round (block self j) (block key j) };
+            → block result j ≡ complete_round (block self j) (block key j) };
 
     /// Returns the xor of the lanes' blocks.
     fn xor_of_lanes(self) -> AesBlock
@@ -109,9 +114,15 @@ impl Row for AesBlock {
         AesBlock::and(&self, other)
     }
 
-    fn round_row(self, key: AesBlock) -> AesBlock {
+    fn sub_bytes_row(self) -> AesBlock {
         AesBlock {
-            bytes: round_by_permutes(self.bytes, key.bytes),
+            bytes: sub_bytes(self.bytes),
+        }
+    }
+
+    fn complete_row(self, key: AesBlock) -> AesBlock {
+        AesBlock {
+            bytes: complete(self.bytes, key.bytes),
         }
     }
 

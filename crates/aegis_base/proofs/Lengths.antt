@@ -6,15 +6,15 @@ use Rattle.std.proofs.lemmas.List.{length-append}
 use Rattle.std.proofs.lemmas.List.FromFn.{length-map-range_with_len}
 use Rattle.aegis_aes.specs.Block.{xor}
 use Rattle.aegis_aes.specs.Lanes.{IsLaneCount, context}
-use Rattle.aegis_aes.specs.Round.{round, round_byte}
+use Rattle.aegis_aes.specs.Round.{complete_byte, complete_round, round, sub_bytes}
 use Rattle.aegis_base.specs.Variant.{Family, Family128, Family256, Variant}
 use Rattle.aegis_base.specs.Lane.{IsTagLength, add_context, bit_lengths, finish, first_blocks, high_tag, lane_tag, last_block, last_input, low_tag, block_in, short_tag, start, start_turn, start_turns, step, times}
 use Rattle.aegis_base.specs.Message.{after, lane_end, tag}
 use Rattle.aegis_base.proofs.LaneFacts.{length-xor, length-xor_lanes-count}
 
 pub length-round : (b k : List ℕ) → length (round b k) ≡ 16
-unfolding round
-length-round b k = length-map-range_with_len (λ n. round_byte b k (n / 4) (n % 4)) 0 16
+unfolding round complete_round
+length-round b k = length-map-range_with_len (λ n. complete_byte (sub_bytes b) k (n / 4) (n % 4)) 0 16
 
 -- a block of 16 bytes
 record IsBlock (b : List ℕ) : Type 0 where

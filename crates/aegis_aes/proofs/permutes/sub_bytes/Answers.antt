@@ -1,16 +1,19 @@
 -- Each step is a function of one byte. That their composition is SubBytes is computed for all 256 bytes.
-use Rattle.std.proofs.Common.{◌/◌, ◌^◌, ◌∙◌, bit_xor}
+use Rattle.std.proofs.Common.{ap, ◌/◌, ◌^◌, ◌∙◌, bit_xor}
 use Rattle.std.proofs.lemmas.Simd.{splat_is_map}
+use Rattle.aegis_aes.specs.Block.{block_at}
 use Rattle.aegis_aes.specs.Permutes.{entry}
+use Rattle.aegis_aes.specs.Round.{sub_bytes, substitute}
 use Rattle.aegis_aes.specs.declared.permutes.TheConstants.{IN_HIGH, IN_LOW, INVERSE, OUT_ONE, OUT_TWO, SCALED}
 use Rattle.aegis_aes.proofs.Nibbles.{all_substituted, changed, first, found, half, halves, lower, second, shifted, small, sum_of, themselves, total, upper, xor_places}
+use Rattle.aegis_aes.proofs.Places.{block_at-map}
 use Rattle.aegis_aes.proofs.permutes.sub_bytes.Goals as goal
 
 pub look-requires-3 : goal.look-requires-3
 look-requires-3 g c = (small g.row.N c.requires, (c.requires, xor_places c.look_for_place-2.ensures.places (xor_places c.low-v.ensures.places c.low-u.ensures.places)))
 
-pub returns : goal.returns
-returns g c =
+pub returns-clause-bytes : goal.returns-clause-bytes
+returns-clause-bytes g c =
     let xs = c.args.bytes in
     let n = g.row.N in
     let long = c.fits-bytes.0 in
@@ -33,3 +36,8 @@ returns g c =
     (found xs n long OUT_TWO second second-is c.look-4.ensures))
     (splat_is_map xs n 99 long)
     ∙ all_substituted xs c.fits-bytes.1
+
+pub returns-clause-blocks : goal.returns-clause-blocks
+unfolding sub_bytes
+returns-clause-blocks g c p whole room =
+    ap (λ x. block_at x p) (returns-clause-bytes g c) ∙ block_at-map substitute c.args.bytes g.row.N p c.fits-bytes.0 room

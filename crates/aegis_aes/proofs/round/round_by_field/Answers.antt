@@ -1,11 +1,12 @@
-use Rattle.std.proofs.Common.{get_or, ap, ◌∙◌}
-use Rattle.aegis_aes.proofs.Mixing.{rounds}
-use Rattle.aegis_aes.specs.Permutes.{mixed_at}
-use Rattle.std.proofs.Common.{bit_xor}
+use Rattle.std.proofs.Common.{ap, ◌∙◌}
+use Rattle.aegis_aes.specs.Block.{block_at}
+use Rattle.aegis_aes.specs.Round.{complete_round, round, sub_bytes, substitute}
+use Rattle.aegis_aes.proofs.Places.{block_at-map}
 use Rattle.aegis_aes.proofs.round.round_by_field.Goals as goal
 
 pub returns-clause-each : goal.returns-clause-each
-returns-clause-each g c =
-    let keys = c.args.keys in
-    rounds c.args.blocks keys c.mixed.result g.row.N c.fits-blocks.0 (λ i lt.
-    c.mixed.ensures.each i lt ∙ ap (λ s. bit_xor (mixed_at s i) (get_or keys i 0)) c.sub_bytes.ensures)
+unfolding round sub_bytes
+returns-clause-each g c p whole room =
+    c.complete.ensures.each p whole room
+    ∙ ap (λ b. complete_round b (block_at c.args.keys p))
+    (ap (λ x. block_at x p) c.sub_bytes.ensures ∙ block_at-map substitute c.args.blocks g.row.N p c.fits-blocks.0 room)

@@ -120,7 +120,9 @@ fn check_round_row<R: Row>(rt: &impl Abort)
 {
     for number in 0..CASES {
         let places = Places::of_case(number);
-        let end = R::load(&places.blocks, 0).round_row(R::load(&places.keys, 0));
+        let end = R::load(&places.blocks, 0)
+            .sub_bytes_row()
+            .complete_row(R::load(&places.keys, 0));
         let mut bytes = [0; BYTES];
         end.store(&mut bytes, 0);
         let count = 16 * R::LANES;
