@@ -28,8 +28,12 @@ fn stored<R: Row>(row: R) -> [u8; 80]
     out
 }
 
+fn assert_byte<R: Abort>(rt: &R, found: u8, expected: u8, at: usize) {
+    assert_eq!(rt; found, expected, "at {at}");
+}
+
 // Each operation at a type of row. Its lanes are loaded from bytes that count up from 3.
-fn works<R: Row>(rt: &impl Abort)
+fn works<A: Abort, R: Row>(rt: &A)
     requires { R.LANES ≤ 4 }
 {
     let end = 8 + 16 * R::LANES;
@@ -44,7 +48,7 @@ fn works<R: Row>(rt: &impl Abort)
     for i in 0..80 {
         if i < 8 || i >= end {
             for bytes in [&loaded, &sum, &masked, &splat, &contexts] {
-                assert_eq!(rt; bytes[i], 0xee, "at {i}");
+                assert_byte(rt, bytes[i], 0xee, i);
             }
         } else {
             let byte = i as u8 - 5;
@@ -53,11 +57,11 @@ fn works<R: Row>(rt: &impl Abort)
                 1 => R::LANES - 1,
                 _ => 0,
             };
-            assert_eq!(rt; loaded[i], byte, "at {i}");
-            assert_eq!(rt; sum[i], byte ^ 0x0f, "at {i}");
-            assert_eq!(rt; masked[i], byte % 16, "at {i}");
-            assert_eq!(rt; splat[i], 0x0f, "at {i}");
-            assert_eq!(rt; contexts[i] as usize, context, "at {i}");
+            assert_byte(rt, loaded[i], byte, i);
+            assert_byte(rt, sum[i], byte ^ 0x0f, i);
+            assert_byte(rt, masked[i], byte % 16, i);
+            assert_byte(rt, splat[i], 0x0f, i);
+            assert_byte(rt, contexts[i], context as u8, i);
         }
     }
 }
@@ -72,7 +76,7 @@ fn stored_pair<P: Pair>(pair: P) -> [u8; 144]
 }
 
 // Each operation at a type of pair. The blocks of both rows are loaded from bytes that count up from 3.
-fn works_in_pairs<P: Pair>(rt: &impl Abort)
+fn works_in_pairs<A: Abort, P: Pair>(rt: &A)
     requires { P.Row.LANES ≤ 4 }
 {
     let row_bytes = 16 * P::Row::LANES;
@@ -89,23 +93,23 @@ fn works_in_pairs<P: Pair>(rt: &impl Abort)
     for i in 0..144 {
         if i < 8 || i >= end {
             for bytes in [&loaded, &joined, &swapped, &sum, &first_sum, &masked] {
-                assert_eq!(rt; bytes[i], 0xee, "at {i}");
+                assert_byte(rt, bytes[i], 0xee, i);
             }
         } else {
-            let byte = i - 5;
+            let byte = i as u8 - 5;
             let is_first = i < 8 + row_bytes;
             let other = if is_first {
-                byte + row_bytes
+                byte + row_bytes as u8
             } else {
-                byte - row_bytes
+                byte - row_bytes as u8
             };
             let first_mask = if is_first { 0x0f } else { 0 };
-            assert_eq!(rt; loaded[i] as usize, byte, "at {i}");
-            assert_eq!(rt; joined[i] as usize, byte, "at {i}");
-            assert_eq!(rt; swapped[i] as usize, other, "at {i}");
-            assert_eq!(rt; sum[i] as usize, byte ^ 0x0f, "at {i}");
-            assert_eq!(rt; first_sum[i] as usize, byte ^ first_mask, "at {i}");
-            assert_eq!(rt; masked[i] as usize, byte % 16, "at {i}");
+            assert_byte(rt, loaded[i], byte, i);
+            assert_byte(rt, joined[i], byte, i);
+            assert_byte(rt, swapped[i], other, i);
+            assert_byte(rt, sum[i], byte ^ 0x0f, i);
+            assert_byte(rt, first_sum[i], byte ^ first_mask, i);
+            assert_byte(rt, masked[i], byte % 16, i);
         }
     }
 }
@@ -123,9 +127,9 @@ fn xor_of_powers<R: Row>() -> [u8; 16]
 
 #[test]
 fn rows_work_lane_by_lane(rt: HostRuntime) {
-    works::<AesBlock>(&rt);
-    works::<AesBlock2>(&rt);
-    works::<AesBlock4>(&rt);
+    works::<_, AesBlock>(&rt);
+    works::<_, AesBlock2>(&rt);
+    works::<_, AesBlock4>(&rt);
     assert_eq!(rt; xor_of_powers::<AesBlock>(), [1; 16]);
     assert_eq!(rt; xor_of_powers::<AesBlock2>(), [3; 16]);
     assert_eq!(rt; xor_of_powers::<AesBlock4>(), [15; 16]);
@@ -133,9 +137,9 @@ fn rows_work_lane_by_lane(rt: HostRuntime) {
 
 #[test]
 fn pairs_work_row_by_row(rt: HostRuntime) {
-    works_in_pairs::<AesBlock2>(&rt);
-    works_in_pairs::<Rows2<AesBlock2>>(&rt);
-    works_in_pairs::<Rows2<AesBlock4>>(&rt);
+    works_in_pairs::<_, AesBlock2>(&rt);
+    works_in_pairs::<_, Rows2<AesBlock2>>(&rt);
+    works_in_pairs::<_, Rows2<AesBlock4>>(&rt);
 }
 
 #[test]

@@ -26,12 +26,13 @@ pub fn pieces<'a>(
     Ok(pieces)
 }
 
-// Passes chunks to an encryptor by `update`.
+// Passes chunks to an encryptor by `update`. Returns the tag, and what `remaining` returns.
 fn update_all<S: LaneState, V: Names, const TAG_BYTES: usize>(
-    encryptor: &mut Encryptor<S, V, TAG_BYTES>,
+    encryptor: Encryptor<S, V, TAG_BYTES>,
     chunks: &[&[u8]],
     ciphertext: &mut [u8],
-) {
+) -> ([u8; TAG_BYTES], u64) {
+    let mut encryptor = encryptor;
     let mut rest = ciphertext;
     for chunk in chunks {
         let length = chunk.len().min(rest.len());
@@ -41,6 +42,8 @@ fn update_all<S: LaneState, V: Names, const TAG_BYTES: usize>(
         }
         rest = after;
     }
+    let remaining = encryptor.remaining();
+    (encryptor.finalize(), remaining)
 }
 
 /// Seals chunks by `update`. Returns the tag, and what `remaining` returns. The ciphertext must be as long as all
@@ -55,19 +58,17 @@ pub fn seal_by_update<const TAG_BYTES: usize>(
     requires associated_data { length associated_data.now ≤ MAX_AEAD_BYTES }
 {
     with_cipher!(cipher, TAG_BYTES, cipher => {
-        let mut encryptor = cipher.encryptor(associated_data);
-        update_all(&mut encryptor, chunks, ciphertext);
-        let remaining = encryptor.remaining();
-        (encryptor.finalize(), remaining)
+        update_all(cipher.encryptor(associated_data), chunks, ciphertext)
     })
 }
 
-// Passes chunks to an encryptor by `update_in_place`.
+// Passes chunks to an encryptor by `update_in_place`. Returns the tag, and what `remaining` returns.
 fn update_all_in_place<S: LaneState, V: Names, const TAG_BYTES: usize>(
-    encryptor: &mut Encryptor<S, V, TAG_BYTES>,
+    encryptor: Encryptor<S, V, TAG_BYTES>,
     chunks: &[&[u8]],
     buffer: &mut [u8],
-) {
+) -> ([u8; TAG_BYTES], u64) {
+    let mut encryptor = encryptor;
     let mut rest = buffer;
     for chunk in chunks {
         let length = chunk.len().min(rest.len());
@@ -77,6 +78,8 @@ fn update_all_in_place<S: LaneState, V: Names, const TAG_BYTES: usize>(
         }
         rest = after;
     }
+    let remaining = encryptor.remaining();
+    (encryptor.finalize(), remaining)
 }
 
 /// Seals chunks by `update_in_place`, in a buffer with the message. Otherwise as `seal_by_update`.
@@ -90,10 +93,7 @@ pub fn seal_in_place<const TAG_BYTES: usize>(
     requires associated_data { length associated_data.now ≤ MAX_AEAD_BYTES }
 {
     with_cipher!(cipher, TAG_BYTES, cipher => {
-        let mut encryptor = cipher.encryptor(associated_data);
-        update_all_in_place(&mut encryptor, chunks, buffer);
-        let remaining = encryptor.remaining();
-        (encryptor.finalize(), remaining)
+        update_all_in_place(cipher.encryptor(associated_data), chunks, buffer)
     })
 }
 
@@ -113,15 +113,17 @@ pub fn seal_at_once<R: Abort, const TAG_BYTES: usize>(
     Some(cipher.seal_chunks(associated_data, chunks, ciphertext))
 }
 
-// Passes chunks to a decryptor, up to one that it refuses.
-fn open_each<S: LaneState, V: Names, const TAG_BYTES: usize>(
-    decryptor: &mut Decryptor<S, V, TAG_BYTES>,
+// Passes chunks to a decryptor, and then the tag if it refuses none.
+fn open_each<'a, S: LaneState, V: Names, const TAG_BYTES: usize>(
+    decryptor: Decryptor<'a, S, V, TAG_BYTES>,
     chunks: &[&[u8]],
-) -> Result<(), Error> {
+    tag: &[u8; TAG_BYTES],
+) -> Result<&'a mut [u8], Error> {
+    let mut decryptor = decryptor;
     for chunk in chunks {
         decryptor.update(chunk)?;
     }
-    Ok(())
+    decryptor.finalize(tag)
 }
 
 /// Opens chunks by a decryptor.
@@ -136,9 +138,7 @@ pub fn open_by_decryptor<'a, const TAG_BYTES: usize>(
     requires associated_data { length associated_data.now ≤ MAX_AEAD_BYTES }
 {
     with_cipher!(cipher, TAG_BYTES, cipher => {
-        let mut decryptor = cipher.decryptor(associated_data, destination);
-        open_each(&mut decryptor, chunks)?;
-        decryptor.finalize(tag)
+        open_each(cipher.decryptor(associated_data, destination), chunks, tag)
     })
 }
 

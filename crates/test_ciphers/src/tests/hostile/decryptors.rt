@@ -25,17 +25,21 @@ fn assert_answer<R: Abort>(rt: &R, answer: Result<(), Error>, expected: Result<(
     assert_eq!(rt; answer, expected);
 }
 
-fn take_steps<R: Abort, S: LaneState, V: Names, const TAG_BYTES: usize>(
+// Takes these steps, and then finalizes the decryptor, or drops it if there is no tag.
+fn take_steps<'a, R: Abort, S: LaneState, V: Names, const TAG_BYTES: usize>(
     rt: &R,
-    decryptor: &mut Decryptor<S, V, TAG_BYTES>,
+    decryptor: Decryptor<'a, S, V, TAG_BYTES>,
     steps: &[Step],
-) {
+    tag: Option<&[u8; TAG_BYTES]>,
+) -> Option<Result<&'a mut [u8], Error>> {
+    let mut decryptor = decryptor;
     for (chunk, expected) in steps {
         assert_answer(rt, decryptor.update(chunk), *expected);
     }
+    Some(decryptor.finalize(tag?))
 }
 
-// Takes these steps, and then finalizes the decryptor, or drops it if there is no tag.
+// Takes these steps in a destination, as `take_steps` does.
 fn end_by_steps<'a, R: Abort, const TAG_BYTES: usize>(
     rt: &R,
     cipher: &AnyCipher,
@@ -46,9 +50,7 @@ fn end_by_steps<'a, R: Abort, const TAG_BYTES: usize>(
     requires { IsTagLength TAG_BYTES }
 {
     with_cipher!(cipher, TAG_BYTES, cipher => {
-        let mut decryptor = cipher.decryptor(&ASSOCIATED_DATA, destination);
-        take_steps(rt, &mut decryptor, steps);
-        Some(decryptor.finalize(tag?))
+        take_steps(rt, cipher.decryptor(&ASSOCIATED_DATA, destination), steps, tag)
     })
 }
 

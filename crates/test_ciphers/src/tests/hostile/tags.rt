@@ -22,8 +22,8 @@ const BEHIND: usize = 6;
 // The bytes of the destinations before.
 const FILLER: u8 = 0x5c;
 
-// Opens at once in place, which leaves 0xaa, and into a vector.
-fn check_at_once<R: Abort + AllocGlobal, const TAG_BYTES: usize>(
+// Opens in place, which leaves 0xaa.
+fn check_in_place<R: Abort + AllocGlobal, const TAG_BYTES: usize>(
     rt: &R,
     cipher: &AnyCipher,
     sealed: &[u8],
@@ -37,9 +37,21 @@ fn check_at_once<R: Abort + AllocGlobal, const TAG_BYTES: usize>(
     assert_error(rt, refused.err(), Error::InvalidTag);
     assert_eq!(rt; buffer.len(), sealed.len());
     assert!(rt; is_all(&buffer, 0xaa));
+    Ok(())
+}
+
+// Opens into a vector.
+fn check_into_a_vector<R: Abort + AllocGlobal, const TAG_BYTES: usize>(
+    rt: &R,
+    cipher: &AnyCipher,
+    sealed: &[u8],
+    tag: &[u8; TAG_BYTES],
+)
+    requires tag { IsTagLength TAG_BYTES }
+    requires sealed { length sealed.now ≤ MAX_AEAD_BYTES }
+{
     let refused = decrypt(cipher, rt.alloc(), sealed, tag, &ASSOCIATED_DATA);
     assert_error(rt, refused.err(), Error::InvalidTag);
-    Ok(())
 }
 
 // Opens in chunks, which leaves zeros in place of the message, and the bytes after it unchanged.
@@ -82,7 +94,8 @@ fn check_tags<R: Abort + AllocGlobal, const TAG_BYTES: usize>(
     for index in 0..TAG_BYTES {
         let mut wrong = right;
         wrong[index] ^= 1;
-        check_at_once(rt, cipher, sealed, &wrong)?;
+        check_in_place(rt, cipher, sealed, &wrong)?;
+        check_into_a_vector(rt, cipher, sealed, &wrong);
         check_in_chunks(rt, cipher, sealed, &wrong);
     }
     Ok(())
