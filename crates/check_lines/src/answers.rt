@@ -28,7 +28,11 @@ pub fn expected_answer(
 }
 
 fn field<'a>(fields: &[&'a [u8]], index: usize) -> &'a [u8] {
-    fields.get(index).copied().unwrap_or(&[])
+    if index < fields.len() {
+        fields[index]
+    } else {
+        &[]
+    }
 }
 
 // The bytes of a field.

@@ -55,8 +55,8 @@ fn output_argument<'a>(alloc: Global) -> Arg<'a> {
 
 fn force_argument<'a>(alloc: Global) -> Arg<'a> {
     Arg::new(alloc, "force")
-        .long("force")
         .action(ArgAction::SetTrue)
+        .long("force")
         .help("Replace OUT if it exists")
 }
 

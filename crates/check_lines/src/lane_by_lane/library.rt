@@ -2,8 +2,9 @@
 
 ghost use Rattle.std.specs.Prelude.{◌<◌, ◌^◌, length};
 
-use aegis_variants::{AnyCipher, TagLength, with_cipher, with_mac};
+use aegis_variants::{AnyCipher, TagLength};
 use reference_lanes::{TwoBlocks, halves};
+use test_tools::calls::encrypt_in_place;
 
 /// Seals a message in place. A tag of 16 bytes has zeros after it.
 pub fn library_seal(
@@ -16,13 +17,8 @@ pub fn library_seal(
     requires message { length buffer.old < 2 ^ 32 }
 {
     match tag_length {
-        TagLength::Short => {
-            let tag = with_cipher!(cipher, 16, cipher => cipher.encrypt_in_place(buffer, ad));
-            [tag, [0; 16]]
-        }
-        TagLength::Long => {
-            halves(&with_cipher!(cipher, 32, cipher => cipher.encrypt_in_place(buffer, ad)))
-        }
+        TagLength::Short => [encrypt_in_place(cipher, buffer, ad), [0; 16]],
+        TagLength::Long => halves(&encrypt_in_place(cipher, buffer, ad)),
     }
 }
 
@@ -31,18 +27,7 @@ pub fn library_mac(cipher: &AnyCipher, tag_length: TagLength, input: &[u8]) -> T
     requires { length input.now < 2 ^ 32 }
 {
     match tag_length {
-        TagLength::Short => {
-            let tag = with_mac!(cipher, 16, mac => {
-                let mut mac = mac;
-                mac.update(input);
-                mac.finalize()
-            });
-            [tag, [0; 16]]
-        }
-        TagLength::Long => halves(&with_mac!(cipher, 32, mac => {
-            let mut mac = mac;
-            mac.update(input);
-            mac.finalize()
-        })),
+        TagLength::Short => [cipher.mac_chunks(&[input]), [0; 16]],
+        TagLength::Long => halves(&cipher.mac_chunks(&[input])),
     }
 }
