@@ -1,5 +1,5 @@
-.PHONY: run test check-pages bench bench-peers bench-states c-library check-c check-header check-sodium check-rust check-install install \
-	install-tool check-tool gcc-aarch64-linux-gnu qemu-user
+.PHONY: run try test check-pages check-edits bench bench-peers bench-states c-library check-c check-header check-sodium check-rust \
+	check-install install install-tool check-tool gcc-aarch64-linux-gnu qemu-user
 .SECONDARY:
 
 SHELL = /bin/bash
@@ -14,15 +14,22 @@ OUT = out
 
 # ---- The two commands
 
-# Proves, builds and runs the line program on what is connected to its standard input, or on its stored first lines if
-# that is a terminal, /dev/null or nothing.
-run: $(OUT)/line-program
-	@cd crates/aegis_vectors && \
+# Runs the line program by a command, on what is connected to its standard input, or on its stored first lines if that is a
+# terminal, /dev/null or nothing.
+on_input = cd crates/aegis_vectors && \
 	if [ ! -e /dev/stdin ] || [ -c /dev/stdin ]; then \
-		echo 'the stored lines of crates/aegis_vectors/stdin:' >&2; rt run < stdin; \
+		echo 'the stored lines of crates/aegis_vectors/stdin:' >&2; $(1) < stdin; \
 	else \
-		rt run; \
+		$(1); \
 	fi
+
+# Proves, builds and runs the line program.
+run: $(OUT)/line-program
+	@$(call on_input,rt run)
+
+# Runs it by an interpreter, before anything is proved.
+try:
+	@$(call on_input,rt try)
 
 # The line program's crates, lowest first. They are proved one after the other, since rt locks the crates below its own.
 RUN_CRATES = aegis_aes aegis_base aegis_128 aegis_256 aegis_engine aegis aegis_variants aegis_lines aegis_vectors
@@ -38,6 +45,10 @@ $(OUT)/line-program: $(shell find $(RUN_CRATES:%=crates/%) -name out -prune -o -
 # The merge gate: the pages, every proof from nothing, the must-fail edits, the tests and the programs.
 test: check-pages
 	RT_JOBS=$(CHECKS) rt ci
+
+# Tries the edits that the gate leaves out: the prover has to refuse each. About half as long as the gate.
+check-edits:
+	edits/check.sh
 
 # Each Rust sample of the pages is a part of a proved crate, and no line of a contract or a page and no decision is too long.
 check-pages:
