@@ -50,10 +50,12 @@ test: check-pages
 check-edits:
 	edits/check.sh
 
-# Each Rust sample of the pages is a part of a proved crate, and no line of a contract or a page and no decision is too long.
+# Each Rust sample of the pages is a part of a proved crate, no line of a contract or a page and no decision is too long, and
+# each edit that the gate leaves out can be applied.
 check-pages:
 	sh docs/check_samples.sh README.md docs/CALLING.md
 	python3 docs/check_clauses.py
+	python3 edits/check_texts.py
 
 # ---- The C library, for Linux. What follows builds with stock gcc and rustc, and proves nothing but that library.
 
