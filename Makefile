@@ -46,7 +46,7 @@ $(OUT)/line-program: $(shell find $(RUN_CRATES:%=crates/%) -name out -prune -o -
 test: check-pages
 	RT_JOBS=$(CHECKS) rt ci
 
-# Tries the edits that the gate leaves out: the prover has to refuse each. About half as long as the gate.
+# Tries the edits that the gate leaves out: the prover has to refuse each.
 check-edits:
 	edits/check.sh
 
