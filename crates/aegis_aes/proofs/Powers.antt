@@ -144,32 +144,36 @@ module _ (a b : List ℕ) where
       (sum_of_two (λ x y. part 16 (t4 x) y) (λ x y. part 32 (t5 x) y) (part_of 16 t4 e4 n4) (part_of 32 t5 e5 n5)) (part_of 64 t6 e6 n6)) (part_of 128 t7 e7 n7))
 
 -- ---- the power 254
+-- its argument is computed once
+abbrev pub square : ℕ → ℕ
+square x = mul x x
+
 abbrev pub p2 : ℕ → ℕ
-p2 x = mul x x
+p2 x = square x
 
 abbrev pub p3 : ℕ → ℕ
 p3 x = mul (p2 x) x
 
 abbrev pub p6 : ℕ → ℕ
-p6 x = mul (p3 x) (p3 x)
+p6 x = square (p3 x)
 
 abbrev pub p12 : ℕ → ℕ
-p12 x = mul (p6 x) (p6 x)
+p12 x = square (p6 x)
 
 abbrev pub p15 : ℕ → ℕ
 p15 x = mul (p12 x) (p3 x)
 
 abbrev pub p30 : ℕ → ℕ
-p30 x = mul (p15 x) (p15 x)
+p30 x = square (p15 x)
 
 abbrev pub p60 : ℕ → ℕ
-p60 x = mul (p30 x) (p30 x)
+p60 x = square (p30 x)
 
 abbrev pub p120 : ℕ → ℕ
-p120 x = mul (p60 x) (p60 x)
+p120 x = square (p60 x)
 
 abbrev pub p240 : ℕ → ℕ
-p240 x = mul (p120 x) (p120 x)
+p240 x = square (p120 x)
 
 abbrev pub p252 : ℕ → ℕ
 p252 x = mul (p240 x) (p12 x)
@@ -181,7 +185,7 @@ all_powers : agree_below (λ x. p254 x == inverse x) (λ _. true) 256 ≡ true
 unfolding mul mul_bits inverse
 all_powers = refl
 
-power_is_inverse : (x : ℕ) → x < 256 → p254 x ≡ inverse x
+pub power_is_inverse : (x : ℕ) → x < 256 → p254 x ≡ inverse x
 power_is_inverse x h = eqb-true _ _ (agree_below_at (λ x. p254 x == inverse x) (λ _. true) 256 x all_powers h)
 
 pub map-agrees : (f g : ℕ → ℕ) → ((x : ℕ) → x < 256 → f x ≡ g x) → (xs : List ℕ) → Each1 (Fits w8) xs → map f xs ≡ map g xs
@@ -207,14 +211,16 @@ powers xs fits m2 m3 m6 m12 m15 m30 m60 m120 m240 m252 m254 =
     let e252 = m252 ∙ zip2_of_maps mul p240 p12 xs e240 e12 in
     m254 ∙ zip2_of_maps mul p252 p2 xs e252 e2 ∙ map-agrees p254 inverse power_is_inverse xs fits
 
-all_inverses : agree_below (λ x. nat_lt (inverse x) 256) (λ _. true) 256 ≡ true
-unfolding mul mul_bits inverse
-all_inverses = refl
+all_bytes : agree_below (λ x. nat_lt (p254 x) 256) (λ _. true) 256 ≡ true
+unfolding mul mul_bits
+all_bytes = refl
+
+pub inverse_lt : (x : ℕ) → x < 256 → inverse x < 256
+inverse_lt x h = rw (← power_is_inverse x h) (ltb-true _ _ (agree_below_at (λ x. nat_lt (p254 x) 256) (λ _. true) 256 x all_bytes h))
 
 inverses_fit : (xs : List ℕ) → Each1 (Fits w8) xs → Each1 (Fits w8) (map inverse xs)
 inverses_fit [] fits = tt
-inverses_fit (x ∷ xs) fits =
-    (record { fits = ltb-true _ _ (agree_below_at (λ x. nat_lt (inverse x) 256) (λ _. true) 256 x all_inverses fits.0.fits) }, inverses_fit xs fits.1)
+inverses_fit (x ∷ xs) fits = (record { fits = inverse_lt x fits.0.fits }, inverses_fit xs fits.1)
 
 -- ---- the affine map
 abbrev pub rotate : ℕ → ℕ → ℕ
