@@ -2,6 +2,7 @@
 //! crate has no proof file. `docs/CALLING.md` and the docs of `aegis` show some of them.
 #![tactic(auto)]
 
+pub mod any_variant;
 pub mod chunks;
 pub mod encrypted_file;
 pub mod headline;

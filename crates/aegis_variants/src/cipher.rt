@@ -134,6 +134,10 @@ fn open_whole<S: LaneState, V: aegis_base::Names, const KEY_BYTES: usize, const 
         → Opens S.VARIANT TAG_BYTES cipher.now.key cipher.now.nonce associated_data.now
         (joined chunks.now) tag.now m
         → IsOk result }
+    ensures only { (m : List ℕ)
+        → Opens S.VARIANT TAG_BYTES cipher.now.key cipher.now.nonce associated_data.now
+        (joined chunks.now) tag.now m
+        → message.new ≡ m }
     ensures error { IfErr result (λ e. e ≡ Error.InvalidTag) }
 {
     cipher.open_chunks_len(associated_data, chunks, tag, message)
@@ -228,6 +232,9 @@ impl AnyCipher {
         ensures accepted { (m : List ℕ)
             → sealed_by self.now TAG_BYTES associated_data.now m ≡ (joined chunks.now, tag.now)
             → IsOk result }
+        ensures only { (m : List ℕ)
+            → sealed_by self.now TAG_BYTES associated_data.now m ≡ (joined chunks.now, tag.now)
+            → message.new ≡ m }
         ensures error { IfErr result (λ e. e ≡ Error.InvalidTag) }
     {
         with_cipher!(self, TAG_BYTES, cipher => {

@@ -1,7 +1,7 @@
 //! The six variants and the two lengths of tags.
 
 ghost use Rattle.std.specs.Prelude.{◌≡◌, ◌≤◌};
-ghost use Rattle.aegis_variants.specs.Variant.{rate_of, tag_length_of};
+ghost use Rattle.aegis_variants.specs.Variant.{name_of, rate_of, tag_length_of};
 
 /// A variant of AEGIS.
 #[derive(Clone, Copy, Debug)]
@@ -26,7 +26,9 @@ pub const VARIANTS: [AnyVariant; 6] = [
 
 impl AnyVariant {
     /// Returns the name of the variant's module.
-    pub fn name(self) -> &'static str {
+    pub fn name(self) -> &'static str
+        ensures { result.now ≡ name_of self }
+    {
         match self {
             AnyVariant::Aegis128L => "aegis128l",
             AnyVariant::Aegis128X2 => "aegis128x2",

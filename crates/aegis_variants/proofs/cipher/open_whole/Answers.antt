@@ -17,3 +17,11 @@ pub returns-clause-accepted : goal.returns-clause-accepted
 returns-clause-accepted g c =
     let whole = whole_accepted c.args.chunks.now (length c.args.message.now) c.requires.ciphertext c.requires.lengths in
     rw whole at c.open_chunks_len.ensures.accepted
+
+pub returns-clause-only : goal.returns-clause-only
+returns-clause-only g c =
+    let whole = whole_accepted c.args.chunks.now (length c.args.message.now) c.requires.ciphertext c.requires.lengths in
+    let long = c.open_chunks_len.auto.dst in
+    let lengths = c.requires.lengths in
+    let all = take_all (length (joined c.args.chunks.now)) c.open_chunks_len.new.dst (omega (arith, long, lengths)) in
+    rw (whole, all) at c.open_chunks_len.ensures.only
