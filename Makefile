@@ -32,27 +32,31 @@ try:
 	@$(call on_input,rt try)
 
 # The line program's crates, lowest first, each after those that it needs.
-RUN_CRATES = aegis_aes aegis_base aegis_engine $(FAMILIES) aegis aegis_variants aegis_lines aegis_vectors
+RUN_LIBRARIES = aegis_aes aegis_base aegis_engine $(FAMILIES) aegis aegis_variants aegis_lines
+RUN_CRATES = $(RUN_LIBRARIES) aegis_vectors
 
 # They need only the first two, so they are proved beside the engine: in a copy of the four, since rt locks the crates below
-# its own. rt takes from there what it proved.
+# its own. Their folders `out` are moved back from there, and rt then finds them proved.
 FAMILIES = aegis_128 aegis_256
 COPIED = aegis_aes aegis_base $(FAMILIES)
 
 prove_in_copy = cp HANDLES $$copy && grep $(COPIED:%=-e '^%:') crates.txt > $$copy/crates.txt && \
 	tar -cf - $(COPIED:%=crates/%) | tar -xf - -C $$copy && \
-	for crate in $(FAMILIES); do (cd $$copy/crates/$$crate && rt lib --jobs 1); done
+	for crate in $(FAMILIES); do (cd $$copy/crates/$$crate && rt lib --jobs 1) || exit 1; done
+move_back = for crate in $(FAMILIES); do rm -rf crates/$$crate/out && mv $$copy/crates/$$crate/out crates/$$crate; done
 
+# The program is proved by `rt run`. Its proof is mostly reading those of its crates, which several jobs make slower.
 $(OUT)/line-program: $(shell find $(RUN_CRATES:%=crates/%) -name out -prune -o -type f -print) crates.txt | $(OUT)
-	@copy=$$(mktemp -d); trap 'rm -rf "$$copy"' EXIT; number=0; for crate in $(RUN_CRATES); do \
+	@copy=$$(mktemp -d); trap 'rm -rf "$$copy"' EXIT; number=0; for crate in $(RUN_LIBRARIES); do \
 		number=$$((number + 1)); echo "proving $$crate ($$number of $(words $(RUN_CRATES)))" >&2; \
 		case $$crate in \
-			aegis_engine) ($(prove_in_copy)) > $(OUT)/copy.log 2>&1 & ;; \
-			$(firstword $(FAMILIES))) wait ;; \
+			aegis_engine) ($(prove_in_copy)) > $(OUT)/copy.log 2>&1 & copying=$$! ;; \
+			$(firstword $(FAMILIES))) if wait $$copying; then $(move_back); fi ;; \
 		esac; \
-		(cd crates/$$crate && if [ -e src/main.rt ]; then rt check --jobs $(CHECKS); else rt lib --jobs $(CHECKS); fi) \
-			> $(OUT)/proof.log 2>&1 || { cat $(OUT)/proof.log; exit 1; }; \
-	done
+		(cd crates/$$crate && rt lib --jobs $(CHECKS)) > $(OUT)/proof.log 2>&1 || { cat $(OUT)/proof.log; exit 1; }; \
+	done; \
+	echo 'proving aegis_vectors ($(words $(RUN_CRATES)) of $(words $(RUN_CRATES)))' >&2; \
+	(cd crates/aegis_vectors && rt run --jobs 1 < /dev/null) > $(OUT)/proof.log 2>&1 || { cat $(OUT)/proof.log; exit 1; }
 	@touch $@
 
 # The merge gate: the pages, every proof from nothing, the must-fail edits, the tests and the programs.
