@@ -35,8 +35,8 @@ try:
 RUN_LIBRARIES = aegis_aes aegis_base aegis_engine $(FAMILIES) aegis aegis_variants aegis_lines
 RUN_CRATES = $(RUN_LIBRARIES) aegis_vectors
 
-# They need only the first two, so they are proved beside the engine: in a copy of the four, since rt locks the crates below
-# its own. Their folders `out` are moved back from there, and rt then finds them proved.
+# The families need only the first two, so they are proved beside the engine: in a copy of the four, since rt locks the
+# crates below its own. Their folders `out` are moved back from there, and rt then finds them proved.
 FAMILIES = aegis_128 aegis_256
 COPIED = aegis_aes aegis_base $(FAMILIES)
 
