@@ -187,23 +187,25 @@ length-record_of p flag m =
     let long : length body ≡ length m + 32 = (sealed-is p.key p.prefix p.context).long p.version p.number p.before flag m in
     omega (arith, length-append (to_le_bytes w32 (length m)) body)
 
--- a progress and the one after the record that was read
-pub record IsAfter (p q : Progress) (flag : ℕ) (m : List ℕ) : Type 0 where
-  pub key : q.key ≡ p.key
-  pub prefix : q.prefix ≡ p.prefix
-  pub context : q.context ≡ p.context
-  pub version : q.version ≡ p.version
-  pub number : q.number ≡ p.number + 1
-  pub before : q.before ≡ p.before + length m
-  pub ended : q.ended ≡ nat_eq flag 1
+-- the progress after the record that was read, whose message has n bytes
+abbrev pub moved : Progress → ℕ → ℕ → Progress
+moved p flag n = record {
+  key = p.key;
+  prefix = p.prefix;
+  context = p.context;
+  version = p.version;
+  number = p.number + 1;
+  before = p.before + n;
+  ended = nat_eq flag 1;
+}
 
-pub begun_next : (p q : Progress) (flag : ℕ) (m rest bytes : List ℕ) → Read p flag m rest bytes → IsAfter p q flag m
+pub begun_next : (p : Progress) (flag n : ℕ) (m rest bytes : List ℕ) → Read p flag m rest bytes → n ≡ length m
     → OnFalse (nat_eq flag 1) ((key prefix context : List ℕ) (ms : List (List ℕ)) (before : List ℕ) → Begun p key prefix context ms before
-    → Begun q key prefix context (ms ++ m ∷ []) (before ++ record_of p 0 m))
-begun_next p q flag m rest bytes r b = elim (eqb_tells flag 1) [
+    → Begun (moved p flag n) key prefix context (ms ++ m ∷ []) (before ++ record_of p 0 m))
+begun_next p flag n m rest bytes r size = elim (eqb_tells flag 1) [
   | inl same ↦ rw same.0 tt
-  | inr differs ↦ rw differs.0 (begun_more p q m
-      (record { key = b.key; prefix = b.prefix; context = b.context; version = b.version; number = b.number; before = b.before; unended = b.ended ∙ differs.0 })
+  | inr differs ↦ rw differs.0 (begun_more p (record (moved p flag n) { ended = false }) m
+      (record { key = refl; prefix = refl; context = refl; version = refl; number = refl; before = ap (λ (k : ℕ). p.before + k) size; unended = refl })
       r.within)
 ]
 
@@ -215,17 +217,13 @@ begun_ends p flag m rest bytes r = elim (eqb_tells flag 1) [
   | inr differs ↦ rw differs.0 tt
 ]
 
-pub read_long : (p : Progress) (flag : ℕ) (m rest bytes : List ℕ) → Read p flag m rest bytes → length bytes ≡ 37 + length m + length rest
-read_long p flag m rest bytes r =
-    let all = ap length r.are in
+pub record_long : (key prefix context : List ℕ) (v : Version) (k o flag : ℕ) (m rest bytes : List ℕ)
+    → IsRecord (sealed key prefix context) v k o flag m rest bytes → length bytes ≡ 37 + length m + length rest
+record_long key prefix context v k o flag m rest bytes r =
+    let p : Progress = record { key = key; prefix = prefix; context = context; version = v; number = k; before = o; ended = false } in
+    let read = read_of p flag m rest bytes r in
+    let all = ap length read.are in
     omega (arith, length-append (record_of p flag m) rest, length-record_of p flag m)
-
-pub taken_more : (p q : Progress) (flag : ℕ) (m rest bytes : List ℕ) → Read p flag m rest bytes → IsAfter p q flag m
-    → taken q + length rest ≡ taken p + length bytes
-taken_more p q flag m rest bytes r b =
-    let number = b.number in
-    let before = b.before in
-    omega (arith, read_long p flag m rest bytes r)
 
 -- ---- the first five bytes of a record
 

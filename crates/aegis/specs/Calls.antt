@@ -81,6 +81,10 @@ sealing_of cipher = sealed cipher.key.now cipher.prefix.now cipher.context.now
 abbrev pub sealed_at : RecordCipher → RecordPlace → List ℕ → List ℕ
 sealed_at cipher place m = sealing_of cipher place.version place.number place.before place.flag m
 
+-- the whole record of a message at a place
+abbrev pub frame_at : RecordCipher → RecordPlace → List ℕ → List ℕ
+frame_at cipher place m = frame (sealing_of cipher) place.version place.number place.before place.flag m
+
 -- the bytes begin with record k, after messages of o bytes: it is message m with this flag, and `rest` follows it
 pub record IsRecord (sealing : Sealing) (v : Version) (k o flag : ℕ) (m rest bytes : List ℕ) : Type 0 where
   pub known : flag ≤ 1

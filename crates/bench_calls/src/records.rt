@@ -122,23 +122,23 @@ fn open_by_steps<A: Allocator + Copy>(alloc: A, stream: &[u8]) -> Option<usize> 
     None
 }
 
-/// Seals a message a record at a time, and opens the stream of its records in the same way.
+/// Seals a message a record at a time, and then opens the stream of its records in the same way.
 pub fn turn_by_steps<R: Runtime, A: Allocator + Copy>(
     rt: &R,
     alloc: A,
     message: &[u8],
 ) -> io::Result<Times> {
-    let records = records_of(alloc, message)?;
-    let stream = seal(alloc, &records).ok_or(io::Error::from(io::ErrorKind::InvalidData))?;
     let start = Instant::now(rt)?;
     let sealed = seal_by_steps(alloc, message);
-    let seal = start.elapsed(rt)?;
+    let seal_time = start.elapsed(rt)?;
+    let records = records_of(alloc, message)?;
+    let stream = seal(alloc, &records).ok_or(io::Error::from(io::ErrorKind::InvalidData))?;
     let start = Instant::now(rt)?;
     let opened = open_by_steps(alloc, &stream);
     let open = start.elapsed(rt)?;
     match (sealed, opened) {
         (Some(()), Some(bytes)) if bytes == message.len() => Ok(Times {
-            seal,
+            seal: seal_time,
             open,
             xor: Duration::ZERO,
         }),

@@ -2,10 +2,10 @@
 
 ghost use Rattle.std.specs.Prelude.{◌≡◌, ◌+◌, ◌-◌, ◌≤◌, ◌++◌, ◌∷◌, [], IfErr, IfOk, List, OnErr, OnOk, false, length, ℕ};
 ghost use Rattle.aegis_base.specs.declared.error.TheConstants.{MAX_AEAD_BYTES};
-ghost use Rattle.aegis.specs.Calls.{sealing_of};
+ghost use Rattle.aegis.specs.Calls.{frame_at};
 ghost use Rattle.aegis.specs.Progress.{Begun, after, first_position, position_of, progress_at, record_of, taken};
 ghost use Rattle.aegis.specs.Records.{AreRecords};
-ghost use Rattle.aegis.specs.RecordStream.{frame, header, limit};
+ghost use Rattle.aegis.specs.RecordStream.{header, limit};
 ghost use Rattle.aegis.specs.declared.record.version.Version.TheVariants.{Second};
 
 use crate::aegis256::Key;
@@ -31,10 +31,8 @@ fn append_record<A: Allocator>(
 ) -> Result<(), RecordError>
     requires context { length cipher.now.context.now ≤ MAX_CONTEXT_BYTES }
     requires within { length message.now ≤ limit place.version }
-    ensures ok { OnOk result (out.new.items
-        ≡ out.old.items
-        ++ frame (sealing_of cipher.now) place.version place.number place.before place.flag
-        message.now) }
+    ensures ok { OnOk result
+        (out.new.items ≡ out.old.items ++ frame_at cipher.now place message.now) }
     ensures err { IfErr result (λ e. e ≡ RecordError.OutOfMemory) }
     ensures kept { OnErr result ((part : List ℕ) × (out.new.items ≡ out.old.items ++ part)) }
 {
@@ -53,10 +51,8 @@ fn seal_record<A: Allocator>(
 ) -> Result<(), RecordError>
     requires context { length cipher.now.context.now ≤ MAX_CONTEXT_BYTES }
     requires within { length message.now ≤ limit place.version }
-    ensures ok { OnOk result (out.new.items
-        ≡ out.old.items
-        ++ frame (sealing_of cipher.now) place.version place.number place.before place.flag
-        message.now) }
+    ensures ok { OnOk result
+        (out.new.items ≡ out.old.items ++ frame_at cipher.now place message.now) }
     ensures err { IfErr result (λ e. e ≡ RecordError.OutOfMemory) }
     ensures kept { OnErr result (out.new.items ≡ out.old.items) }
 {

@@ -26,45 +26,22 @@ pub fn pieces<'a>(
     Ok(pieces)
 }
 
-// Passes chunks to an encryptor by `update`. Returns the tag, and what `remaining` returns.
-fn update_all<S: LaneState, V: Names, const TAG_BYTES: usize>(
-    encryptor: Encryptor<S, V, TAG_BYTES>,
-    chunks: &[&[u8]],
-    ciphertext: &mut [u8],
-) -> ([u8; TAG_BYTES], u64) {
-    let mut encryptor = encryptor;
-    let mut rest = ciphertext;
-    for chunk in chunks {
-        let length = chunk.len().min(rest.len());
-        let (sealed, after) = rest.split_at_mut(length);
-        if sealed.len() == chunk.len() && encryptor.remaining() > chunk.len() as u64 {
-            encryptor.update(chunk, sealed);
-        }
-        rest = after;
-    }
-    let remaining = encryptor.remaining();
-    (encryptor.finalize(), remaining)
+/// The call by which an encryptor takes its chunks.
+#[derive(Clone, Copy, Debug)]
+pub enum Update {
+    /// `update_in_place`, in a buffer with the message.
+    InPlace,
+    /// `update`.
+    Copied,
 }
 
-/// Seals chunks by `update`. Returns the tag, and what `remaining` returns. The ciphertext must be as long as all
-/// chunks together.
-pub fn seal_by_update<const TAG_BYTES: usize>(
-    cipher: &AnyCipher,
-    associated_data: &[u8],
-    chunks: &[&[u8]],
-    ciphertext: &mut [u8],
-) -> ([u8; TAG_BYTES], u64)
-    requires tag { IsTagLength TAG_BYTES }
-    requires associated_data { length associated_data.now ≤ MAX_AEAD_BYTES }
-{
-    with_cipher!(cipher, TAG_BYTES, cipher => {
-        update_all(cipher.encryptor(associated_data), chunks, ciphertext)
-    })
-}
+/// Both calls.
+pub const UPDATES: [Update; 2] = [Update::InPlace, Update::Copied];
 
-// Passes chunks to an encryptor by `update_in_place`. Returns the tag, and what `remaining` returns.
-fn update_all_in_place<S: LaneState, V: Names, const TAG_BYTES: usize>(
+// Passes chunks to an encryptor. Returns the tag, and what `remaining` returns.
+fn seal_each<S: LaneState, V: Names, const TAG_BYTES: usize>(
     encryptor: Encryptor<S, V, TAG_BYTES>,
+    update: Update,
     chunks: &[&[u8]],
     buffer: &mut [u8],
 ) -> ([u8; TAG_BYTES], u64) {
@@ -73,8 +50,11 @@ fn update_all_in_place<S: LaneState, V: Names, const TAG_BYTES: usize>(
     for chunk in chunks {
         let length = chunk.len().min(rest.len());
         let (sealed, after) = rest.split_at_mut(length);
-        if encryptor.remaining() > sealed.len() as u64 {
-            encryptor.update_in_place(sealed);
+        if sealed.len() == chunk.len() && encryptor.remaining() > chunk.len() as u64 {
+            match update {
+                Update::InPlace => encryptor.update_in_place(sealed),
+                Update::Copied => encryptor.update(chunk, sealed),
+            }
         }
         rest = after;
     }
@@ -82,9 +62,11 @@ fn update_all_in_place<S: LaneState, V: Names, const TAG_BYTES: usize>(
     (encryptor.finalize(), remaining)
 }
 
-/// Seals chunks by `update_in_place`, in a buffer with the message. Otherwise as `seal_by_update`.
-pub fn seal_in_place<const TAG_BYTES: usize>(
+/// Seals chunks by an encryptor, in a buffer that is as long as all of them together. Returns the tag, and what
+/// `remaining` returns.
+pub fn seal_by_encryptor<const TAG_BYTES: usize>(
     cipher: &AnyCipher,
+    update: Update,
     associated_data: &[u8],
     chunks: &[&[u8]],
     buffer: &mut [u8],
@@ -93,7 +75,7 @@ pub fn seal_in_place<const TAG_BYTES: usize>(
     requires associated_data { length associated_data.now ≤ MAX_AEAD_BYTES }
 {
     with_cipher!(cipher, TAG_BYTES, cipher => {
-        update_all_in_place(cipher.encryptor(associated_data), chunks, buffer)
+        seal_each(cipher.encryptor(associated_data), update, chunks, buffer)
     })
 }
 
@@ -113,47 +95,90 @@ pub fn seal_at_once<R: Abort, const TAG_BYTES: usize>(
     Some(cipher.seal_chunks(associated_data, chunks, ciphertext))
 }
 
-// Passes chunks to a decryptor, and then the tag if it refuses none.
-fn open_each<'a, S: LaneState, V: Names, const TAG_BYTES: usize>(
-    decryptor: Decryptor<'a, S, V, TAG_BYTES>,
-    chunks: &[&[u8]],
-    tag: &[u8; TAG_BYTES],
-) -> Result<&'a mut [u8], Error> {
-    let mut decryptor = decryptor;
+/// A chunk, and what `update` of a decryptor returns for it.
+pub type Step<'a> = (&'a [u8], Result<(), Error>);
+
+/// Returns a step for each chunk, which is accepted.
+pub fn accepted<'a>(alloc: Global, chunks: &[&'a [u8]]) -> Result<Vec<Step<'a>>, AllocError> {
+    let mut steps = Vec::new(alloc);
     for chunk in chunks {
-        decryptor.update(chunk)?;
+        steps.push((*chunk, Ok(())))?;
     }
-    decryptor.finalize(tag)
+    Ok(steps)
 }
 
-/// Opens chunks by a decryptor.
-pub fn open_by_decryptor<'a, const TAG_BYTES: usize>(
+fn assert_answer<R: Abort>(rt: &R, answer: Result<(), Error>, expected: Result<(), Error>) {
+    assert_eq!(rt; answer, expected);
+}
+
+// Takes these steps, and then finalizes the decryptor, or drops it if there is no tag. Returns the length of the
+// message.
+fn take_steps<R: Abort, S: LaneState, V: Names, const TAG_BYTES: usize>(
+    rt: &R,
+    decryptor: Decryptor<'_, S, V, TAG_BYTES>,
+    steps: &[Step],
+    tag: Option<&[u8; TAG_BYTES]>,
+) -> Option<Result<usize, Error>> {
+    let mut decryptor = decryptor;
+    for (chunk, expected) in steps {
+        assert_answer(rt, decryptor.update(chunk), *expected);
+    }
+    Some(length_of(decryptor.finalize(tag?)))
+}
+
+fn length_of(opened: Result<&mut [u8], Error>) -> Result<usize, Error> {
+    Ok(opened?.len())
+}
+
+/// Asserts how an opening has ended.
+pub fn assert_ended<R: Abort>(
+    rt: &R,
+    ended: Option<Result<usize, Error>>,
+    expected: Result<usize, Error>,
+) {
+    assert_eq!(rt; ended, Some(expected));
+}
+
+/// Asserts that a message was opened, and that the destination begins with it.
+pub fn assert_opened<R: Abort>(
+    rt: &R,
+    ended: Option<Result<usize, Error>>,
+    destination: &[u8],
+    message: &[u8],
+) {
+    assert_ended(rt, ended, Ok(message.len()));
+    assert!(rt; destination.starts_with(message));
+}
+
+/// Opens chunks by a decryptor, which is finalized, or dropped if there is no tag. Returns the length of the message.
+pub fn open_by_decryptor<R: Abort, const TAG_BYTES: usize>(
+    rt: &R,
     cipher: &AnyCipher,
     associated_data: &[u8],
-    chunks: &[&[u8]],
-    tag: &[u8; TAG_BYTES],
-    destination: &'a mut [u8],
-) -> Result<&'a mut [u8], Error>
+    steps: &[Step],
+    tag: Option<&[u8; TAG_BYTES]>,
+    destination: &mut [u8],
+) -> Option<Result<usize, Error>>
     requires tag { IsTagLength TAG_BYTES }
     requires associated_data { length associated_data.now ≤ MAX_AEAD_BYTES }
 {
     with_cipher!(cipher, TAG_BYTES, cipher => {
-        open_each(cipher.decryptor(associated_data, destination), chunks, tag)
+        take_steps(rt, cipher.decryptor(associated_data, destination), steps, tag)
     })
 }
 
-/// Opens chunks by `open_chunks`.
-pub fn open_at_once<'a, const TAG_BYTES: usize>(
+/// Opens chunks by `open_chunks`. Returns the length of the message.
+pub fn open_at_once<const TAG_BYTES: usize>(
     cipher: &AnyCipher,
     associated_data: &[u8],
     chunks: &[&[u8]],
     tag: &[u8; TAG_BYTES],
-    destination: &'a mut [u8],
-) -> Result<&'a mut [u8], Error>
+    destination: &mut [u8],
+) -> Result<usize, Error>
     requires tag { IsTagLength TAG_BYTES }
     requires associated_data { length associated_data.now ≤ MAX_AEAD_BYTES }
 {
     with_cipher!(cipher, TAG_BYTES, cipher => {
-        cipher.open_chunks(associated_data, chunks, tag, destination)
+        length_of(cipher.open_chunks(associated_data, chunks, tag, destination))
     })
 }

@@ -5,7 +5,8 @@ ghost use Rattle.aegis_base.specs.Lane.{IsTagLength};
 
 use crate::tests::assert_bytes;
 use crate::tests::chunks::chunked::{
-    open_at_once, open_by_decryptor, pieces, seal_at_once, seal_by_update, seal_in_place,
+    UPDATES, accepted, assert_opened, open_at_once, open_by_decryptor, pieces, seal_at_once,
+    seal_by_encryptor,
 };
 use aegis_variants::{AnyCipher, VARIANTS};
 use std::process::Abort;
@@ -29,13 +30,13 @@ fn check_sealing<R: Abort + AllocGlobal, const TAG_BYTES: usize>(
 {
     let chunks = pieces(rt.alloc(), message, lengths)?;
     let mut sealed = Vec::from_slice(rt.alloc(), message)?;
-    let (tag, _) = seal_in_place::<TAG_BYTES>(cipher, &ASSOCIATED_DATA, &chunks, &mut sealed);
-    assert_bytes(rt, &sealed, expected, &lengths);
-    assert_bytes(rt, &tag, expected_tag, &lengths);
-    sealed.fill(0);
-    let (tag, _) = seal_by_update::<TAG_BYTES>(cipher, &ASSOCIATED_DATA, &chunks, &mut sealed);
-    assert_bytes(rt, &sealed, expected, &lengths);
-    assert_bytes(rt, &tag, expected_tag, &lengths);
+    for update in UPDATES {
+        sealed.copy_from_slice(message);
+        let data = &ASSOCIATED_DATA;
+        let (tag, _) = seal_by_encryptor::<TAG_BYTES>(cipher, update, data, &chunks, &mut sealed);
+        assert_bytes(rt, &sealed, expected, &lengths);
+        assert_bytes(rt, &tag, expected_tag, &lengths);
+    }
     sealed.fill(0);
     let tag = seal_at_once::<_, TAG_BYTES>(
         rt,
@@ -60,13 +61,15 @@ fn check_opening<R: Abort + AllocGlobal, const TAG_BYTES: usize>(
 ) -> Result<(), Fail>
     requires { IsTagLength TAG_BYTES }
 {
+    let data = &ASSOCIATED_DATA;
     let chunks = pieces(rt.alloc(), ciphertext, lengths)?;
+    let steps = accepted(rt.alloc(), &chunks)?;
     let mut opened = [0; LONGEST];
-    let by_decryptor = open_by_decryptor(cipher, &ASSOCIATED_DATA, &chunks, tag, &mut opened)?;
-    assert_bytes(rt, by_decryptor, message, &lengths);
+    let ended = open_by_decryptor(rt, cipher, data, &steps, Some(tag), &mut opened);
+    assert_opened(rt, ended, &opened, message);
     let mut opened = [0; LONGEST];
-    let at_once = open_at_once(cipher, &ASSOCIATED_DATA, &chunks, tag, &mut opened)?;
-    assert_bytes(rt, at_once, message, &lengths);
+    let ended = open_at_once(cipher, data, &chunks, tag, &mut opened);
+    assert_opened(rt, Some(ended), &opened, message);
     Ok(())
 }
 

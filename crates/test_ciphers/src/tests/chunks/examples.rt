@@ -5,7 +5,7 @@ ghost use Rattle.aegis_base.specs.Lane.{IsTagLength};
 
 use crate::tests::assert_bytes;
 use crate::tests::chunks::chunked::{
-    open_by_decryptor, pieces, seal_at_once, seal_by_update, seal_in_place,
+    UPDATES, Update, assert_opened, open_by_decryptor, pieces, seal_at_once, seal_by_encryptor,
 };
 use aegis_variants::{AnyCipher, AnyVariant, Keys, VARIANTS};
 use hex::FromHex;
@@ -27,14 +27,13 @@ fn aegis128l_in_six_pieces(rt: HostRuntime) -> Result<(), Fail> {
     let ciphertext = <[u8; 114] as FromHex>::from_hex(AEGIS128L_CIPHERTEXT)?;
     let expected = <[u8; 16] as FromHex>::from_hex(AEGIS128L_TAG)?;
     let chunks = pieces(rt.alloc(), &MESSAGE, &LENGTHS)?;
-    let mut sealed = [0; 114];
-    let (tag, _) = seal_by_update::<16>(&cipher, &ASSOCIATED_DATA, &chunks, &mut sealed);
-    assert_bytes(&rt, &sealed, &ciphertext, &"by update");
-    assert_bytes(&rt, &tag, &expected, &"by update");
-    let mut sealed = MESSAGE;
-    let (tag, _) = seal_in_place::<16>(&cipher, &ASSOCIATED_DATA, &chunks, &mut sealed);
-    assert_bytes(&rt, &sealed, &ciphertext, &"in place");
-    assert_bytes(&rt, &tag, &expected, &"in place");
+    for update in UPDATES {
+        let mut sealed = MESSAGE;
+        let data = &ASSOCIATED_DATA;
+        let (tag, _) = seal_by_encryptor::<16>(&cipher, update, data, &chunks, &mut sealed);
+        assert_bytes(&rt, &sealed, &ciphertext, &update);
+        assert_bytes(&rt, &tag, &expected, &update);
+    }
     let mut sealed = [0; 114];
     let tag = seal_at_once::<_, 16>(&rt, &cipher, &ASSOCIATED_DATA, &chunks, &mut sealed).ok_or(
         "too long",
@@ -49,11 +48,12 @@ fn room_after_six_pieces(rt: HostRuntime) -> Result<(), Fail> {
     let chunks = pieces(rt.alloc(), &MESSAGE, &LENGTHS)?;
     for variant in VARIANTS {
         let cipher = keyed(variant);
-        let mut sealed = MESSAGE;
-        let (_, room) = seal_in_place::<16>(&cipher, &ASSOCIATED_DATA, &chunks, &mut sealed);
-        assert_eq!(rt; room, 2305843009213693837, "{variant:?}");
-        let (_, room) = seal_by_update::<32>(&cipher, &ASSOCIATED_DATA, &chunks, &mut sealed);
-        assert_eq!(rt; room, 2305843009213693837, "{variant:?}");
+        for update in UPDATES {
+            let mut sealed = MESSAGE;
+            let data = &ASSOCIATED_DATA;
+            let (_, room) = seal_by_encryptor::<16>(&cipher, update, data, &chunks, &mut sealed);
+            assert_eq!(rt; room, 2305843009213693837, "{variant:?}");
+        }
     }
     Ok(())
 }
@@ -72,55 +72,50 @@ fn zeros(variant: AnyVariant) -> AnyCipher {
 }
 
 // Seals a message in pieces and opens it in others.
-fn check_other_pieces<R: Abort, const TAG_BYTES: usize>(
-    rt: &R,
-    cipher: &AnyCipher,
-) -> Result<(), Fail>
+fn check_other_pieces<R: Abort, const TAG_BYTES: usize>(rt: &R, cipher: &AnyCipher)
     requires { IsTagLength TAG_BYTES }
 {
     let data = b"additional data";
     let chunks = [b"AEGIS".as_slice(), b" is fast".as_slice()];
     let mut sealed = [0; 13];
-    let (tag, _) = seal_by_update::<TAG_BYTES>(cipher, data, &chunks, &mut sealed);
+    let update = Update::Copied;
+    let (tag, _) = seal_by_encryptor::<TAG_BYTES>(cipher, update, data, &chunks, &mut sealed);
     let mut opened = [0; 13];
-    let chunks = [&sealed[..7], &sealed[7..]];
-    let opened = open_by_decryptor(cipher, data, &chunks, &tag, &mut opened)?;
-    assert_bytes(rt, opened, b"AEGIS is fast", &cipher);
-    Ok(())
+    let steps = [(&sealed[..7], Ok(())), (&sealed[7..], Ok(()))];
+    let ended = open_by_decryptor(rt, cipher, data, &steps, Some(&tag), &mut opened);
+    assert_opened(rt, ended, &opened, b"AEGIS is fast");
 }
 
 #[test]
-fn sealed_in_pieces_and_opened_in_others(rt: HostRuntime) -> Result<(), Fail> {
+fn sealed_in_pieces_and_opened_in_others(rt: HostRuntime) {
     for variant in VARIANTS {
-        check_other_pieces::<_, 16>(&rt, &zeros(variant))?;
-        check_other_pieces::<_, 32>(&rt, &zeros(variant))?;
+        check_other_pieces::<_, 16>(&rt, &zeros(variant));
+        check_other_pieces::<_, 32>(&rt, &zeros(variant));
     }
-    Ok(())
 }
 
 // The message of no chunk, and of an empty one. It opens to an empty message.
-fn check_empty<R: Abort, const TAG_BYTES: usize>(rt: &R, cipher: &AnyCipher) -> Result<(), Fail>
+fn check_empty<R: Abort, const TAG_BYTES: usize>(rt: &R, cipher: &AnyCipher)
     requires { IsTagLength TAG_BYTES }
 {
     let data = &ASSOCIATED_DATA;
     let tag = encrypt_in_place::<TAG_BYTES>(cipher, &mut [], data);
-    let lists: [&[&[u8]]; 2] = [&[], &[&[]]];
-    for chunks in lists {
-        let (sealed, _) = seal_by_update::<TAG_BYTES>(cipher, data, chunks, &mut []);
-        assert_bytes(rt, &sealed, &tag, &cipher);
-        let (sealed, _) = seal_in_place::<TAG_BYTES>(cipher, data, chunks, &mut []);
-        assert_bytes(rt, &sealed, &tag, &cipher);
-        let opened = open_by_decryptor(cipher, data, chunks, &tag, &mut [])?;
-        assert!(rt; opened.is_empty());
+    for update in UPDATES {
+        let (of_none, _) = seal_by_encryptor::<TAG_BYTES>(cipher, update, data, &[], &mut []);
+        assert_bytes(rt, &of_none, &tag, &update);
+        let (of_empty, _) = seal_by_encryptor::<TAG_BYTES>(cipher, update, data, &[&[]], &mut []);
+        assert_bytes(rt, &of_empty, &tag, &update);
     }
-    Ok(())
+    let ended = open_by_decryptor(rt, cipher, data, &[], Some(&tag), &mut []);
+    assert_opened(rt, ended, &[], &[]);
+    let ended = open_by_decryptor(rt, cipher, data, &[(&[], Ok(()))], Some(&tag), &mut []);
+    assert_opened(rt, ended, &[], &[]);
 }
 
 #[test]
-fn empty_messages(rt: HostRuntime) -> Result<(), Fail> {
+fn empty_messages(rt: HostRuntime) {
     for variant in VARIANTS {
-        check_empty::<_, 16>(&rt, &keyed(variant))?;
-        check_empty::<_, 32>(&rt, &keyed(variant))?;
+        check_empty::<_, 16>(&rt, &keyed(variant));
+        check_empty::<_, 32>(&rt, &keyed(variant));
     }
-    Ok(())
 }

@@ -6,13 +6,14 @@ ghost use Rattle.aegis_base.specs.Lane.{IsTagLength};
 use crate::tests::assert_bytes;
 use crate::tests::chunks::chunked::pieces;
 use aegis::aegis128l::Aegis128LMac;
+use aegis::aegis256x4::Aegis256X4Mac;
 use aegis::{Error, MAX_AEAD_BYTES, Mac, chunks_len};
 use aegis_base::{LaneState, Names};
 use aegis_variants::{AnyCipher, VARIANTS, with_mac};
 use hex::FromHex;
 use std::process::Abort;
 use std::test::Fail;
-use test_tools::calls::{SHORT_KEY, keyed};
+use test_tools::calls::{LONG_KEY, SHORT_KEY, keyed};
 use test_tools::worked::MESSAGE;
 
 // The MAC was not made by the library. A clone that is made before the update gives the same.
@@ -106,46 +107,22 @@ fn pieces_and_the_whole(rt: HostRuntime) -> Result<(), Fail> {
     Ok(())
 }
 
-// A MAC and its clone, which take in different bytes from then on.
-fn finalize_both<S: LaneState, V: Names, const KEY_BYTES: usize, const TAG_BYTES: usize>(
-    mac: Mac<S, V, KEY_BYTES, TAG_BYTES>,
-) -> Result<([u8; TAG_BYTES], [u8; TAG_BYTES]), Fail>
-    requires { mac.message_bytes ≡ 0 }
-{
-    let mut mac = mac;
+// A MAC and its clone take in different bytes from the clone on.
+#[test]
+fn clones_go_their_own_way(rt: HostRuntime) -> Result<(), Fail> {
+    let mut mac = Aegis256X4Mac::<32>::new(&LONG_KEY);
     mac.update(&MESSAGE);
     let mut clone = mac.clone()?;
     mac.update(b"one way");
     clone.update(b"another");
-    Ok((mac.finalize(), clone.finalize()))
-}
-
-fn part_ways<const TAG_BYTES: usize>(
-    cipher: &AnyCipher,
-) -> Result<([u8; TAG_BYTES], [u8; TAG_BYTES]), Fail>
-    requires { IsTagLength TAG_BYTES }
-{
-    with_mac!(cipher, TAG_BYTES, mac => finalize_both(mac))
-}
-
-fn check_clones<R: Abort, const TAG_BYTES: usize>(rt: &R, cipher: &AnyCipher) -> Result<(), Fail>
-    requires { IsTagLength TAG_BYTES }
-{
-    let (first, second) = part_ways::<TAG_BYTES>(cipher)?;
-    let (expected, _) = update_all::<TAG_BYTES>(cipher, &[&MESSAGE, b"one way"]);
-    assert_bytes(rt, &first, &expected, &cipher);
-    let (expected, _) = update_all::<TAG_BYTES>(cipher, &[&MESSAGE, b"another"]);
-    assert_bytes(rt, &second, &expected, &cipher);
-    assert_ne!(rt; first, second);
-    Ok(())
-}
-
-#[test]
-fn clones_go_their_own_way(rt: HostRuntime) -> Result<(), Fail> {
-    for variant in VARIANTS {
-        check_clones::<_, 16>(&rt, &keyed(variant))?;
-        check_clones::<_, 32>(&rt, &keyed(variant))?;
-    }
+    let mut expected = Aegis256X4Mac::<32>::new(&LONG_KEY);
+    expected.update(&MESSAGE);
+    expected.update(b"one way");
+    expected.verify(&mac.finalize())?;
+    let mut expected = Aegis256X4Mac::<32>::new(&LONG_KEY);
+    expected.update(&MESSAGE);
+    expected.update(b"another");
+    expected.verify(&clone.finalize())?;
     Ok(())
 }
 

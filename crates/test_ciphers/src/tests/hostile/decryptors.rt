@@ -3,13 +3,11 @@
 ghost use Rattle.std.specs.Prelude.{◌≡◌, ◌⊎◌, ◌≤◌, length};
 ghost use Rattle.aegis_base.specs.Lane.{IsTagLength};
 
-use crate::tests::assert_bytes;
+use crate::tests::chunks::chunked::{Step, assert_opened, open_by_decryptor};
 use crate::tests::hostile::is_all;
-use aegis::{Decryptor, Error};
-use aegis_base::{LaneState, Names};
-use aegis_variants::{AnyCipher, VARIANTS, with_cipher};
+use aegis::Error;
+use aegis_variants::{AnyCipher, VARIANTS};
 use std::process::Abort;
-use std::test::Fail;
 use test_tools::calls::{counting, encrypt_in_place, keyed};
 use test_tools::worked::ASSOCIATED_DATA;
 
@@ -18,42 +16,6 @@ const LONGEST: usize = 385;
 
 const TOO_SMALL: Result<(), Error> = Err(Error::OutputBufferTooSmall);
 
-// A chunk, and what `update` returns for it.
-type Step<'a> = (&'a [u8], Result<(), Error>);
-
-fn assert_answer<R: Abort>(rt: &R, answer: Result<(), Error>, expected: Result<(), Error>) {
-    assert_eq!(rt; answer, expected);
-}
-
-// Takes these steps, and then finalizes the decryptor, or drops it if there is no tag.
-fn take_steps<'a, R: Abort, S: LaneState, V: Names, const TAG_BYTES: usize>(
-    rt: &R,
-    decryptor: Decryptor<'a, S, V, TAG_BYTES>,
-    steps: &[Step],
-    tag: Option<&[u8; TAG_BYTES]>,
-) -> Option<Result<&'a mut [u8], Error>> {
-    let mut decryptor = decryptor;
-    for (chunk, expected) in steps {
-        assert_answer(rt, decryptor.update(chunk), *expected);
-    }
-    Some(decryptor.finalize(tag?))
-}
-
-// Takes these steps in a destination, as `take_steps` does.
-fn end_by_steps<'a, R: Abort, const TAG_BYTES: usize>(
-    rt: &R,
-    cipher: &AnyCipher,
-    steps: &[Step],
-    tag: Option<&[u8; TAG_BYTES]>,
-    destination: &'a mut [u8],
-) -> Option<Result<&'a mut [u8], Error>>
-    requires { IsTagLength TAG_BYTES }
-{
-    with_cipher!(cipher, TAG_BYTES, cipher => {
-        take_steps(rt, cipher.decryptor(&ASSOCIATED_DATA, destination), steps, tag)
-    })
-}
-
 // These steps open the message, in a destination of its length.
 fn check_steps<R: Abort, const TAG_BYTES: usize>(
     rt: &R,
@@ -61,16 +23,14 @@ fn check_steps<R: Abort, const TAG_BYTES: usize>(
     steps: &[Step],
     tag: &[u8; TAG_BYTES],
     message: &[u8],
-) -> Result<(), Fail>
+)
     requires tag { IsTagLength TAG_BYTES }
     requires message { length message.now ≤ 385 }
 {
     let mut buffer = [0xaa; LONGEST];
     let destination = &mut buffer[..message.len()];
-    let ended = end_by_steps(rt, cipher, steps, Some(tag), destination);
-    let opened = ended.ok_or("dropped")??;
-    assert_bytes(rt, opened, message, &cipher);
-    Ok(())
+    let ended = open_by_decryptor(rt, cipher, &ASSOCIATED_DATA, steps, Some(tag), destination);
+    assert_opened(rt, ended, &buffer, message);
 }
 
 // Chunks longer than the room are refused, at first and in between, and change nothing.
@@ -78,7 +38,7 @@ fn check_refused_chunks<R: Abort, const TAG_BYTES: usize>(
     rt: &R,
     cipher: &AnyCipher,
     message: &[u8],
-) -> Result<(), Fail>
+)
     requires tag { IsTagLength TAG_BYTES }
     requires message { length message.now ≤ 385 }
 {
@@ -90,7 +50,7 @@ fn check_refused_chunks<R: Abort, const TAG_BYTES: usize>(
     let longer = [0; 386];
     let longer = &longer[..message.len() + 1];
     let steps = [(longer, TOO_SMALL), (sealed, Ok(()))];
-    check_steps(rt, cipher, &steps, &tag, message)?;
+    check_steps(rt, cipher, &steps, &tag, message);
 
     let (first, others) = sealed.split_at(message.len().min(1));
     let steps = [
@@ -101,19 +61,18 @@ fn check_refused_chunks<R: Abort, const TAG_BYTES: usize>(
         (others, Ok(())),
         (&[0], TOO_SMALL),
     ];
-    check_steps(rt, cipher, &steps, &tag, message)
+    check_steps(rt, cipher, &steps, &tag, message);
 }
 
 #[test]
-fn refused_chunks(rt: HostRuntime) -> Result<(), Fail> {
+fn refused_chunks(rt: HostRuntime) {
     let message: [u8; LONGEST] = counting(1);
     for variant in VARIANTS {
         let length = 3 * variant.rate() + 1;
         assert!(rt; length <= LONGEST);
-        check_refused_chunks::<_, 16>(&rt, &keyed(variant), &message[..length])?;
-        check_refused_chunks::<_, 32>(&rt, &keyed(variant), &message[..length])?;
+        check_refused_chunks::<_, 16>(&rt, &keyed(variant), &message[..length]);
+        check_refused_chunks::<_, 32>(&rt, &keyed(variant), &message[..length]);
     }
-    Ok(())
 }
 
 // After these steps and a drop, so many zeros are at the front of the destination, and the rest is unchanged.
@@ -129,7 +88,9 @@ fn check_drop<R: Abort, const TAG_BYTES: usize>(
     requires zeros { zeros ≤ room }
 {
     let mut buffer = [0xaa; 136];
-    let ended = end_by_steps::<_, TAG_BYTES>(rt, cipher, steps, None, &mut buffer[..room]);
+    let destination = &mut buffer[..room];
+    let data = &ASSOCIATED_DATA;
+    let ended = open_by_decryptor::<_, TAG_BYTES>(rt, cipher, data, steps, None, destination);
     assert!(rt; ended.is_none());
     assert!(rt; is_all(&buffer[..zeros], 0));
     assert!(rt; is_all(&buffer[zeros..], 0xaa));

@@ -8,9 +8,7 @@ use aegis::Error;
 use aegis_variants::{AnyCipher, VARIANTS};
 use std::process::Abort;
 use std::test::Fail;
-use test_tools::calls::{
-    decrypt, encrypt, encrypt_in_place, keyed, stream_xor, stream_xor_in_place,
-};
+use test_tools::calls::{decrypt, encrypt, encrypt_in_place, keyed, stream_xor};
 use test_tools::memory::Rationed;
 use test_tools::worked::ASSOCIATED_DATA;
 
@@ -90,7 +88,7 @@ fn check_one_request_of_keystream<R: Abort + AllocGlobal, const TAG_BYTES: usize
     requires { IsTagLength TAG_BYTES }
 {
     let mut in_place = Vec::from_slice(rt.alloc(), message)?;
-    stream_xor_in_place::<TAG_BYTES>(cipher, &mut in_place);
+    cipher.stream_xor_in_place(&mut in_place);
     let heap = Rationed::new(rt.alloc(), 1);
     let xored = stream_xor::<_, TAG_BYTES>(cipher, &heap, message)?;
     assert_bytes(rt, &xored, &in_place, &cipher);

@@ -4,7 +4,7 @@ ghost use Rattle.std.specs.Prelude.{◌≡◌, ◌⊎◌, ◌≤◌, length};
 ghost use Rattle.aegis_base.specs.Lane.{IsTagLength};
 
 use crate::tests::assert_error;
-use crate::tests::chunks::chunked::{open_at_once, open_by_decryptor};
+use crate::tests::chunks::chunked::{assert_ended, open_at_once, open_by_decryptor};
 use crate::tests::hostile::is_all;
 use aegis::{Error, MAX_AEAD_BYTES};
 use aegis_variants::{AnyCipher, VARIANTS};
@@ -66,15 +66,16 @@ fn check_in_chunks<R: Abort, const TAG_BYTES: usize>(
 {
     let mut whole = [FILLER; 263];
     let destination = &mut whole[..sealed.len() + BEHIND];
-    let opened = open_by_decryptor(cipher, &ASSOCIATED_DATA, &[sealed], tag, destination);
-    assert_error(rt, opened.err(), Error::InvalidTag);
+    let steps = [(sealed, Ok(()))];
+    let ended = open_by_decryptor(rt, cipher, &ASSOCIATED_DATA, &steps, Some(tag), destination);
+    assert_ended(rt, ended, Err(Error::InvalidTag));
     assert!(rt; is_all(&whole[..sealed.len()], 0));
     assert!(rt; is_all(&whole[sealed.len()..], FILLER));
 
     let mut whole = [FILLER; 263];
     let destination = &mut whole[..sealed.len() + BEHIND];
-    let opened = open_at_once(cipher, &ASSOCIATED_DATA, &[sealed], tag, destination);
-    assert_error(rt, opened.err(), Error::InvalidTag);
+    let ended = open_at_once(cipher, &ASSOCIATED_DATA, &[sealed], tag, destination);
+    assert_ended(rt, Some(ended), Err(Error::InvalidTag));
     assert!(rt; is_all(&whole[..sealed.len()], 0));
     assert!(rt; is_all(&whole[sealed.len()..], FILLER));
 }

@@ -21,19 +21,19 @@ fn check_keystream<R: Abort + AllocGlobal, const TAG_BYTES: usize>(
 {
     let cipher = calls::keyed(variant);
     let mut stream = [0xa5; 515];
-    calls::stream::<TAG_BYTES>(&cipher, &mut stream);
+    cipher.stream(&mut stream);
     let mut sealed = [0; 515];
     calls::encrypt_in_place::<TAG_BYTES>(&cipher, &mut sealed, &[]);
     assert_bytes(rt, &stream, &sealed, &variant);
 
     let mut buffer = MESSAGE;
-    calls::stream_xor_in_place::<TAG_BYTES>(&cipher, &mut buffer);
+    cipher.stream_xor_in_place(&mut buffer);
     for i in 0..13usize {
         assert_eq!(rt; buffer[i], MESSAGE[i] ^ stream[i], "{variant:?} at {i}");
     }
     let xored = calls::stream_xor::<_, TAG_BYTES>(&cipher, rt.alloc(), &MESSAGE)?;
     assert_bytes(rt, &xored, &buffer, &variant);
-    calls::stream_xor_in_place::<TAG_BYTES>(&cipher, &mut buffer);
+    cipher.stream_xor_in_place(&mut buffer);
     assert_bytes(rt, &buffer, &MESSAGE, &variant);
     Ok(())
 }

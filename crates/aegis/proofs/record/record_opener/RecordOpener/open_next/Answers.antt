@@ -5,7 +5,7 @@ use Rattle.aegis.specs.Calls.{sealing_of}
 use Rattle.aegis.specs.Fault.{parts}
 use Rattle.aegis.specs.Progress.{Progress}
 use Rattle.aegis.proofs.Places.{only_memory, read_one}
-use Rattle.aegis.proofs.Stepwise.{begun_ends, begun_fault_or, begun_next, begun_open, cut_of, last_are, next_are, read_long, read_of, taken_more}
+use Rattle.aegis.proofs.Stepwise.{begun_ends, begun_fault_or, begun_next, begun_open, cut_of, last_are, next_are, read_of, record_long}
 use Rattle.aegis.proofs.record.record_opener.RecordOpener.open_next.Goals as goal
 
 pub returns-then-self-clause-refused : goal.returns-then-self-clause-refused
@@ -19,17 +19,7 @@ returns-in_err-frame-clause-refused g c =
 
 pub invariant_of-self-2 : goal.invariant_of-self-2
 invariant_of-self-2 g c =
-    let s = c.self.inside in
-    let p : Progress = record {
-      key = s.cipher.key.now;
-      prefix = s.cipher.prefix.now;
-      context = s.cipher.context.now;
-      version = s.version;
-      number = s.number;
-      before = s.before;
-      ended = s.ended;
-    } in
-    let long = read_long p _ _ _ _ (read_of p _ _ _ _ c.in_ok-frame.ensures.opened) in
+    let long = record_long _ _ _ _ _ _ _ _ _ _ c.in_ok-frame.ensures.opened in
     let fits = rw (← c.self.view_is) at c.requires in
     let size = c.len.ensures ∙ c.in_ok-frame.message.ok.0 in
     (c.self.invariant.0, omega (arith, long, fits, size), omega (arith, c.self.invariant.2, c.open_record.ensures.capacity))
@@ -42,40 +32,16 @@ returns-clause-last g c = rw (← c.self.view_is) (last_are _ _ _ _ _ (read_of _
 
 pub returns-clause-begun : goal.returns-clause-begun
 returns-clause-begun g c =
-    rw (← c.self.view_is) (begun_next _ _ _ _ _ _ (read_of _ _ _ _ _ c.in_ok-frame.ensures.opened) (record {
-      key = refl;
-      prefix = refl;
-      context = refl;
-      version = refl;
-      number = refl;
-      before = ap (λ n. c.self.inside.before + n) (c.len.ensures ∙ c.in_ok-frame.message.ok.0);
-      ended = refl;
-    }))
+    rw (← c.self.view_is) (begun_next _ _ _ _ _ _ (read_of _ _ _ _ _ c.in_ok-frame.ensures.opened) (c.len.ensures ∙ c.in_ok-frame.message.ok.0))
 
 pub returns-clause-whole : goal.returns-clause-whole
 returns-clause-whole g c = rw (← c.self.view_is) (begun_ends _ _ _ _ _ (read_of _ _ _ _ _ c.in_ok-frame.ensures.opened))
 
 pub returns-clause-taken : goal.returns-clause-taken
 returns-clause-taken g c =
-    let s = c.self.inside in
-    let p : Progress = record {
-      key = s.cipher.key.now;
-      prefix = s.cipher.prefix.now;
-      context = s.cipher.context.now;
-      version = s.version;
-      number = s.number;
-      before = s.before;
-      ended = s.ended;
-    } in
-    rw (← c.self.view_is) (taken_more p _ _ _ _ _ (read_of p _ _ _ _ c.in_ok-frame.ensures.opened) (record {
-      key = refl;
-      prefix = refl;
-      context = refl;
-      version = refl;
-      number = refl;
-      before = ap (λ n. c.self.inside.before + n) (c.len.ensures ∙ c.in_ok-frame.message.ok.0);
-      ended = refl;
-    }))
+    let long = record_long _ _ _ _ _ _ _ _ _ _ c.in_ok-frame.ensures.opened in
+    let size = c.len.ensures ∙ c.in_ok-frame.message.ok.0 in
+    rw (← c.self.view_is) (omega (arith, long, size))
 
 pub returns-in_err-frame-clause-cut : goal.returns-in_err-frame-clause-cut
 returns-in_err-frame-clause-cut g c =

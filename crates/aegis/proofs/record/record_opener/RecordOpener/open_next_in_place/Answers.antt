@@ -1,9 +1,8 @@
 use Rattle.std.proofs.Common.{◌∙◌, ◌+◌, ap, arith, false, length, refl, sym, true}
 use Rattle.std.proofs.lemmas.Bool.{true≢false}
 use Rattle.std.proofs.lemmas.Result.{err_from_is_err_and}
-use Rattle.aegis.specs.Progress.{Progress}
 use Rattle.aegis.proofs.Places.{no_fault, read_one}
-use Rattle.aegis.proofs.Stepwise.{begun_ends, begun_fault, begun_next, begun_open, last_are, next_are, read_long, read_of, taken_more}
+use Rattle.aegis.proofs.Stepwise.{begun_ends, begun_fault, begun_next, begun_open, last_are, next_are, read_of, record_long}
 use Rattle.aegis.proofs.record.record_opener.RecordOpener.open_next_in_place.Goals as goal
 
 pub returns-then-self-clause-refused : goal.returns-then-self-clause-refused
@@ -17,17 +16,7 @@ returns-in_err-flag-clause-refused g c =
 
 pub invariant_of-self-2 : goal.invariant_of-self-2
 invariant_of-self-2 g c =
-    let s = c.self.inside in
-    let p : Progress = record {
-      key = s.cipher.key.now;
-      prefix = s.cipher.prefix.now;
-      context = s.cipher.context.now;
-      version = s.version;
-      number = s.number;
-      before = s.before;
-      ended = s.ended;
-    } in
-    let long = read_long p _ _ _ _ (read_of p _ _ _ _ c.in_ok-flag.ensures.opened) in
+    let long = record_long _ _ _ _ _ _ _ _ _ _ c.in_ok-flag.ensures.opened in
     let fits = rw (← c.self.view_is) at c.requires in
     let size = c.in_ok-flag.ensures.message_len in
     (c.self.invariant.0, omega (arith, long, fits, size), omega (arith, c.self.invariant.2, c.open_record_in_place.ensures.capacity))
@@ -40,40 +29,16 @@ returns-clause-last g c = rw (← c.self.view_is) (last_are _ _ _ _ _ (read_of _
 
 pub returns-clause-begun : goal.returns-clause-begun
 returns-clause-begun g c =
-    rw (← c.self.view_is) (begun_next _ _ _ _ _ _ (read_of _ _ _ _ _ c.in_ok-flag.ensures.opened) (record {
-      key = refl;
-      prefix = refl;
-      context = refl;
-      version = refl;
-      number = refl;
-      before = ap (λ n. c.self.inside.before + n) (sym c.in_ok-flag.ensures.message_len);
-      ended = refl;
-    }))
+    rw (← c.self.view_is) (begun_next _ _ _ _ _ _ (read_of _ _ _ _ _ c.in_ok-flag.ensures.opened) (sym c.in_ok-flag.ensures.message_len))
 
 pub returns-clause-whole : goal.returns-clause-whole
 returns-clause-whole g c = rw (← c.self.view_is) (begun_ends _ _ _ _ _ (read_of _ _ _ _ _ c.in_ok-flag.ensures.opened))
 
 pub returns-clause-taken : goal.returns-clause-taken
 returns-clause-taken g c =
-    let s = c.self.inside in
-    let p : Progress = record {
-      key = s.cipher.key.now;
-      prefix = s.cipher.prefix.now;
-      context = s.cipher.context.now;
-      version = s.version;
-      number = s.number;
-      before = s.before;
-      ended = s.ended;
-    } in
-    rw (← c.self.view_is) (taken_more p _ _ _ _ _ (read_of p _ _ _ _ c.in_ok-flag.ensures.opened) (record {
-      key = refl;
-      prefix = refl;
-      context = refl;
-      version = refl;
-      number = refl;
-      before = ap (λ n. c.self.inside.before + n) (sym c.in_ok-flag.ensures.message_len);
-      ended = refl;
-    }))
+    let long = record_long _ _ _ _ _ _ _ _ _ _ c.in_ok-flag.ensures.opened in
+    let size = c.in_ok-flag.ensures.message_len in
+    rw (← c.self.view_is) (omega (arith, long, size))
 
 pub returns-in_err-flag-clause-accepted : goal.returns-in_err-flag-clause-accepted
 returns-in_err-flag-clause-accepted g c =
@@ -98,15 +63,4 @@ returns-clause-accepted_last g c =
     (one.last, sym c.in_ok-flag.ensures.message_len ∙ ap length one.message, one.message, one.others))
 
 pub returns-clause-size : goal.returns-clause-size
-returns-clause-size g c =
-    let s = c.self.inside in
-    let p : Progress = record {
-      key = s.cipher.key.now;
-      prefix = s.cipher.prefix.now;
-      context = s.cipher.context.now;
-      version = s.version;
-      number = s.number;
-      before = s.before;
-      ended = s.ended;
-    } in
-    omega (arith, read_long p _ _ _ _ (read_of p _ _ _ _ c.in_ok-flag.ensures.opened), c.in_ok-flag.ensures.message_len)
+returns-clause-size g c = omega (arith, record_long _ _ _ _ _ _ _ _ _ _ c.in_ok-flag.ensures.opened, c.in_ok-flag.ensures.message_len)
