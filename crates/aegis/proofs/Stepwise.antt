@@ -11,7 +11,7 @@ use Rattle.aegis.specs.declared.record.error.RecordError.TheVariants as errors
 use Rattle.aegis.specs.declared.record.version.Version.{Version}
 use Rattle.aegis.specs.Calls.{IsRecord}
 use Rattle.aegis.specs.Fault.{AtHeader, AtRecord, Parts, HasFault, IsFaultOf, length_at, parts, parts_after}
-use Rattle.aegis.specs.Progress.{AreRecordsOfSomeVersion, Begun, Progress, record_of, taken}
+use Rattle.aegis.specs.Progress.{AreRecordsOfSomeVersion, Begun, Progress, record_of}
 use Rattle.aegis.specs.Records.{AreRecords, IsFault, sealed}
 use Rattle.aegis.specs.RecordStream.{Sealing, frame, frames, front, header, limit, total}
 use Rattle.aegis.proofs.Reading.{frames_push, total_push, within_push}

@@ -116,7 +116,8 @@ impl AesBlock2 {
     // `Row::sub_bytes_row`, out of line.
     #[inline(always)]
     pub(crate) fn sub_bytes_apart(self) -> AesBlock2
-        ensures { (j : ℕ) → j < 2 → block_of_two result j ≡ sub_bytes (block_of_two self j) }
+        ensures { (j : ℕ) → j < 2
+            → block_of_two result j ≡ sub_bytes (block_of_two self j) }
     {
         AesBlock2 {
             bytes: sub_bytes_apart(self.bytes),

@@ -10,7 +10,8 @@ use std::simd::prelude::*;
 #[inline(always)]
 fn rotated<const N: usize>(a: Simd<u8, N>, places: u8) -> Simd<u8, N>
     requires { (0 < places) × (places < 8) }
-    ensures { result ≡ map (λ x. bit_or (x * 2 ^ places % 2 ^ 8) (x / 2 ^ (8 - places))) a.entry }
+    ensures { result
+        ≡ map (λ x. bit_or (x * 2 ^ places % 2 ^ 8) (x / 2 ^ (8 - places))) a.entry }
 {
     (a << Simd::splat(places)) | (a >> Simd::splat(8 - places))
 }

@@ -73,7 +73,8 @@ pub fn open_records_of_its_length<A: Allocator + Copy>(
     stream: &[u8],
 ) -> Result<Vec<Vec<u8, A>, A>, RecordError>
     requires { length context.now ≤ MAX_CONTEXT_BYTES }
-    ensures { IfOk result (λ opened. length stream.now ≡ records_length (messages opened.items)) }
+    ensures { IfOk result
+        (λ opened. length stream.now ≡ records_length (messages opened.items)) }
 {
     record_stream_lengths();
     open_records(alloc, key, prefix, context, stream)

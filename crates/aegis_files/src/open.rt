@@ -28,7 +28,8 @@ fn read_record<R: Read, A: Allocator + Copy>(
         (Consumes (R.remaining input.old) (R.remaining input.new) bytes.new.items) }
     ensures alone { OnOk result ((flag : ℕ) (m rest : List ℕ) → length m ≤ MAX_MESSAGE_BYTES
         → bytes.new.items ≡ record_of opener.now flag m ++ rest → rest ≡ []) }
-    ensures cut { OnOk result (parts opener.now.version bytes.new.items ≡ Err RecordError.Truncated
+    ensures cut { OnOk result
+        (parts opener.now.version bytes.new.items ≡ Err RecordError.Truncated
         → IsAtEnd (R.remaining input.new)) }
     ensures refused { IfErr result
         (λ e. RefusesNext opener.now (R.remaining input.old) (R.remaining input.new) e) }

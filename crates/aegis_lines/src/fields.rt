@@ -78,7 +78,8 @@ fn bytes_of_each<A: Allocator + Copy>(
     alloc: A,
     pieces: &[&[u8]],
 ) -> Result<Vec<Vec<u8, A>, A>, Refusal>
-    ensures value { Gives (λ read. map vec_items read.items) result (each_from (texts pieces.now)) }
+    ensures value { Gives (λ read. map vec_items read.items) result
+        (each_from (texts pieces.now)) }
     ensures joined { Gives (λ read. together read.items) result (joined_from (texts pieces.now)) }
     ensures count { IfOk result (λ read. vec_len read ≡ length pieces.now) }
     ensures refused { IfErr result (λ refusal. (refusal ≡ OutOfMemory)

@@ -30,8 +30,9 @@ pub fn record_stream_lengths()
 /// The messages before the last record are a proper front of the list of any stream that begins with the same bytes, so no
 /// stream ends there.
 pub fn begun_is_a_front()
-    ensures { (p : Progress) (key prefix context : List ℕ) (ms : List (List ℕ)) (bytes : List ℕ)
-        → Begun p key prefix context ms bytes → (ns : List (List ℕ)) (more : List ℕ)
+    ensures { (p : Progress) (key prefix context : List ℕ)
+        (ms : List (List ℕ)) (bytes : List ℕ) → Begun p key prefix context ms bytes
+        → (ns : List (List ℕ)) (more : List ℕ)
         → AreRecordsOfSomeVersion key prefix context ns (bytes ++ more)
         → (rest : List (List ℕ)) × (ns ≡ ms ++ rest) × (0 < length rest) }
 {}

@@ -91,7 +91,8 @@ impl RecordCipher<'_> {
         ensures ok { OnOk result (out.new.items
             ≡ out.old.items ++ sealed_at self.now place message.now) }
         ensures err { IfErr result (λ e. e ≡ RecordError.OutOfMemory) }
-        ensures kept { OnErr result ((part : List ℕ) × (out.new.items ≡ out.old.items ++ part)) }
+        ensures kept { OnErr result
+            ((part : List ℕ) × (out.new.items ≡ out.old.items ++ part)) }
     {
         place.write_data(ad, self.context)?;
         let cipher = Aegis256::<TAG_BYTES>::new(self.key, &nonce(self.prefix, place.number));

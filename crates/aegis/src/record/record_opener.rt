@@ -232,7 +232,8 @@ impl<'a, A: Allocator + Copy> RecordOpener<'a, A> {
             → OpensRecordTo true m rest result }
         ensures fault { IfErr result (λ e. self.old.ended ≡ false
             → (e ≡ RecordError.OutOfMemory) ⊎ IsRecordFault self.old bytes.now e) }
-        ensures within { IfOk result (λ opened. length opened.message.items ≤ MAX_MESSAGE_BYTES) }
+        ensures within { IfOk result
+            (λ opened. length opened.message.items ≤ MAX_MESSAGE_BYTES) }
         ensures taken { IfOk result (λ opened. taken self.new + length opened.rest.now
             ≡ taken self.old + length bytes.now) }
         ensures after_the_last { IsTrue self.old.ended → result ≡ Err RecordError.Trailing }

@@ -178,7 +178,8 @@ impl<'a, A: Allocator + Copy> RecordSealer<'a, A> {
             → Begun self.new key prefix context
             (ms ++ message.now ∷ []) (bytes ++ record_of self.old 0 message.now)) }
         ensures progress { OnOk result (self.new ≡ after self.old false message.now) }
-        ensures taken { OnOk result (taken self.new ≡ taken self.old + (37 + length message.now)) }
+        ensures taken { OnOk result
+            (taken self.new ≡ taken self.old + (37 + length message.now)) }
         ensures err { IfErr result (λ e. e ≡ RecordError.OutOfMemory) }
         ensures unchanged { OnErr result (self.new ≡ self.old) }
         ensures kept { OnErr result (out.new.items ≡ out.old.items) }

@@ -52,7 +52,8 @@ fn open_record_in_place<A: Allocator>(
         (λ e. HasFault (sealing_of cipher.now) version number before (parts version bytes.old) e) }
     ensures erased { IfErr result
         (λ e. e ≡ RecordError.Damaged number → bytes.new ≡ with_erased bytes.old) }
-    ensures kept { IfErr result (λ e. e ≢ RecordError.Damaged number → bytes.new ≡ bytes.old) }
+    ensures kept { IfErr result
+        (λ e. e ≢ RecordError.Damaged number → bytes.new ≡ bytes.old) }
     ensures capacity { vec_capacity ad.old ≤ vec_capacity ad.new }
 {
     let frame = Frame::read(version, bytes)?;

@@ -111,19 +111,18 @@ fn assert_answer<R: Abort>(rt: &R, answer: Result<(), Error>, expected: Result<(
     assert_eq!(rt; answer, expected);
 }
 
-// Takes these steps, and then finalizes the decryptor, or drops it if there is no tag. Returns the length of the
-// message.
-fn take_steps<R: Abort, S: LaneState, V: Names, const TAG_BYTES: usize>(
+// Takes these steps, and then finalizes the decryptor, or drops it if there is no tag.
+fn take_steps<'a, R: Abort, S: LaneState, V: Names, const TAG_BYTES: usize>(
     rt: &R,
-    decryptor: Decryptor<'_, S, V, TAG_BYTES>,
+    decryptor: Decryptor<'a, S, V, TAG_BYTES>,
     steps: &[Step],
     tag: Option<&[u8; TAG_BYTES]>,
-) -> Option<Result<usize, Error>> {
+) -> Option<Result<&'a mut [u8], Error>> {
     let mut decryptor = decryptor;
     for (chunk, expected) in steps {
         assert_answer(rt, decryptor.update(chunk), *expected);
     }
-    Some(length_of(decryptor.finalize(tag?)))
+    Some(decryptor.finalize(tag?))
 }
 
 fn length_of(opened: Result<&mut [u8], Error>) -> Result<usize, Error> {
@@ -163,7 +162,8 @@ pub fn open_by_decryptor<R: Abort, const TAG_BYTES: usize>(
     requires associated_data { length associated_data.now ≤ MAX_AEAD_BYTES }
 {
     with_cipher!(cipher, TAG_BYTES, cipher => {
-        take_steps(rt, cipher.decryptor(associated_data, destination), steps, tag)
+        let ended = take_steps(rt, cipher.decryptor(associated_data, destination), steps, tag);
+        Some(length_of(ended?))
     })
 }
 

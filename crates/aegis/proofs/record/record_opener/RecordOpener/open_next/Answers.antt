@@ -1,4 +1,4 @@
-use Rattle.std.proofs.Common.{◌∙◌, ℕ, ◌+◌, ap, arith, false, inr, nat_eq, refl, true}
+use Rattle.std.proofs.Common.{◌∙◌, ℕ, ◌+◌, ap, arith, false, inr, nat_eq, true}
 use Rattle.std.proofs.lemmas.Bool.{true≢false}
 use Rattle.std.proofs.lemmas.Result.{err_from_is_err_and}
 use Rattle.aegis.specs.Calls.{sealing_of}

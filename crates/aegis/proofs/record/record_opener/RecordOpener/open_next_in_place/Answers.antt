@@ -1,4 +1,4 @@
-use Rattle.std.proofs.Common.{◌∙◌, ◌+◌, ap, arith, false, length, refl, sym, true}
+use Rattle.std.proofs.Common.{◌∙◌, ap, arith, false, length, sym, true}
 use Rattle.std.proofs.lemmas.Bool.{true≢false}
 use Rattle.std.proofs.lemmas.Result.{err_from_is_err_and}
 use Rattle.aegis.proofs.Places.{no_fault, read_one}
