@@ -15,9 +15,9 @@ use std::alloc::Allocator;
 /// How many bytes the context of a stream may have.
 pub const MAX_CONTEXT_BYTES: usize = 65_535;
 
-// A message is copied and sealed in pieces of this many bytes: so few that a copy waits for memory while rounds run, and the
-// fastest of 128 to 16384.
-const PIECE_BYTES: usize = 512;
+// A message is copied and sealed in pieces of this many bytes: so few that a copy waits for memory while rounds run. Of the
+// lengths from 128 to 65536 it is the fastest for AEGIS-256.
+const PIECE_BYTES: usize = 256;
 
 /// What all records of a stream are sealed under.
 #[derive(Clone, Copy)]
