@@ -118,7 +118,21 @@ fn best<R: Runtime, A: Allocator + Copy>(
     Ok(best)
 }
 
-// Prints a line for each way, at the front of the two buffers: nanoseconds for sealing, opening and the xor.
+// Prints a line of the table of calls: nanoseconds for sealing, opening and the xor.
+fn print_call<R: Runtime>(
+    rt: &R,
+    name: &str,
+    bytes: usize,
+    words: &str,
+    times: Times,
+) -> io::Result<()> {
+    let seal = times.seal.as_nanos();
+    let open = times.open.as_nanos();
+    let xor = times.xor.as_nanos();
+    println!(rt; "| {name} | {bytes} | {words} | {seal} | {open} | {xor} |")
+}
+
+// Prints a line for each way, at the front of the two buffers.
 fn print_ways<R: Runtime, A: Allocator + Copy>(
     rt: &R,
     alloc: A,
@@ -134,12 +148,16 @@ fn print_ways<R: Runtime, A: Allocator + Copy>(
     let bytes = message.len();
     for (way, words) in WAYS {
         let times = best(rt, alloc, cipher, way, turns, message, other)?;
-        let seal = times.seal.as_nanos();
-        let open = times.open.as_nanos();
-        let xor = times.xor.as_nanos();
-        println!(rt; "| {name} | {bytes} | {words} | {seal} | {open} | {xor} |")?;
+        print_call(rt, name, bytes, words, times)?;
     }
     Ok(())
+}
+
+// Prints a line of the table of record streams: microseconds for sealing and opening.
+fn print_stream<R: Runtime>(rt: &R, name: &str, times: Times) -> io::Result<()> {
+    let seal = times.seal.as_micros();
+    let open = times.open.as_micros();
+    println!(rt; "| 16 MiB {name} | {seal} | {open} |")
 }
 
 // Prints the shortest times of some turns with a record stream of 16 MiB, and with the same bytes in place.
@@ -162,9 +180,7 @@ fn print_streams<R: Runtime, A: Allocator + Copy>(
         ("in place", in_place),
     ];
     for (name, times) in rows {
-        let seal = times.seal.as_micros();
-        let open = times.open.as_micros();
-        println!(rt; "| 16 MiB {name} | {seal} | {open} |")?;
+        print_stream(rt, name, times)?;
     }
     Ok(())
 }
