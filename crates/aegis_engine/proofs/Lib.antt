@@ -4,6 +4,7 @@ pub mod KeystreamFacts
 pub mod TagFacts
 mod ChunkSteps
 mod DestinationFacts
+mod Handing
 mod Prefix
 mod Results
 mod SavedFacts

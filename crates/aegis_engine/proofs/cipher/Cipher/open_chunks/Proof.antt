@@ -1,7 +1,7 @@
 -- The message of the kept chunks is returned if there is one, and otherwise the destination is erased. By hand, in the
 -- same form as a decryptor's `finalize`, with the destination as a parameter: the walk makes the two calls, of
--- `settle_chunks` and of `handed`, and combines the facts of their contracts. Assumes `Logic`.
-use mathlib.Core.Path.{◌≡◌, refl, sym, subst, ◌∙◌}
+-- `settle_chunks` and of `handed` (`Handing.antt`), and combines the facts of their contracts. Assumes `Logic`.
+use mathlib.Core.Path.{◌≡◌, refl, ap, sym, subst, ◌∙◌}
 use mathlib.Core.Bool.{true, false}
 use Prim.Native.Nat.{ℕ, ◌≤◌}
 use mathlib.Core.List.{List, [], ◌∷◌, ◌++◌}
@@ -9,21 +9,19 @@ use lib.ListN.{length, take, drop as drop_list, replicate}
 use mir.Syntax.{named, Args, Fn, a_type, a_number, dcons, dnil}
 use mir.MapTy.{inst_fn}
 use base.Logic.{emp, id⊢}
-use base.Fml.{Fml, GName, ftrue, flft}
-use types.Kit.{‵, ◌⊛◌, raw, some, later, ◌$◌, ◌∵◌, !, qed, move, keep, drop, split, join, pick, rewrite, fjoin, use0, use1, use2, await, suffices, frame, done}
+use base.Fml.{ftrue, flft}
+use types.Kit.{‵, ◌⊛◌, raw, some, later, ◌$◌, ◌∵◌, !, qed, move, keep, drop, split, join, pick, fjoin, use1, await, suffices, frame, done}
 use types.Run.{no_more, and_then, returns, enter}
 use types.ByLocal.{alloc_all, pass_all, free_all, look_at, get, sets, lands_as}
-use contract.Monad.{fact, fact_i}
+use contract.Monad.{fact}
 use contract.Running.{tables}
 use denote.Builtin.{u8}
 use denote.Exit.{no, yes}
-use denote.Follow.{follows_if}
-use denote.Array.{Array}
 use denote.Laws.{shows}
 use denote.Param.{ArrayAt, param, copied, number, bounded}
 use denote.RattleType.{RattleType}
 use denote.Ref.{shr_vals, shr_Tells}
-use denote.Slice.{MutSlice, mut_slice_vals, mut_slice_Tells, ShrSlice, shr_slice_vals, shr_slice_Tells}
+use denote.Slice.{mut_slice_vals, mut_slice_Tells, ShrSlice, shr_slice_vals, shr_slice_Tells}
 use types.Part.{whole, sub, agg}
 use types.Run.{stop, fld, hop, from, addr}
 use types.ByLocal.{look_in_at, get_in}
@@ -34,23 +32,16 @@ use denote.Triple.Spec.{triple_of}
 use denote.Triple.Table.{framed}
 use denote.Triple.Walked.{Stays, stay_dropped, walk_of, ends_at}
 use Rattle.std.proofs.raw_atomic.Walks.{proved}
-use Rattle.std.specs.Borrow.{name_if_ok}
-use Rattle.std.specs.Prelude.{MatchResult}
-use Rattle.std.proofs.result.Result.TheLaws.{the_row_laws as result_laws}
-use Rattle.aegis_base.proofs.error.Error.TheLaws.{the_row_laws as error_laws}
-use Rattle.aegis_base.specs.declared.error.Error.{Error}
 use Rattle.aegis_engine.proofs.destination.Settled.TheLaws.{the_row_laws as settled_laws}
-use Rattle.std.specs.contracts.result.Result as RS
-use Rattle.aegis_base.specs.contracts.error.Error as ER
 use Rattle.aegis_engine.specs.contracts.destination.Settled as ST
 use Rattle.aegis_engine.specs.contracts.cipher.Cipher as CT
 use Rattle.aegis_base.specs.Chunks.{accepted}
 use Rattle.aegis_base.specs.Message.{Opens}
-use Rattle.aegis_engine.proofs.Results.{accepted_ok, says_four, slice_laws, weaken}
+use Rattle.aegis_engine.proofs.Handing.{Call, asks, at, handing}
+use Rattle.aegis_engine.proofs.Results.{accepted_ok, says_four, weaken}
 use Rattle.aegis_engine.specs.contracts.cipher.Cipher.open_chunks as f
 use Rattle.aegis_engine.specs.contracts.cipher.Cipher.settle_chunks as g
 use Rattle.aegis_engine.proofs.cipher.Cipher.settle_chunks.Met.{met as settle_met}
-use Rattle.aegis_engine.specs.contracts.destination.handed as h
 use Rattle.aegis_engine.proofs.destination.handed.Met.{met as handed_met}
 use Rattle.aegis_engine.proofs.cipher.Cipher.open_chunks.Statement.{statement}
 use Rattle.aegis_engine.proofs.cipher.Cipher.open_chunks.Code as code
@@ -62,7 +53,6 @@ open_chunks_spec 𝓤 𝓛 𝓜 𝓡 wired S V k n Rw LS LV key_fits fits LR CS 
     let c = f.clauses S V K N Rw gS dS gC dC gR dR gRC dRC gV dV 𝓛 𝓜.mem 𝓡.returns in
     let G = triple_of 𝓛 (g.signature S V K N Rw gS dS gC dC gR dR gRC dRC gV dV) (g.spec S V K N Rw gS dS gC dC gR dR gRC dRC gV dV 𝓛 𝓜.mem 𝓡.returns) in
     let Gn = g.ended S V K N Rw gS dS gC dC gR dR gRC dRC gV dV in
-    let I = triple_of 𝓛 h.signature (h.spec 𝓛 𝓜.mem 𝓡.returns) in
     let args : Args = bounded (a_type ∷ a_type ∷ a_number ∷ a_number ∷ a_type ∷ []) (S, (V, (K, (N, (Rw, tt))))) (dcons dS (dcons dC (dcons dR (dcons dRC (dcons dV dnil))))) in
     let fn : Fn = inst_fn args code.function in
     let 𝓣 = tables 𝓤 𝓛.H 𝓜 𝓡 𝓡.env in
@@ -94,25 +84,13 @@ open_chunks_spec 𝓤 𝓛 𝓜 𝓡 wired S V k n Rw LS LV key_fits fits LR CS 
     move ! (1 ∷ []) $ peeks ! SRow _ (shows 𝓛 SRow) r (v ∷ []) (λ is.
     lands_as ! refl refl (((settled_laws (record { mir = named 5; lft = κ })).lawful 𝓛).typed r _ is).0 $
     -- [the settled one; the tokens; the locals]
-    let z : I.Ghost = (((κ, tt), (q, tt), tt, (r, tt), (v ∷ [], tt)), tt) in
-    let Lent = MutSlice (named 5) κ u8 in let Out = RS.the_row Lent ER.the_row in
-    let Ends : GName → ℕ → List ℕ → Out.Denot → Fml = λ γ m l o. follows_if (Array u8 0) (Array u8 0) γ (name_if_ok (λ x. x.ghost_name) o) (λ w. w ++ l) (replicate m 0 ++ l) in
-    let Cases : Out.Denot → Type 0 = λ o. MatchResult o (λ x. (r.accepted ≡ true) × (x.now ≡ take r.written r.dst.now) × (x.ref_ptr ≡ r.dst.ref_ptr)) (λ e. (r.accepted ≡ false) × (e ≡ Error.InvalidTag)) in
-    nothing ! $ move ! (1 ∷ 0 ∷ []) $ join ! $ move ! (1 ∷ []) $ split ! $ move ! (1 ∷ []) $ split ! $ move ! (1 ∷ []) $ split ! $ move ! (1 ∷ []) $ split ! $ move ! (1 ∷ []) $ split ! $ move ! (1 ∷ []) $ split ! $
-    nothing ! $ move ! (1 ∷ 0 ∷ []) $ join ! $ move ! (0 ∷ 7 ∷ []) $ join ! $
-    -- [the settled one with its token; the others; the first, from the last of them on; the locals]
-    use0 𝓛 (raw (fact 𝓤 (r.accepted ≡ false → r.dst.now ≡ replicate r.written 0 ++ drop_list r.written r.dst.now))) (fact_i 𝓤 _ (emp 𝓤) gone) $
-    use0 𝓛 (raw (fact 𝓤 (r.written ≤ length r.dst.now))) (fact_i 𝓤 _ (emp 𝓤) within) $ join ! $ move ! (1 ∷ 0 ∷ []) $ use2 𝓛 (raw (I.pre z)) (id⊢ 𝓤 _) $
-    calls_at ! (framed 𝓤 𝓛.H 𝓜 𝓣) I (handed_met 𝓤 𝓛 𝓜 𝓡 (code.calls-aegis_engine::destination::handed 𝓡.env wired)) z (and_then ! (get ! refl) (no_more !)) (λ u.
-    use1 𝓛 (later (some (λ (o : Out.Denot). ((‵ (flft κ q) ⊛ ‵ ftrue) ⊛ ‵ (Out.own_val o (u ∷ []))) ⊛ some (λ (ws' : Lasts h.ended (κ, tt) (r, tt)). ‵ (lasts h.ended (κ, tt) (r, tt) ws')
-    ⊛ (‵ (Ends r.dst.ghost_name r.written (drop_list r.written r.dst.now) o) ⊛ raw (fact 𝓤 (Cases o))))))) (id⊢ 𝓤 (I.post z u)) $
-    await ! tt $ pick ! (λ o. split ! $ split ! $ move ! (2 ∷ []) $ pick ! (λ ws'. split ! $ drop ! $ split ! $ move ! (1 ∷ []) $ heard ! _ (λ cases.
-    -- [how it ends; the token; the result; the other tokens; the locals]
-    rewrite ! 0 (λ (γ : GName). ‵ (Ends γ r.written (drop_list r.written r.dst.now) o)) name refl $
-    rewrite ! 0 (λ (l : List ℕ). ‵ (Ends d.ghost_name r.written l o)) rest refl $
-    rewrite ! 0 (λ (m : ℕ). ‵ (Ends d.ghost_name m (drop_list m d.now) o)) count refl $
-    move ! (2 ∷ []) $ peeks ! Out _ (shows 𝓛 Out) o (u ∷ []) (λ is'.
-    lands_as ! refl refl (((result_laws Lent ER.the_row (slice_laws (named 5) κ) error_laws).lawful 𝓛).typed o _ is').0 $
+    move ! (1 ∷ []) $ split ! $ move ! (1 ∷ []) $ split ! $ move ! (1 ∷ []) $ split ! $ move ! (1 ∷ []) $ split ! $ move ! (1 ∷ []) $ split ! $ move ! (1 ∷ []) $ split ! $
+    move ! (0 ∷ 7 ∷ []) $ asks 𝓛 𝓜 𝓡 (named 5) κ q ! r v within gone $
+    -- [what `handed` asks; the others; the first, from the last of them on; the locals]
+    calls_at ! (framed 𝓤 𝓛.H 𝓜 𝓣) (Call 𝓛 𝓜 𝓡) (handed_met 𝓤 𝓛 𝓜 𝓡 (code.calls-aegis_engine::destination::handed 𝓡.env wired)) (at 𝓛 𝓜 𝓡 (named 5) κ q r v) (and_then ! (get ! refl) (no_more !)) (λ u.
+    handing 𝓛 𝓜 𝓡 (named 5) κ q ! tt r v u name count (rest ∙ ap (λ (n : ℕ). drop_list n d.now) count) (λ o cases is'.
+    -- [the result; how it ends; the token; the other tokens; the locals]
+    lands_as ! refl refl is'.0 $
     returns ! (look_at ! 0 refl) $ free_all ! refl $
     suffices ! _ (ends_at 𝓛 En hs c y u o (tt, (tt, (tt, (tt, (tt, tt))))) (tt, (tt, (tt, (tt, (tt, tt)))))) $
     nothing ! $ nothing ! $ fjoin ! $ nothing ! $ fjoin ! $ nothing ! $ fjoin ! $ nothing ! $ fjoin ! $ nothing ! $ fjoin ! $ join ! $
@@ -123,4 +101,4 @@ open_chunks_spec 𝓤 𝓛 𝓜 𝓡 wired S V k n Rw LS LV key_fits fits LR CS 
       weaken o (λ x p. p.2 ∙ place) (λ e p. tt) cases,
       (λ m is. accepted_ok o (weaken o (λ x p. p.0) (λ e p. p.0) cases) (found m is)),
       (λ m is. weaken o (λ x p. p.1 ∙ only m is) (λ e p. tt) cases),
-    ) $ done !))))))))))))))))))))
+    ) $ done !)))))))))))))))))

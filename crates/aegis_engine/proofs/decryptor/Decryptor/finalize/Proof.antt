@@ -1,6 +1,6 @@
 -- The message is returned if the tag is right, and otherwise it is erased. By hand, since the result lends a slice that
--- a struct holds: the walk makes the two calls, of `settle` and of `handed`, and combines the facts of their contracts
--- by three rewrites. Assumes `Logic`.
+-- a struct holds: the walk makes the two calls, of `settle` and of `handed` (`Handing.antt`), and combines the facts of
+-- their contracts. Assumes `Logic`.
 use mathlib.Core.Path.{◌≡◌, refl, ap, ◌∙◌}
 use mathlib.Core.Bool.{true, false}
 use Prim.Native.Nat.{ℕ, ◌≤◌}
@@ -9,23 +9,20 @@ use lib.ListN.{length, take, drop as drop_list, replicate}
 use mir.Syntax.{named, Args, Fn, a_type, a_number, dcons, dnil}
 use mir.MapTy.{inst_fn}
 use base.Logic.{emp, id⊢}
-use base.Fml.{Fml, GName, ftrue, flft}
-use types.Kit.{‵, ◌⊛◌, raw, some, later, ◌$◌, ◌∵◌, !, qed, move, keep, drop, split, join, pick, rewrite, fjoin, use0, use1, use2, await, suffices, frame, updating, now as at_once, done}
+use base.Fml.{ftrue, flft}
+use types.Kit.{‵, ◌⊛◌, raw, some, later, ◌$◌, ◌∵◌, !, qed, move, keep, drop, split, join, pick, fjoin, use1, await, suffices, frame, updating, now as at_once, done}
 use types.Run.{no_more, and_then, of_opd, returns, enter}
 use types.ByLocal.{alloc_all, pass_all, free_all, look_at, get, sets, lands_as}
-use contract.Monad.{fact, fact_i}
+use contract.Monad.{fact}
 use contract.Running.{tables}
 use denote.Builtin.{u8}
 use denote.Exit.{no, yes}
-use denote.Follow.{follows_if}
-use denote.Array.{Array}
 use denote.Laws.{shows}
 use denote.Param.{ArrayAt, param, copied, number, bounded}
 use denote.Param.Laws.{param_laws, copied_laws, copied_copy, copy_told, Told, Laws}
 use denote.RattleType.{RattleType}
 use denote.Ref.{NamedLft, shr_vals, shr_Tells}
 use denote.Signature.{named_lft}
-use denote.Slice.{MutSlice}
 use denote.Steps.{nothing, heard, peeks}
 use denote.Triple.Call.{calls_at}
 use denote.Triple.Clauses.{lasts, Lasts}
@@ -33,24 +30,18 @@ use denote.Triple.Spec.{triple_of}
 use denote.Triple.Table.{framed}
 use denote.Triple.Walked.{Stays, stay_dropped, walk_of, ends_at}
 use Rattle.std.proofs.raw_atomic.Walks.{proved}
-use Rattle.std.specs.Borrow.{name_if_ok}
-use Rattle.std.specs.Prelude.{MatchResult, ◌↔◌}
-use Rattle.aegis_engine.proofs.Results.{accepted_ok, ok_accepted, says_four, slice_laws, weaken}
+use Rattle.std.specs.Prelude.{MatchResult}
+use Rattle.aegis_engine.proofs.Handing.{Call, asks, at, handing}
+use Rattle.aegis_engine.proofs.Results.{accepted_ok, ok_accepted, says_four, weaken}
 use Rattle.aegis_base.specs.Run.{IsAccepted, IsTagged}
 use Rattle.aegis_engine.specs.Held.{held}
-use Rattle.std.proofs.result.Result.TheLaws.{the_row_laws as result_laws}
-use Rattle.aegis_base.proofs.error.Error.TheLaws.{the_row_laws as error_laws}
-use Rattle.aegis_base.specs.declared.error.Error.{Error}
 use Rattle.aegis_engine.proofs.destination.Settled.TheLaws.{the_row_laws as settled_laws}
-use Rattle.std.specs.contracts.result.Result as RS
-use Rattle.aegis_base.specs.contracts.error.Error as ER
 use Rattle.aegis_engine.specs.contracts.destination.Settled as ST
 use Rattle.aegis_engine.specs.contracts.decryptor.Decryptor as DT
 use Rattle.aegis_engine.proofs.decryptor.Decryptor.TheLaws as DL
 use Rattle.aegis_engine.specs.contracts.decryptor.Decryptor.finalize as f
 use Rattle.aegis_engine.specs.contracts.decryptor.Decryptor.settle as g
 use Rattle.aegis_engine.proofs.decryptor.Decryptor.settle.Met.{met as settle_met}
-use Rattle.aegis_engine.specs.contracts.destination.handed as h
 use Rattle.aegis_engine.proofs.destination.handed.Met.{met as handed_met}
 use Rattle.aegis_engine.proofs.decryptor.Decryptor.finalize.Statement.{statement}
 use Rattle.aegis_engine.proofs.decryptor.Decryptor.finalize.Code as code
@@ -62,7 +53,6 @@ finalize_spec 𝓤 𝓛 𝓜 𝓡 wired S V n Rw LS LV fits LR CS CR gS dS gC dC
     let c = f.clauses S V N Rw gS dS gC dC gR dR gRC dRC gV dV 𝓛 𝓜.mem 𝓡.returns in
     let G = triple_of 𝓛 (g.signature S V N Rw gS dS gC dC gR dR gRC dRC gV dV) (g.spec S V N Rw gS dS gC dC gR dR gRC dRC gV dV 𝓛 𝓜.mem 𝓡.returns) in
     let Gn = g.ended S V N Rw gS dS gC dC gR dR gRC dRC gV dV in
-    let I = triple_of 𝓛 h.signature (h.spec 𝓛 𝓜.mem 𝓡.returns) in
     let args : Args = bounded (a_type ∷ a_type ∷ a_number ∷ a_type ∷ []) (S, (V, (N, (Rw, tt)))) (dcons dS (dcons dC (dcons dR (dcons dRC (dcons dV dnil))))) in
     let fn : Fn = inst_fn args code.function in
     let 𝓣 = tables 𝓤 𝓛.H 𝓜 𝓡 𝓡.env in
@@ -96,23 +86,11 @@ finalize_spec 𝓤 𝓛 𝓜 𝓡 wired S V n Rw LS LV fits LR CS CR gS dS gC dC
     move ! (1 ∷ []) $ peeks ! SRow _ (shows 𝓛 SRow) r (v ∷ []) (λ is.
     lands_as ! refl refl (((settled_laws (record { mir = named 0; lft = κ })).lawful 𝓛).typed r _ is).0 $
     -- [the settled one; the tokens; the locals]
-    let z : I.Ghost = (((κ, tt), (q, tt), tt, (r, tt), (v ∷ [], tt)), tt) in
-    let Lent = MutSlice (named 0) κ u8 in let Out = RS.the_row Lent ER.the_row in
-    let Ends : GName → ℕ → List ℕ → Out.Denot → Fml = λ γ m l o. follows_if (Array u8 0) (Array u8 0) γ (name_if_ok (λ x. x.ghost_name) o) (λ w. w ++ l) (replicate m 0 ++ l) in
-    let Cases : Out.Denot → Type 0 = λ o. MatchResult o (λ x. (r.accepted ≡ true) × (x.now ≡ take r.written r.dst.now) × (x.ref_ptr ≡ r.dst.ref_ptr)) (λ e. (r.accepted ≡ false) × (e ≡ Error.InvalidTag)) in
-    nothing ! $ move ! (1 ∷ 0 ∷ []) $ join ! $ move ! (1 ∷ []) $ split ! $ nothing ! $ move ! (1 ∷ 0 ∷ []) $ join ! $ move ! (0 ∷ 2 ∷ []) $ join ! $
-    use0 𝓛 (raw (fact 𝓤 (r.accepted ≡ false → r.dst.now ≡ replicate r.written 0 ++ drop_list r.written r.dst.now))) (fact_i 𝓤 _ (emp 𝓤) gone) $
-    use0 𝓛 (raw (fact 𝓤 (r.written ≤ length r.dst.now))) (fact_i 𝓤 _ (emp 𝓤) within) $ join ! $ move ! (1 ∷ 0 ∷ []) $ use2 𝓛 (raw (I.pre z)) (id⊢ 𝓤 _) $
-    calls_at ! (framed 𝓤 𝓛.H 𝓜 𝓣) I (handed_met 𝓤 𝓛 𝓜 𝓡 (code.calls-aegis_engine::destination::handed 𝓡.env wired)) z (and_then ! (get ! refl) (no_more !)) (λ u.
-    use1 𝓛 (later (some (λ (o : Out.Denot). ((‵ (flft κ q) ⊛ ‵ ftrue) ⊛ ‵ (Out.own_val o (u ∷ []))) ⊛ some (λ (ws' : Lasts h.ended (κ, tt) (r, tt)). ‵ (lasts h.ended (κ, tt) (r, tt) ws')
-    ⊛ (‵ (Ends r.dst.ghost_name r.written (drop_list r.written r.dst.now) o) ⊛ raw (fact 𝓤 (Cases o))))))) (id⊢ 𝓤 (I.post z u)) $
-    await ! tt $ pick ! (λ o. split ! $ split ! $ move ! (2 ∷ []) $ pick ! (λ ws'. split ! $ drop ! $ split ! $ move ! (1 ∷ []) $ heard ! _ (λ cases.
-    -- [how it ends; the token; the result; the other tokens; the locals]
-    rewrite ! 0 (λ (γ : GName). ‵ (Ends γ r.written (drop_list r.written r.dst.now) o)) name refl $
-    rewrite ! 0 (λ (m : ℕ). ‵ (Ends d.dst.ghost_name m (drop_list r.written r.dst.now) o)) count refl $
-    rewrite ! 0 (λ (l : List ℕ). ‵ (Ends d.dst.ghost_name d.written l o)) rest refl $
-    move ! (2 ∷ []) $ peeks ! Out _ (shows 𝓛 Out) o (u ∷ []) (λ is'.
-    lands_as ! refl refl (((result_laws Lent ER.the_row (slice_laws (named 0) κ) error_laws).lawful 𝓛).typed o _ is').0 $
+    move ! (1 ∷ []) $ split ! $ move ! (0 ∷ 2 ∷ []) $ asks 𝓛 𝓜 𝓡 (named 0) κ q ! r v within gone $
+    calls_at ! (framed 𝓤 𝓛.H 𝓜 𝓣) (Call 𝓛 𝓜 𝓡) (handed_met 𝓤 𝓛 𝓜 𝓡 (code.calls-aegis_engine::destination::handed 𝓡.env wired)) (at 𝓛 𝓜 𝓡 (named 0) κ q r v) (and_then ! (get ! refl) (no_more !)) (λ u.
+    handing 𝓛 𝓜 𝓡 (named 0) κ q ! tt r v u name count rest (λ o cases is'.
+    -- [the result; how it ends; the token; the other tokens; the locals]
+    lands_as ! refl refl is'.0 $
     returns ! (look_at ! 0 refl) $ free_all ! refl $
     let by_cases : MatchResult o (λ _. r.accepted ≡ true) (λ _. r.accepted ≡ false) = weaken o (λ x p. p.0) (λ e p. p.0) cases in
     suffices ! _ (ends_at 𝓛 En hs c y u o ((tt, tt), (tt, tt)) (tt, (tt, tt))) $
@@ -122,4 +100,4 @@ finalize_spec 𝓤 𝓛 𝓜 𝓡 wired S V n Rw LS LV fits LR CS CR gS dS gC dC
       weaken o (λ x p. p.2 ∙ place) (λ e p. tt) cases,
       (λ key nonce ad stands. let same = tagged key nonce ad stands in ((λ ok. same.0 (ok_accepted o by_cases ok)), (λ is. accepted_ok o by_cases (same.1 is)))),
       (λ key nonce ad m stands opens. accepted_ok o by_cases (found key nonce ad m stands opens)),
-    ) $ done !))))))))))))))))))))
+    ) $ done !)))))))))))))))))
