@@ -1,6 +1,6 @@
 //! A message sealed and opened as a record stream, at once and a record at a time, and in place.
 
-ghost use Rattle.std.specs.Prelude.{IfOk};
+ghost use Rattle.std.specs.Prelude.{◌<◌, IfOk, length};
 ghost use Rattle.aegis_base.specs.Chunks.{texts};
 ghost use Rattle.aegis.specs.RecordStream.{AreWithin};
 ghost use Rattle.aegis.specs.declared.record.version.Version.TheVariants.{Second};
@@ -24,26 +24,27 @@ const NONCE: [u8; 32] = [7; 32];
 
 const PREFIX: [u8; 24] = [7; 24];
 
-// The records of a message.
+// The records of a message, of which there is at least one.
 fn records_of<A: Allocator>(alloc: A, message: &[u8]) -> Result<Vec<&[u8], A>, AllocError>
-    ensures { IfOk result (λ records. AreWithin Second (texts records.items)) }
+    ensures some { IfOk result (λ records. 0 < length records.items) }
+    ensures within { IfOk result (λ records. AreWithin Second (texts records.items)) }
 {
     let mut records = Vec::new(alloc);
-    for record in message.chunks(PIECE_BYTES) {
-        if record.len() <= PIECE_BYTES {
-            records.push(record)?;
-        }
+    let mut rest = message;
+    'records: while rest.len() > PIECE_BYTES {
+        let (record, after) = rest.split_at(PIECE_BYTES);
+        records.push(record)?;
+        rest = after;
     }
+    records.push(rest)?;
     Ok(records)
 }
 
-// Seals records as a stream, or returns `None` if there is no record, they are too long together, or memory runs out.
+// Seals records as a stream, or returns `None` if they are too long together or memory runs out.
 fn seal<A: Allocator + Copy>(alloc: A, records: &[&[u8]]) -> Option<Vec<u8, A>>
-    requires { AreWithin Second (texts records.now) }
+    requires some { 0 < length records.now }
+    requires within { AreWithin Second (texts records.now) }
 {
-    if records.is_empty() {
-        return None;
-    }
     let _length = records_len(records)?;
     seal_records(alloc, &KEY, &PREFIX, &[], records).ok()
 }
