@@ -12,6 +12,7 @@ mod records;
 
 use aegis_variants::{AnyCipher, Keys, VARIANTS};
 use calls::{WAYS, Way, open, seal, xor};
+use records::{FORMS, Form};
 use std::alloc::{AllocError, Allocator};
 use std::rt::Runtime;
 use std::time::{Duration, Instant};
@@ -44,12 +45,28 @@ struct Times {
 }
 
 impl Times {
+    // Longer than any.
+    const MAX: Times = Times {
+        seal: Duration::MAX,
+        open: Duration::MAX,
+        xor: Duration::MAX,
+    };
+
     // The shorter of each.
     fn min(self, other: Times) -> Times {
         Times {
             seal: self.seal.min(other.seal),
             open: self.open.min(other.open),
             xor: self.xor.min(other.xor),
+        }
+    }
+
+    // Of records, which are not xored.
+    fn of_records(seal: Duration, open: Duration) -> Times {
+        Times {
+            seal,
+            open,
+            xor: Duration::ZERO,
         }
     }
 }
@@ -106,11 +123,7 @@ fn best<R: Runtime, A: Allocator + Copy>(
     requires lengths { length other.old ≡ length message.old }
     requires within { length message.old ≤ 16777216 }
 {
-    let mut best = Times {
-        seal: Duration::MAX,
-        open: Duration::MAX,
-        xor: Duration::MAX,
-    };
+    let mut best = Times::MAX;
     for _turn in 0..turns {
         let times = turn(rt, alloc, cipher, way, message, other)?;
         best = best.min(times);
@@ -160,26 +173,30 @@ fn print_stream<R: Runtime>(rt: &R, name: &str, times: Times) -> io::Result<()> 
     println!(rt; "| 16 MiB {name} | {seal} | {open} |")
 }
 
+// Takes a turn with each form of a record stream, and keeps the shorter times.
+fn turn_of_each<R: Runtime, A: Allocator + Copy>(
+    rt: &R,
+    alloc: A,
+    message: &mut [u8],
+    best: &mut [Times; 3],
+) -> io::Result<()> {
+    for ((form, _), times) in FORMS.iter().zip(best.iter_mut()) {
+        *times = times.min(form.turn(rt, alloc, message)?);
+    }
+    Ok(())
+}
+
 // Prints the shortest times of some turns with a record stream of 16 MiB, and with the same bytes in place.
 fn print_streams<R: Runtime, A: Allocator + Copy>(
     rt: &R,
     alloc: A,
     message: &mut [u8],
 ) -> io::Result<()> {
-    let mut in_records = records::turn(rt, alloc, message)?;
-    let mut by_steps = records::turn_by_steps(rt, alloc, message)?;
-    let mut in_place = records::turn_in_place(rt, message)?;
-    for _turn in 0..20 {
-        in_records = in_records.min(records::turn(rt, alloc, message)?);
-        by_steps = by_steps.min(records::turn_by_steps(rt, alloc, message)?);
-        in_place = in_place.min(records::turn_in_place(rt, message)?);
+    let mut best = [Times::MAX; 3];
+    for _turn in 0..21 {
+        turn_of_each(rt, alloc, message, &mut best)?;
     }
-    let rows = [
-        ("in records", in_records),
-        ("a record at a time", by_steps),
-        ("in place", in_place),
-    ];
-    for (name, times) in rows {
+    for ((_, name), times) in FORMS.iter().zip(best) {
         print_stream(rt, name, times)?;
     }
     Ok(())
@@ -224,6 +241,6 @@ fn main(rt: HostRuntime) -> io::Result<()> {
             println!(rt; "{}: sealed, opened and xored {words}", variant.name())?;
         }
     }
-    records::turn(&rt, rt.alloc(), &message)?;
+    Form::Stream.turn(&rt, rt.alloc(), &mut message)?;
     println!(rt; "records: sealed and opened")
 }

@@ -18,11 +18,34 @@ use std::time::{Duration, Instant};
 // The length of a record's message in bytes. The last one may be shorter.
 const PIECE_BYTES: usize = 65536;
 
+/// How a message is sealed and opened.
+#[derive(Clone, Copy)]
+pub enum Form {
+    /// In records, by one call.
+    Stream,
+    /// A record at a time.
+    Steps,
+    /// In place, as one ciphertext.
+    InPlace,
+}
+
+/// All forms, and the names that they are printed by.
+pub const FORMS: [(Form, &str); 3] = [
+    (Form::Stream, "in records"),
+    (Form::Steps, "a record at a time"),
+    (Form::InPlace, "in place"),
+];
+
 const KEY: [u8; 32] = [7; 32];
 
 const NONCE: [u8; 32] = [7; 32];
 
 const PREFIX: [u8; 24] = [7; 24];
+
+// The error of a message that does not come back, or of records that are refused.
+fn refused() -> io::Error {
+    io::Error::from(io::ErrorKind::InvalidData)
+}
 
 // The records of a message, of which there is at least one.
 fn records_of<A: Allocator>(alloc: A, message: &[u8]) -> Result<Vec<&[u8], A>, AllocError>
@@ -62,42 +85,71 @@ fn are_same<A: Allocator>(messages: &[Vec<u8, A>], records: &[&[u8]]) -> bool {
     true
 }
 
-/// Seals a message in records and opens it again. The message must come back.
-pub fn turn<R: Runtime, A: Allocator + Copy>(
+// The stream of these records, and the time of sealing them.
+fn sealed_in<R: Runtime, A: Allocator + Copy>(
+    rt: &R,
+    alloc: A,
+    records: &[&[u8]],
+) -> io::Result<(Vec<u8, A>, Duration)>
+    requires some { 0 < length records.now }
+    requires within { AreWithin Second (texts records.now) }
+{
+    let start = Instant::now(rt)?;
+    let stream = seal(alloc, records);
+    let time = start.elapsed(rt)?;
+    Ok((stream.ok_or(refused())?, time))
+}
+
+// The time of opening a stream, whose messages must be these records.
+fn opened_in<R: Runtime, A: Allocator + Copy>(
+    rt: &R,
+    alloc: A,
+    stream: &[u8],
+    records: &[&[u8]],
+) -> io::Result<Duration> {
+    let start = Instant::now(rt)?;
+    let opened = open_records(alloc, &KEY, &PREFIX, &[], stream);
+    let time = start.elapsed(rt)?;
+    match opened {
+        Ok(messages) if are_same(&messages, records) => Ok(time),
+        _ => Err(refused()),
+    }
+}
+
+// Seals a message in records and opens it again. The message must come back.
+fn turn_at_once<R: Runtime, A: Allocator + Copy>(
     rt: &R,
     alloc: A,
     message: &[u8],
 ) -> io::Result<Times> {
     let records = records_of(alloc, message)?;
-    let start = Instant::now(rt)?;
-    let stream = seal(alloc, &records);
-    let seal = start.elapsed(rt)?;
-    let stream = stream.ok_or(io::Error::from(io::ErrorKind::InvalidData))?;
-    let start = Instant::now(rt)?;
-    let opened = open_records(alloc, &KEY, &PREFIX, &[], &stream);
-    let open = start.elapsed(rt)?;
-    match opened {
-        Ok(messages) if are_same(&messages, &records) => Ok(Times {
-            seal,
-            open,
-            xor: Duration::ZERO,
-        }),
-        _ => Err(io::Error::from(io::ErrorKind::InvalidData)),
+    let (stream, seal) = sealed_in(rt, alloc, &records)?;
+    let open = opened_in(rt, alloc, &stream, &records)?;
+    Ok(Times::of_records(seal, open))
+}
+
+// Seals the pieces of a message as records, each in place of the one before. Returns `None` if memory runs out.
+fn seal_pieces<A: Allocator + Copy>(
+    sealer: &mut RecordSealer<A>,
+    record: &mut Vec<u8, A>,
+    message: &[u8],
+) -> Option<()> {
+    for piece in message.chunks(PIECE_BYTES) {
+        if piece.len() > PIECE_BYTES || sealer.remaining() < RECORD_BYTES + piece.len() as u64 {
+            return None;
+        }
+        record.clear();
+        sealer.seal_next(piece, record).ok()?;
     }
+    record.clear();
+    Some(())
 }
 
 // Seals a message a record at a time, in a vector that holds one record. Returns `None` if memory runs out.
 fn seal_by_steps<A: Allocator + Copy>(alloc: A, message: &[u8]) -> Option<()> {
     let mut record = Vec::with_capacity(alloc, PIECE_BYTES + RECORD_BYTES as usize).ok()?;
     let mut sealer = RecordSealer::new(alloc, &KEY, &PREFIX, &[], &mut record).ok()?;
-    for piece in message.chunks(PIECE_BYTES) {
-        if piece.len() > PIECE_BYTES || sealer.remaining() < RECORD_BYTES + piece.len() as u64 {
-            return None;
-        }
-        record.clear();
-        sealer.seal_next(piece, &mut record).ok()?;
-    }
-    record.clear();
+    seal_pieces(&mut sealer, &mut record, message)?;
     sealer.seal_last(&[], &mut record).ok()
 }
 
@@ -123,32 +175,56 @@ fn open_by_steps<A: Allocator + Copy>(alloc: A, stream: &[u8]) -> Option<usize> 
     None
 }
 
-/// Seals a message a record at a time, and then opens the stream of its records in the same way.
-pub fn turn_by_steps<R: Runtime, A: Allocator + Copy>(
+// The time of sealing a message a record at a time.
+fn sealed_by_steps<R: Runtime, A: Allocator + Copy>(
+    rt: &R,
+    alloc: A,
+    message: &[u8],
+) -> io::Result<Duration> {
+    let start = Instant::now(rt)?;
+    let sealed = seal_by_steps(alloc, message);
+    let time = start.elapsed(rt)?;
+    sealed.ok_or(refused())?;
+    Ok(time)
+}
+
+// The time of opening a stream a record at a time, whose messages must have so many bytes.
+fn opened_by_steps<R: Runtime, A: Allocator + Copy>(
+    rt: &R,
+    alloc: A,
+    stream: &[u8],
+    bytes: usize,
+) -> io::Result<Duration> {
+    let start = Instant::now(rt)?;
+    let opened = open_by_steps(alloc, stream);
+    let time = start.elapsed(rt)?;
+    if opened == Some(bytes) {
+        Ok(time)
+    } else {
+        Err(refused())
+    }
+}
+
+// The stream of a message's records.
+fn stream_of<A: Allocator + Copy>(alloc: A, message: &[u8]) -> io::Result<Vec<u8, A>> {
+    let records = records_of(alloc, message)?;
+    seal(alloc, &records).ok_or(refused())
+}
+
+// Seals a message a record at a time, and then opens the stream of its records in the same way.
+fn turn_by_steps<R: Runtime, A: Allocator + Copy>(
     rt: &R,
     alloc: A,
     message: &[u8],
 ) -> io::Result<Times> {
-    let start = Instant::now(rt)?;
-    let sealed = seal_by_steps(alloc, message);
-    let seal_time = start.elapsed(rt)?;
-    let records = records_of(alloc, message)?;
-    let stream = seal(alloc, &records).ok_or(io::Error::from(io::ErrorKind::InvalidData))?;
-    let start = Instant::now(rt)?;
-    let opened = open_by_steps(alloc, &stream);
-    let open = start.elapsed(rt)?;
-    match (sealed, opened) {
-        (Some(()), Some(bytes)) if bytes == message.len() => Ok(Times {
-            seal: seal_time,
-            open,
-            xor: Duration::ZERO,
-        }),
-        _ => Err(io::Error::from(io::ErrorKind::InvalidData)),
-    }
+    let seal = sealed_by_steps(rt, alloc, message)?;
+    let stream = stream_of(alloc, message)?;
+    let open = opened_by_steps(rt, alloc, &stream, message.len())?;
+    Ok(Times::of_records(seal, open))
 }
 
-/// Seals a message, or its first 16 MiB, in place and opens it again. The message must come back.
-pub fn turn_in_place<R: Runtime>(rt: &R, message: &mut [u8]) -> io::Result<Times> {
+// Seals a message, or its first 16 MiB, in place and opens it again. The message must come back.
+fn turn_in_place<R: Runtime>(rt: &R, message: &mut [u8]) -> io::Result<Times> {
     let bytes = message.len().min(STREAM_BYTES);
     let message = &mut message[..bytes];
     let start = Instant::now(rt)?;
@@ -158,11 +234,23 @@ pub fn turn_in_place<R: Runtime>(rt: &R, message: &mut [u8]) -> io::Result<Times
     let opened = Aegis256::<32>::new(&KEY, &NONCE).decrypt_in_place(message, &tag, &[]);
     let open = start.elapsed(rt)?;
     match opened {
-        Ok(()) => Ok(Times {
-            seal,
-            open,
-            xor: Duration::ZERO,
-        }),
-        Err(_) => Err(io::Error::from(io::ErrorKind::InvalidData)),
+        Ok(()) => Ok(Times::of_records(seal, open)),
+        Err(_) => Err(refused()),
+    }
+}
+
+impl Form {
+    /// Seals a message in this form and opens it again.
+    pub fn turn<R: Runtime, A: Allocator + Copy>(
+        self,
+        rt: &R,
+        alloc: A,
+        message: &mut [u8],
+    ) -> io::Result<Times> {
+        match self {
+            Form::Stream => turn_at_once(rt, alloc, message),
+            Form::Steps => turn_by_steps(rt, alloc, message),
+            Form::InPlace => turn_in_place(rt, message),
+        }
     }
 }

@@ -83,6 +83,24 @@ fn transfer_command<'a>(
         .arg(output_argument(alloc))
 }
 
+fn seal<'a>(alloc: Global) -> Result<Command<'a>, AllocError> {
+    transfer_command(
+        alloc,
+        "seal",
+        "Seals a file under a key",
+        "Example: hunkravy seal -k backup.key backup.tar backup.sealed",
+    )
+}
+
+fn open<'a>(alloc: Global) -> Result<Command<'a>, AllocError> {
+    transfer_command(
+        alloc,
+        "open",
+        "Opens a sealed file",
+        "Example: hunkravy open -k backup.key backup.sealed backup.tar",
+    )
+}
+
 fn check<'a>(alloc: Global) -> Result<Command<'a>, AllocError> {
     Command::new(alloc, "check")
         .about("Opens a sealed file and writes nothing")
@@ -98,29 +116,25 @@ fn info<'a>(alloc: Global) -> Result<Command<'a>, AllocError> {
         .arg(input_argument(alloc))
 }
 
+// Adds a command to the program's.
+fn with_command<'a>(
+    program: Command<'a>,
+    command: Result<Command<'a>, AllocError>,
+) -> Result<Command<'a>, AllocError> {
+    program.subcommand(command?)
+}
+
 /// The commands and their arguments.
 pub fn command<'a>(alloc: Global) -> Result<Command<'a>, AllocError> {
-    let seal = transfer_command(
-        alloc,
-        "seal",
-        "Seals a file under a key",
-        "Example: hunkravy seal -k backup.key backup.tar backup.sealed",
-    )?;
-    let open = transfer_command(
-        alloc,
-        "open",
-        "Opens a sealed file",
-        "Example: hunkravy open -k backup.key backup.sealed backup.tar",
-    )?;
-    Command::new(alloc, "hunkravy")
+    let program = Command::new(alloc, "hunkravy")
         .about("Seals and opens files with AEGIS-256")
         .subcommand_required(true)
-        .arg_required_else_help(true)
-        .subcommand(keygen(alloc)?)?
-        .subcommand(seal)?
-        .subcommand(open)?
-        .subcommand(check(alloc)?)?
-        .subcommand(info(alloc)?)
+        .arg_required_else_help(true);
+    let program = with_command(program, keygen(alloc))?;
+    let program = with_command(program, seal(alloc))?;
+    let program = with_command(program, open(alloc))?;
+    let program = with_command(program, check(alloc))?;
+    with_command(program, info(alloc))
 }
 
 fn name<'a>(matches: &ArgMatches<'a>, id: &str) -> &'a str {

@@ -16,16 +16,22 @@ use std::test::Fail;
 use test_tools::calls::{LONG_KEY, SHORT_KEY, keyed};
 use test_tools::worked::MESSAGE;
 
+fn of_one_byte(mac: Aegis128LMac<16>) -> [u8; 16]
+    requires { mac.message_bytes ≡ 0 }
+{
+    let mut mac = mac;
+    mac.update(b"a");
+    mac.finalize()
+}
+
 // The MAC was not made by the library. A clone that is made before the update gives the same.
 #[test]
 fn aegis128l_of_one_byte(rt: HostRuntime) -> Result<(), Fail> {
     let expected = <[u8; 16] as FromHex>::from_hex("7b1e31c93ef8a9b70d3a7aae2980d6a0")?;
-    let mut mac = Aegis128LMac::<16>::new(&SHORT_KEY);
-    let mut clone = mac.clone()?;
-    mac.update(b"a");
-    clone.update(b"a");
-    assert_bytes(&rt, &mac.finalize(), &expected, &"the MAC");
-    clone.verify(&expected)?;
+    let mac = Aegis128LMac::<16>::new(&SHORT_KEY);
+    let clone = mac.clone()?;
+    assert_bytes(&rt, &of_one_byte(mac), &expected, &"the MAC");
+    assert_bytes(&rt, &of_one_byte(clone), &expected, &"the MAC of the clone");
     Ok(())
 }
 
@@ -107,22 +113,40 @@ fn pieces_and_the_whole(rt: HostRuntime) -> Result<(), Fail> {
     Ok(())
 }
 
+fn of_message() -> Aegis256X4Mac<32>
+    ensures { result.message_bytes ≡ 114 }
+{
+    let mut mac = Aegis256X4Mac::<32>::new(&LONG_KEY);
+    mac.update(&MESSAGE);
+    mac
+}
+
+// The MAC after these last bytes.
+fn ended(mac: Aegis256X4Mac<32>, last: &[u8; 7]) -> [u8; 32]
+    requires { mac.message_bytes ≡ 114 }
+{
+    let mut mac = mac;
+    mac.update(last);
+    mac.finalize()
+}
+
 // A MAC and its clone take in different bytes from the clone on.
 #[test]
 fn clones_go_their_own_way(rt: HostRuntime) -> Result<(), Fail> {
-    let mut mac = Aegis256X4Mac::<32>::new(&LONG_KEY);
-    mac.update(&MESSAGE);
-    let mut clone = mac.clone()?;
-    mac.update(b"one way");
-    clone.update(b"another");
-    let mut expected = Aegis256X4Mac::<32>::new(&LONG_KEY);
-    expected.update(&MESSAGE);
-    expected.update(b"one way");
-    expected.verify(&mac.finalize())?;
-    let mut expected = Aegis256X4Mac::<32>::new(&LONG_KEY);
-    expected.update(&MESSAGE);
-    expected.update(b"another");
-    expected.verify(&clone.finalize())?;
+    let mac = of_message();
+    let clone = mac.clone()?;
+    assert_bytes(
+        &rt,
+        &ended(mac, b"one way"),
+        &ended(of_message(), b"one way"),
+        &"the MAC",
+    );
+    assert_bytes(
+        &rt,
+        &ended(clone, b"another"),
+        &ended(of_message(), b"another"),
+        &"the MAC of the clone",
+    );
     Ok(())
 }
 

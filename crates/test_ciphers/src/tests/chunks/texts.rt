@@ -6,14 +6,20 @@ use std::test::Fail;
 use test_tools::calls::{SHORT_KEY, SHORT_NONCE};
 
 #[test]
-fn aegis128l(rt: HostRuntime) -> Result<(), Fail> {
-    let cipher = Aegis128L::<16>::new(&SHORT_KEY, &SHORT_NONCE);
-    check_text(&rt, &cipher.encryptor(&[]), "aegis128l::Encryptor { .. }")?;
-    check_text(
-        &rt,
-        &cipher.decryptor(&[], &mut []),
-        "aegis128l::Decryptor { .. }",
-    )?;
+fn encryptor(rt: HostRuntime) -> Result<(), Fail> {
+    let encryptor = Aegis128L::<16>::new(&SHORT_KEY, &SHORT_NONCE).encryptor(&[]);
+    check_text(&rt, &encryptor, "aegis128l::Encryptor { .. }")
+}
+
+#[test]
+fn decryptor(rt: HostRuntime) -> Result<(), Fail> {
+    let mut destination = [];
+    let decryptor = Aegis128L::<16>::new(&SHORT_KEY, &SHORT_NONCE).decryptor(&[], &mut destination);
+    check_text(&rt, &decryptor, "aegis128l::Decryptor { .. }")
+}
+
+#[test]
+fn mac(rt: HostRuntime) -> Result<(), Fail> {
     let mac = Aegis128LMac::<32>::new(&SHORT_KEY);
     check_text(&rt, &mac, "Aegis128LMac { .. }")
 }
