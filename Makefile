@@ -1,4 +1,4 @@
-.PHONY: run try test check-pages check-edits bench bench-peers bench-states c-library check-c check-header check-sodium check-rust \
+.PHONY: run program test check-pages check-edits bench bench-peers bench-states c-library check-c check-header check-sodium check-rust \
 	check-install install install-tool check-tool gcc-aarch64-linux-gnu qemu-user
 .SECONDARY:
 
@@ -23,13 +23,17 @@ on_input = cd crates/aegis_vectors && \
 		$(1); \
 	fi
 
-# Proves, builds and runs the line program.
-run: $(OUT)/line-program
-	@$(call on_input,rt run)
+# Runs the line program, if it was built from these sources, and otherwise the sources, before any proof.
+run:
+	@if [ -x crates/aegis_vectors/out/aegis_vectors ] && $(MAKE) --silent --question $(OUT)/line-program; then \
+		$(call on_input,out/aegis_vectors); \
+	else \
+		echo 'running the sources, before any proof: make program proves and builds the program, make test all' >&2; \
+		$(call on_input,rt try); \
+	fi
 
-# Runs it by an interpreter, before anything is proved.
-try:
-	@$(call on_input,rt try)
+# Proves and builds the line program.
+program: $(OUT)/line-program
 
 # The line program's crates, lowest first, each after those that it needs.
 RUN_LIBRARIES = aegis_aes aegis_base aegis_engine $(FAMILIES) aegis aegis_variants aegis_lines
@@ -62,6 +66,7 @@ $(OUT)/line-program: $(shell find $(RUN_CRATES:%=crates/%) -name out -prune -o -
 # The merge gate: the pages, every proof from nothing, the must-fail edits, the tests and the programs.
 test: check-pages
 	RT_JOBS=$(CHECKS) rt ci
+	@mkdir -p $(OUT) && touch $(OUT)/line-program
 
 # Tries the edits that the gate leaves out: the prover has to refuse each.
 check-edits:
