@@ -7,7 +7,7 @@ ghost use Rattle.aegis_aes.specs.Blocks.{block_of_two, each_of_two, two_blocks};
 ghost use Rattle.aegis_aes.specs.Round.{round, sub_bytes};
 
 use crate::block::AesBlock;
-use crate::permutes::{repeated, sub_bytes, sub_bytes_apart};
+use crate::permutes::{repeated, sub_bytes};
 use crate::round::{complete, round_by_field};
 use crate::row::{Row, context_block};
 use crate::vectors::{and_each, load, store, xor_each};
@@ -110,17 +110,6 @@ impl AesBlock2 {
     {
         AesBlock2 {
             bytes: round_by_field(self.bytes, key.bytes),
-        }
-    }
-
-    // `Row::sub_bytes_row`, out of line.
-    #[inline(always)]
-    pub(crate) fn sub_bytes_apart(self) -> AesBlock2
-        ensures { (j : ℕ) → j < 2
-            → block_of_two result j ≡ sub_bytes (block_of_two self j) }
-    {
-        AesBlock2 {
-            bytes: sub_bytes_apart(self.bytes),
         }
     }
 }

@@ -134,11 +134,12 @@ impl Row for AesBlock4 {
         AesBlock4::and(&self, other)
     }
 
-    // The rows of four lanes do not fit into the registers, and an inlined SubBytes needs many more.
+    // Inlined, since a call returns vectors of 32 bytes in memory.
+    #[inline(always)]
     fn sub_bytes_row(self) -> AesBlock4 {
         AesBlock4 {
-            front: self.front.sub_bytes_apart(),
-            back: self.back.sub_bytes_apart(),
+            front: self.front.sub_bytes_row(),
+            back: self.back.sub_bytes_row(),
         }
     }
 

@@ -138,12 +138,3 @@ pub(crate) fn sub_bytes<const N: usize>(bytes: Simd<u8, N>) -> Simd<u8, N>
     let q = look_for_place(INVERSE, look_for_place(INVERSE, sum) ^ scaled) ^ v;
     look(OUT_ONE, p) ^ look(OUT_TWO, q) ^ Simd::splat(0x63)
 }
-
-/// The same for two blocks, out of line. A call passes vectors in registers.
-#[inline(never)]
-pub(crate) fn sub_bytes_apart(blocks: u8x32) -> u8x32
-    ensures { (p : ℕ) → p % 16 ≡ 0 → p + 16 ≤ 32
-        → block_at result p ≡ sub_bytes (block_at blocks p) }
-{
-    sub_bytes(blocks)
-}
