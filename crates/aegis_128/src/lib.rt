@@ -29,8 +29,26 @@ pub struct State128<P> {
 impl<P: Pair> State128<P> {
     ghost use Rattle.aegis_128.specs.Rows.{lane};
 
-    // The rows after one update by two rows of blocks (AEGIS, Update). The last rows come first, so that no round waits
-    // for the one just made.
+    // One update by two rows of blocks (AEGIS, Update). The last rows come first, so that each pair is updated from the
+    // pair before it as that was.
+    #[inline(always)]
+    fn update_in_place(&mut self, m: P)
+        requires { self.old.updates + 1 < 2 ^ 64 }
+        ensures lanes { (j : ℕ) → j < P.Row.LANES
+            → lane P.block self.new j
+            ≡ step Family128 (lane P.block self.old j) (P.block m 0 j ∷ P.block m 1 j ∷ []) }
+        ensures updates { self.new.updates ≡ self.old.updates + 1 }
+    {
+        let last = self.s37.swap();
+        self.s37.update_from(&self.s26);
+        self.s26.update_from(&self.s15);
+        self.s15.update_from(&self.s04);
+        self.s04.update_from(&last);
+        self.s04 = self.s04.xor_pair(m);
+        self.updates += 1;
+    }
+
+    // The rows after one update.
     #[inline(always)]
     fn update(self, m: P) -> Self
         requires { self.updates + 1 < 2 ^ 64 }
@@ -39,13 +57,9 @@ impl<P: Pair> State128<P> {
             ≡ step Family128 (lane P.block self j) (P.block m 0 j ∷ P.block m 1 j ∷ []) }
         ensures updates { result.updates ≡ self.updates + 1 }
     {
-        State128 {
-            s37: self.s26.round_pair(self.s37),
-            s26: self.s15.round_pair(self.s26),
-            s15: self.s04.round_pair(self.s15),
-            s04: self.s37.swap().round_pair(self.s04).xor_pair(m),
-            updates: self.updates + 1,
-        }
+        let mut state = self;
+        state.update_in_place(m);
+        state
     }
 
     // The rows with the context blocks xored in.
@@ -151,8 +165,8 @@ impl<P: Pair> LaneState for State128<P> {
     }
 
     #[inline(always)]
-    fn absorb(self, bytes: &[u8], at: usize) -> Self {
-        self.update(P::load(bytes, at))
+    fn absorb_in_place(&mut self, bytes: &[u8], at: usize) {
+        self.update_in_place(P::load(bytes, at));
     }
 
     #[inline(always)]

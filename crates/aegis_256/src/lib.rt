@@ -45,8 +45,25 @@ pub struct State256<P> {
 impl<P: Pair> State256<P> {
     ghost use Rattle.aegis_256.specs.Rows.{lane};
 
-    // The rows after one update by a row of blocks (AEGIS, Update). The last rows come first, so that no round waits
-    // for the one just made.
+    // One update by a row of blocks (AEGIS, Update). The last rows come first, so that each pair is updated from the
+    // pair before it as that was.
+    #[inline(always)]
+    fn update_in_place(&mut self, m: P::Row)
+        requires { self.old.updates + 1 < 2 ^ 64 }
+        ensures lanes { (j : ℕ) → j < P.Row.LANES
+            → lane P.block self.new j
+            ≡ step Family256 (lane P.block self.old j) (P.Row.block m j ∷ []) }
+        ensures updates { self.new.updates ≡ self.old.updates + 1 }
+    {
+        let last = self.s25.swap();
+        self.s25.update_from(&self.s14);
+        self.s14.update_from(&self.s03);
+        self.s03.update_from(&last);
+        self.s03 = self.s03.xor_first_row(m);
+        self.updates += 1;
+    }
+
+    // The rows after one update.
     #[inline(always)]
     fn update(self, m: P::Row) -> Self
         requires { self.updates + 1 < 2 ^ 64 }
@@ -55,12 +72,9 @@ impl<P: Pair> State256<P> {
             ≡ step Family256 (lane P.block self j) (P.Row.block m j ∷ []) }
         ensures updates { result.updates ≡ self.updates + 1 }
     {
-        State256 {
-            s25: self.s14.round_pair(self.s25),
-            s14: self.s03.round_pair(self.s14),
-            s03: self.s25.swap().round_pair(self.s03).xor_first_row(m),
-            updates: self.updates + 1,
-        }
+        let mut state = self;
+        state.update_in_place(m);
+        state
     }
 
     // The rows with the context blocks xored in.
@@ -182,8 +196,8 @@ impl<P: Pair> LaneState for State256<P> {
     }
 
     #[inline(always)]
-    fn absorb(self, bytes: &[u8], at: usize) -> Self {
-        self.update(P::Row::load(bytes, at))
+    fn absorb_in_place(&mut self, bytes: &[u8], at: usize) {
+        self.update_in_place(P::Row::load(bytes, at));
     }
 
     #[inline(always)]

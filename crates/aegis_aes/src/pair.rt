@@ -72,11 +72,21 @@ pub trait Pair: Copy {
         ensures { (h j : ℕ) → h < 2 → j < Self.Row.LANES
             → block result h j ≡ and (block self h j) (block other h j) };
 
-    /// Returns each block after one AES round (FIPS 197, sections 5.1.1 to 5.1.4), with the block of `key` at the same
-    /// place as its key.
-    fn round_pair(self, key: Self) -> Self
+    /// Replaces each block by the block of `previous` at the same place after one AES round (FIPS 197, sections 5.1.1 to
+    /// 5.1.4), with the replaced block as its key.
+    fn update_from(&mut self, previous: &Self)
         ensures { (h j : ℕ) → h < 2 → j < Self.Row.LANES
-            → block result h j ≡ round (block self h j) (block key h j) };
+            → block self.new h j ≡ round (block previous.now h j) (block self.old h j) };
+
+    /// Returns each block after one AES round, with the block of `key` at the same place as its key.
+    final fn round_pair(self, key: Self) -> Self
+        ensures { (h j : ℕ) → h < 2 → j < Self.Row.LANES
+            → block result h j ≡ round (block self h j) (block key h j) }
+    {
+        let mut pair = key;
+        pair.update_from(&self);
+        pair
+    }
 }
 
 // Two rows of one lane are one vector.
@@ -124,8 +134,8 @@ impl Pair for AesBlock2 {
     }
 
     #[tactic(auto, unfolding(crate::specs::Round::round))]
-    fn round_pair(self, key: AesBlock2) -> AesBlock2 {
-        self.sub_bytes_row().complete_row(key)
+    fn update_from(&mut self, previous: &AesBlock2) {
+        *self = previous.sub_bytes_row().complete_row(*self);
     }
 }
 
@@ -208,13 +218,10 @@ impl<R: Row> Pair for Rows2<R> {
 
     // SubBytes of both rows comes first, so that a processor has steps of both rounds to execute at the same time.
     #[tactic(auto, unfolding(crate::specs::Round::round))]
-    fn round_pair(self, key: Self) -> Self {
-        let second = self.second.sub_bytes_row();
-        let first = self.first.sub_bytes_row();
-        Rows2 {
-            second: second.complete_row(key.second),
-            first: first.complete_row(key.first),
-            aligned: [],
-        }
+    fn update_from(&mut self, previous: &Self) {
+        let second = previous.second.sub_bytes_row();
+        let first = previous.first.sub_bytes_row();
+        self.second = second.complete_row(self.second);
+        self.first = first.complete_row(self.first);
     }
 }

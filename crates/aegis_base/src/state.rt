@@ -88,14 +88,29 @@ pub trait LaneState: Copy {
         state.uncounted()
     }
 
-    /// Returns the lanes after one update by the rate block of `bytes` that begins at place `at` (AEGIS, Absorb).
-    fn absorb(self, bytes: &[u8], at: usize) -> Self
+    /// Updates the lanes by the rate block of `bytes` that begins at place `at` (AEGIS, Absorb).
+    fn absorb_in_place(&mut self, bytes: &[u8], at: usize)
+        requires within { at + RATE ≤ length bytes.now }
+        requires countable { updates self.old + 1 < 2 ^ 64 }
+        ensures lanes { (j : ℕ) → j < VARIANT.lanes
+            → lane self.new j
+            ≡ step VARIANT.family (lane self.old j) (share_at VARIANT j bytes.now at) }
+        ensures updates { updates self.new ≡ updates self.old + 1 };
+
+    /// Returns the lanes after one update by the rate block of `bytes` that begins at place `at`.
+    #[inline(always)]
+    final fn absorb(self, bytes: &[u8], at: usize) -> Self
         requires within { at + RATE ≤ length bytes.now }
         requires countable { updates self + 1 < 2 ^ 64 }
         ensures lanes { (j : ℕ) → j < VARIANT.lanes
             → lane result j
             ≡ step VARIANT.family (lane self j) (share_at VARIANT j bytes.now at) }
-        ensures updates { updates result ≡ updates self + 1 };
+        ensures updates { updates result ≡ updates self + 1 }
+    {
+        let mut state = self;
+        state.absorb_in_place(bytes, at);
+        state
+    }
 
     /// Xors the rate block of `buffer` that begins at place `at` with the lanes' keystream (AEGIS, Enc). The lanes are
     /// not updated.

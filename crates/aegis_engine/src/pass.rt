@@ -12,6 +12,7 @@ ghost use Rattle.aegis_base.specs.Message.{keystream_byte, share_at, keystream_b
 ghost use Rattle.aegis_base.specs.Run.{IsAlong, IsUnopened};
 ghost use Rattle.aegis_engine.specs.Pass.{taken};
 
+use aegis_aes::Row;
 use aegis_base::LaneState;
 
 /// Selects the bytes that the lanes take in as a buffer is xored with the keystream.
@@ -186,37 +187,37 @@ fn absorb_zeros<S: LaneState>(state: S) -> S
     state.absorb(&ZEROS, 0)
 }
 
-// The lanes after one rate block of a buffer: it is xored with the keystream, and the lanes take in the bytes that
-// `pass` selects.
+// Updates the lanes by one rate block of a buffer: it is xored with the keystream of `before`, which are the lanes before
+// that, and the lanes take in the bytes that `pass` selects.
 #[inline(always)]
-fn pass_block<S: LaneState>(state: S, pass: Pass, buffer: &mut [u8], at: usize) -> S
+fn pass_block<S: LaneState>(before: S, state: &mut S, pass: Pass, buffer: &mut [u8], at: usize)
     requires within { at + S.RATE ≤ length buffer.old }
-    requires countable { S.updates state + 1 < 2 ^ 64 }
+    requires countable { S.updates state.old + 1 < 2 ^ 64 }
     ensures written { (k : ℕ) → k < S.RATE
         → slice_index buffer.new (at + k)
-        ≡ bit_xor (slice_index buffer.old (at + k)) (keystream_byte S.VARIANT (S.lane state) k) }
+        ≡ bit_xor (slice_index buffer.old (at + k)) (keystream_byte S.VARIANT (S.lane before) k) }
     ensures below { IsSameBefore at buffer.old buffer.new }
     ensures above { IsSameFrom (at + S.RATE) buffer.old buffer.new }
     ensures lanes { (j : ℕ) → j < S.VARIANT.lanes
-        → S.lane result j
-        ≡ step S.VARIANT.family (S.lane state j)
+        → S.lane state.new j
+        ≡ step S.VARIANT.family (S.lane state.old j)
         (share_at S.VARIANT j (taken pass buffer.old buffer.new) at) }
-    ensures updates { S.updates result ≡ S.updates state + 1 }
+    ensures updates { S.updates state.new ≡ S.updates state.old + 1 }
 {
     match pass {
         // The block is copied, so that the rows are no longer needed after their update.
         Pass::Seal => {
             let plain = copied::<S>(buffer, at);
-            xor_block(state, buffer, at);
-            state.absorb(&plain, 0)
+            xor_block(before, buffer, at);
+            state.absorb_in_place(&plain, 0);
         }
         Pass::Open => {
-            xor_block(state, buffer, at);
-            state.absorb(buffer, at)
+            xor_block(before, buffer, at);
+            state.absorb_in_place(buffer, at);
         }
         Pass::Keystream => {
-            xor_block(state, buffer, at);
-            absorb_zeros(state)
+            xor_block(before, buffer, at);
+            *state = absorb_zeros(*state);
         }
     }
 }
@@ -276,7 +277,14 @@ pub fn pass_whole<S: LaneState>(
     let rate = S::RATE;
     let mut state = state;
     for i in 0..count {
-        state = pass_block(state, pass, buffer, at + i * rate);
+        // Four lanes do not fit the registers, so that a round reads and writes their rows where they lie.
+        if S::Row::LANES == 4 {
+            pass_block(state, &mut state, pass, buffer, at + i * rate);
+        } else {
+            let mut next = state;
+            pass_block(state, &mut next, pass, buffer, at + i * rate);
+            state = next;
+        }
     }
     state
 }

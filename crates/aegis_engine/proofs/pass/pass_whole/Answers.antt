@@ -1,28 +1,44 @@
 -- Each turn continues from the state before it, at the next places of the run's input.
 use Rattle.std.proofs.Common.{◌≡◌, ◌∙◌, sym, ap, refl, ℕ, ◌+◌, ◌-◌, ◌*◌, ◌/◌, ◌<◌, ⊎_elim, List, bit_xor, slice_index, arith}
 use Rattle.std.proofs.lemmas.Bool.{cases_lt}
+use Rattle.aegis_aes.specs.Block.{IsSameBefore, IsSameFrom}
 use Rattle.aegis_base.specs.Variant.{rate}
-use Rattle.aegis_base.specs.Message.{after, keystream_byte_along}
+use Rattle.aegis_base.specs.Lane.{step}
+use Rattle.aegis_base.specs.Message.{after, keystream_byte, keystream_byte_along, share_at}
 use Rattle.aegis_base.proofs.RunFacts.{along-whole, block-byte, block-lane, whole-place}
 use Rattle.aegis_base.proofs.MessageFacts.{rate-positive}
 use Rattle.aegis_engine.specs.Pass.{taken}
 use Rattle.aegis_engine.proofs.PassFacts.{taken-same}
 use Rattle.aegis_engine.proofs.pass.pass_whole.Goals as goal
+use Rattle.aegis_engine.proofs.pass.pass_whole.Goals.{then-LANES-eq4, else-LANES-eq4}
 
 pub loop-i-preserved : goal.loop-i-preserved
 loop-i-preserved g c =
     let L = g.S.LaneState in let r = c.RATE-rate.result in let i = c.loop-i.i in let inv = c.loop-i.invariant in
     let here = c.args.at + i * r in
-    let old = c.args.buffer.now in let now = c.loop-i.buffer in let new = c.pass_block-state.new.buffer in
+    let old = c.args.buffer.now in let now = c.loop-i.buffer in let new = c.if-LANES-eq4.buffer in
+    let passed : record {
+      written : (k : ℕ) → k < L.RATE
+          → slice_index new (here + k) ≡ bit_xor (slice_index now (here + k)) (keystream_byte L.VARIANT (L.lane c.loop-i.state) k);
+      below : IsSameBefore here now new;
+      above : IsSameFrom (here + L.RATE) now new;
+      lanes : (j : ℕ) → j < L.VARIANT.lanes
+          → L.lane c.if-LANES-eq4.state j
+          ≡ step L.VARIANT.family (L.lane c.loop-i.state j) (share_at L.VARIANT j (taken c.args.pass now new) here);
+      updates : L.updates c.if-LANES-eq4.state ≡ L.updates c.loop-i.state + 1;
+    } = elim c.if-LANES-eq4.branch [
+      | then-LANES-eq4 w ↦ rw (w.state-is, w.buffer-is) w.pass_block.ensures
+      | else-LANES-eq4 w ↦ rw (w.state-is, w.buffer-is) w.pass_block-else-LANES-eq4.ensures
+    ] in
     let rate_is : r ≡ rate L.VARIANT = c.RATE-rate.ensures ∙ g.met.S.LaneState.rate_is in
     let kept : (x : List ℕ) (n : ℕ) → ((k : ℕ) → k < (i + 1) * r → slice_index x (n * r + k) ≡ slice_index (taken c.args.pass old new) (c.args.at + k))
     → (k : ℕ) → k < i * r → slice_index x (n * r + k) ≡ slice_index (taken c.args.pass old now) (c.args.at + k) =
     λ x n same k low. same k (omega arith)
-    ∙ taken-same c.args.pass old old new now (c.args.at + k) refl (c.pass_block-state.ensures.below (c.args.at + k) (omega arith)) in
+    ∙ taken-same c.args.pass old old new now (c.args.at + k) refl (passed.below (c.args.at + k) (omega arith)) in
     record {
       updates = omega arith;
       lanes = λ lanes x n begin same j inside.
-          c.pass_block-state.ensures.lanes j inside
+          passed.lanes j inside
           ∙ block-lane L.VARIANT lanes (L.lane c.loop-i.state) x (n + i) (inv.lanes lanes x n begin (kept x n same)) (taken c.args.pass now new) here j inside
           (λ k low.
           let place : here + k ≡ c.args.at + (i * r + k) = omega arith in
@@ -33,7 +49,7 @@ loop-i-preserved g c =
           ∙ ap (after L.VARIANT (lanes j) j x) (omega arith);
       written = λ lanes x n begin same k low.
           ⊎_elim
-          (λ front. c.pass_block-state.ensures.below (c.args.at + k) (omega arith) ∙ inv.written lanes x n begin (kept x n same) k front)
+          (λ front. passed.below (c.args.at + k) (omega arith) ∙ inv.written lanes x n begin (kept x n same) k front)
           (λ back.
           let p : ℕ = k - i * r in
           let under : p < rate L.VARIANT = omega arith in
@@ -42,11 +58,11 @@ loop-i-preserved g c =
           let byte = block-byte L.VARIANT lanes (L.lane c.loop-i.state) x (n + i) (inv.lanes lanes x n begin (kept x n same)) p g.met.S.LaneState.one_two_or_four under in
           let keystream = ap (keystream_byte_along L.VARIANT lanes x) (sym there ∙ ap (λ (q : ℕ). (n + i) * q + p) rate_is) ∙ byte in
           let old_byte = rw place at (inv.above (here + p) (omega arith)) in
-          rw (keystream, ← old_byte) (rw place at (c.pass_block-state.ensures.written p (omega (arith, g.met.S.LaneState.rate_is)))))
+          rw (keystream, ← old_byte) (rw place at (passed.written p (omega (arith, g.met.S.LaneState.rate_is)))))
           (cases_lt k (i * r));
-      below = λ q low. c.pass_block-state.ensures.below q (omega arith) ∙ inv.below q low;
+      below = λ q low. passed.below q (omega arith) ∙ inv.below q low;
       above = λ q high.
-          c.pass_block-state.ensures.above q (rw (← c.RATE-rate.ensures) (omega arith)) ∙ inv.above q (omega arith);
+          passed.above q (rw (← c.RATE-rate.ensures) (omega arith)) ∙ inv.above q (omega arith);
     }
 
 pub returns-clause-along : goal.returns-clause-along
