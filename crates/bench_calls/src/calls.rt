@@ -2,7 +2,7 @@
 
 ghost use Rattle.std.specs.Prelude.{◌≡◌, ◌≤◌, length};
 
-use aegis::{Decryptor, Encryptor};
+use aegis::{Decryptor, Encryptor, Error};
 use aegis_base::{LaneState, Names};
 use aegis_variants::{AnyCipher, with_cipher};
 use std::alloc::Allocator;
@@ -58,23 +58,21 @@ pub fn seal<A: Allocator>(
 }
 
 fn seal_in_chunks(cipher: &AnyCipher, message: &[u8], out: &mut [u8]) -> [u8; 16] {
-    with_cipher!(cipher, 16, cipher => {
-        let mut encryptor = cipher.encryptor(&[]);
-        update_each(&mut encryptor, message, out);
-        encryptor.finalize()
-    })
+    with_cipher!(cipher, 16, cipher => seal_each(cipher.encryptor(&[]), message, out))
 }
 
-fn update_each<S: LaneState, V: Names, const TAG_BYTES: usize>(
-    encryptor: &mut Encryptor<S, V, TAG_BYTES>,
+fn seal_each<S: LaneState, V: Names, const TAG_BYTES: usize>(
+    encryptor: Encryptor<S, V, TAG_BYTES>,
     message: &[u8],
     out: &mut [u8],
-) {
+) -> [u8; TAG_BYTES] {
+    let mut encryptor = encryptor;
     for (chunk, sealed) in message.chunks(CHUNK_BYTES).zip(out.chunks_mut(CHUNK_BYTES)) {
         if chunk.len() == sealed.len() && encryptor.remaining() >= chunk.len() as u64 {
             encryptor.update(chunk, sealed);
         }
     }
+    encryptor.finalize()
 }
 
 /// Opens a ciphertext, and returns whether the tag was right. In place, the ciphertext is in `out`.
@@ -99,19 +97,20 @@ pub fn open<A: Allocator>(
 
 fn open_in_chunks(cipher: &AnyCipher, ciphertext: &[u8], tag: &[u8; 16], out: &mut [u8]) -> bool {
     with_cipher!(cipher, 16, cipher => {
-        let mut decryptor = cipher.decryptor(&[], out);
-        open_each(&mut decryptor, ciphertext);
-        decryptor.finalize_len(tag).is_ok()
+        open_each(cipher.decryptor(&[], out), ciphertext, tag).is_ok()
     })
 }
 
-fn open_each<S: LaneState, V: Names, const TAG_BYTES: usize>(
-    decryptor: &mut Decryptor<S, V, TAG_BYTES>,
+fn open_each<'a, S: LaneState, V: Names, const TAG_BYTES: usize>(
+    decryptor: Decryptor<'a, S, V, TAG_BYTES>,
     ciphertext: &[u8],
-) {
+    tag: &[u8; TAG_BYTES],
+) -> Result<&'a mut [u8], Error> {
+    let mut decryptor = decryptor;
     for chunk in ciphertext.chunks(CHUNK_BYTES) {
         let _ = decryptor.update(chunk);
     }
+    decryptor.finalize(tag)
 }
 
 /// Xors a message with the keystream, and returns whether there was enough memory. Only the first two ways exist; the
