@@ -119,7 +119,8 @@ $(OUT)/both/libhunkravy.a: $(LEVELS:%=$(OUT)/%/aegis_c.a) levels/join.sh levels/
 	levels/join.sh $@ $(LEVELS:%=$(OUT)/%/aegis_c.a)
 
 $(OUT)/%/libhunkravy.a: $(OUT)/%/aegis_c.a levels/join.sh levels/choose.c
-	LEVEL=$(patsubst x86-64-v%,%,$(filter x86-64-v%,$*)) CC=$(TOOLS_$*)gcc AR=$(TOOLS_$*)ar levels/join.sh $@ $<
+	LEVEL=$(patsubst x86-64-v%,%,$(filter x86-64-v%,$*)) CC=$(TOOLS_$*)gcc AR=$(TOOLS_$*)ar \
+		OBJCOPY=$(TOOLS_$*)objcopy levels/join.sh $@ $<
 
 # Both levels are built in one folder, so one after the other.
 $(OUT)/x86-64-v3/aegis_c.a: | $(if $(CPU),,$(OUT)/x86-64-v2/aegis_c.a)

@@ -32,7 +32,7 @@ impl<P: Pair> State128<P> {
     // One update by two rows of blocks (AEGIS, Update). The last rows come first, so that each pair is updated from the
     // pair before it as that was.
     #[inline(always)]
-    fn update_in_place(&mut self, m: P)
+    fn update(&mut self, m: P)
         requires { self.old.updates + 1 < 2 ^ 64 }
         ensures lanes { (j : ℕ) → j < P.Row.LANES
             → lane P.block self.new j
@@ -48,32 +48,16 @@ impl<P: Pair> State128<P> {
         self.updates += 1;
     }
 
-    // The rows after one update.
+    // Xors the context blocks into rows 3 and 7 (AEGIS, Init).
     #[inline(always)]
-    fn update(self, m: P) -> Self
-        requires { self.updates + 1 < 2 ^ 64 }
+    fn add_contexts(&mut self)
         ensures lanes { (j : ℕ) → j < P.Row.LANES
-            → lane P.block result j
-            ≡ step Family128 (lane P.block self j) (P.block m 0 j ∷ P.block m 1 j ∷ []) }
-        ensures updates { result.updates ≡ self.updates + 1 }
-    {
-        let mut state = self;
-        state.update_in_place(m);
-        state
-    }
-
-    // The rows with the context blocks xored in.
-    fn add_contexts(self) -> Self
-        ensures lanes { (j : ℕ) → j < P.Row.LANES
-            → lane P.block result j
-            ≡ add_context Family128 (context j P.Row.LANES) (lane P.block self j) }
-        ensures updates { result.updates ≡ self.updates }
+            → lane P.block self.new j
+            ≡ add_context Family128 (context j P.Row.LANES) (lane P.block self.old j) }
+        ensures updates { self.new.updates ≡ self.old.updates }
     {
         let contexts = P::Row::contexts();
-        State128 {
-            s37: self.s37.xor_pair(P::of(contexts, contexts)),
-            ..self
-        }
+        self.s37 = self.s37.xor_pair(P::of(contexts, contexts));
     }
 
     // The two rows of keystream blocks.
@@ -108,10 +92,6 @@ impl<P: Pair> LaneState for State128<P> {
 
     type Row = P::Row;
 
-    const START_TURNS: usize = 10;
-
-    ghost START_TURNS = { 10 };
-
     const SHORT_FOLD_TURNS: usize = P::Row::LANES / 2;
 
     ghost SHORT_FOLD_TURNS = { P.Row.LANES / 2 };
@@ -142,10 +122,13 @@ impl<P: Pair> LaneState for State128<P> {
         }
     }
 
-    fn start_turn(self, key: &[u8], nonce: &[u8]) -> Self {
-        let key = P::Row::splat(AesBlock::from_bytes(key));
-        let nonce = P::Row::splat(AesBlock::from_bytes(nonce));
-        self.add_contexts().update(P::of(nonce, key))
+    fn start(&mut self, key: &[u8], nonce: &[u8]) {
+        let key_row = P::Row::splat(AesBlock::from_bytes(key));
+        let nonce_row = P::Row::splat(AesBlock::from_bytes(nonce));
+        for _turn in 0..10usize {
+            self.add_contexts();
+            self.update(P::of(nonce_row, key_row));
+        }
     }
 
     fn zeros() -> Self {
@@ -165,8 +148,8 @@ impl<P: Pair> LaneState for State128<P> {
     }
 
     #[inline(always)]
-    fn absorb_in_place(&mut self, bytes: &[u8], at: usize) {
-        self.update_in_place(P::load(bytes, at));
+    fn absorb(&mut self, bytes: &[u8], at: usize) {
+        self.update(P::load(bytes, at));
     }
 
     #[inline(always)]
@@ -182,8 +165,8 @@ impl<P: Pair> LaneState for State128<P> {
     }
 
     #[inline(always)]
-    fn end_update(self, last: P::Row) -> Self {
-        self.update(P::of(last, last))
+    fn end_update(&mut self, last: P::Row) {
+        self.update(P::of(last, last));
     }
 
     fn short_tags(self) -> P::Row {
@@ -200,19 +183,17 @@ impl<P: Pair> LaneState for State128<P> {
     }
 
     // The tag of lane 0 is folded in too.
-    fn short_fold_turn(self, tags: P::Row, turn: usize) -> Self {
+    fn short_fold_turn(&mut self, tags: P::Row, turn: usize) {
         let even = block_in_all_lanes(tags, 2 * turn);
         let odd = block_in_all_lanes(tags, 2 * turn + 1);
-        self.update(P::of(even, odd))
+        self.update(P::of(even, odd));
     }
 
-    fn step_by_two(self, first: P::Row, second: P::Row) -> Self {
-        self.update(P::of(first, second))
+    fn step_by_two(&mut self, first: P::Row, second: P::Row) {
+        self.update(P::of(first, second));
     }
 
     ghost lanes_are = { refl };
-
-    ghost start_turns_are = { refl };
 
     ghost short_fold_turns_are = { refl };
 

@@ -48,7 +48,7 @@ impl<P: Pair> State256<P> {
     // One update by a row of blocks (AEGIS, Update). The last rows come first, so that each pair is updated from the
     // pair before it as that was.
     #[inline(always)]
-    fn update_in_place(&mut self, m: P::Row)
+    fn update(&mut self, m: P::Row)
         requires { self.old.updates + 1 < 2 ^ 64 }
         ensures lanes { (j : ℕ) → j < P.Row.LANES
             → lane P.block self.new j
@@ -63,45 +63,32 @@ impl<P: Pair> State256<P> {
         self.updates += 1;
     }
 
-    // The rows after one update.
+    // Xors the context blocks into rows 3 and 5 (AEGIS, Init).
     #[inline(always)]
-    fn update(self, m: P::Row) -> Self
-        requires { self.updates + 1 < 2 ^ 64 }
+    fn add_contexts(&mut self)
         ensures lanes { (j : ℕ) → j < P.Row.LANES
-            → lane P.block result j
-            ≡ step Family256 (lane P.block self j) (P.Row.block m j ∷ []) }
-        ensures updates { result.updates ≡ self.updates + 1 }
-    {
-        let mut state = self;
-        state.update_in_place(m);
-        state
-    }
-
-    // The rows with the context blocks xored in.
-    fn add_contexts(self) -> Self
-        ensures lanes { (j : ℕ) → j < P.Row.LANES
-            → lane P.block result j
-            ≡ add_context Family256 (context j P.Row.LANES) (lane P.block self j) }
-        ensures updates { result.updates ≡ self.updates }
+            → lane P.block self.new j
+            ≡ add_context Family256 (context j P.Row.LANES) (lane P.block self.old j) }
+        ensures updates { self.new.updates ≡ self.old.updates }
     {
         let contexts = P::Row::contexts();
-        State256 {
-            s03: P::of(self.s03.first(), self.s03.second().xor_row(contexts)),
-            s25: P::of(self.s25.first(), self.s25.second().xor_row(contexts)),
-            ..self
-        }
+        self.s03 = P::of(self.s03.first(), self.s03.second().xor_row(contexts));
+        self.s25 = P::of(self.s25.first(), self.s25.second().xor_row(contexts));
     }
 
-    // One update of the start.
-    fn start_update(self, block: AesBlock) -> Self
-        requires { self.updates + 1 < 2 ^ 64 }
+    // One update of the start (AEGIS, Init).
+    #[inline(always)]
+    fn start_update(&mut self, block: AesBlock)
+        requires { self.old.updates + 1 < 2 ^ 64 }
         ensures lanes { (j : ℕ) → j < P.Row.LANES
-            → lane P.block result j
-            ≡ step Family256 (add_context Family256 (context j P.Row.LANES) (lane P.block self j))
+            → lane P.block self.new j
+            ≡ step Family256
+            (add_context Family256 (context j P.Row.LANES) (lane P.block self.old j))
             (block ∷ []) }
-        ensures updates { result.updates ≡ self.updates + 1 }
+        ensures updates { self.new.updates ≡ self.old.updates + 1 }
     {
-        self.add_contexts().update(P::Row::splat(block))
+        self.add_contexts();
+        self.update(P::Row::splat(block));
     }
 
     // The row of keystream blocks.
@@ -133,10 +120,6 @@ impl<P: Pair> LaneState for State256<P> {
 
     type Row = P::Row;
 
-    const START_TURNS: usize = 4;
-
-    ghost START_TURNS = { 4 };
-
     const SHORT_FOLD_TURNS: usize = P::Row::LANES - 1;
 
     ghost SHORT_FOLD_TURNS = { P.Row.LANES - 1 };
@@ -164,7 +147,9 @@ impl<P: Pair> LaneState for State256<P> {
         }
     }
 
-    fn start_turn(self, key: &[u8], nonce: &[u8]) -> Self {
+    // One loop for all four turns: in a loop inside a loop LLVM inlines the rounds of four lanes, which is slower at
+    // x86-64-v2.
+    fn start(&mut self, key: &[u8], nonce: &[u8]) {
         let low = low_half(key);
         let high = high_half(key);
         let blocks = [
@@ -173,11 +158,9 @@ impl<P: Pair> LaneState for State256<P> {
             low.xor(low_half(nonce)),
             high.xor(high_half(nonce)),
         ];
-        let mut state = self;
-        for i in 0..4usize {
-            state = state.start_update(blocks[i]);
+        for i in 0..16usize {
+            self.start_update(blocks[i % 4]);
         }
-        state
     }
 
     fn zeros() -> Self {
@@ -196,8 +179,8 @@ impl<P: Pair> LaneState for State256<P> {
     }
 
     #[inline(always)]
-    fn absorb_in_place(&mut self, bytes: &[u8], at: usize) {
-        self.update_in_place(P::Row::load(bytes, at));
+    fn absorb(&mut self, bytes: &[u8], at: usize) {
+        self.update(P::Row::load(bytes, at));
     }
 
     #[inline(always)]
@@ -213,8 +196,8 @@ impl<P: Pair> LaneState for State256<P> {
     }
 
     #[inline(always)]
-    fn end_update(self, last: P::Row) -> Self {
-        self.update(last)
+    fn end_update(&mut self, last: P::Row) {
+        self.update(last);
     }
 
     fn short_tags(self) -> P::Row {
@@ -229,17 +212,16 @@ impl<P: Pair> LaneState for State256<P> {
         self.sums().second()
     }
 
-    fn short_fold_turn(self, tags: P::Row, turn: usize) -> Self {
-        self.update(block_in_all_lanes(tags, turn + 1))
+    fn short_fold_turn(&mut self, tags: P::Row, turn: usize) {
+        self.update(block_in_all_lanes(tags, turn + 1));
     }
 
-    fn step_by_two(self, first: P::Row, second: P::Row) -> Self {
-        self.update(first).update(second)
+    fn step_by_two(&mut self, first: P::Row, second: P::Row) {
+        self.update(first);
+        self.update(second);
     }
 
     ghost lanes_are = { refl };
-
-    ghost start_turns_are = { refl };
 
     ghost short_fold_turns_are = { refl };
 

@@ -4,7 +4,7 @@ ghost use Rattle.std.specs.Prelude.{◌≡◌, ℕ, ◌+◌, ◌-◌, ◌*◌, �
 ghost use Rattle.aegis_aes.specs.Block.{IsSameBefore, IsSameFrom, block_at, xor};
 ghost use Rattle.aegis_aes.specs.Lanes.{IsLaneCount, context, xor_lanes};
 ghost use Rattle.aegis_base.specs.Variant.{Variant, key_length, rate, width};
-ghost use Rattle.aegis_base.specs.Lane.{finish, first_blocks, high_tag, keystream_blocks, lane_tag, last_block, last_input, low_tag, block_in, short_tag, start, start_turn, start_turns, step};
+ghost use Rattle.aegis_base.specs.Lane.{finish, first_blocks, high_tag, keystream_blocks, lane_tag, last_block, last_input, low_tag, block_in, short_tag, start, start_turn, start_turns, step, times};
 ghost use Rattle.aegis_base.specs.Mac.{fold_long, fold_short, mac_tag, short_fold_turn, short_fold_turns, step_by_two};
 ghost use Rattle.aegis_base.specs.Message.{share_at};
 
@@ -22,11 +22,6 @@ use aegis_aes::{AesBlock, Row};
 pub trait LaneState: Copy {
     /// The type of a row: one block of each lane.
     type Row: Row;
-
-    /// The number of turns of the start.
-    const START_TURNS: usize;
-
-    ghost START_TURNS: { ℕ };
 
     /// The number of turns of the fold of the lanes' tags of 16 bytes.
     const SHORT_FOLD_TURNS: usize;
@@ -54,15 +49,16 @@ pub trait LaneState: Copy {
             → lane result j ≡ first_blocks VARIANT.family key.now nonce.now }
         ensures updates { updates result ≡ 0 };
 
-    /// Returns the lanes after one turn of their start, at most four updates (AEGIS, Init).
-    fn start_turn(self, key: &[u8], nonce: &[u8]) -> Self
+    /// Updates the lanes by all turns of their start, at most sixteen updates (AEGIS, Init).
+    fn start(&mut self, key: &[u8], nonce: &[u8])
         requires key_length { length key.now ≡ key_length VARIANT.family }
         requires nonce_length { length nonce.now ≡ key_length VARIANT.family }
-        requires countable { updates self + 4 < 2 ^ 64 }
-        ensures lanes { (j : ℕ) → j < VARIANT.lanes
-            → lane result j
-            ≡ start_turn VARIANT.family key.now nonce.now (context j VARIANT.lanes) (lane self j) }
-        ensures updates { updates result ≤ updates self + 4 };
+        requires countable { updates self.old + 16 < 2 ^ 64 }
+        ensures { (j : ℕ) → j < VARIANT.lanes
+            → lane self.new j
+            ≡ times (start_turns VARIANT.family)
+            (start_turn VARIANT.family key.now nonce.now (context j VARIANT.lanes))
+            (lane self.old j) };
 
     /// Returns lanes of zeros, to overwrite a state that is no longer used.
     fn zeros() -> Self;
@@ -82,35 +78,18 @@ pub trait LaneState: Copy {
         ensures updates { updates result ≡ 0 }
     {
         let mut state = Self::first_blocks(key, nonce);
-        for _turn in 0..Self::START_TURNS {
-            state = state.start_turn(key, nonce);
-        }
+        state.start(key, nonce);
         state.uncounted()
     }
 
     /// Updates the lanes by the rate block of `bytes` that begins at place `at` (AEGIS, Absorb).
-    fn absorb_in_place(&mut self, bytes: &[u8], at: usize)
+    fn absorb(&mut self, bytes: &[u8], at: usize)
         requires within { at + RATE ≤ length bytes.now }
         requires countable { updates self.old + 1 < 2 ^ 64 }
         ensures lanes { (j : ℕ) → j < VARIANT.lanes
             → lane self.new j
             ≡ step VARIANT.family (lane self.old j) (share_at VARIANT j bytes.now at) }
         ensures updates { updates self.new ≡ updates self.old + 1 };
-
-    /// Returns the lanes after one update by the rate block of `bytes` that begins at place `at`.
-    #[inline(always)]
-    final fn absorb(self, bytes: &[u8], at: usize) -> Self
-        requires within { at + RATE ≤ length bytes.now }
-        requires countable { updates self + 1 < 2 ^ 64 }
-        ensures lanes { (j : ℕ) → j < VARIANT.lanes
-            → lane result j
-            ≡ step VARIANT.family (lane self j) (share_at VARIANT j bytes.now at) }
-        ensures updates { updates result ≡ updates self + 1 }
-    {
-        let mut state = self;
-        state.absorb_in_place(bytes, at);
-        state
-    }
 
     /// Xors the rate block of `buffer` that begins at place `at` with the lanes' keystream (AEGIS, Enc). The lanes are
     /// not updated.
@@ -130,14 +109,14 @@ pub trait LaneState: Copy {
             → Self.Row.block result j
             ≡ last_block VARIANT.family (lane self j) first_bits second_bits };
 
-    /// Returns the lanes after one update by these blocks, with each lane's block as each block of its input.
-    fn end_update(self, last: Self::Row) -> Self
-        requires { updates self + 1 < 2 ^ 64 }
+    /// Updates the lanes by these blocks, with each lane's block as each block of its input (AEGIS, Finalize).
+    fn end_update(&mut self, last: Self::Row)
+        requires { updates self.old + 1 < 2 ^ 64 }
         ensures lanes { (j : ℕ) → j < VARIANT.lanes
-            → lane result j
-            ≡ step VARIANT.family (lane self j)
+            → lane self.new j
+            ≡ step VARIANT.family (lane self.old j)
             (last_input VARIANT.family (Self.Row.block last j)) }
-        ensures updates { updates result ≡ updates self + 1 };
+        ensures updates { updates self.new ≡ updates self.old + 1 };
 
     /// Returns the lanes after their end: seven updates by `last_blocks` (AEGIS, Finalize).
     #[tactic(auto, unfolding(crate::specs::Lane::finish))]
@@ -150,7 +129,7 @@ pub trait LaneState: Copy {
         let last = self.last_blocks(first_bits, second_bits);
         let mut state = self;
         for _turn in 0..7usize {
-            state = state.end_update(last);
+            state.end_update(last);
         }
         state
     }
@@ -189,25 +168,25 @@ pub trait LaneState: Copy {
         )
     }
 
-    /// Returns the lanes after one turn of the fold of the lanes' tags of 16 bytes into lane 0: in the family 128 an
+    /// Updates the lanes by one turn of the fold of the lanes' tags of 16 bytes into lane 0: in the family 128 an
     /// update by the tags of two lanes, beginning with lanes 0 and 1, and in the family 256 by the tag of one lane,
     /// beginning with lane 1. Only lane 0 is used afterwards.
-    fn short_fold_turn(self, tags: Self::Row, turn: usize) -> Self
+    fn short_fold_turn(&mut self, tags: Self::Row, turn: usize)
         requires within { turn < SHORT_FOLD_TURNS }
-        requires countable { updates self + 1 < 2 ^ 64 }
-        ensures first { lane result 0
-            ≡ short_fold_turn VARIANT.family (Self.Row.block tags) turn (lane self 0) }
-        ensures updates { updates result ≡ updates self + 1 };
+        requires countable { updates self.old + 1 < 2 ^ 64 }
+        ensures first { lane self.new 0
+            ≡ short_fold_turn VARIANT.family (Self.Row.block tags) turn (lane self.old 0) }
+        ensures updates { updates self.new ≡ updates self.old + 1 };
 
-    /// Returns the lanes after two more blocks: one update by both in the family 128, or an update by each in the
-    /// family 256.
-    fn step_by_two(self, first: Self::Row, second: Self::Row) -> Self
-        requires { updates self + 2 < 2 ^ 64 }
+    /// Updates the lanes by two more blocks: one update by both in the family 128, or an update by each in the family
+    /// 256.
+    fn step_by_two(&mut self, first: Self::Row, second: Self::Row)
+        requires { updates self.old + 2 < 2 ^ 64 }
         ensures lanes { (j : ℕ) → j < VARIANT.lanes
-            → lane result j
-            ≡ step_by_two VARIANT.family (lane self j) (Self.Row.block first j)
+            → lane self.new j
+            ≡ step_by_two VARIANT.family (lane self.old j) (Self.Row.block first j)
             (Self.Row.block second j) }
-        ensures updates { updates result ≤ updates self + 2 };
+        ensures updates { updates self.new ≤ updates self.old + 2 };
 
     /// Returns the lanes after the fold of their tags of 16 bytes into lane 0.
     final fn fold_short(self, tags: Self::Row) -> Self
@@ -219,7 +198,7 @@ pub trait LaneState: Copy {
     {
         let mut state = self;
         for turn in 0..Self::SHORT_FOLD_TURNS {
-            state = state.short_fold_turn(tags, turn);
+            state.short_fold_turn(tags, turn);
         }
         state
     }
@@ -237,7 +216,7 @@ pub trait LaneState: Copy {
         for turn in 0..Self::Row::LANES - 1 {
             let next_low = block_in_all_lanes(low, turn + 1);
             let next_high = block_in_all_lanes(high, turn + 1);
-            state = state.step_by_two(next_low, next_high);
+            state.step_by_two(next_low, next_high);
         }
         state
     }
@@ -275,8 +254,6 @@ pub trait LaneState: Copy {
     }
 
     ghost lanes_are: { VARIANT.lanes ≡ Self.Row.LANES };
-
-    ghost start_turns_are: { START_TURNS ≡ start_turns VARIANT.family };
 
     ghost short_fold_turns_are: { SHORT_FOLD_TURNS
         ≡ short_fold_turns VARIANT.family VARIANT.lanes };

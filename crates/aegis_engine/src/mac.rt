@@ -97,7 +97,9 @@ fn input_lanes<S: LaneState>(state: S, block: &RateBlock, bytes: u64) -> S
     ensures few { S.updates result ≤ S.updates state + 1 }
 {
     if bytes == 0 {
-        return state.absorb(&ZEROS, 0);
+        let mut state = state;
+        state.absorb(&ZEROS, 0);
+        return state;
     }
     pad(state, block, bytes)
 }

@@ -73,11 +73,11 @@ fn xor_block<S: LaneState>(state: S, buffer: &mut [u8], at: usize)
 // Xors `count` bytes of a buffer, beginning at place `at`, with the keystream after `total` bytes, within one rate
 // block.
 #[inline(never)]
-fn xor_part<S: LaneState>(state: S, total: u64, buffer: &mut [u8], at: usize, count: usize)
+fn xor_part<S: LaneState>(state: &S, total: u64, buffer: &mut [u8], at: usize, count: usize)
     requires within { at + count ≤ length buffer.old }
     requires one_block { total % S.RATE + count ≤ S.RATE }
     ensures written { (lanes : ℕ → List (List ℕ)) (block x : List ℕ)
-        → IsAlong S.VARIANT lanes (S.lane state) block x total
+        → IsAlong S.VARIANT lanes (S.lane state.now) block x total
         → (k : ℕ) → k < count
         → slice_index buffer.new (at + k)
         ≡ bit_xor (slice_index buffer.old (at + k))
@@ -88,103 +88,103 @@ fn xor_part<S: LaneState>(state: S, total: u64, buffer: &mut [u8], at: usize, co
     let place = (total % S::RATE as u64) as usize;
     let mut part = ZEROS;
     copy_part(&mut part, place, buffer, at, count);
-    xor_block(state, &mut part, 0);
+    xor_block(*state, &mut part, 0);
     copy_part(buffer, at, &part, place, count);
 }
 
-/// The lanes after `count` more bytes of one rate block, beginning at place `at` of `bytes`. The open block keeps them,
-/// and is taken in if they fill it.
+/// Takes `count` more bytes of one rate block, beginning at place `at` of `bytes`, into the open block. If they fill it,
+/// the lanes are updated by it.
 #[inline(never)]
 pub fn absorb_part<S: LaneState>(
-    state: S,
+    state: &mut S,
     block: &mut RateBlock,
     total: u64,
     bytes: &[u8],
     at: usize,
     count: usize,
-) -> S
+)
     requires within { at + count ≤ length bytes.now }
     requires one_block { total % S.RATE + count ≤ S.RATE }
-    requires countable { S.updates state + count < 2 ^ 64 }
+    requires countable { S.updates state.old + count < 2 ^ 64 }
     ensures along { (lanes : ℕ → List (List ℕ)) (x : List ℕ)
-        → IsAlong S.VARIANT lanes (S.lane state) block.old x total
+        → IsAlong S.VARIANT lanes (S.lane state.old) block.old x total
         → ((k : ℕ) → k < count
         → slice_index x (total + k) ≡ slice_index bytes.now (at + k))
-        → IsAlong S.VARIANT lanes (S.lane result) block.new x (total + count) }
-    ensures updates { S.updates result + total / S.RATE
-        ≡ S.updates state + (total + count) / S.RATE }
-    ensures few { S.updates result ≤ S.updates state + count }
+        → IsAlong S.VARIANT lanes (S.lane state.new) block.new x (total + count) }
+    ensures updates { S.updates state.new + total / S.RATE
+        ≡ S.updates state.old + (total + count) / S.RATE }
+    ensures few { S.updates state.new ≤ S.updates state.old + count }
 {
     let place = (total % S::RATE as u64) as usize;
     copy_part(&mut *block, place, bytes, at, count);
     if place + count == S::RATE {
-        state.absorb(&*block, 0)
-    } else {
-        state
+        state.absorb(&*block, 0);
     }
 }
 
-/// The lanes after `count` more bytes of one rate block, beginning at place `at` of a buffer: they are xored with the
-/// keystream, and the lanes take in the bytes that `pass` selects.
+/// Processes `count` more bytes of one rate block, beginning at place `at` of a buffer: they are xored with the
+/// keystream, and the open block and the lanes take in the bytes that `pass` selects.
 pub fn pass_part<S: LaneState>(
-    state: S,
+    state: &mut S,
     block: &mut RateBlock,
     total: u64,
     pass: Pass,
     buffer: &mut [u8],
     at: usize,
     count: usize,
-) -> S
+)
     requires within { at + count ≤ length buffer.old }
     requires one_block { total % S.RATE + count ≤ S.RATE }
-    requires countable { S.updates state + count < 2 ^ 64 }
+    requires countable { S.updates state.old + count < 2 ^ 64 }
     ensures along { (lanes : ℕ → List (List ℕ)) (x : List ℕ)
-        → IsAlong S.VARIANT lanes (S.lane state) block.old x total
+        → IsAlong S.VARIANT lanes (S.lane state.old) block.old x total
         → ((k : ℕ) → k < count
         → slice_index x (total + k) ≡ slice_index (taken pass buffer.old buffer.new) (at + k))
-        → IsAlong S.VARIANT lanes (S.lane result) block.new x (total + count) }
+        → IsAlong S.VARIANT lanes (S.lane state.new) block.new x (total + count) }
     ensures written { (lanes : ℕ → List (List ℕ)) (x : List ℕ)
-        → IsAlong S.VARIANT lanes (S.lane state) block.old x total
+        → IsAlong S.VARIANT lanes (S.lane state.old) block.old x total
         → (k : ℕ) → k < count
         → slice_index buffer.new (at + k)
         ≡ bit_xor (slice_index buffer.old (at + k))
         (keystream_byte_along S.VARIANT lanes x (total + k)) }
     ensures below { IsSameBefore at buffer.old buffer.new }
     ensures above { IsSameFrom (at + count) buffer.old buffer.new }
-    ensures updates { S.updates result + total / S.RATE
-        ≡ S.updates state + (total + count) / S.RATE }
-    ensures few { S.updates result ≤ S.updates state + count }
+    ensures updates { S.updates state.new + total / S.RATE
+        ≡ S.updates state.old + (total + count) / S.RATE }
+    ensures few { S.updates state.new ≤ S.updates state.old + count }
 {
     if count == 0 {
-        return state;
+        return;
     }
     match pass {
         Pass::Seal => {
-            let next = absorb_part(state, block, total, buffer, at, count);
+            let mut plain = ZEROS;
+            copy_part(&mut plain, 0, buffer, at, count);
             xor_part(state, total, buffer, at, count);
-            next
+            absorb_part(state, block, total, &plain, 0, count);
         }
         Pass::Open => {
             xor_part(state, total, buffer, at, count);
-            absorb_part(state, block, total, buffer, at, count)
+            absorb_part(state, block, total, buffer, at, count);
         }
         Pass::Keystream => {
             xor_part(state, total, buffer, at, count);
-            absorb_part(state, block, total, &ZEROS, 0, count)
+            absorb_part(state, block, total, &ZEROS, 0, count);
         }
     }
 }
 
-// The lanes after a rate block of zeros.
+// Updates the lanes by a rate block of zeros.
 #[inline(always)]
-fn absorb_zeros<S: LaneState>(state: S) -> S
-    requires { S.updates state + 1 < 2 ^ 64 }
+fn absorb_zeros<S: LaneState>(state: &mut S)
+    requires { S.updates state.old + 1 < 2 ^ 64 }
     ensures lanes { (j i n : ℕ) → j < S.VARIANT.lanes
-        → S.lane result j
-        ≡ step S.VARIANT.family (S.lane state j) (share_at S.VARIANT j (replicate n 0) i) }
-    ensures updates { S.updates result ≡ S.updates state + 1 }
+        → S.lane state.new j
+        ≡ step S.VARIANT.family (S.lane state.old j)
+        (share_at S.VARIANT j (replicate n 0) i) }
+    ensures updates { S.updates state.new ≡ S.updates state.old + 1 }
 {
-    state.absorb(&ZEROS, 0)
+    state.absorb(&ZEROS, 0);
 }
 
 // Updates the lanes by one rate block of a buffer: it is xored with the keystream of `before`, which are the lanes before
@@ -209,15 +209,15 @@ fn pass_block<S: LaneState>(before: S, state: &mut S, pass: Pass, buffer: &mut [
         Pass::Seal => {
             let plain = copied::<S>(buffer, at);
             xor_block(before, buffer, at);
-            state.absorb_in_place(&plain, 0);
+            state.absorb(&plain, 0);
         }
         Pass::Open => {
             xor_block(before, buffer, at);
-            state.absorb_in_place(buffer, at);
+            state.absorb(buffer, at);
         }
         Pass::Keystream => {
             xor_block(before, buffer, at);
-            *state = absorb_zeros(*state);
+            absorb_zeros(state);
         }
     }
 }
@@ -238,7 +238,7 @@ pub fn absorb_whole<S: LaneState>(state: S, bytes: &[u8], at: usize, count: usiz
     let rate = S::RATE;
     let mut state = state;
     for i in 0..count {
-        state = state.absorb(bytes, at + i * rate);
+        state.absorb(bytes, at + i * rate);
     }
     state
 }

@@ -49,9 +49,11 @@ pub fn absorb_all<S: LaneState>(state: S, block: &mut RateBlock, total: u64, byt
     if first + rest == 0 {
         return absorb_whole(state, bytes, 0, whole);
     }
-    let state = absorb_part(state, block, total, bytes, 0, first);
-    let state = absorb_whole(state, bytes, first, whole);
-    absorb_part(state, block, total + last as u64, bytes, last, rest)
+    let mut state = state;
+    absorb_part(&mut state, block, total, bytes, 0, first);
+    let mut state = absorb_whole(state, bytes, first, whole);
+    absorb_part(&mut state, block, total + last as u64, bytes, last, rest);
+    state
 }
 
 /// The lanes after a buffer, which follows the `total` bytes that they have taken in: each byte is xored with the
@@ -89,9 +91,19 @@ pub fn pass_all<S: LaneState>(
     if first + rest == 0 {
         return pass_whole(state, pass, buffer, 0, whole);
     }
-    let state = pass_part(state, block, total, pass, buffer, 0, first);
-    let state = pass_whole(state, pass, buffer, first, whole);
-    pass_part(state, block, total + last as u64, pass, buffer, last, rest)
+    let mut state = state;
+    pass_part(&mut state, block, total, pass, buffer, 0, first);
+    let mut state = pass_whole(state, pass, buffer, first, whole);
+    pass_part(
+        &mut state,
+        block,
+        total + last as u64,
+        pass,
+        buffer,
+        last,
+        rest,
+    );
+    state
 }
 
 /// The lanes after all `total` bytes of a run: if a rate block is open, it is taken in, padded with zeros.
@@ -111,5 +123,7 @@ pub fn pad<S: LaneState>(state: S, block: &RateBlock, total: u64) -> S
     }
     let mut last = ZEROS;
     copy_part(&mut last, 0, block, 0, open);
-    state.absorb(&last, 0)
+    let mut state = state;
+    state.absorb(&last, 0);
+    state
 }

@@ -12,7 +12,7 @@ loop-i-preserved g c = record {
       let L = g.S.LaneState in let r = c.RATE-rate.result in let i = c.loop-i.i in
       let rate_is : r ≡ rate L.VARIANT = c.RATE-rate.ensures ∙ g.met.S.LaneState.rate_is in
       let before = c.loop-i.invariant.lanes lanes x n begin (λ k low. same k (omega arith)) in
-      c.absorb-state.ensures.lanes j inside
+      c.absorb.ensures.lanes j inside
       ∙ block-lane L.VARIANT lanes (L.lane c.loop-i.state) x (n + i) before c.args.bytes.now (c.args.at + i * r) j inside
       (λ k low.
       let here : c.args.at + i * r + k ≡ c.args.at + (i * r + k) = omega arith in

@@ -7,5 +7,5 @@ use Rattle.aegis_engine.proofs.pass.absorb_zeros.Goals as goal
 pub returns-clause-lanes : goal.returns-clause-lanes
 returns-clause-lanes g c j i n inside =
     c.absorb.ensures.lanes j inside
-    ∙ ap (step g.S.LaneState.VARIANT.family (g.S.LaneState.lane c.args.state j))
+    ∙ ap (step g.S.LaneState.VARIANT.family (g.S.LaneState.lane c.args.state.now j))
     (share_at-same g.S.LaneState.VARIANT j _ _ 0 i inside (λ k h. zeros-read 128 (0 + k) ∙ sym (zeros-read n (i + k))))

@@ -12,9 +12,9 @@ returns-clause-written g c lanes block x along k low =
     let within = rw rate_is at c.requires.one_block in
     let inside = c.requires.one_block in
     let read = c.RATE.ensures in
-    let byte = along-byte L.VARIANT lanes (L.lane c.args.state) block x c.args.total k g.met.S.LaneState.one_two_or_four along (omega arith) in
+    let byte = along-byte L.VARIANT lanes (L.lane c.args.state.now) block x c.args.total k g.met.S.LaneState.one_two_or_four along (omega arith) in
     let from : 0 + (c.args.total % c.RATE.result + k) ≡ c.args.total % c.RATE.result + k = omega arith in
     rw (byte, ← place)
     (c.copy_part-2.ensures.written k low
     ∙ rw from at (c.xor_block.ensures.written (c.args.total % c.RATE.result + k) (rw read (omega arith)))
-    ∙ ap (λ (b : ℕ). bit_xor b (keystream_byte L.VARIANT (L.lane c.args.state) (c.args.total % c.RATE.result + k))) (c.copy_part.ensures.written k low))
+    ∙ ap (λ (b : ℕ). bit_xor b (keystream_byte L.VARIANT (L.lane c.args.state.now) (c.args.total % c.RATE.result + k))) (c.copy_part.ensures.written k low))

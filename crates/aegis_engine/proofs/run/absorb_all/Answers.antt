@@ -13,13 +13,13 @@ returns-clause-along g c lanes x along same =
     let floor : n * c.RATE.result ≤ len - first = div-mul-le_self (len - first) c.RATE.result in
     let fits : n * L.RATE ≤ len - first = rw (← read) floor in
     let last : first + n * c.RATE-2.result ≡ first + n * L.RATE = ap (λ (r : ℕ). first + n * r) read2 in
-    let filled = c.absorb_part-state.ensures.along lanes x along
+    let filled = c.absorb_part.ensures.along lanes x along
     (λ k low. same k (omega arith) ∙ ap (slice_index c.args.bytes.now) (omega arith)) in
-    let whole = c.absorb_whole-state.ensures.along lanes c.absorb_part-state.new.block x (t + first)
+    let whole = c.absorb_whole-state.ensures.along lanes c.absorb_part.new.block x (t + first)
     (unopened-after t first len c.RATE.result L.RATE c.filling-first.ensures.fills) filled
     (λ k low. ap (slice_index x) (omega arith) ∙ same (first + k) (omega arith)) in
     let place : t + first + n * L.RATE ≡ t + (first + n * c.RATE-2.result) = omega arith in
-    let rest = c.absorb_part.ensures.along lanes x (rw place at whole)
+    let rest = c.absorb_part-2.ensures.along lanes x (rw place at whole)
     (λ k low. ap (slice_index x) (omega arith) ∙ same (first + n * c.RATE-2.result + k) (omega arith)) in
     let all : t + (first + n * c.RATE-2.result) + (len - (first + n * c.RATE-2.result)) ≡ t + len = omega arith in
     rw all at rest
@@ -42,7 +42,7 @@ returns-clause-updates g c =
     let fits : n * L.RATE ≤ len - first = rw (← read) floor in
     let positive : 0 < L.RATE = rw g.met.S.LaneState.rate_is (rate-positive L.VARIANT g.met.S.LaneState.one_two_or_four) in
     updates-of-parts t first n len L.RATE _ _ _ _ positive (unopened-after t first len c.RATE.result L.RATE c.filling-first.ensures.fills)
-    (omega arith) c.absorb_part-state.ensures.updates c.absorb_whole-state.ensures.updates (rw c.RATE-2.ensures at c.absorb_part.ensures.updates)
+    (omega arith) c.absorb_part.ensures.updates c.absorb_whole-state.ensures.updates (rw c.RATE-2.ensures at c.absorb_part-2.ensures.updates)
 
 pub returns-clause-few : goal.returns-clause-few
 returns-clause-few g c =

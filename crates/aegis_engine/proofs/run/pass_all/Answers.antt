@@ -15,32 +15,32 @@ record AreParts (g : _) (c : goal.After-slice_known-4-1 g) (lanes : ℕ → List
   within : c.filling-first.result + (length c.args.buffer.now - c.filling-first.result) / c.RATE.result * g.S.LaneState.RATE ≤ length c.args.buffer.now
   whole : (k : ℕ) → k < (length c.args.buffer.now - c.filling-first.result) / c.RATE.result * g.S.LaneState.RATE
       → slice_index x (c.args.total + c.filling-first.result + k)
-      ≡ slice_index (taken c.args.pass c.pass_part-state.new.buffer c.pass_whole-state.new.buffer) (c.filling-first.result + k)
-  filled : IsAlong g.S.LaneState.VARIANT lanes (g.S.LaneState.lane c.pass_part-state.result) c.pass_part-state.new.block x
+      ≡ slice_index (taken c.args.pass c.pass_part.new.buffer c.pass_whole-state.new.buffer) (c.filling-first.result + k)
+  filled : IsAlong g.S.LaneState.VARIANT lanes (g.S.LaneState.lane c.pass_part.new.state) c.pass_part.new.block x
       (c.args.total + c.filling-first.result)
-  blocks : IsAlong g.S.LaneState.VARIANT lanes (g.S.LaneState.lane c.pass_whole-state.result) c.pass_part-state.new.block x
+  blocks : IsAlong g.S.LaneState.VARIANT lanes (g.S.LaneState.lane c.pass_whole-state.result) c.pass_part.new.block x
       (c.args.total + (c.filling-first.result + (length c.args.buffer.now - c.filling-first.result) / c.RATE.result * c.RATE-2.result))
 
 parts : (g : _) → (c : goal.After-slice_known-4-1 g) → (lanes : ℕ → List (List ℕ)) (x : List ℕ)
     → IsAlong g.S.LaneState.VARIANT lanes (g.S.LaneState.lane c.args.state) c.args.block.now x c.args.total
-    → HasFrom x c.args.total (taken c.args.pass c.args.buffer.now c.pass_part.new.buffer) → AreParts g c lanes x
+    → HasFrom x c.args.total (taken c.args.pass c.args.buffer.now c.pass_part-2.new.buffer) → AreParts g c lanes x
 parts g c lanes x along same =
     let L = g.S.LaneState in let t : ℕ = c.args.total in let len : ℕ = length c.args.buffer.now in
     let first : ℕ = c.filling-first.result in let n : ℕ = (len - first) / c.RATE.result in let pass = c.args.pass in
-    let old : List ℕ = c.args.buffer.now in let one : List ℕ = c.pass_part-state.new.buffer in
-    let two : List ℕ = c.pass_whole-state.new.buffer in let new : List ℕ = c.pass_part.new.buffer in
+    let old : List ℕ = c.args.buffer.now in let one : List ℕ = c.pass_part.new.buffer in
+    let two : List ℕ = c.pass_whole-state.new.buffer in let new : List ℕ = c.pass_part-2.new.buffer in
     let read = c.RATE.ensures in let read2 = c.RATE-2.ensures in
     let floor : n * c.RATE.result ≤ len - first = div-mul-le_self (len - first) c.RATE.result in
     let fits : n * L.RATE ≤ len - first = rw (← read) floor in
     let last : first + n * c.RATE-2.result ≡ first + n * L.RATE = ap (λ (r : ℕ). first + n * r) read2 in
     let long : length (taken pass old new) ≡ len = length-taken pass old new (omega arith) in
-    let filled = c.pass_part-state.ensures.along lanes x along
+    let filled = c.pass_part.ensures.along lanes x along
     (λ k low. same k (omega arith) ∙ ap (slice_index (taken pass old new)) (omega arith)
-    ∙ taken-same pass old old new one (0 + k) refl (c.pass_part.ensures.below (0 + k) (omega arith) ∙ c.pass_whole-state.ensures.below (0 + k) (omega arith))) in
+    ∙ taken-same pass old old new one (0 + k) refl (c.pass_part-2.ensures.below (0 + k) (omega arith) ∙ c.pass_whole-state.ensures.below (0 + k) (omega arith))) in
     let taken_whole : (k : ℕ) → k < n * L.RATE → slice_index x (t + first + k) ≡ slice_index (taken pass one two) (first + k) =
     λ k low. ap (slice_index x) (omega arith) ∙ same (first + k) (omega arith)
-    ∙ taken-same pass old one new two (first + k) (sym (c.pass_part-state.ensures.above (first + k) (omega arith))) (c.pass_part.ensures.below (first + k) (omega arith)) in
-    let whole = c.pass_whole-state.ensures.along lanes c.pass_part-state.new.block x (t + first)
+    ∙ taken-same pass old one new two (first + k) (sym (c.pass_part.ensures.above (first + k) (omega arith))) (c.pass_part-2.ensures.below (first + k) (omega arith)) in
+    let whole = c.pass_whole-state.ensures.along lanes c.pass_part.new.block x (t + first)
     (unopened-after t first len c.RATE.result L.RATE c.filling-first.ensures.fills) filled taken_whole in
     let place : t + first + n * L.RATE ≡ t + (first + n * c.RATE-2.result) = omega arith in
     record { within = omega arith; whole = taken_whole; filled = filled; blocks = rw place at whole }
@@ -49,18 +49,18 @@ parts g c lanes x along same =
 untouched : (g : _) → (c : goal.After-slice_known-4-1 g) (i : ℕ)
     → c.filling-first.result + (length c.args.buffer.now - c.filling-first.result) / c.RATE.result * g.S.LaneState.RATE ≤ i
     → slice_index c.pass_whole-state.new.buffer i ≡ slice_index c.args.buffer.now i
-untouched g c i high = c.pass_whole-state.ensures.above i high ∙ c.pass_part-state.ensures.above i (omega arith)
+untouched g c i high = c.pass_whole-state.ensures.above i high ∙ c.pass_part.ensures.above i (omega arith)
 
 pub returns-clause-along : goal.returns-clause-along
 returns-clause-along g c lanes x along same =
     let L = g.S.LaneState in let t : ℕ = c.args.total in let len : ℕ = length c.args.buffer.now in
     let first : ℕ = c.filling-first.result in let n : ℕ = (len - first) / c.RATE.result in let pass = c.args.pass in
-    let old : List ℕ = c.args.buffer.now in let two : List ℕ = c.pass_whole-state.new.buffer in let new : List ℕ = c.pass_part.new.buffer in
+    let old : List ℕ = c.args.buffer.now in let two : List ℕ = c.pass_whole-state.new.buffer in let new : List ℕ = c.pass_part-2.new.buffer in
     let are = parts g c lanes x along same in
     let within = are.within in
     let last : first + n * c.RATE-2.result ≡ first + n * L.RATE = ap (λ (r : ℕ). first + n * r) c.RATE-2.ensures in
     let long : length (taken pass old new) ≡ len = length-taken pass old new (omega arith) in
-    let rest = c.pass_part.ensures.along lanes x are.blocks
+    let rest = c.pass_part-2.ensures.along lanes x are.blocks
     (λ k low. ap (slice_index x) (omega arith) ∙ same (first + n * c.RATE-2.result + k) (omega arith)
     ∙ taken-same pass old two new new (first + n * c.RATE-2.result + k) (sym (untouched g c (first + n * c.RATE-2.result + k) (omega arith))) refl) in
     let all : t + (first + n * c.RATE-2.result) + (len - (first + n * c.RATE-2.result)) ≡ t + len = omega arith in
@@ -78,23 +78,23 @@ returns-clause-written g c lanes x along same i low =
     ⊎_elim
     (λ front.
     let here : 0 + i ≡ i = omega arith in
-    c.pass_part.ensures.below i (omega arith) ∙ c.pass_whole-state.ensures.below i front
-    ∙ rw here at (c.pass_part-state.ensures.written lanes x along i front))
+    c.pass_part-2.ensures.below i (omega arith) ∙ c.pass_whole-state.ensures.below i front
+    ∙ rw here at (c.pass_part.ensures.written lanes x along i front))
     (λ high. ⊎_elim
     (λ middle.
     let k : ℕ = i - first in
     let here : first + k ≡ i = omega arith in
     let there : t + first + k ≡ t + i = omega arith in
-    c.pass_part.ensures.below i (omega arith)
-    ∙ rw here at (c.pass_whole-state.ensures.written lanes c.pass_part-state.new.block x (t + first)
+    c.pass_part-2.ensures.below i (omega arith)
+    ∙ rw here at (c.pass_whole-state.ensures.written lanes c.pass_part.new.block x (t + first)
     (unopened-after t first len c.RATE.result L.RATE c.filling-first.ensures.fills) are.filled are.whole k (omega arith))
-    ∙ ap (λ (b : ℕ). bit_xor b (keystream (t + first + k))) (c.pass_part-state.ensures.above i (omega arith))
+    ∙ ap (λ (b : ℕ). bit_xor b (keystream (t + first + k))) (c.pass_part.ensures.above i (omega arith))
     ∙ ap (λ (q : ℕ). bit_xor (slice_index old i) (keystream q)) there)
     (λ back.
     let k : ℕ = i - (first + n * c.RATE-2.result) in
     let here : first + n * c.RATE-2.result + k ≡ i = omega arith in
     let there : t + (first + n * c.RATE-2.result) + k ≡ t + i = omega arith in
-    rw here at (c.pass_part.ensures.written lanes x are.blocks k (omega arith))
+    rw here at (c.pass_part-2.ensures.written lanes x are.blocks k (omega arith))
     ∙ ap (λ (b : ℕ). bit_xor b (keystream (t + (first + n * c.RATE-2.result) + k))) (untouched g c i (omega arith))
     ∙ ap (λ (q : ℕ). bit_xor (slice_index old i) (keystream q)) there)
     (cases_lt i (first + n * L.RATE)))
@@ -109,7 +109,7 @@ returns-clause-updates g c =
     let fits : n * L.RATE ≤ len - first = rw (← read) floor in
     let positive : 0 < L.RATE = rw g.met.S.LaneState.rate_is (rate-positive L.VARIANT g.met.S.LaneState.one_two_or_four) in
     updates-of-parts t first n len L.RATE _ _ _ _ positive (unopened-after t first len c.RATE.result L.RATE c.filling-first.ensures.fills)
-    (omega arith) c.pass_part-state.ensures.updates c.pass_whole-state.ensures.updates (rw c.RATE-2.ensures at c.pass_part.ensures.updates)
+    (omega arith) c.pass_part.ensures.updates c.pass_whole-state.ensures.updates (rw c.RATE-2.ensures at c.pass_part-2.ensures.updates)
 
 pub returns-clause-few : goal.returns-clause-few
 returns-clause-few g c =
