@@ -97,9 +97,9 @@ fn input_lanes<S: LaneState>(state: S, block: &RateBlock, bytes: u64) -> S
     ensures few { S.updates result ≤ S.updates state + 1 }
 {
     if bytes == 0 {
-        let mut state = state;
-        state.absorb(&ZEROS, 0);
-        return state;
+        let mut after = state;
+        after.absorb(&ZEROS, 0);
+        return after;
     }
     pad(state, block, bytes)
 }
