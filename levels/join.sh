@@ -5,8 +5,8 @@
 # A build is one object, whose only global names are its exports. For two builds each export hunkravy_NAME becomes
 # hunkravy_v2_NAME or hunkravy_v3_NAME, and choose.c has the exports' own names.
 #
-# Each function begins at a multiple of 64 bytes, so that its loops have the same speed in every program: whether a loop
-# of a thousand instructions fits the processor's store of decoded instructions depends on where it begins.
+# Each function begins at a multiple of 64 bytes, so that where its loops begin does not depend on the program: a loop of
+# a thousand instructions fits the processor's store of decoded instructions or not by that.
 set -eu
 here=$(cd "$(dirname "$0")" && pwd)
 out=$1
