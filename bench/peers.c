@@ -34,13 +34,13 @@ static void expect(int holds)
     }
 }
 
-#define OURS(NAME, KEY_BYTES)                                                                      \
+#define OURS(NAME, VARIANT, KEY_BYTES)                                                             \
     static void ours_##NAME(size_t length)                                                         \
     {                                                                                              \
         uint8_t tag[32];                                                                           \
-        expect(hunkravy_##NAME##_encrypt_in_place(buffer, length, NULL, 0, nonce, KEY_BYTES, key,  \
-                                                  KEY_BYTES, tag, sizeof tag)                      \
-               == HUNKRAVY_OK);                                                                  \
+        expect(hunkravy_encrypt_in_place(VARIANT, buffer, length, NULL, 0, nonce, KEY_BYTES, key,  \
+                                         KEY_BYTES, tag, sizeof tag)                               \
+               == HUNKRAVY_OK);                                                                    \
     }
 
 #define SODIUM(NAME)                                                                               \
@@ -52,12 +52,12 @@ static void expect(int holds)
                == 0);                                                                              \
     }
 
-OURS(aegis128l, 16)
-OURS(aegis128x2, 16)
-OURS(aegis128x4, 16)
-OURS(aegis256, 32)
-OURS(aegis256x2, 32)
-OURS(aegis256x4, 32)
+OURS(aegis128l, HUNKRAVY_AEGIS128L, 16)
+OURS(aegis128x2, HUNKRAVY_AEGIS128X2, 16)
+OURS(aegis128x4, HUNKRAVY_AEGIS128X4, 16)
+OURS(aegis256, HUNKRAVY_AEGIS256, 32)
+OURS(aegis256x2, HUNKRAVY_AEGIS256X2, 32)
+OURS(aegis256x4, HUNKRAVY_AEGIS256X4, 32)
 SODIUM(aegis128l)
 SODIUM(aegis256)
 SODIUM(chacha20poly1305_ietf)

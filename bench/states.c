@@ -34,49 +34,39 @@ static void expect(int holds)
     }
 }
 
-typedef void encrypting(size_t chunk);
+typedef void encrypting(uint32_t variant, size_t chunk);
 
-#define ENCRYPTING(NAME, KEY_BYTES)                                                                \
-    static void NAME##_at_once(size_t chunk)                                                       \
-    {                                                                                              \
-        uint8_t tag[16];                                                                           \
-        (void)chunk;                                                                               \
-        expect(hunkravy_##NAME##_encrypt_in_place(buffer, sizeof buffer, NULL, 0, nonce,           \
-                                                  KEY_BYTES, key, KEY_BYTES, tag, sizeof tag)      \
-               == HUNKRAVY_OK);                                                                    \
-    }                                                                                              \
-                                                                                                   \
-    static void NAME##_in_chunks(size_t chunk)                                                     \
-    {                                                                                              \
-        hunkravy_##NAME##_state st;                                                                \
-        uint8_t tag[16];                                                                           \
-        size_t at;                                                                                 \
-        expect(hunkravy_##NAME##_state_init(&st, NULL, 0, nonce, KEY_BYTES, key, KEY_BYTES)        \
-               == HUNKRAVY_OK);                                                                    \
-        for (at = 0; at < sizeof buffer; at += chunk) {                                            \
-            size_t left = sizeof buffer - at;                                                      \
-            expect(hunkravy_##NAME##_state_encrypt_in_place(&st, buffer + at,                      \
-                                                            left < chunk ? left : chunk)           \
-                   == HUNKRAVY_OK);                                                                \
-        }                                                                                          \
-        expect(hunkravy_##NAME##_state_encrypt_final(&st, tag, sizeof tag) == HUNKRAVY_OK);        \
+static void at_once(uint32_t variant, size_t chunk)
+{
+    uint8_t tag[16];
+    size_t bytes = hunkravy_key_bytes(variant);
+    (void)chunk;
+    expect(hunkravy_encrypt_in_place(variant, buffer, sizeof buffer, NULL, 0, nonce, bytes, key, bytes, tag,
+                                     sizeof tag)
+           == HUNKRAVY_OK);
+}
+
+static void in_chunks(uint32_t variant, size_t chunk)
+{
+    hunkravy_state st;
+    uint8_t tag[16];
+    size_t at, bytes = hunkravy_key_bytes(variant);
+    expect(hunkravy_state_init(variant, &st, NULL, 0, nonce, bytes, key, bytes) == HUNKRAVY_OK);
+    for (at = 0; at < sizeof buffer; at += chunk) {
+        size_t left = sizeof buffer - at;
+        expect(hunkravy_state_encrypt_in_place(&st, buffer + at, left < chunk ? left : chunk) == HUNKRAVY_OK);
     }
-
-ENCRYPTING(aegis128l, 16)
-ENCRYPTING(aegis128x2, 16)
-ENCRYPTING(aegis128x4, 16)
-ENCRYPTING(aegis256, 32)
-ENCRYPTING(aegis256x2, 32)
-ENCRYPTING(aegis256x4, 32)
+    expect(hunkravy_state_encrypt_final(&st, tag, sizeof tag) == HUNKRAVY_OK);
+}
 
 /* Keeps the shorter time of this turn and those before it. The place is in steps of 16 bytes. */
-static void turn(encrypting *encrypt, size_t chunk, size_t place, double *best)
+static void turn(encrypting *encrypt, uint32_t variant, size_t chunk, size_t place, double *best)
 {
     volatile uint8_t room[16 * (place + 1)];
     double start, took;
     room[place] = 0;
     start = now();
-    encrypt(chunk);
+    encrypt(variant, chunk);
     took = now() - start;
     expect(room[place] == 0);
     if (took < *best) {
@@ -84,7 +74,7 @@ static void turn(encrypting *encrypt, size_t chunk, size_t place, double *best)
     }
 }
 
-static void line(const char *name, encrypting *at_once, encrypting *in_chunks)
+static void line(const char *name, uint32_t variant)
 {
     double whole = 1e18, best[CHUNK_COUNT];
     size_t turns, i;
@@ -92,9 +82,9 @@ static void line(const char *name, encrypting *at_once, encrypting *in_chunks)
         best[i] = 1e18;
     }
     for (turns = 0; turns < TURNS; turns++) {
-        turn(at_once, 0, turns % PLACES, &whole);
+        turn(at_once, variant, 0, turns % PLACES, &whole);
         for (i = 0; i < CHUNK_COUNT; i++) {
-            turn(in_chunks, CHUNKS[i], turns % PLACES, &best[i]);
+            turn(in_chunks, variant, CHUNKS[i], turns % PLACES, &best[i]);
         }
     }
     printf("| %s | %.0f |", name, MESSAGE_BYTES / whole * 1e3);
@@ -109,11 +99,11 @@ int main(void)
     printf("Hunkravy at level %d\n\n", hunkravy_level());
     printf("| Variant | At once, MB/s | 64 | 256 | 1,000 | 1 KiB | 4 KiB | 16 KiB | 64 KiB |\n");
     printf("|---|---:|---:|---:|---:|---:|---:|---:|---:|\n");
-    line("AEGIS-128L", aegis128l_at_once, aegis128l_in_chunks);
-    line("AEGIS-128X2", aegis128x2_at_once, aegis128x2_in_chunks);
-    line("AEGIS-128X4", aegis128x4_at_once, aegis128x4_in_chunks);
-    line("AEGIS-256", aegis256_at_once, aegis256_in_chunks);
-    line("AEGIS-256X2", aegis256x2_at_once, aegis256x2_in_chunks);
-    line("AEGIS-256X4", aegis256x4_at_once, aegis256x4_in_chunks);
+    line("AEGIS-128L", HUNKRAVY_AEGIS128L);
+    line("AEGIS-128X2", HUNKRAVY_AEGIS128X2);
+    line("AEGIS-128X4", HUNKRAVY_AEGIS128X4);
+    line("AEGIS-256", HUNKRAVY_AEGIS256);
+    line("AEGIS-256X2", HUNKRAVY_AEGIS256X2);
+    line("AEGIS-256X4", HUNKRAVY_AEGIS256X4);
     return 0;
 }

@@ -25,7 +25,8 @@
  *   header or sodium.h, and not both; in one program different files may.
  * - Random bytes come from getrandom. There is no call to replace their source.
  *
- * generate.py writes this file from sodium_compat.h.in.
+ * The calls stand once for both variants below, as hunkravy_sodium_CALL, with their comments. HUNKRAVY_SODIUM_CALLS at the end
+ * declares those of one variant: crypto_aead_aegis128l_CALL has the parameters of hunkravy_sodium_CALL without `variant`.
  */
 #ifndef SODIUM_COMPAT_H
 #define SODIUM_COMPAT_H
@@ -71,273 +72,150 @@ static inline void sodium_memzero(void *const pnt, const size_t len)
     hunkravy_wipe(pnt, len);
 }
 
-/* ======== AEGIS-128L ======== */
+#define HUNKRAVY_SODIUM_TAG_BYTES 32U
+#define HUNKRAVY_SODIUM_MOST_BYTES ((1ULL << 61) - 1)
+
+/*
+ * Writes the ciphertext of the `mlen` bytes at `m` to `c`, and its tag of 32 bytes to `mac`. Sets `*maclen_p`
+ * to 32. Returns 0. Ends the program if the message or the associated data are too long.
+ */
+static inline int hunkravy_sodium_encrypt_detached(uint32_t variant, unsigned char *c, unsigned char *mac,
+    unsigned long long *maclen_p, const unsigned char *m, unsigned long long mlen, const unsigned char *ad,
+    unsigned long long adlen, const unsigned char *npub, const unsigned char *k)
+{
+    size_t bytes = hunkravy_key_bytes(variant);
+    if (maclen_p != NULL) {
+        *maclen_p = HUNKRAVY_SODIUM_TAG_BYTES;
+    }
+    if (mlen > HUNKRAVY_SODIUM_MOST_BYTES || adlen > HUNKRAVY_SODIUM_MOST_BYTES ||
+        hunkravy_encrypt(variant, c, m, (size_t)mlen, ad, (size_t)adlen, npub, bytes, k, bytes, mac,
+                         HUNKRAVY_SODIUM_TAG_BYTES) != HUNKRAVY_OK) {
+        abort();
+    }
+    return 0;
+}
+
+/*
+ * Writes the message to `m` and returns 0 if `mac` is the tag of the `clen` bytes at `c`. Otherwise returns -1,
+ * and the `clen` bytes at `m` are zeros. If `m` is null, it only verifies.
+ */
+HUNKRAVY_MUST_USE static inline int hunkravy_sodium_decrypt_detached(uint32_t variant, unsigned char *m,
+    const unsigned char *c, unsigned long long clen, const unsigned char *mac, const unsigned char *ad,
+    unsigned long long adlen, const unsigned char *npub, const unsigned char *k)
+{
+    size_t bytes = hunkravy_key_bytes(variant);
+    int code;
+    if (clen > HUNKRAVY_SODIUM_MOST_BYTES || adlen > HUNKRAVY_SODIUM_MOST_BYTES) {
+        return -1;
+    }
+    if (m == NULL) {
+        code = hunkravy_verify(variant, c, (size_t)clen, ad, (size_t)adlen, npub, bytes, k, bytes, mac,
+                               HUNKRAVY_SODIUM_TAG_BYTES);
+        return code == HUNKRAVY_OK ? 0 : -1;
+    }
+    code = hunkravy_decrypt(variant, m, c, (size_t)clen, ad, (size_t)adlen, npub, bytes, k, bytes, mac,
+                            HUNKRAVY_SODIUM_TAG_BYTES);
+    if (code != HUNKRAVY_OK) {
+        memset(m, 0, (size_t)clen);
+        return -1;
+    }
+    return 0;
+}
+
+/*
+ * Writes the ciphertext of the `mlen` bytes at `m`, and after it its tag, to `c`, and sets `*clen_p` to `mlen +
+ * 32`. Returns 0. Ends the program if the message or the associated data are too long.
+ */
+static inline int hunkravy_sodium_encrypt(uint32_t variant, unsigned char *c, unsigned long long *clen_p,
+    const unsigned char *m, unsigned long long mlen, const unsigned char *ad, unsigned long long adlen,
+    const unsigned char *npub, const unsigned char *k)
+{
+    if (mlen > HUNKRAVY_SODIUM_MOST_BYTES) {
+        abort();
+    }
+    if (clen_p != NULL) {
+        *clen_p = mlen + HUNKRAVY_SODIUM_TAG_BYTES;
+    }
+    return hunkravy_sodium_encrypt_detached(variant, c, c + mlen, NULL, m, mlen, ad, adlen, npub, k);
+}
+
+/*
+ * Writes the message to `m`, sets `*mlen_p` to `clen - 32` and returns 0 if the last 32 of the `clen` bytes at
+ * `c` are its tag. Otherwise sets `*mlen_p` to 0 and returns -1, and `clen - 32` bytes at `m` are zeros. If `m`
+ * is null, it only verifies.
+ */
+HUNKRAVY_MUST_USE static inline int hunkravy_sodium_decrypt(uint32_t variant, unsigned char *m,
+    unsigned long long *mlen_p, const unsigned char *c, unsigned long long clen, const unsigned char *ad,
+    unsigned long long adlen, const unsigned char *npub, const unsigned char *k)
+{
+    unsigned long long mlen = 0;
+    int result = -1;
+    if (clen >= HUNKRAVY_SODIUM_TAG_BYTES && clen - HUNKRAVY_SODIUM_TAG_BYTES <= HUNKRAVY_SODIUM_MOST_BYTES) {
+        mlen = clen - HUNKRAVY_SODIUM_TAG_BYTES;
+        result = hunkravy_sodium_decrypt_detached(variant, m, c, mlen, c + mlen, ad, adlen, npub, k);
+    }
+    if (mlen_p != NULL) {
+        *mlen_p = result == 0 ? mlen : 0;
+    }
+    return result;
+}
+
+/* ---- The calls of each variant. `nsec` is not used. NAME_keygen draws a key at random. */
+
+#define HUNKRAVY_SODIUM_CALLS(NAME, VARIANT)                                                             \
+    static inline size_t NAME##_keybytes(void) { return NAME##_KEYBYTES; }                               \
+    static inline size_t NAME##_nsecbytes(void) { return NAME##_NSECBYTES; }                             \
+    static inline size_t NAME##_npubbytes(void) { return NAME##_NPUBBYTES; }                             \
+    static inline size_t NAME##_abytes(void) { return NAME##_ABYTES; }                                   \
+    static inline size_t NAME##_messagebytes_max(void) { return NAME##_MESSAGEBYTES_MAX; }               \
+    static inline void NAME##_keygen(unsigned char k[NAME##_KEYBYTES])                                   \
+    {                                                                                                    \
+        randombytes_buf(k, NAME##_KEYBYTES);                                                             \
+    }                                                                                                    \
+    static inline int NAME##_encrypt_detached(unsigned char *c, unsigned char *mac,                      \
+        unsigned long long *maclen_p, const unsigned char *m, unsigned long long mlen,                   \
+        const unsigned char *ad, unsigned long long adlen, const unsigned char *nsec,                    \
+        const unsigned char *npub, const unsigned char *k)                                               \
+    {                                                                                                    \
+        (void)nsec;                                                                                      \
+        return hunkravy_sodium_encrypt_detached(VARIANT, c, mac, maclen_p, m, mlen, ad, adlen, npub, k); \
+    }                                                                                                    \
+    HUNKRAVY_MUST_USE static inline int NAME##_decrypt_detached(unsigned char *m, unsigned char *nsec,   \
+        const unsigned char *c, unsigned long long clen, const unsigned char *mac,                       \
+        const unsigned char *ad, unsigned long long adlen, const unsigned char *npub,                    \
+        const unsigned char *k)                                                                          \
+    {                                                                                                    \
+        (void)nsec;                                                                                      \
+        return hunkravy_sodium_decrypt_detached(VARIANT, m, c, clen, mac, ad, adlen, npub, k);           \
+    }                                                                                                    \
+    static inline int NAME##_encrypt(unsigned char *c, unsigned long long *clen_p, const unsigned char *m,\
+        unsigned long long mlen, const unsigned char *ad, unsigned long long adlen,                      \
+        const unsigned char *nsec, const unsigned char *npub, const unsigned char *k)                    \
+    {                                                                                                    \
+        (void)nsec;                                                                                      \
+        return hunkravy_sodium_encrypt(VARIANT, c, clen_p, m, mlen, ad, adlen, npub, k);                 \
+    }                                                                                                    \
+    HUNKRAVY_MUST_USE static inline int NAME##_decrypt(unsigned char *m, unsigned long long *mlen_p,     \
+        unsigned char *nsec, const unsigned char *c, unsigned long long clen, const unsigned char *ad,   \
+        unsigned long long adlen, const unsigned char *npub, const unsigned char *k)                     \
+    {                                                                                                    \
+        (void)nsec;                                                                                      \
+        return hunkravy_sodium_decrypt(VARIANT, m, mlen_p, c, clen, ad, adlen, npub, k);                 \
+    }
 
 #define crypto_aead_aegis128l_KEYBYTES 16U
 #define crypto_aead_aegis128l_NSECBYTES 0U
 #define crypto_aead_aegis128l_NPUBBYTES 16U
-#define crypto_aead_aegis128l_ABYTES 32U
-#define crypto_aead_aegis128l_MESSAGEBYTES_MAX ((1ULL << 61) - 1)
-
-static inline size_t crypto_aead_aegis128l_keybytes(void)
-{
-    return crypto_aead_aegis128l_KEYBYTES;
-}
-
-static inline size_t crypto_aead_aegis128l_nsecbytes(void)
-{
-    return crypto_aead_aegis128l_NSECBYTES;
-}
-
-static inline size_t crypto_aead_aegis128l_npubbytes(void)
-{
-    return crypto_aead_aegis128l_NPUBBYTES;
-}
-
-static inline size_t crypto_aead_aegis128l_abytes(void)
-{
-    return crypto_aead_aegis128l_ABYTES;
-}
-
-static inline size_t crypto_aead_aegis128l_messagebytes_max(void)
-{
-    return crypto_aead_aegis128l_MESSAGEBYTES_MAX;
-}
-
-/* Draws a key at random. Ends the program if the system has no random bytes. */
-static inline void crypto_aead_aegis128l_keygen(unsigned char k[crypto_aead_aegis128l_KEYBYTES])
-{
-    randombytes_buf(k, crypto_aead_aegis128l_KEYBYTES);
-}
-
-/*
- * Writes the ciphertext of the `mlen` bytes at `m` to `c`, and its tag of 32 bytes to `mac`. Sets `*maclen_p`
- * to 32. Returns 0. Ends the program if the message or the associated data are too long.
- */
-static inline int crypto_aead_aegis128l_encrypt_detached(
-    unsigned char *c, unsigned char *mac, unsigned long long *maclen_p, const unsigned char *m,
-    unsigned long long mlen, const unsigned char *ad, unsigned long long adlen,
-    const unsigned char *nsec, const unsigned char *npub, const unsigned char *k)
-{
-    (void)nsec;
-    if (maclen_p != NULL) {
-        *maclen_p = crypto_aead_aegis128l_ABYTES;
-    }
-    if (mlen > crypto_aead_aegis128l_MESSAGEBYTES_MAX || adlen > crypto_aead_aegis128l_MESSAGEBYTES_MAX ||
-        hunkravy_aegis128l_encrypt(c, m, (size_t)mlen, ad, (size_t)adlen, npub,
-                                crypto_aead_aegis128l_NPUBBYTES, k, crypto_aead_aegis128l_KEYBYTES, mac,
-                                crypto_aead_aegis128l_ABYTES) != HUNKRAVY_OK) {
-        abort();
-    }
-    return 0;
-}
-
-/*
- * Writes the message to `m` and returns 0 if `mac` is the tag of the `clen` bytes at `c`. Otherwise returns -1,
- * and the `clen` bytes at `m` are zeros. If `m` is null, it only verifies.
- */
-HUNKRAVY_MUST_USE static inline int crypto_aead_aegis128l_decrypt_detached(
-    unsigned char *m, unsigned char *nsec, const unsigned char *c, unsigned long long clen,
-    const unsigned char *mac, const unsigned char *ad, unsigned long long adlen,
-    const unsigned char *npub, const unsigned char *k)
-{
-    int code;
-    (void)nsec;
-    if (clen > crypto_aead_aegis128l_MESSAGEBYTES_MAX || adlen > crypto_aead_aegis128l_MESSAGEBYTES_MAX) {
-        return -1;
-    }
-    if (m == NULL) {
-        code = hunkravy_aegis128l_verify(c, (size_t)clen, ad, (size_t)adlen, npub,
-                                      crypto_aead_aegis128l_NPUBBYTES, k, crypto_aead_aegis128l_KEYBYTES,
-                                      mac, crypto_aead_aegis128l_ABYTES);
-        return code == HUNKRAVY_OK ? 0 : -1;
-    }
-    code = hunkravy_aegis128l_decrypt(m, c, (size_t)clen, ad, (size_t)adlen, npub,
-                                   crypto_aead_aegis128l_NPUBBYTES, k, crypto_aead_aegis128l_KEYBYTES,
-                                   mac, crypto_aead_aegis128l_ABYTES);
-    if (code != HUNKRAVY_OK) {
-        memset(m, 0, (size_t)clen);
-        return -1;
-    }
-    return 0;
-}
-
-/*
- * Writes the ciphertext of the `mlen` bytes at `m`, and after it its tag, to `c`, and sets `*clen_p` to `mlen +
- * 32`. Returns 0. Ends the program if the message or the associated data are too long.
- */
-static inline int crypto_aead_aegis128l_encrypt(
-    unsigned char *c, unsigned long long *clen_p, const unsigned char *m, unsigned long long mlen,
-    const unsigned char *ad, unsigned long long adlen, const unsigned char *nsec,
-    const unsigned char *npub, const unsigned char *k)
-{
-    if (mlen > crypto_aead_aegis128l_MESSAGEBYTES_MAX) {
-        abort();
-    }
-    if (clen_p != NULL) {
-        *clen_p = mlen + crypto_aead_aegis128l_ABYTES;
-    }
-    return crypto_aead_aegis128l_encrypt_detached(c, c + mlen, NULL, m, mlen, ad, adlen, nsec, npub,
-                                               k);
-}
-
-/*
- * Writes the message to `m`, sets `*mlen_p` to `clen - 32` and returns 0 if the last 32 of the `clen` bytes at
- * `c` are its tag. Otherwise sets `*mlen_p` to 0 and returns -1, and `clen - 32` bytes at `m` are zeros. If `m`
- * is null, it only verifies.
- */
-HUNKRAVY_MUST_USE static inline int crypto_aead_aegis128l_decrypt(
-    unsigned char *m, unsigned long long *mlen_p, unsigned char *nsec, const unsigned char *c,
-    unsigned long long clen, const unsigned char *ad, unsigned long long adlen,
-    const unsigned char *npub, const unsigned char *k)
-{
-    unsigned long long mlen = 0;
-    int result = -1;
-    if (clen >= crypto_aead_aegis128l_ABYTES &&
-        clen - crypto_aead_aegis128l_ABYTES <= crypto_aead_aegis128l_MESSAGEBYTES_MAX) {
-        mlen = clen - crypto_aead_aegis128l_ABYTES;
-        result = crypto_aead_aegis128l_decrypt_detached(m, nsec, c, mlen, c + mlen, ad, adlen, npub,
-                                                     k);
-    }
-    if (mlen_p != NULL) {
-        *mlen_p = result == 0 ? mlen : 0;
-    }
-    return result;
-}
-
-/* ======== AEGIS-256 ======== */
+#define crypto_aead_aegis128l_ABYTES HUNKRAVY_SODIUM_TAG_BYTES
+#define crypto_aead_aegis128l_MESSAGEBYTES_MAX HUNKRAVY_SODIUM_MOST_BYTES
+HUNKRAVY_SODIUM_CALLS(crypto_aead_aegis128l, HUNKRAVY_AEGIS128L)
 
 #define crypto_aead_aegis256_KEYBYTES 32U
 #define crypto_aead_aegis256_NSECBYTES 0U
 #define crypto_aead_aegis256_NPUBBYTES 32U
-#define crypto_aead_aegis256_ABYTES 32U
-#define crypto_aead_aegis256_MESSAGEBYTES_MAX ((1ULL << 61) - 1)
-
-static inline size_t crypto_aead_aegis256_keybytes(void)
-{
-    return crypto_aead_aegis256_KEYBYTES;
-}
-
-static inline size_t crypto_aead_aegis256_nsecbytes(void)
-{
-    return crypto_aead_aegis256_NSECBYTES;
-}
-
-static inline size_t crypto_aead_aegis256_npubbytes(void)
-{
-    return crypto_aead_aegis256_NPUBBYTES;
-}
-
-static inline size_t crypto_aead_aegis256_abytes(void)
-{
-    return crypto_aead_aegis256_ABYTES;
-}
-
-static inline size_t crypto_aead_aegis256_messagebytes_max(void)
-{
-    return crypto_aead_aegis256_MESSAGEBYTES_MAX;
-}
-
-/* Draws a key at random. Ends the program if the system has no random bytes. */
-static inline void crypto_aead_aegis256_keygen(unsigned char k[crypto_aead_aegis256_KEYBYTES])
-{
-    randombytes_buf(k, crypto_aead_aegis256_KEYBYTES);
-}
-
-/*
- * Writes the ciphertext of the `mlen` bytes at `m` to `c`, and its tag of 32 bytes to `mac`. Sets `*maclen_p`
- * to 32. Returns 0. Ends the program if the message or the associated data are too long.
- */
-static inline int crypto_aead_aegis256_encrypt_detached(
-    unsigned char *c, unsigned char *mac, unsigned long long *maclen_p, const unsigned char *m,
-    unsigned long long mlen, const unsigned char *ad, unsigned long long adlen,
-    const unsigned char *nsec, const unsigned char *npub, const unsigned char *k)
-{
-    (void)nsec;
-    if (maclen_p != NULL) {
-        *maclen_p = crypto_aead_aegis256_ABYTES;
-    }
-    if (mlen > crypto_aead_aegis256_MESSAGEBYTES_MAX || adlen > crypto_aead_aegis256_MESSAGEBYTES_MAX ||
-        hunkravy_aegis256_encrypt(c, m, (size_t)mlen, ad, (size_t)adlen, npub,
-                                crypto_aead_aegis256_NPUBBYTES, k, crypto_aead_aegis256_KEYBYTES, mac,
-                                crypto_aead_aegis256_ABYTES) != HUNKRAVY_OK) {
-        abort();
-    }
-    return 0;
-}
-
-/*
- * Writes the message to `m` and returns 0 if `mac` is the tag of the `clen` bytes at `c`. Otherwise returns -1,
- * and the `clen` bytes at `m` are zeros. If `m` is null, it only verifies.
- */
-HUNKRAVY_MUST_USE static inline int crypto_aead_aegis256_decrypt_detached(
-    unsigned char *m, unsigned char *nsec, const unsigned char *c, unsigned long long clen,
-    const unsigned char *mac, const unsigned char *ad, unsigned long long adlen,
-    const unsigned char *npub, const unsigned char *k)
-{
-    int code;
-    (void)nsec;
-    if (clen > crypto_aead_aegis256_MESSAGEBYTES_MAX || adlen > crypto_aead_aegis256_MESSAGEBYTES_MAX) {
-        return -1;
-    }
-    if (m == NULL) {
-        code = hunkravy_aegis256_verify(c, (size_t)clen, ad, (size_t)adlen, npub,
-                                      crypto_aead_aegis256_NPUBBYTES, k, crypto_aead_aegis256_KEYBYTES,
-                                      mac, crypto_aead_aegis256_ABYTES);
-        return code == HUNKRAVY_OK ? 0 : -1;
-    }
-    code = hunkravy_aegis256_decrypt(m, c, (size_t)clen, ad, (size_t)adlen, npub,
-                                   crypto_aead_aegis256_NPUBBYTES, k, crypto_aead_aegis256_KEYBYTES,
-                                   mac, crypto_aead_aegis256_ABYTES);
-    if (code != HUNKRAVY_OK) {
-        memset(m, 0, (size_t)clen);
-        return -1;
-    }
-    return 0;
-}
-
-/*
- * Writes the ciphertext of the `mlen` bytes at `m`, and after it its tag, to `c`, and sets `*clen_p` to `mlen +
- * 32`. Returns 0. Ends the program if the message or the associated data are too long.
- */
-static inline int crypto_aead_aegis256_encrypt(
-    unsigned char *c, unsigned long long *clen_p, const unsigned char *m, unsigned long long mlen,
-    const unsigned char *ad, unsigned long long adlen, const unsigned char *nsec,
-    const unsigned char *npub, const unsigned char *k)
-{
-    if (mlen > crypto_aead_aegis256_MESSAGEBYTES_MAX) {
-        abort();
-    }
-    if (clen_p != NULL) {
-        *clen_p = mlen + crypto_aead_aegis256_ABYTES;
-    }
-    return crypto_aead_aegis256_encrypt_detached(c, c + mlen, NULL, m, mlen, ad, adlen, nsec, npub,
-                                               k);
-}
-
-/*
- * Writes the message to `m`, sets `*mlen_p` to `clen - 32` and returns 0 if the last 32 of the `clen` bytes at
- * `c` are its tag. Otherwise sets `*mlen_p` to 0 and returns -1, and `clen - 32` bytes at `m` are zeros. If `m`
- * is null, it only verifies.
- */
-HUNKRAVY_MUST_USE static inline int crypto_aead_aegis256_decrypt(
-    unsigned char *m, unsigned long long *mlen_p, unsigned char *nsec, const unsigned char *c,
-    unsigned long long clen, const unsigned char *ad, unsigned long long adlen,
-    const unsigned char *npub, const unsigned char *k)
-{
-    unsigned long long mlen = 0;
-    int result = -1;
-    if (clen >= crypto_aead_aegis256_ABYTES &&
-        clen - crypto_aead_aegis256_ABYTES <= crypto_aead_aegis256_MESSAGEBYTES_MAX) {
-        mlen = clen - crypto_aead_aegis256_ABYTES;
-        result = crypto_aead_aegis256_decrypt_detached(m, nsec, c, mlen, c + mlen, ad, adlen, npub,
-                                                     k);
-    }
-    if (mlen_p != NULL) {
-        *mlen_p = result == 0 ? mlen : 0;
-    }
-    return result;
-}
+#define crypto_aead_aegis256_ABYTES HUNKRAVY_SODIUM_TAG_BYTES
+#define crypto_aead_aegis256_MESSAGEBYTES_MAX HUNKRAVY_SODIUM_MOST_BYTES
+HUNKRAVY_SODIUM_CALLS(crypto_aead_aegis256, HUNKRAVY_AEGIS256)
 
 #ifdef __cplusplus
 }

@@ -1,5 +1,5 @@
 /*
- * What the test programs of this folder share: a table of all calls by variant, the stored lines,
+ * What the test programs of this folder share: the variants, the stored lines,
  * and random bytes.
  */
 #ifndef CHECK_H
@@ -69,145 +69,18 @@ static inline uint8_t *copied(const uint8_t *bytes, size_t length)
     return copy;
 }
 
-/* ---- The calls of a variant */
+/* ---- The variants */
 
 struct variant {
     const char *name;
+    uint32_t number;
     size_t key_bytes;
-    int (*encrypt_in_place)(uint8_t *, size_t, const uint8_t *, size_t, const uint8_t *, size_t,
-                            const uint8_t *, size_t, uint8_t *, size_t);
-    int (*decrypt_in_place)(uint8_t *, size_t, const uint8_t *, size_t, const uint8_t *, size_t,
-                            const uint8_t *, size_t, const uint8_t *, size_t);
-    int (*encrypt)(uint8_t *, const uint8_t *, size_t, const uint8_t *, size_t, const uint8_t *,
-                   size_t, const uint8_t *, size_t, uint8_t *, size_t);
-    int (*decrypt)(uint8_t *, const uint8_t *, size_t, const uint8_t *, size_t, const uint8_t *,
-                   size_t, const uint8_t *, size_t, const uint8_t *, size_t);
-    int (*encrypt_combined)(uint8_t *, const uint8_t *, size_t, const uint8_t *, size_t,
-                            const uint8_t *, size_t, const uint8_t *, size_t, size_t);
-    int (*decrypt_combined)(uint8_t *, const uint8_t *, size_t, const uint8_t *, size_t,
-                            const uint8_t *, size_t, const uint8_t *, size_t, size_t);
-    int (*verify)(const uint8_t *, size_t, const uint8_t *, size_t, const uint8_t *, size_t,
-                  const uint8_t *, size_t, const uint8_t *, size_t);
-    int (*stream)(uint8_t *, size_t, const uint8_t *, size_t, const uint8_t *, size_t);
-    int (*stream_xor_in_place)(uint8_t *, size_t, const uint8_t *, size_t, const uint8_t *, size_t);
-    int (*stream_xor)(uint8_t *, const uint8_t *, size_t, const uint8_t *, size_t, const uint8_t *,
-                      size_t);
-    int (*mac)(const uint8_t *, size_t, const uint8_t *, size_t, const uint8_t *, size_t, uint8_t *,
-               size_t);
-    int (*mac_verify)(const uint8_t *, size_t, const uint8_t *, size_t, const uint8_t *, size_t,
-                      const uint8_t *, size_t);
-    int (*state_init)(hunkravy_state *, const uint8_t *, size_t, const uint8_t *, size_t,
-                      const uint8_t *, size_t);
-    int (*state_encrypt_in_place)(hunkravy_state *, uint8_t *, size_t);
-    int (*state_encrypt)(hunkravy_state *, uint8_t *, const uint8_t *, size_t);
-    int (*state_encrypt_final)(hunkravy_state *, uint8_t *, size_t);
-    int (*state_decrypt_check)(hunkravy_state *, const uint8_t *, size_t);
-    int (*state_decrypt_in_place)(hunkravy_state *, uint8_t *, size_t);
-    int (*state_decrypt)(hunkravy_state *, uint8_t *, const uint8_t *, size_t);
-    int (*state_decrypt_final)(hunkravy_state *, uint8_t *, size_t, const uint8_t *, size_t);
-    int (*mac_init)(hunkravy_state *, const uint8_t *, size_t, const uint8_t *, size_t);
-    int (*mac_update)(hunkravy_state *, const uint8_t *, size_t);
-    int (*mac_final)(const hunkravy_state *, uint8_t *, size_t);
-    int (*mac_final_verify)(const hunkravy_state *, const uint8_t *, size_t);
 };
 
-/*
- * The calls on a variant's own type, as calls on the type that all of them hold, so that one table
- * has them.
- */
-#define CALLS(NAME)                                                                                \
-    static int check_##NAME##_state_init(hunkravy_state *st, const uint8_t *ad, size_t adlen,      \
-                                         const uint8_t *npub, size_t npublen, const uint8_t *k,    \
-                                         size_t klen)                                              \
-    {                                                                                              \
-        return hunkravy_##NAME##_state_init((hunkravy_##NAME##_state *)st, ad, adlen, npub,        \
-                                            npublen, k, klen);                                     \
-    }                                                                                              \
-    static int check_##NAME##_state_encrypt_in_place(hunkravy_state *st, uint8_t *mc,              \
-                                                     size_t mclen)                                 \
-    {                                                                                              \
-        return hunkravy_##NAME##_state_encrypt_in_place((hunkravy_##NAME##_state *)st, mc, mclen); \
-    }                                                                                              \
-    static int check_##NAME##_state_encrypt(hunkravy_state *st, uint8_t *c, const uint8_t *m,      \
-                                            size_t mlen)                                           \
-    {                                                                                              \
-        return hunkravy_##NAME##_state_encrypt((hunkravy_##NAME##_state *)st, c, m, mlen);         \
-    }                                                                                              \
-    static int check_##NAME##_state_encrypt_final(hunkravy_state *st, uint8_t *mac, size_t maclen) \
-    {                                                                                              \
-        return hunkravy_##NAME##_state_encrypt_final((hunkravy_##NAME##_state *)st, mac, maclen);  \
-    }                                                                                              \
-    static int check_##NAME##_state_decrypt_check(hunkravy_state *st, const uint8_t *c,            \
-                                                  size_t clen)                                     \
-    {                                                                                              \
-        return hunkravy_##NAME##_state_decrypt_check((hunkravy_##NAME##_state *)st, c, clen);      \
-    }                                                                                              \
-    static int check_##NAME##_state_decrypt_in_place(hunkravy_state *st, uint8_t *mc,              \
-                                                     size_t mclen)                                 \
-    {                                                                                              \
-        return hunkravy_##NAME##_state_decrypt_in_place_unverified((hunkravy_##NAME##_state *)st,  \
-                                                                   mc, mclen);                     \
-    }                                                                                              \
-    static int check_##NAME##_state_decrypt(hunkravy_state *st, uint8_t *m, const uint8_t *c,      \
-                                            size_t clen)                                           \
-    {                                                                                              \
-        return hunkravy_##NAME##_state_decrypt_unverified((hunkravy_##NAME##_state *)st, m, c,     \
-                                                          clen);                                   \
-    }                                                                                              \
-    static int check_##NAME##_state_decrypt_final(hunkravy_state *st, uint8_t *m, size_t mlen,     \
-                                                  const uint8_t *mac, size_t maclen)               \
-    {                                                                                              \
-        return hunkravy_##NAME##_state_decrypt_final((hunkravy_##NAME##_state *)st, m, mlen, mac,  \
-                                                     maclen);                                      \
-    }                                                                                              \
-    static int check_##NAME##_mac_init(hunkravy_state *st, const uint8_t *npub, size_t npublen,    \
-                                       const uint8_t *k, size_t klen)                              \
-    {                                                                                              \
-        return hunkravy_##NAME##_mac_init((hunkravy_##NAME##_mac_state *)st, npub, npublen, k,     \
-                                          klen);                                                   \
-    }                                                                                              \
-    static int check_##NAME##_mac_update(hunkravy_state *st, const uint8_t *input,                 \
-                                         size_t inputlen)                                          \
-    {                                                                                              \
-        return hunkravy_##NAME##_mac_update((hunkravy_##NAME##_mac_state *)st, input, inputlen);   \
-    }                                                                                              \
-    static int check_##NAME##_mac_final(const hunkravy_state *st, uint8_t *mac, size_t maclen)     \
-    {                                                                                              \
-        return hunkravy_##NAME##_mac_final((const hunkravy_##NAME##_mac_state *)st, mac, maclen);  \
-    }                                                                                              \
-    static int check_##NAME##_mac_final_verify(const hunkravy_state *st, const uint8_t *mac,       \
-                                               size_t maclen)                                      \
-    {                                                                                              \
-        return hunkravy_##NAME##_mac_final_verify((const hunkravy_##NAME##_mac_state *)st, mac,    \
-                                                  maclen);                                         \
-    }
-
-CALLS(aegis128l)
-CALLS(aegis128x2)
-CALLS(aegis128x4)
-CALLS(aegis256)
-CALLS(aegis256x2)
-CALLS(aegis256x4)
-
-#define VARIANT(NAME, UPPER)                                                                       \
-    {                                                                                              \
-        #NAME, HUNKRAVY_##UPPER##_KEY_BYTES, hunkravy_##NAME##_encrypt_in_place,                   \
-            hunkravy_##NAME##_decrypt_in_place, hunkravy_##NAME##_encrypt,                         \
-            hunkravy_##NAME##_decrypt, hunkravy_##NAME##_encrypt_combined,                         \
-            hunkravy_##NAME##_decrypt_combined, hunkravy_##NAME##_verify,                          \
-            hunkravy_##NAME##_stream, hunkravy_##NAME##_stream_xor_in_place,                       \
-            hunkravy_##NAME##_stream_xor, hunkravy_##NAME##_mac, hunkravy_##NAME##_mac_verify,     \
-            check_##NAME##_state_init, check_##NAME##_state_encrypt_in_place,                      \
-            check_##NAME##_state_encrypt, check_##NAME##_state_encrypt_final,                      \
-            check_##NAME##_state_decrypt_check, check_##NAME##_state_decrypt_in_place,             \
-            check_##NAME##_state_decrypt, check_##NAME##_state_decrypt_final,                      \
-            check_##NAME##_mac_init, check_##NAME##_mac_update, check_##NAME##_mac_final,          \
-            check_##NAME##_mac_final_verify                                                        \
-    }
-
 static const struct variant VARIANTS[6] = {
-    VARIANT(aegis128l, AEGIS128L), VARIANT(aegis128x2, AEGIS128X2), VARIANT(aegis128x4, AEGIS128X4),
-    VARIANT(aegis256, AEGIS256),   VARIANT(aegis256x2, AEGIS256X2), VARIANT(aegis256x4, AEGIS256X4),
+    {"aegis128l", HUNKRAVY_AEGIS128L, 16},   {"aegis128x2", HUNKRAVY_AEGIS128X2, 16},
+    {"aegis128x4", HUNKRAVY_AEGIS128X4, 16}, {"aegis256", HUNKRAVY_AEGIS256, 32},
+    {"aegis256x2", HUNKRAVY_AEGIS256X2, 32}, {"aegis256x4", HUNKRAVY_AEGIS256X4, 32},
 };
 
 /* ---- The stored lines */

@@ -44,22 +44,25 @@ static void check_seal(const struct line *line)
     uint8_t *combined = copied(tag, length + TAG_BYTES), *mac = copied(tag, maclen);
 
     memset(mac, 0, maclen);
-    HOLDS(this.calls->encrypt_in_place(mc, length, CONTEXT(this), mac, maclen) == HUNKRAVY_OK);
+    HOLDS(hunkravy_encrypt_in_place(this.calls->number, mc, length, CONTEXT(this), mac, maclen) ==
+          HUNKRAVY_OK);
     HOLDS(memcmp(mc, expected, length) == 0 && memcmp(mac, tag, maclen) == 0);
     memset(mac, 0, maclen);
-    HOLDS(this.calls->encrypt(c, m, length, CONTEXT(this), mac, maclen) == HUNKRAVY_OK);
+    HOLDS(hunkravy_encrypt(this.calls->number, c, m, length, CONTEXT(this), mac, maclen) ==
+          HUNKRAVY_OK);
     HOLDS(memcmp(c, expected, length) == 0 && memcmp(mac, tag, maclen) == 0);
     HOLDS(memcmp(m, line->text.at, length) == 0);
-    HOLDS(this.calls->encrypt(m, m, length, CONTEXT(this), mac, maclen) == HUNKRAVY_OK);
+    HOLDS(hunkravy_encrypt(this.calls->number, m, m, length, CONTEXT(this), mac, maclen) ==
+          HUNKRAVY_OK);
     HOLDS(memcmp(m, expected, length) == 0);
 
     memset(combined, 0x55, length + TAG_BYTES);
-    HOLDS(this.calls->encrypt_combined(combined, line->text.at, length, CONTEXT(this), maclen) ==
-          HUNKRAVY_OK);
+    HOLDS(hunkravy_encrypt_combined(this.calls->number, combined, line->text.at, length,
+                                    CONTEXT(this), maclen) == HUNKRAVY_OK);
     HOLDS(memcmp(combined, expected, length) == 0 && memcmp(combined + length, tag, maclen) == 0);
     HOLDS(all_are(combined + length + maclen, TAG_BYTES - maclen, 0x55));
-    HOLDS(this.calls->decrypt_combined(combined, combined, length + maclen, CONTEXT(this),
-                                       maclen) == HUNKRAVY_OK);
+    HOLDS(hunkravy_decrypt_combined(this.calls->number, combined, combined, length + maclen,
+                                    CONTEXT(this), maclen) == HUNKRAVY_OK);
     HOLDS(memcmp(combined, line->text.at, length) == 0);
     free(m);
     free(mc);
@@ -81,14 +84,15 @@ static void check_open(const struct line *line)
     if (!line->is_refused) {
         memcpy(expected, line->answer[0].at, length);
     }
-    HOLDS(this.calls->decrypt_in_place(mc, length, CONTEXT(this), mac, maclen) == code);
+    HOLDS(hunkravy_decrypt_in_place(this.calls->number, mc, length, CONTEXT(this), mac, maclen) ==
+          code);
     HOLDS(memcmp(mc, expected, length) == 0);
     memset(m, 0x55, length);
-    HOLDS(this.calls->decrypt(m, c, length, CONTEXT(this), mac, maclen) == code);
+    HOLDS(hunkravy_decrypt(this.calls->number, m, c, length, CONTEXT(this), mac, maclen) == code);
     HOLDS(memcmp(m, expected, length) == 0 && memcmp(c, line->text.at, length) == 0);
-    HOLDS(this.calls->verify(c, length, CONTEXT(this), mac, maclen) == code);
+    HOLDS(hunkravy_verify(this.calls->number, c, length, CONTEXT(this), mac, maclen) == code);
     HOLDS(memcmp(c, line->text.at, length) == 0);
-    HOLDS(this.calls->decrypt(c, c, length, CONTEXT(this), mac, maclen) == code);
+    HOLDS(hunkravy_decrypt(this.calls->number, c, c, length, CONTEXT(this), mac, maclen) == code);
     HOLDS(memcmp(c, expected, length) == 0);
     free(m);
     free(mc);
@@ -104,7 +108,7 @@ static void check_stream(const struct line *line)
 
     HOLDS(line->answer[0].length == line->number);
     memset(out, 0x55, line->number);
-    HOLDS(this.calls->stream(out, line->number, KEYS(this)) == HUNKRAVY_OK);
+    HOLDS(hunkravy_stream(this.calls->number, out, line->number, KEYS(this)) == HUNKRAVY_OK);
     HOLDS(memcmp(out, line->answer[0].at, line->number) == 0);
     free(out);
     drop(this);
@@ -116,10 +120,10 @@ static void check_xor(const struct line *line)
     size_t length = line->text.length;
     uint8_t *m = copied(line->text.at, length), *mc = copied(m, length), *c = copied(m, length);
 
-    HOLDS(this.calls->stream_xor_in_place(mc, length, KEYS(this)) == HUNKRAVY_OK);
+    HOLDS(hunkravy_stream_xor_in_place(this.calls->number, mc, length, KEYS(this)) == HUNKRAVY_OK);
     HOLDS(memcmp(mc, line->answer[0].at, length) == 0);
     memset(c, 0x55, length);
-    HOLDS(this.calls->stream_xor(c, m, length, KEYS(this)) == HUNKRAVY_OK);
+    HOLDS(hunkravy_stream_xor(this.calls->number, c, m, length, KEYS(this)) == HUNKRAVY_OK);
     HOLDS(memcmp(c, line->answer[0].at, length) == 0);
     free(m);
     free(mc);
@@ -134,11 +138,13 @@ static void check_mac(const struct line *line)
     uint8_t *input = copied(line->text.at, length), *mac = copied(line->answer[0].at, maclen);
 
     memset(mac, 0, maclen);
-    HOLDS(this.calls->mac(input, length, KEYS(this), mac, maclen) == HUNKRAVY_OK);
+    HOLDS(hunkravy_mac(this.calls->number, input, length, KEYS(this), mac, maclen) == HUNKRAVY_OK);
     HOLDS(memcmp(mac, line->answer[0].at, maclen) == 0);
-    HOLDS(this.calls->mac_verify(input, length, KEYS(this), mac, maclen) == HUNKRAVY_OK);
+    HOLDS(hunkravy_mac_verify(this.calls->number, input, length, KEYS(this), mac, maclen) ==
+          HUNKRAVY_OK);
     mac[next_number() % maclen] ^= (uint8_t)(1 << next_number() % 8);
-    HOLDS(this.calls->mac_verify(input, length, KEYS(this), mac, maclen) == HUNKRAVY_INVALID_TAG);
+    HOLDS(hunkravy_mac_verify(this.calls->number, input, length, KEYS(this), mac, maclen) ==
+          HUNKRAVY_INVALID_TAG);
     free(input);
     free(mac);
     drop(this);
@@ -174,16 +180,23 @@ static void check_refused(const struct variant *calls, size_t npublen, size_t kl
     memset(bytes, 0x55, sizeof bytes);
     memset(out, 0x66, sizeof out);
     memset(mac, 0x77, sizeof mac);
-    HOLDS(calls->encrypt_in_place(bytes, 20, NULL, 0, npub, npublen, k, klen, mac, maclen) == code);
-    HOLDS(calls->decrypt_in_place(bytes, 20, NULL, 0, npub, npublen, k, klen, tag, maclen) == code);
-    HOLDS(calls->encrypt(out, bytes, 20, NULL, 0, npub, npublen, k, klen, mac, maclen) == code);
-    HOLDS(calls->decrypt(out, bytes, 20, NULL, 0, npub, npublen, k, klen, tag, maclen) == code);
-    HOLDS(calls->encrypt_combined(out, bytes, 20, NULL, 0, npub, npublen, k, klen, maclen) == code);
-    HOLDS(calls->decrypt_combined(out, bytes, 20 + maclen, NULL, 0, npub, npublen, k, klen,
-                                  maclen) == code);
-    HOLDS(calls->verify(bytes, 20, NULL, 0, npub, npublen, k, klen, tag, maclen) == code);
-    HOLDS(calls->mac(bytes, 20, npub, npublen, k, klen, mac, maclen) == code);
-    HOLDS(calls->mac_verify(bytes, 20, npub, npublen, k, klen, tag, maclen) == code);
+    HOLDS(hunkravy_encrypt_in_place(calls->number, bytes, 20, NULL, 0, npub, npublen, k, klen, mac,
+                                    maclen) == code);
+    HOLDS(hunkravy_decrypt_in_place(calls->number, bytes, 20, NULL, 0, npub, npublen, k, klen, tag,
+                                    maclen) == code);
+    HOLDS(hunkravy_encrypt(calls->number, out, bytes, 20, NULL, 0, npub, npublen, k, klen, mac,
+                           maclen) == code);
+    HOLDS(hunkravy_decrypt(calls->number, out, bytes, 20, NULL, 0, npub, npublen, k, klen, tag,
+                           maclen) == code);
+    HOLDS(hunkravy_encrypt_combined(calls->number, out, bytes, 20, NULL, 0, npub, npublen, k, klen,
+                                    maclen) == code);
+    HOLDS(hunkravy_decrypt_combined(calls->number, out, bytes, 20 + maclen, NULL, 0, npub, npublen,
+                                    k, klen, maclen) == code);
+    HOLDS(hunkravy_verify(calls->number, bytes, 20, NULL, 0, npub, npublen, k, klen, tag, maclen) ==
+          code);
+    HOLDS(hunkravy_mac(calls->number, bytes, 20, npub, npublen, k, klen, mac, maclen) == code);
+    HOLDS(hunkravy_mac_verify(calls->number, bytes, 20, npub, npublen, k, klen, tag, maclen) ==
+          code);
     HOLDS(all_are(bytes, sizeof bytes, 0x55) && all_are(out, sizeof out, 0x66));
     HOLDS(all_are(mac, sizeof mac, 0x77));
 }
@@ -198,11 +211,13 @@ static void check_lengths(const struct variant *calls)
         check_refused(calls, wrong[i], right, 16, HUNKRAVY_WRONG_NONCE_LENGTH);
         check_refused(calls, right, wrong[i], 16, HUNKRAVY_WRONG_KEY_LENGTH);
         check_refused(calls, wrong[i], wrong[i], 16, HUNKRAVY_WRONG_NONCE_LENGTH);
-        HOLDS(calls->stream(bytes, 64, k, wrong[i], k, right) == HUNKRAVY_WRONG_NONCE_LENGTH);
-        HOLDS(calls->stream(bytes, 64, k, right, k, wrong[i]) == HUNKRAVY_WRONG_KEY_LENGTH);
-        HOLDS(calls->stream_xor_in_place(bytes, 64, k, wrong[i], k, right) ==
+        HOLDS(hunkravy_stream(calls->number, bytes, 64, k, wrong[i], k, right) ==
               HUNKRAVY_WRONG_NONCE_LENGTH);
-        HOLDS(calls->stream_xor(bytes, bytes, 64, k, right, k, wrong[i]) ==
+        HOLDS(hunkravy_stream(calls->number, bytes, 64, k, right, k, wrong[i]) ==
+              HUNKRAVY_WRONG_KEY_LENGTH);
+        HOLDS(hunkravy_stream_xor_in_place(calls->number, bytes, 64, k, wrong[i], k, right) ==
+              HUNKRAVY_WRONG_NONCE_LENGTH);
+        HOLDS(hunkravy_stream_xor(calls->number, bytes, bytes, 64, k, right, k, wrong[i]) ==
               HUNKRAVY_WRONG_KEY_LENGTH);
         HOLDS(all_are(bytes, 64, 0));
     }
@@ -213,15 +228,35 @@ static void check_lengths(const struct variant *calls)
      * No buffer is that long; the calls that look at the length first return before they read a
      * byte.
      */
-    HOLDS(calls->encrypt(bytes, bytes, SIZE_MAX, NULL, 0, k, right, k, right, mac, 16) ==
-          HUNKRAVY_MESSAGE_TOO_LONG);
-    HOLDS(calls->decrypt(bytes, bytes, 64, bytes, (size_t)HUNKRAVY_MAX_BYTES + 1, k, right, k,
-                         right, mac, 32) == HUNKRAVY_DATA_TOO_LONG);
-    HOLDS(calls->decrypt_combined(bytes, bytes, 15, NULL, 0, k, right, k, right, 16) ==
-          HUNKRAVY_INVALID_TAG);
-    HOLDS(calls->decrypt_combined(NULL, NULL, 0, NULL, 0, k, right, k, right, 32) ==
-          HUNKRAVY_INVALID_TAG);
+    HOLDS(hunkravy_encrypt(calls->number, bytes, bytes, SIZE_MAX, NULL, 0, k, right, k, right, mac,
+                           16) == HUNKRAVY_MESSAGE_TOO_LONG);
+    HOLDS(hunkravy_decrypt(calls->number, bytes, bytes, 64, bytes, (size_t)HUNKRAVY_MAX_BYTES + 1,
+                           k, right, k, right, mac, 32) == HUNKRAVY_DATA_TOO_LONG);
+    HOLDS(hunkravy_decrypt_combined(calls->number, bytes, bytes, 15, NULL, 0, k, right, k, right,
+                                    16) == HUNKRAVY_INVALID_TAG);
+    HOLDS(hunkravy_decrypt_combined(calls->number, NULL, NULL, 0, NULL, 0, k, right, k, right,
+                                    32) == HUNKRAVY_INVALID_TAG);
     HOLDS(all_are(bytes, 64, 0));
+}
+
+/* A number that is no variant's is refused, whatever the lengths, and nothing is written. */
+static void check_wrong_variants(void)
+{
+    static const struct variant wrong[] = {
+        {"", 6, 16}, {"", 7, 32}, {"", 255, 16}, {"", UINT32_C(1) << 31, 32}, {"", UINT32_MAX, 0}};
+
+    for (size_t i = 0; i < sizeof wrong / sizeof wrong[0]; i++) {
+        uint8_t bytes[64] = {0}, k[32] = {0};
+        check_refused(&wrong[i], 16, 16, 16, HUNKRAVY_WRONG_VARIANT);
+        check_refused(&wrong[i], 32, 32, 32, HUNKRAVY_WRONG_VARIANT);
+        check_refused(&wrong[i], 0, 0, 0, HUNKRAVY_WRONG_VARIANT);
+        HOLDS(hunkravy_stream(wrong[i].number, bytes, 64, k, 16, k, 16) == HUNKRAVY_WRONG_VARIANT);
+        HOLDS(hunkravy_stream_xor_in_place(wrong[i].number, bytes, 64, k, 32, k, 32) ==
+              HUNKRAVY_WRONG_VARIANT);
+        HOLDS(hunkravy_stream_xor(wrong[i].number, bytes, k, 32, k, 32, k, 32) ==
+              HUNKRAVY_WRONG_VARIANT);
+        HOLDS(all_are(bytes, 64, 0) && hunkravy_key_bytes(wrong[i].number) == 0);
+    }
 }
 
 /* No bytes may be a null pointer. */
@@ -232,26 +267,33 @@ static void check_nothing(const struct variant *calls)
 
     /* An export never gets a null pointer. */
     HOLDS(hunkravy_readable(NULL, 0) != NULL && hunkravy_writable(NULL, 0) != NULL);
-    HOLDS(calls->encrypt_in_place(NULL, 0, NULL, 0, k, right, k, right, tag, 16) == HUNKRAVY_OK);
-    HOLDS(calls->decrypt_in_place(NULL, 0, NULL, 0, k, right, k, right, tag, 16) == HUNKRAVY_OK);
-    HOLDS(calls->encrypt(NULL, NULL, 0, NULL, 0, k, right, k, right, mac, 16) == HUNKRAVY_OK);
+    HOLDS(hunkravy_encrypt_in_place(calls->number, NULL, 0, NULL, 0, k, right, k, right, tag, 16) ==
+          HUNKRAVY_OK);
+    HOLDS(hunkravy_decrypt_in_place(calls->number, NULL, 0, NULL, 0, k, right, k, right, tag, 16) ==
+          HUNKRAVY_OK);
+    HOLDS(hunkravy_encrypt(calls->number, NULL, NULL, 0, NULL, 0, k, right, k, right, mac, 16) ==
+          HUNKRAVY_OK);
     HOLDS(memcmp(mac, tag, 16) == 0);
-    HOLDS(calls->decrypt(NULL, NULL, 0, NULL, 0, k, right, k, right, tag, 16) == HUNKRAVY_OK);
-    HOLDS(calls->encrypt_combined(c, NULL, 0, NULL, 0, k, right, k, right, 16) == HUNKRAVY_OK);
+    HOLDS(hunkravy_decrypt(calls->number, NULL, NULL, 0, NULL, 0, k, right, k, right, tag, 16) ==
+          HUNKRAVY_OK);
+    HOLDS(hunkravy_encrypt_combined(calls->number, c, NULL, 0, NULL, 0, k, right, k, right, 16) ==
+          HUNKRAVY_OK);
     HOLDS(memcmp(c, tag, 16) == 0);
-    HOLDS(calls->decrypt_combined(NULL, c, 16, NULL, 0, k, right, k, right, 16) == HUNKRAVY_OK);
-    HOLDS(calls->verify(NULL, 0, NULL, 0, k, right, k, right, tag, 16) == HUNKRAVY_OK);
-    HOLDS(calls->encrypt_in_place(NULL, 0, NULL, 0, NULL, 0, k, right, tag, 16) ==
+    HOLDS(hunkravy_decrypt_combined(calls->number, NULL, c, 16, NULL, 0, k, right, k, right, 16) ==
+          HUNKRAVY_OK);
+    HOLDS(hunkravy_verify(calls->number, NULL, 0, NULL, 0, k, right, k, right, tag, 16) ==
+          HUNKRAVY_OK);
+    HOLDS(hunkravy_encrypt_in_place(calls->number, NULL, 0, NULL, 0, NULL, 0, k, right, tag, 16) ==
           HUNKRAVY_WRONG_NONCE_LENGTH);
-    HOLDS(calls->encrypt_in_place(NULL, 0, NULL, 0, k, right, NULL, 0, tag, 16) ==
+    HOLDS(hunkravy_encrypt_in_place(calls->number, NULL, 0, NULL, 0, k, right, NULL, 0, tag, 16) ==
           HUNKRAVY_WRONG_KEY_LENGTH);
-    HOLDS(calls->encrypt_in_place(NULL, 0, NULL, 0, k, right, k, right, NULL, 0) ==
+    HOLDS(hunkravy_encrypt_in_place(calls->number, NULL, 0, NULL, 0, k, right, k, right, NULL, 0) ==
           HUNKRAVY_WRONG_TAG_LENGTH);
-    HOLDS(calls->stream(NULL, 0, k, right, k, right) == HUNKRAVY_OK);
-    HOLDS(calls->stream_xor_in_place(NULL, 0, k, right, k, right) == HUNKRAVY_OK);
-    HOLDS(calls->stream_xor(NULL, NULL, 0, k, right, k, right) == HUNKRAVY_OK);
-    HOLDS(calls->mac(NULL, 0, k, right, k, right, mac, 16) == HUNKRAVY_OK);
-    HOLDS(calls->mac_verify(NULL, 0, k, right, k, right, mac, 16) == HUNKRAVY_OK);
+    HOLDS(hunkravy_stream(calls->number, NULL, 0, k, right, k, right) == HUNKRAVY_OK);
+    HOLDS(hunkravy_stream_xor_in_place(calls->number, NULL, 0, k, right, k, right) == HUNKRAVY_OK);
+    HOLDS(hunkravy_stream_xor(calls->number, NULL, NULL, 0, k, right, k, right) == HUNKRAVY_OK);
+    HOLDS(hunkravy_mac(calls->number, NULL, 0, k, right, k, right, mac, 16) == HUNKRAVY_OK);
+    HOLDS(hunkravy_mac_verify(calls->number, NULL, 0, k, right, k, right, mac, 16) == HUNKRAVY_OK);
 }
 
 int main(int count, char **arguments)
@@ -272,7 +314,9 @@ int main(int count, char **arguments)
     for (size_t i = 0; i < 6; i++) {
         check_lengths(&VARIANTS[i]);
         check_nothing(&VARIANTS[i]);
+        HOLDS(hunkravy_key_bytes(VARIANTS[i].number) == VARIANTS[i].key_bytes);
     }
+    check_wrong_variants();
     printf("hunkravy.h: %lu stored lines, %lu checks, all right\n", (unsigned long)lines, checks);
     return EXIT_SUCCESS;
 }

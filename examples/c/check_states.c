@@ -1,8 +1,8 @@
 /*
  * The calls on a state, of all six variants: the stored lines that are in chunks, random messages
  * against the calls at once, wrong lengths and tags, null pointers for no bytes, copies of a state,
- * and states that have ended, of zeros and of random bytes. Its parameter is the folder of the
- * stored lines. It ends with status 0 only if every result is right.
+ * states in another role, and states that have ended, of zeros and of random bytes. Its parameter
+ * is the folder of the stored lines. It ends with status 0 only if every result is right.
  */
 #include "check.h"
 
@@ -14,30 +14,29 @@ static hunkravy_state *begun(const struct line *line)
     hunkravy_state *st = (hunkravy_state *)malloc(sizeof *st);
     HOLDS(st != NULL);
     memset(st, 0x55, sizeof *st);
-    HOLDS(line->variant->state_init(st, line->ad.at, line->ad.length, line->nonce.at,
-                                    line->nonce.length, line->key.at,
-                                    line->key.length) == HUNKRAVY_OK);
+    HOLDS(hunkravy_state_init(line->variant->number, st, line->ad.at, line->ad.length,
+                              line->nonce.at, line->nonce.length, line->key.at,
+                              line->key.length) == HUNKRAVY_OK);
     return st;
 }
 
 static void check_seal(const struct line *line)
 {
-    const struct variant *calls = line->variant;
     hunkravy_state *st = begun(line), *other = begun(line);
     uint8_t mac[TAG_BYTES], out[MOST_BYTES];
 
     for (size_t i = 0, at = 0; i < line->text.chunk_count; at += line->text.chunks[i++]) {
         size_t length = line->text.chunks[i];
         uint8_t *mc = copied(line->text.at + at, length);
-        HOLDS(calls->state_encrypt_in_place(st, mc, length) == HUNKRAVY_OK);
+        HOLDS(hunkravy_state_encrypt_in_place(st, mc, length) == HUNKRAVY_OK);
         HOLDS(memcmp(mc, line->answer[0].at + at, length) == 0);
-        HOLDS(calls->state_encrypt(other, out, line->text.at + at, length) == HUNKRAVY_OK);
+        HOLDS(hunkravy_state_encrypt(other, out, line->text.at + at, length) == HUNKRAVY_OK);
         HOLDS(memcmp(out, mc, length) == 0);
         free(mc);
     }
-    HOLDS(calls->state_encrypt_final(st, mac, line->number) == HUNKRAVY_OK);
+    HOLDS(hunkravy_state_encrypt_final(st, mac, line->number) == HUNKRAVY_OK);
     HOLDS(memcmp(mac, line->answer[1].at, line->number) == 0);
-    HOLDS(calls->state_encrypt_final(other, mac, line->number) == HUNKRAVY_OK);
+    HOLDS(hunkravy_state_encrypt_final(other, mac, line->number) == HUNKRAVY_OK);
     HOLDS(memcmp(mac, line->answer[1].at, line->number) == 0);
     free(st);
     free(other);
@@ -45,7 +44,6 @@ static void check_seal(const struct line *line)
 
 static void check_open(const struct line *line)
 {
-    const struct variant *calls = line->variant;
     hunkravy_state *st = begun(line), *other = begun(line), *check = begun(line);
     size_t total = line->text.length;
     uint8_t *mc = copied(line->text.at, total), *m = copied(line->text.at, total);
@@ -55,19 +53,20 @@ static void check_open(const struct line *line)
     memset(m, 0x55, total);
     for (size_t i = 0, at = 0; i < line->text.chunk_count; at += line->text.chunks[i++]) {
         size_t length = line->text.chunks[i];
-        HOLDS(calls->state_decrypt_check(check, line->text.at + at, length) == HUNKRAVY_OK);
-        HOLDS(calls->state_decrypt_in_place(st, mc + at, length) == HUNKRAVY_OK);
-        HOLDS(calls->state_decrypt(other, m + at, line->text.at + at, length) == HUNKRAVY_OK);
+        HOLDS(hunkravy_state_decrypt_check(check, line->text.at + at, length) == HUNKRAVY_OK);
+        HOLDS(hunkravy_state_decrypt_in_place_unverified(st, mc + at, length) == HUNKRAVY_OK);
+        HOLDS(hunkravy_state_decrypt_unverified(other, m + at, line->text.at + at, length) ==
+              HUNKRAVY_OK);
     }
     memset(expected, 0xaa, total);
     if (!line->is_refused) {
         memcpy(expected, line->answer[0].at, total);
     }
-    HOLDS(calls->state_decrypt_final(st, mc, total, line->tag.at, line->tag.length) == code);
+    HOLDS(hunkravy_state_decrypt_final(st, mc, total, line->tag.at, line->tag.length) == code);
     HOLDS(memcmp(mc, expected, total) == 0);
-    HOLDS(calls->state_decrypt_final(other, m, total, line->tag.at, line->tag.length) == code);
+    HOLDS(hunkravy_state_decrypt_final(other, m, total, line->tag.at, line->tag.length) == code);
     HOLDS(memcmp(m, expected, total) == 0);
-    HOLDS(calls->state_decrypt_final(check, NULL, 0, line->tag.at, line->tag.length) == code);
+    HOLDS(hunkravy_state_decrypt_final(check, NULL, 0, line->tag.at, line->tag.length) == code);
     free(mc);
     free(m);
     free(st);
@@ -81,18 +80,18 @@ static void check_mac(const struct line *line)
     hunkravy_state st;
     uint8_t mac[TAG_BYTES];
 
-    HOLDS(calls->mac_init(&st, line->nonce.at, line->nonce.length, line->key.at,
-                          line->key.length) == HUNKRAVY_OK);
+    HOLDS(hunkravy_mac_init(calls->number, &st, line->nonce.at, line->nonce.length, line->key.at,
+                            line->key.length) == HUNKRAVY_OK);
     for (size_t i = 0, at = 0; i < line->text.chunk_count; at += line->text.chunks[i++]) {
         uint8_t *input = copied(line->text.at + at, line->text.chunks[i]);
-        HOLDS(calls->mac_update(&st, input, line->text.chunks[i]) == HUNKRAVY_OK);
+        HOLDS(hunkravy_mac_update(&st, input, line->text.chunks[i]) == HUNKRAVY_OK);
         free(input);
     }
-    HOLDS(calls->mac_final(&st, mac, line->number) == HUNKRAVY_OK);
+    HOLDS(hunkravy_mac_final(&st, mac, line->number) == HUNKRAVY_OK);
     HOLDS(memcmp(mac, line->answer[0].at, line->number) == 0);
-    HOLDS(calls->mac_final_verify(&st, mac, line->number) == HUNKRAVY_OK);
+    HOLDS(hunkravy_mac_final_verify(&st, mac, line->number) == HUNKRAVY_OK);
     mac[next_number() % line->number] ^= (uint8_t)(1 << next_number() % 8);
-    HOLDS(calls->mac_final_verify(&st, mac, line->number) == HUNKRAVY_INVALID_TAG);
+    HOLDS(hunkravy_mac_final_verify(&st, mac, line->number) == HUNKRAVY_INVALID_TAG);
 }
 
 static void check_line(const struct line *line)
@@ -126,9 +125,9 @@ static struct message random_message(const struct variant *calls, size_t length,
     fill(message.npub, 32);
     fill(message.ad, sizeof message.ad);
     fill(message.plain, length);
-    HOLDS(calls->encrypt(message.sealed, message.plain, length, message.ad, message.adlen,
-                         message.npub, message.bytes, message.k, message.bytes, message.tag,
-                         maclen) == HUNKRAVY_OK);
+    HOLDS(hunkravy_encrypt(calls->number, message.sealed, message.plain, length, message.ad,
+                           message.adlen, message.npub, message.bytes, message.k, message.bytes,
+                           message.tag, maclen) == HUNKRAVY_OK);
     memcpy(message.wrong, message.tag, maclen);
     message.wrong[next_number() % maclen] ^= (uint8_t)(1 << next_number() % 8);
     return message;
@@ -136,8 +135,8 @@ static struct message random_message(const struct variant *calls, size_t length,
 
 static void begin(const struct message *this, hunkravy_state *st)
 {
-    HOLDS(this->calls->state_init(st, this->ad, this->adlen, this->npub, this->bytes, this->k,
-                                  this->bytes) == HUNKRAVY_OK);
+    HOLDS(hunkravy_state_init(this->calls->number, st, this->ad, this->adlen, this->npub,
+                              this->bytes, this->k, this->bytes) == HUNKRAVY_OK);
 }
 
 /* The next chunk of what is left: around the rate blocks' lengths, or short, or none. */
@@ -155,7 +154,6 @@ static size_t next_chunk(size_t left)
  */
 static void check_sealing(const struct message *this)
 {
-    const struct variant *calls = this->calls;
     hunkravy_state st, copy;
     uint8_t *mc = copied(this->plain, this->length), mac[TAG_BYTES];
 
@@ -163,19 +161,19 @@ static void check_sealing(const struct message *this)
     copy = st;
     for (size_t at = 0, n; at < this->length; at += n) {
         n = next_chunk(this->length - at);
-        HOLDS(calls->state_encrypt_in_place(&st, mc + at, n) == HUNKRAVY_OK);
-        HOLDS(calls->state_encrypt_in_place(&st, NULL, 0) == HUNKRAVY_OK);
-        HOLDS(calls->state_encrypt(&st, NULL, NULL, 0) == HUNKRAVY_OK);
+        HOLDS(hunkravy_state_encrypt_in_place(&st, mc + at, n) == HUNKRAVY_OK);
+        HOLDS(hunkravy_state_encrypt_in_place(&st, NULL, 0) == HUNKRAVY_OK);
+        HOLDS(hunkravy_state_encrypt(&st, NULL, NULL, 0) == HUNKRAVY_OK);
         copy = st;
         memset(&st, 0, sizeof st);
         st = copy;
     }
     HOLDS(memcmp(mc, this->sealed, this->length) == 0);
     memset(mac, 0x77, sizeof mac);
-    HOLDS(calls->state_encrypt_final(&st, mac, 17) == HUNKRAVY_WRONG_TAG_LENGTH);
-    HOLDS(calls->state_encrypt_final(&st, NULL, 0) == HUNKRAVY_WRONG_TAG_LENGTH);
+    HOLDS(hunkravy_state_encrypt_final(&st, mac, 17) == HUNKRAVY_WRONG_TAG_LENGTH);
+    HOLDS(hunkravy_state_encrypt_final(&st, NULL, 0) == HUNKRAVY_WRONG_TAG_LENGTH);
     HOLDS(all_are(mac, sizeof mac, 0x77) && memcmp(&st, &copy, sizeof st) == 0);
-    HOLDS(calls->state_encrypt_final(&st, mac, this->maclen) == HUNKRAVY_OK);
+    HOLDS(hunkravy_state_encrypt_final(&st, mac, this->maclen) == HUNKRAVY_OK);
     HOLDS(memcmp(mac, this->tag, this->maclen) == 0);
     HOLDS(all_are((const uint8_t *)&st, sizeof st, 0));
     free(mc);
@@ -183,27 +181,27 @@ static void check_sealing(const struct message *this)
 
 static void check_opening(const struct message *this)
 {
-    const struct variant *calls = this->calls;
     hunkravy_state st, copy;
     uint8_t *mc = copied(this->sealed, this->length);
 
     begin(this, &st);
     for (size_t at = 0, n; at < this->length; at += n) {
         n = next_chunk(this->length - at);
-        HOLDS(calls->state_decrypt_in_place(&st, mc + at, n) == HUNKRAVY_OK);
-        HOLDS(calls->state_decrypt_check(&st, NULL, 0) == HUNKRAVY_OK);
-        HOLDS(calls->state_decrypt(&st, NULL, NULL, 0) == HUNKRAVY_OK);
+        HOLDS(hunkravy_state_decrypt_in_place_unverified(&st, mc + at, n) == HUNKRAVY_OK);
+        HOLDS(hunkravy_state_decrypt_check(&st, NULL, 0) == HUNKRAVY_OK);
+        HOLDS(hunkravy_state_decrypt_unverified(&st, NULL, NULL, 0) == HUNKRAVY_OK);
     }
     copy = st;
-    HOLDS(calls->state_decrypt_final(&st, mc, this->length, this->tag, 31) ==
+    HOLDS(hunkravy_state_decrypt_final(&st, mc, this->length, this->tag, 31) ==
           HUNKRAVY_WRONG_TAG_LENGTH);
-    HOLDS(calls->state_decrypt_final(&st, mc, this->length, NULL, 0) == HUNKRAVY_WRONG_TAG_LENGTH);
+    HOLDS(hunkravy_state_decrypt_final(&st, mc, this->length, NULL, 0) ==
+          HUNKRAVY_WRONG_TAG_LENGTH);
     HOLDS(memcmp(&st, &copy, sizeof st) == 0);
-    HOLDS(calls->state_decrypt_final(&st, mc, this->length, this->tag, this->maclen) ==
+    HOLDS(hunkravy_state_decrypt_final(&st, mc, this->length, this->tag, this->maclen) ==
           HUNKRAVY_OK);
     HOLDS(memcmp(mc, this->plain, this->length) == 0);
     HOLDS(all_are((const uint8_t *)&st, sizeof st, 0));
-    HOLDS(calls->state_decrypt_final(&copy, mc, this->length, this->wrong, this->maclen) ==
+    HOLDS(hunkravy_state_decrypt_final(&copy, mc, this->length, this->wrong, this->maclen) ==
           HUNKRAVY_INVALID_TAG);
     HOLDS(all_are(mc, this->length, 0xaa) && all_are((const uint8_t *)&copy, sizeof copy, 0));
     free(mc);
@@ -219,36 +217,37 @@ static void check_macs(const struct message *this)
     hunkravy_state st, copy, half;
     uint8_t mac[TAG_BYTES], expected[TAG_BYTES];
 
-    HOLDS(calls->mac(this->plain, this->length, this->npub, this->bytes, this->k, this->bytes,
-                     expected, this->maclen) == HUNKRAVY_OK);
-    HOLDS(calls->mac_init(&st, this->npub, this->bytes, this->k, this->bytes) == HUNKRAVY_OK);
+    HOLDS(hunkravy_mac(calls->number, this->plain, this->length, this->npub, this->bytes, this->k,
+                       this->bytes, expected, this->maclen) == HUNKRAVY_OK);
+    HOLDS(hunkravy_mac_init(calls->number, &st, this->npub, this->bytes, this->k, this->bytes) ==
+          HUNKRAVY_OK);
     half = st;
     for (size_t at = 0, n; at < this->length; at += n) {
         n = next_chunk(this->length - at);
         half = st;
-        HOLDS(calls->mac_update(&half, this->plain + at, this->length - at) == HUNKRAVY_OK);
-        HOLDS(calls->mac_update(&st, this->plain + at, n) == HUNKRAVY_OK);
-        HOLDS(calls->mac_update(&st, NULL, 0) == HUNKRAVY_OK);
+        HOLDS(hunkravy_mac_update(&half, this->plain + at, this->length - at) == HUNKRAVY_OK);
+        HOLDS(hunkravy_mac_update(&st, this->plain + at, n) == HUNKRAVY_OK);
+        HOLDS(hunkravy_mac_update(&st, NULL, 0) == HUNKRAVY_OK);
         copy = st;
-        HOLDS(calls->mac_final(&st, mac, this->maclen) == HUNKRAVY_OK);
+        HOLDS(hunkravy_mac_final(&st, mac, this->maclen) == HUNKRAVY_OK);
         HOLDS(memcmp(&st, &copy, sizeof st) == 0);
     }
-    HOLDS(calls->mac_final(&half, mac, this->maclen) == HUNKRAVY_OK);
+    HOLDS(hunkravy_mac_final(&half, mac, this->maclen) == HUNKRAVY_OK);
     HOLDS(memcmp(mac, expected, this->maclen) == 0);
-    HOLDS(calls->mac_final(&st, mac, this->maclen) == HUNKRAVY_OK);
+    HOLDS(hunkravy_mac_final(&st, mac, this->maclen) == HUNKRAVY_OK);
     HOLDS(memcmp(mac, expected, this->maclen) == 0);
-    HOLDS(calls->mac_final(&st, mac, 15) == HUNKRAVY_WRONG_TAG_LENGTH);
-    HOLDS(calls->mac_final_verify(&st, mac, 33) == HUNKRAVY_WRONG_TAG_LENGTH);
-    HOLDS(calls->mac_final_verify(&st, NULL, 0) == HUNKRAVY_WRONG_TAG_LENGTH);
-    HOLDS(calls->mac_final_verify(&st, expected, this->maclen) == HUNKRAVY_OK);
+    HOLDS(hunkravy_mac_final(&st, mac, 15) == HUNKRAVY_WRONG_TAG_LENGTH);
+    HOLDS(hunkravy_mac_final_verify(&st, mac, 33) == HUNKRAVY_WRONG_TAG_LENGTH);
+    HOLDS(hunkravy_mac_final_verify(&st, NULL, 0) == HUNKRAVY_WRONG_TAG_LENGTH);
+    HOLDS(hunkravy_mac_final_verify(&st, expected, this->maclen) == HUNKRAVY_OK);
     expected[next_number() % this->maclen] ^= (uint8_t)(1 << next_number() % 8);
-    HOLDS(calls->mac_final_verify(&st, expected, this->maclen) == HUNKRAVY_INVALID_TAG);
+    HOLDS(hunkravy_mac_final_verify(&st, expected, this->maclen) == HUNKRAVY_INVALID_TAG);
 }
 
 /* ---- States that are refused, and states of random bytes */
 
 /* Each call refuses the state, and writes nothing. */
-static void check_is_refused(const struct variant *calls, hunkravy_state st)
+static void check_is_refused(hunkravy_state st)
 {
     const hunkravy_state old = st;
     uint8_t bytes[64], out[64], tag[TAG_BYTES];
@@ -256,18 +255,18 @@ static void check_is_refused(const struct variant *calls, hunkravy_state st)
     memset(bytes, 0x55, sizeof bytes);
     memset(out, 0x66, sizeof out);
     memset(tag, 0x77, sizeof tag);
-    HOLDS(calls->state_encrypt_in_place(&st, bytes, 64) == HUNKRAVY_WRONG_STATE);
-    HOLDS(calls->state_encrypt_in_place(&st, NULL, 0) == HUNKRAVY_WRONG_STATE);
-    HOLDS(calls->state_encrypt(&st, out, bytes, 64) == HUNKRAVY_WRONG_STATE);
-    HOLDS(calls->state_encrypt_final(&st, tag, 16) == HUNKRAVY_WRONG_STATE);
-    HOLDS(calls->state_encrypt_final(&st, tag, 17) == HUNKRAVY_WRONG_STATE);
-    HOLDS(calls->state_decrypt_check(&st, bytes, 64) == HUNKRAVY_WRONG_STATE);
-    HOLDS(calls->state_decrypt_in_place(&st, bytes, 64) == HUNKRAVY_WRONG_STATE);
-    HOLDS(calls->state_decrypt(&st, out, bytes, 64) == HUNKRAVY_WRONG_STATE);
-    HOLDS(calls->state_decrypt_final(&st, out, 64, tag, 32) == HUNKRAVY_WRONG_STATE);
-    HOLDS(calls->mac_update(&st, bytes, 64) == HUNKRAVY_WRONG_STATE);
-    HOLDS(calls->mac_final(&st, tag, 32) == HUNKRAVY_WRONG_STATE);
-    HOLDS(calls->mac_final_verify(&st, tag, 16) == HUNKRAVY_WRONG_STATE);
+    HOLDS(hunkravy_state_encrypt_in_place(&st, bytes, 64) == HUNKRAVY_WRONG_STATE);
+    HOLDS(hunkravy_state_encrypt_in_place(&st, NULL, 0) == HUNKRAVY_WRONG_STATE);
+    HOLDS(hunkravy_state_encrypt(&st, out, bytes, 64) == HUNKRAVY_WRONG_STATE);
+    HOLDS(hunkravy_state_encrypt_final(&st, tag, 16) == HUNKRAVY_WRONG_STATE);
+    HOLDS(hunkravy_state_encrypt_final(&st, tag, 17) == HUNKRAVY_WRONG_STATE);
+    HOLDS(hunkravy_state_decrypt_check(&st, bytes, 64) == HUNKRAVY_WRONG_STATE);
+    HOLDS(hunkravy_state_decrypt_in_place_unverified(&st, bytes, 64) == HUNKRAVY_WRONG_STATE);
+    HOLDS(hunkravy_state_decrypt_unverified(&st, out, bytes, 64) == HUNKRAVY_WRONG_STATE);
+    HOLDS(hunkravy_state_decrypt_final(&st, out, 64, tag, 32) == HUNKRAVY_WRONG_STATE);
+    HOLDS(hunkravy_mac_update(&st, bytes, 64) == HUNKRAVY_WRONG_STATE);
+    HOLDS(hunkravy_mac_final(&st, tag, 32) == HUNKRAVY_WRONG_STATE);
+    HOLDS(hunkravy_mac_final_verify(&st, tag, 16) == HUNKRAVY_WRONG_STATE);
     HOLDS(all_are(bytes, 64, 0x55) && all_are(out, 64, 0x66) && all_are(tag, TAG_BYTES, 0x77));
     HOLDS(memcmp(&st, &old, sizeof st) == 0);
 }
@@ -280,34 +279,139 @@ static void check_wrong_states(const struct variant *calls)
     uint8_t bytes[64] = {0};
 
     memset(&zeros, 0, sizeof zeros);
-    check_is_refused(calls, zeros);
+    check_is_refused(zeros);
     /* An init that fails, over a state that was begun. */
     begin(&message, &st);
-    HOLDS(calls->state_init(&st, NULL, 0, bytes, right - 1, bytes, right) ==
+    HOLDS(hunkravy_state_init(calls->number, &st, NULL, 0, bytes, right - 1, bytes, right) ==
           HUNKRAVY_WRONG_NONCE_LENGTH);
-    check_is_refused(calls, st);
+    check_is_refused(st);
     begin(&message, &st);
-    HOLDS(calls->state_init(&st, NULL, 0, bytes, right, NULL, 0) == HUNKRAVY_WRONG_KEY_LENGTH);
-    check_is_refused(calls, st);
+    HOLDS(hunkravy_state_init(calls->number, &st, NULL, 0, bytes, right, NULL, 0) ==
+          HUNKRAVY_WRONG_KEY_LENGTH);
+    check_is_refused(st);
     begin(&message, &st);
-    HOLDS(calls->mac_init(&st, NULL, 0, bytes, right) == HUNKRAVY_WRONG_NONCE_LENGTH);
-    check_is_refused(calls, st);
-    HOLDS(calls->mac_init(&st, bytes, right, bytes, right + 1) == HUNKRAVY_WRONG_KEY_LENGTH);
-    check_is_refused(calls, st);
+    HOLDS(hunkravy_mac_init(calls->number, &st, NULL, 0, bytes, right) ==
+          HUNKRAVY_WRONG_NONCE_LENGTH);
+    check_is_refused(st);
+    HOLDS(hunkravy_mac_init(calls->number, &st, bytes, right, bytes, right + 1) ==
+          HUNKRAVY_WRONG_KEY_LENGTH);
+    check_is_refused(st);
     /* Ended states. */
     begin(&message, &st);
-    HOLDS(calls->state_encrypt_final(&st, bytes, 16) == HUNKRAVY_OK);
-    check_is_refused(calls, st);
+    HOLDS(hunkravy_state_encrypt_final(&st, bytes, 16) == HUNKRAVY_OK);
+    check_is_refused(st);
     begin(&message, &st);
-    HOLDS(calls->state_decrypt_final(&st, NULL, 0, message.wrong, 16) == HUNKRAVY_INVALID_TAG);
-    check_is_refused(calls, st);
+    HOLDS(hunkravy_state_decrypt_final(&st, NULL, 0, message.wrong, 16) == HUNKRAVY_INVALID_TAG);
+    check_is_refused(st);
     /* Counts that no call leaves. */
     begin(&message, &st);
     st.data_bytes = HUNKRAVY_MAX_BYTES + 1;
-    check_is_refused(calls, st);
+    check_is_refused(st);
     begin(&message, &st);
     st.message_bytes = UINT64_MAX;
-    check_is_refused(calls, st);
+    check_is_refused(st);
+    /* A variant and a role that no call leaves. */
+    begin(&message, &st);
+    st.variant = HUNKRAVY_AEGIS256X4 + 1;
+    check_is_refused(st);
+    begin(&message, &st);
+    st.role = 0;
+    check_is_refused(st);
+    st.role = 5;
+    check_is_refused(st);
+    /* An init of a wrong variant, over a state that was begun. */
+    begin(&message, &st);
+    HOLDS(hunkravy_state_init(6, &st, NULL, 0, bytes, right, bytes, right) ==
+          HUNKRAVY_WRONG_VARIANT);
+    check_is_refused(st);
+    begin(&message, &st);
+    HOLDS(hunkravy_mac_init(UINT32_MAX, &st, bytes, right, bytes, right) == HUNKRAVY_WRONG_VARIANT);
+    check_is_refused(st);
+}
+
+/* ---- The roles of a state */
+
+/* Each encrypting call refuses the state, and writes nothing. */
+static void check_is_not_encrypting(hunkravy_state st)
+{
+    const hunkravy_state old = st;
+    uint8_t bytes[64], out[64], tag[TAG_BYTES];
+
+    memset(bytes, 0x55, sizeof bytes);
+    memset(out, 0x66, sizeof out);
+    memset(tag, 0x77, sizeof tag);
+    HOLDS(hunkravy_state_encrypt_in_place(&st, bytes, 64) == HUNKRAVY_WRONG_STATE);
+    HOLDS(hunkravy_state_encrypt_in_place(&st, NULL, 0) == HUNKRAVY_WRONG_STATE);
+    HOLDS(hunkravy_state_encrypt(&st, out, bytes, 64) == HUNKRAVY_WRONG_STATE);
+    HOLDS(hunkravy_state_encrypt_final(&st, tag, 16) == HUNKRAVY_WRONG_STATE);
+    HOLDS(all_are(bytes, 64, 0x55) && all_are(out, 64, 0x66) && all_are(tag, TAG_BYTES, 0x77));
+    HOLDS(memcmp(&st, &old, sizeof st) == 0);
+}
+
+static void check_is_not_decrypting(hunkravy_state st)
+{
+    const hunkravy_state old = st;
+    uint8_t bytes[64], out[64], tag[TAG_BYTES];
+
+    memset(bytes, 0x55, sizeof bytes);
+    memset(out, 0x66, sizeof out);
+    memset(tag, 0x77, sizeof tag);
+    HOLDS(hunkravy_state_decrypt_check(&st, bytes, 64) == HUNKRAVY_WRONG_STATE);
+    HOLDS(hunkravy_state_decrypt_in_place_unverified(&st, bytes, 64) == HUNKRAVY_WRONG_STATE);
+    HOLDS(hunkravy_state_decrypt_in_place_unverified(&st, NULL, 0) == HUNKRAVY_WRONG_STATE);
+    HOLDS(hunkravy_state_decrypt_unverified(&st, out, bytes, 64) == HUNKRAVY_WRONG_STATE);
+    HOLDS(hunkravy_state_decrypt_final(&st, out, 64, tag, 32) == HUNKRAVY_WRONG_STATE);
+    HOLDS(all_are(bytes, 64, 0x55) && all_are(out, 64, 0x66) && all_are(tag, TAG_BYTES, 0x77));
+    HOLDS(memcmp(&st, &old, sizeof st) == 0);
+}
+
+static void check_is_no_mac(hunkravy_state st)
+{
+    const hunkravy_state old = st;
+    uint8_t bytes[64] = {0}, tag[TAG_BYTES];
+
+    memset(tag, 0x77, sizeof tag);
+    HOLDS(hunkravy_mac_update(&st, bytes, 64) == HUNKRAVY_WRONG_STATE);
+    HOLDS(hunkravy_mac_update(&st, NULL, 0) == HUNKRAVY_WRONG_STATE);
+    HOLDS(hunkravy_mac_final(&st, tag, 32) == HUNKRAVY_WRONG_STATE);
+    HOLDS(hunkravy_mac_final_verify(&st, tag, 16) == HUNKRAVY_WRONG_STATE);
+    HOLDS(all_are(tag, TAG_BYTES, 0x77) && memcmp(&st, &old, sizeof st) == 0);
+}
+
+/* The first call on a message decides its direction, also one of no bytes. Nothing makes it a MAC,
+ * or a MAC a message. */
+static void check_roles(const struct variant *calls)
+{
+    uint8_t bytes[TAG_BYTES] = {0};
+    size_t right = calls->key_bytes;
+    hunkravy_state new, st;
+
+    HOLDS(hunkravy_state_init(calls->number, &new, NULL, 0, bytes, right, bytes, right) ==
+          HUNKRAVY_OK);
+    HOLDS(new.variant == calls->number);
+    check_is_no_mac(new);
+    st = new;
+    HOLDS(hunkravy_state_encrypt_in_place(&st, NULL, 0) == HUNKRAVY_OK);
+    check_is_not_decrypting(st);
+    check_is_no_mac(st);
+    HOLDS(hunkravy_state_encrypt_in_place(&st, bytes, 20) == HUNKRAVY_OK);
+    HOLDS(hunkravy_state_encrypt_final(&st, bytes, 16) == HUNKRAVY_OK);
+    st = new;
+    HOLDS(hunkravy_state_decrypt_check(&st, NULL, 0) == HUNKRAVY_OK);
+    check_is_not_encrypting(st);
+    check_is_no_mac(st);
+    st = new;
+    HOLDS(hunkravy_state_decrypt_in_place_unverified(&st, bytes, 20) == HUNKRAVY_OK);
+    check_is_not_encrypting(st);
+    check_is_no_mac(st);
+    memset(bytes, 0, sizeof bytes);
+    HOLDS(hunkravy_mac_init(calls->number, &st, bytes, right, bytes, right) == HUNKRAVY_OK);
+    HOLDS(st.variant == calls->number);
+    check_is_not_encrypting(st);
+    check_is_not_decrypting(st);
+    HOLDS(hunkravy_mac_update(&st, bytes, 20) == HUNKRAVY_OK);
+    check_is_not_encrypting(st);
+    check_is_not_decrypting(st);
 }
 
 /* A message that is as long as it may be takes no byte more. */
@@ -319,32 +423,24 @@ static void check_limit(const struct variant *calls)
 
     begin(&message, &st);
     st.message_bytes = HUNKRAVY_MAX_BYTES - 7;
-    HOLDS(calls->state_encrypt_in_place(&st, bytes, 8) == HUNKRAVY_MESSAGE_TOO_LONG);
-    HOLDS(calls->state_encrypt(&st, out, bytes, 8) == HUNKRAVY_MESSAGE_TOO_LONG);
-    HOLDS(calls->state_decrypt_check(&st, bytes, 8) == HUNKRAVY_MESSAGE_TOO_LONG);
-    HOLDS(calls->state_decrypt_in_place(&st, bytes, 8) == HUNKRAVY_MESSAGE_TOO_LONG);
-    HOLDS(calls->state_decrypt(&st, out, bytes, 8) == HUNKRAVY_MESSAGE_TOO_LONG);
-    HOLDS(calls->mac_update(&st, bytes, 8) == HUNKRAVY_MESSAGE_TOO_LONG);
+    HOLDS(hunkravy_state_encrypt_in_place(&st, bytes, 8) == HUNKRAVY_MESSAGE_TOO_LONG);
+    HOLDS(hunkravy_state_encrypt(&st, out, bytes, 8) == HUNKRAVY_MESSAGE_TOO_LONG);
+    HOLDS(hunkravy_state_decrypt_check(&st, bytes, 8) == HUNKRAVY_MESSAGE_TOO_LONG);
+    HOLDS(hunkravy_state_decrypt_in_place_unverified(&st, bytes, 8) == HUNKRAVY_MESSAGE_TOO_LONG);
+    HOLDS(hunkravy_state_decrypt_unverified(&st, out, bytes, 8) == HUNKRAVY_MESSAGE_TOO_LONG);
     HOLDS(all_are(bytes, 8, 0) && all_are(out, 8, 0));
-    HOLDS(calls->state_encrypt_in_place(&st, bytes, 7) == HUNKRAVY_OK);
-    HOLDS(calls->state_encrypt_in_place(&st, bytes, 1) == HUNKRAVY_MESSAGE_TOO_LONG);
-}
-
-/* A MAC is refused of a state with associated data. */
-static void check_mac_of_a_message(const struct variant *calls)
-{
-    hunkravy_state st;
-    uint8_t bytes[32] = {0};
-
-    HOLDS(calls->state_init(&st, bytes, 1, bytes, calls->key_bytes, bytes, calls->key_bytes) ==
-          HUNKRAVY_OK);
-    HOLDS(calls->mac_final(&st, bytes, 16) == HUNKRAVY_WRONG_STATE);
-    HOLDS(calls->mac_final_verify(&st, bytes, 16) == HUNKRAVY_WRONG_STATE);
+    HOLDS(hunkravy_state_encrypt_in_place(&st, bytes, 7) == HUNKRAVY_OK);
+    HOLDS(hunkravy_state_encrypt_in_place(&st, bytes, 1) == HUNKRAVY_MESSAGE_TOO_LONG);
+    HOLDS(hunkravy_mac_init(calls->number, &st, message.npub, message.bytes, message.k,
+                            message.bytes) == HUNKRAVY_OK);
+    st.message_bytes = HUNKRAVY_MAX_BYTES - 7;
+    HOLDS(hunkravy_mac_update(&st, bytes, 8) == HUNKRAVY_MESSAGE_TOO_LONG);
+    HOLDS(hunkravy_mac_update(&st, bytes, 7) == HUNKRAVY_OK);
 }
 
 /*
- * Of random bytes with the mark, and with counts within the limits, each call is safe: a sanitizer
- * or valgrind sees it.
+ * Of random bytes with the mark, a variant, a role, and counts within the limits, each call is
+ * safe: a sanitizer or valgrind sees it.
  */
 static void check_random_state(const struct variant *calls)
 {
@@ -355,25 +451,29 @@ static void check_random_state(const struct variant *calls)
 
     HOLDS(st != NULL);
     fill((uint8_t *)st, sizeof *st);
-    check_is_refused(calls, *st);
+    check_is_refused(*st);
     st->mark = HUNKRAVY_STATE_MARK;
+    st->variant = calls->number;
+    st->role = 2 + (uint32_t)(next_number() % 3);
     st->data_bytes = next_number() % 4 == 0 ? 0 : next_number() & HUNKRAVY_MAX_BYTES;
     st->message_bytes = next_number() & (HUNKRAVY_MAX_BYTES >> 1);
     bytes = (uint8_t *)malloc(length + 1);
     HOLDS(bytes != NULL);
     fill(bytes, length);
-    HOLDS(calls->state_encrypt_in_place(st, bytes, length) == HUNKRAVY_OK);
-    HOLDS(calls->state_decrypt_in_place(st, bytes, length) == HUNKRAVY_OK);
-    HOLDS(calls->state_decrypt_check(st, bytes, length) == HUNKRAVY_OK);
-    HOLDS(calls->mac_update(st, bytes, length) == HUNKRAVY_OK);
-    code = calls->mac_final(st, tag, 32);
-    HOLDS(code == (st->data_bytes == 0 ? HUNKRAVY_OK : HUNKRAVY_WRONG_STATE));
-    if (next_number() % 2 == 0) {
-        HOLDS(calls->state_encrypt_final(st, tag, 16) == HUNKRAVY_OK);
-    } else {
+    if (st->role == 2) {
+        HOLDS(hunkravy_state_encrypt_in_place(st, bytes, length) == HUNKRAVY_OK);
+        HOLDS(hunkravy_state_encrypt_final(st, tag, 16) == HUNKRAVY_OK);
+    } else if (st->role == 3) {
+        HOLDS(hunkravy_state_decrypt_in_place_unverified(st, bytes, length) == HUNKRAVY_OK);
+        HOLDS(hunkravy_state_decrypt_check(st, bytes, length) == HUNKRAVY_OK);
         fill(tag, sizeof tag);
-        HOLDS(calls->state_decrypt_final(st, bytes, length, tag, 32) == HUNKRAVY_INVALID_TAG);
+        HOLDS(hunkravy_state_decrypt_final(st, bytes, length, tag, 32) == HUNKRAVY_INVALID_TAG);
         HOLDS(all_are(bytes, length, 0xaa));
+    } else {
+        HOLDS(hunkravy_mac_update(st, bytes, length) == HUNKRAVY_OK);
+        code = hunkravy_mac_final(st, tag, 32);
+        HOLDS(code == (st->data_bytes == 0 ? HUNKRAVY_OK : HUNKRAVY_WRONG_STATE));
+        memset(st, 0, sizeof *st);
     }
     HOLDS(all_are((const uint8_t *)st, sizeof *st, 0));
     free(bytes);
@@ -395,7 +495,7 @@ static void check_variant(const struct variant *calls)
     }
     check_wrong_states(calls);
     check_limit(calls);
-    check_mac_of_a_message(calls);
+    check_roles(calls);
     for (size_t turn = 0; turn < 200; turn++) {
         check_random_state(calls);
     }

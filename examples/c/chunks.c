@@ -28,23 +28,23 @@ static uint8_t chunk[CHUNK_BYTES];
 static int encrypt_file(FILE *out, FILE *plain, const uint8_t *key)
 {
     uint8_t header[HEADER_BYTES] = {0};
-    hunkravy_aegis256_state state;
+    hunkravy_state state;
     size_t length;
 
     if (getentropy(header, NONCE_BYTES) != 0 ||
-        hunkravy_aegis256_state_init(&state, NULL, 0, header, NONCE_BYTES, key, KEY_BYTES) !=
-            HUNKRAVY_OK ||
+        hunkravy_state_init(HUNKRAVY_AEGIS256, &state, NULL, 0, header, NONCE_BYTES, key,
+                            KEY_BYTES) != HUNKRAVY_OK ||
         fwrite(header, 1, HEADER_BYTES, out) != HEADER_BYTES) {
         return -1;
     }
     while ((length = fread(chunk, 1, CHUNK_BYTES, plain)) != 0) {
-        if (hunkravy_aegis256_state_encrypt_in_place(&state, chunk, length) != HUNKRAVY_OK ||
+        if (hunkravy_state_encrypt_in_place(&state, chunk, length) != HUNKRAVY_OK ||
             fwrite(chunk, 1, length, out) != length) {
             return -1;
         }
     }
-    if (ferror(plain) || hunkravy_aegis256_state_encrypt_final(&state, header + NONCE_BYTES,
-                                                               TAG_BYTES) != HUNKRAVY_OK) {
+    if (ferror(plain) ||
+        hunkravy_state_encrypt_final(&state, header + NONCE_BYTES, TAG_BYTES) != HUNKRAVY_OK) {
         return -1;
     }
     rewind(out);
@@ -58,27 +58,27 @@ static int encrypt_file(FILE *out, FILE *plain, const uint8_t *key)
 static int pass(FILE *out, FILE *encrypted, const uint8_t *key)
 {
     uint8_t header[HEADER_BYTES];
-    hunkravy_aegis256_state state;
+    hunkravy_state state;
     size_t length;
     int code;
 
     rewind(encrypted);
     if (fread(header, 1, HEADER_BYTES, encrypted) != HEADER_BYTES ||
-        hunkravy_aegis256_state_init(&state, NULL, 0, header, NONCE_BYTES, key, KEY_BYTES) !=
-            HUNKRAVY_OK) {
+        hunkravy_state_init(HUNKRAVY_AEGIS256, &state, NULL, 0, header, NONCE_BYTES, key,
+                            KEY_BYTES) != HUNKRAVY_OK) {
         return -1;
     }
     while ((length = fread(chunk, 1, CHUNK_BYTES, encrypted)) != 0) {
         if (out == NULL) {
-            code = hunkravy_aegis256_state_decrypt_check(&state, chunk, length);
+            code = hunkravy_state_decrypt_check(&state, chunk, length);
         } else {
-            code = hunkravy_aegis256_state_decrypt_in_place_unverified(&state, chunk, length);
+            code = hunkravy_state_decrypt_in_place_unverified(&state, chunk, length);
         }
         if (code != HUNKRAVY_OK || (out != NULL && fwrite(chunk, 1, length, out) != length)) {
             return -1;
         }
     }
-    code = hunkravy_aegis256_state_decrypt_final(&state, NULL, 0, header + NONCE_BYTES, TAG_BYTES);
+    code = hunkravy_state_decrypt_final(&state, NULL, 0, header + NONCE_BYTES, TAG_BYTES);
     return code == HUNKRAVY_OK && !ferror(encrypted) ? 0 : -1;
 }
 

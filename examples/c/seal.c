@@ -28,9 +28,9 @@ static int seal_packet(uint8_t *packet, const uint8_t *message, size_t length, c
     if (getentropy(packet, NONCE_BYTES) != 0) {
         return -1;
     }
-    if (hunkravy_aegis256_encrypt_combined(packet + NONCE_BYTES, message, length, CONTEXT,
-                                           sizeof CONTEXT, packet, NONCE_BYTES, key,
-                                           HUNKRAVY_AEGIS256_KEY_BYTES, TAG_BYTES) != HUNKRAVY_OK) {
+    if (hunkravy_encrypt_combined(HUNKRAVY_AEGIS256, packet + NONCE_BYTES, message, length, CONTEXT,
+                                  sizeof CONTEXT, packet, NONCE_BYTES, key,
+                                  HUNKRAVY_AEGIS256_KEY_BYTES, TAG_BYTES) != HUNKRAVY_OK) {
         return -1;
     }
     return 0;
@@ -45,9 +45,10 @@ static int open_packet(uint8_t *message, const uint8_t *packet, size_t length, c
     if (length < PACKET_BYTES(0)) {
         return -1;
     }
-    if (hunkravy_aegis256_decrypt_combined(message, packet + NONCE_BYTES, length - NONCE_BYTES,
-                                           CONTEXT, sizeof CONTEXT, packet, NONCE_BYTES, key,
-                                           HUNKRAVY_AEGIS256_KEY_BYTES, TAG_BYTES) != HUNKRAVY_OK) {
+    if (hunkravy_decrypt_combined(HUNKRAVY_AEGIS256, message, packet + NONCE_BYTES,
+                                  length - NONCE_BYTES, CONTEXT, sizeof CONTEXT, packet,
+                                  NONCE_BYTES, key, HUNKRAVY_AEGIS256_KEY_BYTES,
+                                  TAG_BYTES) != HUNKRAVY_OK) {
         return -1;
     }
     return 0;

@@ -24,7 +24,7 @@ pub enum Refusal {
     DataTooLong,
     /// The tag, or the MAC, has neither 16 nor 32 bytes.
     WrongTagLength,
-    /// The state was not begun, or has ended; or a call for a MAC has a state with associated data.
+    /// The state was not begun, or has ended; or it is of a message in the other direction, or a MAC and no message.
     WrongState,
 }
 
@@ -54,9 +54,11 @@ pub struct State {
     block: [u8; 128],
     data_bytes: u64,
     message_bytes: u64,
+    variant: u32,
+    role: u32,
 }
 
-const _: () = assert!(size_of::<State>() == 664);
+const _: () = assert!(size_of::<State>() == 672);
 
 impl State {
     /// A state that every call refuses but the one that begins it.
@@ -66,6 +68,8 @@ impl State {
         block: [0; 128],
         data_bytes: 0,
         message_bytes: 0,
+        variant: 0,
+        role: 0,
     };
 
     /// How many bytes of the message, or of the input of a MAC, were taken in.
@@ -89,38 +93,128 @@ impl State {
 type In = *const u8;
 type Out = *mut u8;
 
-/// A variant, by its exports. Each pointer is followed by its length.
+// Each pointer is followed by its length.
+unsafe extern "C" {
+    fn hunkravy_encrypt_in_place_nonnull(
+        variant: u32,
+        mc: Out,
+        mclen: usize,
+        ad: In,
+        adlen: usize,
+        npub: In,
+        npublen: usize,
+        k: In,
+        klen: usize,
+        mac: Out,
+        maclen: usize,
+    ) -> i32;
+    fn hunkravy_decrypt_in_place_nonnull(
+        variant: u32,
+        mc: Out,
+        mclen: usize,
+        ad: In,
+        adlen: usize,
+        npub: In,
+        npublen: usize,
+        k: In,
+        klen: usize,
+        mac: In,
+        maclen: usize,
+    ) -> i32;
+    fn hunkravy_stream_nonnull(
+        variant: u32,
+        out: Out,
+        len: usize,
+        npub: In,
+        npublen: usize,
+        k: In,
+        klen: usize,
+    ) -> i32;
+    fn hunkravy_stream_xor_in_place_nonnull(
+        variant: u32,
+        mc: Out,
+        mclen: usize,
+        npub: In,
+        npublen: usize,
+        k: In,
+        klen: usize,
+    ) -> i32;
+    fn hunkravy_mac_nonnull(
+        variant: u32,
+        input: In,
+        inputlen: usize,
+        npub: In,
+        npublen: usize,
+        k: In,
+        klen: usize,
+        mac: Out,
+        maclen: usize,
+    ) -> i32;
+    fn hunkravy_mac_verify_nonnull(
+        variant: u32,
+        input: In,
+        inputlen: usize,
+        npub: In,
+        npublen: usize,
+        k: In,
+        klen: usize,
+        mac: In,
+        maclen: usize,
+    ) -> i32;
+    fn hunkravy_state_init_nonnull(
+        variant: u32,
+        st: &mut State,
+        ad: In,
+        adlen: usize,
+        npub: In,
+        npublen: usize,
+        k: In,
+        klen: usize,
+    ) -> i32;
+    fn hunkravy_state_encrypt_in_place_nonnull(st: &mut State, mc: Out, mclen: usize) -> i32;
+    fn hunkravy_state_encrypt_final_nonnull(st: &mut State, mac: Out, maclen: usize) -> i32;
+    fn hunkravy_state_decrypt_in_place_unverified_nonnull(
+        st: &mut State,
+        mc: Out,
+        mclen: usize,
+    ) -> i32;
+    fn hunkravy_state_decrypt_check_nonnull(st: &mut State, c: In, clen: usize) -> i32;
+    fn hunkravy_state_decrypt_final_nonnull(
+        st: &mut State,
+        m: Out,
+        mlen: usize,
+        mac: In,
+        maclen: usize,
+    ) -> i32;
+    fn hunkravy_mac_init_nonnull(
+        variant: u32,
+        st: &mut State,
+        npub: In,
+        npublen: usize,
+        k: In,
+        klen: usize,
+    ) -> i32;
+    fn hunkravy_mac_update_nonnull(st: &mut State, input: In, inputlen: usize) -> i32;
+    fn hunkravy_mac_final_nonnull(st: &State, mac: Out, maclen: usize) -> i32;
+    fn hunkravy_mac_final_verify_nonnull(st: &State, mac: In, maclen: usize) -> i32;
+}
+
+/// Calls an export: on a number or a state, if it has one, and on the pointer and the length of each slice.
+macro_rules! call {
+    ($export:ident($($first:expr),*) $(, $bytes:ident.$pointer:ident)*) => {
+        // SAFETY: each pointer is that of a borrowed slice of the length after it, and one that is written to is borrowed
+        // exclusively. A state is a struct of numbers and bytes, of which the library takes any.
+        read(unsafe { $export($($first,)* $($bytes.$pointer(), $bytes.len()),*) })
+    };
+}
+
+/// A variant, by its number in the library.
 pub struct Variant {
-    /// The name in the exports.
+    /// The name of its module.
     pub name: &'static str,
     /// How many bytes a key has, and a nonce.
     pub key_bytes: usize,
-    encrypt_in_place:
-        unsafe extern "C" fn(Out, usize, In, usize, In, usize, In, usize, Out, usize) -> i32,
-    decrypt_in_place:
-        unsafe extern "C" fn(Out, usize, In, usize, In, usize, In, usize, In, usize) -> i32,
-    stream: unsafe extern "C" fn(Out, usize, In, usize, In, usize) -> i32,
-    stream_xor_in_place: unsafe extern "C" fn(Out, usize, In, usize, In, usize) -> i32,
-    mac: unsafe extern "C" fn(In, usize, In, usize, In, usize, Out, usize) -> i32,
-    mac_verify: unsafe extern "C" fn(In, usize, In, usize, In, usize, In, usize) -> i32,
-    state_init: unsafe extern "C" fn(&mut State, In, usize, In, usize, In, usize) -> i32,
-    state_encrypt_in_place: unsafe extern "C" fn(&mut State, Out, usize) -> i32,
-    state_encrypt_final: unsafe extern "C" fn(&mut State, Out, usize) -> i32,
-    state_decrypt_in_place_unverified: unsafe extern "C" fn(&mut State, Out, usize) -> i32,
-    state_decrypt_check: unsafe extern "C" fn(&mut State, In, usize) -> i32,
-    state_decrypt_final: unsafe extern "C" fn(&mut State, Out, usize, In, usize) -> i32,
-    mac_update: unsafe extern "C" fn(&mut State, In, usize) -> i32,
-    mac_final: unsafe extern "C" fn(&State, Out, usize) -> i32,
-    mac_final_verify: unsafe extern "C" fn(&State, In, usize) -> i32,
-}
-
-/// Calls an export on a state, if it has one, and on the pointer and the length of each slice.
-macro_rules! call {
-    ($self:ident.$export:ident($($state:ident)?) $(, $bytes:ident.$pointer:ident)*) => {
-        // SAFETY: each pointer is that of a borrowed slice of the length after it, and one that is written to is borrowed
-        // exclusively. A state is a struct of numbers and bytes, of which the library takes any.
-        read(unsafe { ($self.$export)($($state,)? $($bytes.$pointer(), $bytes.len()),*) })
-    };
+    number: u32,
 }
 
 impl Variant {
@@ -134,7 +228,7 @@ impl Variant {
         mac: &mut [u8],
     ) -> Answer {
         call!(
-            self.encrypt_in_place(),
+            hunkravy_encrypt_in_place_nonnull(self.number),
             mc.as_mut_ptr,
             ad.as_ptr,
             npub.as_ptr,
@@ -153,7 +247,7 @@ impl Variant {
         mac: &[u8],
     ) -> Answer {
         call!(
-            self.decrypt_in_place(),
+            hunkravy_decrypt_in_place_nonnull(self.number),
             mc.as_mut_ptr,
             ad.as_ptr,
             npub.as_ptr,
@@ -164,13 +258,18 @@ impl Variant {
 
     /// Writes keystream to `out`, whatever was there.
     pub fn stream(&self, out: &mut [u8], npub: &[u8], k: &[u8]) -> Answer {
-        call!(self.stream(), out.as_mut_ptr, npub.as_ptr, k.as_ptr)
+        call!(
+            hunkravy_stream_nonnull(self.number),
+            out.as_mut_ptr,
+            npub.as_ptr,
+            k.as_ptr
+        )
     }
 
     /// Xors the bytes at `mc` with keystream.
     pub fn stream_xor_in_place(&self, mc: &mut [u8], npub: &[u8], k: &[u8]) -> Answer {
         call!(
-            self.stream_xor_in_place(),
+            hunkravy_stream_xor_in_place_nonnull(self.number),
             mc.as_mut_ptr,
             npub.as_ptr,
             k.as_ptr
@@ -180,7 +279,7 @@ impl Variant {
     /// Writes the MAC of `input` to `mac`. A nonce of zeros stands for none.
     pub fn mac(&self, input: &[u8], npub: &[u8], k: &[u8], mac: &mut [u8]) -> Answer {
         call!(
-            self.mac(),
+            hunkravy_mac_nonnull(self.number),
             input.as_ptr,
             npub.as_ptr,
             k.as_ptr,
@@ -191,7 +290,7 @@ impl Variant {
     /// `Ok` exactly if `mac` is that MAC.
     pub fn mac_verify(&self, input: &[u8], npub: &[u8], k: &[u8], mac: &[u8]) -> Answer {
         call!(
-            self.mac_verify(),
+            hunkravy_mac_verify_nonnull(self.number),
             input.as_ptr,
             npub.as_ptr,
             k.as_ptr,
@@ -199,196 +298,95 @@ impl Variant {
         )
     }
 
-    /// Begins a message, or a MAC, which has no associated data. If it is refused, the state is as it was.
+    /// Begins a message. If it is refused, the state is as it was.
     pub fn state_init(&self, st: &mut State, ad: &[u8], npub: &[u8], k: &[u8]) -> Answer {
-        call!(self.state_init(st), ad.as_ptr, npub.as_ptr, k.as_ptr)
+        call!(
+            hunkravy_state_init_nonnull(self.number, st),
+            ad.as_ptr,
+            npub.as_ptr,
+            k.as_ptr
+        )
     }
 
+    /// Begins a MAC. If it is refused, the state is as it was.
+    pub fn mac_init(&self, st: &mut State, npub: &[u8], k: &[u8]) -> Answer {
+        call!(
+            hunkravy_mac_init_nonnull(self.number, st),
+            npub.as_ptr,
+            k.as_ptr
+        )
+    }
+}
+
+impl State {
     /// Turns the next bytes of the message into as many of its ciphertext.
-    pub fn state_encrypt_in_place(&self, st: &mut State, mc: &mut [u8]) -> Answer {
-        call!(self.state_encrypt_in_place(st), mc.as_mut_ptr)
+    pub fn encrypt_in_place(&mut self, mc: &mut [u8]) -> Answer {
+        call!(hunkravy_state_encrypt_in_place_nonnull(self), mc.as_mut_ptr)
     }
 
     /// Writes the tag of the message to `mac`, and ends the state.
-    pub fn state_encrypt_final(&self, st: &mut State, mac: &mut [u8]) -> Answer {
-        call!(self.state_encrypt_final(st), mac.as_mut_ptr)
+    pub fn encrypt_final(&mut self, mac: &mut [u8]) -> Answer {
+        call!(hunkravy_state_encrypt_final_nonnull(self), mac.as_mut_ptr)
     }
 
     /// Turns the next bytes of the ciphertext into as many of its message, whatever the tag will be.
-    pub fn state_decrypt_in_place_unverified(&self, st: &mut State, mc: &mut [u8]) -> Answer {
-        call!(self.state_decrypt_in_place_unverified(st), mc.as_mut_ptr)
+    pub fn decrypt_in_place_unverified(&mut self, mc: &mut [u8]) -> Answer {
+        call!(
+            hunkravy_state_decrypt_in_place_unverified_nonnull(self),
+            mc.as_mut_ptr
+        )
     }
 
     /// Takes in the next bytes of the ciphertext, and writes nothing.
-    pub fn state_decrypt_check(&self, st: &mut State, c: &[u8]) -> Answer {
-        call!(self.state_decrypt_check(st), c.as_ptr)
+    pub fn decrypt_check(&mut self, c: &[u8]) -> Answer {
+        call!(hunkravy_state_decrypt_check_nonnull(self), c.as_ptr)
     }
 
     /// `Ok` exactly if `mac` is the tag of the message. Otherwise every byte at `m` is [`ERASED`]. Ends the state.
-    pub fn state_decrypt_final(&self, st: &mut State, m: &mut [u8], mac: &[u8]) -> Answer {
-        call!(self.state_decrypt_final(st), m.as_mut_ptr, mac.as_ptr)
+    pub fn decrypt_final(&mut self, m: &mut [u8], mac: &[u8]) -> Answer {
+        call!(
+            hunkravy_state_decrypt_final_nonnull(self),
+            m.as_mut_ptr,
+            mac.as_ptr
+        )
     }
 
     /// Takes in the next bytes of the input of a MAC.
-    pub fn mac_update(&self, st: &mut State, input: &[u8]) -> Answer {
-        call!(self.mac_update(st), input.as_ptr)
+    pub fn mac_update(&mut self, input: &[u8]) -> Answer {
+        call!(hunkravy_mac_update_nonnull(self), input.as_ptr)
     }
 
     /// Writes the MAC of the input so far to `mac`. The state stays.
-    pub fn mac_final(&self, st: &State, mac: &mut [u8]) -> Answer {
-        call!(self.mac_final(st), mac.as_mut_ptr)
+    pub fn mac_final(&self, mac: &mut [u8]) -> Answer {
+        call!(hunkravy_mac_final_nonnull(self), mac.as_mut_ptr)
     }
 
     /// `Ok` exactly if `mac` is the MAC of the input so far. The state stays.
-    pub fn mac_final_verify(&self, st: &State, mac: &[u8]) -> Answer {
-        call!(self.mac_final_verify(st), mac.as_ptr)
+    pub fn mac_final_verify(&self, mac: &[u8]) -> Answer {
+        call!(hunkravy_mac_final_verify_nonnull(self), mac.as_ptr)
     }
 }
 
-macro_rules! variant {
-    ($name:literal, $key_bytes:literal) => {{
-        unsafe extern "C" {
-            #[link_name = concat!("hunkravy_", $name, "_encrypt_in_place_nonnull")]
-            fn encrypt_in_place(
-                mc: Out,
-                mclen: usize,
-                ad: In,
-                adlen: usize,
-                npub: In,
-                npublen: usize,
-                k: In,
-                klen: usize,
-                mac: Out,
-                maclen: usize,
-            ) -> i32;
-
-            #[link_name = concat!("hunkravy_", $name, "_decrypt_in_place_nonnull")]
-            fn decrypt_in_place(
-                mc: Out,
-                mclen: usize,
-                ad: In,
-                adlen: usize,
-                npub: In,
-                npublen: usize,
-                k: In,
-                klen: usize,
-                mac: In,
-                maclen: usize,
-            ) -> i32;
-
-            #[link_name = concat!("hunkravy_", $name, "_stream_nonnull")]
-            fn stream(out: Out, len: usize, npub: In, npublen: usize, k: In, klen: usize) -> i32;
-
-            #[link_name = concat!("hunkravy_", $name, "_stream_xor_in_place_nonnull")]
-            fn stream_xor_in_place(
-                mc: Out,
-                mclen: usize,
-                npub: In,
-                npublen: usize,
-                k: In,
-                klen: usize,
-            ) -> i32;
-
-            #[link_name = concat!("hunkravy_", $name, "_mac_nonnull")]
-            fn mac(
-                input: In,
-                inputlen: usize,
-                npub: In,
-                npublen: usize,
-                k: In,
-                klen: usize,
-                mac: Out,
-                maclen: usize,
-            ) -> i32;
-
-            #[link_name = concat!("hunkravy_", $name, "_mac_verify_nonnull")]
-            fn mac_verify(
-                input: In,
-                inputlen: usize,
-                npub: In,
-                npublen: usize,
-                k: In,
-                klen: usize,
-                mac: In,
-                maclen: usize,
-            ) -> i32;
-
-            #[link_name = concat!("hunkravy_", $name, "_state_init_nonnull")]
-            fn state_init(
-                st: &mut State,
-                ad: In,
-                adlen: usize,
-                npub: In,
-                npublen: usize,
-                k: In,
-                klen: usize,
-            ) -> i32;
-
-            #[link_name = concat!("hunkravy_", $name, "_state_encrypt_in_place_nonnull")]
-            fn state_encrypt_in_place(st: &mut State, mc: Out, mclen: usize) -> i32;
-
-            #[link_name = concat!("hunkravy_", $name, "_state_encrypt_final_nonnull")]
-            fn state_encrypt_final(st: &mut State, mac: Out, maclen: usize) -> i32;
-
-            #[link_name = concat!("hunkravy_", $name, "_state_decrypt_in_place_unverified_nonnull")]
-            fn state_decrypt_in_place_unverified(st: &mut State, mc: Out, mclen: usize) -> i32;
-
-            #[link_name = concat!("hunkravy_", $name, "_state_decrypt_check_nonnull")]
-            fn state_decrypt_check(st: &mut State, c: In, clen: usize) -> i32;
-
-            #[link_name = concat!("hunkravy_", $name, "_state_decrypt_final_nonnull")]
-            fn state_decrypt_final(
-                st: &mut State,
-                m: Out,
-                mlen: usize,
-                mac: In,
-                maclen: usize,
-            ) -> i32;
-
-            #[link_name = concat!("hunkravy_", $name, "_mac_update_nonnull")]
-            fn mac_update(st: &mut State, input: In, inputlen: usize) -> i32;
-
-            #[link_name = concat!("hunkravy_", $name, "_mac_final_nonnull")]
-            fn mac_final(st: &State, mac: Out, maclen: usize) -> i32;
-
-            #[link_name = concat!("hunkravy_", $name, "_mac_final_verify_nonnull")]
-            fn mac_final_verify(st: &State, mac: In, maclen: usize) -> i32;
-        }
-
-        Variant {
-            name: $name,
-            key_bytes: $key_bytes,
-            encrypt_in_place,
-            decrypt_in_place,
-            stream,
-            stream_xor_in_place,
-            mac,
-            mac_verify,
-            state_init,
-            state_encrypt_in_place,
-            state_encrypt_final,
-            state_decrypt_in_place_unverified,
-            state_decrypt_check,
-            state_decrypt_final,
-            mac_update,
-            mac_final,
-            mac_final_verify,
-        }
-    }};
+const fn variant(name: &'static str, key_bytes: usize, number: u32) -> Variant {
+    Variant {
+        name,
+        key_bytes,
+        number,
+    }
 }
 
 /// AEGIS-128L.
-pub const AEGIS128L: Variant = variant!("aegis128l", 16);
+pub const AEGIS128L: Variant = variant("aegis128l", 16, 0);
 /// AEGIS-128X2.
-pub const AEGIS128X2: Variant = variant!("aegis128x2", 16);
+pub const AEGIS128X2: Variant = variant("aegis128x2", 16, 1);
 /// AEGIS-128X4.
-pub const AEGIS128X4: Variant = variant!("aegis128x4", 16);
+pub const AEGIS128X4: Variant = variant("aegis128x4", 16, 2);
 /// AEGIS-256.
-pub const AEGIS256: Variant = variant!("aegis256", 32);
+pub const AEGIS256: Variant = variant("aegis256", 32, 3);
 /// AEGIS-256X2.
-pub const AEGIS256X2: Variant = variant!("aegis256x2", 32);
+pub const AEGIS256X2: Variant = variant("aegis256x2", 32, 4);
 /// AEGIS-256X4.
-pub const AEGIS256X4: Variant = variant!("aegis256x4", 32);
+pub const AEGIS256X4: Variant = variant("aegis256x4", 32, 5);
 
 /// All six.
 pub const VARIANTS: [Variant; 6] = [

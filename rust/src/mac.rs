@@ -56,7 +56,7 @@ impl<V: Variant, const TAG_BYTES: usize> Mac<V, TAG_BYTES> {
     /// assert_ne!(tag, Aegis256X4Mac::new_with_nonce(&[1; 32], &[3; 32]).finalize());
     /// ```
     pub fn new_with_nonce(key: &V::Key, nonce: &V::Key) -> Self {
-        Self::of(Run::new(key, nonce, &[]))
+        Self::of(Run::of_mac(key, nonce))
     }
 
     /// Takes in the next chunk of the input.

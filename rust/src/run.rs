@@ -12,13 +12,25 @@ pub(crate) struct Run<V: Variant> {
 }
 
 impl<V: Variant> Run<V> {
-    /// Begins a message, or a MAC, which has no associated data.
-    #[track_caller]
-    pub fn new(key: &V::Key, nonce: &V::Key, ad: &[u8]) -> Self {
-        let mut run = Self {
+    fn ended() -> Self {
+        Self {
             state: State::ENDED,
             variant: PhantomData,
-        };
+        }
+    }
+
+    /// Begins a MAC.
+    #[track_caller]
+    pub fn of_mac(key: &V::Key, nonce: &V::Key) -> Self {
+        let mut run = Self::ended();
+        done(V::EXPORTS.mac_init(&mut run.state, nonce.as_ref(), key.as_ref()));
+        run
+    }
+
+    /// Begins a message.
+    #[track_caller]
+    pub fn new(key: &V::Key, nonce: &V::Key, ad: &[u8]) -> Self {
+        let mut run = Self::ended();
         done(V::EXPORTS.state_init(&mut run.state, ad, nonce.as_ref(), key.as_ref()));
         run
     }
@@ -31,43 +43,43 @@ impl<V: Variant> Run<V> {
     /// Turns the next bytes of the message into those of the ciphertext.
     #[track_caller]
     pub fn seal(&mut self, chunk: &mut [u8]) {
-        done(V::EXPORTS.state_encrypt_in_place(&mut self.state, chunk));
+        done(self.state.encrypt_in_place(chunk));
     }
 
     /// The tag of the message that was sealed.
     pub fn tag<const TAG_BYTES: usize>(mut self) -> [u8; TAG_BYTES] {
         let mut tag = [0; TAG_BYTES];
-        done(V::EXPORTS.state_encrypt_final(&mut self.state, &mut tag));
+        done(self.state.encrypt_final(&mut tag));
         tag
     }
 
     /// Turns the next bytes of the ciphertext into those of the message, whatever the tag will be.
     #[track_caller]
     pub fn open_unverified(&mut self, chunk: &mut [u8]) {
-        done(V::EXPORTS.state_decrypt_in_place_unverified(&mut self.state, chunk));
+        done(self.state.decrypt_in_place_unverified(chunk));
     }
 
     /// Returns an error if this is not the tag of the message that was opened. The caller then erases the message.
     pub fn check_tag(&mut self, tag: &[u8]) -> Result<(), Error> {
-        accepted(V::EXPORTS.state_decrypt_final(&mut self.state, &mut [], tag))
+        accepted(self.state.decrypt_final(&mut [], tag))
     }
 
     /// Takes in the next bytes of the input of a MAC.
     #[track_caller]
     pub fn absorb(&mut self, input: &[u8]) {
-        done(V::EXPORTS.mac_update(&mut self.state, input));
+        done(self.state.mac_update(input));
     }
 
     /// The MAC of the input.
     pub fn mac<const TAG_BYTES: usize>(&self) -> [u8; TAG_BYTES] {
         let mut mac = [0; TAG_BYTES];
-        done(V::EXPORTS.mac_final(&self.state, &mut mac));
+        done(self.state.mac_final(&mut mac));
         mac
     }
 
     /// Returns an error if this is not the MAC of the input.
     pub fn check_mac(&self, expected: &[u8]) -> Result<(), Error> {
-        accepted(V::EXPORTS.mac_final_verify(&self.state, expected))
+        accepted(self.state.mac_final_verify(expected))
     }
 }
 
@@ -136,7 +148,9 @@ mod tests {
     #[test]
     #[should_panic = "the message is longer than 2^61 - 1 bytes"]
     fn a_mac_panics() {
-        let mut mac = Mac::<Marker, 16>::of(nearly_full());
+        let mut run = Run::of_mac(&[1; 32], &[2; 32]);
+        run.state.set_message_bytes(MAX_AEAD_BYTES - 1);
+        let mut mac = Mac::<Marker, 16>::of(run);
         assert_eq!(mac.remaining(), 1);
         mac.update(&[0; 2]);
     }

@@ -1,16 +1,15 @@
 //! The AEGIS ciphers for C, as `include/hunkravy.h` declares them.
 //!
-//! Each variant has a module with its exports. An export is one call of `aegis_c_calls`, for the lanes and the key length
-//! of its variant, and has the contract of that call. `sequence` proves what several calls on a state do together.
+//! An export is one call of `aegis_c_calls`, for the variant that its first parameter or its state names, and has the
+//! contract of that call. `by_variant` is the only place that matches the numbers with the types. `message` has the
+//! exports for a whole message or input, `state` has those on a state, and `sequence` proves what several of those do
+//! together.
 //!
 //! A slice comes as a pointer and a length. The pointer must not be null even if the length is 0, hence the `_nonnull`
 //! in each name; the header has calls without that word, which accept null for a length of 0.
 #![tactic(auto)]
 
-mod aegis128l;
-mod aegis128x2;
-mod aegis128x4;
-mod aegis256;
-mod aegis256x2;
-mod aegis256x4;
+mod by_variant;
+mod message;
 pub mod sequence;
+mod state;

@@ -23,3 +23,6 @@ pub const WRONG_TAG_LENGTH: i32 = -6;
 
 /// The state has ended, was never begun, or is not one for this call.
 pub const WRONG_STATE: i32 = -7;
+
+/// No variant has this number.
+pub const WRONG_VARIANT: i32 = -8;

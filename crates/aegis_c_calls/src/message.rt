@@ -10,8 +10,30 @@ use crate::keys::{message_keys, nonce_and_key};
 use aegis_base::{LaneState, Names};
 use aegis_engine::{Cipher, mac_at_once, same_bytes};
 
+// A marker without names: C prints none of the types.
+struct Nameless;
+
+impl Names for Nameless {
+    ghost use Rattle.std.specs.Prelude.{codes};
+
+    ghost module_name = { codes "" };
+
+    ghost cipher_name = { codes "" };
+
+    fn module_name() -> &'static str {
+        ""
+    }
+
+    fn cipher_name() -> &'static str {
+        ""
+    }
+}
+
+type OneMessage<S, const N: usize, const TAG_BYTES: usize> = Cipher<S, Nameless, N, TAG_BYTES>;
+
 /// Encrypts `mc` in place, and writes the tag, of 16 or 32 bytes, to `mac`.
-pub fn encrypt_in_place<S: LaneState, V: Names, const N: usize>(
+#[inline(never)]
+pub fn encrypt_in_place<S: LaneState, const N: usize>(
     mc: &mut [u8],
     ad: &[u8],
     npub: &[u8],
@@ -19,17 +41,17 @@ pub fn encrypt_in_place<S: LaneState, V: Names, const N: usize>(
     mac: &mut [u8],
 ) -> i32
     requires { N ≡ key_length S.VARIANT.family }
-    ensures { Seals S.VARIANT N k.now npub.now ad.now mc.old mc.new mac.old mac.new result }
+    ensures { Seals (Some S.VARIANT) k.now npub.now ad.now mc.old mc.new mac.old mac.new result }
 {
     let (nonce, key) = match message_keys::<N>(npub, k, mc.len(), ad.len()) {
         Ok(keys) => keys,
         Err(answer) => return answer,
     };
     if mac.len() == 16 {
-        mac.copy_from_slice(&Cipher::<S, V, N, 16>::new(key, nonce).encrypt_in_place(mc, ad));
+        mac.copy_from_slice(&OneMessage::<S, N, 16>::new(key, nonce).encrypt_in_place(mc, ad));
         DONE
     } else if mac.len() == 32 {
-        mac.copy_from_slice(&Cipher::<S, V, N, 32>::new(key, nonce).encrypt_in_place(mc, ad));
+        mac.copy_from_slice(&OneMessage::<S, N, 32>::new(key, nonce).encrypt_in_place(mc, ad));
         DONE
     } else {
         WRONG_TAG_LENGTH
@@ -37,7 +59,8 @@ pub fn encrypt_in_place<S: LaneState, V: Names, const N: usize>(
 }
 
 /// Decrypts `mc` in place. If `mac` is not its tag, each byte of `mc` is `ERASED`, and the result is `INVALID_TAG`.
-pub fn decrypt_in_place<S: LaneState, V: Names, const N: usize>(
+#[inline(never)]
+pub fn decrypt_in_place<S: LaneState, const N: usize>(
     mc: &mut [u8],
     ad: &[u8],
     npub: &[u8],
@@ -45,16 +68,16 @@ pub fn decrypt_in_place<S: LaneState, V: Names, const N: usize>(
     mac: &[u8],
 ) -> i32
     requires { N ≡ key_length S.VARIANT.family }
-    ensures { OpensOrErases S.VARIANT N k.now npub.now ad.now mc.old mc.new mac.now result }
+    ensures { OpensOrErases (Some S.VARIANT) k.now npub.now ad.now mc.old mc.new mac.now result }
 {
     let (nonce, key) = match message_keys::<N>(npub, k, mc.len(), ad.len()) {
         Ok(keys) => keys,
         Err(answer) => return answer,
     };
     let opened = if let Some(tag) = mac.as_array() {
-        Cipher::<S, V, N, 16>::new(key, nonce).decrypt_in_place(mc, tag, ad)
+        OneMessage::<S, N, 16>::new(key, nonce).decrypt_in_place(mc, tag, ad)
     } else if let Some(tag) = mac.as_array() {
-        Cipher::<S, V, N, 32>::new(key, nonce).decrypt_in_place(mc, tag, ad)
+        OneMessage::<S, N, 32>::new(key, nonce).decrypt_in_place(mc, tag, ad)
     } else {
         return WRONG_TAG_LENGTH;
     };
@@ -62,14 +85,15 @@ pub fn decrypt_in_place<S: LaneState, V: Names, const N: usize>(
 }
 
 /// Overwrites `out` with keystream.
-pub fn stream<S: LaneState, V: Names, const N: usize>(out: &mut [u8], npub: &[u8], k: &[u8]) -> i32
+#[inline(never)]
+pub fn stream<S: LaneState, const N: usize>(out: &mut [u8], npub: &[u8], k: &[u8]) -> i32
     requires { N ≡ key_length S.VARIANT.family }
-    ensures { WritesKeystream N k.now npub.now out.old out.new
+    ensures { WritesKeystream (Some S.VARIANT) k.now npub.now out.old out.new
         (keystream S.VARIANT k.now npub.now (length out.old)) result }
 {
     match nonce_and_key::<N>(npub, k) {
         Ok((nonce, key)) => {
-            Cipher::<S, V, N, 16>::new(key, nonce).stream(out);
+            OneMessage::<S, N, 16>::new(key, nonce).stream(out);
             DONE
         }
         Err(answer) => answer,
@@ -77,18 +101,19 @@ pub fn stream<S: LaneState, V: Names, const N: usize>(out: &mut [u8], npub: &[u8
 }
 
 /// Xors `mc` with keystream, in place.
-pub fn stream_xor_in_place<S: LaneState, V: Names, const N: usize>(
+#[inline(never)]
+pub fn stream_xor_in_place<S: LaneState, const N: usize>(
     mc: &mut [u8],
     npub: &[u8],
     k: &[u8],
 ) -> i32
     requires { N ≡ key_length S.VARIANT.family }
-    ensures { WritesKeystream N k.now npub.now mc.old mc.new
+    ensures { WritesKeystream (Some S.VARIANT) k.now npub.now mc.old mc.new
         (xor_keystream S.VARIANT k.now npub.now mc.old) result }
 {
     match nonce_and_key::<N>(npub, k) {
         Ok((nonce, key)) => {
-            Cipher::<S, V, N, 16>::new(key, nonce).stream_xor_in_place(mc);
+            OneMessage::<S, N, 16>::new(key, nonce).stream_xor_in_place(mc);
             DONE
         }
         Err(answer) => answer,
@@ -96,6 +121,7 @@ pub fn stream_xor_in_place<S: LaneState, V: Names, const N: usize>(
 }
 
 /// Writes the MAC of `input`, of 16 or 32 bytes, to `mac`.
+#[inline(never)]
 pub fn write_mac<S: LaneState, const N: usize>(
     input: &[u8],
     npub: &[u8],
@@ -103,7 +129,7 @@ pub fn write_mac<S: LaneState, const N: usize>(
     mac: &mut [u8],
 ) -> i32
     requires { N ≡ key_length S.VARIANT.family }
-    ensures { MakesMac S.VARIANT N k.now npub.now input.now mac.old mac.new result }
+    ensures { MakesMac (Some S.VARIANT) k.now npub.now input.now mac.old mac.new result }
 {
     let (nonce, key) = match message_keys::<N>(npub, k, input.len(), 0) {
         Ok(keys) => keys,
@@ -121,6 +147,7 @@ pub fn write_mac<S: LaneState, const N: usize>(
 }
 
 /// Returns `DONE` if `mac` is the MAC of `input`, and `INVALID_TAG` if it is not.
+#[inline(never)]
 pub fn verify_mac<S: LaneState, const N: usize>(
     input: &[u8],
     npub: &[u8],
@@ -128,7 +155,7 @@ pub fn verify_mac<S: LaneState, const N: usize>(
     mac: &[u8],
 ) -> i32
     requires { N ≡ key_length S.VARIANT.family }
-    ensures { VerifiesMac S.VARIANT N k.now npub.now input.now mac.now result }
+    ensures { VerifiesMac (Some S.VARIANT) k.now npub.now input.now mac.now result }
 {
     let (nonce, key) = match message_keys::<N>(npub, k, input.len(), 0) {
         Ok(keys) => keys,

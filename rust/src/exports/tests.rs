@@ -17,41 +17,53 @@ fn begun(variant: &Variant, ad: &[u8]) -> State {
     st
 }
 
+/// A MAC.
+fn begun_mac(variant: &Variant) -> State {
+    let (key, nonce) = ([1; 32], [2; 32]);
+    let length = variant.key_bytes;
+    let mut st = State::ENDED;
+    let answer = variant.mac_init(&mut st, &nonce[..length], &key[..length]);
+    assert_eq!(answer, Ok(()));
+    st
+}
+
 /// A message's ciphertext and tag.
 fn sealed(variant: &Variant) -> ([u8; 150], [u8; 32]) {
     let (mut mc, mut tag) = ([0x5a; 150], [0; 32]);
     let mut st = begun(variant, AD);
-    assert_eq!(variant.state_encrypt_in_place(&mut st, &mut mc), Ok(()));
-    assert_eq!(variant.state_encrypt_final(&mut st, &mut tag), Ok(()));
+    assert_eq!(st.encrypt_in_place(&mut mc), Ok(()));
+    assert_eq!(st.encrypt_final(&mut tag), Ok(()));
     (mc, tag)
 }
 
 /// The state's bytes.
-fn contents(st: &State) -> (u64, [[u8; 128]; 4], [u8; 128], u64, u64) {
+fn contents(st: &State) -> (u64, [[u8; 128]; 4], [u8; 128], u64, u64, u32, u32) {
     let State {
         mark,
         rows,
         block,
         data_bytes,
         message_bytes,
+        variant,
+        role,
     } = st.clone();
-    (mark, rows, block, data_bytes, message_bytes)
+    (mark, rows, block, data_bytes, message_bytes, variant, role)
 }
 
 /// A call on a state and a buffer.
 type Call<'a> = &'a dyn Fn(&mut State, &mut [u8]) -> Answer;
 
-/// Checks that each call on chunks has this answer, and changes nothing.
-fn assert_refused(variant: &Variant, st: &State, expected: Refusal, bytes: usize) {
+/// Checks that each call on chunks of a message has the one answer, and that of a MAC the other, and changes nothing.
+fn assert_refused(st: &State, message: Refusal, mac: Refusal, bytes: usize) {
     let mut mc = [0x77; 64];
     let input = [0x77; 64];
-    let calls: [Call; 4] = [
-        &|st, mc| variant.state_encrypt_in_place(st, mc),
-        &|st, mc| variant.state_decrypt_in_place_unverified(st, mc),
-        &|st, _| variant.state_decrypt_check(st, &input[..bytes]),
-        &|st, _| variant.mac_update(st, &input[..bytes]),
+    let calls: [(Call, Refusal); 4] = [
+        (&|st, mc| st.encrypt_in_place(mc), message),
+        (&|st, mc| st.decrypt_in_place_unverified(mc), message),
+        (&|st, _| st.decrypt_check(&input[..bytes]), message),
+        (&|st, _| st.mac_update(&input[..bytes]), mac),
     ];
-    for call in calls {
+    for (call, expected) in calls {
         let mut copy = st.clone();
         assert_eq!(call(&mut copy, &mut mc[..bytes]), Err(expected));
         assert_eq!(contents(&copy), contents(st));
@@ -59,17 +71,15 @@ fn assert_refused(variant: &Variant, st: &State, expected: Refusal, bytes: usize
     }
 }
 
-/// Checks that each call that ends a message or a MAC has this answer, and changes nothing.
-fn assert_not_ended(variant: &Variant, st: &State, expected: Refusal, tag_bytes: usize) {
+/// Checks that each call that ends a message has the one answer, and that ends a MAC the other, and changes nothing.
+fn assert_not_ended(st: &State, message: Refusal, mac: Refusal, tag_bytes: usize) {
     let (mut m, mut tags) = ([0x77; 64], [0x66; 40]);
     let tag = &mut tags[..tag_bytes];
     let mut copy = st.clone();
-    let answer = variant.state_encrypt_final(&mut copy, tag);
-    assert_eq!(answer, Err(expected));
-    let answer = variant.state_decrypt_final(&mut copy, &mut m, tag);
-    assert_eq!(answer, Err(expected));
-    assert_eq!(variant.mac_final(&copy, tag), Err(expected));
-    assert_eq!(variant.mac_final_verify(&copy, tag), Err(expected));
+    assert_eq!(copy.encrypt_final(tag), Err(message));
+    assert_eq!(copy.decrypt_final(&mut m, tag), Err(message));
+    assert_eq!(copy.mac_final(tag), Err(mac));
+    assert_eq!(copy.mac_final_verify(tag), Err(mac));
     assert_eq!(contents(&copy), contents(st));
     assert_eq!((m, tags), ([0x77; 64], [0x66; 40]));
 }
@@ -79,22 +89,22 @@ fn a_state_that_was_not_begun_or_has_ended_is_refused() {
     for variant in &VARIANTS {
         let (mut mc, tag) = sealed(variant);
         let mut encrypted = begun(variant, &[]);
-        let answer = variant.state_encrypt_final(&mut encrypted, &mut [0; 16]);
+        let answer = encrypted.encrypt_final(&mut [0; 16]);
         assert_eq!(answer, Ok(()));
         let mut accepted = begun(variant, AD);
-        let answer = variant.state_decrypt_in_place_unverified(&mut accepted, &mut mc);
+        let answer = accepted.decrypt_in_place_unverified(&mut mc);
         assert_eq!((answer, &mc[..]), (Ok(()), MESSAGE));
-        let answer = variant.state_decrypt_final(&mut accepted, &mut mc, &tag);
+        let answer = accepted.decrypt_final(&mut mc, &tag);
         assert_eq!((answer, &mc[..]), (Ok(()), MESSAGE));
         let mut refused = begun(variant, AD);
-        let answer = variant.state_decrypt_final(&mut refused, &mut mc, &tag);
+        let answer = refused.decrypt_final(&mut mc, &tag);
         assert_eq!(answer, Err(Refusal::InvalidTag));
         assert_eq!(mc, [ERASED; 150]);
 
         for st in [State::ENDED, encrypted, accepted, refused] {
-            assert_refused(variant, &st, Refusal::WrongState, 0);
-            assert_refused(variant, &st, Refusal::WrongState, 64);
-            assert_not_ended(variant, &st, Refusal::WrongState, 16);
+            assert_refused(&st, Refusal::WrongState, Refusal::WrongState, 0);
+            assert_refused(&st, Refusal::WrongState, Refusal::WrongState, 64);
+            assert_not_ended(&st, Refusal::WrongState, Refusal::WrongState, 16);
         }
     }
 }
@@ -123,18 +133,35 @@ fn a_tag_of_another_length_is_refused() {
     for variant in &VARIANTS {
         for tag_bytes in OTHER_TAG_BYTES {
             let st = begun(variant, &[]);
-            assert_not_ended(variant, &st, Refusal::WrongTagLength, tag_bytes);
+            assert_not_ended(&st, Refusal::WrongTagLength, Refusal::WrongState, tag_bytes);
+            let st = begun_mac(variant);
+            assert_not_ended(&st, Refusal::WrongState, Refusal::WrongTagLength, tag_bytes);
         }
     }
 }
 
 #[test]
-fn a_state_with_associated_data_gives_no_mac() {
+fn the_first_call_decides_the_direction() {
     for variant in &VARIANTS {
-        let st = begun(variant, AD);
         let refused = Err(Refusal::WrongState);
-        assert_eq!(variant.mac_final(&st, &mut [0; 16]), refused);
-        assert_eq!(variant.mac_final_verify(&st, &[0; 16]), refused);
+        let mut encrypting = begun(variant, AD);
+        assert_eq!(encrypting.encrypt_in_place(&mut []), Ok(()));
+        assert_eq!(encrypting.decrypt_check(&[]), refused);
+        assert_eq!(encrypting.decrypt_in_place_unverified(&mut []), refused);
+        assert_eq!(encrypting.decrypt_final(&mut [], &[0; 16]), refused);
+        let mut decrypting = begun(variant, AD);
+        assert_eq!(decrypting.decrypt_check(&[]), Ok(()));
+        assert_eq!(decrypting.encrypt_in_place(&mut []), refused);
+        assert_eq!(decrypting.encrypt_final(&mut [0; 16]), refused);
+        for mut st in [begun(variant, &[]), encrypting, decrypting] {
+            assert_eq!(st.mac_update(&[]), refused);
+            assert_eq!(st.mac_final(&mut [0; 16]), refused);
+            assert_eq!(st.mac_final_verify(&[0; 16]), refused);
+        }
+        let mut mac = begun_mac(variant);
+        assert_eq!(mac.encrypt_in_place(&mut []), refused);
+        assert_eq!(mac.decrypt_check(&[]), refused);
+        assert_eq!(mac.mac_update(&[]), Ok(()));
     }
 }
 
@@ -143,14 +170,17 @@ fn counts_are_kept_within_the_limit() {
     for variant in &VARIANTS {
         let mut st = begun(variant, &[]);
         st.set_message_bytes(MAX_AEAD_BYTES - 63);
-        assert_refused(variant, &st, Refusal::MessageTooLong, 64);
+        assert_refused(&st, Refusal::MessageTooLong, Refusal::WrongState, 64);
+        let mut st = begun_mac(variant);
+        st.set_message_bytes(MAX_AEAD_BYTES - 63);
+        assert_refused(&st, Refusal::WrongState, Refusal::MessageTooLong, 64);
         st.set_message_bytes(MAX_AEAD_BYTES + 1);
-        assert_refused(variant, &st, Refusal::WrongState, 0);
-        assert_not_ended(variant, &st, Refusal::WrongState, 32);
+        assert_refused(&st, Refusal::WrongState, Refusal::WrongState, 0);
+        assert_not_ended(&st, Refusal::WrongState, Refusal::WrongState, 32);
         let mut st = begun(variant, AD);
         st.data_bytes = u64::MAX;
-        assert_refused(variant, &st, Refusal::WrongState, 64);
-        assert_not_ended(variant, &st, Refusal::WrongState, 16);
+        assert_refused(&st, Refusal::WrongState, Refusal::WrongState, 64);
+        assert_not_ended(&st, Refusal::WrongState, Refusal::WrongState, 16);
     }
 }
 
@@ -161,9 +191,9 @@ fn a_check_accepts_what_opening_does() {
         for expected in [Ok(()), Err(Refusal::InvalidTag)] {
             let mut st = begun(variant, AD);
             for chunk in mc.chunks(70) {
-                assert_eq!(variant.state_decrypt_check(&mut st, chunk), Ok(()));
+                assert_eq!(st.decrypt_check(chunk), Ok(()));
             }
-            let answer = variant.state_decrypt_final(&mut st, &mut [], &tag);
+            let answer = st.decrypt_final(&mut [], &tag);
             assert_eq!(answer, expected);
             tag[31] ^= 1;
         }
@@ -175,13 +205,13 @@ fn a_mac_goes_on_after_its_end() {
     for variant in &VARIANTS {
         let length = variant.key_bytes;
         let (key, nonce) = ([1; 32], [2; 32]);
-        let mut st = begun(variant, &[]);
+        let mut st = begun_mac(variant);
         let (mut so_far, mut at_once) = ([0; 32], [0; 32]);
         for end in [0, 70, 140, 150] {
             let start = st.message_bytes() as usize;
-            assert_eq!(variant.mac_update(&mut st, &MESSAGE[start..end]), Ok(()));
-            assert_eq!(variant.mac_final(&st, &mut so_far), Ok(()));
-            assert_eq!(variant.mac_final_verify(&st, &so_far), Ok(()));
+            assert_eq!(st.mac_update(&MESSAGE[start..end]), Ok(()));
+            assert_eq!(st.mac_final(&mut so_far), Ok(()));
+            assert_eq!(st.mac_final_verify(&so_far), Ok(()));
             let (nonce, key) = (&nonce[..length], &key[..length]);
             let answer = variant.mac(&MESSAGE[..end], nonce, key, &mut at_once);
             assert_eq!((answer, so_far), (Ok(()), at_once));
@@ -194,16 +224,21 @@ fn a_mac_goes_on_after_its_end() {
 fn a_state_of_any_bytes_is_safe() {
     for variant in &VARIANTS {
         for fill in 0..=255_u8 {
-            let mut st = begun(variant, &[]);
-            st.rows = [[fill; 128]; 4];
-            st.block = [fill.rotate_left(3); 128];
-            st.message_bytes = u64::from(fill).pow(7) % MAX_AEAD_BYTES;
-            let mut mc = [fill; 200];
-            assert_eq!(variant.state_encrypt_in_place(&mut st, &mut mc), Ok(()));
-            assert_eq!(variant.state_decrypt_check(&mut st, &mc), Ok(()));
-            assert_eq!(variant.mac_update(&mut st, &mc), Ok(()));
-            assert_eq!(variant.mac_final(&st, &mut [0; 32]), Ok(()));
-            assert_eq!(variant.state_encrypt_final(&mut st, &mut [0; 16]), Ok(()));
+            for mut st in [begun(variant, &[]), begun_mac(variant)] {
+                st.rows = [[fill; 128]; 4];
+                st.block = [fill.rotate_left(3); 128];
+                st.message_bytes = u64::from(fill).pow(7) % MAX_AEAD_BYTES;
+                let mut mc = [fill; 200];
+                let mut other = st.clone();
+                if st.role == 1 {
+                    assert_eq!(st.encrypt_in_place(&mut mc), Ok(()));
+                    assert_eq!(other.decrypt_check(&mc), Ok(()));
+                    assert_eq!(st.encrypt_final(&mut [0; 16]), Ok(()));
+                } else {
+                    assert_eq!(st.mac_update(&mc), Ok(()));
+                    assert_eq!(st.mac_final(&mut [0; 32]), Ok(()));
+                }
+            }
         }
     }
 }
