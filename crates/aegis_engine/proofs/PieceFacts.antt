@@ -31,33 +31,26 @@ cut-at source at n =
     let count : at + n - at ≡ n = omega arith in
     rw count (sym (take-append-drop n (drop at source)) ∙ ap (λ (xs : List ℕ). take n (drop at source) ++ xs) (drop-drop n at source))
 
--- all of `source` but `rest` is processed, and `out` is written so far; `now n` is what is held after n bytes
-pub record IsDone (variant : Variant) (old : Held) (now : ℕ → Held) (pass : Pass) (source rest out : List ℕ) : Type 0 where
+-- all of `source` but `rest` is processed, and `out` is written so far
+pub record IsDone (variant : Variant) (old now : Held) (pass : Pass) (source rest out : List ℕ) : Type 0 where
   pub done : List ℕ
   pub split : done ++ rest ≡ source
   pub long : length out ≡ length done
-  pub passed : IsPassed variant old (now (length out)) pass done out
+  pub passed : IsPassed variant old now pass done out
 
-pub done-more : {variant : Variant} {old : Held} {now next : ℕ → Held} {pass : Pass} {source rest left out more : List ℕ} {n : ℕ} (piece part : List ℕ)
-    → more ≡ out ++ part → rest ≡ piece ++ left → length part ≡ length piece → n ≡ length out
-    → IsPassed variant (now n) (next (n + length piece)) pass piece part
-    → IsDone variant old now pass source rest out → IsDone variant old next pass source left more
-done-more {variant} {old} {now} {next} {pass} {source} {rest} {left} {out} {more} {n} piece part written cut long place last so_far =
-    let all : length (out ++ part) ≡ n + length piece = omega (arith, length-append out part) in
-    let here : IsPassed variant old (now n) pass so_far.done out = rw place so_far.passed in
+pub done-more : {variant : Variant} {old now next : Held} {pass : Pass} {source rest left out more : List ℕ} (piece part : List ℕ)
+    → more ≡ out ++ part → rest ≡ piece ++ left → length part ≡ length piece
+    → IsPassed variant now next pass piece part → IsDone variant old now pass source rest out → IsDone variant old next pass source left more
+done-more {variant} {old} {now} {next} {pass} {source} {rest} {left} {out} {more} piece part written cut long last so_far =
     rw written (record {
       done = so_far.done ++ piece;
       split = append_assoc so_far.done piece left ∙ ap (λ (xs : List ℕ). so_far.done ++ xs) (sym cut) ∙ so_far.split;
-      long = omega (arith, length-append so_far.done piece, so_far.long);
-      passed = rw all (passed-more variant old (now n) _ pass so_far.done piece out part so_far.long here last);
+      long = omega (arith, length-append out part, length-append so_far.done piece, long, so_far.long);
+      passed = passed-more variant old now next pass so_far.done piece out part so_far.long so_far.passed last;
     })
 
-pub done-all : {variant : Variant} {old : Held} {now : ℕ → Held} {pass : Pass} {source rest out : List ℕ}
-    → rest ≡ [] → IsDone variant old now pass source rest out → (length out ≡ length source) × IsPassed variant old (now (length source)) pass source out
+pub done-all : {variant : Variant} {old now : Held} {pass : Pass} {source rest out : List ℕ}
+    → rest ≡ [] → IsDone variant old now pass source rest out → (length out ≡ length source) × IsPassed variant old now pass source out
 done-all {variant} {old} {now} {pass} {source} {rest} {out} none all =
     let whole : all.done ≡ source = sym (append-nil all.done) ∙ ap (λ (xs : List ℕ). all.done ++ xs) (sym none) ∙ all.split in
-    let long : length out ≡ length source = all.long ∙ ap length whole in (
-      long,
-      subst (λ (xs : List ℕ). IsPassed variant old (now (length source)) pass xs out) whole
-          (subst (λ (n : ℕ). IsPassed variant old (now n) pass all.done out) long all.passed),
-    )
+    (all.long ∙ ap length whole, subst (λ (xs : List ℕ). IsPassed variant old now pass xs out) whole all.passed)

@@ -20,6 +20,6 @@ xor-zero a b e =
     let sum = xor_add_and a b in let left = and_le_l a b in let right = and_le_r a b in omega arith
 
 -- two lists of n elements that are written into twice as many, one after the other
-pub halves-joined : (n : ℕ) (l z h a b : List ℕ) → l ≡ a → h ≡ b → length a ≡ n → length b ≡ n → length z ≡ n → put_mid n n (l ++ z) h ≡ a ++ b
-halves-joined n l z h a b e f long wide rest =
-    rw (e, f) (same_lists _ _ (grind (arith, places)) (λ k d lt. grind (arith, places)))
+pub halves-joined : (n k : ℕ) (l z h a b : List ℕ) → k ≡ n → l ≡ a → h ≡ b → length a ≡ n → length b ≡ n → length z ≡ n → put_mid n k (l ++ z) h ≡ a ++ b
+halves-joined n k l z h a b same e f long wide rest =
+    rw (same, e, f) (same_lists _ _ (grind (arith, places)) (λ k d lt. grind (arith, places)))

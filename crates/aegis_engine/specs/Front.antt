@@ -1,15 +1,17 @@
--- The values that a decryptor holds, and the message so far, which is the front of its destination.
+-- What a decryptor holds, the number of bytes of the message so far, and these bytes, the front of its destination.
 use Rattle.std.specs.Prelude.{ℕ, List, take}
 use Rattle.aegis_aes.specs.declared.row.Row as row
 use Rattle.aegis_base.specs.Run.{Held}
 use Rattle.aegis_base.specs.declared.state.LaneState as lane_state
 use Rattle.aegis_base.specs.declared.names.Names as names
-use Rattle.aegis_engine.specs.Held.{held}
 use Rattle.aegis_engine.specs.declared.decryptor.Decryptor.{Decryptor}
 
 module _ {S V R : Type 0} {n : ℕ} {L : lane_state.Ghosts S R} {r : row.Ghosts R} {v : names.Ghosts V} where
   abbrev pub holds : Decryptor S V n R L r v → Held
-  holds d = held L d.state d.block d.data_bytes d.written
+  holds d = d.run
+
+  abbrev pub written : Decryptor S V n R L r v → ℕ
+  written d = d.run.message_bytes
 
   abbrev pub front : Decryptor S V n R L r v → List ℕ
-  front d = take d.written d.dst.now
+  front d = take d.run.message_bytes d.dst.now

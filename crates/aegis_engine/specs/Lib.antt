@@ -1,4 +1,3 @@
 pub mod Front
-pub mod Held
 pub mod Pass
 pub mod Saved

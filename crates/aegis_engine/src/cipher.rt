@@ -9,19 +9,15 @@ ghost use Rattle.std.specs.Borrow.{Array, LendsIfOk, sem, u8};
 ghost use Rattle.aegis_base.specs.Chunks.{accepted, erased, joined};
 ghost use Rattle.aegis_base.specs.Message.{Opens, ciphertext, seal, keystream, tag, xor_keystream};
 ghost use Rattle.aegis_base.specs.Run.{Stands};
-ghost use Rattle.aegis_engine.specs.Front.{front, holds};
+ghost use Rattle.aegis_engine.specs.Front.{front, holds, written};
 ghost use Rattle.aegis_base.specs.Variant.{key_length};
 
-use crate::chunks::seal_all;
 use crate::decryptor::Decryptor;
 use crate::destination::{Settled, counted, erase_unless, handed};
 use crate::encryptor::Encryptor;
-use crate::message::{begin, finish, seal_more};
-use crate::opening::{has_tag, open_all, open_in_place};
-use crate::pass::{Pass, ZEROS};
-use crate::pieces::pass_appended;
-use crate::run::pass_all;
-use aegis_base::{Error, LaneState, Length, MAX_AEAD_BYTES, Names};
+use crate::pass::Pass;
+use crate::run::Run;
+use aegis_base::{Error, LaneState, MAX_AEAD_BYTES, Names};
 use std::alloc::{AllocError, Allocator};
 use std::fmt;
 use std::marker::{Model, PhantomData};
@@ -109,60 +105,9 @@ impl<S: LaneState, V: Names, const KEY_BYTES: usize, const TAG_BYTES: usize> Cip
         requires associated_data_within { length ad.now ≤ MAX_AEAD_BYTES }
         ensures { (mc.new, result) ≡ seal S.VARIANT TAG_BYTES self.key self.nonce ad.now mc.old }
     {
-        let state = begin::<S>(&self.key, &self.nonce, ad);
-        let mut block = ZEROS;
-        let state = seal_more(state, &mut block, ad.len() as u64, 0, mc);
-        finish(state, &block, ad.len() as u64, mc.len() as u64)
-    }
-
-    // Opens a ciphertext in place for any tag, and returns whether this is the right one. If it is not, the caller
-    // erases `mc`.
-    fn open_unchecked(self, mc: &mut [u8], tag: &[u8; TAG_BYTES], ad: &[u8]) -> bool
-        requires message_within { length mc.old ≤ MAX_AEAD_BYTES }
-        requires associated_data_within { length ad.now ≤ MAX_AEAD_BYTES }
-        ensures opened { result ≡ true
-            → Opens S.VARIANT TAG_BYTES self.key self.nonce ad.now mc.old tag.now mc.new }
-        ensures accepted { (m : List ℕ)
-            → Opens S.VARIANT TAG_BYTES self.key self.nonce ad.now mc.old tag.now m
-            → result ≡ true }
-        ensures only { (m : List ℕ)
-            → Opens S.VARIANT TAG_BYTES self.key self.nonce ad.now mc.old tag.now m
-            → mc.new ≡ m }
-        ensures length { length mc.new ≡ length mc.old }
-    {
-        let bytes = mc.len() as u64;
-        let state = begin::<S>(&self.key, &self.nonce, ad);
-        let mut block = ZEROS;
-        let state = open_in_place(state, &mut block, ad.len() as u64, mc);
-        has_tag(state, &block, ad.len() as u64, bytes, tag)
-    }
-
-    // The same into a new vector, which is reserved before any byte is processed.
-    fn open_copied_unchecked<A: Allocator>(
-        self,
-        alloc: A,
-        c: &[u8],
-        tag: &[u8; TAG_BYTES],
-        ad: &[u8],
-    ) -> Result<(Vec<u8, A>, bool), AllocError>
-        requires message_within { length c.now ≤ MAX_AEAD_BYTES }
-        requires associated_data_within { length ad.now ≤ MAX_AEAD_BYTES }
-        ensures opened { IfOk result (λ read. read.1 ≡ true
-            → Opens S.VARIANT TAG_BYTES self.key self.nonce ad.now c.now tag.now read.0.items) }
-        ensures accepted { (m : List ℕ)
-            → Opens S.VARIANT TAG_BYTES self.key self.nonce ad.now c.now tag.now m
-            → IfOk result (λ read. read.1 ≡ true) }
-        ensures only { (m : List ℕ)
-            → Opens S.VARIANT TAG_BYTES self.key self.nonce ad.now c.now tag.now m
-            → IfOk result (λ read. read.0.items ≡ m) }
-        ensures length { IfOk result (λ read. length read.0.items ≡ length c.now) }
-    {
-        let mut m = Vec::with_capacity(alloc, c.len())?;
-        let state = begin::<S>(&self.key, &self.nonce, ad);
-        let mut block = ZEROS;
-        let state = pass_appended(state, &mut block, ad.len() as u64, Pass::Open, c, &mut m)?;
-        let is_right = has_tag(state, &block, ad.len() as u64, c.len() as u64, tag);
-        Ok((m, is_right))
+        let mut run = Run::<S>::begin(&self.key, &self.nonce, ad);
+        run.pass(Pass::Seal, mc);
+        run.tag()
     }
 
     /// Opens a ciphertext in place (AEGIS, Decrypt): `mc` is the ciphertext before the call and the message after it.
@@ -189,7 +134,9 @@ impl<S: LaneState, V: Names, const KEY_BYTES: usize, const TAG_BYTES: usize> Cip
         ensures erased { OnErr result (mc.new ≡ replicate (length mc.old) ERASED) }
         ensures error { IfErr result (λ e. e ≡ Error.InvalidTag) }
     {
-        if self.open_unchecked(mc, tag, ad) {
+        let mut run = Run::<S>::begin(&self.key, &self.nonce, ad);
+        run.pass(Pass::Open, mc);
+        if run.has_tag(tag) {
             Ok(())
         } else {
             mc.fill(ERASED);
@@ -215,12 +162,10 @@ impl<S: LaneState, V: Names, const KEY_BYTES: usize, const TAG_BYTES: usize> Cip
         ensures error { IfErr result (λ e. e ≡ Error.OutOfMemory) }
     {
         let mut c = Vec::with_capacity(alloc, m.len()).map_err(|_| Error::OutOfMemory)?;
-        let state = begin::<S>(&self.key, &self.nonce, ad);
-        let mut block = ZEROS;
-        let sealed = pass_appended(state, &mut block, ad.len() as u64, Pass::Seal, m, &mut c);
-        let state = sealed.map_err(|_| Error::OutOfMemory)?;
-        let tag = finish(state, &block, ad.len() as u64, m.len() as u64);
-        Ok((c, tag))
+        let mut run = Run::<S>::begin(&self.key, &self.nonce, ad);
+        run.pass_appended(Pass::Seal, m, &mut c)
+            .map_err(|_| Error::OutOfMemory)?;
+        Ok((c, run.tag()))
     }
 
     /// Opens a ciphertext into a new vector.
@@ -249,10 +194,11 @@ impl<S: LaneState, V: Names, const KEY_BYTES: usize, const TAG_BYTES: usize> Cip
         ensures error { IfErr result (λ e. (e ≡ Error.InvalidTag)
             ⊎ (e ≡ Error.OutOfMemory)) }
     {
-        let (mut m, is_right) = self
-            .open_copied_unchecked(alloc, c, tag, ad)
+        let mut m = Vec::with_capacity(alloc, c.len()).map_err(|_| Error::OutOfMemory)?;
+        let mut run = Run::<S>::begin(&self.key, &self.nonce, ad);
+        run.pass_appended(Pass::Open, c, &mut m)
             .map_err(|_| Error::OutOfMemory)?;
-        if is_right {
+        if run.has_tag(tag) {
             Ok(m)
         } else {
             m.fill(ERASED);
@@ -270,10 +216,9 @@ impl<S: LaneState, V: Names, const KEY_BYTES: usize, const TAG_BYTES: usize> Cip
         ensures error { IfErr result (λ e. e ≡ Error.OutOfMemory) }
     {
         let mut c = Vec::with_capacity(alloc, m.len()).map_err(|_| Error::OutOfMemory)?;
-        let state = S::new(&self.key, &self.nonce);
-        let mut block = ZEROS;
-        let xored = pass_appended(state, &mut block, 0, Pass::Keystream, m, &mut c);
-        xored.map_err(|_| Error::OutOfMemory)?;
+        let mut run = Run::<S>::begin(&self.key, &self.nonce, &[]);
+        run.pass_appended(Pass::Keystream, m, &mut c)
+            .map_err(|_| Error::OutOfMemory)?;
         Ok(c)
     }
 
@@ -283,14 +228,7 @@ impl<S: LaneState, V: Names, const KEY_BYTES: usize, const TAG_BYTES: usize> Cip
         ensures { out.new ≡ keystream S.VARIANT self.key self.nonce (length out.old) }
     {
         out.fill(0);
-        let mut block = ZEROS;
-        seal_more(
-            begin::<S>(&self.key, &self.nonce, &[]),
-            &mut block,
-            0,
-            0,
-            out,
-        );
+        Run::<S>::begin(&self.key, &self.nonce, &[]).pass(Pass::Seal, out);
     }
 
     /// Xors a message in place with the keystream from its beginning. A second such call restores the message.
@@ -298,14 +236,7 @@ impl<S: LaneState, V: Names, const KEY_BYTES: usize, const TAG_BYTES: usize> Cip
         ensures xored { mc.new ≡ xor_keystream S.VARIANT self.key self.nonce mc.old }
         ensures undone { xor_keystream S.VARIANT self.key self.nonce mc.new ≡ mc.old }
     {
-        let mut block = ZEROS;
-        pass_all(
-            S::new(&self.key, &self.nonce),
-            &mut block,
-            0,
-            Pass::Keystream,
-            mc,
-        );
+        Run::<S>::begin(&self.key, &self.nonce, &[]).pass(Pass::Keystream, mc);
     }
 
     /// Returns an encryptor, which seals a message in chunks, with the associated data `ad`.
@@ -315,7 +246,10 @@ impl<S: LaneState, V: Names, const KEY_BYTES: usize, const TAG_BYTES: usize> Cip
         ensures empty { ciphertext S.VARIANT self.now.key self.now.nonce ad.now [] ≡ [] }
         ensures length { result.message_bytes ≡ 0 }
     {
-        Encryptor::new(begin::<S>(&self.key, &self.nonce, ad), ad.len() as u64)
+        Encryptor {
+            run: Run::begin(&self.key, &self.nonce, ad),
+            variant: PhantomData,
+        }
     }
 
     /// Seals a message that is a list of chunks, which may be empty. Writes the ciphertext of the chunks, one after the
@@ -327,10 +261,9 @@ impl<S: LaneState, V: Names, const KEY_BYTES: usize, const TAG_BYTES: usize> Cip
         ensures { (out.new, result)
             ≡ seal S.VARIANT TAG_BYTES self.now.key self.now.nonce ad.now (joined chunks.now) }
     {
-        let state = begin::<S>(&self.key, &self.nonce, ad);
-        let mut block = ZEROS;
-        let state = seal_all(state, &mut block, ad.len() as u64, chunks, out);
-        finish(state, &block, ad.len() as u64, out.len() as u64)
+        let mut run = Run::<S>::begin(&self.key, &self.nonce, ad);
+        run.seal_chunks(chunks, out);
+        run.tag()
     }
 
     /// Returns a decryptor, which opens a ciphertext in chunks, with the associated data `ad`, and writes the message
@@ -344,17 +277,17 @@ impl<S: LaneState, V: Names, const KEY_BYTES: usize, const TAG_BYTES: usize> Cip
         ensures same_reference { result.dst.ghost_name ≡ plaintext.entry.ghost_name }
         ensures same_place { result.dst.ref_ptr ≡ plaintext.entry.ref_ptr }
         ensures unchanged { result.dst.now ≡ plaintext.old }
-        ensures written { result.written ≡ 0 }
+        ensures written { written result ≡ 0 }
         ensures stands { Stands S.VARIANT (holds result) self.now.key self.now.nonce ad.now
             (front result) }
         ensures empty { ciphertext S.VARIANT self.now.key self.now.nonce ad.now (front result)
             ≡ [] }
     {
-        Decryptor::new(
-            begin::<S>(&self.key, &self.nonce, ad),
-            ad.len() as u64,
-            plaintext,
-        )
+        Decryptor {
+            dst: plaintext,
+            run: Run::begin(&self.key, &self.nonce, ad),
+            variant: PhantomData,
+        }
     }
 
     // Opens chunks into the front of `dst` for any tag, and returns how many bytes were written and whether the tag is
@@ -382,20 +315,9 @@ impl<S: LaneState, V: Names, const KEY_BYTES: usize, const TAG_BYTES: usize> Cip
             (accepted (length dst.old) chunks.now) tag.now m
             → take result.0 dst.new ≡ m }
     {
-        let mut state = begin::<S>(&self.key, &self.nonce, ad);
-        let mut block = ZEROS;
-        let mut written = Length::zero();
-        let data_bytes = ad.len() as u64;
-        open_all(
-            &mut state,
-            &mut block,
-            data_bytes,
-            &mut written,
-            dst,
-            chunks,
-        );
-        let is_right = has_tag(state, &block, data_bytes, written.get(), tag);
-        (written.get() as usize, is_right)
+        let mut run = Run::<S>::begin(&self.key, &self.nonce, ad);
+        run.open_all(dst, chunks);
+        (run.message_bytes() as usize, run.has_tag(tag))
     }
 
     // Opens chunks, and overwrites the message with zeros if the tag is wrong.

@@ -1,17 +1,15 @@
 //! The engine of AEGIS: all calls of ciphers and MACs, generic in the family and the number of lanes.
 //!
-//! From the lowest module: `pass` processes rate blocks, `run` pieces of any lengths, `message` associated data and a
-//! message, `pieces` bytes that are copied from another slice, and `chunks` lists of chunks. `cipher`, `encryptor`,
-//! `decryptor` and `mac` have the public calls, and `saved` the calls on a run that its caller keeps as bytes.
+//! From the lowest module: `pass` processes rate blocks, `run` associated data and a message in pieces of any lengths,
+//! `pieces` bytes that are copied from another slice, and `opening` the chunks of a ciphertext. `cipher`, `encryptor`, `decryptor` and `mac` have the public
+//! calls, and `saved` the calls on a run that its caller keeps as bytes.
 #![tactic(auto)]
 
-mod chunks;
 mod cipher;
 mod decryptor;
 mod destination;
 mod encryptor;
 mod mac;
-mod message;
 mod opening;
 mod pass;
 mod pieces;

@@ -7,14 +7,11 @@ ghost use Rattle.aegis_base.specs.Lane.{IsTagLength, start};
 ghost use Rattle.aegis_base.specs.Mac.{mac, mac_input, mac_tag};
 ghost use Rattle.aegis_base.specs.Message.{after_all};
 ghost use Rattle.aegis_base.specs.Run.{Stands, Takes};
-ghost use Rattle.aegis_engine.specs.Held.{held};
 
-use crate::chunks::absorb_chunks;
-use crate::message::{absorb_more, begin, overwrite};
-use crate::pass::{RateBlock, ZEROS};
-use crate::run::pad;
+use crate::pass::ZEROS;
+use crate::run::Run;
 use crate::tag::{folded_tag, same_bytes};
-use aegis_base::{Error, LaneState, Length, MAX_AEAD_BYTES, Names};
+use aegis_base::{Error, LaneState, MAX_AEAD_BYTES, Names};
 use std::alloc::AllocError;
 use std::fmt;
 use std::marker::{Model, PhantomData};
@@ -23,10 +20,9 @@ use std::marker::{Model, PhantomData};
 ///
 /// The input must have at most [`MAX_AEAD_BYTES`]. Contracts state the key, nonce and input so far that a MAC stands
 /// for. No call allocates memory.
+#[derive(Drop)]
 pub struct Mac<S: LaneState, V: Names, const KEY_BYTES: usize, const TAG_BYTES: usize> {
-    state: S,
-    block: RateBlock,
-    bytes: Length,
+    run: Run<S>,
     variant: PhantomData<V>,
 }
 
@@ -36,28 +32,13 @@ impl<S: LaneState, V: Names, const KEY_BYTES: usize, const TAG_BYTES: usize> Mod
     ghost use Rattle.aegis_base.specs.Lane.{IsTagLength};
     ghost use Rattle.aegis_base.specs.declared.error.TheConstants.{MAX_AEAD_BYTES};
     ghost use Rattle.aegis_base.specs.Run.{Held};
-    ghost use Rattle.aegis_engine.specs.Held.{held};
 
     ghost Value = { Held };
 
-    ghost view = { λ m. held S.LaneState m.state m.block 0 m.bytes };
+    ghost view = { λ m. m.run };
 
     ghost invariant = { λ m. IsTagLength TAG_BYTES
-        × (S.updates m.state ≤ m.bytes)
-        × (m.bytes ≤ MAX_AEAD_BYTES) };
-}
-
-impl<S: LaneState, V: Names, const KEY_BYTES: usize, const TAG_BYTES: usize> Drop
-    for Mac<S, V, KEY_BYTES, TAG_BYTES> {
-    fn drop(self) {
-        let Mac {
-            mut state,
-            mut block,
-            bytes: _,
-            variant: _,
-        } = self;
-        overwrite(&mut state, &mut block);
-    }
+        × (m.run.message_bytes ≤ MAX_AEAD_BYTES) };
 }
 
 impl<S: LaneState, V: Names, const KEY_BYTES: usize, const TAG_BYTES: usize> Clone
@@ -68,9 +49,7 @@ impl<S: LaneState, V: Names, const KEY_BYTES: usize, const TAG_BYTES: usize> Clo
 
     fn clone(&self) -> Result<Self, AllocError> {
         Ok(Mac {
-            state: self.state,
-            block: self.block,
-            bytes: self.bytes,
+            run: self.run.copied(),
             variant: PhantomData,
         })
     }
@@ -86,35 +65,36 @@ impl<S: LaneState, V: Names, const KEY_BYTES: usize, const TAG_BYTES: usize> fmt
     }
 }
 
-// The lanes after the input. An empty input is taken in as a rate block of zeros.
-fn input_lanes<S: LaneState>(state: S, block: &RateBlock, bytes: u64) -> S
-    requires { S.updates state + 1 < 2 ^ 64 }
-    ensures lanes { (key nonce x : List ℕ)
-        → Stands S.VARIANT (held S.LaneState state block.now 0 bytes) key nonce [] x
-        → (j : ℕ) → j < S.VARIANT.lanes
-        → S.lane result j
-        ≡ after_all S.VARIANT (start S.VARIANT key nonce j) j (mac_input S.VARIANT x) }
-    ensures few { S.updates result ≤ S.updates state + 1 }
-{
-    if bytes == 0 {
-        let mut after = state;
-        after.absorb(&ZEROS, 0);
-        return after;
+impl<S: LaneState> Run<S> {
+    // The lanes after the input. An empty input is taken in as a rate block of zeros.
+    fn input_lanes(&self) -> S
+        requires { self.now.message_bytes ≤ MAX_AEAD_BYTES }
+        ensures lanes { (key nonce x : List ℕ) → Stands S.VARIANT self.now key nonce [] x
+            → (j : ℕ) → j < S.VARIANT.lanes
+            → S.lane result j
+            ≡ after_all S.VARIANT (start S.VARIANT key nonce j) j (mac_input S.VARIANT x) }
+        ensures few { S.updates result ≤ self.now.data_bytes + self.now.message_bytes + 1 }
+    {
+        if self.message_bytes == 0 {
+            let mut after = self.state;
+            after.absorb(&ZEROS, 0);
+            return after;
+        }
+        self.padded()
     }
-    pad(state, block, bytes)
-}
 
-/// The lanes after the input and its end.
-pub fn end_input<S: LaneState, const TAG_BYTES: usize>(state: S, block: &RateBlock, bytes: u64) -> S
-    requires tag_bytes { IsTagLength TAG_BYTES }
-    requires countable { S.updates state ≤ bytes }
-    requires within { bytes ≤ MAX_AEAD_BYTES }
-    ensures tag { (key nonce x : List ℕ)
-        → Stands S.VARIANT (held S.LaneState state block.now 0 bytes) key nonce [] x
-        → mac_tag S.VARIANT TAG_BYTES (S.lane result) ≡ mac S.VARIANT TAG_BYTES key nonce x }
-    ensures few { S.updates result ≤ bytes + 8 }
-{
-    input_lanes(state, block, bytes).finish(8 * bytes, 8 * TAG_BYTES as u64)
+    /// Returns the MAC of the input of a run without associated data.
+    pub fn mac<const TAG_BYTES: usize>(&self) -> [u8; TAG_BYTES]
+        requires tag_bytes { IsTagLength TAG_BYTES }
+        requires within { self.now.message_bytes ≤ MAX_AEAD_BYTES }
+        ensures { (key nonce x : List ℕ) → Stands S.VARIANT self.now key nonce [] x
+            → result ≡ mac S.VARIANT TAG_BYTES key nonce x }
+    {
+        let end = self
+            .input_lanes()
+            .finish(8 * self.message_bytes, 8 * TAG_BYTES as u64);
+        folded_tag(end)
+    }
 }
 
 /// The MAC of an input that is there at once. The key and the nonce have the variant's length, and the input has at most
@@ -130,9 +110,9 @@ pub fn mac_at_once<S: LaneState, const TAG_BYTES: usize>(
     requires within { length input.now ≤ MAX_AEAD_BYTES }
     ensures { result ≡ mac S.VARIANT TAG_BYTES key.now nonce.now input.now }
 {
-    let mut block = ZEROS;
-    let state = absorb_more(begin::<S>(key, nonce, &[]), &mut block, 0, input);
-    folded_tag(end_input::<S, TAG_BYTES>(state, &block, input.len() as u64))
+    let mut run = Run::<S>::begin(key, nonce, &[]);
+    run.absorb(input);
+    run.mac()
 }
 
 impl<S: LaneState, V: Names, const KEY_BYTES: usize, const TAG_BYTES: usize> Mac<
@@ -159,9 +139,7 @@ impl<S: LaneState, V: Names, const KEY_BYTES: usize, const TAG_BYTES: usize> Mac
         ensures length { result.message_bytes ≡ 0 }
     {
         Mac {
-            state: begin::<S>(key, nonce, &[]),
-            block: ZEROS,
-            bytes: Length::zero(),
+            run: Run::begin(key, nonce, &[]),
             variant: PhantomData,
         }
     }
@@ -172,15 +150,24 @@ impl<S: LaneState, V: Names, const KEY_BYTES: usize, const TAG_BYTES: usize> Mac
         ensures taken { Takes S.VARIANT self.old self.new input.now }
         ensures length { self.new.message_bytes ≡ self.old.message_bytes + length input.now }
     {
-        self.state = absorb_more(self.state, &mut self.block, self.bytes.get(), input);
-        let _ = self.bytes.add(input.len() as u64);
+        self.run.absorb(input);
+    }
+
+    // Takes in all chunks, in order.
+    fn update_all(&mut self, chunks: &[&[u8]])
+        requires { self.old.message_bytes + length (joined chunks.now) ≤ MAX_AEAD_BYTES }
+        ensures { Takes S.VARIANT self.old self.new (joined chunks.now) }
+    {
+        for chunk in chunks {
+            self.update(chunk);
+        }
     }
 
     /// Returns how many more bytes the input may have, of [`MAX_AEAD_BYTES`].
     pub fn remaining(&self) -> u64
         ensures { result ≡ MAX_AEAD_BYTES - self.now.message_bytes }
     {
-        self.bytes.remaining()
+        self.run.remaining()
     }
 
     /// Returns the MAC of the input.
@@ -188,7 +175,7 @@ impl<S: LaneState, V: Names, const KEY_BYTES: usize, const TAG_BYTES: usize> Mac
         ensures { (key nonce x : List ℕ) → Stands S.VARIANT self key nonce [] x
             → result ≡ mac S.VARIANT TAG_BYTES key nonce x }
     {
-        folded_tag(end_input::<S, TAG_BYTES>(self.state, &self.block, self.bytes.get()))
+        self.run.mac()
     }
 
     /// Returns the MAC of the input followed by all chunks, which must have at most `remaining` bytes (see
@@ -198,10 +185,9 @@ impl<S: LaneState, V: Names, const KEY_BYTES: usize, const TAG_BYTES: usize> Mac
         ensures { (key nonce x : List ℕ) → Stands S.VARIANT self key nonce [] x
             → result ≡ mac S.VARIANT TAG_BYTES key nonce (x ++ joined chunks.now) }
     {
-        let mut block = self.block;
-        let mut bytes = self.bytes;
-        let state = absorb_chunks(self.state, &mut block, &mut bytes, chunks);
-        folded_tag(end_input::<S, TAG_BYTES>(state, &block, bytes.get()))
+        let mut mac = self;
+        mac.update_all(chunks);
+        mac.finalize()
     }
 
     /// Returns `Ok` exactly if the MAC of the input is `expected`, and otherwise [`Error::InvalidTag`]. All bytes are

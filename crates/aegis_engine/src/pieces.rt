@@ -2,14 +2,13 @@
 //!
 //! A piece is short, so that the next one can be read from memory while the rounds of this one run.
 
-ghost use Rattle.std.specs.Prelude.{◌≡◌, ℕ, ◌+◌, ◌^◌, ◌<◌, ◌≤◌, IfOk, List, OnOk, [], length};
-ghost use Rattle.aegis_base.specs.Message.{ciphertext};
-ghost use Rattle.aegis_base.specs.Run.{Encrypts, Stands, Takes};
-ghost use Rattle.aegis_engine.specs.Held.{held};
+ghost use Rattle.std.specs.Prelude.{◌≡◌, ℕ, ◌+◌, ◌^◌, ◌<◌, ◌≤◌, OnOk, [], length};
+ghost use Rattle.aegis_base.specs.Chunks.{joined};
+ghost use Rattle.aegis_base.specs.Run.{Encrypts, Takes};
 ghost use Rattle.aegis_engine.specs.Pass.{sealed, taken};
 
-use crate::message::pass_more;
-use crate::pass::{Pass, RateBlock};
+use crate::pass::Pass;
+use crate::run::Run;
 use aegis_base::LaneState;
 use std::alloc::{AllocError, Allocator};
 
@@ -27,75 +26,69 @@ fn piece_len(total: u64, left: usize) -> usize
     left.min(PIECE_BYTES - over)
 }
 
-/// Copies the next bytes of a message from `source` to `out`, which is as long, and processes them there as `pass_more`
-/// does.
-#[inline(always)]
-pub fn pass_copied<S: LaneState>(
-    state: S,
-    block: &mut RateBlock,
-    data_bytes: u64,
-    message_bytes: u64,
-    pass: Pass,
-    source: &[u8],
-    out: &mut [u8],
-) -> S
-    requires within { message_bytes + length source.now < 2 ^ 64 }
-    requires lengths { length source.now ≡ length out.old }
-    requires countable { S.updates state + length source.now < 2 ^ 64 }
-    ensures taken { Takes S.VARIANT
-        (held S.LaneState state block.old data_bytes message_bytes)
-        (held S.LaneState result block.new data_bytes (message_bytes + length source.now))
-        (taken pass source.now out.new) }
-    ensures written { Encrypts S.VARIANT
-        (held S.LaneState state block.old data_bytes message_bytes)
-        (taken pass source.now out.new) (sealed pass source.now out.new) }
-    ensures few { S.updates result ≤ S.updates state + length source.now }
-{
-    let mut state = state;
-    let mut at = 0;
-    while at < source.len() {
-        let so_far = message_bytes + at as u64;
-        let end = at + piece_len(so_far, source.len() - at);
-        let part = &mut out[at..end];
-        part.copy_from_slice(&source[at..end]);
-        state = pass_more(state, block, data_bytes, so_far, pass, part);
-        at = end;
+impl<S: LaneState> Run<S> {
+    /// Copies the next bytes of a message from `source` to `out`, which is as long, and processes them there as `pass`
+    /// does.
+    #[inline(always)]
+    pub fn pass_from(&mut self, pass: Pass, source: &[u8], out: &mut [u8])
+        requires within { self.old.message_bytes + length source.now < 2 ^ 63 }
+        requires lengths { length source.now ≡ length out.old }
+        ensures taken { Takes S.VARIANT self.old self.new (taken pass source.now out.new) }
+        ensures written { Encrypts S.VARIANT self.old (taken pass source.now out.new)
+            (sealed pass source.now out.new) }
+        ensures length { self.new.message_bytes ≡ self.old.message_bytes + length source.now }
+    {
+        let mut at = 0;
+        while at < source.len() {
+            let end = at + piece_len(self.message_bytes, source.len() - at);
+            let part = &mut out[at..end];
+            part.copy_from_slice(&source[at..end]);
+            self.pass(pass, part);
+            at = end;
+        }
     }
-    state
-}
 
-/// Appends a whole message from `source` to an empty vector, and processes it there. A vector with enough capacity
-/// allocates nothing here.
-#[inline(always)]
-pub fn pass_appended<S: LaneState, A: Allocator>(
-    state: S,
-    block: &mut RateBlock,
-    data_bytes: u64,
-    pass: Pass,
-    source: &[u8],
-    out: &mut Vec<u8, A>,
-) -> Result<S, AllocError>
-    requires empty { out.old.items ≡ [] }
-    requires countable { S.updates state + length source.now < 2 ^ 64 }
-    ensures stands { (key nonce ad : List ℕ)
-        → Stands S.VARIANT (held S.LaneState state block.old data_bytes 0) key nonce ad []
-        → IfOk result
-        (λ after. Stands S.VARIANT
-        (held S.LaneState after block.new data_bytes (length source.now)) key nonce ad
-        (taken pass source.now out.new.items)) }
-    ensures ciphertext { (key nonce ad : List ℕ)
-        → Stands S.VARIANT (held S.LaneState state block.old data_bytes 0) key nonce ad []
-        → OnOk result
-        (ciphertext S.VARIANT key nonce ad (taken pass source.now out.new.items)
-        ≡ sealed pass source.now out.new.items) }
-    ensures length { OnOk result (length out.new.items ≡ length source.now) }
-    ensures few { IfOk result (λ after. S.updates after ≤ S.updates state + length source.now) }
-{
-    let mut state = state;
-    for piece in source.chunks(PIECE_BYTES) {
-        let at = out.len();
-        out.extend_from_slice(piece)?;
-        state = pass_more(state, block, data_bytes, at as u64, pass, &mut out[at..]);
+    /// Seals the next bytes of a message, which are chunks, into `out`. `out` is as long as all of them together.
+    pub fn seal_chunks(&mut self, chunks: &[&[u8]], out: &mut [u8])
+        requires within { self.old.message_bytes + length out.old < 2 ^ 63 }
+        requires lengths { length out.old ≡ length (joined chunks.now) }
+        ensures taken { Takes S.VARIANT self.old self.new (joined chunks.now) }
+        ensures written { Encrypts S.VARIANT self.old (joined chunks.now) out.new }
+        ensures length { self.new.message_bytes ≡ self.old.message_bytes + length out.old }
+    {
+        let mut at = 0;
+        for chunk in chunks {
+            let end = at + chunk.len();
+            let part = &mut out[at..end];
+            self.pass_from(Pass::Seal, chunk, part);
+            at = end;
+        }
     }
-    Ok(state)
+
+    /// Appends the next bytes of a message from `source` to an empty vector, and processes them there. A vector with
+    /// enough capacity allocates nothing here.
+    #[inline(always)]
+    pub fn pass_appended<A: Allocator>(
+        &mut self,
+        pass: Pass,
+        source: &[u8],
+        out: &mut Vec<u8, A>,
+    ) -> Result<(), AllocError>
+        requires within { self.old.message_bytes + length source.now < 2 ^ 63 }
+        requires empty { out.old.items ≡ [] }
+        ensures taken { OnOk result
+            (Takes S.VARIANT self.old self.new (taken pass source.now out.new.items)) }
+        ensures written { OnOk result (Encrypts S.VARIANT self.old
+            (taken pass source.now out.new.items) (sealed pass source.now out.new.items)) }
+        ensures message_bytes { OnOk result
+            (self.new.message_bytes ≡ self.old.message_bytes + length source.now) }
+        ensures length { OnOk result (length out.new.items ≡ length source.now) }
+    {
+        for piece in source.chunks(PIECE_BYTES) {
+            let at = out.len();
+            out.extend_from_slice(piece)?;
+            self.pass(pass, &mut out[at..]);
+        }
+        Ok(())
+    }
 }

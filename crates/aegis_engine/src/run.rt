@@ -1,18 +1,58 @@
-//! Runs: processing an input in pieces of any lengths.
+//! Runs: lanes that take in associated data and a message, in pieces of any lengths.
 //!
-//! A run is a state, the open block and the number of bytes so far, as plain values. A piece first fills the open
-//! block; then its whole rate blocks are processed in place, and the open block keeps the rest. A call that has its
-//! whole input at once is a run of one piece.
+//! A piece first fills the open block; then its whole rate blocks are processed in place, and the open block keeps the
+//! rest. A call that has its whole input at once is a run of one piece. In contracts a run is a `Held`, and clauses
+//! state the key, nonce, associated data and message so far that it stands for.
 
-ghost use Rattle.std.specs.Prelude.{◌≡◌, ℕ, ◌+◌, ◌%◌, ◌/◌, ◌^◌, ◌<◌, ◌≤◌, bit_xor, length, List, slice_index};
-ghost use Rattle.aegis_base.specs.Message.{after_all, block_count, keystream_byte_along};
-ghost use Rattle.aegis_base.specs.Run.{HasFrom, IsAlong};
-ghost use Rattle.aegis_engine.specs.Pass.{taken};
+ghost use Rattle.std.specs.Prelude.{◌≡◌, ℕ, ◌+◌, ◌-◌, ◌*◌, ◌%◌, ◌/◌, ◌^◌, ◌<◌, ◌≤◌, ◌⊎◌, ◌++◌, ◌↔◌, [], bit_xor, length, List, slice_index, true};
+ghost use Rattle.aegis_base.specs.Lane.{IsTagLength};
+ghost use Rattle.aegis_base.specs.Message.{Opens, after_all, block_count, ciphertext, keystream_byte_along, lane_before, lane_end, tag as tag_of};
+ghost use Rattle.aegis_base.specs.Run.{Encrypts, HasFrom, IsAccepted, IsAlong, IsTagged, Stands, Takes};
+ghost use Rattle.aegis_base.specs.Variant.{key_length};
+ghost use Rattle.aegis_engine.specs.Pass.{sealed, taken};
 
 use crate::pass::{
     Pass, RateBlock, ZEROS, absorb_part, absorb_whole, copy_part, pass_part, pass_whole,
 };
-use aegis_base::LaneState;
+use crate::tag::{lanes_tag, same_bytes};
+use aegis_base::{LaneState, MAX_AEAD_BYTES};
+use std::marker::Model;
+
+/// A run: the lanes, the open block, and the numbers of bytes of associated data and of the message that were taken in.
+/// Its lanes and its open block are overwritten with zeros when it is dropped; no clause states this.
+pub struct Run<S: LaneState> {
+    pub(crate) state: S,
+    pub(crate) block: RateBlock,
+    pub(crate) data_bytes: u64,
+    pub(crate) message_bytes: u64,
+}
+
+impl<S: LaneState> Model for Run<S> {
+    ghost use Rattle.std.specs.Prelude.{◌+◌, ◌≤◌};
+    ghost use Rattle.aegis_base.specs.declared.error.TheConstants.{MAX_AEAD_BYTES};
+    ghost use Rattle.aegis_base.specs.Run.{Held, held_by};
+
+    ghost Value = { Held };
+
+    ghost view = { λ r. held_by S.VARIANT (S.lane r.state) (S.updates r.state) r.block
+        r.data_bytes r.message_bytes };
+
+    ghost invariant = { λ r. (S.updates r.state ≤ r.data_bytes + r.message_bytes)
+        × (r.data_bytes ≤ MAX_AEAD_BYTES) };
+}
+
+impl<S: LaneState> Drop for Run<S> {
+    fn drop(self) {
+        let Run {
+            mut state,
+            mut block,
+            data_bytes: _,
+            message_bytes: _,
+        } = self;
+        state = S::zeros();
+        block = ZEROS;
+    }
+}
 
 // How many of the next `count` bytes go to the rate block that is open after `total` bytes: 0 if none is open.
 fn filling<S: LaneState>(total: u64, count: usize) -> usize
@@ -28,102 +68,191 @@ fn filling<S: LaneState>(total: u64, count: usize) -> usize
     }
 }
 
-/// The lanes after `bytes`, which follow the `total` bytes that they have taken in.
-#[inline(always)]
-pub fn absorb_all<S: LaneState>(state: S, block: &mut RateBlock, total: u64, bytes: &[u8]) -> S
-    requires within { total + length bytes.now < 2 ^ 64 }
-    requires countable { S.updates state + length bytes.now < 2 ^ 64 }
-    ensures along { (lanes : ℕ → List (List ℕ)) (x : List ℕ)
-        → IsAlong S.VARIANT lanes (S.lane state) block.old x total
-        → HasFrom x total bytes.now
-        → IsAlong S.VARIANT lanes (S.lane result) block.new x (total + length bytes.now) }
-    ensures updates { S.updates result + total / S.RATE
-        ≡ S.updates state + (total + length bytes.now) / S.RATE }
-    ensures few { S.updates result ≤ S.updates state + length bytes.now }
+// The lanes after their start and associated data. Out of line, it is there once for all calls; a run that begins in its
+// caller has a count that is known to be 0 there.
+#[inline(never)]
+fn begun<S: LaneState>(key: &[u8], nonce: &[u8], ad: &[u8]) -> S
+    requires key_length { length key.now ≡ key_length S.VARIANT.family }
+    requires nonce_length { length nonce.now ≡ key_length S.VARIANT.family }
+    requires associated_data_within { length ad.now ≤ MAX_AEAD_BYTES }
+    ensures lanes { (j : ℕ) → j < S.VARIANT.lanes
+        → S.lane result j ≡ lane_before S.VARIANT key.now nonce.now ad.now j }
+    ensures updates { S.updates result ≡ block_count S.VARIANT (length ad.now) }
 {
-    let first = filling::<S>(total, bytes.len());
-    let whole = (bytes.len() - first) / S::RATE;
-    let last = first + whole * S::RATE;
-    let rest = bytes.len() - last;
-    // As in `pass_all`. Empty associated data comes here too.
-    if first + rest == 0 {
-        return absorb_whole(state, bytes, 0, whole);
-    }
-    let mut state = state;
-    absorb_part(&mut state, block, total, bytes, 0, first);
-    let mut state = absorb_whole(state, bytes, first, whole);
-    absorb_part(&mut state, block, total + last as u64, bytes, last, rest);
-    state
+    let mut run = Run {
+        state: S::new(key, nonce),
+        block: ZEROS,
+        data_bytes: 0,
+        message_bytes: 0,
+    };
+    run.absorb(ad);
+    run.padded()
 }
 
-/// The lanes after a buffer, which follows the `total` bytes that they have taken in: each byte is xored with the
-/// keystream, and the lanes take in the bytes that `pass` selects.
-#[inline(always)]
-pub fn pass_all<S: LaneState>(
-    state: S,
-    block: &mut RateBlock,
-    total: u64,
-    pass: Pass,
-    buffer: &mut [u8],
-) -> S
-    requires within { total + length buffer.old < 2 ^ 64 }
-    requires countable { S.updates state + length buffer.old < 2 ^ 64 }
-    ensures along { (lanes : ℕ → List (List ℕ)) (x : List ℕ)
-        → IsAlong S.VARIANT lanes (S.lane state) block.old x total
-        → HasFrom x total (taken pass buffer.old buffer.new)
-        → IsAlong S.VARIANT lanes (S.lane result) block.new x (total + length buffer.old) }
-    ensures written { (lanes : ℕ → List (List ℕ)) (x : List ℕ)
-        → IsAlong S.VARIANT lanes (S.lane state) block.old x total
-        → HasFrom x total (taken pass buffer.old buffer.new)
-        → (i : ℕ) → i < length buffer.old
-        → slice_index buffer.new i
-        ≡ bit_xor (slice_index buffer.old i)
-        (keystream_byte_along S.VARIANT lanes x (total + i)) }
-    ensures updates { S.updates result + total / S.RATE
-        ≡ S.updates state + (total + length buffer.old) / S.RATE }
-    ensures few { S.updates result ≤ S.updates state + length buffer.old }
-{
-    let first = filling::<S>(total, buffer.len());
-    let whole = (buffer.len() - first) / S::RATE;
-    let last = first + whole * S::RATE;
-    let rest = buffer.len() - last;
-    // Most pieces are whole rate blocks alone. They need no copy of the state between the three parts.
-    if first + rest == 0 {
-        return pass_whole(state, pass, buffer, 0, whole);
+impl<S: LaneState> Run<S> {
+    /// Begins a run by the start of the lanes and the associated data.
+    #[inline(always)]
+    pub fn begin(key: &[u8], nonce: &[u8], ad: &[u8]) -> Self
+        requires key_length { length key.now ≡ key_length S.VARIANT.family }
+        requires nonce_length { length nonce.now ≡ key_length S.VARIANT.family }
+        requires associated_data_within { length ad.now ≤ MAX_AEAD_BYTES }
+        ensures stands { Stands S.VARIANT result key.now nonce.now ad.now [] }
+        ensures empty { ciphertext S.VARIANT key.now nonce.now ad.now [] ≡ [] }
+        ensures data_bytes { result.data_bytes ≡ length ad.now }
+        ensures message_bytes { result.message_bytes ≡ 0 }
+    {
+        Run {
+            state: begun(key, nonce, ad),
+            block: ZEROS,
+            data_bytes: ad.len() as u64,
+            message_bytes: 0,
+        }
     }
-    let mut state = state;
-    pass_part(&mut state, block, total, pass, buffer, 0, first);
-    let mut state = pass_whole(state, pass, buffer, first, whole);
-    pass_part(
-        &mut state,
-        block,
-        total + last as u64,
-        pass,
-        buffer,
-        last,
-        rest,
-    );
-    state
-}
 
-/// The lanes after all `total` bytes of a run: if a rate block is open, it is taken in, padded with zeros.
-#[inline(always)]
-pub fn pad<S: LaneState>(state: S, block: &RateBlock, total: u64) -> S
-    requires { S.updates state + 1 < 2 ^ 64 }
-    ensures lanes { (lanes : ℕ → List (List ℕ)) (x : List ℕ) → length x ≡ total
-        → IsAlong S.VARIANT lanes (S.lane state) block.now x total
-        → (j : ℕ) → j < S.VARIANT.lanes
-        → S.lane result j ≡ after_all S.VARIANT (lanes j) j x }
-    ensures updates { S.updates result + total / S.RATE
-        ≡ S.updates state + block_count S.VARIANT total }
-{
-    let open = (total % S::RATE as u64) as usize;
-    if open == 0 {
-        return state;
+    /// Returns a copy.
+    pub fn copied(&self) -> Self
+        ensures { result ≡ self.now }
+    {
+        Run {
+            state: self.state,
+            block: self.block,
+            data_bytes: self.data_bytes,
+            message_bytes: self.message_bytes,
+        }
     }
-    let mut last = ZEROS;
-    copy_part(&mut last, 0, block, 0, open);
-    let mut state = state;
-    state.absorb(&last, 0);
-    state
+
+    /// Returns the number of bytes of the message so far.
+    pub fn message_bytes(&self) -> u64
+        ensures { result ≡ self.now.message_bytes }
+    {
+        self.message_bytes
+    }
+
+    /// Returns how many more bytes the message may have, of [`MAX_AEAD_BYTES`].
+    pub fn remaining(&self) -> u64
+        requires { self.now.message_bytes ≤ MAX_AEAD_BYTES }
+        ensures { result ≡ MAX_AEAD_BYTES - self.now.message_bytes }
+    {
+        MAX_AEAD_BYTES - self.message_bytes
+    }
+
+    /// Takes in the next bytes of an input that is not encrypted.
+    #[inline(always)]
+    pub fn absorb(&mut self, bytes: &[u8])
+        requires { self.old.message_bytes + length bytes.now < 2 ^ 63 }
+        ensures taken { Takes S.VARIANT self.old self.new bytes.now }
+        ensures length { self.new.message_bytes ≡ self.old.message_bytes + length bytes.now }
+    {
+        let total = self.message_bytes;
+        let first = filling::<S>(total, bytes.len());
+        let whole = (bytes.len() - first) / S::RATE;
+        let last = first + whole * S::RATE;
+        let rest = bytes.len() - last;
+        self.message_bytes += bytes.len() as u64;
+        // As in `pass`. Empty associated data comes here too.
+        if first + rest == 0 {
+            self.state = absorb_whole(self.state, bytes, 0, whole);
+            return;
+        }
+        let (mut state, mut block) = (self.state, self.block);
+        absorb_part(&mut state, &mut block, total, bytes, 0, first);
+        let mut state = absorb_whole(state, bytes, first, whole);
+        let end = total + last as u64;
+        absorb_part(&mut state, &mut block, end, bytes, last, rest);
+        self.state = state;
+        self.block = block;
+    }
+
+    /// Processes the next bytes of a message in place: each byte is xored with the keystream, and the lanes take in the
+    /// bytes that `pass` selects.
+    #[inline(always)]
+    pub fn pass(&mut self, pass: Pass, mc: &mut [u8])
+        requires { self.old.message_bytes + length mc.old < 2 ^ 63 }
+        ensures taken { Takes S.VARIANT self.old self.new (taken pass mc.old mc.new) }
+        ensures written { Encrypts S.VARIANT self.old (taken pass mc.old mc.new)
+            (sealed pass mc.old mc.new) }
+        ensures data_bytes { self.new.data_bytes ≡ self.old.data_bytes }
+        ensures length { self.new.message_bytes ≡ self.old.message_bytes + length mc.old }
+    {
+        let total = self.message_bytes;
+        let first = filling::<S>(total, mc.len());
+        let whole = (mc.len() - first) / S::RATE;
+        let last = first + whole * S::RATE;
+        let rest = mc.len() - last;
+        self.message_bytes += mc.len() as u64;
+        // Most pieces are whole rate blocks alone. They need no call before or after the loop.
+        if first + rest == 0 {
+            self.state = pass_whole(self.state, pass, mc, 0, whole);
+            return;
+        }
+        let mut state = self.state;
+        pass_part(&mut state, &mut self.block, total, pass, mc, 0, first);
+        let mut state = pass_whole(state, pass, mc, first, whole);
+        let end = total + last as u64;
+        pass_part(&mut state, &mut self.block, end, pass, mc, last, rest);
+        self.state = state;
+    }
+
+    /// Returns the lanes after all bytes: if a rate block is open, it is taken in, padded with zeros.
+    #[inline(always)]
+    pub fn padded(&self) -> S
+        requires { self.now.message_bytes ≤ MAX_AEAD_BYTES }
+        ensures lanes { (key nonce ad m : List ℕ) → Stands S.VARIANT self.now key nonce ad m
+            → (j : ℕ) → j < S.VARIANT.lanes
+            → S.lane result j
+            ≡ after_all S.VARIANT (lane_before S.VARIANT key nonce ad j) j m }
+        ensures updates { (key nonce ad m : List ℕ) → Stands S.VARIANT self.now key nonce ad m
+            → S.updates result
+            ≡ block_count S.VARIANT (length ad) + block_count S.VARIANT (length m) }
+        ensures few { S.updates result ≤ self.now.data_bytes + self.now.message_bytes + 1 }
+    {
+        let open = (self.message_bytes % S::RATE as u64) as usize;
+        let mut state = self.state;
+        if open > 0 {
+            let mut last = ZEROS;
+            copy_part(&mut last, 0, &self.block, 0, open);
+            state.absorb(&last, 0);
+        }
+        state
+    }
+
+    // The lanes after the end of the message (AEGIS, Finalize).
+    fn end(&self) -> S
+        requires { self.now.message_bytes ≤ MAX_AEAD_BYTES }
+        ensures lanes { (key nonce ad m : List ℕ) → Stands S.VARIANT self.now key nonce ad m
+            → (j : ℕ) → j < S.VARIANT.lanes
+            → S.lane result j ≡ lane_end S.VARIANT key nonce ad m j }
+        ensures updates { (key nonce ad m : List ℕ) → Stands S.VARIANT self.now key nonce ad m
+            → S.updates result
+            ≡ block_count S.VARIANT (length ad) + block_count S.VARIANT (length m) + 7 }
+    {
+        self.padded()
+            .finish(8 * self.data_bytes, 8 * self.message_bytes)
+    }
+
+    /// Returns the tag of the message.
+    pub fn tag<const TAG_BYTES: usize>(&self) -> [u8; TAG_BYTES]
+        requires tag_bytes { IsTagLength TAG_BYTES }
+        requires message_within { self.now.message_bytes ≤ MAX_AEAD_BYTES }
+        ensures { (key nonce ad m : List ℕ) → Stands S.VARIANT self.now key nonce ad m
+            → result ≡ tag_of S.VARIANT TAG_BYTES key nonce ad m }
+    {
+        lanes_tag(self.end())
+    }
+
+    /// Returns whether `tag` is the tag of the message.
+    pub fn has_tag<const TAG_BYTES: usize>(&self, tag: &[u8; TAG_BYTES]) -> bool
+        requires tag_bytes { IsTagLength TAG_BYTES }
+        requires message_within { self.now.message_bytes ≤ MAX_AEAD_BYTES }
+        ensures tag { (m : List ℕ) → IsTagged S.VARIANT TAG_BYTES self.now m tag.now
+            (result ≡ true) }
+        ensures accepted { (m : List ℕ) → IsAccepted S.VARIANT TAG_BYTES self.now m tag.now
+            (result ≡ true) }
+        ensures only { (key nonce ad m opened : List ℕ) → Stands S.VARIANT self.now key nonce ad m
+            → Opens S.VARIANT TAG_BYTES key nonce ad
+            (ciphertext S.VARIANT key nonce ad m) tag.now opened
+            → m ≡ opened }
+    {
+        same_bytes(&self.tag::<TAG_BYTES>(), tag)
+    }
 }

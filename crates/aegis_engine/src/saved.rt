@@ -11,15 +11,12 @@ ghost use Rattle.aegis_base.specs.Mac.{mac};
 ghost use Rattle.aegis_base.specs.Message.{Opens, block_count, ciphertext, tag as tag_of};
 ghost use Rattle.aegis_base.specs.Run.{Stands};
 ghost use Rattle.aegis_base.specs.Variant.{key_length};
-ghost use Rattle.aegis_engine.specs.Held.{held};
 ghost use Rattle.aegis_engine.specs.Saved.{HasChecked, HasSealed, HasTaken, IsSaved};
 
-use crate::mac::end_input;
-use crate::message::{absorb_more, begin, finish, open_more, seal_more};
-use crate::opening::has_tag;
-use crate::pass::{RateBlock, ZEROS};
+use crate::pass::{Pass, RateBlock, ZEROS};
 use crate::pieces::PIECE_BYTES;
-use crate::tag::{folded_tag, same_bytes};
+use crate::run::Run;
+use crate::tag::same_bytes;
 use aegis_base::{LaneState, MAX_AEAD_BYTES, SavedLanes, SavedRows};
 
 /// The mark of a run from its beginning to its end. Other bytes are unlikely to have it by chance.
@@ -63,18 +60,35 @@ fn updates_along<S: LaneState>(data_bytes: u64, message_bytes: u64) -> u64
 }
 
 impl SavedRun {
-    // The lanes, with their updates counted.
-    fn lanes<S: SavedLanes>(&self) -> S
+    // The run, with its updates counted.
+    fn run<S: SavedLanes>(&self) -> Run<S>
         requires associated_data_within { self.now.data_bytes ≤ MAX_AEAD_BYTES }
         requires message_within { self.now.message_bytes ≤ MAX_AEAD_BYTES }
         ensures stands { (key nonce ad m : List ℕ) → IsSaved S.VARIANT self.now key nonce ad m
-            → Stands S.VARIANT
-            (held S.LaneState result self.now.block self.now.data_bytes self.now.message_bytes)
-            key nonce ad m }
-        ensures few { S.updates result ≤ self.now.data_bytes + self.now.message_bytes }
+            → Stands S.VARIANT result key nonce ad m }
+        ensures data_bytes { result.data_bytes ≡ self.now.data_bytes }
+        ensures message_bytes { result.message_bytes ≡ self.now.message_bytes }
     {
         let count = updates_along::<S>(self.data_bytes, self.message_bytes);
-        S::restore(&self.rows, count)
+        Run {
+            state: S::restore(&self.rows, count),
+            block: self.block,
+            data_bytes: self.data_bytes,
+            message_bytes: self.message_bytes,
+        }
+    }
+
+    // Saves a run in place of this one, under the same mark.
+    fn keep<S: SavedLanes>(&mut self, run: &Run<S>)
+        ensures stands { (key nonce ad m : List ℕ) → Stands S.VARIANT run.now key nonce ad m
+            → self.old.mark ≡ BEGUN → IsSaved S.VARIANT self.new key nonce ad m }
+        ensures data_bytes { self.new.data_bytes ≡ run.now.data_bytes }
+        ensures message_bytes { self.new.message_bytes ≡ run.now.message_bytes }
+    {
+        run.state.save(&mut self.rows);
+        self.block = run.block;
+        self.data_bytes = run.data_bytes;
+        self.message_bytes = run.message_bytes;
     }
 
     /// Begins a message with the associated data `ad`, or a MAC, for which `ad` must be empty. The key and the nonce
@@ -86,11 +100,8 @@ impl SavedRun {
         ensures stands { IsSaved S.VARIANT self.new key.now nonce.now ad.now [] }
         ensures empty { ciphertext S.VARIANT key.now nonce.now ad.now [] ≡ [] }
     {
-        begin::<S>(key, nonce, ad).save(&mut self.rows);
         self.mark = BEGUN;
-        self.block = ZEROS;
-        self.data_bytes = ad.len() as u64;
-        self.message_bytes = 0;
+        self.keep(&Run::<S>::begin(key, nonce, ad));
     }
 
     /// Seals the next bytes of the message in place. Together with those before, there must be at most
@@ -101,11 +112,9 @@ impl SavedRun {
         ensures taken { HasTaken S.VARIANT self.old self.new mc.old }
         ensures written { HasSealed S.VARIANT self.old mc.old mc.new }
     {
-        let so_far = self.message_bytes;
-        let state = self.lanes::<S>();
-        let next = seal_more(state, &mut self.block, self.data_bytes, so_far, mc);
-        next.save(&mut self.rows);
-        self.message_bytes += mc.len() as u64;
+        let mut run = self.run::<S>();
+        run.pass(Pass::Seal, mc);
+        self.keep(&run);
     }
 
     /// Opens the next bytes of the ciphertext in place, before the tag is known. The limit is that of `seal`.
@@ -117,11 +126,9 @@ impl SavedRun {
         ensures associated_data { self.new.data_bytes ≡ self.old.data_bytes }
         ensures counted { self.new.message_bytes ≡ self.old.message_bytes + length mc.old }
     {
-        let so_far = self.message_bytes;
-        let state = self.lanes::<S>();
-        let next = open_more(state, &mut self.block, self.data_bytes, so_far, mc);
-        next.save(&mut self.rows);
-        self.message_bytes += mc.len() as u64;
+        let mut run = self.run::<S>();
+        run.pass(Pass::Open, mc);
+        self.keep(&run);
     }
 
     // Takes in a piece of the ciphertext, which is opened in a copy.
@@ -156,10 +163,9 @@ impl SavedRun {
         requires message_within { self.old.message_bytes + length input.now ≤ MAX_AEAD_BYTES }
         ensures { HasTaken S.VARIANT self.old self.new input.now }
     {
-        let state = self.lanes::<S>();
-        let next = absorb_more(state, &mut self.block, self.message_bytes, input);
-        next.save(&mut self.rows);
-        self.message_bytes += input.len() as u64;
+        let mut run = self.run::<S>();
+        run.absorb(input);
+        self.keep(&run);
     }
 
     /// Returns the tag of the message. The run may continue afterwards.
@@ -170,12 +176,7 @@ impl SavedRun {
         ensures { (key nonce ad m : List ℕ) → IsSaved S.VARIANT self.now key nonce ad m
             → result ≡ tag_of S.VARIANT TAG_BYTES key nonce ad m }
     {
-        finish(
-            self.lanes::<S>(),
-            &self.block,
-            self.data_bytes,
-            self.message_bytes,
-        )
+        self.run::<S>().tag()
     }
 
     /// Returns whether `tag` is the tag of the message. All bytes are compared, whether they are equal or not.
@@ -191,13 +192,7 @@ impl SavedRun {
             (ciphertext S.VARIANT key nonce ad m) tag.now opened
             → result ≡ true }
     {
-        has_tag(
-            self.lanes::<S>(),
-            &self.block,
-            self.data_bytes,
-            self.message_bytes,
-            tag,
-        )
+        self.run::<S>().has_tag(tag)
     }
 
     /// Returns the MAC of the input. The run may continue afterwards.
@@ -208,7 +203,7 @@ impl SavedRun {
         ensures { (key nonce x : List ℕ) → IsSaved S.VARIANT self.now key nonce [] x
             → result ≡ mac S.VARIANT TAG_BYTES key nonce x }
     {
-        folded_tag(end_input::<S, TAG_BYTES>(self.lanes::<S>(), &self.block, self.message_bytes))
+        self.run::<S>().mac()
     }
 
     /// Returns whether `expected` is the MAC of the input. All bytes are compared, whether they are equal or not.

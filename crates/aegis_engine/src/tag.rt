@@ -31,16 +31,6 @@ fn short_bytes<const TAG_BYTES: usize>(tag: AesBlock) -> [u8; TAG_BYTES]
     bytes
 }
 
-// The halves of a long tag, one after the other.
-fn joined(low: AesBlock, high: AesBlock) -> [u8; 32]
-    ensures { result ≡ low ++ high }
-{
-    let mut tag = [0; 32];
-    tag[..16].copy_from_slice(&low.to_bytes());
-    tag[16..].copy_from_slice(&high.to_bytes());
-    tag
-}
-
 // The bytes of a tag of 32 bytes, from its halves.
 fn long_bytes<const TAG_BYTES: usize>(low: AesBlock, high: AesBlock) -> [u8; TAG_BYTES]
     requires { TAG_BYTES ≡ 32 }
@@ -48,7 +38,8 @@ fn long_bytes<const TAG_BYTES: usize>(low: AesBlock, high: AesBlock) -> [u8; TAG
 {
     let mut bytes = [0; TAG_BYTES];
     let out = &mut bytes[..];
-    out.copy_from_slice(&joined(low, high));
+    out[..16].copy_from_slice(&low.to_bytes());
+    out[16..].copy_from_slice(&high.to_bytes());
     bytes
 }
 

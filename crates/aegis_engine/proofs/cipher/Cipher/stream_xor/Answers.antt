@@ -2,13 +2,14 @@ use Rattle.std.proofs.Common.{◌≡◌, [], length, arith}
 use Rattle.std.proofs.lemmas.Grind.{common_steps}
 use Rattle.aegis_aes.specs.Block.{xor}
 use Rattle.aegis_base.specs.Message.{keystream}
-use Rattle.aegis_engine.proofs.KeystreamFacts.{stands-started, xored-by}
+use Rattle.aegis_engine.proofs.ChunkSteps.{on-ok}
+use Rattle.aegis_engine.proofs.KeystreamFacts.{xored-by}
 use Rattle.aegis_engine.proofs.cipher.Cipher.stream_xor.Goals as goal
 
 pub returns-clause-xored : goal.returns-clause-xored
 returns-clause-xored g c =
-    let L = g.S.LaneState in
-    let is = stands-started L.VARIANT (L.lane c.new-state.result) (L.updates c.new-state.result) _ c.self.inside.key c.self.inside.nonce g.met.S.LaneState.one_two_or_four c.new-state.ensures.updates c.new-state.ensures.lanes in
-    let sealed = c.pass_appended-xored.ensures.ciphertext c.self.inside.key c.self.inside.nonce [] is in
-    let e : keystream L.VARIANT c.self.inside.key c.self.inside.nonce (length c.args.m.now) ≡ xor c.args.m.now c.pass_appended-xored.new.out.items = grind (arith, common_steps, sealed) in
-    rw (← c.self.view_is) (xored-by L.VARIANT c.self.inside.key c.self.inside.nonce c.args.m.now c.pass_appended-xored.new.out.items (grind (arith, common_steps)) e)
+    let key = c.self.inside.key in let nonce = c.self.inside.nonce in let m = c.args.m.now in
+    let out = c.pass_appended.new.out.items in
+    let sealed = on-ok c.pass_appended.result c.pass_appended.ensures.written (λ e. e key nonce [] [] c.begin-run.ensures.stands) in
+    let e : keystream g.S.LaneState.VARIANT key nonce (length m) ≡ xor m out = grind (arith, common_steps, sealed) in
+    rw (← c.self.view_is) (xored-by g.S.LaneState.VARIANT key nonce m out (grind (arith, common_steps)) e)

@@ -1,20 +1,17 @@
-use Rattle.std.proofs.Common.{◌∙◌, ap, refl, ℕ, length, List, replicate, slice_index, zero-add}
-use Rattle.aegis_base.proofs.AppendFacts.{along-none}
-use Rattle.aegis_base.specs.Message.{xor_keystream}
+use Rattle.std.proofs.Common.{◌≡◌, ◌∙◌, ap, [], length, arith}
+use Rattle.std.proofs.lemmas.Grind.{common_steps}
+use Rattle.aegis_aes.specs.Block.{xor}
+use Rattle.aegis_base.specs.Message.{keystream, xor_keystream}
 use Rattle.aegis_base.proofs.KeystreamFacts.{xor_keystream-twice}
-use Rattle.aegis_base.proofs.SealFacts.{before-start, streamed-is}
+use Rattle.aegis_engine.proofs.KeystreamFacts.{xored-by}
 use Rattle.aegis_engine.proofs.cipher.Cipher.stream_xor_in_place.Goals as goal
 
 pub returns-clause-xored : goal.returns-clause-xored
 returns-clause-xored g c =
-    let L = g.S.LaneState in
-    let here = L.lane c.new.result in
-    let zeros : List ℕ = replicate (length c.args.mc.now) 0 in
-    rw (← c.self.view_is)
-    (streamed-is L.VARIANT here _ _ c.args.mc.now c.pass_all.new.buffer
-    (before-start L.VARIANT here _ _ g.met.S.LaneState.one_two_or_four c.new.ensures.lanes)
-    c.pass_all.auto.buffer
-    (λ i low. rw zero-add at (c.pass_all.ensures.written here zeros (along-none L.VARIANT here here _ zeros (λ j inside. refl)) (λ k under. ap (slice_index zeros) (zero-add k)) i low)))
+    let key = c.self.inside.key in let nonce = c.self.inside.nonce in let m = c.args.mc.now in
+    let sealed = c.pass.ensures.written key nonce [] [] c.begin.ensures.stands in
+    let e : keystream g.S.LaneState.VARIANT key nonce (length m) ≡ xor m c.pass.new.mc = grind (arith, common_steps, sealed) in
+    rw (← c.self.view_is) (xored-by g.S.LaneState.VARIANT key nonce m c.pass.new.mc c.pass.auto.mc e)
 
 pub returns-clause-undone : goal.returns-clause-undone
 returns-clause-undone g c =

@@ -6,9 +6,10 @@ use mathlib.Core.Bool.{true, false}
 use Prim.Native.Nat.{ℕ, ◌≤◌}
 use mathlib.Core.List.{List, [], ◌∷◌, ◌++◌}
 use lib.ListN.{length, take, drop as drop_list, replicate}
-use mir.Syntax.{named, Args, Fn, a_type, a_number, dcons, dnil}
+use mir.Syntax.{named, Args, Fn, Ty, a_type, a_number, dcons, dnil}
+use mir.Val.{Val}
 use mir.MapTy.{inst_fn}
-use base.Logic.{emp, id⊢}
+use base.Logic.{ent, emp, id⊢}
 use base.Fml.{ftrue, flft}
 use types.Kit.{‵, ◌⊛◌, raw, some, later, ◌$◌, ◌∵◌, !, qed, move, keep, drop, split, join, pick, fjoin, use1, await, suffices, frame, updating, now as at_once, done}
 use types.Run.{no_more, and_then, of_opd, returns, enter}
@@ -17,11 +18,13 @@ use contract.Monad.{fact}
 use contract.Running.{tables}
 use denote.Builtin.{u8}
 use denote.Exit.{no, yes}
-use denote.Laws.{shows}
+use denote.Laws.{Typed, shows}
+use prog.Wp.{WpFn}
 use denote.Param.{ArrayAt, param, copied, number, bounded}
-use denote.Param.Laws.{param_laws, copied_laws, copied_copy, copy_told, Told, Laws}
+use denote.Param.Laws.{param_laws, copied_laws, Laws}
 use denote.RattleType.{RattleType}
-use denote.Ref.{NamedLft, shr_vals, shr_Tells}
+use denote.Memory.{lone}
+use denote.Ref.{NamedLft, ShrRef, shr_Lawful}
 use denote.Signature.{named_lft}
 use denote.Steps.{nothing, heard, peeks}
 use denote.Triple.Call.{calls_at}
@@ -29,12 +32,11 @@ use denote.Triple.Clauses.{lasts, Lasts}
 use denote.Triple.Spec.{triple_of}
 use denote.Triple.Table.{framed}
 use denote.Triple.Walked.{Stays, stay_dropped, walk_of, ends_at}
-use Rattle.std.proofs.raw_atomic.Walks.{proved}
+use Rattle.std.proofs.raw_atomic.Walks.{proved_at}
 use Rattle.std.specs.Prelude.{MatchResult}
 use Rattle.aegis_engine.proofs.Handing.{Call, asks, at, handing}
 use Rattle.aegis_engine.proofs.Results.{accepted_ok, ok_accepted, says_four, weaken}
 use Rattle.aegis_base.specs.Run.{IsAccepted, IsTagged}
-use Rattle.aegis_engine.specs.Held.{held}
 use Rattle.aegis_engine.proofs.destination.Settled.TheLaws.{the_row_laws as settled_laws}
 use Rattle.aegis_engine.specs.contracts.destination.Settled as ST
 use Rattle.aegis_engine.specs.contracts.decryptor.Decryptor as DT
@@ -45,6 +47,12 @@ use Rattle.aegis_engine.proofs.decryptor.Decryptor.settle.Met.{met as settle_met
 use Rattle.aegis_engine.proofs.destination.handed.Met.{met as handed_met}
 use Rattle.aegis_engine.proofs.decryptor.Decryptor.finalize.Statement.{statement}
 use Rattle.aegis_engine.proofs.decryptor.Decryptor.finalize.Code as code
+
+-- values of one machine type are one value
+one : (τ : Ty) (P : List Val → Type 1) → ((v : Val) → Typed (τ ∷ []) (v ∷ []) → P (v ∷ [])) → (vs : List Val) → Typed (τ ∷ []) vs → P vs
+one τ P k [] t = absurd t
+one τ P k (v ∷ []) t = k v t
+one τ P k (v ∷ w ∷ vs) t = absurd t.1
 
 pub finalize_spec : {M : Type 1} → statement M
 finalize_spec 𝓤 𝓛 𝓜 𝓡 wired S V n Rw LS LV fits LR CS CR gS dS gC dC gR dR gRC dRC gV dV mS mC mR mRC mV =
@@ -60,28 +68,30 @@ finalize_spec 𝓤 𝓛 𝓜 𝓡 wired S V n Rw LS LV fits LR CS CR gS dS gC dC
     let W = walk_of 𝓛 En hs c in
     let Row : NamedLft → RattleType = λ a. DT.the_row a (copied 0 S) (param 1 V) (param 2 N) (copied 3 Rw) gS gR gV in
     let LS' = copied_laws 0 S LS in let LV' = param_laws 1 V LV in let LR' = copied_laws 3 Rw LR in
-    let told : (a : NamedLft) → Told (Row a) = λ a. DL.the_told a (copied 0 S) (param 1 V) (param 2 N) (copied 3 Rw) gS gR gV LS' LV' refl LR' (copy_told (copied 0 S) (copied_copy 0 S CS)) in
     let laws : (a : NamedLft) → Laws (Row a) = λ a. DL.the_row_laws a (copied 0 S) (param 1 V) (param 2 N) (copied 3 Rw) gS gR gV LS' LV' refl LR' in
-    proved 𝓛 En hs c 𝓜 𝓡 ((λ κs x w vs ok. qed 𝓛 (‵ ftrue ∷ []) ∵ updating ! $ at_once ! $ nothing ! $ fjoin ! $ done !), ((λ κs x w vs ok. 𝓛.laws.⇛_intro (emp 𝓤)), tt))
+    proved_at 𝓛 En hs c 𝓜 𝓡 ((λ κs x w vs ok. qed 𝓛 (‵ ftrue ∷ []) ∵ updating ! $ at_once ! $ nothing ! $ fjoin ! $ nothing ! $ fjoin ! $ done !), ((λ κs x w vs ok. 𝓛.laws.⇛_intro (emp 𝓤)), tt))
     (f.Key.name args) fn (code.unfolded 𝓤 𝓛.H 𝓜 𝓡 wired (S, (V, (N, (Rw, tt)))) dS dC dR dRC dV)
-    (λ κs. ((λ d. (told (named_lft 6 0 tt κs)).val d ∷ []), (shr_vals, tt))) (λ κs. ((told (named_lft 6 0 tt κs)).tells, (shr_Tells (named 1) κs.1.0 (ArrayAt u8 (param 2 N)), tt))) (λ κs qs bounds a _ are.
+    (λ z are.
+    let κs = z.0.0 in let qs = z.0.1 in let a = z.0.3 in
+    let Goes : W.Ghost → Type 1 = λ y. ent 𝓤 (W.pre y) (WpFn 𝓤 𝓛.H 𝓣.C 𝓣.Λ fn (W.args y) (W.post y)) in
+    one (lone (Row (named_lft 6 0 tt κs)).mir) (λ vs. Goes ((κs, qs, z.0.2, a, (vs, z.0.4.1)), z.1)) (λ vd td. one (lone (ShrRef (named 1) κs.1.0 (ArrayAt u8 (param 2 N))).mir) (λ vs. Goes ((κs, qs, z.0.2, a, (vd ∷ [], (vs, tt))), z.1)) (λ vt tt'.
     let κ = κs.0 in let q = qs.0 in let d = a.0 in
-    let y : W.Ghost = ((κs, qs, bounds, a, ((told (named_lft 6 0 tt κs)).val d ∷ [], (shr_vals a.1.0, tt))), tt) in
-    let typed = (((laws (named_lft 6 0 tt κs)).lawful 𝓛).typed d _ are.0).0 in
+    let y : W.Ghost = ((κs, qs, z.0.2, a, (vd ∷ [], (vt ∷ [], tt))), z.1) in
+    let typed = td.0 in
     let others = ‵ (flft κs.1.0 qs.1.0) ⊛ ‵ (flft κs.1.1.0 qs.1.1.0) ⊛ ‵ (flft κs.1.1.1.0 qs.1.1.1.0) ⊛ ‵ (flft κs.1.1.1.1.0 qs.1.1.1.1.0) ⊛ ‵ (flft κs.1.1.1.1.1.0 qs.1.1.1.1.1.0) ⊛ ‵ ftrue in
     let SRow : RattleType = ST.the_row (record { mir = named 0; lft = κ }) in
     let L = gS in
-    let front = take d.written d.dst.now in
-    let holds = held L d.state d.block d.data_bytes d.written in
+    let front = take d.run.message_bytes d.dst.now in
+    let holds = d.run in
     let Tagged : Type 0 → Type 0 = λ P. IsTagged L.VARIANT n holds front a.1.0.now P in
     let Found : Type 0 → Type 0 = λ P. IsAccepted L.VARIANT n holds front a.1.0.now P in
-    qed 𝓛 (raw (G.pre y) ∷ []) ∵ enter ! _ _ _ _ _ $ alloc_all ! (λ l. pass_all ! refl (typed, ((tt, tt), tt)) $
+    qed 𝓛 (raw (G.pre y) ∷ []) ∵ enter ! _ _ _ _ _ $ alloc_all ! (λ l. pass_all ! refl (typed, (tt'.0, tt)) $
     sets ! (of_opd ! (get ! refl)) refl typed $
     calls_at ! (framed 𝓤 𝓛.H 𝓜 𝓣) G (settle_met 𝓤 𝓛 𝓜 𝓡 (code.calls-aegis_engine::decryptor::Decryptor::settle 𝓡.env wired) S V n Rw LS LV fits LR CS CR gS dS gC dC gR dR gRC dRC gV dV mS mC mR mRC mV) y
     (and_then ! (get ! refl) (and_then ! (get ! refl) (no_more !))) (λ v.
     use1 𝓛 (later (some (λ (r : SRow.Denot). ((‵ (flft κ q) ⊛ others) ⊛ ‵ (SRow.own_val r (v ∷ []))) ⊛ some (λ (ws : Lasts Gn κs a). ‵ (lasts Gn κs a ws)
-    ⊛ (raw (fact 𝓤 (r.dst.ghost_name ≡ d.dst.ghost_name)) ⊛ raw (fact 𝓤 (r.dst.ref_ptr ≡ d.dst.ref_ptr)) ⊛ raw (fact 𝓤 (r.written ≡ d.written)) ⊛ raw (fact 𝓤 (r.written ≤ length r.dst.now)) ⊛ raw (fact 𝓤 (r.accepted ≡ true → r.dst.now ≡ d.dst.now))
-    ⊛ raw (fact 𝓤 (r.accepted ≡ false → r.dst.now ≡ replicate r.written 0 ++ drop_list r.written r.dst.now)) ⊛ raw (fact 𝓤 (drop_list r.written r.dst.now ≡ drop_list d.written d.dst.now)) ⊛ raw (fact 𝓤 (Tagged (r.accepted ≡ true))) ⊛ raw (fact 𝓤 (Found (r.accepted ≡ true)))))))) (id⊢ 𝓤 (G.post y v)) $
+    ⊛ (raw (fact 𝓤 (r.dst.ghost_name ≡ d.dst.ghost_name)) ⊛ raw (fact 𝓤 (r.dst.ref_ptr ≡ d.dst.ref_ptr)) ⊛ raw (fact 𝓤 (r.written ≡ d.run.message_bytes)) ⊛ raw (fact 𝓤 (r.written ≤ length r.dst.now)) ⊛ raw (fact 𝓤 (r.accepted ≡ true → r.dst.now ≡ d.dst.now))
+    ⊛ raw (fact 𝓤 (r.accepted ≡ false → r.dst.now ≡ replicate r.written 0 ++ drop_list r.written r.dst.now)) ⊛ raw (fact 𝓤 (drop_list r.written r.dst.now ≡ drop_list d.run.message_bytes d.dst.now)) ⊛ raw (fact 𝓤 (Tagged (r.accepted ≡ true))) ⊛ raw (fact 𝓤 (Found (r.accepted ≡ true)))))))) (id⊢ 𝓤 (G.post y v)) $
     await ! tt $ pick ! (λ r. split ! $ split ! $ move ! (2 ∷ []) $ pick ! (λ ws. split ! $ drop ! $ split ! $ heard ! _ (λ name. split ! $ heard ! _ (λ place. split ! $ heard ! _ (λ count. split ! $ heard ! _ (λ within. split ! $ heard ! _ (λ kept. split ! $ heard ! _ (λ gone. split ! $ heard ! _ (λ rest. split ! $ heard ! _ (λ tagged. heard ! _ (λ found.
     move ! (1 ∷ []) $ peeks ! SRow _ (shows 𝓛 SRow) r (v ∷ []) (λ is.
     lands_as ! refl refl (((settled_laws (record { mir = named 0; lft = κ })).lawful 𝓛).typed r _ is).0 $
@@ -93,7 +103,7 @@ finalize_spec 𝓤 𝓛 𝓜 𝓡 wired S V n Rw LS LV fits LR CS CR gS dS gC dC
     lands_as ! refl refl is'.0 $
     returns ! (look_at ! 0 refl) $ free_all ! refl $
     let by_cases : MatchResult o (λ _. r.accepted ≡ true) (λ _. r.accepted ≡ false) = weaken o (λ x p. p.0) (λ e p. p.0) cases in
-    suffices ! _ (ends_at 𝓛 En hs c y u o ((tt, tt), (tt, tt)) (tt, (tt, tt))) $
+    suffices ! _ (ends_at 𝓛 En hs c y u o ((tt, (tt, tt)), (tt, tt)) (tt, (tt, tt))) $
     nothing ! $ nothing ! $ fjoin ! $ nothing ! $ fjoin ! $ join ! $ move ! (2 ∷ []) $ split ! $ keep ! (0 ∷ 4 ∷ 2 ∷ 3 ∷ []) $ join ! $ join ! $ frame ! $
     says_four ! (
       weaken o (λ x p. p.1 ∙ ap (λ (w : ℕ × List ℕ). take w.0 w.1) (λ i. (count i, kept p.0 i))) (λ e p. p.1) cases,
@@ -101,3 +111,4 @@ finalize_spec 𝓤 𝓛 𝓜 𝓡 wired S V n Rw LS LV fits LR CS CR gS dS gC dC
       (λ key nonce ad stands. let same = tagged key nonce ad stands in ((λ ok. same.0 (ok_accepted o by_cases ok)), (λ is. accepted_ok o by_cases (same.1 is)))),
       (λ key nonce ad m stands opens. accepted_ok o by_cases (found key nonce ad m stands opens)),
     ) $ done !)))))))))))))))))
+    z.0.4.1.0 ((shr_Lawful 𝓛 (named 1) κs.1.0 (ArrayAt u8 (param 2 N))).typed a.1.0 z.0.4.1.0 are.1.0)) z.0.4.0 (((laws (named_lft 6 0 tt κs)).lawful 𝓛).typed a.0 z.0.4.0 are.0))

@@ -1,9 +1,6 @@
-use Rattle.aegis_engine.proofs.SavedFacts.{mark-of, saved}
+use Rattle.aegis_engine.proofs.SavedFacts.{mark-of}
 use Rattle.aegis_engine.proofs.saved.SavedRun.seal.Goals as goal
 
 pub returns-clause-taken : goal.returns-clause-taken
 returns-clause-taken g c key nonce ad m is =
-    let L = g.S.LaneState in
-    let next = c.seal_more-next.ensures.taken key nonce ad m (c.lanes-state.ensures.stands key nonce ad m is) in
-    saved L.VARIANT (L.lane c.seal_more-next.result) (L.updates c.seal_more-next.result) _ key nonce ad _ (mark-of L.VARIANT c.args.self.now key nonce ad m is) c.save.ensures
-    (rw (← c.seal_more-next.auto.mc) at next)
+    c.keep.ensures.stands key nonce ad _ (c.pass.ensures.taken key nonce ad m (c.run-run.ensures.stands key nonce ad m is)) (mark-of g.S.LaneState.VARIANT c.args.self.now key nonce ad m is)
