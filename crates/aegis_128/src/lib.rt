@@ -92,6 +92,8 @@ impl<P: Pair> LaneState for State128<P> {
 
     type Row = P::Row;
 
+    const FIT_REGISTERS: bool = P::Row::LANES < 4;
+
     const SHORT_FOLD_TURNS: usize = P::Row::LANES / 2;
 
     ghost SHORT_FOLD_TURNS = { P.Row.LANES / 2 };
@@ -129,6 +131,7 @@ impl<P: Pair> LaneState for State128<P> {
             self.add_contexts();
             self.update(P::of(nonce_row, key_row));
         }
+        self.updates = 0;
     }
 
     fn zeros() -> Self {
@@ -141,10 +144,6 @@ impl<P: Pair> LaneState for State128<P> {
             s37: zeros,
             updates: 0,
         }
-    }
-
-    fn uncounted(self) -> Self {
-        State128 { updates: 0, ..self }
     }
 
     #[inline(always)]
@@ -171,15 +170,12 @@ impl<P: Pair> LaneState for State128<P> {
 
     fn short_tags(self) -> P::Row {
         let but_last = self.s04.xor_pair(self.s15).xor_pair(self.s26);
-        self.low_tags().xor_row(but_last.second())
+        self.sums().first().xor_row(but_last.second())
     }
 
-    fn low_tags(self) -> P::Row {
-        self.sums().first()
-    }
-
-    fn high_tags(self) -> P::Row {
-        self.sums().second()
+    fn long_tags(self) -> (P::Row, P::Row) {
+        let sums = self.sums();
+        (sums.first(), sums.second())
     }
 
     // The tag of lane 0 is folded in too.

@@ -120,6 +120,8 @@ impl<P: Pair> LaneState for State256<P> {
 
     type Row = P::Row;
 
+    const FIT_REGISTERS: bool = P::Row::LANES < 4;
+
     const SHORT_FOLD_TURNS: usize = P::Row::LANES - 1;
 
     ghost SHORT_FOLD_TURNS = { P.Row.LANES - 1 };
@@ -161,6 +163,7 @@ impl<P: Pair> LaneState for State256<P> {
         for i in 0..16usize {
             self.start_update(blocks[i % 4]);
         }
+        self.updates = 0;
     }
 
     fn zeros() -> Self {
@@ -172,10 +175,6 @@ impl<P: Pair> LaneState for State256<P> {
             s25: zeros,
             updates: 0,
         }
-    }
-
-    fn uncounted(self) -> Self {
-        State256 { updates: 0, ..self }
     }
 
     #[inline(always)]
@@ -201,15 +200,13 @@ impl<P: Pair> LaneState for State256<P> {
     }
 
     fn short_tags(self) -> P::Row {
-        self.low_tags().xor_row(self.high_tags())
+        let sums = self.sums();
+        sums.first().xor_row(sums.second())
     }
 
-    fn low_tags(self) -> P::Row {
-        self.sums().first()
-    }
-
-    fn high_tags(self) -> P::Row {
-        self.sums().second()
+    fn long_tags(self) -> (P::Row, P::Row) {
+        let sums = self.sums();
+        (sums.first(), sums.second())
     }
 
     fn short_fold_turn(&mut self, tags: P::Row, turn: usize) {

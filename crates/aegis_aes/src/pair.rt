@@ -77,17 +77,6 @@ pub trait Pair: Copy {
     fn update_from(&mut self, previous: &Self)
         ensures { (h j : ℕ) → h < 2 → j < Self.Row.LANES
             → block self.new h j ≡ round (block previous.now h j) (block self.old h j) };
-
-    /// Returns each block after one AES round (FIPS 197, sections 5.1.1 to 5.1.4), with the block of `key` at the same
-    /// place as its key.
-    final fn round_pair(self, key: Self) -> Self
-        ensures { (h j : ℕ) → h < 2 → j < Self.Row.LANES
-            → block result h j ≡ round (block self h j) (block key h j) }
-    {
-        let mut pair = key;
-        pair.update_from(&self);
-        pair
-    }
 }
 
 // Two rows of one lane are one vector.

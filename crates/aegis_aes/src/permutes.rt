@@ -89,26 +89,15 @@ pub(crate) fn repeated<const N: usize>(bytes: [u8; 16]) -> Simd<u8, N>
     Simd::from_slice(&two)
 }
 
-// The entries of `table` at these places, and 0 for a place of 128 or more.
+// The entries of `table` at these places, and 0 for a place of 128 or more. They are places if the table has places alone.
 #[inline(always)]
 fn look<const N: usize>(table: [u8; 16], at: Simd<u8, N>) -> Simd<u8, N>
     requires width { IsWidth N }
     requires places { ArePlaces at }
-    ensures { result ≡ map (entry table) at.entry }
+    ensures entries { result ≡ map (entry table) at.entry }
+    ensures places { ArePlaces table → ArePlaces result }
 {
     permute(repeated(table), at)
-}
-
-// The same with a table whose entries are places themselves.
-#[inline(always)]
-fn look_for_place<const N: usize>(table: [u8; 16], at: Simd<u8, N>) -> Simd<u8, N>
-    requires width { IsWidth N }
-    requires table { ArePlaces table }
-    requires places { ArePlaces at }
-    ensures entries { result ≡ map (entry table) at.entry }
-    ensures places { ArePlaces result }
-{
-    look(table, at)
 }
 
 // The low four bits of each byte.
@@ -133,8 +122,8 @@ pub(crate) fn sub_bytes<const N: usize>(bytes: Simd<u8, N>) -> Simd<u8, N>
     let u = low(coordinates);
     let v = low(coordinates >> 4);
     let sum = v ^ u;
-    let scaled = look_for_place(SCALED, u);
-    let p = look_for_place(INVERSE, look_for_place(INVERSE, v) ^ scaled) ^ sum;
-    let q = look_for_place(INVERSE, look_for_place(INVERSE, sum) ^ scaled) ^ v;
+    let scaled = look(SCALED, u);
+    let p = look(INVERSE, look(INVERSE, v) ^ scaled) ^ sum;
+    let q = look(INVERSE, look(INVERSE, sum) ^ scaled) ^ v;
     look(OUT_ONE, p) ^ look(OUT_TWO, q) ^ Simd::splat(0x63)
 }

@@ -75,16 +75,3 @@ unfolding Stands
 stands-begun variant lane updates block data_bytes key nonce ad long counted begun =
     let none = zero-div (rate variant) in
     (long, refl, omega arith, along-held variant _ lane block [] 0 (along-none variant _ lane block [] begun))
-
-pub input-along : (variant : Variant) (lane : ℕ → List (List ℕ)) (updates : ℕ) (block : List ℕ) (bytes : ℕ) (key nonce x : List ℕ)
-    → IsLaneCount variant.lanes → Stands variant (held_by variant lane updates block 0 bytes) key nonce [] x
-    → IsAlong variant (start variant key nonce) lane block x (length x)
-unfolding Stands
-input-along variant lane updates block bytes key nonce x count is =
-    let on = held-along variant _ lane block x _ is.3 in
-    let none : block_count variant 0 ≡ 0 = div-eq_of_lt (let positive = rate-positive variant count in omega arith) in
-    let begun : (j : ℕ) → lane_before variant key nonce [] j ≡ start variant key nonce j = λ j. rw (none, after-none) refl in
-    record {
-      whole = λ j inside. on.whole j inside ∙ ap (λ (s : List (List ℕ)). after variant s j x (length x / rate variant)) (begun j);
-      open_block = on.open_block;
-    }

@@ -9,7 +9,6 @@ pub mod Lengths
 pub mod MacFacts
 pub mod MessageFacts
 pub mod RunFacts
-pub mod SealFacts
 pub mod StartFacts
 pub mod KeystreamFacts
 mod SliceFacts

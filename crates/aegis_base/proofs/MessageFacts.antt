@@ -1,12 +1,12 @@
 -- Messages that agree in some bytes, places in a rate block, and blocks of keystream byte by byte.
 use Rattle.std.proofs.Common.{◌≡◌, ◌∙◌, sym, ap, refl, ℕ, zero, suc, ◌+◌, ◌-◌, ◌*◌, ◌/◌, ◌%◌, ◌<◌, ◌≤◌, List, [], ◌∷◌, length, bit_xor, slice_index, arith, add-one, inl, inr}
-use Rattle.std.proofs.Math.Nat.{div-mul-le_self, le-mul_of_pos_right, lt-div-mul-add}
+use Rattle.std.proofs.Math.Nat.{div-eq_of_lt, div-mul-le_self, le-mul_of_pos_right, lt-div-mul-add}
 use Rattle.std.proofs.lemmas.Nat.{div-mul-add, div_below}
 use Rattle.aegis_aes.specs.Block.{block_at, xor}
 use Rattle.aegis_aes.specs.Lanes.{IsLaneCount}
 use Rattle.aegis_base.specs.Variant.{Family, Family128, Family256, Variant, rate, width}
-use Rattle.aegis_base.specs.Lane.{keystream_blocks, block_in, step}
-use Rattle.aegis_base.specs.Message.{after, block_count, blocks_at, keystream_byte, lane_of, share, share_at}
+use Rattle.aegis_base.specs.Lane.{keystream_blocks, block_in, start, step}
+use Rattle.aegis_base.specs.Message.{after, block_count, blocks_at, keystream_byte, lane_before, lane_of, share, share_at}
 use Rattle.aegis_aes.proofs.Places.{get_or-bytes_at, length-bytes_at}
 use Rattle.aegis_base.proofs.LaneFacts.{bytes_at-same}
 
@@ -78,6 +78,13 @@ rate_of-positive Family256 d (inr (inr e)) = rw e (omega arith)
 
 pub rate-positive : (variant : Variant) → IsLaneCount variant.lanes → 0 < rate variant
 rate-positive variant count = rate_of-positive variant.family variant.lanes count
+
+-- without associated data the lanes before the message are those after the start
+pub before-none : (variant : Variant) (key nonce : List ℕ) (j : ℕ) → IsLaneCount variant.lanes
+    → lane_before variant key nonce [] j ≡ start variant key nonce j
+before-none variant key nonce j count =
+    let none : block_count variant 0 ≡ 0 = div-eq_of_lt (let positive = rate-positive variant count in omega arith) in
+    rw (none, after-none) refl
 
 -- place i of a message and the same place of another rate block
 record IsSamePlace (variant : Variant) (i k : ℕ) : Type 0 where

@@ -4,7 +4,6 @@ ghost use Rattle.std.specs.Prelude.{◌≡◌, ◌<◌, ◌≤◌, length};
 ghost use Rattle.aegis_base.specs.Chunks.{joined};
 
 use crate::error::MAX_AEAD_BYTES;
-use crate::length::Length;
 
 /// Returns the length of all chunks together, in bytes, or `None` exactly if it is more than [`MAX_AEAD_BYTES`].
 pub fn chunks_len(chunks: &[&[u8]]) -> Option<u64>
@@ -12,11 +11,12 @@ pub fn chunks_len(chunks: &[&[u8]]) -> Option<u64>
         → result ≡ Some (length (joined chunks.now)) }
     ensures past { MAX_AEAD_BYTES < length (joined chunks.now) → result ≡ None }
 {
-    let mut length = Length::zero();
+    let mut length = 0;
     for chunk in chunks {
-        if length.add(chunk.len() as u64).is_err() {
+        if chunk.len() as u64 > MAX_AEAD_BYTES - length {
             return None;
         }
+        length += chunk.len() as u64;
     }
-    Some(length.get())
+    Some(length)
 }

@@ -23,6 +23,10 @@ pub trait LaneState: Copy {
     /// The type of a row: one block of each lane.
     type Row: Row;
 
+    /// Whether the rows fit a processor's registers. If they do not, an update reads and writes them where they lie. No
+    /// result depends on it.
+    const FIT_REGISTERS: bool;
+
     /// The number of turns of the fold of the lanes' tags of 16 bytes.
     const SHORT_FOLD_TURNS: usize;
 
@@ -49,26 +53,23 @@ pub trait LaneState: Copy {
             → lane result j ≡ first_blocks VARIANT.family key.now nonce.now }
         ensures updates { updates result ≡ 0 };
 
-    /// Updates the lanes by all turns of their start, at most sixteen updates (AEGIS, Init).
+    /// Updates the lanes by all turns of their start, at most sixteen updates (AEGIS, Init). Updates are counted from 0
+    /// after it.
     fn start(&mut self, key: &[u8], nonce: &[u8])
         requires key_length { length key.now ≡ key_length VARIANT.family }
         requires nonce_length { length nonce.now ≡ key_length VARIANT.family }
         requires countable { updates self.old + 16 < 2 ^ 64 }
-        ensures { (j : ℕ) → j < VARIANT.lanes
+        ensures lanes { (j : ℕ) → j < VARIANT.lanes
             → lane self.new j
             ≡ times (start_turns VARIANT.family)
             (start_turn VARIANT.family key.now nonce.now (context j VARIANT.lanes))
-            (lane self.old j) };
+            (lane self.old j) }
+        ensures updates { updates self.new ≡ 0 };
 
     /// Returns lanes of zeros, to overwrite a state that is no longer used.
     fn zeros() -> Self;
 
-    /// Returns the lanes unchanged, with their updates counted from 0 again. Only the start ends so.
-    fn uncounted(self) -> Self
-        ensures lanes { (j : ℕ) → j < VARIANT.lanes → lane result j ≡ lane self j }
-        ensures updates { updates result ≡ 0 };
-
-    /// Returns the lanes after their start with a key and a nonce (AEGIS, Init). Their updates are counted from there.
+    /// Returns the lanes after their start with a key and a nonce (AEGIS, Init).
     #[tactic(auto, unfolding(crate::specs::Lane::start))]
     final fn new(key: &[u8], nonce: &[u8]) -> Self
         requires key_length { length key.now ≡ key_length VARIANT.family }
@@ -79,7 +80,7 @@ pub trait LaneState: Copy {
     {
         let mut state = Self::first_blocks(key, nonce);
         state.start(key, nonce);
-        state.uncounted()
+        state
     }
 
     /// Updates the lanes by the rate block of `bytes` that begins at place `at` (AEGIS, Absorb).
@@ -139,15 +140,12 @@ pub trait LaneState: Copy {
         ensures { (j : ℕ) → j < VARIANT.lanes
             → Self.Row.block result j ≡ short_tag VARIANT.family (lane self j) };
 
-    /// Returns the low halves of the lanes' tags of 32 bytes.
-    fn low_tags(self) -> Self::Row
-        ensures { (j : ℕ) → j < VARIANT.lanes
-            → Self.Row.block result j ≡ low_tag VARIANT.family (lane self j) };
-
-    /// Returns the high halves of the lanes' tags of 32 bytes.
-    fn high_tags(self) -> Self::Row
-        ensures { (j : ℕ) → j < VARIANT.lanes
-            → Self.Row.block result j ≡ high_tag VARIANT.family (lane self j) };
+    /// Returns the halves of the lanes' tags of 32 bytes, low halves first.
+    fn long_tags(self) -> (Self::Row, Self::Row)
+        ensures low { (j : ℕ) → j < VARIANT.lanes
+            → Self.Row.block result.0 j ≡ low_tag VARIANT.family (lane self j) }
+        ensures high { (j : ℕ) → j < VARIANT.lanes
+            → Self.Row.block result.1 j ≡ high_tag VARIANT.family (lane self j) };
 
     /// Returns the tag of 16 bytes: the xor of the lanes' tags.
     final fn short_tag(self) -> AesBlock
@@ -162,10 +160,8 @@ pub trait LaneState: Copy {
         ensures { result.0 ++ result.1
             ≡ xor_lanes (λ j. lane_tag VARIANT.family 32 (lane self j)) VARIANT.lanes }
     {
-        (
-            self.low_tags().xor_of_lanes(),
-            self.high_tags().xor_of_lanes(),
-        )
+        let (low, high) = self.long_tags();
+        (low.xor_of_lanes(), high.xor_of_lanes())
     }
 
     /// Updates the lanes by one turn of the fold of the lanes' tags of 16 bytes into lane 0: in the family 128 an
@@ -245,12 +241,10 @@ pub trait LaneState: Copy {
         if lanes == 1 {
             return self.long_tag();
         }
-        let folded = self.fold_long(self.low_tags(), self.high_tags());
-        let ended = folded.finish(lanes as u64, 256);
-        (
-            block_of_lane(ended.low_tags(), 0),
-            block_of_lane(ended.high_tags(), 0),
-        )
+        let (low, high) = self.long_tags();
+        let ended = self.fold_long(low, high).finish(lanes as u64, 256);
+        let (low, high) = ended.long_tags();
+        (block_of_lane(low, 0), block_of_lane(high, 0))
     }
 
     ghost lanes_are: { VARIANT.lanes ≡ Self.Row.LANES };

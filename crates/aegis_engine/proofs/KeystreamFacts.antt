@@ -10,8 +10,7 @@ use Rattle.aegis_base.specs.Message.{block_count, keystream, xor_keystream}
 use Rattle.aegis_base.specs.Run.{Stands, held_by}
 use Rattle.aegis_base.proofs.Bijection.{bit_xor-twice}
 use Rattle.aegis_base.proofs.HeldFacts.{stands-begun}
-use Rattle.aegis_base.proofs.MessageFacts.{rate-positive}
-use Rattle.aegis_base.proofs.SealFacts.{before-start}
+use Rattle.aegis_base.proofs.MessageFacts.{before-none, rate-positive}
 
 -- the lanes after their start stand for the empty message, without associated data
 pub stands-started : (variant : Variant) (lane : ℕ → List (List ℕ)) (updates : ℕ) (block key nonce : List ℕ) → IsLaneCount variant.lanes
@@ -20,7 +19,7 @@ pub stands-started : (variant : Variant) (lane : ℕ → List (List ℕ)) (updat
 stands-started variant lane updates block key nonce count none started =
     let positive = rate-positive variant count in
     let zero : block_count variant 0 ≡ 0 = div-eq_of_lt (omega arith) in
-    stands-begun variant lane updates block 0 key nonce [] refl (none ∙ sym zero) (before-start variant lane key nonce count started).before
+    stands-begun variant lane updates block 0 key nonce [] refl (none ∙ sym zero) (λ j inside. started j inside ∙ sym (before-none variant key nonce j count))
 
 -- m xored with the xor of m and c is c
 xor-back : (m c : List ℕ) → length c ≡ length m → xor m (xor m c) ≡ c

@@ -277,13 +277,12 @@ pub fn pass_whole<S: LaneState>(
     let rate = S::RATE;
     let mut state = state;
     for i in 0..count {
-        // Four lanes do not fit the registers, so that a round reads and writes their rows where they lie.
-        if S::Row::LANES == 4 {
-            pass_block(state, &mut state, pass, buffer, at + i * rate);
-        } else {
+        if S::FIT_REGISTERS {
             let mut next = state;
             pass_block(state, &mut next, pass, buffer, at + i * rate);
             state = next;
+        } else {
+            pass_block(state, &mut state, pass, buffer, at + i * rate);
         }
     }
     state

@@ -6,6 +6,5 @@ mod cuts;
 mod destinations;
 mod endings;
 mod examples;
-mod lengths;
 mod macs;
 mod texts;

@@ -3,8 +3,7 @@ use Rattle.std.proofs.Common.{◌≡◌, ◌∙◌, sym, ap, refl, ℕ, [], List
 use Rattle.std.proofs.Math.Nat.{div-eq_of_lt}
 use Rattle.aegis_base.specs.Lane.{start}
 use Rattle.aegis_base.specs.Message.{after_all, block_count}
-use Rattle.aegis_base.proofs.MessageFacts.{rate-positive}
-use Rattle.aegis_base.proofs.SealFacts.{before-start}
+use Rattle.aegis_base.proofs.MessageFacts.{before-none, rate-positive}
 use Rattle.aegis_engine.proofs.KeystreamFacts.{stands-started}
 use Rattle.aegis_engine.proofs.run.begun.Goals as goal
 
@@ -14,7 +13,7 @@ returns-clause-lanes g c j inside =
     let count = g.met.S.LaneState.one_two_or_four in
     let started = stands-started L.VARIANT (L.lane c.new.result) (L.updates c.new.result) _ key nonce count c.new.ensures.updates c.new.ensures.lanes in
     c.padded.ensures.lanes key nonce [] ad (c.absorb.ensures.taken key nonce [] [] started) j inside
-    ∙ ap (λ (s : List (List ℕ)). after_all L.VARIANT s j ad) (sym ((before-start L.VARIANT (start L.VARIANT key nonce) key nonce count (λ k h. refl)).before j inside))
+    ∙ ap (λ (s : List (List ℕ)). after_all L.VARIANT s j ad) (before-none L.VARIANT key nonce j count)
 
 pub returns-clause-updates : goal.returns-clause-updates
 returns-clause-updates g c =

@@ -1,13 +1,13 @@
-use Rattle.std.proofs.Common.{◌≡◌, ◌∙◌, ap, refl, List, ℕ, arith}
-use Rattle.aegis_base.specs.Message.{ciphertext}
-use Rattle.aegis_base.proofs.SealFacts.{opened-one}
+use Rattle.std.proofs.Common.{◌≡◌, ◌∙◌, ap, sym, List, ℕ, arith}
+use Rattle.aegis_base.specs.Message.{lane_before}
+use Rattle.aegis_base.proofs.Bijection.{ciphertext-injective}
 use Rattle.aegis_engine.proofs.run.Run.has_tag.Goals as goal
 
 pub returns-clause-only : goal.returns-clause-only
 returns-clause-only g c key nonce ad m opened stands opens =
     let L = g.S.LaneState in
-    opened-one L.VARIANT key nonce ad (ciphertext L.VARIANT key nonce ad m) m opened
-    g.met.S.LaneState.one_two_or_four refl (ap (λ (p : List ℕ × List ℕ). p.0) opens)
+    ciphertext-injective L.VARIANT (lane_before L.VARIANT key nonce ad) m opened
+    g.met.S.LaneState.one_two_or_four (sym (ap (λ (p : List ℕ × List ℕ). p.0) opens))
 
 pub returns-clause-accepted : goal.returns-clause-accepted
 returns-clause-accepted g c m key nonce ad opened stands opens =

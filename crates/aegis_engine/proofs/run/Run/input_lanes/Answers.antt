@@ -7,8 +7,7 @@ use Rattle.aegis_base.specs.Message.{after, after_all, lane_before, share_at}
 use Rattle.aegis_base.specs.Run.{Stands}
 use Rattle.aegis_base.proofs.HeldFacts.{held-along}
 use Rattle.aegis_base.proofs.MacFacts.{mac_input-none, mac_input-some}
-use Rattle.aegis_base.proofs.MessageFacts.{after-none}
-use Rattle.aegis_base.proofs.SealFacts.{before-start}
+use Rattle.aegis_base.proofs.MessageFacts.{after-none, before-none}
 use Rattle.aegis_engine.proofs.PassFacts.{zeros-read}
 use Rattle.aegis_engine.proofs.run.Run.input_lanes.Goals as goal
 
@@ -27,7 +26,7 @@ returns-then-self-eq0-clause-lanes g c key nonce x stands j inside =
     let begun : L.lane s.state j ≡ start L.VARIANT key nonce j =
     (held-along L.VARIANT _ (L.lane s.state) s.block x _ is.3).whole j inside ∙ ap (after L.VARIANT (lane_before L.VARIANT key nonce [] j) j x) zero_blocks
     ∙ after-none L.VARIANT (lane_before L.VARIANT key nonce [] j) j x
-    ∙ sym ((before-start L.VARIANT (start L.VARIANT key nonce) key nonce count (λ k h. refl)).before j inside) in
+    ∙ before-none L.VARIANT key nonce j count in
     c.absorb.ensures.lanes j inside
     ∙ ap (λ (s : List (List ℕ)). step L.VARIANT.family s (share_at L.VARIANT j (replicate 128 0) 0)) begun
     ∙ mac_input-none L.VARIANT (start L.VARIANT key nonce j) j (replicate 128 0) 0 count inside (λ k low. zeros-read 128 (0 + k))
@@ -41,5 +40,5 @@ returns-clause-lanes g c key nonce x stands j inside =
     let long = is.1 in let some = c.if-self-eq0.false in
     let has : 0 < length x = omega arith in
     c.padded.ensures.lanes key nonce [] x stands j inside
-    ∙ ap (λ (s : List (List ℕ)). after_all L.VARIANT s j x) (sym ((before-start L.VARIANT (start L.VARIANT key nonce) key nonce count (λ k h. refl)).before j inside))
+    ∙ ap (λ (s : List (List ℕ)). after_all L.VARIANT s j x) (before-none L.VARIANT key nonce j count)
     ∙ ap (λ (y : List ℕ). after_all L.VARIANT (start L.VARIANT key nonce j) j y) (sym (mac_input-some L.VARIANT x has))
