@@ -52,7 +52,6 @@ pub fn written_and_read(
     ensures read { IsOk result }
     ensures same { block.new ≡ block.old }
 {
-    let cipher = Aegis256X2::<16>::new(key, nonce);
-    let tag = cipher.encrypt_in_place(block, &number.to_le_bytes());
-    cipher.decrypt_in_place(block, &tag, &number.to_le_bytes())
+    let tag = Aegis256X2::<16>::new(key, nonce).encrypt_in_place(block, &number.to_le_bytes());
+    Aegis256X2::new(key, nonce).decrypt_in_place(block, &tag, &number.to_le_bytes())
 }

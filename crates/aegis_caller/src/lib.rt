@@ -117,9 +117,10 @@ pub fn sealed_and_opened_to_vec<A: Allocator + Copy>(
     requires associated_data_within { length associated_data.now ≤ MAX_AEAD_BYTES }
     ensures { IfOk result (λ opened. opened.items ≡ message.now) }
 {
-    let cipher = Aegis256X2::<32>::new(key, nonce);
-    let (ciphertext, tag) = cipher.encrypt(alloc, message, associated_data)?;
-    let opened = cipher.decrypt(alloc, &ciphertext, &tag, associated_data)?;
+    let sealing = Aegis256X2::<32>::new(key, nonce);
+    let (ciphertext, tag) = sealing.encrypt(alloc, message, associated_data)?;
+    let opening = Aegis256X2::new(key, nonce);
+    let opened = opening.decrypt(alloc, &ciphertext, &tag, associated_data)?;
     Ok(opened)
 }
 
@@ -141,7 +142,6 @@ pub fn xor_keystream(key: &[u8; 16], nonce: &[u8; 16], message: &mut [u8])
 pub fn xored_twice(key: &[u8; 16], nonce: &[u8; 16], message: &mut [u8])
     ensures { message.new ≡ message.old }
 {
-    let cipher = Aegis128X4::<16>::new(key, nonce);
-    cipher.stream_xor_in_place(message);
-    cipher.stream_xor_in_place(message);
+    Aegis128X4::<16>::new(key, nonce).stream_xor_in_place(message);
+    Aegis128X4::<16>::new(key, nonce).stream_xor_in_place(message);
 }

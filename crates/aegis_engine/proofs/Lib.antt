@@ -4,7 +4,7 @@ pub mod KeystreamFacts
 pub mod TagFacts
 mod ChunkSteps
 mod DestinationFacts
-mod Handing
+mod CheckedMessage
 mod Prefix
 mod Results
 mod SavedFacts

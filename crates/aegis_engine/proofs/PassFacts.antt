@@ -11,7 +11,7 @@ use Rattle.aegis_aes.specs.Block.{xor}
 use Rattle.aegis_base.specs.Run.{IsUnopened}
 use Rattle.aegis_base.proofs.Bijection.{bit_xor-twice}
 use Rattle.aegis_base.proofs.RunFacts.{whole-quotient}
-use Rattle.aegis_engine.specs.Pass.{sealed, taken}
+use Rattle.aegis_engine.specs.Pass.{absorbed, sealed}
 use Rattle.aegis_engine.specs.declared.pass.Pass.{Pass}
 use Rattle.aegis_engine.specs.declared.pass.Pass.TheVariants.{Seal, Open, Keystream}
 
@@ -22,25 +22,25 @@ zeros-read (suc n) zero = refl
 zeros-read (suc n) (suc i) = zeros-read n i
 
 -- what a pass takes in at a place depends only on the bytes there
-pub taken-same : (pass : Pass) (old old2 new new2 : List ℕ) (i : ℕ) → slice_index old i ≡ slice_index old2 i → slice_index new i ≡ slice_index new2 i
-    → slice_index (taken pass old new) i ≡ slice_index (taken pass old2 new2) i
-taken-same Seal old old2 new new2 i e f = e
-taken-same Open old old2 new new2 i e f = f
-taken-same Keystream old old2 new new2 i e f = zeros-read (length old) i ∙ sym (zeros-read (length old2) i)
+pub absorbed-same : (pass : Pass) (old old2 new new2 : List ℕ) (i : ℕ) → slice_index old i ≡ slice_index old2 i → slice_index new i ≡ slice_index new2 i
+    → slice_index (absorbed pass old new) i ≡ slice_index (absorbed pass old2 new2) i
+absorbed-same Seal old old2 new new2 i e f = e
+absorbed-same Open old old2 new new2 i e f = f
+absorbed-same Keystream old old2 new new2 i e f = zeros-read (length old) i ∙ sym (zeros-read (length old2) i)
 
-pub length-taken : (pass : Pass) (old new : List ℕ) → length new ≡ length old → length (taken pass old new) ≡ length old
-length-taken Seal old new e = refl
-length-taken Open old new e = e
-length-taken Keystream old new e = length-replicate (length old) 0
+pub length-absorbed : (pass : Pass) (old new : List ℕ) → length new ≡ length old → length (absorbed pass old new) ≡ length old
+length-absorbed Seal old new e = refl
+length-absorbed Open old new e = e
+length-absorbed Keystream old new e = length-replicate (length old) 0
 
-pub length-sealed : (pass : Pass) (old new : List ℕ) → length new ≡ length old → length (sealed pass old new) ≡ length (taken pass old new)
+pub length-sealed : (pass : Pass) (old new : List ℕ) → length new ≡ length old → length (sealed pass old new) ≡ length (absorbed pass old new)
 length-sealed Seal old new e = e
 length-sealed Open old new e = sym e
 length-sealed Keystream old new e = length-zip2 bit_xor old new (sym e) ∙ sym (length-replicate (length old) 0)
 
 -- if a pass has xored a byte with k, the ciphertext there is what it took in, xored with k
 pub sealed-byte : (pass : Pass) (old new : List ℕ) (i k : ℕ) → length new ≡ length old → i < length old
-    → slice_index new i ≡ bit_xor (slice_index old i) k → slice_index (sealed pass old new) i ≡ bit_xor (slice_index (taken pass old new) i) k
+    → slice_index new i ≡ bit_xor (slice_index old i) k → slice_index (sealed pass old new) i ≡ bit_xor (slice_index (absorbed pass old new) i) k
 sealed-byte Seal old new i k long low e = e
 sealed-byte Open old new i k long low e = sym (ap (λ (b : ℕ). bit_xor b k) e ∙ bit_xor-twice (slice_index old i) k)
 sealed-byte Keystream old new i k long low e =
@@ -55,10 +55,10 @@ xor-append [] b (y ∷ c) d e = absurd (omega (arith, e))
 xor-append (x ∷ a) b [] d e = absurd (omega (arith, e))
 xor-append (x ∷ a) b (y ∷ c) d e = let shorter : length c ≡ length a = omega (arith, e) in rw (xor-append a b c d shorter) refl
 
-pub taken-append : (pass : Pass) (a b c d : List ℕ) → taken pass (a ++ b) (c ++ d) ≡ taken pass a c ++ taken pass b d
-taken-append Seal a b c d = refl
-taken-append Open a b c d = refl
-taken-append Keystream a b c d = rw length-append (sym (replicate-append-replicate (length a) (length b) 0))
+pub absorbed-append : (pass : Pass) (a b c d : List ℕ) → absorbed pass (a ++ b) (c ++ d) ≡ absorbed pass a c ++ absorbed pass b d
+absorbed-append Seal a b c d = refl
+absorbed-append Open a b c d = refl
+absorbed-append Keystream a b c d = rw length-append (sym (replicate-append-replicate (length a) (length b) 0))
 
 pub sealed-append : (pass : Pass) (a b c d : List ℕ) → length c ≡ length a → sealed pass (a ++ b) (c ++ d) ≡ sealed pass a c ++ sealed pass b d
 sealed-append Seal a b c d e = refl

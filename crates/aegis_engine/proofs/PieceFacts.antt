@@ -4,24 +4,24 @@ use Rattle.std.proofs.lemmas.List.{append-nil, drop-drop, length-append, take-ap
 use Rattle.aegis_base.specs.Variant.{Variant}
 use Rattle.aegis_base.specs.Message.{ciphertext}
 use Rattle.aegis_base.specs.Run.{Encrypts, Held, Takes}
-use Rattle.aegis_engine.specs.Pass.{sealed, taken}
+use Rattle.aegis_engine.specs.Pass.{absorbed, sealed}
 use Rattle.aegis_engine.specs.declared.pass.Pass.{Pass}
-use Rattle.aegis_engine.proofs.PassFacts.{sealed-append, taken-append}
+use Rattle.aegis_engine.proofs.PassFacts.{sealed-append, absorbed-append}
 
 -- from `old` to `new`, the pass has processed `source`, which became `out`
 pub record IsPassed (variant : Variant) (old new : Held) (pass : Pass) (source out : List ℕ) : Type 0 where
-  pub takes : Takes variant old new (taken pass source out)
-  pub encrypts : Encrypts variant old (taken pass source out) (sealed pass source out)
+  pub takes : Takes variant old new (absorbed pass source out)
+  pub encrypts : Encrypts variant old (absorbed pass source out) (sealed pass source out)
 
 pub passed-more : (variant : Variant) (old now new : Held) (pass : Pass) (a b c d : List ℕ) → length c ≡ length a
     → IsPassed variant old now pass a c → IsPassed variant now new pass b d → IsPassed variant old new pass (a ++ b) (c ++ d)
 passed-more variant old now new pass a b c d long first next = record {
   takes = λ key nonce ad m is.
-      rw (taken-append pass a b c d, ← append_assoc m (taken pass a c) (taken pass b d))
-      (next.takes key nonce ad (m ++ taken pass a c) (first.takes key nonce ad m is));
+      rw (absorbed-append pass a b c d, ← append_assoc m (absorbed pass a c) (absorbed pass b d))
+      (next.takes key nonce ad (m ++ absorbed pass a c) (first.takes key nonce ad m is));
   encrypts = λ key nonce ad m is.
-      rw (taken-append pass a b c d, sealed-append pass a b c d long, ← append_assoc m (taken pass a c) (taken pass b d), ← append_assoc (ciphertext variant key nonce ad m) (sealed pass a c) (sealed pass b d))
-      (next.encrypts key nonce ad (m ++ taken pass a c) (first.takes key nonce ad m is)
+      rw (absorbed-append pass a b c d, sealed-append pass a b c d long, ← append_assoc m (absorbed pass a c) (absorbed pass b d), ← append_assoc (ciphertext variant key nonce ad m) (sealed pass a c) (sealed pass b d))
+      (next.encrypts key nonce ad (m ++ absorbed pass a c) (first.takes key nonce ad m is)
       ∙ ap (λ (xs : List ℕ). xs ++ sealed pass b d) (first.encrypts key nonce ad m is));
 }
 
@@ -48,9 +48,3 @@ done-more {variant} {old} {now} {next} {pass} {source} {rest} {left} {out} {more
       long = omega (arith, length-append out part, length-append so_far.done piece, long, so_far.long);
       passed = passed-more variant old now next pass so_far.done piece out part so_far.long so_far.passed last;
     })
-
-pub done-all : {variant : Variant} {old now : Held} {pass : Pass} {source rest out : List ℕ}
-    → rest ≡ [] → IsDone variant old now pass source rest out → (length out ≡ length source) × IsPassed variant old now pass source out
-done-all {variant} {old} {now} {pass} {source} {rest} {out} none all =
-    let whole : all.done ≡ source = sym (append-nil all.done) ∙ ap (λ (xs : List ℕ). all.done ++ xs) (sym none) ∙ all.split in
-    (all.long ∙ ap length whole, subst (λ (xs : List ℕ). IsPassed variant old now pass xs out) whole all.passed)

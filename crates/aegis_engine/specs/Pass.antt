@@ -5,10 +5,10 @@ use Rattle.aegis_engine.specs.declared.pass.Pass.{Pass}
 use Rattle.aegis_engine.specs.declared.pass.Pass.TheVariants.{Seal, Open, Keystream}
 
 -- what the lanes take in of a buffer that is `old` before a pass and `new` after it
-abbrev pub taken : Pass → List ℕ → List ℕ → List ℕ
-taken Seal old new = old
-taken Open old new = new
-taken Keystream old new = replicate (length old) 0
+abbrev pub absorbed : Pass → List ℕ → List ℕ → List ℕ
+absorbed Seal old new = old
+absorbed Open old new = new
+absorbed Keystream old new = replicate (length old) 0
 
 -- the ciphertext of what the lanes take in; that of zeros is the keystream
 abbrev pub sealed : Pass → List ℕ → List ℕ → List ℕ

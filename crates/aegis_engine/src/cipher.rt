@@ -13,7 +13,7 @@ ghost use Rattle.aegis_engine.specs.Front.{front, holds, written};
 ghost use Rattle.aegis_base.specs.Variant.{key_length};
 
 use crate::decryptor::Decryptor;
-use crate::destination::{Settled, counted, erase_unless, handed};
+use crate::destination::{Checked, accepted_len, accepted_message, erase_unless};
 use crate::encryptor::Encryptor;
 use crate::pass::Pass;
 use crate::run::Run;
@@ -321,13 +321,13 @@ impl<S: LaneState, V: Names, const KEY_BYTES: usize, const TAG_BYTES: usize> Cip
     }
 
     // Opens chunks, and overwrites the message with zeros if the tag is wrong.
-    fn settle_chunks<'a>(
+    fn check_chunks<'a>(
         &self,
         ad: &[u8],
         chunks: &[&[u8]],
         tag: &[u8; TAG_BYTES],
         dst: &'a mut [u8],
-    ) -> Settled<'a>
+    ) -> Checked<'a>
         requires { length ad.now ≤ MAX_AEAD_BYTES }
         ensures same_reference { result.dst.ghost_name ≡ dst.entry.ghost_name }
         ensures same_place { result.dst.ref_ptr ≡ dst.entry.ref_ptr }
@@ -350,7 +350,7 @@ impl<S: LaneState, V: Names, const KEY_BYTES: usize, const TAG_BYTES: usize> Cip
     {
         let (written, is_right) = self.open_chunks_unchecked(ad, chunks, tag, dst);
         erase_unless(dst, written, is_right);
-        Settled {
+        Checked {
             dst,
             written,
             accepted: is_right,
@@ -388,7 +388,7 @@ impl<S: LaneState, V: Names, const KEY_BYTES: usize, const TAG_BYTES: usize> Cip
             (accepted (length dst.old) chunks.now) tag.now m
             → IfOk result (λ opened. opened.now ≡ m) }
     {
-        handed(self.settle_chunks(ad, chunks, tag, dst))
+        accepted_message(self.check_chunks(ad, chunks, tag, dst))
     }
 
     /// Opens a ciphertext that is a list of chunks, as `open_chunks` does, and returns the length of the message in
@@ -425,6 +425,6 @@ impl<S: LaneState, V: Names, const KEY_BYTES: usize, const TAG_BYTES: usize> Cip
         ensures error { IfErr result (λ e. e ≡ Error.InvalidTag) }
     {
         let (written, is_right) = self.open_chunks_unchecked(ad, chunks, tag, dst);
-        counted(dst, written, is_right)
+        accepted_len(dst, written, is_right)
     }
 }

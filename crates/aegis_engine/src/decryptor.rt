@@ -7,7 +7,7 @@ ghost use Rattle.aegis_base.specs.declared.error.TheConstants.{MAX_AEAD_BYTES};
 ghost use Rattle.aegis_base.specs.Message.{Opens, ciphertext, tag as tag_of};
 ghost use Rattle.aegis_base.specs.Run.{Continues, Decrypts, IsAccepted, IsTagged, Stands};
 
-use crate::destination::{Settled, counted, erase, erase_unless, handed};
+use crate::destination::{Checked, accepted_len, accepted_message, erase, erase_unless};
 use crate::run::Run;
 use aegis_base::{Error, LaneState, MAX_AEAD_BYTES, Names};
 use std::fmt;
@@ -89,7 +89,7 @@ impl<'a, S: LaneState, V: Names, const TAG_BYTES: usize> Decryptor<'a, S, V, TAG
     }
 
     // Returns whether the tag is right, and overwrites the message with zeros if it is not.
-    fn settle(self, tag: &[u8; TAG_BYTES]) -> Settled<'a>
+    fn check_tag(self, tag: &[u8; TAG_BYTES]) -> Checked<'a>
         ensures same_reference { result.dst.ghost_name ≡ self.entry.dst.ghost_name }
         ensures same_place { result.dst.ref_ptr ≡ self.entry.dst.ref_ptr }
         ensures written { result.written ≡ written self.entry }
@@ -112,7 +112,7 @@ impl<'a, S: LaneState, V: Names, const TAG_BYTES: usize> Decryptor<'a, S, V, TAG
         let accepted = run.has_tag(tag);
         let written = run.message_bytes() as usize;
         erase_unless(dst, written, accepted);
-        Settled {
+        Checked {
             dst,
             written,
             accepted,
@@ -134,7 +134,7 @@ impl<'a, S: LaneState, V: Names, const TAG_BYTES: usize> Decryptor<'a, S, V, TAG
         ensures accepted { IsAccepted S.VARIANT TAG_BYTES
             (holds self.entry) (front self.entry) tag.now (IsOk result) }
     {
-        handed(self.settle(tag))
+        accepted_message(self.check_tag(tag))
     }
 
     /// Returns the length of the message in bytes, if the tag is right; the message is at the front of the destination.
@@ -160,6 +160,6 @@ impl<'a, S: LaneState, V: Names, const TAG_BYTES: usize> Decryptor<'a, S, V, TAG
             run,
             variant: _,
         } = self;
-        counted(dst, run.message_bytes() as usize, run.has_tag(tag))
+        accepted_len(dst, run.message_bytes() as usize, run.has_tag(tag))
     }
 }

@@ -8,31 +8,31 @@ use aegis_base::Error;
 
 /// A destination whose first `written` bytes are a message. If it is not accepted, they are zeros.
 #[derive(Drop)]
-pub struct Settled<'a> {
+pub struct Checked<'a> {
     pub dst: &'a mut [u8],
     pub written: usize,
     pub accepted: bool,
 }
 
 /// Returns the message if it is accepted, and otherwise [`Error::InvalidTag`].
-pub fn handed<'a>(settled: Settled<'a>) -> Result<&'a mut [u8], Error>
-    requires within { settled.written ≤ length settled.dst.now }
-    requires erased { settled.accepted ≡ false
-        → settled.dst.now ≡ erased settled.written settled.dst.now }
-    ensures* writes_back { sem 𝓛 (LendsIfOk (Array u8 0) (Array u8 0) settled.entry.dst result
-        (λ w. w ++ drop settled.entry.written settled.entry.dst.now)
-        (erased settled.entry.written settled.entry.dst.now)) }
+pub fn accepted_message<'a>(checked: Checked<'a>) -> Result<&'a mut [u8], Error>
+    requires within { checked.written ≤ length checked.dst.now }
+    requires erased { checked.accepted ≡ false
+        → checked.dst.now ≡ erased checked.written checked.dst.now }
+    ensures* writes_back { sem 𝓛 (LendsIfOk (Array u8 0) (Array u8 0) checked.entry.dst result
+        (λ w. w ++ drop checked.entry.written checked.entry.dst.now)
+        (erased checked.entry.written checked.entry.dst.now)) }
     ensures cases { MatchResult result
-        (λ message. (settled.entry.accepted ≡ true)
-        × (message.now ≡ take settled.entry.written settled.entry.dst.now)
-        × (message.ref_ptr ≡ settled.entry.dst.ref_ptr))
-        (λ e. (settled.entry.accepted ≡ false) × (e ≡ Error.InvalidTag)) }
+        (λ message. (checked.entry.accepted ≡ true)
+        × (message.now ≡ take checked.entry.written checked.entry.dst.now)
+        × (message.ref_ptr ≡ checked.entry.dst.ref_ptr))
+        (λ e. (checked.entry.accepted ≡ false) × (e ≡ Error.InvalidTag)) }
 {
-    let Settled {
+    let Checked {
         dst,
         written,
         accepted,
-    } = settled;
+    } = checked;
     if accepted {
         Ok(&mut dst[..written])
     } else {
@@ -63,7 +63,7 @@ pub fn erase_unless(dst: &mut [u8], written: usize, accepted: bool)
 
 /// Returns the length of the message if it is accepted. Otherwise overwrites it with zeros, and returns
 /// [`Error::InvalidTag`].
-pub fn counted(dst: &mut [u8], written: usize, accepted: bool) -> Result<usize, Error>
+pub fn accepted_len(dst: &mut [u8], written: usize, accepted: bool) -> Result<usize, Error>
     requires { written ≤ length dst.old }
     ensures written { OnOk result (result ≡ Ok written) }
     ensures message { OnOk result (dst.new ≡ dst.old) }

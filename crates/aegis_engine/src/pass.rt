@@ -10,7 +10,7 @@ ghost use Rattle.aegis_aes.specs.Block.{IsSameBefore, IsSameFrom};
 ghost use Rattle.aegis_base.specs.Lane.{step};
 ghost use Rattle.aegis_base.specs.Message.{keystream_byte, share_at, keystream_byte_along};
 ghost use Rattle.aegis_base.specs.Run.{IsAlong, IsUnopened};
-ghost use Rattle.aegis_engine.specs.Pass.{taken};
+ghost use Rattle.aegis_engine.specs.Pass.{absorbed};
 
 use aegis_aes::Row;
 use aegis_base::LaneState;
@@ -139,7 +139,7 @@ pub fn pass_part<S: LaneState>(
     ensures along { (lanes : ℕ → List (List ℕ)) (x : List ℕ)
         → IsAlong S.VARIANT lanes (S.lane state.old) block.old x total
         → ((k : ℕ) → k < count
-        → slice_index x (total + k) ≡ slice_index (taken pass buffer.old buffer.new) (at + k))
+        → slice_index x (total + k) ≡ slice_index (absorbed pass buffer.old buffer.new) (at + k))
         → IsAlong S.VARIANT lanes (S.lane state.new) block.new x (total + count) }
     ensures written { (lanes : ℕ → List (List ℕ)) (x : List ℕ)
         → IsAlong S.VARIANT lanes (S.lane state.old) block.old x total
@@ -201,7 +201,7 @@ fn pass_block<S: LaneState>(before: S, state: &mut S, pass: Pass, buffer: &mut [
     ensures lanes { (j : ℕ) → j < S.VARIANT.lanes
         → S.lane state.new j
         ≡ step S.VARIANT.family (S.lane state.old j)
-        (share_at S.VARIANT j (taken pass buffer.old buffer.new) at) }
+        (share_at S.VARIANT j (absorbed pass buffer.old buffer.new) at) }
     ensures updates { S.updates state.new ≡ S.updates state.old + 1 }
 {
     match pass {
@@ -259,13 +259,13 @@ pub fn pass_whole<S: LaneState>(
         → IsUnopened total count S.RATE
         → IsAlong S.VARIANT lanes (S.lane state) block x total
         → ((k : ℕ) → k < count * S.RATE
-        → slice_index x (total + k) ≡ slice_index (taken pass buffer.old buffer.new) (at + k))
+        → slice_index x (total + k) ≡ slice_index (absorbed pass buffer.old buffer.new) (at + k))
         → IsAlong S.VARIANT lanes (S.lane result) block x (total + count * S.RATE) }
     ensures written { (lanes : ℕ → List (List ℕ)) (block x : List ℕ) (total : ℕ)
         → IsUnopened total count S.RATE
         → IsAlong S.VARIANT lanes (S.lane state) block x total
         → ((k : ℕ) → k < count * S.RATE
-        → slice_index x (total + k) ≡ slice_index (taken pass buffer.old buffer.new) (at + k))
+        → slice_index x (total + k) ≡ slice_index (absorbed pass buffer.old buffer.new) (at + k))
         → (k : ℕ) → k < count * S.RATE
         → slice_index buffer.new (at + k)
         ≡ bit_xor (slice_index buffer.old (at + k))

@@ -5,7 +5,7 @@
 ghost use Rattle.std.specs.Prelude.{◌≡◌, ℕ, ◌+◌, ◌^◌, ◌<◌, ◌≤◌, OnOk, [], length};
 ghost use Rattle.aegis_base.specs.Chunks.{joined};
 ghost use Rattle.aegis_base.specs.Run.{Encrypts, Takes};
-ghost use Rattle.aegis_engine.specs.Pass.{sealed, taken};
+ghost use Rattle.aegis_engine.specs.Pass.{absorbed, sealed};
 
 use crate::pass::Pass;
 use crate::run::Run;
@@ -13,17 +13,17 @@ use aegis_base::LaneState;
 use std::alloc::{AllocError, Allocator};
 
 /// The length of a piece, in bytes: a multiple of every rate. Of the lengths from 256 to 4096, this one is the fastest.
-pub const PIECE_BYTES: usize = 512;
+pub const COPY_BYTES: usize = 512;
 
 // The length of the next piece, after `total` bytes and with `left` bytes left. Each piece but the last ends at a
-// multiple of `PIECE_BYTES`, so a rate block can be open only before the first one.
+// multiple of `COPY_BYTES`, so a rate block can be open only before the first one.
 #[inline(always)]
 fn piece_len(total: u64, left: usize) -> usize
     ensures within { result ≤ left }
     ensures some { 0 < left → 0 < result }
 {
-    let over = (total % PIECE_BYTES as u64) as usize;
-    left.min(PIECE_BYTES - over)
+    let over = (total % COPY_BYTES as u64) as usize;
+    left.min(COPY_BYTES - over)
 }
 
 impl<S: LaneState> Run<S> {
@@ -33,8 +33,8 @@ impl<S: LaneState> Run<S> {
     pub fn pass_from(&mut self, pass: Pass, source: &[u8], out: &mut [u8])
         requires within { self.old.message_bytes + length source.now < 2 ^ 63 }
         requires lengths { length source.now ≡ length out.old }
-        ensures taken { Takes S.VARIANT self.old self.new (taken pass source.now out.new) }
-        ensures written { Encrypts S.VARIANT self.old (taken pass source.now out.new)
+        ensures taken { Takes S.VARIANT self.old self.new (absorbed pass source.now out.new) }
+        ensures written { Encrypts S.VARIANT self.old (absorbed pass source.now out.new)
             (sealed pass source.now out.new) }
         ensures length { self.new.message_bytes ≡ self.old.message_bytes + length source.now }
     {
@@ -77,14 +77,14 @@ impl<S: LaneState> Run<S> {
         requires within { self.old.message_bytes + length source.now < 2 ^ 63 }
         requires empty { out.old.items ≡ [] }
         ensures taken { OnOk result
-            (Takes S.VARIANT self.old self.new (taken pass source.now out.new.items)) }
+            (Takes S.VARIANT self.old self.new (absorbed pass source.now out.new.items)) }
         ensures written { OnOk result (Encrypts S.VARIANT self.old
-            (taken pass source.now out.new.items) (sealed pass source.now out.new.items)) }
+            (absorbed pass source.now out.new.items) (sealed pass source.now out.new.items)) }
         ensures message_bytes { OnOk result
             (self.new.message_bytes ≡ self.old.message_bytes + length source.now) }
         ensures length { OnOk result (length out.new.items ≡ length source.now) }
     {
-        for piece in source.chunks(PIECE_BYTES) {
+        for piece in source.chunks(COPY_BYTES) {
             let at = out.len();
             out.extend_from_slice(piece)?;
             self.pass(pass, &mut out[at..]);

@@ -9,7 +9,7 @@ ghost use Rattle.aegis_base.specs.Lane.{IsTagLength};
 ghost use Rattle.aegis_base.specs.Message.{Opens, after_all, block_count, ciphertext, keystream_byte_along, lane_before, lane_end, tag as tag_of};
 ghost use Rattle.aegis_base.specs.Run.{Encrypts, HasFrom, IsAccepted, IsAlong, IsTagged, Stands, Takes};
 ghost use Rattle.aegis_base.specs.Variant.{key_length};
-ghost use Rattle.aegis_engine.specs.Pass.{sealed, taken};
+ghost use Rattle.aegis_engine.specs.Pass.{absorbed, sealed};
 
 use crate::pass::{
     Pass, RateBlock, ZEROS, absorb_part, absorb_whole, copy_part, pass_part, pass_whole,
@@ -168,8 +168,8 @@ impl<S: LaneState> Run<S> {
     #[inline(always)]
     pub fn pass(&mut self, pass: Pass, mc: &mut [u8])
         requires { self.old.message_bytes + length mc.old < 2 ^ 63 }
-        ensures taken { Takes S.VARIANT self.old self.new (taken pass mc.old mc.new) }
-        ensures written { Encrypts S.VARIANT self.old (taken pass mc.old mc.new)
+        ensures taken { Takes S.VARIANT self.old self.new (absorbed pass mc.old mc.new) }
+        ensures written { Encrypts S.VARIANT self.old (absorbed pass mc.old mc.new)
             (sealed pass mc.old mc.new) }
         ensures data_bytes { self.new.data_bytes ≡ self.old.data_bytes }
         ensures length { self.new.message_bytes ≡ self.old.message_bytes + length mc.old }

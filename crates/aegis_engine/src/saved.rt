@@ -5,7 +5,7 @@
 //! stand for nothing, the calls are still safe, provided that its two numbers are within the limit. The mark
 //! distinguishes a run from bytes that were never begun or have ended.
 
-ghost use Rattle.std.specs.Prelude.{◌≡◌, ℕ, ◌+◌, ◌/◌, ◌≤◌, ◌↔◌, ◌++◌, List, [], length, true};
+ghost use Rattle.std.specs.Prelude.{◌≡◌, ℕ, ◌+◌, ◌/◌, ◌%◌, ◌<◌, ◌≤◌, ◌↔◌, ◌++◌, List, [], length, slice_index, true};
 ghost use Rattle.aegis_base.specs.Lane.{IsTagLength};
 ghost use Rattle.aegis_base.specs.Mac.{mac};
 ghost use Rattle.aegis_base.specs.Message.{Opens, block_count, ciphertext, tag as tag_of};
@@ -14,7 +14,7 @@ ghost use Rattle.aegis_base.specs.Variant.{key_length};
 ghost use Rattle.aegis_engine.specs.Saved.{HasChecked, HasSealed, HasTaken, IsSaved};
 
 use crate::pass::{Pass, RateBlock, ZEROS};
-use crate::pieces::PIECE_BYTES;
+use crate::pieces::COPY_BYTES;
 use crate::run::Run;
 use crate::tag::same_bytes;
 use aegis_base::{LaneState, MAX_AEAD_BYTES, SavedLanes, SavedRows};
@@ -59,6 +59,18 @@ fn updates_along<S: LaneState>(data_bytes: u64, message_bytes: u64) -> u64
     (data_bytes + (rate - 1)) / rate + message_bytes / rate
 }
 
+// Copies the block that is open after `total` bytes of a message. If none is open, no byte of it matters, and a copy
+// would only cost time.
+#[inline(always)]
+fn copy_open_block<S: LaneState>(target: &mut RateBlock, source: &RateBlock, total: u64)
+    ensures { (k : ℕ) → k < total % S.RATE
+        → slice_index target.new k ≡ slice_index source.now k }
+{
+    if total % S::RATE as u64 > 0 {
+        *target = *source;
+    }
+}
+
 impl SavedRun {
     // The run, with its updates counted.
     fn run<S: SavedLanes>(&self) -> Run<S>
@@ -70,9 +82,11 @@ impl SavedRun {
         ensures message_bytes { result.message_bytes ≡ self.now.message_bytes }
     {
         let count = updates_along::<S>(self.data_bytes, self.message_bytes);
+        let mut block = ZEROS;
+        copy_open_block::<S>(&mut block, &self.block, self.message_bytes);
         Run {
             state: S::restore(&self.rows, count),
-            block: self.block,
+            block,
             data_bytes: self.data_bytes,
             message_bytes: self.message_bytes,
         }
@@ -86,7 +100,7 @@ impl SavedRun {
         ensures message_bytes { self.new.message_bytes ≡ run.now.message_bytes }
     {
         run.state.save(&mut self.rows);
-        self.block = run.block;
+        copy_open_block::<S>(&mut self.block, &run.block, run.message_bytes);
         self.data_bytes = run.data_bytes;
         self.message_bytes = run.message_bytes;
     }
@@ -133,14 +147,14 @@ impl SavedRun {
 
     // Takes in a piece of the ciphertext, which is opened in a copy.
     fn check_piece<S: SavedLanes>(&mut self, piece: &[u8])
-        requires short { length piece.now ≤ PIECE_BYTES }
+        requires short { length piece.now ≤ COPY_BYTES }
         requires associated_data_within { self.old.data_bytes ≤ MAX_AEAD_BYTES }
         requires message_within { self.old.message_bytes + length piece.now ≤ MAX_AEAD_BYTES }
         ensures checked { HasChecked S.VARIANT self.old self.new piece.now }
         ensures associated_data { self.new.data_bytes ≡ self.old.data_bytes }
         ensures counted { self.new.message_bytes ≡ self.old.message_bytes + length piece.now }
     {
-        let mut copy = [0; PIECE_BYTES];
+        let mut copy = [0; COPY_BYTES];
         let part = &mut copy[..piece.len()];
         part.copy_from_slice(piece);
         self.open::<S>(part);
@@ -152,7 +166,7 @@ impl SavedRun {
         requires message_within { self.old.message_bytes + length c.now ≤ MAX_AEAD_BYTES }
         ensures { HasChecked S.VARIANT self.old self.new c.now }
     {
-        for piece in c.chunks(PIECE_BYTES) {
+        for piece in c.chunks(COPY_BYTES) {
             self.check_piece::<S>(piece);
         }
     }

@@ -14,8 +14,8 @@ loop-i-preserved g c =
       updates = omega arith;
     }
 
-pub returns : goal.returns
-returns g c j inside =
+pub returns-clause-lanes : goal.returns-clause-lanes
+returns-clause-lanes g c j inside =
     let done : c.loop-i.i ≡ 16 = omega arith in
     let blocks : List (List ℕ) = c.low_half-low.result ∷ c.high_half-high.result ∷ c.xor.result ∷ c.xor-2.result ∷ [] in
     let are : blocks ≡ turn_blocks c.args.key.now c.args.nonce.now =

@@ -7,44 +7,44 @@ use Rattle.aegis_base.specs.Lane.{step}
 use Rattle.aegis_base.specs.Message.{after, keystream_byte, keystream_byte_along, share_at}
 use Rattle.aegis_base.proofs.RunFacts.{along-whole, block-byte, block-lane, whole-place}
 use Rattle.aegis_base.proofs.MessageFacts.{rate-positive}
-use Rattle.aegis_engine.specs.Pass.{taken}
-use Rattle.aegis_engine.proofs.PassFacts.{taken-same}
+use Rattle.aegis_engine.specs.Pass.{absorbed}
+use Rattle.aegis_engine.proofs.PassFacts.{absorbed-same}
 use Rattle.aegis_engine.proofs.pass.pass_whole.Goals as goal
-use Rattle.aegis_engine.proofs.pass.pass_whole.Goals.{then-LANES-eq4, else-LANES-eq4}
+use Rattle.aegis_engine.proofs.pass.pass_whole.Goals.{then-FIT_REGISTERS, else-FIT_REGISTERS}
 
 pub loop-i-preserved : goal.loop-i-preserved
 loop-i-preserved g c =
     let L = g.S.LaneState in let r = c.RATE-rate.result in let i = c.loop-i.i in let inv = c.loop-i.invariant in
     let here = c.args.at + i * r in
-    let old = c.args.buffer.now in let now = c.loop-i.buffer in let new = c.if-LANES-eq4.buffer in
+    let old = c.args.buffer.now in let now = c.loop-i.buffer in let new = c.if-FIT_REGISTERS.buffer in
     let passed : record {
       written : (k : ℕ) → k < L.RATE
           → slice_index new (here + k) ≡ bit_xor (slice_index now (here + k)) (keystream_byte L.VARIANT (L.lane c.loop-i.state) k);
       below : IsSameBefore here now new;
       above : IsSameFrom (here + L.RATE) now new;
       lanes : (j : ℕ) → j < L.VARIANT.lanes
-          → L.lane c.if-LANES-eq4.state j
-          ≡ step L.VARIANT.family (L.lane c.loop-i.state j) (share_at L.VARIANT j (taken c.args.pass now new) here);
-      updates : L.updates c.if-LANES-eq4.state ≡ L.updates c.loop-i.state + 1;
-    } = elim c.if-LANES-eq4.branch [
-      | then-LANES-eq4 w ↦ rw (w.state-is, w.buffer-is) w.pass_block.ensures
-      | else-LANES-eq4 w ↦ rw (w.state-is, w.buffer-is) w.pass_block-else-LANES-eq4.ensures
+          → L.lane c.if-FIT_REGISTERS.state j
+          ≡ step L.VARIANT.family (L.lane c.loop-i.state j) (share_at L.VARIANT j (absorbed c.args.pass now new) here);
+      updates : L.updates c.if-FIT_REGISTERS.state ≡ L.updates c.loop-i.state + 1;
+    } = elim c.if-FIT_REGISTERS.branch [
+      | then-FIT_REGISTERS w ↦ rw (w.state-is, w.buffer-is) w.pass_block.ensures
+      | else-FIT_REGISTERS w ↦ rw (w.state-is, w.buffer-is) w.pass_block-else-FIT_REGISTERS.ensures
     ] in
     let rate_is : r ≡ rate L.VARIANT = c.RATE-rate.ensures ∙ g.met.S.LaneState.rate_is in
-    let kept : (x : List ℕ) (n : ℕ) → ((k : ℕ) → k < (i + 1) * r → slice_index x (n * r + k) ≡ slice_index (taken c.args.pass old new) (c.args.at + k))
-    → (k : ℕ) → k < i * r → slice_index x (n * r + k) ≡ slice_index (taken c.args.pass old now) (c.args.at + k) =
+    let kept : (x : List ℕ) (n : ℕ) → ((k : ℕ) → k < (i + 1) * r → slice_index x (n * r + k) ≡ slice_index (absorbed c.args.pass old new) (c.args.at + k))
+    → (k : ℕ) → k < i * r → slice_index x (n * r + k) ≡ slice_index (absorbed c.args.pass old now) (c.args.at + k) =
     λ x n same k low. same k (omega arith)
-    ∙ taken-same c.args.pass old old new now (c.args.at + k) refl (passed.below (c.args.at + k) (omega arith)) in
+    ∙ absorbed-same c.args.pass old old new now (c.args.at + k) refl (passed.below (c.args.at + k) (omega arith)) in
     record {
       updates = omega arith;
       lanes = λ lanes x n begin same j inside.
           passed.lanes j inside
-          ∙ block-lane L.VARIANT lanes (L.lane c.loop-i.state) x (n + i) (inv.lanes lanes x n begin (kept x n same)) (taken c.args.pass now new) here j inside
+          ∙ block-lane L.VARIANT lanes (L.lane c.loop-i.state) x (n + i) (inv.lanes lanes x n begin (kept x n same)) (absorbed c.args.pass now new) here j inside
           (λ k low.
           let place : here + k ≡ c.args.at + (i * r + k) = omega arith in
           let there : n * r + (i * r + k) ≡ (n + i) * r + k = omega arith in
-          taken-same c.args.pass now old new new (here + k) (inv.above (here + k) (omega arith)) refl
-          ∙ ap (slice_index (taken c.args.pass old new)) place ∙ sym (same (i * r + k) (omega arith)) ∙ ap (slice_index x) there
+          absorbed-same c.args.pass now old new new (here + k) (inv.above (here + k) (omega arith)) refl
+          ∙ ap (slice_index (absorbed c.args.pass old new)) place ∙ sym (same (i * r + k) (omega arith)) ∙ ap (slice_index x) there
           ∙ ap (λ (q : ℕ). slice_index x ((n + i) * q + k)) rate_is)
           ∙ ap (after L.VARIANT (lanes j) j x) (omega arith);
       written = λ lanes x n begin same k low.

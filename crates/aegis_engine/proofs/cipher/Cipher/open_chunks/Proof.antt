@@ -1,6 +1,6 @@
 -- The message of the kept chunks is returned if there is one, and otherwise the destination is erased. By hand, in the
 -- same form as a decryptor's `finalize`, with the destination as a parameter: the walk makes the two calls, of
--- `settle_chunks` and of `handed` (`Handing.antt`), and combines the facts of their contracts. Assumes `Logic`.
+-- `check_chunks` and of `accepted_message` (`CheckedMessage.antt`), and combines the facts of their contracts. Assumes `Logic`.
 use mathlib.Core.Path.{◌≡◌, refl, ap, sym, subst, ◌∙◌}
 use mathlib.Core.Bool.{true, false}
 use Prim.Native.Nat.{ℕ, ◌≤◌}
@@ -32,17 +32,17 @@ use denote.Triple.Spec.{triple_of}
 use denote.Triple.Table.{framed}
 use denote.Triple.Walked.{Stays, stay_dropped, walk_of, ends_at}
 use Rattle.std.proofs.raw_atomic.Walks.{proved}
-use Rattle.aegis_engine.proofs.destination.Settled.TheLaws.{the_row_laws as settled_laws}
-use Rattle.aegis_engine.specs.contracts.destination.Settled as ST
+use Rattle.aegis_engine.proofs.destination.Checked.TheLaws.{the_row_laws as checked_laws}
+use Rattle.aegis_engine.specs.contracts.destination.Checked as ST
 use Rattle.aegis_engine.specs.contracts.cipher.Cipher as CT
 use Rattle.aegis_base.specs.Chunks.{accepted}
 use Rattle.aegis_base.specs.Message.{Opens}
-use Rattle.aegis_engine.proofs.Handing.{Call, asks, at, handing}
+use Rattle.aegis_engine.proofs.CheckedMessage.{Call, asks, at, returned}
 use Rattle.aegis_engine.proofs.Results.{accepted_ok, says_four, weaken}
 use Rattle.aegis_engine.specs.contracts.cipher.Cipher.open_chunks as f
-use Rattle.aegis_engine.specs.contracts.cipher.Cipher.settle_chunks as g
-use Rattle.aegis_engine.proofs.cipher.Cipher.settle_chunks.Met.{met as settle_met}
-use Rattle.aegis_engine.proofs.destination.handed.Met.{met as handed_met}
+use Rattle.aegis_engine.specs.contracts.cipher.Cipher.check_chunks as g
+use Rattle.aegis_engine.proofs.cipher.Cipher.check_chunks.Met.{met as check_tag_met}
+use Rattle.aegis_engine.proofs.destination.accepted_message.Met.{met as accepted_message_met}
 use Rattle.aegis_engine.proofs.cipher.Cipher.open_chunks.Statement.{statement}
 use Rattle.aegis_engine.proofs.cipher.Cipher.open_chunks.Code as code
 
@@ -74,7 +74,7 @@ open_chunks_spec 𝓤 𝓛 𝓜 𝓡 wired S V k n Rw LS LV key_fits fits LR CS 
     qed 𝓛 (raw (G.pre y) ∷ []) ∵ enter ! _ _ _ _ _ $ alloc_all ! (λ l. pass_all ! refl ((tt, tt), ((tt, (tt, (record { fits = are.1.0.0.1.0 }, tt))), ((tt, (tt, (record { fits = are.1.1.0.0.1.0 }, tt))), ((tt, tt), ((tt, (tt, (record { fits = room.0 }, tt))), tt))))) $
     sets ! (addr ! (from ! (fld ! refl (hop ! (look_in_at ! 5 (sub ! 0 refl (whole !))) (stop !))))) refl (tt, tt) $
     sets ! (agg ! (and_then ! (get ! refl) (and_then ! (get_in ! (fld ! refl (stop !)) (sub ! 1 refl (whole !))) (no_more !)))) refl (tt, (tt, (record { fits = room.0 }, tt))) $
-    calls_at ! (framed 𝓤 𝓛.H 𝓜 𝓣) G (settle_met 𝓤 𝓛 𝓜 𝓡 (code.calls-aegis_engine::cipher::Cipher::settle_chunks 𝓡.env wired) S V k n Rw LS LV key_fits fits LR CS CR gS dS gC dC gR dR gRC dRC gV dV mS mC mR mRC mV) y
+    calls_at ! (framed 𝓤 𝓛.H 𝓜 𝓣) G (check_tag_met 𝓤 𝓛 𝓜 𝓡 (code.calls-aegis_engine::cipher::Cipher::check_chunks 𝓡.env wired) S V k n Rw LS LV key_fits fits LR CS CR gS dS gC dC gR dR gRC dRC gV dV mS mC mR mRC mV) y
     (and_then ! (get ! refl) (and_then ! (get ! refl) (and_then ! (get ! refl) (and_then ! (get ! refl) (and_then ! (get ! refl) (no_more !)))))) (λ v.
     use1 𝓛 (later (some (λ (r : SRow.Denot). ((t0 ⊛ t1 ⊛ t2 ⊛ t3 ⊛ t4 ⊛ ‵ (flft κ q) ⊛ others) ⊛ ‵ (SRow.own_val r (v ∷ []))) ⊛ some (λ (ws : Lasts Gn κs a). ‵ (lasts Gn κs a ws)
     ⊛ (raw (fact 𝓤 (r.dst.ghost_name ≡ d.ghost_name)) ⊛ raw (fact 𝓤 (r.dst.ref_ptr ≡ d.ref_ptr)) ⊛ raw (fact 𝓤 (r.written ≤ length r.dst.now)) ⊛ raw (fact 𝓤 (r.written ≡ count'))
@@ -82,13 +82,13 @@ open_chunks_spec 𝓤 𝓛 𝓜 𝓡 wired S V k n Rw LS LV key_fits fits LR CS 
     ⊛ raw (fact 𝓤 (r.accepted ≡ true → IsOpened (take r.written r.dst.now))) ⊛ raw (fact 𝓤 ((m : List ℕ) → IsOpened m → r.accepted ≡ true)) ⊛ raw (fact 𝓤 ((m : List ℕ) → IsOpened m → take r.written r.dst.now ≡ m))))))) (id⊢ 𝓤 (G.post y v)) $
     await ! tt $ pick ! (λ r. split ! $ split ! $ move ! (2 ∷ []) $ pick ! (λ ws. split ! $ drop ! $ split ! $ heard ! _ (λ name. split ! $ heard ! _ (λ place. split ! $ heard ! _ (λ within. split ! $ heard ! _ (λ count. split ! $ heard ! _ (λ gone. split ! $ heard ! _ (λ rest. split ! $ heard ! _ (λ opened. split ! $ heard ! _ (λ found. heard ! _ (λ only.
     move ! (1 ∷ []) $ peeks ! SRow _ (shows 𝓛 SRow) r (v ∷ []) (λ is.
-    lands_as ! refl refl (((settled_laws (record { mir = named 5; lft = κ })).lawful 𝓛).typed r _ is).0 $
-    -- [the settled one; the tokens; the locals]
+    lands_as ! refl refl (((checked_laws (record { mir = named 5; lft = κ })).lawful 𝓛).typed r _ is).0 $
+    -- [the checked one; the tokens; the locals]
     move ! (1 ∷ []) $ split ! $ move ! (1 ∷ []) $ split ! $ move ! (1 ∷ []) $ split ! $ move ! (1 ∷ []) $ split ! $ move ! (1 ∷ []) $ split ! $ move ! (1 ∷ []) $ split ! $
     move ! (0 ∷ 7 ∷ []) $ asks 𝓛 𝓜 𝓡 (named 5) κ q ! r v within gone $
-    -- [what `handed` asks; the others; the first, from the last of them on; the locals]
-    calls_at ! (framed 𝓤 𝓛.H 𝓜 𝓣) (Call 𝓛 𝓜 𝓡) (handed_met 𝓤 𝓛 𝓜 𝓡 (code.calls-aegis_engine::destination::handed 𝓡.env wired)) (at 𝓛 𝓜 𝓡 (named 5) κ q r v) (and_then ! (get ! refl) (no_more !)) (λ u.
-    handing 𝓛 𝓜 𝓡 (named 5) κ q ! tt r v u name count (rest ∙ ap (λ (n : ℕ). drop_list n d.now) count) (λ o cases is'.
+    -- [what `accepted_message` asks; the others; the first, from the last of them on; the locals]
+    calls_at ! (framed 𝓤 𝓛.H 𝓜 𝓣) (Call 𝓛 𝓜 𝓡) (accepted_message_met 𝓤 𝓛 𝓜 𝓡 (code.calls-aegis_engine::destination::accepted_message 𝓡.env wired)) (at 𝓛 𝓜 𝓡 (named 5) κ q r v) (and_then ! (get ! refl) (no_more !)) (λ u.
+    returned 𝓛 𝓜 𝓡 (named 5) κ q ! tt r v u name count (rest ∙ ap (λ (n : ℕ). drop_list n d.now) count) (λ o cases is'.
     -- [the result; how it ends; the token; the other tokens; the locals]
     lands_as ! refl refl is'.0 $
     returns ! (look_at ! 0 refl) $ free_all ! refl $

@@ -1,5 +1,5 @@
 -- The message is returned if the tag is right, and otherwise it is erased. By hand, since the result lends a slice that
--- a struct holds: the walk makes the two calls, of `settle` and of `handed` (`Handing.antt`), and combines the facts of
+-- a struct holds: the walk makes the two calls, of `check_tag` and of `accepted_message` (`CheckedMessage.antt`), and combines the facts of
 -- their contracts. Assumes `Logic`.
 use mathlib.Core.Path.{◌≡◌, refl, ap, ◌∙◌}
 use mathlib.Core.Bool.{true, false}
@@ -34,17 +34,17 @@ use denote.Triple.Table.{framed}
 use denote.Triple.Walked.{Stays, stay_dropped, walk_of, ends_at}
 use Rattle.std.proofs.raw_atomic.Walks.{proved_at}
 use Rattle.std.specs.Prelude.{MatchResult}
-use Rattle.aegis_engine.proofs.Handing.{Call, asks, at, handing}
+use Rattle.aegis_engine.proofs.CheckedMessage.{Call, asks, at, returned}
 use Rattle.aegis_engine.proofs.Results.{accepted_ok, ok_accepted, says_four, weaken}
 use Rattle.aegis_base.specs.Run.{IsAccepted, IsTagged}
-use Rattle.aegis_engine.proofs.destination.Settled.TheLaws.{the_row_laws as settled_laws}
-use Rattle.aegis_engine.specs.contracts.destination.Settled as ST
+use Rattle.aegis_engine.proofs.destination.Checked.TheLaws.{the_row_laws as checked_laws}
+use Rattle.aegis_engine.specs.contracts.destination.Checked as ST
 use Rattle.aegis_engine.specs.contracts.decryptor.Decryptor as DT
 use Rattle.aegis_engine.proofs.decryptor.Decryptor.TheLaws as DL
 use Rattle.aegis_engine.specs.contracts.decryptor.Decryptor.finalize as f
-use Rattle.aegis_engine.specs.contracts.decryptor.Decryptor.settle as g
-use Rattle.aegis_engine.proofs.decryptor.Decryptor.settle.Met.{met as settle_met}
-use Rattle.aegis_engine.proofs.destination.handed.Met.{met as handed_met}
+use Rattle.aegis_engine.specs.contracts.decryptor.Decryptor.check_tag as g
+use Rattle.aegis_engine.proofs.decryptor.Decryptor.check_tag.Met.{met as check_tag_met}
+use Rattle.aegis_engine.proofs.destination.accepted_message.Met.{met as accepted_message_met}
 use Rattle.aegis_engine.proofs.decryptor.Decryptor.finalize.Statement.{statement}
 use Rattle.aegis_engine.proofs.decryptor.Decryptor.finalize.Code as code
 
@@ -87,18 +87,18 @@ finalize_spec 𝓤 𝓛 𝓜 𝓡 wired S V n Rw LS LV fits LR CS CR gS dS gC dC
     let Found : Type 0 → Type 0 = λ P. IsAccepted L.VARIANT n holds front a.1.0.now P in
     qed 𝓛 (raw (G.pre y) ∷ []) ∵ enter ! _ _ _ _ _ $ alloc_all ! (λ l. pass_all ! refl (typed, (tt'.0, tt)) $
     sets ! (of_opd ! (get ! refl)) refl typed $
-    calls_at ! (framed 𝓤 𝓛.H 𝓜 𝓣) G (settle_met 𝓤 𝓛 𝓜 𝓡 (code.calls-aegis_engine::decryptor::Decryptor::settle 𝓡.env wired) S V n Rw LS LV fits LR CS CR gS dS gC dC gR dR gRC dRC gV dV mS mC mR mRC mV) y
+    calls_at ! (framed 𝓤 𝓛.H 𝓜 𝓣) G (check_tag_met 𝓤 𝓛 𝓜 𝓡 (code.calls-aegis_engine::decryptor::Decryptor::check_tag 𝓡.env wired) S V n Rw LS LV fits LR CS CR gS dS gC dC gR dR gRC dRC gV dV mS mC mR mRC mV) y
     (and_then ! (get ! refl) (and_then ! (get ! refl) (no_more !))) (λ v.
     use1 𝓛 (later (some (λ (r : SRow.Denot). ((‵ (flft κ q) ⊛ others) ⊛ ‵ (SRow.own_val r (v ∷ []))) ⊛ some (λ (ws : Lasts Gn κs a). ‵ (lasts Gn κs a ws)
     ⊛ (raw (fact 𝓤 (r.dst.ghost_name ≡ d.dst.ghost_name)) ⊛ raw (fact 𝓤 (r.dst.ref_ptr ≡ d.dst.ref_ptr)) ⊛ raw (fact 𝓤 (r.written ≡ d.run.message_bytes)) ⊛ raw (fact 𝓤 (r.written ≤ length r.dst.now)) ⊛ raw (fact 𝓤 (r.accepted ≡ true → r.dst.now ≡ d.dst.now))
     ⊛ raw (fact 𝓤 (r.accepted ≡ false → r.dst.now ≡ replicate r.written 0 ++ drop_list r.written r.dst.now)) ⊛ raw (fact 𝓤 (drop_list r.written r.dst.now ≡ drop_list d.run.message_bytes d.dst.now)) ⊛ raw (fact 𝓤 (Tagged (r.accepted ≡ true))) ⊛ raw (fact 𝓤 (Found (r.accepted ≡ true)))))))) (id⊢ 𝓤 (G.post y v)) $
     await ! tt $ pick ! (λ r. split ! $ split ! $ move ! (2 ∷ []) $ pick ! (λ ws. split ! $ drop ! $ split ! $ heard ! _ (λ name. split ! $ heard ! _ (λ place. split ! $ heard ! _ (λ count. split ! $ heard ! _ (λ within. split ! $ heard ! _ (λ kept. split ! $ heard ! _ (λ gone. split ! $ heard ! _ (λ rest. split ! $ heard ! _ (λ tagged. heard ! _ (λ found.
     move ! (1 ∷ []) $ peeks ! SRow _ (shows 𝓛 SRow) r (v ∷ []) (λ is.
-    lands_as ! refl refl (((settled_laws (record { mir = named 0; lft = κ })).lawful 𝓛).typed r _ is).0 $
-    -- [the settled one; the tokens; the locals]
+    lands_as ! refl refl (((checked_laws (record { mir = named 0; lft = κ })).lawful 𝓛).typed r _ is).0 $
+    -- [the checked one; the tokens; the locals]
     move ! (1 ∷ []) $ split ! $ move ! (0 ∷ 2 ∷ []) $ asks 𝓛 𝓜 𝓡 (named 0) κ q ! r v within gone $
-    calls_at ! (framed 𝓤 𝓛.H 𝓜 𝓣) (Call 𝓛 𝓜 𝓡) (handed_met 𝓤 𝓛 𝓜 𝓡 (code.calls-aegis_engine::destination::handed 𝓡.env wired)) (at 𝓛 𝓜 𝓡 (named 0) κ q r v) (and_then ! (get ! refl) (no_more !)) (λ u.
-    handing 𝓛 𝓜 𝓡 (named 0) κ q ! tt r v u name count rest (λ o cases is'.
+    calls_at ! (framed 𝓤 𝓛.H 𝓜 𝓣) (Call 𝓛 𝓜 𝓡) (accepted_message_met 𝓤 𝓛 𝓜 𝓡 (code.calls-aegis_engine::destination::accepted_message 𝓡.env wired)) (at 𝓛 𝓜 𝓡 (named 0) κ q r v) (and_then ! (get ! refl) (no_more !)) (λ u.
+    returned 𝓛 𝓜 𝓡 (named 0) κ q ! tt r v u name count rest (λ o cases is'.
     -- [the result; how it ends; the token; the other tokens; the locals]
     lands_as ! refl refl is'.0 $
     returns ! (look_at ! 0 refl) $ free_all ! refl $

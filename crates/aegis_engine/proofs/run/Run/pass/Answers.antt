@@ -8,8 +8,8 @@ use Rattle.aegis_base.specs.Run.{HasFrom, IsAlong, IsUnopened}
 use Rattle.aegis_base.proofs.HeldFacts.{ciphertext-on, stands-on}
 use Rattle.aegis_base.proofs.MessageFacts.{rate-positive}
 use Rattle.aegis_base.proofs.RunFacts.{whole-quotient}
-use Rattle.aegis_engine.specs.Pass.{sealed, taken}
-use Rattle.aegis_engine.proofs.PassFacts.{length-sealed, length-taken, only-blocks, sealed-byte, taken-same, unopened-after, updates-of-parts}
+use Rattle.aegis_engine.specs.Pass.{absorbed, sealed}
+use Rattle.aegis_engine.proofs.PassFacts.{length-sealed, length-absorbed, only-blocks, sealed-byte, absorbed-same, unopened-after, updates-of-parts}
 use Rattle.aegis_engine.proofs.run.Run.pass.Goals as goal
 
 -- the three parts: what each takes in of x, and where the run is after the first two
@@ -17,7 +17,7 @@ record AreParts (g : _) (c : goal.After-self-2-1 g) (lanes : ℕ → List (List 
   within : c.filling-first.result + (length c.args.mc.now - c.filling-first.result) / c.RATE.result * g.S.LaneState.RATE ≤ length c.args.mc.now
   whole : (k : ℕ) → k < (length c.args.mc.now - c.filling-first.result) / c.RATE.result * g.S.LaneState.RATE
       → slice_index x (c.self.inside.message_bytes + c.filling-first.result + k)
-      ≡ slice_index (taken c.args.pass c.pass_part.new.buffer c.pass_whole-state.new.buffer) (c.filling-first.result + k)
+      ≡ slice_index (absorbed c.args.pass c.pass_part.new.buffer c.pass_whole-state.new.buffer) (c.filling-first.result + k)
   filled : IsAlong g.S.LaneState.VARIANT lanes (g.S.LaneState.lane c.pass_part.new.state) c.pass_part.new.block x
       (c.self.inside.message_bytes + c.filling-first.result)
   blocks : IsAlong g.S.LaneState.VARIANT lanes (g.S.LaneState.lane c.pass_whole-state.result) c.pass_part.new.block x
@@ -25,7 +25,7 @@ record AreParts (g : _) (c : goal.After-self-2-1 g) (lanes : ℕ → List (List 
 
 parts : (g : _) → (c : goal.After-self-2-1 g) → (lanes : ℕ → List (List ℕ)) (x : List ℕ)
     → IsAlong g.S.LaneState.VARIANT lanes (g.S.LaneState.lane c.self.inside.state) c.self.inside.block x c.self.inside.message_bytes
-    → HasFrom x c.self.inside.message_bytes (taken c.args.pass c.args.mc.now c.pass_part-2.new.buffer) → AreParts g c lanes x
+    → HasFrom x c.self.inside.message_bytes (absorbed c.args.pass c.args.mc.now c.pass_part-2.new.buffer) → AreParts g c lanes x
 parts g c lanes x along same =
     let L = g.S.LaneState in let t : ℕ = c.self.inside.message_bytes in let len : ℕ = length c.args.mc.now in
     let first : ℕ = c.filling-first.result in let n : ℕ = (len - first) / c.RATE.result in let pass = c.args.pass in
@@ -35,17 +35,17 @@ parts g c lanes x along same =
     let floor : n * c.RATE.result ≤ len - first = div-mul-le_self (len - first) c.RATE.result in
     let fits : n * L.RATE ≤ len - first = rw (← read) floor in
     let last : first + n * c.RATE-2.result ≡ first + n * L.RATE = ap (λ (r : ℕ). first + n * r) read2 in
-    let long : length (taken pass old new) ≡ len = length-taken pass old new (omega arith) in
+    let long : length (absorbed pass old new) ≡ len = length-absorbed pass old new (omega arith) in
     let filled = c.pass_part.ensures.along lanes x along
-    (λ k low. same k (omega arith) ∙ ap (slice_index (taken pass old new)) (omega arith)
-    ∙ taken-same pass old old new one (0 + k) refl (c.pass_part-2.ensures.below (0 + k) (omega arith) ∙ c.pass_whole-state.ensures.below (0 + k) (omega arith))) in
-    let taken_whole : (k : ℕ) → k < n * L.RATE → slice_index x (t + first + k) ≡ slice_index (taken pass one two) (first + k) =
+    (λ k low. same k (omega arith) ∙ ap (slice_index (absorbed pass old new)) (omega arith)
+    ∙ absorbed-same pass old old new one (0 + k) refl (c.pass_part-2.ensures.below (0 + k) (omega arith) ∙ c.pass_whole-state.ensures.below (0 + k) (omega arith))) in
+    let absorbed_whole : (k : ℕ) → k < n * L.RATE → slice_index x (t + first + k) ≡ slice_index (absorbed pass one two) (first + k) =
     λ k low. ap (slice_index x) (omega arith) ∙ same (first + k) (omega arith)
-    ∙ taken-same pass old one new two (first + k) (sym (c.pass_part.ensures.above (first + k) (omega arith))) (c.pass_part-2.ensures.below (first + k) (omega arith)) in
+    ∙ absorbed-same pass old one new two (first + k) (sym (c.pass_part.ensures.above (first + k) (omega arith))) (c.pass_part-2.ensures.below (first + k) (omega arith)) in
     let whole = c.pass_whole-state.ensures.along lanes c.pass_part.new.block x (t + first)
-    (unopened-after t first len c.RATE.result L.RATE c.filling-first.ensures.fills) filled taken_whole in
+    (unopened-after t first len c.RATE.result L.RATE c.filling-first.ensures.fills) filled absorbed_whole in
     let place : t + first + n * L.RATE ≡ t + (first + n * c.RATE-2.result) = omega arith in
-    record { within = omega arith; whole = taken_whole; filled = filled; blocks = rw place at whole }
+    record { within = omega arith; whole = absorbed_whole; filled = filled; blocks = rw place at whole }
 
 -- the buffer from the last part on is as it was
 untouched : (g : _) → (c : goal.After-self-2-1 g) (i : ℕ)
@@ -61,16 +61,16 @@ returns-clause-taken g c key nonce ad m stands =
     let floor : n * c.RATE.result ≤ len - first = div-mul-le_self (len - first) c.RATE.result in
     let fits : n * L.RATE ≤ len - first = rw (← c.RATE.ensures) floor in
     let last : first + n * c.RATE-2.result ≡ first + n * L.RATE = ap (λ (r : ℕ). first + n * r) c.RATE-2.ensures in
-    let long : length (taken pass old new) ≡ len = length-taken pass old new (omega arith) in
+    let long : length (absorbed pass old new) ≡ len = length-absorbed pass old new (omega arith) in
     let positive : 0 < L.RATE = rw g.met.S.LaneState.rate_is (rate-positive L.VARIANT g.met.S.LaneState.one_two_or_four) in
-    stands-on L.VARIANT (L.lane s.state) (L.updates s.state) s.block s.data_bytes t key nonce ad m (taken pass old new) (rw (← c.self.view_is) at stands)
+    stands-on L.VARIANT (L.lane s.state) (L.updates s.state) s.block s.data_bytes t key nonce ad m (absorbed pass old new) (rw (← c.self.view_is) at stands)
     (L.lane c.pass_part-2.new.state) (L.updates c.pass_part-2.new.state) c.pass_part-2.new.block len L.RATE (sym long) g.met.S.LaneState.rate_is
     (λ lanes x along same.
     let are = parts g c lanes x along same in
     let within = are.within in
     let rest = c.pass_part-2.ensures.along lanes x are.blocks
     (λ k low. ap (slice_index x) (omega arith) ∙ same (first + n * c.RATE-2.result + k) (omega arith)
-    ∙ taken-same pass old two new new (first + n * c.RATE-2.result + k) (sym (untouched g c (first + n * c.RATE-2.result + k) (omega arith))) refl) in
+    ∙ absorbed-same pass old two new new (first + n * c.RATE-2.result + k) (sym (untouched g c (first + n * c.RATE-2.result + k) (omega arith))) refl) in
     let all : t + (first + n * c.RATE-2.result) + (len - (first + n * c.RATE-2.result)) ≡ t + len = omega arith in
     rw all at rest)
     (updates-of-parts t first n len L.RATE _ _ _ _ positive (unopened-after t first len c.RATE.result L.RATE c.filling-first.ensures.fills)
@@ -82,8 +82,8 @@ returns-clause-written g c key nonce ad m stands =
     let first : ℕ = c.filling-first.result in let n : ℕ = (len - first) / c.RATE.result in let pass = c.args.pass in
     let old : List ℕ = c.args.mc.now in let new : List ℕ = c.pass_part-2.new.buffer in
     let kept : length new ≡ len = omega arith in
-    let long = length-taken pass old new kept in
-    ciphertext-on L.VARIANT (L.lane s.state) (L.updates s.state) s.block s.data_bytes t key nonce ad m (taken pass old new) (rw (← c.self.view_is) at stands)
+    let long = length-absorbed pass old new kept in
+    ciphertext-on L.VARIANT (L.lane s.state) (L.updates s.state) s.block s.data_bytes t key nonce ad m (absorbed pass old new) (rw (← c.self.view_is) at stands)
     (sealed pass old new) g.met.S.LaneState.one_two_or_four (length-sealed pass old new kept)
     (λ lanes x along same i under.
     let low : i < len = rw long at under in
@@ -122,18 +122,18 @@ record AreBlocks (g : _) (c : goal.After-self-then-first-rest-eq0-1 g) (x : List
   all : (length c.args.mc.now - c.filling-first.result) / c.RATE.result * g.S.LaneState.RATE ≡ length c.args.mc.now
   unopened : IsUnopened c.self.inside.message_bytes ((length c.args.mc.now - c.filling-first.result) / c.RATE.result) g.S.LaneState.RATE
   whole : (k : ℕ) → k < (length c.args.mc.now - c.filling-first.result) / c.RATE.result * g.S.LaneState.RATE
-      → slice_index x (c.self.inside.message_bytes + k) ≡ slice_index (taken c.args.pass c.args.mc.now c.pass_whole-self-inside.new.buffer) (0 + k)
+      → slice_index x (c.self.inside.message_bytes + k) ≡ slice_index (absorbed c.args.pass c.args.mc.now c.pass_whole-self-inside.new.buffer) (0 + k)
 
 blocks-alone : (g : _) (c : goal.After-self-then-first-rest-eq0-1 g) (x : List ℕ)
-    → HasFrom x c.self.inside.message_bytes (taken c.args.pass c.args.mc.now c.pass_whole-self-inside.new.buffer) → AreBlocks g c x
+    → HasFrom x c.self.inside.message_bytes (absorbed c.args.pass c.args.mc.now c.pass_whole-self-inside.new.buffer) → AreBlocks g c x
 blocks-alone g c x same =
     let L = g.S.LaneState in let t : ℕ = c.self.inside.message_bytes in let len : ℕ = length c.args.mc.now in
     let first : ℕ = c.filling-first.result in let n : ℕ = (len - first) / c.RATE.result in
-    let taken_in : List ℕ = taken c.args.pass c.args.mc.now c.pass_whole-self-inside.new.buffer in
+    let absorbed_bytes : List ℕ = absorbed c.args.pass c.args.mc.now c.pass_whole-self-inside.new.buffer in
     let are = only-blocks t first len c.RATE.result c.RATE-2.result L.RATE c.RATE.ensures c.RATE-2.ensures c.if-first-rest-eq0.true c.filling-first.ensures.fills in
     let all : n * L.RATE ≡ len = are.0 in
-    let long : length taken_in ≡ len = length-taken c.args.pass c.args.mc.now c.pass_whole-self-inside.new.buffer (omega arith) in
-    record { all = all; unopened = are.1; whole = λ k low. same k (omega arith) ∙ ap (slice_index taken_in) (omega arith) }
+    let long : length absorbed_bytes ≡ len = length-absorbed c.args.pass c.args.mc.now c.pass_whole-self-inside.new.buffer (omega arith) in
+    record { all = all; unopened = are.1; whole = λ k low. same k (omega arith) ∙ ap (slice_index absorbed_bytes) (omega arith) }
 
 pub returns-then-first-rest-eq0-clause-taken : goal.returns-then-first-rest-eq0-clause-taken
 returns-then-first-rest-eq0-clause-taken g c key nonce ad m stands =
@@ -145,8 +145,8 @@ returns-then-first-rest-eq0-clause-taken g c key nonce ad m stands =
     let end : t + n * L.RATE ≡ t + len = ap (λ (k : ℕ). t + k) are.0 in
     let positive : 0 < L.RATE = rw g.met.S.LaneState.rate_is (rate-positive L.VARIANT g.met.S.LaneState.one_two_or_four) in
     let blocks = rw end at (whole-quotient t n L.RATE positive are.1) in
-    stands-on L.VARIANT (L.lane s.state) (L.updates s.state) s.block s.data_bytes t key nonce ad m (taken pass old whole.new.buffer) (rw (← c.self.view_is) at stands)
-    (L.lane whole.result) (L.updates whole.result) s.block len L.RATE (sym (length-taken pass old whole.new.buffer kept)) g.met.S.LaneState.rate_is
+    stands-on L.VARIANT (L.lane s.state) (L.updates s.state) s.block s.data_bytes t key nonce ad m (absorbed pass old whole.new.buffer) (rw (← c.self.view_is) at stands)
+    (L.lane whole.result) (L.updates whole.result) s.block len L.RATE (sym (length-absorbed pass old whole.new.buffer kept)) g.met.S.LaneState.rate_is
     (λ lanes x along same. rw end at (whole.ensures.along lanes s.block x t are.1 along (blocks-alone g c x same).whole))
     (omega (arith, whole.ensures.updates))
 
@@ -156,8 +156,8 @@ returns-then-first-rest-eq0-clause-written g c key nonce ad m stands =
     let first : ℕ = c.filling-first.result in let n : ℕ = (len - first) / c.RATE.result in let pass = c.args.pass in
     let old : List ℕ = c.args.mc.now in let whole = c.pass_whole-self-inside in let new : List ℕ = whole.new.buffer in
     let kept : length new ≡ len = whole.auto.buffer in
-    let long = length-taken pass old new kept in
-    ciphertext-on L.VARIANT (L.lane s.state) (L.updates s.state) s.block s.data_bytes t key nonce ad m (taken pass old new) (rw (← c.self.view_is) at stands)
+    let long = length-absorbed pass old new kept in
+    ciphertext-on L.VARIANT (L.lane s.state) (L.updates s.state) s.block s.data_bytes t key nonce ad m (absorbed pass old new) (rw (← c.self.view_is) at stands)
     (sealed pass old new) g.met.S.LaneState.one_two_or_four (length-sealed pass old new kept)
     (λ lanes x along same i under.
     let low : i < len = rw long at under in

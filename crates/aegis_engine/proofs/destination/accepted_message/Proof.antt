@@ -1,4 +1,4 @@
--- The front of a settled destination is returned if the message is accepted. By hand, since no proof is generated for a
+-- The front of a checked destination is returned if the message is accepted. By hand, since no proof is generated for a
 -- function that lends a slice of a struct: the walk takes the struct apart, and each arm ends by one lemma of `Prefix`
 -- and one of `Results`. Assumes `Logic`.
 use mathlib.Core.Path.{◌≡◌, refl, sym, subst, ◌∙◌}
@@ -39,20 +39,20 @@ use Rattle.std.specs.declared.result.Result.TheVariants.{Ok, Err}
 use Rattle.std.specs.contracts.result.Result as RS
 use Rattle.aegis_base.specs.contracts.error.Error as ER
 use Rattle.aegis_base.specs.declared.error.Error.{Error}
-use Rattle.aegis_engine.specs.declared.destination.Settled.{Settled}
-use Rattle.aegis_engine.specs.contracts.destination.Settled as ST
-use Rattle.aegis_engine.specs.contracts.destination.handed as f
+use Rattle.aegis_engine.specs.declared.destination.Checked.{Checked}
+use Rattle.aegis_engine.specs.contracts.destination.Checked as ST
+use Rattle.aegis_engine.specs.contracts.destination.accepted_message as f
 use Rattle.aegis_engine.proofs.Results.{ok_made, err_made, invalid_tag_made}
 use Rattle.aegis_engine.proofs.Prefix.{prefix_lent, lends_prefix, spent}
-use Rattle.aegis_engine.proofs.destination.handed.Statement.{statement}
-use Rattle.aegis_engine.proofs.destination.handed.Code as code
+use Rattle.aegis_engine.proofs.destination.accepted_message.Statement.{statement}
+use Rattle.aegis_engine.proofs.destination.accepted_message.Code as code
 
 abbrev stayed : Stays f.ended.signature.params f.ended.kept
 stayed = (stay_dropped (plain (λ κs. ST.the_row (named_lft 1 0 tt κs))) no, tt)
 
 -- how the machine stores one
-abbrev settled_vals : Settled → List Val
-settled_vals s = vstruct (vcons (slice_val s.dst.ref_ptr (length s.dst.now)) (vcons (vint w64 s.written) (vcons (vbool s.accepted) vnil))) ∷ []
+abbrev checked_vals : Checked → List Val
+checked_vals s = vstruct (vcons (slice_val s.dst.ref_ptr (length s.dst.now)) (vcons (vint w64 s.written) (vcons (vbool s.accepted) vnil))) ∷ []
 
 is_true : (t : Bool) → T t → t ≡ true
 is_true true y = refl
@@ -65,21 +65,21 @@ is_false false y = refl
 never_both : {t : Bool} → t ≡ true → t ≡ false → ⊥
 never_both e e' = subst T (sym e ∙ e') tt
 
-pub handed_spec : {M : Type 1} → statement M
+pub accepted_message_spec : {M : Type 1} → statement M
 unfolding follows_by
-handed_spec 𝓤 𝓛 𝓜 𝓡 wired =
+accepted_message_spec 𝓤 𝓛 𝓜 𝓡 wired =
     let c = f.clauses 𝓛 𝓜.mem 𝓡.returns in let W = walk_of 𝓛 f.ended stayed c in let 𝓣 = tables 𝓤 𝓛.H 𝓜 𝓡 𝓡.env in
     proved 𝓛 f.ended stayed c 𝓜 𝓡 ((λ κs x w vs ok. qed 𝓛 (‵ ftrue ∷ []) ∵ updating ! $ at_once ! $ nothing ! $ fjoin ! $ done !), tt)
     f.Key.name code.function (code.unfolded 𝓤 𝓛.H 𝓜 𝓡 wired)
-    (λ κs. (settled_vals, tt)) (λ κs. ((λ s vs p. Struct-Tells (shape (ST.the_type (named_lft 1 0 tt κs))) (mut_slice_vals, (uint_vals w64, (bool_vals, tt))) (mut_slice_Tells (named 0) κs.0 u8, (uint_Tells w64, (bool_Tells, tt))) ((ST.the_type (named_lft 1 0 tt κs)).to s) vs p), tt)) (λ κs qs bounds a _ are.
+    (λ κs. (checked_vals, tt)) (λ κs. ((λ s vs p. Struct-Tells (shape (ST.the_type (named_lft 1 0 tt κs))) (mut_slice_vals, (uint_vals w64, (bool_vals, tt))) (mut_slice_Tells (named 0) κs.0 u8, (uint_Tells w64, (bool_Tells, tt))) ((ST.the_type (named_lft 1 0 tt κs)).to s) vs p), tt)) (λ κs qs bounds a _ are.
     let κ = κs.0 in let q = qs.0 in let s = a.0 in let r = s.dst in let b = r.ref_ptr.0 in let o = r.ref_ptr.1 in let xs = r.now in let m = s.written in
     let rm : Room u8 (length xs) = are.0.1.1.0.0.1 in
     let fm : m < 2 ^ 64 = are.0.1.1.1.0.1 in
-    let y : W.Ghost = ((κs, qs, bounds, a, (settled_vals s, tt)), tt) in
+    let y : W.Ghost = ((κs, qs, bounds, a, (checked_vals s, tt)), tt) in
     let Post = W.post y in
     let Row = ST.the_row (named_lft 1 0 tt κs) in let Lent = MutSlice (named 0) κ u8 in
     let En : (l : _) → Env 𝓤 𝓛.H = λ l. env code.Mir.locals l in
-    qed 𝓛 (((‵ (flft κ q) ⊛ ‵ ftrue) ⊛ ‵ (Row.own_val s (settled_vals s)) ⊛ ‵ ftrue) ∷ (raw (fact 𝓤 (m ≤ length xs)) ⊛ raw (fact 𝓤 (s.accepted ≡ false → xs ≡ replicate m 0 ++ drop_list m xs))) ∷ []) ∵
+    qed 𝓛 (((‵ (flft κ q) ⊛ ‵ ftrue) ⊛ ‵ (Row.own_val s (checked_vals s)) ⊛ ‵ ftrue) ∷ (raw (fact 𝓤 (m ≤ length xs)) ⊛ raw (fact 𝓤 (s.accepted ≡ false → xs ≡ replicate m 0 ++ drop_list m xs))) ∷ []) ∵
     move ! (1 ∷ []) $ split ! $ heard ! _ (λ le. heard ! _ (λ gone. split ! $ split ! $ move ! (2 ∷ []) $ split ! $ keep ! (0 ∷ 2 ∷ []) $
     enter ! _ _ _ _ _ $ alloc_all ! (λ l. pass_all ! refl ((tt, ((tt, (record { fits = rm.0 }, tt)), (record { fits = fm }, (tt, tt)))), tt) $
     -- [the struct; the token; the locals]

@@ -1,4 +1,4 @@
--- The call of `handed`, in which the walks of `finalize` and `open_chunks` end: what is settled becomes what the call
+-- The call of `accepted_message`, in which the walks of `finalize` and `open_chunks` end: what is checked becomes what the call
 -- asks, and what it returns is read at the destination and the count that the walk began with. Assumes `Logic`.
 use mathlib.Core.Path.{◌≡◌, refl}
 use mathlib.Core.Bool.{true, false}
@@ -33,8 +33,8 @@ use Rattle.aegis_base.proofs.error.Error.TheLaws.{the_row_laws as error_laws}
 use Rattle.aegis_engine.proofs.Results.{slice_laws}
 use Rattle.std.specs.contracts.result.Result as RS
 use Rattle.aegis_base.specs.contracts.error.Error as ER
-use Rattle.aegis_engine.specs.contracts.destination.Settled as ST
-use Rattle.aegis_engine.specs.contracts.destination.handed as h
+use Rattle.aegis_engine.specs.contracts.destination.Checked as ST
+use Rattle.aegis_engine.specs.contracts.destination.accepted_message as h
 
 module _ {M : Type 1} {𝓤 : Ura M} (𝓛 : Logic 𝓤) (𝓜 : Model 𝓤 𝓛.H) (𝓡 : Running 𝓤 𝓛.H 𝓜) where
   abbrev pub Call : Contract 𝓤
@@ -59,7 +59,7 @@ module _ {M : Type 1} {𝓤 : Ura M} (𝓛 : Logic 𝓤) (𝓜 : Model 𝓤 𝓛
     Cases r o = MatchResult o (λ x. (r.accepted ≡ true) × (x.now ≡ take r.written r.dst.now) × (x.ref_ptr ≡ r.dst.ref_ptr)) (λ e. (r.accepted ≡ false) × (e ≡ Error.InvalidTag))
 
     module _ {K : Type 0} {Γ : List (Item 𝓤)} {G : Goal 𝓤 𝓛.H} where
-      -- what is settled, with its lifetime's token, is what the call asks
+      -- what is checked, with its lifetime's token, is what the call asks
       pub asks : K → (r : Row.Denot) (v : Val) → r.written ≤ length r.dst.now → (r.accepted ≡ false → r.dst.now ≡ replicate r.written 0 ++ drop_list r.written r.dst.now)
           → Step K 𝓛 (raw (Call.pre (at r v)) ∷ Γ) G (‵ (flft κ q) ∷ ‵ (Row.own_val r (v ∷ [])) ∷ Γ) G
       asks t r v within gone = step (λ s.
@@ -68,10 +68,10 @@ module _ {M : Type 1} {𝓤 : Ura M} (𝓛 : Logic 𝓤) (𝓜 : Model 𝓤 𝓛
           use0 𝓛 (raw (fact 𝓤 (r.written ≤ length r.dst.now))) (fact_i 𝓤 _ (emp 𝓤) within) $ join t $ move t (1 ∷ 0 ∷ []) $ use2 𝓛 (raw (Call.pre (at r v))) (id⊢ 𝓤 _) $ s)
 
       -- what the call returns: the name, the count and the rest are those of the walk's own destination
-      pub handing : K → Soaks G → (r : Row.Denot) (v u : Val) {γ : GName} {n : ℕ} {rest : List ℕ} → r.dst.ghost_name ≡ γ → r.written ≡ n → drop_list r.written r.dst.now ≡ rest
+      pub returned : K → Soaks G → (r : Row.Denot) (v u : Val) {γ : GName} {n : ℕ} {rest : List ℕ} → r.dst.ghost_name ≡ γ → r.written ≡ n → drop_list r.written r.dst.now ≡ rest
           → ((o : Out.Denot) → Cases r o → Typed Out.mir (u ∷ []) → Seq K 𝓛 (‵ (Out.own_val o (u ∷ [])) ∷ ‵ (Ends γ n rest o) ∷ (‵ (flft κ q) ⊛ ‵ ftrue) ∷ Γ) G)
           → Seq K 𝓛 (raw (Call.post (at r v) u) ∷ Γ) G
-      handing t soaks r v u {γ} {n} {rest} name count left k =
+      returned t soaks r v u {γ} {n} {rest} name count left k =
           use1 𝓛 (later (some (λ (o : Out.Denot). ((‵ (flft κ q) ⊛ ‵ ftrue) ⊛ ‵ (Out.own_val o (u ∷ []))) ⊛ some (λ (ws : Lasts h.ended (κ, tt) (r, tt)). ‵ (lasts h.ended (κ, tt) (r, tt) ws)
           ⊛ (‵ (Ends r.dst.ghost_name r.written (drop_list r.written r.dst.now) o) ⊛ raw (fact 𝓤 (Cases r o))))))) (id⊢ 𝓤 (Call.post (at r v) u)) $
           await t soaks $ pick t (λ o. split t $ split t $ move t (2 ∷ []) $ pick t (λ ws. split t $ drop t $ split t $ move t (1 ∷ []) $ heard t _ (λ cases.
