@@ -1,5 +1,5 @@
 .PHONY: run program test check-pages check-edits bench bench-peers bench-states c-library check-c check-header check-sodium check-rust \
-	check-install install install-tool check-tool gcc-aarch64-linux-gnu qemu-user
+	check-time check-install install install-tool check-tool gcc-aarch64-linux-gnu qemu-user
 .SECONDARY:
 
 SHELL = /bin/bash
@@ -63,20 +63,21 @@ $(OUT)/line-program: $(shell find $(RUN_CRATES:%=crates/%) -name out -prune -o -
 	(cd crates/aegis_vectors && rt run --jobs 1 < /dev/null) > $(OUT)/proof.log 2>&1 || { cat $(OUT)/proof.log; exit 1; }
 	@touch $@
 
-# The merge gate: the pages, every proof from nothing, the must-fail edits, the tests and the programs.
-test: check-pages
-	RT_JOBS=$(CHECKS) rt ci
-	@mkdir -p $(OUT) && touch $(OUT)/line-program
+# The merge gate: the pages, every proof from nothing, the must-fail edits, the tests and the programs; then the tests of the
+# C library, the Cargo package and the file tool.
+test:
+	@RT_JOBS=$(CHECKS) .ci/checks
 
 # Tries the edits that the gate leaves out: the prover has to refuse each.
 check-edits:
 	edits/check.sh
 
-# Each Rust sample of the pages is a part of a proved crate, no line of a contract or a page and no decision is too long, and
-# each edit that the gate leaves out can be applied.
+# Each Rust sample of the pages is a part of a proved crate, no line of a contract or a page and no decision is too long, each
+# definition that a public contract reaches is listed, and each edit that the gate leaves out can be applied.
 check-pages:
 	sh docs/check_samples.sh README.md docs/CALLING.md
 	python3 docs/check_clauses.py
+	python3 docs/check_definitions.py
 	python3 edits/check_texts.py
 
 # ---- The C library, for Linux. What follows builds with stock gcc and rustc, and proves nothing but that library.
@@ -168,6 +169,17 @@ check-c-%: $(OUT)/%/libhunkravy.a
 		$(TOOLS_$*)$(CC) -std=c99 $(C_FLAGS) $$flags examples/c/$$source.c $< -o $(OUT)/$*/$$program && \
 		$(RUN_$*) $(OUT)/$*/$$program $(STORED_LINES) || exit 1; \
 	done; done
+
+# Whether a jump or an address depends on a secret: valgrind's memcheck tells, at each level.
+check-time: $(addprefix check-time-,$(RUNNABLE))
+
+check-time-%: $(OUT)/%/libhunkravy.a
+	if command -v valgrind > /dev/null; then \
+		$(CC) -std=c99 $(C_FLAGS) -O2 examples/c/check_time.c $< -o $(OUT)/$*/check_time && \
+		examples/c/check_time.sh $(OUT)/$*/check_time; \
+	else \
+		echo 'valgrind is not installed, so nothing looks for jumps and addresses that depend on secrets'; \
+	fi
 
 # Runs the test of libsodium's calls with libsodium itself, if its release has AEGIS, to see that both behave the same.
 check-sodium: $(OUT)/both/libhunkravy.a

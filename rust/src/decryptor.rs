@@ -7,10 +7,10 @@ use core::{fmt, mem};
 
 /// Opens a message that comes in chunks of any lengths, in a destination that it borrows for the whole message.
 ///
-/// [`Cipher::decryptor`](crate::Cipher::decryptor) starts one. The destination cannot be read while it is borrowed, and
-/// it is handed out by [`finalize`](Self::finalize) alone, if the tag is right. With a wrong tag, or if the decryptor is
-/// dropped before, zeros are left in the message's place, and the rest of the destination is as it was. That does not
-/// cover a decryptor that is leaked by [`mem::forget`](core::mem::forget).
+/// [`Cipher::decryptor`](crate::Cipher::decryptor) starts one. Nothing can read the destination while it is
+/// borrowed, and [`finalize`](Self::finalize) returns the message in it only if the tag is right. After a wrong tag, or if
+/// the decryptor is dropped before, zeros overwrite the message, and the other bytes of the destination are as they were.
+/// That does not cover a decryptor that is leaked by [`mem::forget`](core::mem::forget).
 ///
 /// ```
 /// use hunkravy::aegis128l::{Aegis128L, Error};
@@ -48,9 +48,9 @@ impl<'a, V: Variant, const TAG_BYTES: usize> Decryptor<'a, V, TAG_BYTES> {
     ///
     /// # Errors
     ///
-    /// [`Error::OutputBufferTooSmall`] if the chunk is longer than the room left, and otherwise [`Error::MessageTooLong`] if
-    /// the message would be longer than [`MAX_AEAD_BYTES`](crate::MAX_AEAD_BYTES). Neither changes anything, and the
-    /// decryptor may go on with another chunk.
+    /// [`Error::OutputBufferTooSmall`] if the chunk does not fit in what remains of the destination, and otherwise
+    /// [`Error::MessageTooLong`] if the message would be longer than [`MAX_AEAD_BYTES`](crate::MAX_AEAD_BYTES). Neither
+    /// changes anything, and the decryptor may go on with another chunk.
     ///
     /// ```
     /// use hunkravy::aegis256x2::{Aegis256X2, Error};

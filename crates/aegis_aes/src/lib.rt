@@ -1,6 +1,6 @@
 //! The AES round on blocks of sixteen bytes (FIPS 197), and rows of blocks, one for each lane of AEGIS.
 //!
-//! No round reads memory at an address that depends on data. The round is implemented twice, under one definition:
+//! The source of a round indexes no memory by data. The round is implemented twice, under one definition:
 //! `round` of the block types computes in the field, on all bytes of a vector at once, and [`Pair::update_from`], which
 //! the ciphers call, uses byte permutes and is several times as fast.
 #![tactic(auto)]

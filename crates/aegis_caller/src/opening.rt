@@ -1,12 +1,13 @@
 //! Opening in chunks, into a destination that is borrowed until the end of the message.
 
 ghost use Rattle.std.specs.Prelude.{◌≡◌, ℕ, ◌+◌, ◌<◌, ◌≤◌, ◌++◌, IfErr, IfOk, IsOk, List, OnErr, OnOk, [], length, take};
-ghost use Rattle.aegis_base.specs.Chunks.{accepted, erased};
+ghost use Rattle.aegis_base.specs.Chunks.{accepted, erased, joined};
 ghost use Rattle.aegis_base.specs.Variant.{Aegis128L};
 ghost use Rattle.aegis_base.specs.Message.{Opens};
 
 use aegis::MAX_AEAD_BYTES;
 use aegis::aegis128l::{Aegis128L, Error};
+use aegis::aegis256::Aegis256;
 
 /// Opens a message in two chunks.
 pub fn open_two_chunks(
@@ -148,4 +149,31 @@ pub fn open_in_place<'a>(
     let mut decryptor = Aegis128L::<16>::new(key, nonce).decryptor(&[], destination);
     decryptor.update(chunk)?;
     decryptor.finalize(tag)
+}
+
+/// Seals a message in any chunks, and opens it in two others, cut at any place. The front of the destination is then
+/// the message.
+pub fn seal_in_chunks_and_open_in_others(
+    key: &[u8; 32],
+    nonce: &[u8; 32],
+    associated_data: &[u8],
+    chunks: &[&[u8]],
+    sealed: &mut [u8],
+    at: usize,
+    message: &mut [u8],
+) -> Result<usize, Error>
+    requires lengths { length sealed.old ≡ length (joined chunks.now) }
+    requires message_within { length sealed.old ≤ MAX_AEAD_BYTES }
+    requires associated_data_within { length associated_data.now ≤ MAX_AEAD_BYTES }
+    requires cut { at ≤ length sealed.old }
+    requires room { length sealed.old ≤ length message.old }
+    ensures opened { IsOk result }
+    ensures same { take (length (joined chunks.now)) message.new ≡ joined chunks.now }
+{
+    let cipher = Aegis256::<32>::new(key, nonce);
+    let tag = cipher.seal_chunks(associated_data, chunks, sealed);
+    let mut decryptor = cipher.decryptor(associated_data, message);
+    decryptor.update(&sealed[..at])?;
+    decryptor.update(&sealed[at..])?;
+    decryptor.finalize_len(&tag)
 }

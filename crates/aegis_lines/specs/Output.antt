@@ -28,8 +28,8 @@ is_error text = starts_with ◌==◌ text (codes "error ")
 abbrev pub status_of : List (List ℕ) → ℕ
 status_of texts = if list_any is_error texts then 1 else 0
 
--- All lines are answered: from `old` to `new`, the answers were written, each with a line feed, and the status is that
--- of the answers.
+-- Every line is answered: from `old` to `new`, the answers were written, with a line feed after each. The status is
+-- theirs.
 pub record AnswersAll (lines : List (List ℕ)) (old new : Option (List ℕ)) (status : ℕ) : Type 0 where
   pub texts : List (List ℕ)
   pub answers : AreAnswers lines texts

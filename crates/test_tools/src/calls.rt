@@ -88,6 +88,20 @@ pub fn decrypt<A: Allocator, const TAG_BYTES: usize>(
     with_cipher!(cipher, TAG_BYTES, cipher => cipher.decrypt(alloc, c, tag, ad))
 }
 
+/// Overwrites a buffer with the keystream.
+pub fn stream<const TAG_BYTES: usize>(cipher: &AnyCipher, out: &mut [u8])
+    requires { IsTagLength TAG_BYTES }
+{
+    with_cipher!(cipher, TAG_BYTES, cipher => cipher.stream(out))
+}
+
+/// Xors a message in place with the keystream.
+pub fn stream_xor_in_place<const TAG_BYTES: usize>(cipher: &AnyCipher, mc: &mut [u8])
+    requires { IsTagLength TAG_BYTES }
+{
+    with_cipher!(cipher, TAG_BYTES, cipher => cipher.stream_xor_in_place(mc))
+}
+
 /// Returns a message xored with the keystream, in a new vector.
 pub fn stream_xor<A: Allocator, const TAG_BYTES: usize>(
     cipher: &AnyCipher,

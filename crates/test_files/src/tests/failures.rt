@@ -11,7 +11,7 @@ use test_tools::memory::Rationed;
 // More requests than are made to seal or open a small file.
 const REQUESTS: u64 = 40;
 
-// A reader that fails after each number of bytes: the error is the reader's, and what was written is a front of the text.
+// Each length of input before a read fails: the error is the reader's, and what was written is a front of the text.
 #[test]
 fn opening_stops_where_a_read_fails(rt: HostRuntime) -> Result<(), Fail> {
     let file = three_records(rt.alloc(), &KEY, &PREFIX)?;

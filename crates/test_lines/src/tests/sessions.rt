@@ -175,7 +175,7 @@ fn stops_where_a_write_fails(rt: HostRuntime) -> Result<(), Fail> {
     Ok(())
 }
 
-// A writer that takes one byte at a time gets the whole output, even if its flush then fails.
+// The whole output reaches a writer that takes it byte by byte, even if its flush then fails.
 #[test]
 fn writes_a_byte_at_a_time(rt: HostRuntime) -> Result<(), Fail> {
     let (input, wanted) = three_lines(&rt)?;

@@ -21,13 +21,13 @@ fn check_keystream<R: Abort + AllocGlobal, const TAG_BYTES: usize>(
 {
     let cipher = calls::keyed(variant);
     let mut stream = [0xa5; 515];
-    cipher.stream(&mut stream);
+    calls::stream::<TAG_BYTES>(&cipher, &mut stream);
     let mut sealed = [0; 515];
     calls::encrypt_in_place::<TAG_BYTES>(&cipher, &mut sealed, &[]);
     assert_bytes(rt, &stream, &sealed, &variant);
 
     let mut buffer = MESSAGE;
-    cipher.stream_xor_in_place(&mut buffer);
+    calls::stream_xor_in_place::<TAG_BYTES>(&cipher, &mut buffer);
     for i in 0..13usize {
         assert_eq!(rt; buffer[i], MESSAGE[i] ^ stream[i], "{variant:?} at {i}");
     }

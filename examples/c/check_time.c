@@ -1,0 +1,185 @@
+/*
+ * Whether a jump or an address depends on a secret, for valgrind's memcheck. Each call of hunkravy.h
+ * runs on keys, nonces, associated data and messages that are marked as undefined: memcheck reports
+ * each conditional jump and each address that depends on such bytes. Lengths and returned codes are
+ * public. check_time.sh runs it.
+ *
+ * The last word of its output is the number of openings at once, which is that of openings on a
+ * state too. With the parameter `jump` or `address` it only does what memcheck has to report.
+ */
+#include "check.h"
+
+#include <valgrind/memcheck.h>
+
+#define LONGEST 1000
+#define LONGEST_DATA 133
+
+static const size_t LENGTHS[] = {0,  1,  15, 16, 17,  31,  32,  33,
+                                 63, 64, 65, 127, 128, 129, 300, LONGEST};
+static const size_t DATA_LENGTHS[] = {0, 13, LONGEST_DATA};
+
+#define COUNT(values) (sizeof(values) / sizeof(values)[0])
+
+/* ---- What is secret, and what is public */
+
+struct secret {
+    uint8_t k[32], npub[32], ad[LONGEST_DATA], text[LONGEST];
+};
+
+struct message {
+    const struct variant *calls;
+    size_t length, adlen, maclen;
+    struct secret secret;
+};
+
+static void renew(struct secret *secret)
+{
+    fill((uint8_t *)secret, sizeof *secret);
+    (void)VALGRIND_MAKE_MEM_UNDEFINED(secret, sizeof *secret);
+}
+
+/* The caller sees the returned code, so it may depend on secrets, as it does in opening. */
+static int public_code(int code)
+{
+    (void)VALGRIND_MAKE_MEM_DEFINED(&code, sizeof code);
+    return code;
+}
+
+#define RETURNS(wanted, call) HOLDS(public_code(call) == (wanted))
+
+#define KEYS(this)                                                                                 \
+    (this)->secret.npub, (this)->calls->key_bytes, (this)->secret.k, (this)->calls->key_bytes
+#define CONTEXT(this) (this)->secret.ad, (this)->adlen, KEYS(this)
+
+/* ---- The calls */
+
+static void check_at_once(const struct message *this)
+{
+    uint32_t variant = this->calls->number;
+    uint8_t mc[LONGEST], c[LONGEST + TAG_BYTES], mac[TAG_BYTES], wrong[TAG_BYTES];
+    size_t length = this->length, maclen = this->maclen;
+
+    memcpy(mc, this->secret.text, length);
+    RETURNS(HUNKRAVY_OK,
+            hunkravy_encrypt_in_place(variant, mc, length, CONTEXT(this), mac, maclen));
+    memcpy(c, mc, length);
+    memcpy(wrong, mac, maclen);
+    wrong[maclen - 1] ^= 128;
+    RETURNS(HUNKRAVY_OK, hunkravy_verify(variant, c, length, CONTEXT(this), mac, maclen));
+    RETURNS(HUNKRAVY_OK,
+            hunkravy_decrypt_in_place(variant, mc, length, CONTEXT(this), mac, maclen));
+    RETURNS(HUNKRAVY_INVALID_TAG,
+            hunkravy_decrypt(variant, mc, c, length, CONTEXT(this), wrong, maclen));
+    RETURNS(HUNKRAVY_OK, hunkravy_encrypt_combined(variant, c, this->secret.text, length,
+                                                   CONTEXT(this), maclen));
+    RETURNS(HUNKRAVY_OK,
+            hunkravy_decrypt_combined(variant, c, c, length + maclen, CONTEXT(this), maclen));
+    RETURNS(HUNKRAVY_OK, hunkravy_stream(variant, mc, length, KEYS(this)));
+    RETURNS(HUNKRAVY_OK, hunkravy_stream_xor(variant, mc, this->secret.text, length, KEYS(this)));
+    RETURNS(HUNKRAVY_OK, hunkravy_mac(variant, c, length, KEYS(this), mac, maclen));
+    RETURNS(HUNKRAVY_OK, hunkravy_mac_verify(variant, c, length, KEYS(this), mac, maclen));
+    mac[0] ^= 1;
+    RETURNS(HUNKRAVY_INVALID_TAG,
+            hunkravy_mac_verify(variant, c, length, KEYS(this), mac, maclen));
+}
+
+static void begin(const struct message *this, hunkravy_state *st)
+{
+    RETURNS(HUNKRAVY_OK, hunkravy_state_init(this->calls->number, st, CONTEXT(this)));
+}
+
+/* The message in two chunks, and the first of them ends within a block. */
+static void check_messages(const struct message *this)
+{
+    size_t first = this->length / 3, rest = this->length - first;
+    uint8_t mc[LONGEST], c[LONGEST], mac[TAG_BYTES];
+    hunkravy_state st, copy;
+
+    begin(this, &st);
+    RETURNS(HUNKRAVY_OK, hunkravy_state_encrypt(&st, c, this->secret.text, first));
+    RETURNS(HUNKRAVY_OK,
+            hunkravy_state_encrypt(&st, c + first, this->secret.text + first, rest));
+    RETURNS(HUNKRAVY_OK, hunkravy_state_encrypt_final(&st, mac, this->maclen));
+
+    begin(this, &st);
+    RETURNS(HUNKRAVY_OK, hunkravy_state_decrypt_check(&st, c, first));
+    RETURNS(HUNKRAVY_OK,
+            hunkravy_state_decrypt_unverified(&st, mc + first, c + first, rest));
+    copy = st;
+    RETURNS(HUNKRAVY_OK, hunkravy_state_decrypt_final(&st, mc + first, rest, mac, this->maclen));
+    mac[0] ^= 1;
+    RETURNS(HUNKRAVY_INVALID_TAG,
+            hunkravy_state_decrypt_final(&copy, mc + first, rest, mac, this->maclen));
+}
+
+static void check_macs(const struct message *this)
+{
+    size_t first = this->length / 3;
+    uint8_t mac[TAG_BYTES];
+    hunkravy_state st;
+
+    RETURNS(HUNKRAVY_OK, hunkravy_mac_init(this->calls->number, &st, KEYS(this)));
+    RETURNS(HUNKRAVY_OK, hunkravy_mac_update(&st, this->secret.text, first));
+    RETURNS(HUNKRAVY_OK,
+            hunkravy_mac_update(&st, this->secret.text + first, this->length - first));
+    RETURNS(HUNKRAVY_OK, hunkravy_mac_final(&st, mac, this->maclen));
+    RETURNS(HUNKRAVY_OK, hunkravy_mac_final_verify(&st, mac, this->maclen));
+    mac[this->maclen / 2] ^= 16;
+    RETURNS(HUNKRAVY_INVALID_TAG, hunkravy_mac_final_verify(&st, mac, this->maclen));
+}
+
+/* Returns the number of messages. Each is opened three times at once, and three times on a state. */
+static unsigned check_variant(const struct variant *calls)
+{
+    struct message message;
+    unsigned count = 0;
+
+    message.calls = calls;
+    for (size_t i = 0; i < COUNT(LENGTHS); i++) {
+        for (size_t j = 0; j < COUNT(DATA_LENGTHS); j++) {
+            for (message.maclen = 16; message.maclen <= TAG_BYTES; message.maclen += 16) {
+                message.length = LENGTHS[i];
+                message.adlen = DATA_LENGTHS[j];
+                renew(&message.secret);
+                check_at_once(&message);
+                check_messages(&message);
+                check_macs(&message);
+                count++;
+            }
+        }
+    }
+    return count;
+}
+
+/* ---- What has to be reported */
+
+static void depend_on_secret(const char *how)
+{
+    static volatile uint8_t table[256];
+    struct secret secret;
+    int index = 0;
+
+    renew(&secret);
+    if (strcmp(how, "address") == 0) {
+        index = table[secret.k[0]];
+    } else if ((secret.k[0] & 1) != 0) {
+        index = table[1];
+    }
+    (void)index;
+}
+
+int main(int count, char **arguments)
+{
+    unsigned messages = 0;
+
+    if (count == 2) {
+        depend_on_secret(arguments[1]);
+        return EXIT_SUCCESS;
+    }
+    HOLDS(RUNNING_ON_VALGRIND);
+    for (size_t i = 0; i < COUNT(VARIANTS); i++) {
+        messages += check_variant(&VARIANTS[i]);
+    }
+    printf("level %d: %lu calls; openings: %u\n", hunkravy_level(), checks - 1, 3 * messages);
+    return EXIT_SUCCESS;
+}
