@@ -162,8 +162,8 @@ C_PROGRAMS = $(C_EXAMPLES) $(C_TESTS) check_libaegis_written
 CLANG = $(shell command -v clang)
 
 check-c-%: $(OUT)/%/libhunkravy.a
-	diff <(grep -o 'hunkravy_[a-z0-9_]*_nonnull' include/hunkravy.h | sort -u) \
-		<($(TOOLS_$*)nm --defined-only -g $< | awk '{ print $$3 }' | grep -x 'hunkravy_.*_nonnull' | grep -v '^hunkravy_v[23]_' | sort)
+	diff <(sed -nE 's/^(HUNKRAVY_MUST_USE )?(int|size_t) (hunkravy_[a-z0-9_]*).*/\3/p' include/hunkravy.h | sort) \
+		<($(TOOLS_$*)nm --defined-only -g $< | awk '{ print $$3 }' | grep '^hunkravy_' | grep -v '^hunkravy_v[23]_' | sort)
 	for program in $(C_PROGRAMS); do for flags in -O2 '$(SANITIZERS)'; do \
 		source=$${program%_written}; \
 		if [ $$source != $$program ]; then flags="$$flags -DHUNKRAVY_COMPAT_WRITTEN"; fi; \

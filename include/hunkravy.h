@@ -157,7 +157,7 @@ HUNKRAVY_MUST_USE int hunkravy_mac_final_nonnull(const hunkravy_state *st, uint8
 HUNKRAVY_MUST_USE int hunkravy_mac_final_verify_nonnull(const hunkravy_state *st, const uint8_t *mac,
     size_t maclen);
 
-/* ---- What the calls below share. It is not for callers. */
+/* ---- What the calls below share. None of it is for callers. */
 
 typedef char hunkravy_state_has_672_bytes[sizeof(hunkravy_state) == 672 ? 1 : -1];
 
