@@ -1,5 +1,5 @@
-.PHONY: run program test check-pages check-edits bench bench-peers bench-states c-library check-c check-header check-sodium check-rust \
-	check-time check-install install install-tool check-tool gcc-aarch64-linux-gnu qemu-user
+.PHONY: run program test check-pages check-edits bench bench-peers bench-states c-library check-c check-header check-c++ \
+	check-sodium check-rust check-time check-install install install-tool check-tool gcc-aarch64-linux-gnu qemu-user
 .SECONDARY:
 
 SHELL = /bin/bash
@@ -142,12 +142,12 @@ gcc-aarch64-linux-gnu qemu-user:
 		{ echo '$(PROGRAM) is not installed: TARGET=$(ARM) needs the package $@' >&2; exit 1; }
 
 # The tests of the C interface: its headers, and over the library with both levels and over each level alone the examples,
-# every call of each header against the stored lines, and forgeries; the C programs under gcc's sanitizers too. The header
-# has the exports of the library, all of them and no other. A level that this processor lacks is left out. For ARM the
-# programs run under an emulator, where the sanitizers do not look for leaks.
+# every call of each header against the stored lines, and forgeries; the C programs under gcc's sanitizers too, and what
+# hunkravy_wipe leaves in memory. The header has the exports of the library, all of them and no other. A level that this
+# processor lacks is left out. For ARM the programs run under an emulator, where the sanitizers do not look for leaks.
 RUNNABLE = $(if $(shell grep -m1 -w avx2 /proc/cpuinfo),$(LEVELS),x86-64-v2)
 
-check-c: $(if $(filter aarch64,$(FOLDER)),check-c-aarch64,check-header $(addprefix check-c-,both $(RUNNABLE)) check-sodium)
+check-c: $(if $(filter aarch64,$(FOLDER)),check-c-aarch64,check-header $(addprefix check-c-,both $(RUNNABLE)) check-c++ check-sodium)
 check-c-aarch64: export ASAN_OPTIONS = detect_leaks=0
 
 # Each header compiles alone, as C and as C++.
@@ -158,17 +158,30 @@ check-header:
 	done; done
 
 # The C programs: the examples, and the tests, which read the stored lines.
-C_PROGRAMS = $(C_EXAMPLES) check_calls check_states check_libaegis check_libaegis_written check_libsodium
+C_TESTS = check_calls check_states check_libaegis check_libsodium
+C_PROGRAMS = $(C_EXAMPLES) $(C_TESTS) check_libaegis_written
+CLANG = $(shell command -v clang)
 
 check-c-%: $(OUT)/%/libhunkravy.a
-	diff <(grep -o 'hunkravy_[a-z0-9_]*_nonnull' include/hunkravy.h | sort -u) \
-		<($(TOOLS_$*)nm --defined-only -g $< | awk '{ print $$3 }' | grep -x 'hunkravy_.*_nonnull' | grep -v '^hunkravy_v[23]_' | sort)
+	diff <(sed -nE 's/^(HUNKRAVY_MUST_USE )?(int|size_t) (hunkravy_[a-z0-9_]*).*/\3/p' include/hunkravy.h | sort) \
+		<($(TOOLS_$*)nm --defined-only -g $< | awk '{ print $$3 }' | grep '^hunkravy_' | grep -v '^hunkravy_v[23]_' | sort)
 	for program in $(C_PROGRAMS); do for flags in -O2 '$(SANITIZERS)'; do \
 		source=$${program%_written}; \
 		if [ $$source != $$program ]; then flags="$$flags -DHUNKRAVY_COMPAT_WRITTEN"; fi; \
 		$(TOOLS_$*)$(CC) -std=c99 $(C_FLAGS) $$flags examples/c/$$source.c $< -o $(OUT)/$*/$$program && \
 		$(RUN_$*) $(OUT)/$*/$$program $(STORED_LINES) || exit 1; \
 	done; done
+	for compiler in $(TOOLS_$*)$(CC) $(if $(TOOLS_$*),,$(CLANG)); do for flags in -O3 '-O3 -DOTHER_COMPILER'; do \
+		$$compiler -std=c99 $(C_FLAGS) $$flags examples/c/check_wipe.c $< -o $(OUT)/$*/check_wipe && \
+		$(RUN_$*) $(OUT)/$*/check_wipe || exit 1; \
+	done; done
+
+# The tests as C++, which call what the headers have.
+check-c++: $(OUT)/both/libhunkravy.a
+	for program in $(C_TESTS); do \
+		$(CC) -std=c++11 $(C_FLAGS) $(SANITIZERS) -x c++ examples/c/$$program.c -x none $< -o $(OUT)/both/$$program++ && \
+		$(OUT)/both/$$program++ $(STORED_LINES) || exit 1; \
+	done
 
 # Whether a jump or an address depends on a secret: valgrind's memcheck tells, at each level.
 check-time: $(addprefix check-time-,$(RUNNABLE))

@@ -31,12 +31,13 @@
  *   tag alone, or no byte at all.
  * - A call on a state that has ended, or an encryption on a state that has decrypted, or the other way round,
  *   returns -1 with EINVAL. A state needs no special alignment, and may be copied by `=`.
- * - After NAME_mac_final and NAME_mac_verify more input of a MAC may follow, without a reset.
+ * - After NAME_mac_final and NAME_mac_verify more input of a MAC may follow, without a reset. No call ends the
+ *   state: call hunkravy_wipe before you drop it.
  * - The calls are inline: there is no symbol of libaegis's names to link with, and no call to choose an
  *   implementation.
  *
- * The calls stand once for all variants below, as hunkravy_compat_CALL, with their comments. HUNKRAVY_COMPAT_CALLS at the end
- * declares those of one variant: aegis128l_CALL has the parameters of hunkravy_compat_CALL without `variant`.
+ * aegis128l_CALL has the parameters of hunkravy_compat_CALL below, where its comment is, without `variant`; so
+ * have the calls of the other variants. HUNKRAVY_COMPAT_CALLS declares those of one variant.
  */
 #ifndef AEGIS_COMPAT_H
 #define AEGIS_COMPAT_H

@@ -9,8 +9,8 @@
  *
  * - Never encrypt two messages with the same key and nonce, and never use one nonce for a message and for a
  *   keystream. Whoever sees both ciphertexts learns about both messages, and may forge others. Nonces of 32
- *   bytes may be drawn at random; those of 16 bytes too, for up to 2^48 messages under one key. To encrypt
- *   different bytes by two copies of one state is to use its nonce twice.
+ *   bytes may be drawn at random; those of 16 bytes too, for up to 2^48 messages under one key.
+ * - Never continue two copies of a state with different messages: that uses its nonce twice.
  * - Never let an output buffer overlap another argument, unless the call's comment says that they may be the
  *   same pointer.
  * - Never use decrypted bytes before their tag is verified: do not show, parse or store them, or act on them.
@@ -30,8 +30,9 @@
  * a buffer that holds one of them before the call and the other after it, `ad` the associated data, `npub` the
  * nonce, `k` the key, and `mac` a tag or a MAC of `maclen` bytes, 16 or 32.
  *
- * CODES. On a wrong variant, length or state a call returns the first code below that applies, HUNKRAVY_WRONG_VARIANT
- * or HUNKRAVY_WRONG_STATE before all others, and changes nothing, except that an init writes zeros to its state.
+ * CODES. A call checks the variant or the state first, then the lengths of the nonce, the key, the message, the
+ * associated data and the tag. It returns the code of the first that is wrong, and writes nothing, except that an init
+ * then leaves a state of zeros.
  */
 #ifndef HUNKRAVY_H
 #define HUNKRAVY_H
@@ -63,7 +64,7 @@ extern "C" {
 
 /* Success. */
 #define HUNKRAVY_OK 0
-/* The tag is not that of the message, or the MAC not that of the input. Each byte of a message's buffer is 0xaa. */
+/* The tag is not that of the message, or the MAC not that of the input. What is erased stands at each call. */
 #define HUNKRAVY_INVALID_TAG (-1)
 /* The nonce's length is not that of the variant. */
 #define HUNKRAVY_WRONG_NONCE_LENGTH (-2)
@@ -75,7 +76,7 @@ extern "C" {
 #define HUNKRAVY_DATA_TOO_LONG (-5)
 /* The tag, or the MAC, has neither 16 nor 32 bytes. */
 #define HUNKRAVY_WRONG_TAG_LENGTH (-6)
-/* The state was not begun, or has ended, or has another role: a message in the other direction, a MAC, no MAC. */
+/* The state is zeros (it has ended, or was not begun), or has another role: the other direction, a MAC, no MAC. */
 #define HUNKRAVY_WRONG_STATE (-7)
 /* The variant is none of the six. */
 #define HUNKRAVY_WRONG_VARIANT (-8)
@@ -98,7 +99,7 @@ extern "C" {
  * is not specified.
  *
  * A state may be copied by `=`, and dropped at any time; nothing has to be freed. Each call but an init refuses
- * a state of zeros. Until it has ended a state is as secret as the key: if you drop it, call hunkravy_wipe.
+ * a state of zeros. Until it has ended, a state is as secret as the key: call hunkravy_wipe before you drop it.
  */
 typedef struct hunkravy_state {
     uint64_t mark;
@@ -156,7 +157,7 @@ HUNKRAVY_MUST_USE int hunkravy_mac_final_nonnull(const hunkravy_state *st, uint8
 HUNKRAVY_MUST_USE int hunkravy_mac_final_verify_nonnull(const hunkravy_state *st, const uint8_t *mac,
     size_t maclen);
 
-/* ---- What the calls below share: a caller has nothing to read here. */
+/* ---- What the calls below share. None of it is for callers. */
 
 typedef char hunkravy_state_has_672_bytes[sizeof(hunkravy_state) == 672 ? 1 : -1];
 
@@ -194,23 +195,29 @@ size_t hunkravy_key_bytes(uint32_t variant);
 int hunkravy_level(void);
 
 /*
- * Overwrites `length` bytes with zeros, even if nothing reads them afterwards. Use it for keys, and for states
- * that are dropped. Copies that the compiler or the library has made are not overwritten.
+ * Overwrites `length` bytes with zeros. The compiler keeps the writes even if nothing reads the bytes again. Use it for
+ * keys, and for states that are dropped before they have ended. Copies that the compiler or the library has made are
+ * not overwritten.
  */
 static inline void hunkravy_wipe(void *bytes, size_t length)
 {
+#if defined(__GNUC__) || defined(__clang__)
     if (length != 0) {
         memset(bytes, 0, length);
     }
-#if defined(__GNUC__) || defined(__clang__)
     /* The compiler must assume that this reads the bytes. */
     __asm__ __volatile__("" : : "r"(bytes) : "memory");
+#else
+    volatile uint8_t *byte = (volatile uint8_t *)bytes;
+    for (; length != 0; length--) {
+        *byte++ = 0;
+    }
 #endif
 }
 
 /*
- * Returns the first code that applies to a variant and to the lengths of a call on a message, or HUNKRAVY_OK. A call
- * that writes to another buffer asks before it copies the message there.
+ * Returns the code of the first that is wrong of the variant and the lengths of a call on a message, or HUNKRAVY_OK. A
+ * call that writes to another buffer asks before it copies the message there.
  */
 static inline int hunkravy_check_lengths(uint32_t variant, size_t npublen, size_t klen, size_t mlen,
     size_t adlen, size_t maclen)
@@ -293,14 +300,15 @@ HUNKRAVY_MUST_USE static inline int hunkravy_encrypt_combined(uint32_t variant, 
 
 /*
  * As hunkravy_decrypt, with the tag after the ciphertext: `clen` bytes at `c` in all, and `clen - maclen` at `m`. If
- * `clen` is less than `maclen` it returns HUNKRAVY_INVALID_TAG, and nothing is written.
+ * `clen` is less than `maclen`, there is no tag: it returns HUNKRAVY_INVALID_TAG, and writes nothing.
  */
 HUNKRAVY_MUST_USE static inline int hunkravy_decrypt_combined(uint32_t variant, uint8_t *m,
     const uint8_t *c, size_t clen, const uint8_t *ad, size_t adlen, const uint8_t *npub, size_t npublen,
     const uint8_t *k, size_t klen, size_t maclen)
 {
     if (clen < maclen) {
-        return HUNKRAVY_INVALID_TAG;
+        int code = hunkravy_check_lengths(variant, npublen, klen, 0, adlen, maclen);
+        return code != HUNKRAVY_OK ? code : HUNKRAVY_INVALID_TAG;
     }
     return hunkravy_decrypt(variant, m, c, clen - maclen, ad, adlen, npub, npublen, k, klen,
         hunkravy_readable(c, clen) + (clen - maclen), maclen);
@@ -420,8 +428,8 @@ HUNKRAVY_MUST_USE static inline int hunkravy_state_encrypt(hunkravy_state *st, u
 /*
  * Writes the tag of the whole message to `mac`, and ends the state: it is one of zeros.
  *
- * Returns HUNKRAVY_OK, HUNKRAVY_WRONG_STATE or HUNKRAVY_WRONG_TAG_LENGTH. After the last two nothing is written, and
- * the state is as it was.
+ * Returns HUNKRAVY_OK, HUNKRAVY_WRONG_STATE or HUNKRAVY_WRONG_TAG_LENGTH. After any code but HUNKRAVY_OK nothing is
+ * written, and the state is as it was.
  */
 HUNKRAVY_MUST_USE static inline int hunkravy_state_encrypt_final(hunkravy_state *st, uint8_t *mac,
     size_t maclen)
@@ -468,7 +476,7 @@ HUNKRAVY_MUST_USE static inline int hunkravy_state_decrypt_unverified(hunkravy_s
  *
  * Returns HUNKRAVY_OK, HUNKRAVY_INVALID_TAG, HUNKRAVY_WRONG_STATE or HUNKRAVY_WRONG_TAG_LENGTH. After HUNKRAVY_OK the
  * chunks that were decrypted are the message. After HUNKRAVY_INVALID_TAG the state has ended, and each of the `mlen`
- * bytes at `m` is 0xaa. After the last two nothing is written, the state is as it was, and the chunks are still
+ * bytes at `m` is 0xaa. After another code nothing is written, the state is as it was, and the chunks are still
  * unverified.
  */
 HUNKRAVY_MUST_USE static inline int hunkravy_state_decrypt_final(hunkravy_state *st, uint8_t *m,
@@ -478,8 +486,8 @@ HUNKRAVY_MUST_USE static inline int hunkravy_state_decrypt_final(hunkravy_state 
 }
 
 /*
- * Verifies at once that `mac` is the tag of the ciphertext of `clen` bytes at `c`, and writes nothing. Returns what
- * hunkravy_decrypt_in_place returns.
+ * Verifies at once that `mac` is the tag of the ciphertext of `clen` bytes at `c`. Returns what
+ * hunkravy_decrypt_in_place returns, and writes nothing.
  */
 HUNKRAVY_MUST_USE static inline int hunkravy_verify(uint32_t variant, const uint8_t *c, size_t clen,
     const uint8_t *ad, size_t adlen, const uint8_t *npub, size_t npublen, const uint8_t *k, size_t klen,
@@ -517,7 +525,8 @@ HUNKRAVY_MUST_USE static inline int hunkravy_mac_update(hunkravy_state *st, cons
  * Writes the MAC of the input so far to `mac`. The state is not changed, so more input may follow. No call ends a MAC:
  * after its last use call hunkravy_wipe.
  *
- * Returns HUNKRAVY_OK, HUNKRAVY_WRONG_STATE or HUNKRAVY_WRONG_TAG_LENGTH. After the last two nothing is written.
+ * Returns HUNKRAVY_OK, HUNKRAVY_WRONG_STATE or HUNKRAVY_WRONG_TAG_LENGTH. After any code but HUNKRAVY_OK nothing is
+ * written.
  */
 HUNKRAVY_MUST_USE static inline int hunkravy_mac_final(const hunkravy_state *st, uint8_t *mac,
     size_t maclen)

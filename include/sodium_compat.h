@@ -25,8 +25,8 @@
  *   header or sodium.h, and not both; in one program different files may.
  * - Random bytes come from getrandom. There is no call to replace their source.
  *
- * The calls stand once for both variants below, as hunkravy_sodium_CALL, with their comments. HUNKRAVY_SODIUM_CALLS at the end
- * declares those of one variant: crypto_aead_aegis128l_CALL has the parameters of hunkravy_sodium_CALL without `variant`.
+ * crypto_aead_aegis256_CALL has the parameters of hunkravy_sodium_CALL below, where its comment is, without
+ * `variant` and with `nsec`; so have the calls of AEGIS-128L. HUNKRAVY_SODIUM_CALLS declares those of one variant.
  */
 #ifndef SODIUM_COMPAT_H
 #define SODIUM_COMPAT_H

@@ -153,7 +153,7 @@ static inline const struct variant *variant_of(const char *name)
 
 static inline void read_line(struct line *line, char *text)
 {
-    char *words[MOST_FIELDS] = {""}, **word = words;
+    char none[] = "", *words[MOST_FIELDS] = {none}, **word = words;
 
     split(text, words);
     snprintf(line->command, sizeof line->command, "%s", *word++);
@@ -178,7 +178,7 @@ static inline void read_line(struct line *line, char *text)
 
 static inline void read_answer(struct line *line, char *text)
 {
-    char *words[MOST_FIELDS] = {""};
+    char none[] = "", *words[MOST_FIELDS] = {none};
     size_t count = split(text, words);
     size_t first = strcmp(words[0], "ok") == 0;
 

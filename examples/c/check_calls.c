@@ -14,67 +14,67 @@ struct case_of_line {
 
 static struct case_of_line case_of(const struct line *line)
 {
-    struct case_of_line this;
-    this.calls = line->variant;
-    this.bytes = line->variant->key_bytes;
-    HOLDS(line->key.length == this.bytes && line->nonce.length == this.bytes);
-    this.k = copied(line->key.at, this.bytes);
-    this.npub = copied(line->nonce.at, this.bytes);
-    this.adlen = line->ad.length;
-    this.ad = copied(line->ad.at, this.adlen);
-    return this;
+    struct case_of_line given;
+    given.calls = line->variant;
+    given.bytes = line->variant->key_bytes;
+    HOLDS(line->key.length == given.bytes && line->nonce.length == given.bytes);
+    given.k = copied(line->key.at, given.bytes);
+    given.npub = copied(line->nonce.at, given.bytes);
+    given.adlen = line->ad.length;
+    given.ad = copied(line->ad.at, given.adlen);
+    return given;
 }
 
-static void drop(struct case_of_line this)
+static void drop(struct case_of_line given)
 {
-    free(this.k);
-    free(this.npub);
-    free(this.ad);
+    free(given.k);
+    free(given.npub);
+    free(given.ad);
 }
 
-#define CONTEXT(this) this.ad, this.adlen, this.npub, this.bytes, this.k, this.bytes
-#define KEYS(this) this.npub, this.bytes, this.k, this.bytes
+#define CONTEXT(given) given.ad, given.adlen, given.npub, given.bytes, given.k, given.bytes
+#define KEYS(given) given.npub, given.bytes, given.k, given.bytes
 
 static void check_seal(const struct line *line)
 {
-    struct case_of_line this = case_of(line);
+    struct case_of_line given = case_of(line);
     size_t length = line->text.length, maclen = line->number;
     const uint8_t *expected = line->answer[0].at, *tag = line->answer[1].at;
     uint8_t *m = copied(line->text.at, length), *mc = copied(m, length), *c = copied(m, length);
     uint8_t *combined = copied(tag, length + TAG_BYTES), *mac = copied(tag, maclen);
 
     memset(mac, 0, maclen);
-    HOLDS(hunkravy_encrypt_in_place(this.calls->number, mc, length, CONTEXT(this), mac, maclen) ==
+    HOLDS(hunkravy_encrypt_in_place(given.calls->number, mc, length, CONTEXT(given), mac, maclen) ==
           HUNKRAVY_OK);
     HOLDS(memcmp(mc, expected, length) == 0 && memcmp(mac, tag, maclen) == 0);
     memset(mac, 0, maclen);
-    HOLDS(hunkravy_encrypt(this.calls->number, c, m, length, CONTEXT(this), mac, maclen) ==
+    HOLDS(hunkravy_encrypt(given.calls->number, c, m, length, CONTEXT(given), mac, maclen) ==
           HUNKRAVY_OK);
     HOLDS(memcmp(c, expected, length) == 0 && memcmp(mac, tag, maclen) == 0);
     HOLDS(memcmp(m, line->text.at, length) == 0);
-    HOLDS(hunkravy_encrypt(this.calls->number, m, m, length, CONTEXT(this), mac, maclen) ==
+    HOLDS(hunkravy_encrypt(given.calls->number, m, m, length, CONTEXT(given), mac, maclen) ==
           HUNKRAVY_OK);
     HOLDS(memcmp(m, expected, length) == 0);
 
     memset(combined, 0x55, length + TAG_BYTES);
-    HOLDS(hunkravy_encrypt_combined(this.calls->number, combined, line->text.at, length,
-                                    CONTEXT(this), maclen) == HUNKRAVY_OK);
+    HOLDS(hunkravy_encrypt_combined(given.calls->number, combined, line->text.at, length,
+                                    CONTEXT(given), maclen) == HUNKRAVY_OK);
     HOLDS(memcmp(combined, expected, length) == 0 && memcmp(combined + length, tag, maclen) == 0);
     HOLDS(all_are(combined + length + maclen, TAG_BYTES - maclen, 0x55));
-    HOLDS(hunkravy_decrypt_combined(this.calls->number, combined, combined, length + maclen,
-                                    CONTEXT(this), maclen) == HUNKRAVY_OK);
+    HOLDS(hunkravy_decrypt_combined(given.calls->number, combined, combined, length + maclen,
+                                    CONTEXT(given), maclen) == HUNKRAVY_OK);
     HOLDS(memcmp(combined, line->text.at, length) == 0);
     free(m);
     free(mc);
     free(c);
     free(combined);
     free(mac);
-    drop(this);
+    drop(given);
 }
 
 static void check_open(const struct line *line)
 {
-    struct case_of_line this = case_of(line);
+    struct case_of_line given = case_of(line);
     size_t length = line->text.length, maclen = line->tag.length;
     int code = line->is_refused ? HUNKRAVY_INVALID_TAG : HUNKRAVY_OK;
     uint8_t *c = copied(line->text.at, length), *mc = copied(c, length), *m = copied(c, length);
@@ -84,70 +84,72 @@ static void check_open(const struct line *line)
     if (!line->is_refused) {
         memcpy(expected, line->answer[0].at, length);
     }
-    HOLDS(hunkravy_decrypt_in_place(this.calls->number, mc, length, CONTEXT(this), mac, maclen) ==
+    HOLDS(hunkravy_decrypt_in_place(given.calls->number, mc, length, CONTEXT(given), mac, maclen) ==
           code);
     HOLDS(memcmp(mc, expected, length) == 0);
     memset(m, 0x55, length);
-    HOLDS(hunkravy_decrypt(this.calls->number, m, c, length, CONTEXT(this), mac, maclen) == code);
+    HOLDS(hunkravy_decrypt(given.calls->number, m, c, length, CONTEXT(given), mac, maclen) == code);
     HOLDS(memcmp(m, expected, length) == 0 && memcmp(c, line->text.at, length) == 0);
-    HOLDS(hunkravy_verify(this.calls->number, c, length, CONTEXT(this), mac, maclen) == code);
+    HOLDS(hunkravy_verify(given.calls->number, c, length, CONTEXT(given), mac, maclen) == code);
     HOLDS(memcmp(c, line->text.at, length) == 0);
-    HOLDS(hunkravy_decrypt(this.calls->number, c, c, length, CONTEXT(this), mac, maclen) == code);
+    HOLDS(hunkravy_decrypt(given.calls->number, c, c, length, CONTEXT(given), mac, maclen) == code);
     HOLDS(memcmp(c, expected, length) == 0);
     free(m);
     free(mc);
     free(c);
     free(mac);
-    drop(this);
+    drop(given);
 }
 
 static void check_stream(const struct line *line)
 {
-    struct case_of_line this = case_of(line);
+    struct case_of_line given = case_of(line);
     uint8_t *out = copied(line->answer[0].at, line->number);
 
     HOLDS(line->answer[0].length == line->number);
     memset(out, 0x55, line->number);
-    HOLDS(hunkravy_stream(this.calls->number, out, line->number, KEYS(this)) == HUNKRAVY_OK);
+    HOLDS(hunkravy_stream(given.calls->number, out, line->number, KEYS(given)) == HUNKRAVY_OK);
     HOLDS(memcmp(out, line->answer[0].at, line->number) == 0);
     free(out);
-    drop(this);
+    drop(given);
 }
 
 static void check_xor(const struct line *line)
 {
-    struct case_of_line this = case_of(line);
+    struct case_of_line given = case_of(line);
     size_t length = line->text.length;
     uint8_t *m = copied(line->text.at, length), *mc = copied(m, length), *c = copied(m, length);
 
-    HOLDS(hunkravy_stream_xor_in_place(this.calls->number, mc, length, KEYS(this)) == HUNKRAVY_OK);
+    HOLDS(hunkravy_stream_xor_in_place(given.calls->number, mc, length, KEYS(given)) ==
+          HUNKRAVY_OK);
     HOLDS(memcmp(mc, line->answer[0].at, length) == 0);
     memset(c, 0x55, length);
-    HOLDS(hunkravy_stream_xor(this.calls->number, c, m, length, KEYS(this)) == HUNKRAVY_OK);
+    HOLDS(hunkravy_stream_xor(given.calls->number, c, m, length, KEYS(given)) == HUNKRAVY_OK);
     HOLDS(memcmp(c, line->answer[0].at, length) == 0);
     free(m);
     free(mc);
     free(c);
-    drop(this);
+    drop(given);
 }
 
 static void check_mac(const struct line *line)
 {
-    struct case_of_line this = case_of(line);
+    struct case_of_line given = case_of(line);
     size_t length = line->text.length, maclen = line->number;
     uint8_t *input = copied(line->text.at, length), *mac = copied(line->answer[0].at, maclen);
 
     memset(mac, 0, maclen);
-    HOLDS(hunkravy_mac(this.calls->number, input, length, KEYS(this), mac, maclen) == HUNKRAVY_OK);
+    HOLDS(hunkravy_mac(given.calls->number, input, length, KEYS(given), mac, maclen) ==
+          HUNKRAVY_OK);
     HOLDS(memcmp(mac, line->answer[0].at, maclen) == 0);
-    HOLDS(hunkravy_mac_verify(this.calls->number, input, length, KEYS(this), mac, maclen) ==
+    HOLDS(hunkravy_mac_verify(given.calls->number, input, length, KEYS(given), mac, maclen) ==
           HUNKRAVY_OK);
     mac[next_number() % maclen] ^= (uint8_t)(1 << next_number() % 8);
-    HOLDS(hunkravy_mac_verify(this.calls->number, input, length, KEYS(this), mac, maclen) ==
+    HOLDS(hunkravy_mac_verify(given.calls->number, input, length, KEYS(given), mac, maclen) ==
           HUNKRAVY_INVALID_TAG);
     free(input);
     free(mac);
-    drop(this);
+    drop(given);
 }
 
 static void check_line(const struct line *line)
@@ -171,15 +173,21 @@ static void check_line(const struct line *line)
     }
 }
 
-/* What each call with a tag returns for these lengths. After a wrong one nothing is written. */
+/*
+ * What each call with a tag returns for these lengths, of which a pointer to no bytes is null. After
+ * a wrong one nothing is written.
+ */
 static void check_refused(const struct variant *calls, size_t npublen, size_t klen, size_t maclen,
                           int code)
 {
-    uint8_t k[33] = {0}, npub[33] = {0}, bytes[64], out[64], mac[33], tag[33] = {0};
+    static const uint8_t zeros[33] = {0};
+    const uint8_t *k = klen == 0 ? NULL : zeros, *npub = npublen == 0 ? NULL : zeros;
+    const uint8_t *tag = maclen == 0 ? NULL : zeros;
+    uint8_t bytes[64], out[64], written[33], *mac = maclen == 0 ? NULL : written;
 
     memset(bytes, 0x55, sizeof bytes);
     memset(out, 0x66, sizeof out);
-    memset(mac, 0x77, sizeof mac);
+    memset(written, 0x77, sizeof written);
     HOLDS(hunkravy_encrypt_in_place(calls->number, bytes, 20, NULL, 0, npub, npublen, k, klen, mac,
                                     maclen) == code);
     HOLDS(hunkravy_decrypt_in_place(calls->number, bytes, 20, NULL, 0, npub, npublen, k, klen, tag,
@@ -197,8 +205,25 @@ static void check_refused(const struct variant *calls, size_t npublen, size_t kl
     HOLDS(hunkravy_mac(calls->number, bytes, 20, npub, npublen, k, klen, mac, maclen) == code);
     HOLDS(hunkravy_mac_verify(calls->number, bytes, 20, npub, npublen, k, klen, tag, maclen) ==
           code);
+    HOLDS(hunkravy_decrypt_combined(calls->number, out, bytes, maclen / 2, NULL, 0, npub, npublen,
+                                    k, klen, maclen) == code);
     HOLDS(all_are(bytes, sizeof bytes, 0x55) && all_are(out, sizeof out, 0x66));
-    HOLDS(all_are(mac, sizeof mac, 0x77));
+    HOLDS(all_are(written, sizeof written, 0x77));
+}
+
+/* The same for each call with a keystream. */
+static void check_stream_refused(const struct variant *calls, size_t npublen, size_t klen, int code)
+{
+    static const uint8_t zeros[33] = {0};
+    const uint8_t *k = klen == 0 ? NULL : zeros, *npub = npublen == 0 ? NULL : zeros;
+    uint8_t bytes[64], out[64];
+
+    memset(bytes, 0x55, sizeof bytes);
+    memset(out, 0x66, sizeof out);
+    HOLDS(hunkravy_stream(calls->number, bytes, 64, npub, npublen, k, klen) == code);
+    HOLDS(hunkravy_stream_xor_in_place(calls->number, bytes, 64, npub, npublen, k, klen) == code);
+    HOLDS(hunkravy_stream_xor(calls->number, out, bytes, 64, npub, npublen, k, klen) == code);
+    HOLDS(all_are(bytes, sizeof bytes, 0x55) && all_are(out, sizeof out, 0x66));
 }
 
 static void check_lengths(const struct variant *calls)
@@ -211,15 +236,8 @@ static void check_lengths(const struct variant *calls)
         check_refused(calls, wrong[i], right, 16, HUNKRAVY_WRONG_NONCE_LENGTH);
         check_refused(calls, right, wrong[i], 16, HUNKRAVY_WRONG_KEY_LENGTH);
         check_refused(calls, wrong[i], wrong[i], 16, HUNKRAVY_WRONG_NONCE_LENGTH);
-        HOLDS(hunkravy_stream(calls->number, bytes, 64, k, wrong[i], k, right) ==
-              HUNKRAVY_WRONG_NONCE_LENGTH);
-        HOLDS(hunkravy_stream(calls->number, bytes, 64, k, right, k, wrong[i]) ==
-              HUNKRAVY_WRONG_KEY_LENGTH);
-        HOLDS(hunkravy_stream_xor_in_place(calls->number, bytes, 64, k, wrong[i], k, right) ==
-              HUNKRAVY_WRONG_NONCE_LENGTH);
-        HOLDS(hunkravy_stream_xor(calls->number, bytes, bytes, 64, k, right, k, wrong[i]) ==
-              HUNKRAVY_WRONG_KEY_LENGTH);
-        HOLDS(all_are(bytes, 64, 0));
+        check_stream_refused(calls, wrong[i], right, HUNKRAVY_WRONG_NONCE_LENGTH);
+        check_stream_refused(calls, right, wrong[i], HUNKRAVY_WRONG_KEY_LENGTH);
     }
     for (size_t i = 0; i < sizeof tags / sizeof tags[0]; i++) {
         check_refused(calls, right, right, tags[i], HUNKRAVY_WRONG_TAG_LENGTH);
@@ -246,16 +264,13 @@ static void check_wrong_variants(void)
         {"", 6, 16}, {"", 7, 32}, {"", 255, 16}, {"", UINT32_C(1) << 31, 32}, {"", UINT32_MAX, 0}};
 
     for (size_t i = 0; i < sizeof wrong / sizeof wrong[0]; i++) {
-        uint8_t bytes[64] = {0}, k[32] = {0};
         check_refused(&wrong[i], 16, 16, 16, HUNKRAVY_WRONG_VARIANT);
         check_refused(&wrong[i], 32, 32, 32, HUNKRAVY_WRONG_VARIANT);
         check_refused(&wrong[i], 0, 0, 0, HUNKRAVY_WRONG_VARIANT);
-        HOLDS(hunkravy_stream(wrong[i].number, bytes, 64, k, 16, k, 16) == HUNKRAVY_WRONG_VARIANT);
-        HOLDS(hunkravy_stream_xor_in_place(wrong[i].number, bytes, 64, k, 32, k, 32) ==
-              HUNKRAVY_WRONG_VARIANT);
-        HOLDS(hunkravy_stream_xor(wrong[i].number, bytes, k, 32, k, 32, k, 32) ==
-              HUNKRAVY_WRONG_VARIANT);
-        HOLDS(all_are(bytes, 64, 0) && hunkravy_key_bytes(wrong[i].number) == 0);
+        check_stream_refused(&wrong[i], 16, 16, HUNKRAVY_WRONG_VARIANT);
+        check_stream_refused(&wrong[i], 32, 32, HUNKRAVY_WRONG_VARIANT);
+        check_stream_refused(&wrong[i], 0, 0, HUNKRAVY_WRONG_VARIANT);
+        HOLDS(hunkravy_key_bytes(wrong[i].number) == 0);
     }
 }
 

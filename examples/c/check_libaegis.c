@@ -113,7 +113,7 @@ static int is_refused(int result)
                                                                                                    \
     static void NAME##_stream_line(const struct line *line)                                        \
     {                                                                                              \
-        static const uint8_t zeros[32];                                                            \
+        static const uint8_t zeros[32] = {0};                                                      \
         uint8_t out[MOST_BYTES], other[MOST_BYTES];                                                \
         NAME##_stream(out, line->number, KEYS);                                                    \
         HOLDS(memcmp(out, line->answer[0].at, line->number) == 0);                                 \
@@ -150,7 +150,7 @@ static int is_refused(int result)
                                                                                                    \
     static void NAME##_rest(void)                                                                  \
     {                                                                                              \
-        static const uint8_t zeros[64];                                                            \
+        static const uint8_t zeros[64] = {0};                                                      \
         uint8_t c[64] = {0}, m[64] = {0}, sealed[64], k[32] = {1}, mac[TAG_BYTES] = {0};           \
         NAME##_mac_state with, without;                                                            \
                                                                                                    \

@@ -133,10 +133,10 @@ static struct message random_message(const struct variant *calls, size_t length,
     return message;
 }
 
-static void begin(const struct message *this, hunkravy_state *st)
+static void begin(const struct message *given, hunkravy_state *st)
 {
-    HOLDS(hunkravy_state_init(this->calls->number, st, this->ad, this->adlen, this->npub,
-                              this->bytes, this->k, this->bytes) == HUNKRAVY_OK);
+    HOLDS(hunkravy_state_init(given->calls->number, st, given->ad, given->adlen, given->npub,
+                              given->bytes, given->k, given->bytes) == HUNKRAVY_OK);
 }
 
 /* The next chunk of what is left: around the rate blocks' lengths, or short, or none. */
@@ -150,60 +150,67 @@ static size_t next_chunk(size_t left)
 
 /*
  * In chunks, with the state copied to another place after each of them, and its old place
- * overwritten.
+ * overwritten. Each chunk is also encrypted by a copy, which then has the same bytes as the state.
  */
-static void check_sealing(const struct message *this)
+static void check_sealing(const struct message *given)
 {
     hunkravy_state st, copy;
-    uint8_t *mc = copied(this->plain, this->length), mac[TAG_BYTES];
+    uint8_t *mc = copied(given->plain, given->length), mac[TAG_BYTES], out[1000];
 
-    begin(this, &st);
+    begin(given, &st);
     copy = st;
-    for (size_t at = 0, n; at < this->length; at += n) {
-        n = next_chunk(this->length - at);
+    for (size_t at = 0, n; at < given->length; at += n) {
+        n = next_chunk(given->length - at);
+        HOLDS(hunkravy_state_encrypt(&copy, out, mc + at, n) == HUNKRAVY_OK);
         HOLDS(hunkravy_state_encrypt_in_place(&st, mc + at, n) == HUNKRAVY_OK);
+        HOLDS(memcmp(out, mc + at, n) == 0 && memcmp(&st, &copy, sizeof st) == 0);
         HOLDS(hunkravy_state_encrypt_in_place(&st, NULL, 0) == HUNKRAVY_OK);
         HOLDS(hunkravy_state_encrypt(&st, NULL, NULL, 0) == HUNKRAVY_OK);
         copy = st;
         memset(&st, 0, sizeof st);
         st = copy;
     }
-    HOLDS(memcmp(mc, this->sealed, this->length) == 0);
+    HOLDS(memcmp(mc, given->sealed, given->length) == 0);
     memset(mac, 0x77, sizeof mac);
     HOLDS(hunkravy_state_encrypt_final(&st, mac, 17) == HUNKRAVY_WRONG_TAG_LENGTH);
     HOLDS(hunkravy_state_encrypt_final(&st, NULL, 0) == HUNKRAVY_WRONG_TAG_LENGTH);
     HOLDS(all_are(mac, sizeof mac, 0x77) && memcmp(&st, &copy, sizeof st) == 0);
-    HOLDS(hunkravy_state_encrypt_final(&st, mac, this->maclen) == HUNKRAVY_OK);
-    HOLDS(memcmp(mac, this->tag, this->maclen) == 0);
+    HOLDS(hunkravy_state_encrypt_final(&st, mac, given->maclen) == HUNKRAVY_OK);
+    HOLDS(memcmp(mac, given->tag, given->maclen) == 0);
     HOLDS(all_are((const uint8_t *)&st, sizeof st, 0));
     free(mc);
 }
 
-static void check_opening(const struct message *this)
+static void check_opening(const struct message *given)
 {
-    hunkravy_state st, copy;
-    uint8_t *mc = copied(this->sealed, this->length);
+    hunkravy_state st, copy, checked;
+    uint8_t *mc = copied(given->sealed, given->length);
 
-    begin(this, &st);
-    for (size_t at = 0, n; at < this->length; at += n) {
-        n = next_chunk(this->length - at);
+    begin(given, &st);
+    checked = st;
+    for (size_t at = 0, n; at < given->length; at += n) {
+        n = next_chunk(given->length - at);
+        HOLDS(hunkravy_state_decrypt_check(&checked, mc + at, n) == HUNKRAVY_OK);
         HOLDS(hunkravy_state_decrypt_in_place_unverified(&st, mc + at, n) == HUNKRAVY_OK);
+        HOLDS(hunkravy_state_decrypt_in_place_unverified(&st, NULL, 0) == HUNKRAVY_OK);
         HOLDS(hunkravy_state_decrypt_check(&st, NULL, 0) == HUNKRAVY_OK);
         HOLDS(hunkravy_state_decrypt_unverified(&st, NULL, NULL, 0) == HUNKRAVY_OK);
     }
+    HOLDS(hunkravy_state_decrypt_final(&checked, NULL, 0, given->tag, given->maclen) ==
+          HUNKRAVY_OK);
     copy = st;
-    HOLDS(hunkravy_state_decrypt_final(&st, mc, this->length, this->tag, 31) ==
+    HOLDS(hunkravy_state_decrypt_final(&st, mc, given->length, given->tag, 31) ==
           HUNKRAVY_WRONG_TAG_LENGTH);
-    HOLDS(hunkravy_state_decrypt_final(&st, mc, this->length, NULL, 0) ==
+    HOLDS(hunkravy_state_decrypt_final(&st, mc, given->length, NULL, 0) ==
           HUNKRAVY_WRONG_TAG_LENGTH);
     HOLDS(memcmp(&st, &copy, sizeof st) == 0);
-    HOLDS(hunkravy_state_decrypt_final(&st, mc, this->length, this->tag, this->maclen) ==
+    HOLDS(hunkravy_state_decrypt_final(&st, mc, given->length, given->tag, given->maclen) ==
           HUNKRAVY_OK);
-    HOLDS(memcmp(mc, this->plain, this->length) == 0);
+    HOLDS(memcmp(mc, given->plain, given->length) == 0);
     HOLDS(all_are((const uint8_t *)&st, sizeof st, 0));
-    HOLDS(hunkravy_state_decrypt_final(&copy, mc, this->length, this->wrong, this->maclen) ==
+    HOLDS(hunkravy_state_decrypt_final(&copy, mc, given->length, given->wrong, given->maclen) ==
           HUNKRAVY_INVALID_TAG);
-    HOLDS(all_are(mc, this->length, 0xaa) && all_are((const uint8_t *)&copy, sizeof copy, 0));
+    HOLDS(all_are(mc, given->length, 0xaa) && all_are((const uint8_t *)&copy, sizeof copy, 0));
     free(mc);
 }
 
@@ -211,37 +218,38 @@ static void check_opening(const struct message *this)
  * The MAC of the same bytes, which goes on after a MAC was asked for, in the state and in a copy of
  * it.
  */
-static void check_macs(const struct message *this)
+static void check_macs(const struct message *given)
 {
-    const struct variant *calls = this->calls;
+    const struct variant *calls = given->calls;
     hunkravy_state st, copy, half;
     uint8_t mac[TAG_BYTES], expected[TAG_BYTES];
 
-    HOLDS(hunkravy_mac(calls->number, this->plain, this->length, this->npub, this->bytes, this->k,
-                       this->bytes, expected, this->maclen) == HUNKRAVY_OK);
-    HOLDS(hunkravy_mac_init(calls->number, &st, this->npub, this->bytes, this->k, this->bytes) ==
-          HUNKRAVY_OK);
+    HOLDS(hunkravy_mac(calls->number, given->plain, given->length, given->npub, given->bytes,
+                       given->k, given->bytes, expected, given->maclen) == HUNKRAVY_OK);
+    HOLDS(hunkravy_mac_init(calls->number, &st, given->npub, given->bytes, given->k,
+                            given->bytes) == HUNKRAVY_OK);
     half = st;
-    for (size_t at = 0, n; at < this->length; at += n) {
-        n = next_chunk(this->length - at);
+    for (size_t at = 0, n; at < given->length; at += n) {
+        n = next_chunk(given->length - at);
         half = st;
-        HOLDS(hunkravy_mac_update(&half, this->plain + at, this->length - at) == HUNKRAVY_OK);
-        HOLDS(hunkravy_mac_update(&st, this->plain + at, n) == HUNKRAVY_OK);
+        HOLDS(hunkravy_mac_update(&half, given->plain + at, given->length - at) == HUNKRAVY_OK);
+        HOLDS(hunkravy_mac_update(&st, given->plain + at, n) == HUNKRAVY_OK);
         HOLDS(hunkravy_mac_update(&st, NULL, 0) == HUNKRAVY_OK);
         copy = st;
-        HOLDS(hunkravy_mac_final(&st, mac, this->maclen) == HUNKRAVY_OK);
+        HOLDS(hunkravy_mac_final(&st, mac, given->maclen) == HUNKRAVY_OK);
         HOLDS(memcmp(&st, &copy, sizeof st) == 0);
     }
-    HOLDS(hunkravy_mac_final(&half, mac, this->maclen) == HUNKRAVY_OK);
-    HOLDS(memcmp(mac, expected, this->maclen) == 0);
-    HOLDS(hunkravy_mac_final(&st, mac, this->maclen) == HUNKRAVY_OK);
-    HOLDS(memcmp(mac, expected, this->maclen) == 0);
+    HOLDS(hunkravy_mac_final(&half, mac, given->maclen) == HUNKRAVY_OK);
+    HOLDS(memcmp(mac, expected, given->maclen) == 0);
+    HOLDS(hunkravy_mac_final(&st, mac, given->maclen) == HUNKRAVY_OK);
+    HOLDS(memcmp(mac, expected, given->maclen) == 0);
     HOLDS(hunkravy_mac_final(&st, mac, 15) == HUNKRAVY_WRONG_TAG_LENGTH);
     HOLDS(hunkravy_mac_final_verify(&st, mac, 33) == HUNKRAVY_WRONG_TAG_LENGTH);
+    HOLDS(hunkravy_mac_final(&st, NULL, 0) == HUNKRAVY_WRONG_TAG_LENGTH);
     HOLDS(hunkravy_mac_final_verify(&st, NULL, 0) == HUNKRAVY_WRONG_TAG_LENGTH);
-    HOLDS(hunkravy_mac_final_verify(&st, expected, this->maclen) == HUNKRAVY_OK);
-    expected[next_number() % this->maclen] ^= (uint8_t)(1 << next_number() % 8);
-    HOLDS(hunkravy_mac_final_verify(&st, expected, this->maclen) == HUNKRAVY_INVALID_TAG);
+    HOLDS(hunkravy_mac_final_verify(&st, expected, given->maclen) == HUNKRAVY_OK);
+    expected[next_number() % given->maclen] ^= (uint8_t)(1 << next_number() % 8);
+    HOLDS(hunkravy_mac_final_verify(&st, expected, given->maclen) == HUNKRAVY_INVALID_TAG);
 }
 
 /* ---- States that are refused, and states of random bytes */
@@ -286,6 +294,10 @@ static void check_wrong_states(const struct variant *calls)
           HUNKRAVY_WRONG_NONCE_LENGTH);
     check_is_refused(st);
     begin(&message, &st);
+    HOLDS(hunkravy_state_init(calls->number, &st, NULL, 0, NULL, 0, bytes, right) ==
+          HUNKRAVY_WRONG_NONCE_LENGTH);
+    check_is_refused(st);
+    begin(&message, &st);
     HOLDS(hunkravy_state_init(calls->number, &st, NULL, 0, bytes, right, NULL, 0) ==
           HUNKRAVY_WRONG_KEY_LENGTH);
     check_is_refused(st);
@@ -294,6 +306,9 @@ static void check_wrong_states(const struct variant *calls)
           HUNKRAVY_WRONG_NONCE_LENGTH);
     check_is_refused(st);
     HOLDS(hunkravy_mac_init(calls->number, &st, bytes, right, bytes, right + 1) ==
+          HUNKRAVY_WRONG_KEY_LENGTH);
+    check_is_refused(st);
+    HOLDS(hunkravy_mac_init(calls->number, &st, bytes, right, NULL, 0) ==
           HUNKRAVY_WRONG_KEY_LENGTH);
     check_is_refused(st);
     /* Ended states. */
@@ -313,6 +328,8 @@ static void check_wrong_states(const struct variant *calls)
     /* A variant and a role that no call leaves. */
     begin(&message, &st);
     st.variant = HUNKRAVY_AEGIS256X4 + 1;
+    check_is_refused(st);
+    st.variant = UINT32_MAX;
     check_is_refused(st);
     begin(&message, &st);
     st.role = 0;
@@ -384,23 +401,23 @@ static void check_roles(const struct variant *calls)
 {
     uint8_t bytes[TAG_BYTES] = {0};
     size_t right = calls->key_bytes;
-    hunkravy_state new, st;
+    hunkravy_state fresh, st;
 
-    HOLDS(hunkravy_state_init(calls->number, &new, NULL, 0, bytes, right, bytes, right) ==
+    HOLDS(hunkravy_state_init(calls->number, &fresh, NULL, 0, bytes, right, bytes, right) ==
           HUNKRAVY_OK);
-    HOLDS(new.variant == calls->number);
-    check_is_no_mac(new);
-    st = new;
+    HOLDS(fresh.variant == calls->number);
+    check_is_no_mac(fresh);
+    st = fresh;
     HOLDS(hunkravy_state_encrypt_in_place(&st, NULL, 0) == HUNKRAVY_OK);
     check_is_not_decrypting(st);
     check_is_no_mac(st);
     HOLDS(hunkravy_state_encrypt_in_place(&st, bytes, 20) == HUNKRAVY_OK);
     HOLDS(hunkravy_state_encrypt_final(&st, bytes, 16) == HUNKRAVY_OK);
-    st = new;
+    st = fresh;
     HOLDS(hunkravy_state_decrypt_check(&st, NULL, 0) == HUNKRAVY_OK);
     check_is_not_encrypting(st);
     check_is_no_mac(st);
-    st = new;
+    st = fresh;
     HOLDS(hunkravy_state_decrypt_in_place_unverified(&st, bytes, 20) == HUNKRAVY_OK);
     check_is_not_encrypting(st);
     check_is_no_mac(st);

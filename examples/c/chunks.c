@@ -21,6 +21,22 @@
 
 static uint8_t chunk[CHUNK_BYTES];
 
+/* Writes `plain`, encrypted, to `out`, and its tag to `tag`. Returns 0, or -1. */
+static int encrypt_chunks(hunkravy_state *state, FILE *out, FILE *plain, uint8_t *tag)
+{
+    size_t length;
+
+    while ((length = fread(chunk, 1, CHUNK_BYTES, plain)) != 0) {
+        if (hunkravy_state_encrypt_in_place(state, chunk, length) != HUNKRAVY_OK ||
+            fwrite(chunk, 1, length, out) != length) {
+            return -1;
+        }
+    }
+    return !ferror(plain) && hunkravy_state_encrypt_final(state, tag, TAG_BYTES) == HUNKRAVY_OK
+               ? 0
+               : -1;
+}
+
 /*
  * Writes `plain`, encrypted, to `out`. Returns 0, or -1 if a file or the system failed; drop the
  * output then.
@@ -29,38 +45,52 @@ static int encrypt_file(FILE *out, FILE *plain, const uint8_t *key)
 {
     uint8_t header[HEADER_BYTES] = {0};
     hunkravy_state state;
-    size_t length;
+    int result;
 
     if (getentropy(header, NONCE_BYTES) != 0 ||
+        fwrite(header, 1, HEADER_BYTES, out) != HEADER_BYTES ||
         hunkravy_state_init(HUNKRAVY_AEGIS256, &state, NULL, 0, header, NONCE_BYTES, key,
-                            KEY_BYTES) != HUNKRAVY_OK ||
-        fwrite(header, 1, HEADER_BYTES, out) != HEADER_BYTES) {
+                            KEY_BYTES) != HUNKRAVY_OK) {
         return -1;
     }
-    while ((length = fread(chunk, 1, CHUNK_BYTES, plain)) != 0) {
-        if (hunkravy_state_encrypt_in_place(&state, chunk, length) != HUNKRAVY_OK ||
-            fwrite(chunk, 1, length, out) != length) {
-            return -1;
-        }
-    }
-    if (ferror(plain) ||
-        hunkravy_state_encrypt_final(&state, header + NONCE_BYTES, TAG_BYTES) != HUNKRAVY_OK) {
-        return -1;
-    }
+    result = encrypt_chunks(&state, out, plain, header + NONCE_BYTES);
+    /* After an error it has not ended. */
+    hunkravy_wipe(&state, sizeof state);
     rewind(out);
-    return fwrite(header, 1, HEADER_BYTES, out) == HEADER_BYTES && fflush(out) == 0 ? 0 : -1;
+    return result == 0 && fwrite(header, 1, HEADER_BYTES, out) == HEADER_BYTES && fflush(out) == 0
+               ? 0
+               : -1;
 }
 
 /*
- * Reads an encrypted file once. If `out` is null, the chunks are only checked; otherwise they are
- * decrypted and written to it. Returns 0 if the tag is right, and -1 otherwise.
+ * Reads the chunks of an encrypted file. If `out` is null, they are only checked; otherwise they
+ * are decrypted and written to it. Returns 0 if the tag is right, and -1 otherwise.
  */
+static int read_chunks(hunkravy_state *state, FILE *out, FILE *encrypted, const uint8_t *tag)
+{
+    size_t length;
+    int code;
+
+    while ((length = fread(chunk, 1, CHUNK_BYTES, encrypted)) != 0) {
+        if (out == NULL) {
+            code = hunkravy_state_decrypt_check(state, chunk, length);
+        } else {
+            code = hunkravy_state_decrypt_in_place_unverified(state, chunk, length);
+        }
+        if (code != HUNKRAVY_OK || (out != NULL && fwrite(chunk, 1, length, out) != length)) {
+            return -1;
+        }
+    }
+    code = hunkravy_state_decrypt_final(state, NULL, 0, tag, TAG_BYTES);
+    return code == HUNKRAVY_OK && !ferror(encrypted) ? 0 : -1;
+}
+
+/* Reads an encrypted file once, as read_chunks does. */
 static int pass(FILE *out, FILE *encrypted, const uint8_t *key)
 {
     uint8_t header[HEADER_BYTES];
     hunkravy_state state;
-    size_t length;
-    int code;
+    int result;
 
     rewind(encrypted);
     if (fread(header, 1, HEADER_BYTES, encrypted) != HEADER_BYTES ||
@@ -68,18 +98,9 @@ static int pass(FILE *out, FILE *encrypted, const uint8_t *key)
                             KEY_BYTES) != HUNKRAVY_OK) {
         return -1;
     }
-    while ((length = fread(chunk, 1, CHUNK_BYTES, encrypted)) != 0) {
-        if (out == NULL) {
-            code = hunkravy_state_decrypt_check(&state, chunk, length);
-        } else {
-            code = hunkravy_state_decrypt_in_place_unverified(&state, chunk, length);
-        }
-        if (code != HUNKRAVY_OK || (out != NULL && fwrite(chunk, 1, length, out) != length)) {
-            return -1;
-        }
-    }
-    code = hunkravy_state_decrypt_final(&state, NULL, 0, header + NONCE_BYTES, TAG_BYTES);
-    return code == HUNKRAVY_OK && !ferror(encrypted) ? 0 : -1;
+    result = read_chunks(&state, out, encrypted, header + NONCE_BYTES);
+    hunkravy_wipe(&state, sizeof state);
+    return result;
 }
 
 /*
@@ -122,9 +143,15 @@ int main(void)
 {
     uint8_t key[KEY_BYTES];
     FILE *plain = tmpfile(), *encrypted = tmpfile(), *decrypted = tmpfile();
+    int result;
 
     if (plain == NULL || encrypted == NULL || decrypted == NULL ||
-        getentropy(key, sizeof key) != 0 || try_files(plain, encrypted, decrypted, key) != 0) {
+        getentropy(key, sizeof key) != 0) {
+        return EXIT_FAILURE;
+    }
+    result = try_files(plain, encrypted, decrypted, key);
+    hunkravy_wipe(key, sizeof key);
+    if (result != 0) {
         return EXIT_FAILURE;
     }
     puts("hunkravy: the file was decrypted in chunks, and the changed file was refused");

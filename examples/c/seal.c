@@ -54,23 +54,33 @@ static int open_packet(uint8_t *message, const uint8_t *packet, size_t length, c
     return 0;
 }
 
-int main(void)
+/* Seals and opens a packet, and one that was changed. Returns 0 if all is as it should be. */
+static int try_packet(const uint8_t *key)
 {
     static const uint8_t message[] = "a message";
-    uint8_t key[HUNKRAVY_AEGIS256_KEY_BYTES];
     uint8_t packet[PACKET_BYTES(sizeof message)];
     uint8_t opened[sizeof message];
 
-    if (getentropy(key, sizeof key) != 0 ||
-        seal_packet(packet, message, sizeof message, key) != 0) {
-        return EXIT_FAILURE;
-    }
-    if (open_packet(opened, packet, sizeof packet, key) != 0 ||
+    if (seal_packet(packet, message, sizeof message, key) != 0 ||
+        open_packet(opened, packet, sizeof packet, key) != 0 ||
         memcmp(opened, message, sizeof message) != 0) {
-        return EXIT_FAILURE;
+        return -1;
     }
     packet[NONCE_BYTES] ^= 1;
-    if (open_packet(opened, packet, sizeof packet, key) == 0) {
+    return open_packet(opened, packet, sizeof packet, key) == 0 ? -1 : 0;
+}
+
+int main(void)
+{
+    uint8_t key[HUNKRAVY_AEGIS256_KEY_BYTES];
+    int result;
+
+    if (getentropy(key, sizeof key) != 0) {
+        return EXIT_FAILURE;
+    }
+    result = try_packet(key);
+    hunkravy_wipe(key, sizeof key);
+    if (result != 0) {
         return EXIT_FAILURE;
     }
     puts("hunkravy: the packet was opened, and the changed packet was refused");

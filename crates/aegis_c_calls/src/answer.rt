@@ -21,7 +21,8 @@ pub const DATA_TOO_LONG: i32 = -5;
 /// The tag has neither 16 nor 32 bytes.
 pub const WRONG_TAG_LENGTH: i32 = -6;
 
-/// The state has ended, was never begun, or is not one for this call.
+/// The state lacks the mark, has the number of no variant, another role, or a count past its limit. A state that has ended
+/// is one of these; one that C has changed need not be.
 pub const WRONG_STATE: i32 = -7;
 
 /// No variant has this number.
