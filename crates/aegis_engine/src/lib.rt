@@ -1,8 +1,8 @@
 //! The engine of AEGIS: all calls of ciphers and MACs, generic in the family and the number of lanes.
 //!
 //! From the lowest module: `pass` processes rate blocks, `run` associated data and a message in pieces of any lengths,
-//! `pieces` bytes that are copied from another slice, and `opening` the chunks of a ciphertext. `cipher`, `encryptor`, `decryptor` and `mac` have the public
-//! calls, and `saved` the calls on a run that its caller keeps as bytes.
+//! `pieces` bytes that are copied from another slice, and `opening` the chunks of a ciphertext. `cipher`, `encryptor`,
+//! `decryptor` and `mac` have the public calls, and `saved` the calls on a run that its caller keeps as bytes.
 #![tactic(auto)]
 
 mod cipher;

@@ -57,7 +57,8 @@ fn copied<S: LaneState>(bytes: &[u8], at: usize) -> RateBlock
     block
 }
 
-// Xors the rate block of a buffer that begins at place `at` with the lanes' keystream.
+// Xors the rate block of a buffer that begins at place `at` with the lanes' keystream. Here each byte is stated, and in
+// `LaneState` each lane's block: once for both families.
 #[inline(always)]
 fn xor_block<S: LaneState>(state: S, buffer: &mut [u8], at: usize)
     requires { at + S.RATE ≤ length buffer.old }
