@@ -1,4 +1,4 @@
-"""Each edit of this folder can be applied to its crate: every text that it replaces stands in its file once."""
+"""Each edit, of this folder and of the crates, can be applied: every text that it replaces stands in its file once."""
 
 import pathlib
 import sys
@@ -7,13 +7,13 @@ EDITS = pathlib.Path("edits")
 CRATES = pathlib.Path("crates")
 
 
-def fault(edit):
-    """Returns why an edit cannot be applied, or None."""
+def fault(crate, edit):
+    """Returns why an edit of a crate cannot be applied, or None."""
     path, old, texts = None, None, {}
     for line in edit.read_text("utf-8").splitlines():
         word, _, rest = line.partition(" ")
         if word == "file:":
-            path = CRATES / edit.parent.name / rest
+            path = crate / rest
             if not path.is_file():
                 return f"there is no file {path}"
         elif word == "old:":
@@ -26,6 +26,8 @@ def fault(edit):
     return None if texts else "it replaces nothing"
 
 
-found = [f"{edit}: {why}" for edit in sorted(EDITS.glob("*/*.edit")) if (why := fault(edit))]
+edits = [(CRATES / edit.parent.name, edit) for edit in EDITS.glob("*/*.edit")]
+edits += [(edit.parent.parent, edit) for edit in CRATES.glob("*/must-fail/*.edit")]
+found = sorted(f"{edit}: {why}" for crate, edit in edits if (why := fault(crate, edit)))
 print("\n".join(found), end="\n" if found else "")
 sys.exit(bool(found))
