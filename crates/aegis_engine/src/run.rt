@@ -185,12 +185,14 @@ impl<S: LaneState> Run<S> {
             self.state = pass_whole(self.state, pass, mc, 0, whole);
             return;
         }
-        let mut state = self.state;
-        pass_part(&mut state, &mut self.block, total, pass, mc, 0, first);
+        // Copies, since a run that is lent to a call would lie in memory in the loop above too.
+        let (mut state, mut block) = (self.state, self.block);
+        pass_part(&mut state, &mut block, total, pass, mc, 0, first);
         let mut state = pass_whole(state, pass, mc, first, whole);
         let end = total + last as u64;
-        pass_part(&mut state, &mut self.block, end, pass, mc, last, rest);
+        pass_part(&mut state, &mut block, end, pass, mc, last, rest);
         self.state = state;
+        self.block = block;
     }
 
     /// Returns the lanes after all bytes: if a rate block is open, it is taken in, padded with zeros.
@@ -217,6 +219,7 @@ impl<S: LaneState> Run<S> {
     }
 
     // The lanes after the end of the message (AEGIS, Finalize).
+    #[inline(always)]
     fn end(&self) -> S
         requires { self.now.message_bytes ≤ MAX_AEAD_BYTES }
         ensures lanes { (key nonce ad m : List ℕ) → Stands S.VARIANT self.now key nonce ad m

@@ -33,22 +33,7 @@ one_past [] i d low past = absurd (omega arith)
 one_past (m ∷ ms) zero d low past = rw (lt-leb _ _ past) refl
 one_past (m ∷ ms) (suc i) d low past = rw (← one_past ms i d (omega arith) past, and_false) refl
 
--- one more message that is not too long
-pub one_within : {A : Type 0} (messages : List (Vec ℕ A)) (i : ℕ) (d : Vec ℕ A) → i < length messages
-    → length (vec_items (get_or messages i d)) ≤ limit Second → are_within (map vec_items (take i messages)) ≡ true
-    → are_within (map vec_items (take (i + 1) messages)) ≡ true
-one_within messages i d low within before =
-    rw (take_more messages i d low, map-append, list_all-append, before, le-leb _ _ within) refl
-
-pub all_are : {A : Type 0} (messages : List (Vec ℕ A)) (i : ℕ) → length messages ≤ i → are_within (map vec_items (take i messages)) ≡ true
-    → true ≡ are_within (map vec_items messages)
-all_are messages i past is = sym (rw (take_all i messages past) at is)
-
--- the first message that is printed, and one more of the others
-pub first_shown : {A : Type 0} (messages others : List (Vec ℕ A)) (first : Vec ℕ A) → messages ≡ first ∷ others
-    → shown_messages (map vec_items (take 1 messages)) ≡ shown (vec_items first)
-first_shown messages others first is = rw is (append-nil (shown (vec_items first)))
-
+-- one more of the other messages that are printed
 more_of : {A : Type 0} (others : List (Vec ℕ A)) (first : Vec ℕ A) (i : ℕ) (d : Vec ℕ A) → i < length others
     → shown_messages (map vec_items (first ∷ take (i + 1) others))
     ≡ shown_messages (map vec_items (first ∷ take i others)) ++ 44 ∷ shown (vec_items (get_or others i d))

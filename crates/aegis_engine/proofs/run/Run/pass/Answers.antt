@@ -13,7 +13,7 @@ use Rattle.aegis_engine.proofs.PassFacts.{length-sealed, length-absorbed, only-b
 use Rattle.aegis_engine.proofs.run.Run.pass.Goals as goal
 
 -- the three parts: what each takes in of x, and where the run is after the first two
-record AreParts (g : _) (c : goal.After-self-2-1 g) (lanes : ℕ → List (List ℕ)) (x : List ℕ) : Type 0 where
+record AreParts (g : _) (c : goal.After-self-3-1 g) (lanes : ℕ → List (List ℕ)) (x : List ℕ) : Type 0 where
   within : c.filling-first.result + (length c.args.mc.now - c.filling-first.result) / c.RATE.result * g.S.LaneState.RATE ≤ length c.args.mc.now
   whole : (k : ℕ) → k < (length c.args.mc.now - c.filling-first.result) / c.RATE.result * g.S.LaneState.RATE
       → slice_index x (c.self.inside.message_bytes + c.filling-first.result + k)
@@ -23,7 +23,7 @@ record AreParts (g : _) (c : goal.After-self-2-1 g) (lanes : ℕ → List (List 
   blocks : IsAlong g.S.LaneState.VARIANT lanes (g.S.LaneState.lane c.pass_whole-state.result) c.pass_part.new.block x
       (c.self.inside.message_bytes + (c.filling-first.result + (length c.args.mc.now - c.filling-first.result) / c.RATE.result * c.RATE-2.result))
 
-parts : (g : _) → (c : goal.After-self-2-1 g) → (lanes : ℕ → List (List ℕ)) (x : List ℕ)
+parts : (g : _) → (c : goal.After-self-3-1 g) → (lanes : ℕ → List (List ℕ)) (x : List ℕ)
     → IsAlong g.S.LaneState.VARIANT lanes (g.S.LaneState.lane c.self.inside.state) c.self.inside.block x c.self.inside.message_bytes
     → HasFrom x c.self.inside.message_bytes (absorbed c.args.pass c.args.mc.now c.pass_part-2.new.buffer) → AreParts g c lanes x
 parts g c lanes x along same =
@@ -48,7 +48,7 @@ parts g c lanes x along same =
     record { within = omega arith; whole = absorbed_whole; filled = filled; blocks = rw place at whole }
 
 -- the buffer from the last part on is as it was
-untouched : (g : _) → (c : goal.After-self-2-1 g) (i : ℕ)
+untouched : (g : _) → (c : goal.After-self-3-1 g) (i : ℕ)
     → c.filling-first.result + (length c.args.mc.now - c.filling-first.result) / c.RATE.result * g.S.LaneState.RATE ≤ i
     → slice_index c.pass_whole-state.new.buffer i ≡ slice_index c.args.mc.now i
 untouched g c i high = c.pass_whole-state.ensures.above i high ∙ c.pass_part.ensures.above i (omega arith)
