@@ -9,33 +9,47 @@ ghost use Rattle.aegis_variants.specs.Cipher.{keystream_of, mac_by, sealed_by};
 use aegis::{Error, MAX_AEAD_BYTES};
 use aegis_variants::{AnyCipher, with_cipher, with_mac};
 
-/// Seals a message in any chunks, and opens it in two others, cut at any place: the result is the message.
+/// Opens a message that was sealed in any chunks, in any others that have its ciphertext.
+pub fn open_in_other_chunks<const TAG_BYTES: usize>(
+    cipher: &AnyCipher,
+    associated_data: &[u8],
+    chunks: &[&[u8]],
+    pieces: &[&[u8]],
+    tag: &[u8; TAG_BYTES],
+    message: &mut [u8],
+) -> Result<(), Error>
+    requires tag_length { IsTagLength TAG_BYTES }
+    requires associated_data_within { length associated_data.now ≤ MAX_AEAD_BYTES }
+    requires message_within { length (joined pieces.now) ≤ MAX_AEAD_BYTES }
+    requires lengths { length message.old ≡ length (joined pieces.now) }
+    requires sealed { sealed_by cipher.now TAG_BYTES associated_data.now (joined chunks.now)
+        ≡ (joined pieces.now, tag.now) }
+    ensures opened { IsOk result }
+    ensures same { message.new ≡ joined chunks.now }
+{
+    cipher.open_chunks(associated_data, pieces, tag, message)
+}
+
+/// Seals a message in any chunks, and opens it again.
 pub fn seal_and_open<const TAG_BYTES: usize>(
     cipher: &AnyCipher,
     associated_data: &[u8],
     chunks: &[&[u8]],
     sealed: &mut [u8],
-    at: usize,
     message: &mut [u8],
 ) -> Result<(), Error>
-    requires tag { IsTagLength TAG_BYTES }
+    requires tag_length { IsTagLength TAG_BYTES }
     requires associated_data_within { length associated_data.now ≤ MAX_AEAD_BYTES }
     requires message_within { length (joined chunks.now) ≤ MAX_AEAD_BYTES }
     requires sealed_length { length sealed.old ≡ length (joined chunks.now) }
     requires message_length { length message.old ≡ length (joined chunks.now) }
-    requires cut { at ≤ length sealed.old }
     ensures sealed { sealed.new
         ≡ (sealed_by cipher.now TAG_BYTES associated_data.now (joined chunks.now)).0 }
     ensures opened { IsOk result }
     ensures same { message.new ≡ joined chunks.now }
 {
     let tag = cipher.seal_chunks::<TAG_BYTES>(associated_data, chunks, sealed);
-    cipher.open_chunks(
-        associated_data,
-        &[&sealed[..at], &sealed[at..]],
-        &tag,
-        message,
-    )
+    cipher.open_chunks(associated_data, &[sealed], &tag, message)
 }
 
 /// Opens the ciphertext of a message with another tag than its own. This is refused, and zeros overwrite the message.
