@@ -12,6 +12,9 @@ CHECKS = $(shell awk -v most=$$(nproc) '/^MemAvailable/ { n = int($$2 / 4194304)
 # What is built outside the crates.
 OUT = out
 
+# What crates are built from.
+sources = $(shell find $(addprefix crates/,$(1)) \( -name out -o -name must-fail \) -prune -o -type f -print)
+
 # ---- The two commands
 
 # Runs the line program by a command, on what is connected to its standard input, or on its stored first lines if that is a
@@ -50,7 +53,7 @@ prove_in_copy = cp HANDLES $$copy && grep $(COPIED:%=-e '^%:') crates.txt > $$co
 move_back = for crate in $(FAMILIES); do rm -rf crates/$$crate/out && mv $$copy/crates/$$crate/out crates/$$crate; done
 
 # The program is proved by `rt run`. Its proof is mostly reading those of its crates, which several jobs make slower.
-$(OUT)/line-program: $(shell find $(RUN_CRATES:%=crates/%) -name out -prune -o -type f -print) crates.txt | $(OUT)
+$(OUT)/line-program: $(call sources,$(RUN_CRATES)) crates.txt | $(OUT)
 	@copy=$$(mktemp -d); trap 'rm -rf "$$copy"' EXIT; number=0; for crate in $(RUN_LIBRARIES); do \
 		number=$$((number + 1)); echo "proving $$crate ($$number of $(words $(RUN_CRATES)))" >&2; \
 		case $$crate in \
@@ -111,7 +114,7 @@ STORED_LINES = crates/check_lines/data
 HEADERS = hunkravy.h aegis_compat.h sodium_compat.h
 C_EXAMPLES = seal chunks libaegis libaegis_chunks libsodium
 
-C_SOURCES = $(shell find $(addprefix crates/,aegis_aes aegis_base aegis_128 aegis_256 aegis_engine aegis_c_calls aegis_c) -name out -prune -o -type f -print)
+C_SOURCES = $(call sources,aegis_aes aegis_base aegis_128 aegis_256 aegis_engine aegis_c_calls aegis_c)
 
 c-library: $(LIBRARY)
 
@@ -237,7 +240,7 @@ check-rust-%: $(OUT)/%/libhunkravy.a $(OUT)/%/driver
 # ---- The file tool
 
 TOOL = crates/hunkravy/out/hunkravy
-TOOL_SOURCES = $(shell find $(addprefix crates/,aegis_aes aegis_base aegis_128 aegis_256 aegis_engine aegis aegis_files hunkravy) -name out -prune -o -type f -print)
+TOOL_SOURCES = $(call sources,aegis_aes aegis_base aegis_128 aegis_256 aegis_engine aegis aegis_files hunkravy)
 
 $(TOOL): $(TOOL_SOURCES) crates.txt
 	cd crates/hunkravy && rt run -- --help > /dev/null
