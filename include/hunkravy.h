@@ -64,7 +64,7 @@ extern "C" {
 
 /* Success. */
 #define HUNKRAVY_OK 0
-/* The tag is not that of the message, or the MAC not that of the input. What is erased stands at each call. */
+/* The tag is not that of the message, or the MAC not that of the input. Each call's comment says what is erased. */
 #define HUNKRAVY_INVALID_TAG (-1)
 /* The nonce's length is not that of the variant. */
 #define HUNKRAVY_WRONG_NONCE_LENGTH (-2)
@@ -216,8 +216,8 @@ static inline void hunkravy_wipe(void *bytes, size_t length)
 }
 
 /*
- * Returns the code of the first that is wrong of the variant and the lengths of a call on a message, or HUNKRAVY_OK. A
- * call that writes to another buffer asks before it copies the message there.
+ * Checks the variant and the lengths of a call on a message: returns the code of the first that is wrong, or
+ * HUNKRAVY_OK. A call that writes to another buffer uses it before it copies the message there.
  */
 static inline int hunkravy_check_lengths(uint32_t variant, size_t npublen, size_t klen, size_t mlen,
     size_t adlen, size_t maclen)
@@ -252,7 +252,7 @@ HUNKRAVY_MUST_USE static inline int hunkravy_encrypt_in_place(uint32_t variant, 
  * Decrypts the ciphertext of `mclen` bytes at `mc` in place, if `mac` is its tag.
  *
  * Returns what hunkravy_encrypt_in_place returns, or HUNKRAVY_INVALID_TAG if `mac` is not the tag. After
- * HUNKRAVY_INVALID_TAG each byte at `mc` is 0xaa; after another code `mc` still holds the ciphertext.
+ * HUNKRAVY_INVALID_TAG each byte at `mc` is 0xaa; after any other error `mc` still holds the ciphertext.
  */
 HUNKRAVY_MUST_USE static inline int hunkravy_decrypt_in_place(uint32_t variant, uint8_t *mc, size_t mclen,
     const uint8_t *ad, size_t adlen, const uint8_t *npub, size_t npublen, const uint8_t *k, size_t klen,
@@ -476,8 +476,8 @@ HUNKRAVY_MUST_USE static inline int hunkravy_state_decrypt_unverified(hunkravy_s
  *
  * Returns HUNKRAVY_OK, HUNKRAVY_INVALID_TAG, HUNKRAVY_WRONG_STATE or HUNKRAVY_WRONG_TAG_LENGTH. After HUNKRAVY_OK the
  * chunks that were decrypted are the message. After HUNKRAVY_INVALID_TAG the state has ended, and each of the `mlen`
- * bytes at `m` is 0xaa. After another code nothing is written, the state is as it was, and the chunks are still
- * unverified.
+ * bytes at `m` is 0xaa. After HUNKRAVY_WRONG_STATE or HUNKRAVY_WRONG_TAG_LENGTH nothing is written, the state is as it
+ * was, and the chunks are still unverified.
  */
 HUNKRAVY_MUST_USE static inline int hunkravy_state_decrypt_final(hunkravy_state *st, uint8_t *m,
     size_t mlen, const uint8_t *mac, size_t maclen)
