@@ -33,16 +33,6 @@ pub ciphertext-is : (variant : Variant) (lanes : ℕ → List (List ℕ)) (m c :
 unfolding ciphertext_from
 ciphertext-is variant lanes m c long reads = fill_by_all (ciphertext_byte variant lanes m) c (length m) 0 long reads
 
--- the ciphertext depends only on the variant's own lanes
-pub ciphertext-same : (variant : Variant) (f g : ℕ → List (List ℕ)) (m : List ℕ) → IsLaneCount variant.lanes
-    → ((j : ℕ) → j < variant.lanes → f j ≡ g j) → ciphertext_from variant f m ≡ ciphertext_from variant g m
-ciphertext-same variant f g m count same =
-    ciphertext-is variant g m (ciphertext_from variant f m) (length-ciphertext variant f m) (λ i h.
-    ciphertext-reads variant f m i h
-    ∙ ap (bit_xor (slice_index m i)) (keystream_byte-same variant (λ j. after variant (f j) j m (i / rate variant))
-    (λ j. after variant (g j) j m (i / rate variant)) i count
-    (λ j low. ap (λ (s : List (List ℕ)). after variant s j m (i / rate variant)) (same j low))))
-
 -- ---- what a byte of the keystream depends on
 
 pub keystream_byte_along-same : (variant : Variant) (lanes : ℕ → List (List ℕ)) (x y : List ℕ) (i : ℕ) → IsLaneCount variant.lanes

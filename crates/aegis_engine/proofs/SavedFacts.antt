@@ -45,26 +45,25 @@ stands-same variant here there u v block copy data_bytes message_bytes key nonce
     (rw is.1 at copied) (held-along variant _ here block m _ is.3) in
     (is.0, is.1, omega arith, along-held variant _ there copy m _ on)
 
-module _ (variant : Variant) (lane : ℕ → List (List ℕ)) (updates : ℕ) (block : List ℕ) (run : SavedRun) (key nonce ad m : List ℕ) where
-  -- lanes and a block that are read from a run, with the number of updates that follows from its numbers of bytes
+module _ (variant : Variant) (lane : ℕ → List (List ℕ)) (updates : ℕ) (run : SavedRun) (key nonce ad m : List ℕ) where
+  -- lanes that are read from a run, with the number of updates that follows from its numbers of bytes
   pub restored : (r : ℕ) → r ≡ rate variant
       → ((j : ℕ) → j < variant.lanes → lane j ≡ saved_lane variant run.rows j)
-      → ((k : ℕ) → k < run.message_bytes % r → slice_index block k ≡ slice_index run.block k)
       → updates ≡ block_count variant run.data_bytes + run.message_bytes / r
       → IsSaved variant run key nonce ad m
-      → Stands variant (held_by variant lane updates block run.data_bytes run.message_bytes) key nonce ad m
-  restored r rate_is same copied counted is =
-      stands-same variant (saved_lane variant run.rows) lane _ updates run.block block run.data_bytes run.message_bytes key nonce ad m same
-      (rw rate_is at copied) (rw rate_is at counted) (stands-of variant run key nonce ad m is)
+      → Stands variant (held_by variant lane updates run.block run.data_bytes run.message_bytes) key nonce ad m
+  restored r rate_is same counted is =
+      stands-same variant (saved_lane variant run.rows) lane _ updates run.block run.block run.data_bytes run.message_bytes key nonce ad m same
+      (λ k low. refl) (rw rate_is at counted) (stands-of variant run key nonce ad m is)
 
   -- lanes and a block that are written to a run
-  pub saved : (r : ℕ) → r ≡ rate variant → run.mark ≡ BEGUN
+  pub saved : (block : List ℕ) (r : ℕ) → r ≡ rate variant → run.mark ≡ BEGUN
       → ((j : ℕ) → j < variant.lanes → saved_lane variant run.rows j ≡ lane j)
       → ((k : ℕ) → k < run.message_bytes % r → slice_index run.block k ≡ slice_index block k)
       → Stands variant (held_by variant lane updates block run.data_bytes run.message_bytes) key nonce ad m
       → IsSaved variant run key nonce ad m
   unfolding IsSaved
-  saved r rate_is marked same copied is = (
+  saved block r rate_is marked same copied is = (
     marked,
     stands-same variant lane (saved_lane variant run.rows) updates _ block run.block run.data_bytes run.message_bytes key nonce ad m same
         (rw rate_is at copied) refl is,

@@ -5,5 +5,5 @@ use Rattle.aegis_engine.proofs.saved.SavedRun.run.Goals as goal
 pub returns-clause-stands : goal.returns-clause-stands
 returns-clause-stands g c key nonce ad m is =
     let L = g.S.LaneState in
-    restored L.VARIANT (L.lane c.restore.result) (L.updates c.restore.result) c.copy_open_block.new.target c.args.self.now key nonce ad m L.RATE g.met.S.LaneState.rate_is
-    c.restore.ensures.lanes c.copy_open_block.ensures (c.restore.ensures.updates ∙ c.updates_along-count.ensures.value) is
+    restored L.VARIANT (L.lane c.restore.result) (L.updates c.restore.result) c.args.self.now key nonce ad m L.RATE g.met.S.LaneState.rate_is
+    c.restore.ensures.lanes (c.restore.ensures.updates ∙ c.updates_along-count.ensures.value) is
