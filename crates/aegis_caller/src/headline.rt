@@ -1,7 +1,7 @@
 //! The whole promise, from the contracts alone, for each of the six variants and both lengths of a tag: what is sealed in
 //! any chunks opens in others, and with no other tag. Keystreams and MACs are those of the definitions.
 
-ghost use Rattle.std.specs.Prelude.{◌≡◌, ◌≢◌, ◌+◌, ◌≤◌, ◌++◌, IsErr, IsOk, List, length, ℕ};
+ghost use Rattle.std.specs.Prelude.{◌≡◌, ◌≢◌, ◌+◌, ◌≤◌, ◌++◌, IsOk, length};
 ghost use Rattle.aegis_base.specs.Chunks.{erased, joined};
 ghost use Rattle.aegis_base.specs.Lane.{IsTagLength};
 ghost use Rattle.aegis_variants.specs.Cipher.{keystream_of, mac_by, sealed_by};

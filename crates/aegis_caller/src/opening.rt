@@ -168,7 +168,7 @@ pub fn seal_in_chunks_and_open_in_others(
     requires cut { at ≤ length sealed.old }
     requires room { length sealed.old ≤ length message.old }
     ensures opened { IsOk result }
-    ensures same { take (length (joined chunks.now)) message.new ≡ joined chunks.now }
+    ensures same { IfOk result (λ n. take n message.new ≡ joined chunks.now) }
 {
     let cipher = Aegis256::<32>::new(key, nonce);
     let tag = cipher.seal_chunks(associated_data, chunks, sealed);
