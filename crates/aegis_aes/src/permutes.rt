@@ -89,7 +89,8 @@ pub(crate) fn repeated<const N: usize>(bytes: [u8; 16]) -> Simd<u8, N>
     Simd::from_slice(&two)
 }
 
-// The entries of `table` at these places, and 0 for a place of 128 or more. If all entries are places, so is the result.
+// The entries of `table` at these places, and 0 for a place of 128 or more. If the table has places alone, so has the
+// result.
 #[inline(always)]
 fn look<const N: usize>(table: [u8; 16], at: Simd<u8, N>) -> Simd<u8, N>
     requires width { IsWidth N }
