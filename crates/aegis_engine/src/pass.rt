@@ -12,7 +12,6 @@ ghost use Rattle.aegis_base.specs.Message.{keystream_byte, share_at, keystream_b
 ghost use Rattle.aegis_base.specs.Run.{IsAlong, IsUnopened};
 ghost use Rattle.aegis_engine.specs.Pass.{absorbed};
 
-use aegis_aes::Row;
 use aegis_base::LaneState;
 
 /// Selects the bytes that the lanes take in as a buffer is xored with the keystream.

@@ -234,6 +234,7 @@ impl<S: LaneState> Run<S> {
     }
 
     /// Returns the tag of the message.
+    #[inline(always)]
     pub fn tag<const TAG_BYTES: usize>(&self) -> [u8; TAG_BYTES]
         requires tag_bytes { IsTagLength TAG_BYTES }
         requires message_within { self.now.message_bytes ≤ MAX_AEAD_BYTES }
@@ -244,6 +245,7 @@ impl<S: LaneState> Run<S> {
     }
 
     /// Returns whether `tag` is the tag of the message.
+    #[inline(always)]
     pub fn has_tag<const TAG_BYTES: usize>(&self, tag: &[u8; TAG_BYTES]) -> bool
         requires tag_bytes { IsTagLength TAG_BYTES }
         requires message_within { self.now.message_bytes ≤ MAX_AEAD_BYTES }
