@@ -6,9 +6,8 @@
 //! pub fn xored_twice(key: &[u8; 16], nonce: &[u8; 16], message: &mut [u8])
 //!     ensures { message.new ≡ message.old }
 //! {
-//!     let cipher = Aegis128X4::<16>::new(key, nonce);
-//!     cipher.stream_xor_in_place(message);
-//!     cipher.stream_xor_in_place(message);
+//!     Aegis128X4::<16>::new(key, nonce).stream_xor_in_place(message);
+//!     Aegis128X4::<16>::new(key, nonce).stream_xor_in_place(message);
 //! }
 //! ```
 

@@ -14,9 +14,10 @@
 //!     requires associated_data_within { length associated_data.now ≤ MAX_AEAD_BYTES }
 //!     ensures { IfOk result (λ opened. opened.items ≡ message.now) }
 //! {
-//!     let cipher = Aegis256X2::<32>::new(key, nonce);
-//!     let (ciphertext, tag) = cipher.encrypt(alloc, message, associated_data)?;
-//!     let opened = cipher.decrypt(alloc, &ciphertext, &tag, associated_data)?;
+//!     let sealing = Aegis256X2::<32>::new(key, nonce);
+//!     let (ciphertext, tag) = sealing.encrypt(alloc, message, associated_data)?;
+//!     let opening = Aegis256X2::new(key, nonce);
+//!     let opened = opening.decrypt(alloc, &ciphertext, &tag, associated_data)?;
 //!     Ok(opened)
 //! }
 //! ```
