@@ -199,10 +199,11 @@ impl<'a, A: Allocator + Copy> RecordSealer<'a, A> {
     /// Appends the record of the last message to `out`, and ends the stream: the sealer is taken by value, so no record can
     /// follow.
     ///
-    /// A message has at most [`MAX_MESSAGE_BYTES`]. [`RecordError::OutOfMemory`] is the only error; `out` is then as it was, and
-    /// the stream has no end.
+    /// The limits are those of [`RecordSealer::seal_next`], so what was sealed can be opened. [`RecordError::OutOfMemory`] is the
+    /// only error; `out` is then as it was, and the stream has no end.
     pub fn seal_last(self, message: &[u8], out: &mut Vec<u8, A>) -> Result<(), RecordError>
         requires within { length message.now ≤ MAX_MESSAGE_BYTES }
+        requires fits { taken self + (37 + length message.now) ≤ MAX_AEAD_BYTES }
         ensures appended { OnOk result
             (out.new.items ≡ out.old.items ++ record_of self.entry 1 message.now) }
         ensures whole { OnOk result
