@@ -276,7 +276,7 @@ too_many p key prefix context t left' ms bytes (Some l) m b before read some (in
     let sum = total-concat ms in
     let low : (p.number + 1) * PIECE_BYTES ≤ length t + (PIECE_BYTES - 1) =
     omega (arith, full, c.1, some, length-append (concat ms) l, length-append m left') in
-    let pieces : p.number + 1 ≤ pieces_in (length t) = (le-div_iff_mul-le (omega arith)).1 low in
+    let pieces : p.number + 1 ≤ pieces_in (length t) = (le-div_iff_mul-le {x = p.number + 1} (omega arith)).1 low in
     omega (arith, full, c.1, length-append (concat ms) l, length-append m left')
 
 pub stops_long : (p : Progress) (key prefix context : List ℕ) (text left left' old new : Option (List ℕ)) (pending m : List ℕ) → length prefix ≡ 24

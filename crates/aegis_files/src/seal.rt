@@ -54,18 +54,22 @@ pub fn seal_stream<R: Read, W: Write, A: Allocator + Copy>(
     write(output, prefix)?;
     let mut sealer = RecordSealer::new(alloc, key, prefix, context, &mut out)?;
     'pieces: loop {
-        let count = fill(input, &mut piece)?;
-        if count == 0 {
-            sealer.seal_last(&[], &mut out)?;
-            write(output, &out)?;
-            flush(output)?;
-            return Ok(());
+        match fill(input, &mut piece) {
+            Ok(0) => {
+                sealer.seal_last(&[], &mut out)?;
+                write(output, &out)?;
+                flush(output)?;
+                return Ok(());
+            }
+            Ok(count) => {
+                if sealer.remaining() < 2 * RECORD_BYTES + count as u64 {
+                    return Err(FileError::TooLong);
+                }
+                sealer.seal_next(&piece[..count], &mut out)?;
+                write(output, &out)?;
+                out.clear();
+            }
+            Err(error) => return Err(error),
         }
-        if sealer.remaining() < 2 * RECORD_BYTES + count as u64 {
-            return Err(FileError::TooLong);
-        }
-        sealer.seal_next(&piece[..count], &mut out)?;
-        write(output, &out)?;
-        out.clear();
     }
 }

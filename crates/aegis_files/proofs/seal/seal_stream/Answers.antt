@@ -18,28 +18,28 @@ pieces-init g c = record {
 
 pub pieces-preserved : goal.pieces-preserved
 pieces-preserved g c =
-    let count = c.in_ok-count.count in
+    let count = c.in-Ok.count in
     let filled = with_items_is c.pieces.piece c.fill.new.buffer (c.fill.auto.buffer ∙ ap length c.deref_mut.ensures.value ∙ sym c.pieces.piece.ok.0) in
-    let same = c.deref-in-pieces.ensures.value ∙ filled in
+    let same = c.deref-in-Ok.ensures.value ∙ filled in
     let size = c.fill.auto.buffer ∙ ap length c.deref_mut.ensures.value in
     record {
       room = ap length filled ∙ size ∙ c.pieces.invariant.room;
-      sealed = seals_more _ _ _ _ _ _ _ _ _ _ _ _ _ _ _ _ c.pieces.invariant.sealed (subst (Consumes _ _) (ap (take count) (sym same)) c.in_ok-count.ensures.read)
-          c.in_ok-seal_next.ensures.begun (c.deref-in-pieces-2.ensures.value ∙ c.in_ok-seal_next.ensures.appended) c.in_ok-write-3.ensures.ok c.clear.ensures.items
-          (omega (arith, length-take count c.deref-in-pieces.result.now, ap length same, size, c.pieces.invariant.room))
-          (λ short. c.in_ok-count.ensures.end (omega (arith, short, length-take count c.deref-in-pieces.result.now, ap length same, size, c.pieces.invariant.room)))
-          (omega (arith, c.in_ok-seal_next.ensures.taken, length-take count c.deref-in-pieces.result.now, c.remaining.ensures, c.if-remaining-count.false));
+      sealed = seals_more _ _ _ _ _ _ _ _ _ _ _ _ _ _ _ _ c.pieces.invariant.sealed (subst (Consumes _ _) (ap (take count) (sym same)) c.in-Ok.ensures.read)
+          c.in_ok-seal_next-in-Ok.ensures.begun (c.deref-in-Ok-2.ensures.value ∙ c.in_ok-seal_next-in-Ok.ensures.appended) c.in_ok-write-in-Ok.ensures.ok c.clear.ensures.items
+          (omega (arith, length-take count c.deref-in-Ok.result.now, ap length same, size, c.pieces.invariant.room))
+          (λ short. c.in-Ok.ensures.end (omega (arith, short, length-take count c.deref-in-Ok.result.now, ap length same, size, c.pieces.invariant.room)))
+          (omega (arith, c.in_ok-seal_next-in-Ok.ensures.taken, length-take count c.deref-in-Ok.result.now, c.remaining.ensures, c.if-remaining-count.false));
     }
 
-pub returns-then-count-eq0-clause-sealed : goal.returns-then-count-eq0-clause-sealed
-returns-then-count-eq0-clause-sealed g c =
-    let zero = c.if-count-eq0.true in
-    let none = rw zero at c.in_ok-count.ensures.read in
+pub returns-in-Ok-eq0-clause-sealed : goal.returns-in-Ok-eq0-clause-sealed
+returns-in-Ok-eq0-clause-sealed g c =
     let size = c.fill.auto.buffer ∙ ap length c.deref_mut.ensures.value in
-    let room : c.in_ok-count.count < length c.fill.new.buffer = omega (arith, c.pieces.invariant.room, size, zero) in
-    seals_end _ _ _ _ _ _ _ _ _ _ _ _ _ _ c.pieces.invariant.sealed none (c.in_ok-count.ensures.end room)
-    (λ key prefix context ms before b. (Second, c.in_ok-seal_last.ensures.whole key prefix context ms before b))
-    (c.deref.ensures.value ∙ c.in_ok-seal_last.ensures.appended) c.in_ok-write-2.ensures.ok c.in_ok-flush.ensures.kept
+    let zero = c.in-Ok-eq0.field-0-test in
+    let none = rw zero at c.in-Ok-eq0.ensures.read in
+    let room : c.in-Ok-eq0.field-0 < length c.fill.new.buffer = omega (arith, c.pieces.invariant.room, size, zero) in
+    seals_end _ _ _ _ _ _ _ _ _ _ _ _ _ _ c.pieces.invariant.sealed none (c.in-Ok-eq0.ensures.end room)
+    (λ key prefix context ms before b. (Second, c.in_ok-seal_last-in-Ok-eq0.ensures.whole key prefix context ms before b))
+    (c.deref.ensures.value ∙ c.in_ok-seal_last-in-Ok-eq0.ensures.appended) c.in_ok-write-in-Ok-eq0.ensures.ok c.in_ok-flush-in-Ok-eq0.ensures.kept
 
 pub returns-in_err-piece-clause-stopped : goal.returns-in_err-piece-clause-stopped
 returns-in_err-piece-clause-stopped g c =
@@ -62,60 +62,59 @@ returns-in_err-sealer-clause-stopped g c =
     let p = err_from_is_err_and c.from_residual-in_err-sealer.result c.from_residual-in_err-sealer.ensures.1 in
     rw (p.1, p.2) (stops_after_prefix _ _ _ _ _ _ _ c.told-prefix tt c.in_ok-write.ensures.ok)
 
-pub returns-in_err-count-clause-stopped : goal.returns-in_err-count-clause-stopped
-returns-in_err-count-clause-stopped g c =
-    let p = err_from_is_err_and c.from_residual-in_err-count.result c.from_residual-in_err-count.ensures.1 in
-    rw (p.1, p.2) (stops_between _ _ _ _ _ _ _ _ _ _ c.told-prefix (read_in_time _ c.in_err-count.ensures.err) c.pieces.invariant.sealed)
+pub returns-in-Err-clause-stopped : goal.returns-in-Err-clause-stopped
+returns-in-Err-clause-stopped g c =
+    stops_between _ _ _ _ _ _ _ _ _ _ c.told-prefix (read_in_time _ c.in-Err.ensures.err) c.pieces.invariant.sealed
 
-pub returns-in_err-seal_last-clause-stopped : goal.returns-in_err-seal_last-clause-stopped
-returns-in_err-seal_last-clause-stopped g c =
-    let p = err_from_is_err_and c.from_residual-in_err-seal_last.result c.from_residual-in_err-seal_last.ensures.1 in
+pub returns-in_err-seal_last-in-Ok-eq0-clause-stopped : goal.returns-in_err-seal_last-in-Ok-eq0-clause-stopped
+returns-in_err-seal_last-in-Ok-eq0-clause-stopped g c =
+    let p = err_from_is_err_and c.from_residual-in_err-seal_last-in-Ok-eq0.result c.from_residual-in_err-seal_last-in-Ok-eq0.ensures.1 in
     rw (p.1, p.2) (stops_between _ _ _ _ _ _ _ _ _ _ c.told-prefix tt c.pieces.invariant.sealed)
 
-pub returns-in_err-write-2-clause-stopped : goal.returns-in_err-write-2-clause-stopped
-returns-in_err-write-2-clause-stopped g c =
-    let p = err_from_is_err_and c.from_residual-in_err-write-2.result c.from_residual-in_err-write-2.ensures.1 in
-    let zero = c.if-count-eq0.true in
-    let none = rw zero at c.in_ok-count.ensures.read in
+pub returns-in_err-write-in-Ok-eq0-clause-stopped : goal.returns-in_err-write-in-Ok-eq0-clause-stopped
+returns-in_err-write-in-Ok-eq0-clause-stopped g c =
+    let p = err_from_is_err_and c.from_residual-in_err-write-in-Ok-eq0.result c.from_residual-in_err-write-in-Ok-eq0.ensures.1 in
     let size = c.fill.auto.buffer ∙ ap length c.deref_mut.ensures.value in
-    let room : c.in_ok-count.count < length c.fill.new.buffer = omega (arith, c.pieces.invariant.room, size, zero) in
-    let written = c.in_err-write-2.ensures.front in
-    rw (p.1, p.2) (stops_ending _ _ _ _ _ _ _ _ _ _ _ _ c.deref.result.now written.0 _ c.told-prefix c.pieces.invariant.sealed none (c.in_ok-count.ensures.end room)
-    (λ key prefix context ms before b. (Second, c.in_ok-seal_last.ensures.whole key prefix context ms before b))
-    (c.deref.ensures.value ∙ c.in_ok-seal_last.ensures.appended) written.1 c.in_err-write-2.ensures.err)
+    let zero = c.in-Ok-eq0.field-0-test in
+    let none = rw zero at c.in-Ok-eq0.ensures.read in
+    let room : c.in-Ok-eq0.field-0 < length c.fill.new.buffer = omega (arith, c.pieces.invariant.room, size, zero) in
+    let written = c.in_err-write-in-Ok-eq0.ensures.front in
+    rw (p.1, p.2) (stops_ending _ _ _ _ _ _ _ _ _ _ _ _ c.deref.result.now written.0 _ c.told-prefix c.pieces.invariant.sealed none (c.in-Ok-eq0.ensures.end room)
+    (λ key prefix context ms before b. (Second, c.in_ok-seal_last-in-Ok-eq0.ensures.whole key prefix context ms before b))
+    (c.deref.ensures.value ∙ c.in_ok-seal_last-in-Ok-eq0.ensures.appended) written.1 c.in_err-write-in-Ok-eq0.ensures.err)
 
-pub returns-in_err-flush-clause-stopped : goal.returns-in_err-flush-clause-stopped
-returns-in_err-flush-clause-stopped g c =
-    let p = err_from_is_err_and c.from_residual-in_err-flush.result c.from_residual-in_err-flush.ensures.1 in
-    let zero = c.if-count-eq0.true in
-    let none = rw zero at c.in_ok-count.ensures.read in
+pub returns-in_err-flush-in-Ok-eq0-clause-stopped : goal.returns-in_err-flush-in-Ok-eq0-clause-stopped
+returns-in_err-flush-in-Ok-eq0-clause-stopped g c =
+    let p = err_from_is_err_and c.from_residual-in_err-flush-in-Ok-eq0.result c.from_residual-in_err-flush-in-Ok-eq0.ensures.1 in
     let size = c.fill.auto.buffer ∙ ap length c.deref_mut.ensures.value in
-    let room : c.in_ok-count.count < length c.fill.new.buffer = omega (arith, c.pieces.invariant.room, size, zero) in
-    rw (p.1, p.2) (stops_flushing _ _ _ _ _ _ _ _ _ _ _ _ _ c.deref.result.now _ c.told-prefix c.pieces.invariant.sealed none (c.in_ok-count.ensures.end room)
-    (λ key prefix context ms before b. (Second, c.in_ok-seal_last.ensures.whole key prefix context ms before b))
-    (c.deref.ensures.value ∙ c.in_ok-seal_last.ensures.appended) c.in_ok-write-2.ensures.ok c.in_err-flush.ensures.kept c.in_err-flush.ensures.err)
+    let zero = c.in-Ok-eq0.field-0-test in
+    let none = rw zero at c.in-Ok-eq0.ensures.read in
+    let room : c.in-Ok-eq0.field-0 < length c.fill.new.buffer = omega (arith, c.pieces.invariant.room, size, zero) in
+    rw (p.1, p.2) (stops_flushing _ _ _ _ _ _ _ _ _ _ _ _ _ c.deref.result.now _ c.told-prefix c.pieces.invariant.sealed none (c.in-Ok-eq0.ensures.end room)
+    (λ key prefix context ms before b. (Second, c.in_ok-seal_last-in-Ok-eq0.ensures.whole key prefix context ms before b))
+    (c.deref.ensures.value ∙ c.in_ok-seal_last-in-Ok-eq0.ensures.appended) c.in_ok-write-in-Ok-eq0.ensures.ok c.in_err-flush-in-Ok-eq0.ensures.kept c.in_err-flush-in-Ok-eq0.ensures.err)
 
 pub returns-then-remaining-count-clause-stopped : goal.returns-then-remaining-count-clause-stopped
 returns-then-remaining-count-clause-stopped g c =
-    let count = c.in_ok-count.count in
+    let count = c.in-Ok.count in
     let filled = with_items_is c.pieces.piece c.fill.new.buffer (c.fill.auto.buffer ∙ ap length c.deref_mut.ensures.value ∙ sym c.pieces.piece.ok.0) in
     let part = take count c.fill.new.buffer in
-    let size : length part ≡ count = omega (arith, length-take count c.fill.new.buffer, c.in_ok-count.ensures.within) in
-    stops_long _ _ _ _ _ _ _ _ _ _ part c.told-prefix c.pieces.invariant.sealed c.in_ok-count.ensures.read
-    (omega (arith, size, c.if-count-eq0.false)) (omega (arith, size, c.remaining.ensures, c.if-remaining-count.true))
+    let size : length part ≡ count = omega (arith, length-take count c.fill.new.buffer, c.in-Ok.ensures.within) in
+    stops_long _ _ _ _ _ _ _ _ _ _ part c.told-prefix c.pieces.invariant.sealed c.in-Ok.ensures.read
+    (omega (arith, size, c.in-Ok.count-test)) (omega (arith, size, c.remaining.ensures, c.if-remaining-count.true))
 
-pub returns-in_err-seal_next-clause-stopped : goal.returns-in_err-seal_next-clause-stopped
-returns-in_err-seal_next-clause-stopped g c =
-    let p = err_from_is_err_and c.from_residual-in_err-seal_next.result c.from_residual-in_err-seal_next.ensures.1 in
+pub returns-in_err-seal_next-in-Ok-clause-stopped : goal.returns-in_err-seal_next-in-Ok-clause-stopped
+returns-in_err-seal_next-in-Ok-clause-stopped g c =
+    let p = err_from_is_err_and c.from_residual-in_err-seal_next-in-Ok.result c.from_residual-in_err-seal_next-in-Ok.ensures.1 in
     rw (p.1, p.2) (stops_between _ _ _ _ _ _ _ _ _ _ c.told-prefix tt c.pieces.invariant.sealed)
 
-pub returns-in_err-write-3-clause-stopped : goal.returns-in_err-write-3-clause-stopped
-returns-in_err-write-3-clause-stopped g c =
-    let p = err_from_is_err_and c.from_residual-in_err-write-3.result c.from_residual-in_err-write-3.ensures.1 in
-    let count = c.in_ok-count.count in
+pub returns-in_err-write-in-Ok-clause-stopped : goal.returns-in_err-write-in-Ok-clause-stopped
+returns-in_err-write-in-Ok-clause-stopped g c =
+    let p = err_from_is_err_and c.from_residual-in_err-write-in-Ok.result c.from_residual-in_err-write-in-Ok.ensures.1 in
+    let count = c.in-Ok.count in
     let filled = with_items_is c.pieces.piece c.fill.new.buffer (c.fill.auto.buffer ∙ ap length c.deref_mut.ensures.value ∙ sym c.pieces.piece.ok.0) in
-    let same = c.deref-in-pieces.ensures.value ∙ filled in
-    let written = c.in_err-write-3.ensures.front in
-    rw (p.1, p.2) (stops_writing _ _ _ _ _ _ _ _ _ _ _ _ _ _ c.deref-in-pieces-2.result.now written.0 _ c.told-prefix (write_in_time _ c.in_err-write-3.ensures.err) c.pieces.invariant.sealed
-    (subst (Consumes _ _) (ap (take count) (sym same)) c.in_ok-count.ensures.read)
-    c.in_ok-seal_next.ensures.begun (c.deref-in-pieces-2.ensures.value ∙ c.in_ok-seal_next.ensures.appended) written.1)
+    let same = c.deref-in-Ok.ensures.value ∙ filled in
+    let written = c.in_err-write-in-Ok.ensures.front in
+    rw (p.1, p.2) (stops_writing _ _ _ _ _ _ _ _ _ _ _ _ _ _ c.deref-in-Ok-2.result.now written.0 _ c.told-prefix (write_in_time _ c.in_err-write-in-Ok.ensures.err) c.pieces.invariant.sealed
+    (subst (Consumes _ _) (ap (take count) (sym same)) c.in-Ok.ensures.read)
+    c.in_ok-seal_next-in-Ok.ensures.begun (c.deref-in-Ok-2.ensures.value ∙ c.in_ok-seal_next-in-Ok.ensures.appended) written.1)
