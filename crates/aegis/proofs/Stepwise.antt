@@ -187,6 +187,9 @@ length-record_of p flag m =
     let long : length body ≡ length m + 32 = (sealed-is p.key p.prefix p.context).long p.version p.number p.before flag m in
     omega (arith, length-append (to_le_bytes w32 (length m)) body)
 
+pub appended_long : (p : Progress) (flag : ℕ) (m old new : List ℕ) → new ≡ old ++ record_of p flag m → length new ≡ length old + (37 + length m)
+appended_long p flag m old new is = omega (arith, ap length is, length-append old (record_of p flag m), length-record_of p flag m)
+
 -- the progress after the record that was read, whose message has n bytes
 abbrev pub moved : Progress → ℕ → ℕ → Progress
 moved p flag n = record {

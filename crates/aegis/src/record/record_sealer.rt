@@ -180,6 +180,8 @@ impl<'a, A: Allocator + Copy> RecordSealer<'a, A> {
         ensures progress { OnOk result (self.new ≡ after self.old false message.now) }
         ensures taken { OnOk result
             (taken self.new ≡ taken self.old + (37 + length message.now)) }
+        ensures length { OnOk result
+            (length out.new.items ≡ length out.old.items + (37 + length message.now)) }
         ensures err { IfErr result (λ e. e ≡ RecordError.OutOfMemory) }
         ensures unchanged { OnErr result (self.new ≡ self.old) }
         ensures kept { OnErr result (out.new.items ≡ out.old.items) }
@@ -211,6 +213,8 @@ impl<'a, A: Allocator + Copy> RecordSealer<'a, A> {
             → Begun self.entry key prefix context ms bytes
             → AreRecords Second key prefix context
             (ms ++ message.now ∷ []) (bytes ++ record_of self.entry 1 message.now)) }
+        ensures length { OnOk result
+            (length out.new.items ≡ length out.old.items + (37 + length message.now)) }
         ensures err { IfErr result (λ e. e ≡ RecordError.OutOfMemory) }
         ensures kept { OnErr result (out.new.items ≡ out.old.items) }
     {
