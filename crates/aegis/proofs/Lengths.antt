@@ -1,12 +1,15 @@
 -- The length of a stream as a sum over its messages.
 use denote.Ref.{Bor}
-use Rattle.std.proofs.Common.{◌≡◌, ℕ, zero, suc, ◌+◌, ◌<◌, ◌≤◌, List, [], ◌∷◌, ◌++◌, length, take, slice_index_or, add-one, refl, ap, arith}
+use Rattle.std.proofs.Common.{◌≡◌, ℕ, zero, suc, ◌+◌, ◌*◌, ◌<◌, ◌≤◌, List, [], ◌∷◌, ◌++◌, length, take, slice_index_or, add-one, refl, ap, arith}
 use Rattle.std.specs.Int.{w32, to_le_bytes}
 use Rattle.std.proofs.lemmas.List.{length-append}
 use Rattle.aegis.specs.declared.record.version.Version.{Version}
 use Rattle.aegis.specs.declared.record.version.Version.TheVariants.{First, Second}
 use Rattle.aegis_base.specs.Chunks.{texts}
-use Rattle.aegis.specs.RecordStream.{IsSealing, IsRecordStream, Sealing, flag_before, frames, frames_length, header, records_length}
+use Rattle.aegis.specs.Progress.{Begun, Progress, taken}
+use Rattle.aegis.specs.Records.{sealed}
+use Rattle.aegis.specs.RecordStream.{IsSealing, IsRecordStream, Sealing, flag_before, frames, frames_length, header, records_length, total}
+use Rattle.aegis.proofs.Sealed.{sealed-is}
 
 header_long : (v : Version) → length (header v) ≡ 4
 header_long First = refl
@@ -31,6 +34,22 @@ length-stream sealing is v ms bytes p =
     let long = length-frames sealing is v 1 0 0 ms in
     let four = header_long v in
     omega (arith, length-append (header v) (frames sealing v 1 0 0 ms))
+
+frames_length-total : (ms : List (List ℕ)) → frames_length ms ≡ 37 * length ms + total ms
+frames_length-total [] = refl
+frames_length-total (m ∷ ms) = let rest = frames_length-total ms in omega arith
+
+pub length-begun : (p : Progress) (key prefix context : List ℕ) (ms : List (List ℕ)) (bytes : List ℕ) → Begun p key prefix context ms bytes
+    → length bytes ≡ taken p
+unfolding Begun
+length-begun p key prefix context ms bytes b =
+    let all = ap length b.are in
+    let long = length-frames (sealed key prefix context) (sealed-is key prefix context) p.version 0 0 0 ms in
+    let four = header_long p.version in
+    let sum = frames_length-total ms in
+    let number = b.number_is in
+    let before = b.before_is in
+    omega (arith, length-append (header p.version) (frames (sealed key prefix context) p.version 0 0 0 ms))
 
 -- one more message
 frames_length-next : (slices : List (Bor (List ℕ))) (i : ℕ) (d : Bor (List ℕ)) → i < length slices

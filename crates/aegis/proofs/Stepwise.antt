@@ -187,6 +187,9 @@ length-record_of p flag m =
     let long : length body ≡ length m + 32 = (sealed-is p.key p.prefix p.context).long p.version p.number p.before flag m in
     omega (arith, length-append (to_le_bytes w32 (length m)) body)
 
+pub appended_long : (p : Progress) (flag : ℕ) (m old new : List ℕ) → new ≡ old ++ record_of p flag m → length new ≡ length old + (37 + length m)
+appended_long p flag m old new is = omega (arith, ap length is, length-append old (record_of p flag m), length-record_of p flag m)
+
 -- the progress after the record that was read, whose message has n bytes
 abbrev pub moved : Progress → ℕ → ℕ → Progress
 moved p flag n = record {
@@ -236,36 +239,28 @@ five (a ∷ b ∷ c ∷ d ∷ []) e = absurd (omega (arith, e))
 five (a ∷ b ∷ c ∷ d ∷ f ∷ []) e = refl
 five (a ∷ b ∷ c ∷ d ∷ f ∷ g ∷ l) e = absurd (omega (arith, e))
 
-flag_parts : (s : Sealing) (v : Version) (k o f : ℕ) (four : List ℕ) → 1 < f → HasFault s v k o (parts v (f ∷ four)) errors.Flag
+flag_parts : (v : Version) (f : ℕ) (rest : List ℕ) → 1 < f → parts v (f ∷ rest) ≡ Err errors.Flag
 unfolding parts
-flag_parts s v k o f four unknown = let flagged : ltb 1 f ≡ true = lt-ltb _ _ unknown in rw flagged refl
+flag_parts v f rest unknown = let flagged : ltb 1 f ≡ true = lt-ltb _ _ unknown in rw flagged refl
 
-long_parts : (s : Sealing) (v : Version) (k o f a b c d : ℕ) → f ≤ 1 → limit v < from_le_bytes w32 (a ∷ b ∷ c ∷ d ∷ [])
-    → HasFault s v k o (parts v (f ∷ a ∷ b ∷ c ∷ d ∷ [])) errors.TooLong
+long_parts : (v : Version) (f a b c d : ℕ) (rest : List ℕ) → f ≤ 1 → limit v < from_le_bytes w32 (a ∷ b ∷ c ∷ d ∷ [])
+    → parts v (f ∷ a ∷ b ∷ c ∷ d ∷ rest) ≡ Err errors.TooLong
 unfolding parts
-long_parts s v k o f a b c d known long =
+long_parts v f a b c d rest known long =
     let flagged : ltb 1 f ≡ false = le-ltb _ _ known in
+    let four : ltb (length (a ∷ b ∷ c ∷ d ∷ rest)) 4 ≡ false = le-ltb _ _ (omega arith) in
     let past : ltb (limit v) (from_le_bytes w32 (a ∷ b ∷ c ∷ d ∷ [])) ≡ true = lt-ltb _ _ long in
-    rw (flagged, past) refl
+    rw (flagged, four, past) refl
 
-pub flag_fault : (p : Progress) (head : List ℕ) → length head ≡ 5 → 1 < get_or head 0 0
-    → (key prefix context : List ℕ) (ms : List (List ℕ)) (before more : List ℕ) → Begun p key prefix context ms before
-    → IsFault key prefix context (before ++ (head ++ more)) errors.Flag
-flag_fault p head size unknown key prefix context ms before more b =
-    begun_fault p head errors.Flag
-    (subst (λ (l : List ℕ). HasFault (sealed p.key p.prefix p.context) p.version p.number p.before (parts p.version l) errors.Flag) (sym (five head size))
-    (flag_parts (sealed p.key p.prefix p.context) p.version p.number p.before (get_or head 0 0) _ unknown))
-    key prefix context ms before more b (λ e. absurd cc)
+pub flag_fault : (v : Version) (head : List ℕ) → length head ≡ 5 → 1 < get_or head 0 0 → (body : List ℕ) → parts v (head ++ body) ≡ Err errors.Flag
+flag_fault v head size unknown body =
+    subst (λ (l : List ℕ). parts v (l ++ body) ≡ Err errors.Flag) (sym (five head size)) (flag_parts v (get_or head 0 0) _ unknown)
 
-pub long_fault : (p : Progress) (head : List ℕ) → length head ≡ 5 → get_or head 0 0 ≤ 1
-    → limit p.version < from_le_bytes w32 (get_or head 1 0 ∷ get_or head 2 0 ∷ get_or head 3 0 ∷ get_or head 4 0 ∷ [])
-    → (key prefix context : List ℕ) (ms : List (List ℕ)) (before more : List ℕ) → Begun p key prefix context ms before
-    → IsFault key prefix context (before ++ (head ++ more)) errors.TooLong
-long_fault p head size known long key prefix context ms before more b =
-    begun_fault p head errors.TooLong
-    (subst (λ (l : List ℕ). HasFault (sealed p.key p.prefix p.context) p.version p.number p.before (parts p.version l) errors.TooLong) (sym (five head size))
-    (long_parts (sealed p.key p.prefix p.context) p.version p.number p.before (get_or head 0 0) _ _ _ _ known long))
-    key prefix context ms before more b (λ e. absurd cc)
+pub long_fault : (v : Version) (head : List ℕ) → length head ≡ 5 → get_or head 0 0 ≤ 1
+    → limit v < from_le_bytes w32 (get_or head 1 0 ∷ get_or head 2 0 ∷ get_or head 3 0 ∷ get_or head 4 0 ∷ [])
+    → (body : List ℕ) → parts v (head ++ body) ≡ Err errors.TooLong
+long_fault v head size known long body =
+    subst (λ (l : List ℕ). parts v (l ++ body) ≡ Err errors.TooLong) (sym (five head size)) (long_parts v (get_or head 0 0) _ _ _ _ body known long)
 
 pub head_len : (p : Progress) (head : List ℕ) → length head ≡ 5
     → (flag : ℕ) (m body rest : List ℕ) → length m ≤ 16777216 → head ++ body ≡ record_of p flag m ++ rest
@@ -279,6 +274,14 @@ head_len p head size flag m body rest low e =
     let same : four ≡ le = ap (λ (l : List ℕ). take 4 (drop 1 l)) spelled ∙ ap (take 4) (append_assoc le sealed_m rest) ∙ take_at le (sealed_m ++ rest) 4 refl in
     let number : from_le_bytes w32 four ≡ length m = ap (from_le_bytes w32) same ∙ from_le_bytes-to_le_bytes_4 (length m) (omega arith) in
     length-record_of p flag m ∙ ap (λ (n : ℕ). 37 + n) (sym number)
+
+-- bytes whose parts have a fault, whatever follows them
+pub begun_parts : (p : Progress) (bytes : List ℕ) (e : RecordError) → parts p.version bytes ≡ Err e
+    → (key prefix context : List ℕ) (ms : List (List ℕ)) (before : List ℕ) → Begun p key prefix context ms before
+    → IsFault key prefix context (before ++ bytes) e
+begun_parts p bytes e is key prefix context ms before b =
+    subst (λ (l : List ℕ). IsFault key prefix context (before ++ l) e) (append-nil bytes)
+    (begun_fault p bytes e (rw is refl) key prefix context ms before [] b (λ cut. refl))
 
 -- ---- the header
 

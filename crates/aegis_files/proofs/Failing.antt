@@ -1,60 +1,53 @@
 -- The facts that hold if opening fails.
-use Rattle.std.proofs.Common.{◌≡◌, ◌⊎◌, ℕ, Bool, true, false, List, [], ◌∷◌, ◌++◌, Option, None, Some, IfErr, IfSome, Result, Ok, Err, drop, length, take, refl, sym, ap, subst, ◌∙◌, append_assoc, arith, inl, inr}
+use Rattle.std.proofs.Common.{◌≡◌, ◌⊎◌, ℕ, ◌+◌, ◌<◌, Bool, true, false, List, [], ◌∷◌, ◌++◌, Option, None, Some, IfErr, IfSome, Result, Ok, Err, drop, length, take, refl, sym, ap, subst, ◌∙◌, append_assoc, arith, inl, inr}
 use Rattle.std.proofs.KnownBytes.{Appends-kept, Appends-trans, Consumes-trans}
 use Rattle.std.proofs.lemmas.List.{append-nil, drop_at, length-append, take-append-drop, take_at}
 use Rattle.std.specs.Bool.{OnFalse, OnTrue}
 use Rattle.std.specs.Io.KnownBytes.{Appends, Consumes, IsAtEnd, Keeps}
 use Rattle.std.specs.List.{concat}
+use Rattle.aegis_base.specs.declared.error.TheConstants.{MAX_AEAD_BYTES}
 use Rattle.aegis.specs.declared.record.error.RecordError.{RecordError}
 use Rattle.aegis.specs.declared.record.error.RecordError.TheVariants as errors
-use Rattle.aegis.specs.Progress.{AreRecordsOfSomeVersion, Begun, Progress, record_of}
+use Rattle.aegis.specs.Progress.{AreRecordsOfSomeVersion, Begun, Progress, record_of, taken}
 use Rattle.aegis.specs.Records.{IsFault, sealed}
-use Rattle.aegis.proofs.Fronts.{begun_front, after_a_stream}
+use Rattle.aegis.proofs.Fronts.{after_a_stream}
+use Rattle.aegis.proofs.Lengths.{length-begun}
 use Rattle.aegis.proofs.Sealed.{sealed-is}
-use Rattle.aegis.proofs.Streams.{one_fault, one_record_stream}
+use Rattle.aegis.proofs.Stepwise.{begun_parts}
+use Rattle.aegis.proofs.Streams.{one_fault}
 use Rattle.aegis_files.specs.declared.error.FileError.{FileError}
 use Rattle.aegis_files.specs.declared.error.FileError.TheVariants.{Read, Write, Stream, TooLong}
-use Rattle.aegis_files.specs.Reading.{FailsUnder, IsWriteError, LeavesSome, RefusesNext, WritesFront}
-use Rattle.aegis_files.specs.SealedFile.{FailsWith, IfRefused, IsFileFault, IsSealedFile, WritesTextFront}
+use Rattle.aegis_files.specs.Reading.{FailsUnder, LeavesSome, RefusesNext, WritesFront}
+use Rattle.aegis_files.specs.SealedFile.{FailsWith, IfRefused, IfTooLong, IsFileFault, IsSealedFile, IsVerifiedFront, IsVerifiedInFile, IsWriteError, WritesTextFront}
+use Rattle.aegis_files.proofs.Errors.{in_time, so_long, so_refused, unwritten, write_in_time}
 use Rattle.aegis_files.proofs.Opening.{OpensSome, alone}
-use Rattle.aegis_files.proofs.Pieces.{concat-append, concat-begun, concat-push}
+use Rattle.aegis_files.proofs.Pieces.{concat-cut, concat-push, two_prefixes}
 use Rattle.aegis_files.proofs.Sealing.{IsLast, IsStep, split}
-
--- ---- errors that are no refusal, and what follows from a reason
-
-unwritten : (e : FileError) (P : RecordError → Type 0) → IsWriteError e → IfRefused e P
-unwritten (Read e) P is = absurd is
-unwritten (Write e) P is = tt
-unwritten (Stream e) P is = absurd is
-unwritten TooLong P is = absurd is
-
-so_refused : (e : FileError) (P Q : RecordError → Type 0) → ((why : RecordError) → P why → Q why) → IfRefused e P → IfRefused e Q
-so_refused (Read e) P Q so p = tt
-so_refused (Write e) P Q so p = tt
-so_refused (Stream e) P Q so p = so e p
-so_refused TooLong P Q so p = tt
+use Rattle.aegis_files.proofs.Verified.{verified_begun, verified_ended, verified_text}
 
 -- ---- between records
 
-front_is : (p : Progress) (key prefix context f : List ℕ) (left old new : Option (List ℕ)) → OpensSome p key prefix context (Some f) left old new
-    → WritesFront key prefix context f old new
-front_is p key prefix context f left old new s =
+front_is : (p : Progress) (key prefix context f : List ℕ) (left old new : Option (List ℕ)) (e : FileError) → OpensSome p key prefix context (Some f) left old new
+    → WritesFront key prefix context f old new e
+front_is p key prefix context f left old new e s =
     let parts = split f s.taken left s.read in
     record {
       begun = concat s.messages;
       written = s.written;
-      front = λ ms are.
-          let other = begun_front p key prefix context s.messages s.taken s.begun ms parts.0 (subst (AreRecordsOfSomeVersion key prefix context ms) parts.1 are) in
-          (concat other.0, ap concat other.1 ∙ concat-append s.messages other.0);
+      verified = inr (verified_begun p key prefix context f s.taken parts.0 (concat s.messages) [] s.messages e s.begun parts.1 (sym (append-nil (concat s.messages))) (inl refl));
     }
 
-pub fails_long : (p : Progress) (key prefix context : List ℕ) (stream left old new : Option (List ℕ)) → OpensSome p key prefix context stream left old new
-    → IfSome stream (λ f. FailsUnder key prefix context f old new TooLong)
-fails_long p key prefix context None left old new s = tt
-fails_long p key prefix context (Some f) left old new s = record {
-  front = front_is p key prefix context f left old new s;
-  refused = tt;
-}
+-- the next record passes the limit
+pub fails_long : (p : Progress) (key prefix context : List ℕ) (stream left left' old new : Option (List ℕ)) (found : List ℕ) → OpensSome p key prefix context stream left old new
+    → Consumes left left' found → MAX_AEAD_BYTES < taken p + length found → IfSome stream (λ f. FailsUnder key prefix context f old new TooLong)
+fails_long p key prefix context None left left' old new found s read long = tt
+fails_long p key prefix context (Some f) left left' old new found s read long =
+    let parts = split f (s.taken ++ found) left' (Consumes-trans (Some f) left left' s.taken found s.read read) in
+    record {
+      front = front_is p key prefix context f left old new TooLong s;
+      refused = tt;
+      too_long = omega (arith, long, length-begun p key prefix context s.messages s.taken s.begun, ap length parts.1, length-append (s.taken ++ found) parts.0, length-append s.taken found);
+    }
 
 at_end : (rest : List ℕ) (left : Option (List ℕ)) → left ≡ Some rest → IsAtEnd left → rest ≡ []
 at_end rest None e end = absurd cc
@@ -67,16 +60,17 @@ pub fails_next : (p : Progress) (key prefix context : List ℕ) (stream left lef
     → RefusesNext p left left' e → IfSome stream (λ f. FailsUnder key prefix context f old new e)
 fails_next p key prefix context None left left' old new e s why = tt
 fails_next p key prefix context (Some f) left left' old new (Read e) s why =
-    record { front = front_is p key prefix context f left old new s; refused = tt }
+    record { front = front_is p key prefix context f left old new (Read e) s; refused = tt; too_long = tt }
 fails_next p key prefix context (Some f) left left' old new (Write e) s why = absurd why
 fails_next p key prefix context (Some f) left left' old new (Stream e) s (inl memory) =
-    record { front = front_is p key prefix context f left old new s; refused = inl memory }
+    record { front = front_is p key prefix context f left old new (Stream e) s; refused = inl memory; too_long = tt }
 fails_next p key prefix context (Some f) left left' old new (Stream e) s (inr refused) =
     let parts = split f (s.taken ++ refused.0) left' (Consumes-trans (Some f) left left' s.taken refused.0 s.read refused.1) in
     record {
-      front = front_is p key prefix context f left old new s;
+      front = front_is p key prefix context f left old new (Stream e) s;
       refused = inr (subst (λ (l : List ℕ). IsFault key prefix context l e) (sym (parts.1 ∙ append_assoc s.taken refused.0 parts.0))
-          (refused.2 key prefix context s.messages s.taken parts.0 s.begun));
+          (begun_parts p (refused.0 ++ parts.0) e (refused.2 parts.0) key prefix context s.messages s.taken s.begun));
+      too_long = tt;
     }
 fails_next p key prefix context (Some f) left left' old new TooLong s why = absurd why
 
@@ -87,13 +81,14 @@ pub fails_open : (p : Progress) (key prefix context : List ℕ) (stream left lef
     → (e ≡ errors.Truncated → IsAtEnd left') → IfSome stream (λ f. FailsUnder key prefix context f old new (Stream e))
 fails_open p key prefix context None left left' old new found e s read why end = tt
 fails_open p key prefix context (Some f) left left' old new found e s read (inl memory) end =
-    record { front = front_is p key prefix context f left old new s; refused = inl memory }
+    record { front = front_is p key prefix context f left old new (Stream e) s; refused = inl memory; too_long = tt }
 fails_open p key prefix context (Some f) left left' old new found e s read (inr refused) end =
     let parts = split f (s.taken ++ found) left' (Consumes-trans (Some f) left left' s.taken found s.read read) in
     record {
-      front = front_is p key prefix context f left old new s;
+      front = front_is p key prefix context f left old new (Stream e) s;
       refused = inr (subst (λ (l : List ℕ). IsFault key prefix context l e) (sym (parts.1 ∙ append_assoc s.taken found parts.0))
           (refused key prefix context s.messages s.taken parts.0 s.begun (λ cut. at_end parts.0 left' parts.2 (end cut))));
+      too_long = tt;
     }
 
 -- ---- after a record whose message could not be written
@@ -111,14 +106,15 @@ fails_write p q false key prefix context (Some f) left left' old new new' m foun
       front = record {
         begun = concat s.messages ++ take n m;
         written = Appends-trans old new new' (concat s.messages) (take n m) s.written written;
-        front = λ ms are.
+        verified =
             let begun : Begun q key prefix context (s.messages ++ m ∷ []) (s.taken ++ found) =
             subst (λ (l : List ℕ). Begun q key prefix context (s.messages ++ m ∷ []) (s.taken ++ l)) (alone (record_of p 0 m) found rest next (none 0 next))
             (step key prefix context s.messages s.taken s.begun) in
-            let other = begun_front q key prefix context (s.messages ++ m ∷ []) (s.taken ++ found) begun ms parts.0 (subst (AreRecordsOfSomeVersion key prefix context ms) parts.1 are) in
-            (drop n m ++ concat other.0, concat-begun s.messages ms other.0 m n other.1);
+            inr (verified_begun q key prefix context f (s.taken ++ found) parts.0 (concat s.messages ++ take n m) (drop n m) (s.messages ++ m ∷ []) e begun parts.1
+            (concat-cut s.messages m n) (inr why));
       };
       refused = unwritten e _ why;
+      too_long = in_time e _ (write_in_time e why);
     }
 fails_write p q true key prefix context (Some f) left left' old new new' m found rest n e s read step ends next is_last none written why =
     let parts = split f (s.taken ++ found) left' (Consumes-trans (Some f) left left' s.taken found s.read read) in
@@ -126,14 +122,15 @@ fails_write p q true key prefix context (Some f) left left' old new new' m found
       front = record {
         begun = concat s.messages ++ take n m;
         written = Appends-trans old new new' (concat s.messages) (take n m) s.written written;
-        front = λ ms are.
+        verified =
             let whole : AreRecordsOfSomeVersion key prefix context (s.messages ++ m ∷ []) (s.taken ++ found) =
             subst (λ (l : List ℕ). AreRecordsOfSomeVersion key prefix context (s.messages ++ m ∷ []) (s.taken ++ l)) (alone (record_of p 1 m) found rest is_last (none 1 is_last))
             (ends key prefix context s.messages s.taken s.begun) in
-            let one = one_record_stream (sealed key prefix context) (sealed-is key prefix context) are.0 whole.0 ms (s.messages ++ m ∷ []) f (s.taken ++ found) [] parts.0 are.1 whole.1 (append-nil f ∙ parts.1) in
-            (drop n m ++ concat [], concat-begun s.messages ms [] m n (one.1 ∙ sym (append-nil (s.messages ++ m ∷ []))));
+            inr (verified_ended key prefix context f (s.taken ++ found) parts.0 (concat s.messages ++ take n m) (drop n m) (s.messages ++ m ∷ []) e whole parts.1
+            (concat-cut s.messages m n) (inr why));
       };
       refused = unwritten e _ why;
+      too_long = in_time e _ (write_in_time e why);
     }
 
 -- ---- after the last record
@@ -158,30 +155,30 @@ ended p key prefix context f left left' old new new' m bytes found rest s read l
   written = subst (Appends old new') (sym (concat-push s.messages m)) (Appends-trans old new new' (concat s.messages) m s.written written);
 }
 
-ended_front : (key prefix context f : List ℕ) (left old new : Option (List ℕ)) → Ended key prefix context f left old new → WritesFront key prefix context f old new
-ended_front key prefix context f left old new s =
+ended_front : (key prefix context f : List ℕ) (left old new : Option (List ℕ)) (e : FileError) → Ended key prefix context f left old new
+    → WritesFront key prefix context f old new e
+ended_front key prefix context f left old new e s =
     let parts = split f s.taken left s.read in
     record {
       begun = concat s.messages;
       written = s.written;
-      front = λ ms are.
-          let one = one_record_stream (sealed key prefix context) (sealed-is key prefix context) are.0 s.are.0 ms s.messages f s.taken [] parts.0 are.1 s.are.1 (append-nil f ∙ parts.1) in
-          ([], ap concat one.1 ∙ sym (append-nil (concat s.messages)));
+      verified = inr (verified_ended key prefix context f s.taken parts.0 (concat s.messages) [] s.messages e s.are parts.1 (sym (append-nil (concat s.messages))) (inl refl));
     }
 
 ended_fails : (key prefix context f : List ℕ) (left left' old new : Option (List ℕ)) (e : FileError) → Ended key prefix context f left old new → LeavesSome left left' e
     → FailsUnder key prefix context f old new e
 ended_fails key prefix context f left left' old new (Read e) s why =
-    record { front = ended_front key prefix context f left old new s; refused = tt }
+    record { front = ended_front key prefix context f left old new (Read e) s; refused = tt; too_long = tt }
 ended_fails key prefix context f left left' old new (Write e) s why = absurd why
 ended_fails key prefix context f left left' old new (Stream e) s why =
     let more : List ℕ = why.1.0 in
     let parts = split f (s.taken ++ more) left' (Consumes-trans (Some f) left left' s.taken more s.read why.1.2) in
     record {
-      front = ended_front key prefix context f left old new s;
+      front = ended_front key prefix context f left old new (Stream e) s;
       refused = inr (subst (λ d. IsFault key prefix context f d) (sym why.0)
           (subst (λ (l : List ℕ). IsFault key prefix context l errors.Trailing) (sym (parts.1 ∙ append_assoc s.taken more parts.0))
           (after_a_stream key prefix context s.messages s.taken (more ++ parts.0) s.are (omega (arith, why.1.1, length-append more parts.0)))));
+      too_long = tt;
     }
 ended_fails key prefix context f left left' old new TooLong s why = absurd why
 
@@ -197,41 +194,45 @@ pub fails_flush : (p : Progress) (key prefix context : List ℕ) (stream left le
     → Appends new new' m → Keeps new' new'' → IsWriteError e → IfSome stream (λ f. FailsUnder key prefix context f old new'' e)
 fails_flush p key prefix context None left left' old new new' new'' m bytes found rest e s read last is none written kept why = tt
 fails_flush p key prefix context (Some f) left left' old new new' new'' m bytes found rest e s read last is none written kept why =
-    let all = ended_front key prefix context f left' old new' (ended p key prefix context f left left' old new new' m bytes found rest s read last is none written) in
+    let all = ended_front key prefix context f left' old new' e (ended p key prefix context f left left' old new new' m bytes found rest s read last is none written) in
     record {
       front = record {
         begun = all.begun;
         written = Appends-kept old new' new'' all.begun all.written kept;
-        front = all.front;
+        verified = all.verified;
       };
       refused = unwritten e _ why;
+      too_long = in_time e _ (write_in_time e why);
     }
 
 -- ---- with the prefix
 
-two_prefixes : (a b x y : List ℕ) → length a ≡ 24 → length b ≡ 24 → a ++ x ≡ b ++ y → (a ≡ b) × (x ≡ y)
-two_prefixes a b x y la lb e =
-    (sym (take_at a x 24 la) ∙ ap (take 24) e ∙ take_at b y 24 lb, sym (drop_at a x 24 la) ∙ ap (drop 24) e ∙ drop_at b y 24 lb)
+verified_in_file : (key prefix context file stream begun : List ℕ) (e : FileError) → length prefix ≡ 24 → file ≡ prefix ++ stream
+    → (begun ≡ []) ⊎ IsVerifiedFront key prefix context stream begun e → (begun ≡ []) ⊎ IsVerifiedInFile key context file begun e
+verified_in_file key prefix context file stream begun e long is (inl none) = inl none
+verified_in_file key prefix context file stream begun e long is (inr v) = inr (prefix, stream, long, is, v)
 
-text_front : (key prefix context file stream : List ℕ) (old new : Option (List ℕ)) → length prefix ≡ 24 → file ≡ prefix ++ stream
-    → WritesFront key prefix context stream old new → WritesTextFront key context file old new
-text_front key prefix context file stream old new long is w = record {
+text_front : (key prefix context file stream : List ℕ) (old new : Option (List ℕ)) (e : FileError) → length prefix ≡ 24 → file ≡ prefix ++ stream
+    → WritesFront key prefix context stream old new e → WritesTextFront key context file old new e
+text_front key prefix context file stream old new e long is w = record {
   begun = w.begun;
   written = w.written;
+  verified = verified_in_file key prefix context file stream w.begun e long is w.verified;
   front = λ text sealed.
       let same = two_prefixes sealed.prefix prefix sealed.is.stream stream sealed.long long (sym sealed.is.file_is ∙ is) in
       let are : AreRecordsOfSomeVersion key prefix context sealed.is.messages stream =
       subst (λ (l : List ℕ). AreRecordsOfSomeVersion key l context sealed.is.messages stream) same.0
       (subst (AreRecordsOfSomeVersion key sealed.prefix context sealed.is.messages) same.1 sealed.is.are) in
-      let other = w.front sealed.is.messages are in
+      let other = verified_text key prefix context stream w.begun sealed.is.messages e w.verified are in
       (other.0, sealed.is.text_is ∙ other.1);
 }
 
 file_fails_at : (key prefix context file stream : List ℕ) (old new : Option (List ℕ)) (e : FileError) → length prefix ≡ 24 → file ≡ prefix ++ stream
     → FailsUnder key prefix context stream old new e → FailsWith key context file old new e
 file_fails_at key prefix context file stream old new e long is w = record {
-  front = text_front key prefix context file stream old new long is w.front;
+  front = text_front key prefix context file stream old new e long is w.front;
   refused = so_refused e _ _ reason w.refused;
+  too_long = so_long e _ _ (λ past. omega (arith, past, long, ap length is, length-append prefix stream)) w.too_long;
 }
   where
     reason : (why : RecordError) → (why ≡ errors.OutOfMemory) ⊎ IsFault key prefix context stream why → (why ≡ errors.OutOfMemory) ⊎ IsFileFault key context file why

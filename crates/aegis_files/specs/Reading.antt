@@ -1,12 +1,13 @@
 -- The bytes that were read, and the facts that hold if opening fails.
-use Rattle.std.specs.Prelude.{◌≡◌, ℕ, ◌<◌, ◌≤◌, ◌⊎◌, List, ◌++◌, Option, ⊤, length}
+use Rattle.std.specs.Prelude.{◌≡◌, ℕ, ◌<◌, ◌≤◌, ◌⊎◌, Err, List, [], ◌++◌, Option, ⊤, length}
 use Rattle.std.specs.Io.KnownBytes.{Appends, Consumes, IsAtEnd}
-use Rattle.std.specs.List.{concat}
 use Rattle.aegis_files.specs.declared.error.FileError.{FileError}
 use Rattle.aegis_files.specs.declared.error.FileError.TheVariants.{Read, Write, Stream, TooLong}
-use Rattle.aegis_files.specs.SealedFile.{IfRefused}
+use Rattle.aegis_files.specs.SealedFile.{IfRefused, IfTooLong, IsVerifiedFront}
 use Rattle.aegis.specs.declared.record.error.RecordError.TheVariants as errors
-use Rattle.aegis.specs.Progress.{AreRecordsOfSomeVersion, Begun, Progress}
+use Rattle.aegis_base.specs.declared.error.TheConstants.{MAX_AEAD_BYTES}
+use Rattle.aegis.specs.Fault.{parts}
+use Rattle.aegis.specs.Progress.{Progress}
 use Rattle.aegis.specs.Records.{IsFault}
 
 -- the next `count` bytes of the reader were appended, or all that were left
@@ -23,32 +24,25 @@ IsReadError (Write e) = ⊥
 IsReadError (Stream e) = ⊥
 IsReadError TooLong = ⊥
 
-abbrev pub IsWriteError : FileError → Type 0
-IsWriteError (Read e) = ⊥
-IsWriteError (Write e) = ⊤
-IsWriteError (Stream e) = ⊥
-IsWriteError TooLong = ⊥
-
--- a refusal at the next record, which holds for the bytes read of it and any bytes after them; or bytes were left after
--- a stream
+-- a refusal at the next record, which holds for the bytes read of it and any bytes after them
 abbrev pub RefusesNext : Progress → Option (List ℕ) → Option (List ℕ) → FileError → Type 0
 RefusesNext p left left' (Read e) = ⊤
 RefusesNext p left left' (Write e) = ⊥
 RefusesNext p left left' (Stream e) = (e ≡ errors.OutOfMemory)
-    ⊎ ((head : List ℕ) × Consumes left left' head
-    × ((key prefix context : List ℕ) (ms : List (List ℕ)) (before more : List ℕ) → Begun p key prefix context ms before → IsFault key prefix context (before ++ (head ++ more)) e))
+    ⊎ ((head : List ℕ) × Consumes left left' head × ((body : List ℕ) → parts p.version (head ++ body) ≡ Err e))
 RefusesNext p left left' TooLong = ⊥
 
--- a front of the text was written, if these bytes are a stream
-pub record WritesFront (key prefix context stream : List ℕ) (old new : Option (List ℕ)) : Type 0 where
+-- the messages of records at the stream's beginning were written, or nothing
+pub record WritesFront (key prefix context stream : List ℕ) (old new : Option (List ℕ)) (e : FileError) : Type 0 where
   pub begun : List ℕ
   pub written : Appends old new begun
-  pub front : (ms : List (List ℕ)) → AreRecordsOfSomeVersion key prefix context ms stream → (rest : List ℕ) × (concat ms ≡ begun ++ rest)
+  pub verified : (begun ≡ []) ⊎ IsVerifiedFront key prefix context stream begun e
 
 -- opening the bytes after a prefix failed
 pub record FailsUnder (key prefix context stream : List ℕ) (old new : Option (List ℕ)) (e : FileError) : Type 0 where
-  pub front : WritesFront key prefix context stream old new
+  pub front : WritesFront key prefix context stream old new e
   pub refused : IfRefused e (λ why. (why ≡ errors.OutOfMemory) ⊎ IsFault key prefix context stream why)
+  pub too_long : IfTooLong e (MAX_AEAD_BYTES < length stream)
 
 -- some bytes were left
 abbrev pub LeavesSome : Option (List ℕ) → Option (List ℕ) → FileError → Type 0

@@ -66,7 +66,7 @@ fn open_under<R: Read, W: Write, A: Allocator + Copy>(
     let count = fill(input, &mut header)?;
     let mut opener = RecordOpener::new(alloc, key, prefix, context, &header[..count])?;
     let mut record = Vec::new(alloc);
-    'records: for _ in 0..u64::MAX {
+    'records: loop {
         read_record(input, &opener, &mut record)?;
         if opener.remaining() < record.len() as u64 {
             return Err(FileError::TooLong);
@@ -79,7 +79,6 @@ fn open_under<R: Read, W: Write, A: Allocator + Copy>(
             return Ok(());
         }
     }
-    Err(FileError::TooLong)
 }
 
 // Returns an error unless the input is at its end.
@@ -100,8 +99,9 @@ fn end<R: Read>(input: &mut R) -> Result<(), FileError>
 /// verified.
 ///
 /// Returns `Ok` only if the whole input is the file of the text that was written. A file is refused only if it is not
-/// the file of any text, and the error is then its first fault, or if memory runs out. After any error, a front of the
-/// file's text was written, if the file has one. A caller that needs the whole text must discard it.
+/// the file of any text, and the error is then its first fault, or if memory runs out. After any error, whatever the file
+/// is, only the messages of verified records at its beginning were written, all of them unless a write failed: a front of
+/// the file's text, if it has one. A caller that needs the whole text must discard it.
 ///
 /// The context must have at most [`MAX_CONTEXT_BYTES`]. Memory is allocated for one record and its message. In a file
 /// that someone else made with the key, each can have up to 16 MiB.

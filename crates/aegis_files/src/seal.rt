@@ -1,6 +1,6 @@
 //! Sealing a file, from a reader to a writer.
 
-ghost use Rattle.std.specs.Prelude.{◌≡◌, ◌≤◌, IfOk, IfSome, List, OnErr, OnOk, length, ℕ};
+ghost use Rattle.std.specs.Prelude.{◌≡◌, ◌≤◌, IfErr, IfOk, IfSome, List, OnOk, length, ℕ};
 ghost use Rattle.std.specs.Io.KnownBytes.{Appends};
 ghost use Rattle.std.specs.List.{AllByRecursion};
 ghost use Rattle.aegis_files.specs.SealedFile.{IsFileOf, IsPiece, WritesFileFront};
@@ -29,8 +29,9 @@ fn piece_buffer<A: Allocator>(alloc: A) -> Result<Vec<u8, A>, AllocError>
 /// Under one key, a prefix must be used for one file only. The context must have at most [`MAX_CONTEXT_BYTES`]. Memory
 /// is allocated for one piece and its record.
 ///
-/// After an error, a front of such a file was written, whose pieces are a front of the text. It can be a whole file
-/// only if the last write or the flush failed.
+/// After an error, a front of such a file was written, whose pieces are a front of the text. If it is a file that opens,
+/// it has the whole text, and a write or the flush failed; so after any other error it is the file of no text. The error
+/// is [`FileError::TooLong`] only if the record stream would have more than [`aegis::MAX_AEAD_BYTES`].
 pub fn seal_stream<R: Read, W: Write, A: Allocator + Copy>(
     alloc: A,
     key: &Key,
@@ -44,28 +45,31 @@ pub fn seal_stream<R: Read, W: Write, A: Allocator + Copy>(
         × (is : IsFileOf key.now prefix.now context.now text file)
         × Appends (W.contents output.old) (W.contents output.new) file
         × AllByRecursion IsPiece is.messages)) }
-    ensures stopped { OnErr result (IfSome (R.remaining input.old)
+    ensures stopped { IfErr result (λ e. IfSome (R.remaining input.old)
         (λ text. WritesFileFront key.now prefix.now context.now text
-        (W.contents output.old) (W.contents output.new))) }
+        (W.contents output.old) (W.contents output.new) e)) }
 {
     let mut piece = piece_buffer(alloc)?;
     let mut out = Vec::with_capacity(alloc, PIECE_BYTES + RECORD_BYTES as usize)?;
     write(output, prefix)?;
     let mut sealer = RecordSealer::new(alloc, key, prefix, context, &mut out)?;
-    'pieces: for _ in 0..u64::MAX {
-        let count = fill(input, &mut piece)?;
-        if count == 0 {
-            sealer.seal_last(&[], &mut out)?;
-            write(output, &out)?;
-            flush(output)?;
-            return Ok(());
+    'pieces: loop {
+        match fill(input, &mut piece) {
+            Ok(0) => {
+                sealer.seal_last(&[], &mut out)?;
+                write(output, &out)?;
+                flush(output)?;
+                return Ok(());
+            }
+            Ok(count) => {
+                if sealer.remaining() < 2 * RECORD_BYTES + count as u64 {
+                    return Err(FileError::TooLong);
+                }
+                sealer.seal_next(&piece[..count], &mut out)?;
+                write(output, &out)?;
+                out.clear();
+            }
+            Err(error) => return Err(error),
         }
-        if sealer.remaining() < RECORD_BYTES + count as u64 {
-            return Err(FileError::TooLong);
-        }
-        sealer.seal_next(&piece[..count], &mut out)?;
-        write(output, &out)?;
-        out.clear();
     }
-    Err(FileError::TooLong)
 }

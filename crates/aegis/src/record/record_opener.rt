@@ -123,7 +123,7 @@ impl<'a, A: Allocator + Copy> RecordOpener<'a, A> {
     ///
     /// The opener opens the records at this position and after it, of a stream under this key, prefix and context. Nothing is
     /// known of the records before them, nor that the stream is whole, unless its last record is opened. A position is not
-    /// secret; at a wrong one the error is [`RecordError::Damaged`].
+    /// secret. At a wrong one `Ok` still means that the message is sealed to the bytes at just this position.
     ///
     /// The context has at most [`MAX_CONTEXT_BYTES`], and the record starts at byte [`MAX_AEAD_BYTES`] of the stream at most.
     /// [`RecordError::OutOfMemory`] is the only error.
@@ -176,7 +176,8 @@ impl<'a, A: Allocator + Copy> RecordOpener<'a, A> {
 
     /// Returns how many bytes the next record has, from its first five bytes.
     ///
-    /// The bytes are not authenticated. The error is [`RecordError::Flag`] or [`RecordError::TooLong`].
+    /// The bytes are not authenticated. The error is [`RecordError::Flag`] or [`RecordError::TooLong`]: the fault of any record
+    /// that begins with them.
     pub fn record_len(&self, head: &[u8; 5]) -> Result<usize, RecordError>
         ensures least { IfOk result (λ n. RECORD_BYTES ≤ n) }
         ensures most { IfOk result (λ n. n ≤ RECORD_BYTES + MAX_MESSAGE_BYTES) }
@@ -186,9 +187,8 @@ impl<'a, A: Allocator + Copy> RecordOpener<'a, A> {
             → length (record_of self.now flag m) ≡ n) }
         ensures whole { IfOk result (λ n. (body : List ℕ) → n ≤ length (head.now ++ body)
             → parts self.now.version (head.now ++ body) ≢ Err RecordError.Truncated) }
-        ensures refused { IfErr result (λ e. (key prefix context : List ℕ) (ms : List (List ℕ))
-            (before more : List ℕ) → Begun self.now key prefix context ms before
-            → IsFault key prefix context (before ++ (head.now ++ more)) e) }
+        ensures refused { IfErr result (λ e. (body : List ℕ)
+            → parts self.now.version (head.now ++ body) ≡ Err e) }
     {
         if head[0] > 1 {
             return Err(RecordError::Flag);
@@ -233,7 +233,7 @@ impl<'a, A: Allocator + Copy> RecordOpener<'a, A> {
         ensures fault { IfErr result (λ e. self.old.ended ≡ false
             → (e ≡ RecordError.OutOfMemory) ⊎ IsRecordFault self.old bytes.now e) }
         ensures within { IfOk result
-            (λ opened. length opened.message.items ≤ MAX_MESSAGE_BYTES) }
+            (λ opened. length opened.message.items ≤ limit self.old.version) }
         ensures taken { IfOk result (λ opened. taken self.new + length opened.rest.now
             ≡ taken self.old + length bytes.now) }
         ensures after_the_last { IsTrue self.old.ended → result ≡ Err RecordError.Trailing }

@@ -180,6 +180,8 @@ impl<'a, A: Allocator + Copy> RecordSealer<'a, A> {
         ensures progress { OnOk result (self.new ≡ after self.old false message.now) }
         ensures taken { OnOk result
             (taken self.new ≡ taken self.old + (37 + length message.now)) }
+        ensures length { OnOk result
+            (length out.new.items ≡ length out.old.items + (37 + length message.now)) }
         ensures err { IfErr result (λ e. e ≡ RecordError.OutOfMemory) }
         ensures unchanged { OnErr result (self.new ≡ self.old) }
         ensures kept { OnErr result (out.new.items ≡ out.old.items) }
@@ -199,10 +201,11 @@ impl<'a, A: Allocator + Copy> RecordSealer<'a, A> {
     /// Appends the record of the last message to `out`, and ends the stream: the sealer is taken by value, so no record can
     /// follow.
     ///
-    /// A message has at most [`MAX_MESSAGE_BYTES`]. [`RecordError::OutOfMemory`] is the only error; `out` is then as it was, and
-    /// the stream has no end.
+    /// The limits are those of [`RecordSealer::seal_next`], so what was sealed can be opened. [`RecordError::OutOfMemory`] is the
+    /// only error; `out` is then as it was, and the stream has no end.
     pub fn seal_last(self, message: &[u8], out: &mut Vec<u8, A>) -> Result<(), RecordError>
         requires within { length message.now ≤ MAX_MESSAGE_BYTES }
+        requires fits { taken self + (37 + length message.now) ≤ MAX_AEAD_BYTES }
         ensures appended { OnOk result
             (out.new.items ≡ out.old.items ++ record_of self.entry 1 message.now) }
         ensures whole { OnOk result
@@ -210,6 +213,8 @@ impl<'a, A: Allocator + Copy> RecordSealer<'a, A> {
             → Begun self.entry key prefix context ms bytes
             → AreRecords Second key prefix context
             (ms ++ message.now ∷ []) (bytes ++ record_of self.entry 1 message.now)) }
+        ensures length { OnOk result
+            (length out.new.items ≡ length out.old.items + (37 + length message.now)) }
         ensures err { IfErr result (λ e. e ≡ RecordError.OutOfMemory) }
         ensures kept { OnErr result (out.new.items ≡ out.old.items) }
     {

@@ -1,8 +1,8 @@
 //! Readers, writers and memory that fail.
 
-use super::{CONTEXT, KEY, PREFIX, TEXT, opened_with, sealed, three_records};
+use super::{CONTEXT, KEY, PREFIX, TEXT, opened, opened_with, sealed, three_records};
 use aegis::record::RecordError;
-use aegis_files::{FileError, open_stream, seal_stream};
+use aegis_files::{FileError, PIECE_BYTES, open_stream, seal_stream};
 use std::io::ErrorKind;
 use std::test::Fail;
 use test_tools::ends::{CutOff, Narrow};
@@ -41,6 +41,30 @@ fn sealing_stops_where_a_read_fails(rt: HostRuntime) -> Result<(), Fail> {
         assert!(rt; file.len() < whole.len(), "at {length}");
         assert_eq!(rt; file.as_slice(), PREFIX.as_slice(), "at {length}");
     }
+    Ok(())
+}
+
+// A reader that fails after two pieces and a part of a third: the pieces are written, with no last record, so what was
+// written does not open.
+#[test]
+fn a_read_that_fails_leaves_no_whole_file(rt: HostRuntime) -> Result<(), Fail> {
+    let mut text = Vec::new(rt.alloc());
+    text.resize(2 * PIECE_BYTES + 9, 0x5a)?;
+    let whole = sealed(rt.alloc(), &text)?;
+    let mut input = CutOff {
+        left: &text,
+        error: ErrorKind::Other,
+    };
+    let mut file = Vec::new(rt.alloc());
+    let result = seal_stream(rt.alloc(), &KEY, &PREFIX, &CONTEXT, &mut input, &mut file);
+    assert!(rt; matches!(result, Err(FileError::Read(_))));
+    let sent = 24 + 4 + 2 * (37 + PIECE_BYTES);
+    assert_eq!(rt; file.len(), sent);
+    assert!(rt; whole.starts_with(&file));
+    let (found, result) = opened(rt.alloc(), &file);
+    assert!(rt; matches!(result, Err(FileError::Stream(RecordError::Truncated))));
+    assert_eq!(rt; found.len(), 2 * PIECE_BYTES);
+    assert!(rt; text.starts_with(&found));
     Ok(())
 }
 

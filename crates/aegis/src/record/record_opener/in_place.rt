@@ -14,7 +14,7 @@ use crate::record::frame::{Frame, TAG_BYTES};
 use crate::record::length::RECORD_HEAD_BYTES;
 use crate::record::record_cipher::{MAX_CONTEXT_BYTES, RecordCipher, RecordPlace};
 use crate::record::record_opener::RecordOpener;
-use crate::record::version::{MAX_MESSAGE_BYTES, Version};
+use crate::record::version::Version;
 use aegis_base::MAX_AEAD_BYTES;
 use std::alloc::Allocator;
 
@@ -119,7 +119,7 @@ impl<'a, A: Allocator + Copy> RecordOpener<'a, A> {
             → bytes.new ≡ with_erased bytes.old) }
         ensures kept { IfErr result (λ e. e ≢ RecordError.Damaged self.old.number
             → bytes.new ≡ bytes.old) }
-        ensures within { IfOk result (λ opened. opened.message_len ≤ MAX_MESSAGE_BYTES) }
+        ensures within { IfOk result (λ opened. opened.message_len ≤ limit self.old.version) }
         ensures taken { IfOk result (λ opened. taken self.new + length (rest_of opened bytes.new)
             ≡ taken self.old + length bytes.old) }
         ensures size { IfOk result (λ opened. 37 + opened.message_len

@@ -1,4 +1,6 @@
-use Rattle.std.proofs.Common.{◌≡◌, length}
+use Rattle.std.proofs.Common.{◌≡◌, ◌-◌, length}
+use Rattle.aegis_base.specs.declared.error.TheConstants.{MAX_AEAD_BYTES}
+use Rattle.aegis.specs.Progress.{taken}
 use Rattle.aegis_files.specs.declared.seal.TheConstants.{PIECE_BYTES}
 use Rattle.aegis_files.proofs.Sealing.{SealsSome}
 use Rattle.aegis_files.proofs.seal.seal_stream.Given as goal
@@ -9,3 +11,6 @@ invariant-pieces g l = record {
   sealed : SealsSome l.sealer l.fn.key l.fn.prefix l.fn.context (g.R.Read.remaining l.fn.input) (g.R.Read.remaining l.input)
       (g.W.Write.contents l.fn.output) (g.W.Write.contents l.output) l.out.items;
 }
+
+abbrev pub decreases-pieces : goal.decreases-pieces
+decreases-pieces g l = MAX_AEAD_BYTES - taken l.sealer

@@ -1,6 +1,6 @@
 use Rattle.std.proofs.Common.{refl}
 use Rattle.aegis.specs.Progress.{record_of}
-use Rattle.aegis.proofs.Stepwise.{begun_more}
+use Rattle.aegis.proofs.Stepwise.{appended_long, begun_more}
 use Rattle.aegis.proofs.record.record_sealer.RecordSealer.seal_next.Goals as goal
 
 pub returns-clause-appended : goal.returns-clause-appended
@@ -12,3 +12,6 @@ returns-clause-begun g c =
     rw (← c.self.view_is) (begun_more _ _ c.args.message.now
     (record { key = refl; prefix = refl; context = refl; version = refl; number = refl; before = refl; unended = refl })
     c.requires.within)
+
+pub returns-clause-length : goal.returns-clause-length
+returns-clause-length g c = appended_long _ _ _ _ _ (returns-clause-appended g c)
