@@ -6,7 +6,7 @@ use Rattle.std.proofs.lemmas.List.{length-append}
 use Rattle.aegis.specs.declared.record.version.Version.{Version}
 use Rattle.aegis.specs.declared.record.version.Version.TheVariants.{First, Second}
 use Rattle.aegis_base.specs.Chunks.{texts}
-use Rattle.aegis.specs.Progress.{Begun, Progress, taken}
+use Rattle.aegis.specs.Progress.{Begun, Progress, start_of}
 use Rattle.aegis.specs.Records.{sealed}
 use Rattle.aegis.specs.RecordStream.{IsSealing, IsRecordStream, Sealing, flag_before, frames, frames_length, header, records_length, total}
 use Rattle.aegis.proofs.Sealed.{sealed-is}
@@ -40,7 +40,7 @@ frames_length-total [] = refl
 frames_length-total (m ∷ ms) = let rest = frames_length-total ms in omega arith
 
 pub length-begun : (p : Progress) (key prefix context : List ℕ) (ms : List (List ℕ)) (bytes : List ℕ) → Begun p key prefix context ms bytes
-    → length bytes ≡ taken p
+    → length bytes ≡ start_of p
 unfolding Begun
 length-begun p key prefix context ms bytes b =
     let all = ap length b.are in

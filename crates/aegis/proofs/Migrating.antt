@@ -6,7 +6,7 @@ use Rattle.aegis.specs.declared.record.error.RecordError.TheVariants as errors
 use Rattle.aegis.specs.declared.record.version.Version.{Version}
 use Rattle.aegis.specs.declared.record.version.Version.TheVariants.{Second}
 use Rattle.aegis.specs.Fault.{AtHeader, IsFaultOf}
-use Rattle.aegis.specs.Progress.{AreRecordsOfSomeVersion, Begun, Progress, taken}
+use Rattle.aegis.specs.Progress.{AreRecordsOfSomeVersion, Begun, Progress, start_of}
 use Rattle.aegis.specs.Records.{AreRecords, IsFault, sealed}
 use Rattle.aegis.specs.RecordStream.{header}
 use Rattle.aegis.proofs.Fronts.{after_a_stream}
@@ -20,8 +20,8 @@ pub record Migrating (key old new context bytes : List ℕ) (opener sealer : Pro
   pub opened : Begun opener key old context messages before
   pub sealed : Begun sealer key new context messages stream
   pub all : bytes ≡ before ++ rest
-  pub fits : taken opener + length rest ≡ length bytes
-  pub same : taken sealer ≡ taken opener
+  pub fits : start_of opener + length rest ≡ length bytes
+  pub same : start_of sealer ≡ start_of opener
 
 -- the last record, of message m and these bytes, ends any stream that has begun so
 abbrev pub Ends : Progress → List ℕ → List ℕ → Type 0

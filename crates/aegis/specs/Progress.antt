@@ -22,9 +22,13 @@ pub record Progress : Type 0 where
 unfoldable pub record_of : Progress → ℕ → List ℕ → List ℕ
 record_of p flag m = frame (sealed p.key p.prefix p.context) p.version p.number p.before flag m
 
--- how many bytes the stream has up to the next record
-abbrev pub taken : Progress → ℕ
-taken p = 4 + 37 * p.number + p.before
+-- the byte of a stream at which a record starts, by its number and the bytes of the messages before it
+abbrev pub start_at : ℕ → ℕ → ℕ
+start_at number before = 4 + 37 * number + before
+
+-- the byte at which the next record starts: how many bytes the stream has up to it
+abbrev pub start_of : Progress → ℕ
+start_of p = start_at p.number p.before
 
 -- the bytes are a header and the records of these messages, none of them the last, and the progress is the one after them
 pub record BegunStream (p : Progress) (key prefix context : List ℕ) (ms : List (List ℕ)) (bytes : List ℕ) : Type 0 where

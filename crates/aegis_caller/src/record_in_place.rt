@@ -2,7 +2,7 @@
 
 ghost use Rattle.std.specs.Prelude.{◌≡◌, ◌+◌, ◌≤◌, ◌++◌, ◌∷◌, [], IfErr, IfOk, List, OnErr, false, length, ℕ};
 ghost use Rattle.std.specs.Bool.{OnFalse, OnTrue};
-ghost use Rattle.aegis.specs.Progress.{AreRecordsOfSomeVersion, Begun, IsRecordFault, record_of, taken};
+ghost use Rattle.aegis.specs.Progress.{AreRecordsOfSomeVersion, Begun, IsRecordFault, record_of, start_of};
 
 use aegis::MAX_AEAD_BYTES;
 use aegis::record::{RECORD_HEAD_BYTES, RecordError, RecordOpener};
@@ -22,7 +22,7 @@ pub fn next_entry<'b, A: Allocator + Copy>(
     opener: &mut RecordOpener<'_, A>,
     buffer: &'b mut [u8],
 ) -> Result<Entry<'b>, RecordError>
-    requires { taken opener.old + length buffer.old ≤ MAX_AEAD_BYTES }
+    requires { start_of opener.old + length buffer.old ≤ MAX_AEAD_BYTES }
     ensures begun { IfOk result (λ entry. OnFalse entry.is_last
         ((key prefix context : List ℕ) (ms : List (List ℕ)) (before : List ℕ)
         → Begun opener.old key prefix context ms before

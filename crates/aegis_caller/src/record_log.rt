@@ -2,7 +2,7 @@
 
 ghost use Rattle.std.specs.Prelude.{◌≡◌, ◌+◌, ◌*◌, ◌≤◌, ◌⊎◌, ◌++◌, ◌∷◌, [], IfErr, IfOk, IfSome, false, length};
 ghost use Rattle.std.specs.Bool.{OnFalse, OnTrue};
-ghost use Rattle.aegis.specs.Progress.{AreRecordsOfSomeVersion, IsRecordFault, after, last_flag, progress_at, record_of};
+ghost use Rattle.aegis.specs.Progress.{AreRecordsOfSomeVersion, IsRecordFault, after, last_flag, progress_at, record_of, start_at};
 
 use aegis::MAX_AEAD_BYTES;
 use aegis::record::{
@@ -50,7 +50,7 @@ pub fn read_at<'b, A: Allocator + Copy>(
     bytes: &'b [u8],
 ) -> Result<Opened<'b, A>, RecordError>
     requires context_within { length context.now ≤ MAX_CONTEXT_BYTES }
-    requires position_within { 4 + 37 * position.number + position.before ≤ MAX_AEAD_BYTES }
+    requires position_within { start_at position.number position.before ≤ MAX_AEAD_BYTES }
     ensures read { IfOk result (λ opened. bytes.now
         ≡ record_of (progress_at key.now prefix.now context.now position)
         (last_flag opened.is_last) opened.message.items ++ opened.rest.now) }
@@ -72,7 +72,7 @@ pub fn read_on<'b, A: Allocator + Copy>(
     bytes: &'b [u8],
 ) -> Result<Option<(Vec<u8, A>, Opened<'b, A>)>, RecordError>
     requires context_within { length context.now ≤ MAX_CONTEXT_BYTES }
-    requires bytes_within { 4 + 37 * position.number + position.before + length bytes.now
+    requires bytes_within { start_at position.number position.before + length bytes.now
         ≤ MAX_AEAD_BYTES }
     ensures next { IfOk result (λ found. IfSome found (λ read. OnFalse read.1.is_last
         (bytes.now ≡ record_of (progress_at key.now prefix.now context.now position)

@@ -8,7 +8,7 @@ use Rattle.std.specs.List.{concat}
 use Rattle.aegis_base.specs.declared.error.TheConstants.{MAX_AEAD_BYTES}
 use Rattle.aegis.specs.declared.record.error.RecordError.{RecordError}
 use Rattle.aegis.specs.declared.record.error.RecordError.TheVariants as errors
-use Rattle.aegis.specs.Progress.{AreRecordsOfSomeVersion, Begun, Progress, record_of, taken}
+use Rattle.aegis.specs.Progress.{AreRecordsOfSomeVersion, Begun, Progress, record_of, start_of}
 use Rattle.aegis.specs.Records.{IsFault, sealed}
 use Rattle.aegis.proofs.Fronts.{after_a_stream}
 use Rattle.aegis.proofs.Lengths.{length-begun}
@@ -39,7 +39,7 @@ front_is p key prefix context f left old new e s =
 
 -- the next record passes the limit
 pub fails_long : (p : Progress) (key prefix context : List ℕ) (stream left left' old new : Option (List ℕ)) (found : List ℕ) → OpensSome p key prefix context stream left old new
-    → Consumes left left' found → MAX_AEAD_BYTES < taken p + length found → IfSome stream (λ f. FailsUnder key prefix context f old new TooLong)
+    → Consumes left left' found → MAX_AEAD_BYTES < start_of p + length found → IfSome stream (λ f. FailsUnder key prefix context f old new TooLong)
 fails_long p key prefix context None left left' old new found s read long = tt
 fails_long p key prefix context (Some f) left left' old new found s read long =
     let parts = split f (s.taken ++ found) left' (Consumes-trans (Some f) left left' s.taken found s.read read) in

@@ -13,7 +13,7 @@ use Rattle.aegis.proofs.Sealed.{sealed-is}
 use Rattle.aegis.proofs.Streams.{one_fault, one_record_stream}
 use Rattle.aegis.specs.declared.record.error.RecordError.TheVariants as errors
 use Rattle.aegis.specs.Fault.{AtRecord, IsFaultOf, parts}
-use Rattle.aegis.specs.Progress.{AreRecordsOfSomeVersion, Begun, Progress, taken}
+use Rattle.aegis.specs.Progress.{AreRecordsOfSomeVersion, Begun, Progress, start_of}
 use Rattle.aegis.specs.declared.record.version.Version.{Version}
 use Rattle.aegis.specs.declared.record.version.Version.TheVariants.{Second}
 use Rattle.aegis.specs.Records.{AreRecords, IsFault, sealed}
@@ -71,7 +71,7 @@ pub record SealsSome (p : Progress) (key prefix context : List ℕ) (text left o
   pub written : Appends old new (prefix ++ sent)
   pub within : AllByRecursion IsPiece messages
   -- there is room for the last record, and all pieces are full if more of the text is left
-  pub room : taken p + 37 ≤ MAX_AEAD_BYTES
+  pub room : start_of p + 37 ≤ MAX_AEAD_BYTES
   pub full : IfSome text (λ t. IsFull p left)
 
 pub seals_begin : (p : Progress) (key prefix context : List ℕ) (text old new : Option (List ℕ)) (pending first : List ℕ) → Begun p key prefix context [] first
@@ -101,7 +101,7 @@ joined sent pending bytes out is = append_assoc sent pending bytes ∙ ap (λ (l
 
 pub seals_more : (p q : Progress) (key prefix context : List ℕ) (text left left' old new new' : Option (List ℕ)) (pending m bytes out none : List ℕ)
     → SealsSome p key prefix context text left old new pending → Consumes left left' m → IsStep p q m bytes → out ≡ pending ++ bytes
-    → Appends new new' out → none ≡ [] → IsPiece m → (length m < PIECE_BYTES → IsAtEnd left') → taken q + 37 ≤ MAX_AEAD_BYTES
+    → Appends new new' out → none ≡ [] → IsPiece m → (length m < PIECE_BYTES → IsAtEnd left') → start_of q + 37 ≤ MAX_AEAD_BYTES
     → SealsSome q key prefix context text left' old new' none
 seals_more p q key prefix context text left left' old new new' pending m bytes out none s read step is written empty piece end room = record {
   messages = s.messages ++ m ∷ [];
@@ -265,7 +265,7 @@ stops_between p key prefix context (Some t) left old new pending e long time s =
 -- the text has more full pieces than the limit allows
 too_many : (p : Progress) (key prefix context t left' : List ℕ) (ms : List (List ℕ)) (bytes : List ℕ) (left : Option (List ℕ)) (m : List ℕ)
     → Begun p key prefix context ms bytes → Consumes (Some t) left (concat ms) → Consumes left (Some left') m → 0 < length m → IsFull p left
-    → MAX_AEAD_BYTES < taken p + (74 + length m) → MAX_AEAD_BYTES < stream_length (length t)
+    → MAX_AEAD_BYTES < start_of p + (74 + length m) → MAX_AEAD_BYTES < stream_length (length t)
 too_many p key prefix context t left' ms bytes None m b before read some full long = absurd before
 too_many p key prefix context t left' ms bytes (Some l) m b before read some (inr over) long =
     absurd (omega (arith, some, ap length read, ap length over, length-append m left'))
@@ -280,7 +280,7 @@ too_many p key prefix context t left' ms bytes (Some l) m b before read some (in
     omega (arith, full, c.1, length-append (concat ms) l, length-append m left')
 
 pub stops_long : (p : Progress) (key prefix context : List ℕ) (text left left' old new : Option (List ℕ)) (pending m : List ℕ) → length prefix ≡ 24
-    → SealsSome p key prefix context text left old new pending → Consumes left left' m → 0 < length m → MAX_AEAD_BYTES < taken p + (74 + length m)
+    → SealsSome p key prefix context text left old new pending → Consumes left left' m → 0 < length m → MAX_AEAD_BYTES < start_of p + (74 + length m)
     → IfSome text (λ t. WritesFileFront key prefix context t old new TooLong)
 stops_long p key prefix context None left left' old new pending m long s read some past = tt
 stops_long p key prefix context (Some t) left left' old new pending m long s read some past =

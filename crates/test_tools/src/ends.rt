@@ -23,7 +23,7 @@ impl Read for CutOff<'_> {
 #[derive(Drop)]
 pub struct Narrow {
     /// The bytes that it took.
-    pub taken: Vec<u8>,
+    pub written: Vec<u8>,
     /// The number of bytes that it takes.
     pub room: usize,
     /// What a write after these returns, or `None` for `Ok(0)`.
@@ -34,7 +34,7 @@ pub struct Narrow {
 
 impl Write for Narrow {
     fn write(&mut self, buf: &[u8]) -> io::Result<usize> {
-        if self.taken.len() >= self.room {
+        if self.written.len() >= self.room {
             return match self.error {
                 Some(error) => Err(io::Error::from(error)),
                 None => Ok(0),
@@ -42,7 +42,7 @@ impl Write for Narrow {
         }
         match buf.first() {
             Some(byte) => {
-                self.taken.push(*byte)?;
+                self.written.push(*byte)?;
                 Ok(1)
             }
             None => Ok(0),

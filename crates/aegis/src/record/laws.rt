@@ -3,7 +3,7 @@
 
 ghost use Rattle.std.specs.Prelude.{◌≡◌, ◌<◌, ◌++◌, List, length, ℕ};
 ghost use Rattle.aegis.specs.Fault.{IsOneFault};
-ghost use Rattle.aegis.specs.Progress.{AreRecordsOfSomeVersion, Begun, Progress, taken};
+ghost use Rattle.aegis.specs.Progress.{AreRecordsOfSomeVersion, Begun, Progress, start_of};
 ghost use Rattle.aegis.specs.Records.{AreRecords, IsFault, sealed};
 ghost use Rattle.aegis.specs.RecordStream.{IsOneRecordStream, records_length};
 ghost use Rattle.aegis.specs.declared.record.error.RecordError.TheVariants.{Trailing};
@@ -27,12 +27,12 @@ pub fn record_stream_lengths()
         → AreRecords v key prefix context ms bytes → length bytes ≡ records_length ms }
 {}
 
-/// The bytes in front of a record are as many as `taken` says: 4, 37 for each record before it, and the lengths of their
+/// The bytes in front of a record are as many as `start_of` says: 4, 37 for each record before it, and the lengths of their
 /// messages.
 pub fn begun_lengths()
     ensures { (p : Progress) (key prefix context : List ℕ)
         (ms : List (List ℕ)) (bytes : List ℕ) → Begun p key prefix context ms bytes
-        → length bytes ≡ taken p }
+        → length bytes ≡ start_of p }
 {}
 
 /// The messages before the last record are a proper front of the list of any stream that begins with the same bytes, so no

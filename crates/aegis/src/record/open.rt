@@ -9,7 +9,7 @@ ghost use Rattle.aegis.specs.RecordStream.{header};
 use crate::aegis256::Key;
 use crate::record::error::RecordError;
 use crate::record::frame::Frame;
-use crate::record::record_cipher::{MAX_CONTEXT_BYTES, RecordCipher, RecordPlace};
+use crate::record::record_cipher::{DATA_BYTES, MAX_CONTEXT_BYTES, RecordCipher, RecordPlace};
 use crate::record::version::Version;
 use std::alloc::Allocator;
 
@@ -77,7 +77,7 @@ fn open_each<A: Allocator + Copy>(
     let Some((version, mut rest)) = version_of(bytes) else {
         return Err(RecordError::Header);
     };
-    let mut ad = Vec::with_capacity(alloc, RecordPlace::DATA_BYTES + cipher.context.len())?;
+    let mut ad = Vec::with_capacity(alloc, DATA_BYTES + cipher.context.len())?;
     let mut found = Vec::new(alloc);
     let mut before: u64 = 0;
     'records: loop {

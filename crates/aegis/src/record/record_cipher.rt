@@ -15,9 +15,12 @@ use std::alloc::Allocator;
 /// How many bytes the context of a stream may have.
 pub const MAX_CONTEXT_BYTES: usize = 65_535;
 
-// A message is copied and sealed in pieces of this many bytes: so few that a copy waits for memory while rounds run. Of the
+/// How many bytes the associated data has at most, but for the context: a header, a number, a sum of lengths and a flag.
+pub const DATA_BYTES: usize = 4 + 8 + 8 + 1;
+
+// A message is copied and sealed in updates of this many bytes: so few that a copy waits for memory while rounds run. Of the
 // lengths from 128 to 65536 it is the fastest for AEGIS-256.
-const PIECE_BYTES: usize = 256;
+const UPDATE_BYTES: usize = 256;
 
 /// What all records of a stream are sealed under.
 #[derive(Clone, Copy)]
@@ -50,9 +53,6 @@ fn nonce(prefix: &[u8; 24], number: u64) -> Nonce
 }
 
 impl RecordPlace {
-    /// How many bytes the associated data has at most, but for the context: a header, a number, a sum of lengths and a flag.
-    pub const DATA_BYTES: usize = 4 + 8 + 8 + 1;
-
     // Replaces the bytes of `ad` by the associated data of the record. Memory is taken only if `ad` has too little room.
     fn write_data<A: Allocator>(
         self,
@@ -63,7 +63,7 @@ impl RecordPlace {
             ≡ associated_data self.version self.number self.before self.flag context.now) }
         ensures err { IfErr result (λ e. e ≡ RecordError.OutOfMemory) }
         ensures capacity { vec_capacity ad.old ≤ vec_capacity ad.new }
-        ensures succeeds { 21 + length context.now ≤ vec_capacity ad.old → IsOk result }
+        ensures succeeds { DATA_BYTES + length context.now ≤ vec_capacity ad.old → IsOk result }
     {
         ad.clear();
         ad.extend_from_slice(self.version.header())?;
@@ -97,7 +97,7 @@ impl RecordCipher<'_> {
         place.write_data(ad, self.context)?;
         let cipher = Aegis256::<TAG_BYTES>::new(self.key, &nonce(self.prefix, place.number));
         let mut encryptor = cipher.encryptor(ad);
-        for piece in message.chunks(PIECE_BYTES) {
+        for piece in message.chunks(UPDATE_BYTES) {
             let start = out.len();
             out.extend_from_slice(piece)?;
             encryptor.update_in_place(&mut out[start..]);
@@ -142,7 +142,7 @@ impl RecordCipher<'_> {
         sealed: &mut [u8],
     ) -> Result<(), RecordError>
         requires context { length self.now.context.now ≤ MAX_CONTEXT_BYTES }
-        requires room { 21 + length self.now.context.now ≤ vec_capacity ad.old }
+        requires room { DATA_BYTES + length self.now.context.now ≤ vec_capacity ad.old }
         requires long { 32 ≤ length sealed.old }
         requires within { length sealed.old ≤ limit place.version + 32 }
         ensures opened { OnOk result

@@ -6,7 +6,7 @@ ghost use Rattle.std.specs.Bool.{OnFalse, OnTrue};
 ghost use Rattle.aegis_base.specs.declared.error.TheConstants.{MAX_AEAD_BYTES};
 ghost use Rattle.aegis.specs.Calls.{OpensRecordTo};
 ghost use Rattle.aegis.specs.Fault.{parts};
-ghost use Rattle.aegis.specs.Progress.{AreRecordsOfSomeVersion, Begun, IsRecordFault, after, first_position, last_flag, position_of, progress_at, record_of, taken};
+ghost use Rattle.aegis.specs.Progress.{AreRecordsOfSomeVersion, Begun, IsRecordFault, after, first_position, last_flag, position_of, progress_at, record_of, start_at, start_of};
 ghost use Rattle.aegis.specs.Records.{IsFault};
 ghost use Rattle.aegis.specs.RecordStream.{limit};
 
@@ -16,7 +16,7 @@ use crate::record::frame::TAG_BYTES;
 use crate::record::length::{HEADER_BYTES, RECORD_BYTES};
 use crate::record::open::{open_record, version_of};
 use crate::record::position::RecordPosition;
-use crate::record::record_cipher::{MAX_CONTEXT_BYTES, RecordCipher, RecordPlace};
+use crate::record::record_cipher::{DATA_BYTES, MAX_CONTEXT_BYTES, RecordCipher, RecordPlace};
 use crate::record::version::{MAX_MESSAGE_BYTES, Version};
 use aegis_base::MAX_AEAD_BYTES;
 pub use in_place::OpenedInPlace;
@@ -57,8 +57,8 @@ pub struct RecordOpener<'a, A: Allocator> {
 impl<'a, A: Allocator> Model for RecordOpener<'a, A> {
     ghost use Rattle.std.specs.Prelude.{◌+◌, ◌*◌, ◌≤◌, length, vec_capacity};
     ghost use Rattle.aegis_base.specs.declared.error.TheConstants.{MAX_AEAD_BYTES};
-    ghost use Rattle.aegis.specs.Progress.{Progress};
-    ghost use Rattle.aegis.specs.declared.record.record_cipher.TheConstants.{MAX_CONTEXT_BYTES};
+    ghost use Rattle.aegis.specs.Progress.{Progress, start_at};
+    ghost use Rattle.aegis.specs.declared.record.record_cipher.TheConstants.{DATA_BYTES, MAX_CONTEXT_BYTES};
 
     ghost Value = { Progress };
 
@@ -73,8 +73,8 @@ impl<'a, A: Allocator> Model for RecordOpener<'a, A> {
     } };
 
     ghost invariant = { λ s. (length s.cipher.context.now ≤ MAX_CONTEXT_BYTES)
-        × (4 + 37 * s.number + s.before ≤ MAX_AEAD_BYTES)
-        × (21 + length s.cipher.context.now ≤ vec_capacity s.ad) };
+        × (start_at s.number s.before ≤ MAX_AEAD_BYTES)
+        × (DATA_BYTES + length s.cipher.context.now ≤ vec_capacity s.ad) };
 }
 
 impl<'a, A: Allocator + Copy> RecordOpener<'a, A> {
@@ -95,7 +95,7 @@ impl<'a, A: Allocator + Copy> RecordOpener<'a, A> {
             (λ opener. Begun opener key.now prefix.now context.now [] header.now) }
         ensures progress { IfOk result (λ opener. opener
             ≡ progress_at key.now prefix.now context.now (first_position opener.version)) }
-        ensures taken { IfOk result (λ opener. taken opener ≡ 4) }
+        ensures taken { IfOk result (λ opener. start_of opener ≡ HEADER_BYTES) }
         ensures refused { IfErr result (λ e. (e ≡ RecordError.OutOfMemory)
             ⊎ ((more : List ℕ) → (length header.now < 4 → more ≡ [])
             → IsFault key.now prefix.now context.now (header.now ++ more) e)) }
@@ -103,7 +103,7 @@ impl<'a, A: Allocator + Copy> RecordOpener<'a, A> {
         let Some((version, _)) = version_of(header) else {
             return Err(RecordError::Header);
         };
-        let ad = Vec::with_capacity(alloc, RecordPlace::DATA_BYTES + context.len())?;
+        let ad = Vec::with_capacity(alloc, DATA_BYTES + context.len())?;
         Ok(RecordOpener {
             alloc,
             cipher: RecordCipher {
@@ -135,12 +135,12 @@ impl<'a, A: Allocator + Copy> RecordOpener<'a, A> {
         position: RecordPosition,
     ) -> Result<Self, RecordError>
         requires context_within { length context.now ≤ MAX_CONTEXT_BYTES }
-        requires position_within { 4 + 37 * position.number + position.before ≤ MAX_AEAD_BYTES }
+        requires position_within { start_at position.number position.before ≤ MAX_AEAD_BYTES }
         ensures progress { IfOk result (λ opener. opener
             ≡ progress_at key.now prefix.now context.now position) }
         ensures err { IfErr result (λ e. e ≡ RecordError.OutOfMemory) }
     {
-        let ad = Vec::with_capacity(alloc, RecordPlace::DATA_BYTES + context.len())?;
+        let ad = Vec::with_capacity(alloc, DATA_BYTES + context.len())?;
         Ok(RecordOpener {
             alloc,
             cipher: RecordCipher {
@@ -169,7 +169,7 @@ impl<'a, A: Allocator + Copy> RecordOpener<'a, A> {
 
     /// Returns how many more bytes of the stream may be opened.
     pub fn remaining(&self) -> u64
-        ensures { result ≡ MAX_AEAD_BYTES - taken self.now }
+        ensures { result ≡ MAX_AEAD_BYTES - start_of self.now }
     {
         MAX_AEAD_BYTES - (HEADER_BYTES + RECORD_BYTES * self.number + self.before)
     }
@@ -205,7 +205,7 @@ impl<'a, A: Allocator + Copy> RecordOpener<'a, A> {
     /// The error is the first fault of the stream, or [`RecordError::OutOfMemory`], and leaves the opener as it was. After the
     /// last record it is always [`RecordError::Trailing`].
     pub fn open_next<'b>(&mut self, bytes: &'b [u8]) -> Result<Opened<'b, A>, RecordError>
-        requires { taken self.old + length bytes.now ≤ MAX_AEAD_BYTES }
+        requires { start_of self.old + length bytes.now ≤ MAX_AEAD_BYTES }
         ensures next { IfOk result (λ opened. OnFalse opened.is_last
             (bytes.now ≡ record_of self.old 0 opened.message.items ++ opened.rest.now)) }
         ensures begun { IfOk result (λ opened. OnFalse opened.is_last
@@ -234,8 +234,8 @@ impl<'a, A: Allocator + Copy> RecordOpener<'a, A> {
             → (e ≡ RecordError.OutOfMemory) ⊎ IsRecordFault self.old bytes.now e) }
         ensures within { IfOk result
             (λ opened. length opened.message.items ≤ limit self.old.version) }
-        ensures taken { IfOk result (λ opened. taken self.new + length opened.rest.now
-            ≡ taken self.old + length bytes.now) }
+        ensures taken { IfOk result (λ opened. start_of self.new + length opened.rest.now
+            ≡ start_of self.old + length bytes.now) }
         ensures after_the_last { IsTrue self.old.ended → result ≡ Err RecordError.Trailing }
         ensures ended { IfOk result (λ opened. self.new.ended ≡ opened.is_last) }
         ensures refused { IfErr result (λ e. (e ≡ RecordError.OutOfMemory)

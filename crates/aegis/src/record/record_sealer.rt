@@ -3,7 +3,7 @@
 ghost use Rattle.std.specs.Prelude.{◌≡◌, ◌+◌, ◌-◌, ◌≤◌, ◌++◌, ◌∷◌, [], IfErr, IfOk, List, OnErr, OnOk, false, length, ℕ};
 ghost use Rattle.aegis_base.specs.declared.error.TheConstants.{MAX_AEAD_BYTES};
 ghost use Rattle.aegis.specs.Calls.{frame_at};
-ghost use Rattle.aegis.specs.Progress.{Begun, after, first_position, position_of, progress_at, record_of, taken};
+ghost use Rattle.aegis.specs.Progress.{Begun, after, first_position, position_of, progress_at, record_of, start_of};
 ghost use Rattle.aegis.specs.Records.{AreRecords};
 ghost use Rattle.aegis.specs.RecordStream.{header, limit};
 ghost use Rattle.aegis.specs.declared.record.version.Version.TheVariants.{Second};
@@ -12,7 +12,7 @@ use crate::aegis256::Key;
 use crate::record::error::RecordError;
 use crate::record::length::{HEADER_BYTES, RECORD_BYTES};
 use crate::record::position::RecordPosition;
-use crate::record::record_cipher::{MAX_CONTEXT_BYTES, RecordCipher, RecordPlace};
+use crate::record::record_cipher::{DATA_BYTES, MAX_CONTEXT_BYTES, RecordCipher, RecordPlace};
 use crate::record::version::{MAX_MESSAGE_BYTES, Version};
 use aegis_base::MAX_AEAD_BYTES;
 use std::alloc::Allocator;
@@ -86,7 +86,7 @@ pub struct RecordSealer<'a, A: Allocator> {
 impl<'a, A: Allocator> Model for RecordSealer<'a, A> {
     ghost use Rattle.std.specs.Prelude.{◌+◌, ◌*◌, ◌≤◌, false, length};
     ghost use Rattle.aegis_base.specs.declared.error.TheConstants.{MAX_AEAD_BYTES};
-    ghost use Rattle.aegis.specs.Progress.{Progress};
+    ghost use Rattle.aegis.specs.Progress.{Progress, start_at};
     ghost use Rattle.aegis.specs.declared.record.record_cipher.TheConstants.{MAX_CONTEXT_BYTES};
     ghost use Rattle.aegis.specs.declared.record.version.Version.TheVariants.{Second};
 
@@ -103,7 +103,7 @@ impl<'a, A: Allocator> Model for RecordSealer<'a, A> {
     } };
 
     ghost invariant = { λ s. (length s.cipher.context.now ≤ MAX_CONTEXT_BYTES)
-        × (4 + 37 * s.number + s.before ≤ MAX_AEAD_BYTES) };
+        × (start_at s.number s.before ≤ MAX_AEAD_BYTES) };
 }
 
 impl<'a, A: Allocator + Copy> RecordSealer<'a, A> {
@@ -124,11 +124,11 @@ impl<'a, A: Allocator + Copy> RecordSealer<'a, A> {
             (λ sealer. Begun sealer key.now prefix.now context.now [] (header Second)) }
         ensures progress { IfOk result (λ sealer. sealer
             ≡ progress_at key.now prefix.now context.now (first_position Second)) }
-        ensures taken { IfOk result (λ sealer. taken sealer ≡ 4) }
+        ensures taken { IfOk result (λ sealer. start_of sealer ≡ HEADER_BYTES) }
         ensures err { IfErr result (λ e. e ≡ RecordError.OutOfMemory) }
         ensures unchanged { OnErr result (out.new.items ≡ out.old.items) }
     {
-        let ad = Vec::with_capacity(alloc, RecordPlace::DATA_BYTES + context.len())?;
+        let ad = Vec::with_capacity(alloc, DATA_BYTES + context.len())?;
         out.extend_from_slice(WRITTEN.header())?;
         Ok(RecordSealer {
             cipher: RecordCipher {
@@ -144,7 +144,7 @@ impl<'a, A: Allocator + Copy> RecordSealer<'a, A> {
 
     /// Returns how many more bytes the stream may have. A record takes [`RECORD_BYTES`] and the length of its message.
     pub fn remaining(&self) -> u64
-        ensures { result ≡ MAX_AEAD_BYTES - taken self.now }
+        ensures { result ≡ MAX_AEAD_BYTES - start_of self.now }
     {
         MAX_AEAD_BYTES - (HEADER_BYTES + RECORD_BYTES * self.number + self.before)
     }
@@ -169,7 +169,7 @@ impl<'a, A: Allocator + Copy> RecordSealer<'a, A> {
     /// message differs from that of the failed call.
     pub fn seal_next(&mut self, message: &[u8], out: &mut Vec<u8, A>) -> Result<(), RecordError>
         requires within { length message.now ≤ MAX_MESSAGE_BYTES }
-        requires fits { taken self.old + (37 + length message.now) ≤ MAX_AEAD_BYTES }
+        requires fits { start_of self.old + (RECORD_BYTES + length message.now) ≤ MAX_AEAD_BYTES }
         ensures appended { OnOk result
             (out.new.items ≡ out.old.items ++ record_of self.old 0 message.now) }
         ensures begun { OnOk result
@@ -179,9 +179,9 @@ impl<'a, A: Allocator + Copy> RecordSealer<'a, A> {
             (ms ++ message.now ∷ []) (bytes ++ record_of self.old 0 message.now)) }
         ensures progress { OnOk result (self.new ≡ after self.old false message.now) }
         ensures taken { OnOk result
-            (taken self.new ≡ taken self.old + (37 + length message.now)) }
+            (start_of self.new ≡ start_of self.old + (RECORD_BYTES + length message.now)) }
         ensures length { OnOk result
-            (length out.new.items ≡ length out.old.items + (37 + length message.now)) }
+            (length out.new.items ≡ length out.old.items + (RECORD_BYTES + length message.now)) }
         ensures err { IfErr result (λ e. e ≡ RecordError.OutOfMemory) }
         ensures unchanged { OnErr result (self.new ≡ self.old) }
         ensures kept { OnErr result (out.new.items ≡ out.old.items) }
@@ -205,7 +205,7 @@ impl<'a, A: Allocator + Copy> RecordSealer<'a, A> {
     /// only error; `out` is then as it was, and the stream has no end.
     pub fn seal_last(self, message: &[u8], out: &mut Vec<u8, A>) -> Result<(), RecordError>
         requires within { length message.now ≤ MAX_MESSAGE_BYTES }
-        requires fits { taken self + (37 + length message.now) ≤ MAX_AEAD_BYTES }
+        requires fits { start_of self + (RECORD_BYTES + length message.now) ≤ MAX_AEAD_BYTES }
         ensures appended { OnOk result
             (out.new.items ≡ out.old.items ++ record_of self.entry 1 message.now) }
         ensures whole { OnOk result
@@ -214,7 +214,7 @@ impl<'a, A: Allocator + Copy> RecordSealer<'a, A> {
             → AreRecords Second key prefix context
             (ms ++ message.now ∷ []) (bytes ++ record_of self.entry 1 message.now)) }
         ensures length { OnOk result
-            (length out.new.items ≡ length out.old.items + (37 + length message.now)) }
+            (length out.new.items ≡ length out.old.items + (RECORD_BYTES + length message.now)) }
         ensures err { IfErr result (λ e. e ≡ RecordError.OutOfMemory) }
         ensures kept { OnErr result (out.new.items ≡ out.old.items) }
     {

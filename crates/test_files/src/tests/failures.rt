@@ -74,7 +74,7 @@ fn sealing_stops_where_a_write_fails(rt: HostRuntime) -> Result<(), Fail> {
     let whole = sealed(rt.alloc(), TEXT)?;
     for room in 0..whole.len() {
         let mut file = Narrow {
-            taken: Vec::new(rt.alloc()),
+            written: Vec::new(rt.alloc()),
             room,
             error: None,
             flushes: true,
@@ -85,7 +85,7 @@ fn sealing_stops_where_a_write_fails(rt: HostRuntime) -> Result<(), Fail> {
             matches!(result, Err(FileError::Write(_))),
             "with room {room}"
         );
-        assert_eq!(rt; file.taken.as_slice(), &whole[..room], "with room {room}");
+        assert_eq!(rt; file.written.as_slice(), &whole[..room], "with room {room}");
     }
     Ok(())
 }
@@ -95,7 +95,7 @@ fn opening_stops_where_a_write_fails(rt: HostRuntime) -> Result<(), Fail> {
     let file = three_records(rt.alloc(), &KEY, &PREFIX)?;
     for room in 0..TEXT.len() {
         let mut text = Narrow {
-            taken: Vec::new(rt.alloc()),
+            written: Vec::new(rt.alloc()),
             room,
             error: Some(ErrorKind::StorageFull),
             flushes: true,
@@ -106,7 +106,7 @@ fn opening_stops_where_a_write_fails(rt: HostRuntime) -> Result<(), Fail> {
             matches!(result, Err(FileError::Write(_))),
             "with room {room}"
         );
-        assert_eq!(rt; text.taken.as_slice(), &TEXT[..room], "with room {room}");
+        assert_eq!(rt; text.written.as_slice(), &TEXT[..room], "with room {room}");
     }
     Ok(())
 }
@@ -114,7 +114,7 @@ fn opening_stops_where_a_write_fails(rt: HostRuntime) -> Result<(), Fail> {
 // A writer that takes all bytes, and whose flush fails.
 fn without_flush(rt: &HostRuntime) -> Narrow {
     Narrow {
-        taken: Vec::new(rt.alloc()),
+        written: Vec::new(rt.alloc()),
         room: usize::MAX,
         error: None,
         flushes: false,
@@ -129,12 +129,12 @@ fn a_failed_flush_is_reported(rt: HostRuntime) -> Result<(), Fail> {
     let mut input = TEXT;
     let result = seal_stream(rt.alloc(), &KEY, &PREFIX, &CONTEXT, &mut input, &mut file);
     assert!(rt; matches!(result, Err(FileError::Write(_))));
-    assert_eq!(rt; file.taken.as_slice(), whole.as_slice());
+    assert_eq!(rt; file.written.as_slice(), whole.as_slice());
     let mut text = without_flush(&rt);
     let mut input = whole.as_slice();
     let result = open_stream(rt.alloc(), &KEY, &CONTEXT, &mut input, &mut text);
     assert!(rt; matches!(result, Err(FileError::Write(_))));
-    assert_eq!(rt; text.taken.as_slice(), TEXT);
+    assert_eq!(rt; text.written.as_slice(), TEXT);
     Ok(())
 }
 

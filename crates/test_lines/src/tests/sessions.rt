@@ -158,16 +158,16 @@ fn stops_where_a_write_fails(rt: HostRuntime) -> Result<(), Fail> {
     for room in 0..wanted.len() {
         for error in [None, Some(ErrorKind::Other), Some(ErrorKind::Interrupted)] {
             let mut output = Narrow {
-                taken: Vec::new(rt.alloc()),
+                written: Vec::new(rt.alloc()),
                 room,
                 error,
                 flushes: true,
             };
             let status = run(rt.alloc(), &mut input.as_bytes(), &mut output);
             assert_eq!(rt; status, 2, "with room {room}");
-            assert_eq!(rt; output.taken.len(), room, "with room {room}");
+            assert_eq!(rt; output.written.len(), room, "with room {room}");
             assert!(rt;
-                wanted.as_bytes().starts_with(&output.taken),
+                wanted.as_bytes().starts_with(&output.written),
                 "with room {room}"
             );
         }
@@ -181,14 +181,14 @@ fn writes_a_byte_at_a_time(rt: HostRuntime) -> Result<(), Fail> {
     let (input, wanted) = three_lines(&rt)?;
     for (flushes, expected) in [(true, 0), (false, 2)] {
         let mut output = Narrow {
-            taken: Vec::new(rt.alloc()),
+            written: Vec::new(rt.alloc()),
             room: wanted.len(),
             error: None,
             flushes,
         };
         let status = run(rt.alloc(), &mut input.as_bytes(), &mut output);
         assert_eq!(rt; status, expected);
-        assert_eq!(rt; output.taken.as_slice(), wanted.as_bytes());
+        assert_eq!(rt; output.written.as_slice(), wanted.as_bytes());
     }
     Ok(())
 }

@@ -5,14 +5,14 @@ ghost use Rattle.std.specs.Bool.{OnFalse, OnTrue};
 ghost use Rattle.aegis_base.specs.declared.error.TheConstants.{MAX_AEAD_BYTES};
 ghost use Rattle.aegis.specs.Calls.{IsRecord, OpensInPlaceTo, message_at, message_of, rest_at, rest_of, sealing_of, with_erased, with_message};
 ghost use Rattle.aegis.specs.Fault.{HasFault, parts};
-ghost use Rattle.aegis.specs.Progress.{AreRecordsOfSomeVersion, Begun, IsRecordFault, after, record_of, taken};
+ghost use Rattle.aegis.specs.Progress.{AreRecordsOfSomeVersion, Begun, IsRecordFault, after, record_of, start_of};
 ghost use Rattle.aegis.specs.Records.{IsFault};
 ghost use Rattle.aegis.specs.RecordStream.{limit};
 
 use crate::record::error::RecordError;
 use crate::record::frame::{Frame, TAG_BYTES};
-use crate::record::length::RECORD_HEAD_BYTES;
-use crate::record::record_cipher::{MAX_CONTEXT_BYTES, RecordCipher, RecordPlace};
+use crate::record::length::{RECORD_BYTES, RECORD_HEAD_BYTES};
+use crate::record::record_cipher::{DATA_BYTES, MAX_CONTEXT_BYTES, RecordCipher, RecordPlace};
 use crate::record::record_opener::RecordOpener;
 use crate::record::version::Version;
 use aegis_base::MAX_AEAD_BYTES;
@@ -40,7 +40,7 @@ fn open_record_in_place<A: Allocator>(
     bytes: &mut [u8],
 ) -> Result<(u8, usize), RecordError>
     requires context { length cipher.now.context.now ≤ MAX_CONTEXT_BYTES }
-    requires room { 21 + length cipher.now.context.now ≤ vec_capacity ad.old }
+    requires room { DATA_BYTES + length cipher.now.context.now ≤ vec_capacity ad.old }
     ensures opened { IfOk result
         (λ found. IsRecord (sealing_of cipher.now) version number before found.0
         (message_at found.1 bytes.new) (rest_at found.1 bytes.new) bytes.old) }
@@ -82,7 +82,7 @@ impl<'a, A: Allocator + Copy> RecordOpener<'a, A> {
     /// [`RecordError::Damaged`], every byte of the ciphertext is [`ERASED`](crate::ERASED) and the others are as they were; after
     /// any other error `bytes` are as they were. After the last record the error is always [`RecordError::Trailing`].
     pub fn open_next_in_place(&mut self, bytes: &mut [u8]) -> Result<OpenedInPlace, RecordError>
-        requires { taken self.old + length bytes.old ≤ MAX_AEAD_BYTES }
+        requires { start_of self.old + length bytes.old ≤ MAX_AEAD_BYTES }
         ensures next { IfOk result (λ opened. OnFalse opened.is_last
             (bytes.old ≡ record_of self.old 0 (message_of opened bytes.new)
             ++ rest_of opened bytes.new)) }
@@ -120,9 +120,9 @@ impl<'a, A: Allocator + Copy> RecordOpener<'a, A> {
         ensures kept { IfErr result (λ e. e ≢ RecordError.Damaged self.old.number
             → bytes.new ≡ bytes.old) }
         ensures within { IfOk result (λ opened. opened.message_len ≤ limit self.old.version) }
-        ensures taken { IfOk result (λ opened. taken self.new + length (rest_of opened bytes.new)
-            ≡ taken self.old + length bytes.old) }
-        ensures size { IfOk result (λ opened. 37 + opened.message_len
+        ensures taken { IfOk result (λ opened. start_of self.new + length (rest_of opened bytes.new)
+            ≡ start_of self.old + length bytes.old) }
+        ensures size { IfOk result (λ opened. RECORD_BYTES + opened.message_len
             + length (rest_of opened bytes.new) ≡ length bytes.old) }
         ensures after_the_last { IsTrue self.old.ended → result ≡ Err RecordError.Trailing }
         ensures ended { IfOk result (λ opened. self.new.ended ≡ opened.is_last) }

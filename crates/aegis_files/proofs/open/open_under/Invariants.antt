@@ -1,6 +1,6 @@
 use Rattle.std.proofs.Common.{◌-◌}
 use Rattle.aegis_base.specs.declared.error.TheConstants.{MAX_AEAD_BYTES}
-use Rattle.aegis.specs.Progress.{taken}
+use Rattle.aegis.specs.Progress.{start_of}
 use Rattle.aegis_files.proofs.Opening.{OpensSome}
 use Rattle.aegis_files.proofs.open.open_under.Given as goal
 
@@ -9,4 +9,4 @@ invariant-records g l = OpensSome l.opener l.fn.key l.fn.prefix l.fn.context (g.
     (g.W.Write.contents l.fn.output) (g.W.Write.contents l.output)
 
 abbrev pub decreases-records : goal.decreases-records
-decreases-records g l = MAX_AEAD_BYTES - taken l.opener
+decreases-records g l = MAX_AEAD_BYTES - start_of l.opener

@@ -1,6 +1,6 @@
 use Rattle.std.proofs.Common.{◌≡◌, ◌-◌, length}
 use Rattle.aegis_base.specs.declared.error.TheConstants.{MAX_AEAD_BYTES}
-use Rattle.aegis.specs.Progress.{taken}
+use Rattle.aegis.specs.Progress.{start_of}
 use Rattle.aegis_files.specs.declared.seal.TheConstants.{PIECE_BYTES}
 use Rattle.aegis_files.proofs.Sealing.{SealsSome}
 use Rattle.aegis_files.proofs.seal.seal_stream.Given as goal
@@ -13,4 +13,4 @@ invariant-pieces g l = record {
 }
 
 abbrev pub decreases-pieces : goal.decreases-pieces
-decreases-pieces g l = MAX_AEAD_BYTES - taken l.sealer
+decreases-pieces g l = MAX_AEAD_BYTES - start_of l.sealer

@@ -1,7 +1,7 @@
 use Rattle.std.proofs.Common.{◌≡◌, ◌++◌, ◌∷◌, ◌∙◌, List, [], ap, append_assoc, arith, inr, length, refl, subst, sym, ℕ}
 use Rattle.std.proofs.lemmas.List.{length-append}
 use Rattle.std.proofs.lemmas.Result.{err_from_is_err_and}
-use Rattle.aegis.specs.Progress.{Progress, record_of, taken}
+use Rattle.aegis.specs.Progress.{Progress, record_of, start_of}
 use Rattle.aegis.specs.Records.{AreRecords, sealed}
 use Rattle.aegis.specs.RecordStream.{header}
 use Rattle.aegis.specs.declared.record.version.Version.TheVariants.{Second}
@@ -21,7 +21,7 @@ records-init g c =
     let progress = c.in_ok-opener.ensures.progress in
     let made : c.new.new.out.items ≡ header Second =
     c.in_ok-sealer.ensures.appended ∙ ap (λ (l : List ℕ). l ++ header Second) c.in_ok-stream.ensures.items in
-    let counted = ap taken progress in
+    let counted = ap start_of progress in
     record {
       so_far = record {
         messages = [];
@@ -108,7 +108,7 @@ records-preserved g c =
     let next = rw c.if-opened.false at c.in_ok-opened.ensures.next in
     let value = c.deref-in-records.ensures.value in
     let grown = c.in_ok-seal_next.ensures.begun a.key.now a.new_prefix.now a.context.now s.messages c.records.stream.items s.sealed in
-    let opened_more = ap taken c.in_ok-opened.ensures.progress in
+    let opened_more = ap start_of c.in_ok-opened.ensures.progress in
     let sealed_more = c.in_ok-seal_next.ensures.taken in
     let before = s.same in
     record {

@@ -1,6 +1,6 @@
 use Rattle.std.proofs.Common.{◌≡◌, ◌+◌, ◌-◌, ◌++◌, ◌∙◌, [], List, add-one, ap, arith, drop, length, subst, take, ℕ}
 use Rattle.aegis_base.specs.Chunks.{texts}
-use Rattle.aegis.specs.Progress.{Begun, taken}
+use Rattle.aegis.specs.Progress.{Begun, start_of}
 use Rattle.aegis.specs.Records.{AreRecords, sealed}
 use Rattle.aegis.specs.RecordStream.{frames_length, header, records_length}
 use Rattle.aegis.specs.declared.record.version.Version.TheVariants.{Second}
@@ -50,7 +50,7 @@ seal_last-requires g c =
     let end = c.records.auto.number-end in
     let at : c.records.number ≡ length ms - 1 = omega arith in
     let sizes = ap frames_length (drop_texts ms (length ms - 1) (record { ref_ptr = (0, 0); now = [] }) (omega arith)) in
-    let counted = subst (λ (k : ℕ). taken c.records.sealer + frames_length (drop k (texts ms)) ≡ records_length (texts ms)) at c.records.invariant.counted in
+    let counted = subst (λ (k : ℕ). start_of c.records.sealer + frames_length (drop k (texts ms)) ≡ records_length (texts ms)) at c.records.invariant.counted in
     let fits = c.requires.fits in
     record { within = within_at Second ms (length ms - 1) _ (omega arith) c.requires.within; fits = omega arith }
 
