@@ -120,13 +120,15 @@ impl<'a, A: Allocator + Copy> GrowingStream<'a, A> {
     /// Appends a message. On an error the stream is as it was.
     pub fn push(&mut self, message: &[u8]) -> Result<(), RecordError>
         requires within { length message.now ≤ MAX_MESSAGE_BYTES }
-        requires fits { start_of self.old.sealer + (RECORD_BYTES + length message.now) ≤ MAX_AEAD_BYTES }
+        requires fits { start_of self.old.sealer + (RECORD_BYTES + length message.now)
+            ≤ MAX_AEAD_BYTES }
         ensures pushed { OnOk result ((key prefix context : List ℕ) (ms : List (List ℕ))
             → Begun self.old.sealer key prefix context ms self.old.bytes.items
             → Begun self.new.sealer key prefix context
             (ms ++ message.now ∷ []) self.new.bytes.items) }
         ensures taken { OnOk result
-            (start_of self.new.sealer ≡ start_of self.old.sealer + (RECORD_BYTES + length message.now)) }
+            (start_of self.new.sealer
+            ≡ start_of self.old.sealer + (RECORD_BYTES + length message.now)) }
         ensures kept { OnErr result (self.new.sealer ≡ self.old.sealer) }
     {
         self.sealer.seal_next(message, &mut self.bytes)
@@ -135,7 +137,8 @@ impl<'a, A: Allocator + Copy> GrowingStream<'a, A> {
     /// Appends the last message: the bytes are the stream of the list.
     pub fn finish(self, message: &[u8]) -> Result<Vec<u8, A>, RecordError>
         requires within { length message.now ≤ MAX_MESSAGE_BYTES }
-        requires fits { start_of self.sealer + (RECORD_BYTES + length message.now) ≤ MAX_AEAD_BYTES }
+        requires fits { start_of self.sealer + (RECORD_BYTES + length message.now)
+            ≤ MAX_AEAD_BYTES }
         ensures { IfOk result (λ stream. (key prefix context : List ℕ) (ms : List (List ℕ))
             → Begun self.entry.sealer key prefix context ms self.entry.bytes.items
             → AreRecords Second key prefix context (ms ++ message.now ∷ []) stream.items) }
