@@ -1,5 +1,5 @@
 -- A buffer that is filled from its front.
-use Rattle.std.proofs.Common.{◌≡◌, ℕ, zero, suc, replicate, ◌+◌, ◌-◌, ◌≤◌, List, ◌++◌, Option, refl, arith, length, take, drop, slice_range, sym, ap, ◌∙◌, subst, le_refl, drop_at, length-take-le}
+use Rattle.std.proofs.Common.{◌≡◌, ℕ, replicate, ◌+◌, ◌-◌, ◌≤◌, List, ◌++◌, Option, refl, arith, length, take, drop, slice_range, sym, ap, ◌∙◌, subst, le_refl, drop_at, length-take-le}
 use Rattle.std.proofs.lemmas.Slice.{take-put_mid_below}
 use Rattle.std.specs.Io.KnownBytes.{Consumes}
 use Rattle.std.proofs.KnownBytes.{Consumes-trans}
@@ -22,24 +22,24 @@ slice_range-put_mid a k n xs ys within fits =
     ap (take ((a + n) - a)) (drop_at (take a xs) (ys ++ after) a (length-take-le a xs within)) ∙ ap (λ (m : ℕ). take m (ys ++ after)) same ∙ take-append-le n ys after fits
 
 -- one more read, after the bytes that are filled already
-pub filled_more : {a b c : Option (List ℕ)} {from n : ℕ} {old part : List ℕ} → from ≤ length old → n ≤ length part
+pub filled_more : (a b c : Option (List ℕ)) (from n : ℕ) (old part : List ℕ) → from ≤ length old → n ≤ length part
     → Consumes a b (take from old) → Consumes b c (take n part) → Consumes a c (take (from + n) (put_mid from (length old - from) old part))
-filled_more {a} {b} {c} {from} {n} {old} {part} within fits before read =
+filled_more a b c from n old part within fits before read =
     let room : ℕ = length old - from in
     let mid = slice_range-put_mid from room n old part within fits in
     let front = take_split from (from + n) old (put_mid from room old part) (omega arith) (take-put_mid_below _ _ _ _ _ (le_refl _) within) in
     subst (Consumes a c) (ap (λ (l : List ℕ). take from old ++ l) (sym mid) ∙ front) (Consumes-trans a b c (take from old) (take n part) before read)
 
 -- a read that failed
-pub filled_same : {a c : Option (List ℕ)} {from : ℕ} {old part : List ℕ} → from ≤ length old → Consumes a c (take from old)
+pub filled_same : (a c : Option (List ℕ)) (from : ℕ) (old part : List ℕ) → from ≤ length old → Consumes a c (take from old)
     → Consumes a c (take from (put_mid from (length old - from) old part))
-filled_same {a} {c} {from} {old} {part} within before = subst (Consumes a c) (sym (take-put_mid_below _ _ _ _ _ (le_refl _) within)) before
+filled_same a c from old part within before = subst (Consumes a c) (sym (take-put_mid_below _ _ _ _ _ (le_refl _) within)) before
 
 -- a vector that was made longer, after the first n of its new bytes were filled and the rest cut off
-pub appended : {A : Type 0} {all old zeros part : List ℕ} {start n : ℕ} (v : Vec ℕ A) → all ≡ v.items → v.items ≡ old ++ zeros → start ≡ length old
+pub appended : {A : Type 0} (v : Vec ℕ A) (all old zeros part : List ℕ) (start n : ℕ) → all ≡ v.items → v.items ≡ old ++ zeros → start ≡ length old
     → length part ≡ length zeros → n ≤ length part
     → take (start + n) (with_items v (put_mid start (length all - start) all part)).items ≡ old ++ take n part
-appended {A} {all} {old} {zeros} {part} {start} {n} v is e long same fits =
+appended v all old zeros part start n is e long same fits =
     ap (take (start + n)) (with_items_is v (put_mid start (length all - start) all part)
     (omega (arith, ap length put, ap length e, same, length-append old part, length-append old zeros, v.ok.0)) ∙ put)
     ∙ ap (λ (k : ℕ). take (k + n) (old ++ part)) long ∙ take-append-add old part n
@@ -56,16 +56,16 @@ appended {A} {all} {old} {zeros} {part} {start} {n} v is e long same fits =
         )
         refl
 
-pub put_part : {from : ℕ} {old part : List ℕ} → from ≤ length old → length part ≡ length (take (length old - from) (drop from old)) → length part + from ≡ length old
-put_part {from} {old} {part} within same =
+pub put_part : (from : ℕ) (old part : List ℕ) → from ≤ length old → length part ≡ length (take (length old - from) (drop from old)) → length part + from ≡ length old
+put_part from old part within same =
     omega (arith, same, length-take (length old - from) (drop from old), length-drop from old)
 
-pub put_long : {from : ℕ} {old part : List ℕ} → from ≤ length old → length part ≡ length (take (length old - from) (drop from old))
+pub put_long : (from : ℕ) (old part : List ℕ) → from ≤ length old → length part ≡ length (take (length old - from) (drop from old))
     → length (put_mid from (length old - from) old part) ≡ length old
-put_long {from} {old} {part} within same =
+put_long from old part within same =
     let room : ℕ = length old - from in
     let after : List ℕ = post_of from room old in
-    let size = put_part {from} {old} {part} within same in
+    let size = put_part from old part within same in
     let rest : length after ≡ 0 = omega (arith, length-drop room (drop from old), length-drop from old) in
     omega (arith, size, rest, length-append (take from old) (part ++ after), length-append part after, length-take-le from old within)
 
