@@ -1,6 +1,6 @@
 //! Record streams, a record at a time.
 
-ghost use Rattle.std.specs.Prelude.{◌≡◌, ◌+◌, ◌≤◌, ◌++◌, ◌∷◌, [], IfErr, IfOk, IfSome, List, OnErr, OnOk, length, ℕ};
+ghost use Rattle.std.specs.Prelude.{◌≡◌, ◌+◌, ◌≤◌, ◌++◌, ◌∷◌, [], IfOk, IfSome, List, OnErr, OnOk, length, ℕ};
 ghost use Rattle.aegis.specs.Progress.{AreRecordsOfSomeVersion, Begun, start_of};
 ghost use Rattle.aegis.specs.Records.{AreRecords};
 ghost use Rattle.aegis.specs.declared.record.version.Version.TheVariants.{Second};
@@ -62,34 +62,6 @@ pub fn open_two<A: Allocator + Copy>(
     } else {
         Ok(None)
     }
-}
-
-/// Seals two messages and opens them again, one at a time. What a sealer wrote opens, unless memory runs out.
-pub fn sealed_and_opened<A: Allocator + Copy>(
-    alloc: A,
-    key: &[u8; 32],
-    prefix: &[u8; 24],
-    context: &[u8],
-    first: &[u8],
-    second: &[u8],
-) -> Result<(Vec<u8, A>, Vec<u8, A>), RecordError>
-    requires context_within { length context.now ≤ MAX_CONTEXT_BYTES }
-    requires first_within { length first.now ≤ MAX_MESSAGE_BYTES }
-    requires second_within { length second.now ≤ MAX_MESSAGE_BYTES }
-    ensures opened { IfOk result
-        (λ pair. (pair.0.items ≡ first.now) × (pair.1.items ≡ second.now)) }
-    ensures refused { IfErr result (λ e. e ≡ RecordError.OutOfMemory) }
-{
-    let mut header = Vec::new(alloc);
-    let mut sealer = RecordSealer::new(alloc, key, prefix, context, &mut header)?;
-    let position = sealer.position();
-    let mut records = Vec::new(alloc);
-    sealer.seal_next(first, &mut records)?;
-    sealer.seal_last(second, &mut records)?;
-    let mut opener = RecordOpener::begin_at(alloc, key, prefix, context, position)?;
-    let one = opener.open_next(&records)?;
-    let two = opener.open_next(one.rest)?;
-    Ok((one.message, two.message))
 }
 
 /// A stream that grows by a record for each message, in a loop of its user: what its calls say holds of any list of messages.

@@ -150,6 +150,9 @@ fn seal_by_steps<A: Allocator + Copy>(alloc: A, message: &[u8]) -> Option<()> {
     let mut record = Vec::with_capacity(alloc, PIECE_BYTES + RECORD_BYTES as usize).ok()?;
     let mut sealer = RecordSealer::new(alloc, &KEY, &PREFIX, &[], &mut record).ok()?;
     seal_pieces(&mut sealer, &mut record, message)?;
+    if sealer.remaining() < RECORD_BYTES {
+        return None;
+    }
     sealer.seal_last(&[], &mut record).ok()
 }
 
