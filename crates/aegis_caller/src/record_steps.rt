@@ -1,6 +1,6 @@
 //! Record streams, a record at a time.
 
-ghost use Rattle.std.specs.Prelude.{◌≡◌, ◌+◌, ◌≤◌, ◌++◌, ◌∷◌, [], IfOk, IfSome, List, OnErr, OnOk, length, ℕ};
+ghost use Rattle.std.specs.Prelude.{◌≡◌, ◌+◌, ◌≤◌, ◌++◌, ◌∷◌, [], IfErr, IfOk, IfSome, List, OnErr, OnOk, length, ℕ};
 ghost use Rattle.aegis.specs.Progress.{AreRecordsOfSomeVersion, Begun, start_of};
 ghost use Rattle.aegis.specs.Records.{AreRecords};
 ghost use Rattle.aegis.specs.declared.record.version.Version.TheVariants.{Second};
@@ -62,6 +62,32 @@ pub fn open_two<A: Allocator + Copy>(
     } else {
         Ok(None)
     }
+}
+
+/// Seals a last record and opens it again, in front of any bytes. What a sealer wrote opens, unless memory runs out.
+pub fn sealed_and_opened<A: Allocator + Copy>(
+    alloc: A,
+    key: &[u8; 32],
+    prefix: &[u8; 24],
+    context: &[u8],
+    message: &[u8],
+    after: &[u8],
+) -> Result<Vec<u8, A>, RecordError>
+    requires context_within { length context.now ≤ MAX_CONTEXT_BYTES }
+    requires message_within { length message.now ≤ MAX_MESSAGE_BYTES }
+    requires after_within { length after.now ≤ MAX_MESSAGE_BYTES }
+    ensures opened { IfOk result (λ opened. opened.items ≡ message.now) }
+    ensures refused { IfErr result (λ e. e ≡ RecordError.OutOfMemory) }
+{
+    let mut header = Vec::new(alloc);
+    let sealer = RecordSealer::new(alloc, key, prefix, context, &mut header)?;
+    let position = sealer.position();
+    let mut records = Vec::new(alloc);
+    sealer.seal_last(message, &mut records)?;
+    records.extend_from_slice(after)?;
+    let mut opener = RecordOpener::begin_at(alloc, key, prefix, context, position)?;
+    let opened = opener.open_next(&records)?;
+    Ok(opened.message)
 }
 
 /// A stream that grows by a record for each message, in a loop of its user: what its calls say holds of any list of messages.
