@@ -3,6 +3,7 @@
 ghost use Rattle.std.specs.Prelude.{◌≡◌, ◌+◌, ◌≤◌, ◌++◌, ◌∷◌, [], IfErr, IfOk, IfSome, List, OnErr, OnOk, length, ℕ};
 ghost use Rattle.aegis.specs.Progress.{AreRecordsOfSomeVersion, Begun, start_of};
 ghost use Rattle.aegis.specs.Records.{AreRecords};
+ghost use Rattle.aegis.specs.declared.record.length.TheConstants.{HEADER_BYTES};
 ghost use Rattle.aegis.specs.declared.record.version.Version.TheVariants.{Second};
 
 use aegis::MAX_AEAD_BYTES;
@@ -108,7 +109,7 @@ impl<'a, A: Allocator + Copy> GrowingStream<'a, A> {
         requires { length context.now ≤ MAX_CONTEXT_BYTES }
         ensures begun { IfOk result (λ stream. Begun stream.sealer
             key.now prefix.now context.now [] stream.bytes.items) }
-        ensures taken { IfOk result (λ stream. taken stream.sealer ≡ 4) }
+        ensures taken { IfOk result (λ stream. start_of stream.sealer ≡ HEADER_BYTES) }
     {
         let mut bytes = Vec::new(alloc);
         let sealer = RecordSealer::new(alloc, key, prefix, context, &mut bytes)?;
