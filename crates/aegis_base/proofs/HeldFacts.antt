@@ -1,14 +1,12 @@
 -- What the values that seal or open a message stand for, as the message continues and at its end.
 use Rattle.std.proofs.Common.{◌≡◌, ◌∙◌, sym, ap, refl, ℕ, ◌+◌, ◌/◌, ◌<◌, List, [], ◌++◌, length, bit_xor, slice_index, arith}
-use Rattle.std.proofs.Math.Nat.{div-eq_of_lt, zero-div}
+use Rattle.std.proofs.Math.Nat.{zero-div}
 use Rattle.std.proofs.lemmas.List.{length-append}
 use Rattle.std.proofs.lemmas.List.FromFn.{get_or-map-range_with_len}
 use Rattle.aegis_aes.specs.Lanes.{IsLaneCount}
 use Rattle.aegis_base.specs.Variant.{Variant, rate}
-use Rattle.aegis_base.specs.Lane.{start}
-use Rattle.aegis_base.specs.Message.{after, block_count, ciphertext, lane_before, keystream_byte_along}
+use Rattle.aegis_base.specs.Message.{block_count, ciphertext, lane_before, keystream_byte_along}
 use Rattle.aegis_base.specs.Run.{HasFrom, IsAlong, Stands, held_by, lane_in, lanes_of}
-use Rattle.aegis_base.proofs.MessageFacts.{after-none, rate-positive}
 use Rattle.aegis_base.proofs.AppendFacts.{along-longer, along-none, ciphertext-append, has-after}
 
 -- ---- the lanes that are held

@@ -67,6 +67,7 @@ impl<S: LaneState, V: Names, const KEY_BYTES: usize, const TAG_BYTES: usize> fmt
 
 impl<S: LaneState> Run<S> {
     // The lanes after the input. An empty input is taken in as a rate block of zeros.
+    #[inline(always)]
     fn input_lanes(&self) -> S
         requires { self.now.message_bytes ≤ MAX_AEAD_BYTES }
         ensures lanes { (key nonce x : List ℕ) → Stands S.VARIANT self.now key nonce [] x
@@ -84,6 +85,7 @@ impl<S: LaneState> Run<S> {
     }
 
     /// Returns the MAC of the input of a run without associated data.
+    #[inline(always)]
     pub fn mac<const TAG_BYTES: usize>(&self) -> [u8; TAG_BYTES]
         requires tag_bytes { IsTagLength TAG_BYTES }
         requires within { self.now.message_bytes ≤ MAX_AEAD_BYTES }

@@ -1,7 +1,7 @@
 -- The facts that hold if opening fails.
 use Rattle.std.proofs.Common.{◌≡◌, ◌⊎◌, ℕ, ◌+◌, ◌<◌, Bool, true, false, List, [], ◌∷◌, ◌++◌, Option, None, Some, IfErr, IfSome, Result, Ok, Err, drop, length, take, refl, sym, ap, subst, ◌∙◌, append_assoc, arith, inl, inr}
 use Rattle.std.proofs.KnownBytes.{Appends-kept, Appends-trans, Consumes-trans}
-use Rattle.std.proofs.lemmas.List.{append-nil, drop_at, length-append, take-append-drop, take_at}
+use Rattle.std.proofs.lemmas.List.{append-nil, length-append}
 use Rattle.std.specs.Bool.{OnFalse, OnTrue}
 use Rattle.std.specs.Io.KnownBytes.{Appends, Consumes, IsAtEnd, Keeps}
 use Rattle.std.specs.List.{concat}
@@ -18,7 +18,7 @@ use Rattle.aegis.proofs.Streams.{one_fault}
 use Rattle.aegis_files.specs.declared.error.FileError.{FileError}
 use Rattle.aegis_files.specs.declared.error.FileError.TheVariants.{Read, Write, Stream, TooLong}
 use Rattle.aegis_files.specs.Reading.{FailsUnder, LeavesSome, RefusesNext, WritesFront}
-use Rattle.aegis_files.specs.SealedFile.{FailsWith, IfRefused, IfTooLong, IsFileFault, IsSealedFile, IsVerifiedFront, IsVerifiedInFile, IsWriteError, WritesTextFront}
+use Rattle.aegis_files.specs.SealedFile.{FailsWith, IfRefused, IsFileFault, IsSealedFile, IsVerifiedFront, IsVerifiedInFile, IsWriteError, WritesTextFront}
 use Rattle.aegis_files.proofs.Errors.{in_time, so_long, so_refused, unwritten, write_in_time}
 use Rattle.aegis_files.proofs.Opening.{OpensSome, alone}
 use Rattle.aegis_files.proofs.Pieces.{concat-cut, concat-push, two_prefixes}

@@ -1,5 +1,5 @@
 -- Pieces, read one after the other.
-use Rattle.std.proofs.Common.{◌≡◌, ◌+◌, ◌<◌, ℕ, false, List, [], ◌∷◌, ◌++◌, IfOk, Ok, Err, Result, arith, vec_len, get_or, length, map, take, refl, ap, ◌∙◌, ◌≤◌, true, ◌⊎◌, inl, inr}
+use Rattle.std.proofs.Common.{◌≡◌, ◌+◌, ◌<◌, ℕ, false, List, [], ◌∷◌, ◌++◌, IfOk, Ok, Err, Result, arith, vec_len, get_or, length, map, take, refl, ◌≤◌, true, ◌⊎◌, inl, inr}
 use Rattle.std.specs.List.{list_any}
 use Rattle.std.specs.Borrow.{Bor}
 use Rattle.std.specs.Vec.{vec_items}

@@ -1,7 +1,6 @@
 -- The associated data is first the input of a run without associated data, and its end is the beginning of the message.
-use Rattle.std.proofs.Common.{◌≡◌, ◌∙◌, sym, ap, refl, ℕ, [], List, arith}
+use Rattle.std.proofs.Common.{◌≡◌, ◌∙◌, ap, ℕ, [], List, arith}
 use Rattle.std.proofs.Math.Nat.{div-eq_of_lt}
-use Rattle.aegis_base.specs.Lane.{start}
 use Rattle.aegis_base.specs.Message.{after_all, block_count}
 use Rattle.aegis_base.proofs.MessageFacts.{before-none, rate-positive}
 use Rattle.aegis_engine.proofs.KeystreamFacts.{stands-started}

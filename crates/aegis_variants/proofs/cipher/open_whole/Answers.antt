@@ -1,5 +1,5 @@
 -- All chunks are kept, and the message fills the destination.
-use Rattle.std.proofs.Common.{◌≡◌, ◌≤◌, length, take, arith}
+use Rattle.std.proofs.Common.{length, arith}
 use Rattle.std.proofs.lemmas.List.{take_all}
 use Rattle.aegis_base.specs.Chunks.{joined}
 use Rattle.aegis_variants.proofs.OpenFacts.{whole_accepted}
