@@ -1,12 +1,12 @@
 //! Opening a stream a record at a time.
 mod in_place;
 
-ghost use Rattle.std.specs.Prelude.{◌≡◌, ◌≢◌, ◌+◌, ◌-◌, ◌*◌, ◌<◌, ◌≤◌, ◌⊎◌, ◌++◌, ◌∷◌, [], Err, IfErr, IfOk, IsTrue, List, OnErr, false, length, true, ℕ};
-ghost use Rattle.std.specs.Bool.{OnFalse, OnTrue};
+ghost use Rattle.std.specs.Prelude.{◌≡◌, ◌≢◌, ◌+◌, ◌-◌, ◌*◌, ◌<◌, ◌≤◌, ◌⊎◌, ◌++◌, [], Err, IfErr, IfOk, IsTrue, List, false, length, true, ℕ};
 ghost use Rattle.aegis_base.specs.declared.error.TheConstants.{MAX_AEAD_BYTES};
 ghost use Rattle.aegis.specs.Calls.{OpensRecordTo};
 ghost use Rattle.aegis.specs.Fault.{parts};
-ghost use Rattle.aegis.specs.Progress.{AreRecordsOfSomeVersion, Begun, IsRecordFault, after, first_position, last_flag, position_of, progress_at, record_of, start_at, start_of};
+ghost use Rattle.aegis.specs.Opening.{AcceptsNext, OpensNext, RefusesNext};
+ghost use Rattle.aegis.specs.Progress.{Begun, IsRecordFault, first_position, last_flag, position_of, progress_at, record_of, start_at, start_of};
 ghost use Rattle.aegis.specs.Records.{IsFault};
 ghost use Rattle.aegis.specs.RecordStream.{limit};
 
@@ -206,46 +206,12 @@ impl<'a, A: Allocator + Copy> RecordOpener<'a, A> {
     /// last record it is always [`RecordError::Trailing`].
     pub fn open_next<'b>(&mut self, bytes: &'b [u8]) -> Result<Opened<'b, A>, RecordError>
         requires { start_of self.old + length bytes.now ≤ MAX_AEAD_BYTES }
-        ensures next { IfOk result (λ opened. OnFalse opened.is_last
-            (bytes.now ≡ record_of self.old 0 opened.message.items ++ opened.rest.now)) }
-        ensures begun { IfOk result (λ opened. OnFalse opened.is_last
-            ((key prefix context : List ℕ) (ms : List (List ℕ)) (before : List ℕ)
-            → Begun self.old key prefix context ms before
-            → Begun self.new key prefix context (ms ++ opened.message.items ∷ [])
-            (before ++ record_of self.old 0 opened.message.items))) }
-        ensures last { IfOk result (λ opened. OnTrue opened.is_last
-            (bytes.now ≡ record_of self.old 1 opened.message.items ++ opened.rest.now)) }
-        ensures whole { IfOk result (λ opened. OnTrue opened.is_last
-            ((key prefix context : List ℕ) (ms : List (List ℕ)) (before : List ℕ)
-            → Begun self.old key prefix context ms before
-            → AreRecordsOfSomeVersion key prefix context (ms ++ opened.message.items ∷ [])
-            (before ++ record_of self.old 1 opened.message.items))) }
-        ensures progress { IfOk result (λ opened. self.new
-            ≡ after self.old opened.is_last opened.message.items) }
-        ensures accepted { self.old.ended ≡ false → (m rest : List ℕ)
-            → length m ≤ limit self.old.version
-            → bytes.now ≡ record_of self.old 0 m ++ rest
-            → OpensRecordTo false m rest result }
-        ensures accepted_last { self.old.ended ≡ false → (m rest : List ℕ)
-            → length m ≤ limit self.old.version
-            → bytes.now ≡ record_of self.old 1 m ++ rest
-            → OpensRecordTo true m rest result }
-        ensures fault { IfErr result (λ e. self.old.ended ≡ false
-            → (e ≡ RecordError.OutOfMemory) ⊎ IsRecordFault self.old bytes.now e) }
-        ensures within { IfOk result
-            (λ opened. length opened.message.items ≤ limit self.old.version) }
-        ensures taken { IfOk result (λ opened. start_of self.new + length opened.rest.now
-            ≡ start_of self.old + length bytes.now) }
+        ensures opened { IfOk result (λ opened. OpensNext self.old self.new bytes.now
+            opened.is_last opened.message.items opened.rest.now) }
+        ensures accepted { AcceptsNext self.old bytes.now
+            (λ is_last m rest. OpensRecordTo is_last m rest result) }
+        ensures refused { IfErr result (λ e. RefusesNext self.old self.new bytes.now e) }
         ensures after_the_last { IsTrue self.old.ended → result ≡ Err RecordError.Trailing }
-        ensures ended { IfOk result (λ opened. self.new.ended ≡ opened.is_last) }
-        ensures refused { IfErr result (λ e. (e ≡ RecordError.OutOfMemory)
-            ⊎ ((key prefix context : List ℕ) (ms : List (List ℕ)) (before more : List ℕ)
-            → Begun self.old key prefix context ms before
-            → (e ≡ RecordError.Truncated → more ≡ [])
-            → IsFault key prefix context (before ++ (bytes.now ++ more)) e)) }
-        ensures cut { IfErr result (λ e. e ≡ RecordError.Truncated
-            → parts self.old.version bytes.now ≡ Err RecordError.Truncated) }
-        ensures unchanged { OnErr result (self.new ≡ self.old) }
     {
         if self.ended {
             return Err(RecordError::Trailing);

@@ -1,17 +1,15 @@
 //! Opening a record in the buffer that holds it.
 
-ghost use Rattle.std.specs.Prelude.{◌≡◌, ◌≢◌, ◌+◌, ◌≤◌, ◌++◌, ◌∷◌, [], Err, IfErr, IfOk, IsTrue, List, OnErr, false, length, true, vec_capacity, ℕ};
-ghost use Rattle.std.specs.Bool.{OnFalse, OnTrue};
+ghost use Rattle.std.specs.Prelude.{◌≡◌, ◌≢◌, ◌+◌, ◌≤◌, Err, IfErr, IfOk, IsTrue, length, vec_capacity};
 ghost use Rattle.aegis_base.specs.declared.error.TheConstants.{MAX_AEAD_BYTES};
 ghost use Rattle.aegis.specs.Calls.{IsRecord, OpensInPlaceTo, message_at, message_of, rest_at, rest_of, sealing_of, with_erased, with_message};
 ghost use Rattle.aegis.specs.Fault.{HasFault, parts};
-ghost use Rattle.aegis.specs.Progress.{AreRecordsOfSomeVersion, Begun, IsRecordFault, after, record_of, start_of};
-ghost use Rattle.aegis.specs.Records.{IsFault};
-ghost use Rattle.aegis.specs.RecordStream.{limit};
+ghost use Rattle.aegis.specs.Opening.{AcceptsNext, OpensNext, RefusesInPlace, WritesMessage};
+ghost use Rattle.aegis.specs.Progress.{start_of};
 
 use crate::record::error::RecordError;
 use crate::record::frame::{Frame, TAG_BYTES};
-use crate::record::length::{RECORD_BYTES, RECORD_HEAD_BYTES};
+use crate::record::length::RECORD_HEAD_BYTES;
 use crate::record::record_cipher::{DATA_BYTES, MAX_CONTEXT_BYTES, RecordCipher, RecordPlace};
 use crate::record::record_opener::RecordOpener;
 use crate::record::version::Version;
@@ -83,57 +81,14 @@ impl<'a, A: Allocator + Copy> RecordOpener<'a, A> {
     /// any other error `bytes` are as they were. After the last record the error is always [`RecordError::Trailing`].
     pub fn open_next_in_place(&mut self, bytes: &mut [u8]) -> Result<OpenedInPlace, RecordError>
         requires { start_of self.old + length bytes.old ≤ MAX_AEAD_BYTES }
-        ensures next { IfOk result (λ opened. OnFalse opened.is_last
-            (bytes.old ≡ record_of self.old 0 (message_of opened bytes.new)
-            ++ rest_of opened bytes.new)) }
-        ensures begun { IfOk result (λ opened. OnFalse opened.is_last
-            ((key prefix context : List ℕ) (ms : List (List ℕ)) (before : List ℕ)
-            → Begun self.old key prefix context ms before
-            → Begun self.new key prefix context (ms ++ message_of opened bytes.new ∷ [])
-            (before ++ record_of self.old 0 (message_of opened bytes.new)))) }
-        ensures last { IfOk result (λ opened. OnTrue opened.is_last
-            (bytes.old ≡ record_of self.old 1 (message_of opened bytes.new)
-            ++ rest_of opened bytes.new)) }
-        ensures whole { IfOk result (λ opened. OnTrue opened.is_last
-            ((key prefix context : List ℕ) (ms : List (List ℕ)) (before : List ℕ)
-            → Begun self.old key prefix context ms before
-            → AreRecordsOfSomeVersion key prefix context (ms ++ message_of opened bytes.new ∷ [])
-            (before ++ record_of self.old 1 (message_of opened bytes.new)))) }
-        ensures progress { IfOk result (λ opened. self.new
-            ≡ after self.old opened.is_last (message_of opened bytes.new)) }
-        ensures message_len { IfOk result
-            (λ opened. length (message_of opened bytes.new) ≡ opened.message_len) }
-        ensures written { IfOk result
-            (λ opened. bytes.new ≡ with_message bytes.old (message_of opened bytes.new)) }
-        ensures accepted { self.old.ended ≡ false → (m rest : List ℕ)
-            → length m ≤ limit self.old.version
-            → bytes.old ≡ record_of self.old 0 m ++ rest
-            → OpensInPlaceTo false m rest bytes.new result }
-        ensures accepted_last { self.old.ended ≡ false → (m rest : List ℕ)
-            → length m ≤ limit self.old.version
-            → bytes.old ≡ record_of self.old 1 m ++ rest
-            → OpensInPlaceTo true m rest bytes.new result }
-        ensures fault { IfErr result (λ e. self.old.ended ≡ false
-            → IsRecordFault self.old bytes.old e) }
-        ensures erased { IfErr result (λ e. e ≡ RecordError.Damaged self.old.number
-            → bytes.new ≡ with_erased bytes.old) }
-        ensures kept { IfErr result (λ e. e ≢ RecordError.Damaged self.old.number
-            → bytes.new ≡ bytes.old) }
-        ensures within { IfOk result (λ opened. opened.message_len ≤ limit self.old.version) }
-        ensures taken { IfOk result (λ opened. start_of self.new + length (rest_of opened bytes.new)
-            ≡ start_of self.old + length bytes.old) }
-        ensures size { IfOk result (λ opened. RECORD_BYTES + opened.message_len
-            + length (rest_of opened bytes.new) ≡ length bytes.old) }
-        ensures after_the_last { IsTrue self.old.ended → result ≡ Err RecordError.Trailing }
-        ensures ended { IfOk result (λ opened. self.new.ended ≡ opened.is_last) }
+        ensures opened { IfOk result (λ opened. OpensNext self.old self.new bytes.old
+            opened.is_last (message_of opened bytes.new) (rest_of opened bytes.new)) }
+        ensures written { IfOk result (λ opened. WritesMessage bytes.old bytes.new opened) }
+        ensures accepted { AcceptsNext self.old bytes.old
+            (λ is_last m rest. OpensInPlaceTo is_last m rest bytes.new result) }
         ensures refused { IfErr result
-            (λ e. (key prefix context : List ℕ) (ms : List (List ℕ)) (before more : List ℕ)
-            → Begun self.old key prefix context ms before
-            → (e ≡ RecordError.Truncated → more ≡ [])
-            → IsFault key prefix context (before ++ (bytes.old ++ more)) e) }
-        ensures cut { IfErr result (λ e. e ≡ RecordError.Truncated
-            → parts self.old.version bytes.old ≡ Err RecordError.Truncated) }
-        ensures unchanged { OnErr result (self.new ≡ self.old) }
+            (λ e. RefusesInPlace self.old self.new bytes.old bytes.new e) }
+        ensures after_the_last { IsTrue self.old.ended → result ≡ Err RecordError.Trailing }
     {
         if self.ended {
             return Err(RecordError::Trailing);

@@ -14,7 +14,7 @@ records-init g c = opens_begin _ _ _ _ _ _ _ _ c.in_ok-opener.ensures.begun c.in
 pub records-preserved : goal.records-preserved
 records-preserved g c =
     let going = c.if-opened.false in
-    let e = c.in_ok-opened.ensures in
+    let e = c.in_ok-opened.ensures.opened in
     let is = rw going at e.next in
     let step = rw going at e.begun in
     let found = sym c.deref.ensures.value in
@@ -25,7 +25,7 @@ records-preserved g c =
 pub returns-then-opened-clause-opened : goal.returns-then-opened-clause-opened
 returns-then-opened-clause-opened g c =
     let ends = c.if-opened.true in
-    let e = c.in_ok-opened.ensures in
+    let e = c.in_ok-opened.ensures.opened in
     let is = rw ends at e.last in
     let whole = rw ends at e.whole in
     let found = sym c.deref.ensures.value in
@@ -47,14 +47,14 @@ returns-in_err-opened-clause-refused g c =
     let p = err_from_is_err_and c.from_residual-in_err-opened.result c.from_residual-in_err-opened.ensures.1 in
     let found = c.deref.ensures.value in
     rw (p.1, p.2) (fails_open _ _ _ _ _ _ _ _ _ c.deref.result.now _ c.records.invariant (subst (Consumes _ _) (sym found) c.in_ok-read_record.ensures.read)
-    c.in_err-opened.ensures.refused
-    (λ cut. c.in_ok-read_record.ensures.cut (subst (λ l. parts c.records.opener.version l ≡ Err Truncated) found (c.in_err-opened.ensures.cut cut))))
+    c.in_err-opened.ensures.refused.first
+    (λ cut. c.in_ok-read_record.ensures.cut (subst (λ l. parts c.records.opener.version l ≡ Err Truncated) found (c.in_err-opened.ensures.refused.cut cut))))
 
 pub returns-in_err-end-clause-refused : goal.returns-in_err-end-clause-refused
 returns-in_err-end-clause-refused g c =
     let p = err_from_is_err_and c.from_residual-in_err-end.result c.from_residual-in_err-end.ensures.1 in
     let ends = c.if-opened.true in
-    let e = c.in_ok-opened.ensures in
+    let e = c.in_ok-opened.ensures.opened in
     let is = rw ends at e.last in
     let whole = rw ends at e.whole in
     let found = sym c.deref.ensures.value in
@@ -65,7 +65,7 @@ returns-in_err-end-clause-refused g c =
 pub returns-in_err-write-clause-refused : goal.returns-in_err-write-clause-refused
 returns-in_err-write-clause-refused g c =
     let p = err_from_is_err_and c.from_residual-in_err-write.result c.from_residual-in_err-write.ensures.1 in
-    let e = c.in_ok-opened.ensures in
+    let e = c.in_ok-opened.ensures.opened in
     let found = sym c.deref.ensures.value in
     let written = c.in_err-write.ensures.front in
     rw (p.1, p.2) (fails_write _ _ c.in_ok-opened.opened.is_last _ _ _ _ _ _ _ _ _ _ c.deref.result.now _ written.0 _ c.records.invariant
@@ -77,7 +77,7 @@ pub returns-in_err-flush-clause-refused : goal.returns-in_err-flush-clause-refus
 returns-in_err-flush-clause-refused g c =
     let p = err_from_is_err_and c.from_residual-in_err-flush.result c.from_residual-in_err-flush.ensures.1 in
     let ends = c.if-opened.true in
-    let e = c.in_ok-opened.ensures in
+    let e = c.in_ok-opened.ensures.opened in
     let is = rw ends at e.last in
     let whole = rw ends at e.whole in
     let found = sym c.deref.ensures.value in

@@ -37,27 +37,27 @@ records-init g c =
 pub returns-in_err-opened-clause-refused : goal.returns-in_err-opened-clause-refused
 returns-in_err-opened-clause-refused g c =
     let p = err_from_is_err_and c.from_residual-in_err-opened.result c.from_residual-in_err-opened.ensures.1 in
-    rw (p.1, p.2) (next_fault _ _ _ _ _ _ _ _ _ _ c.records.invariant.so_far c.in_err-opened.ensures.refused)
+    rw (p.1, p.2) (next_fault _ _ _ _ _ _ _ _ _ _ c.records.invariant.so_far c.in_err-opened.ensures.refused.first)
 
 pub returns-in_err-opened-clause-accepted : goal.returns-in_err-opened-clause-accepted
 returns-in_err-opened-clause-accepted g c =
     let p = err_from_is_err_and c.from_residual-in_err-opened.result c.from_residual-in_err-opened.ensures.1 in
-    rw (p.1, p.2) (memory_alone _ _ _ _ _ (next_fault _ _ _ _ _ _ _ _ _ _ c.records.invariant.so_far c.in_err-opened.ensures.refused))
+    rw (p.1, p.2) (memory_alone _ _ _ _ _ (next_fault _ _ _ _ _ _ _ _ _ _ c.records.invariant.so_far c.in_err-opened.ensures.refused.first))
 
 pub returns-then-not-is_empty-clause-refused : goal.returns-then-not-is_empty-clause-refused
 returns-then-not-is_empty-clause-refused g c =
     let opened = c.in_ok-opened.opened in
     let some = some_left opened.rest.now c.is_empty.result c.is_empty.ensures c.if-not-is_empty.true in
-    inr (trailing _ _ _ _ _ _ _ _ _ _ _ _ c.records.invariant.so_far (rw c.if-opened.true at c.in_ok-opened.ensures.whole)
-    (rw c.if-opened.true at c.in_ok-opened.ensures.last) some)
+    inr (trailing _ _ _ _ _ _ _ _ _ _ _ _ c.records.invariant.so_far (rw c.if-opened.true at c.in_ok-opened.ensures.opened.whole)
+    (rw c.if-opened.true at c.in_ok-opened.ensures.opened.last) some)
 
 pub returns-then-not-is_empty-clause-accepted : goal.returns-then-not-is_empty-clause-accepted
 returns-then-not-is_empty-clause-accepted g c =
     let opened = c.in_ok-opened.opened in
     let some = some_left opened.rest.now c.is_empty.result c.is_empty.ensures c.if-not-is_empty.true in
     memory_alone c.args.key.now c.args.old_prefix.now c.args.context.now c.args.bytes.now _
-    (inr (trailing _ _ _ _ _ _ _ _ _ _ _ _ c.records.invariant.so_far (rw c.if-opened.true at c.in_ok-opened.ensures.whole)
-    (rw c.if-opened.true at c.in_ok-opened.ensures.last) some))
+    (inr (trailing _ _ _ _ _ _ _ _ _ _ _ _ c.records.invariant.so_far (rw c.if-opened.true at c.in_ok-opened.ensures.opened.whole)
+    (rw c.if-opened.true at c.in_ok-opened.ensures.opened.last) some))
 
 pub returns-then-opened-clause-migrated : goal.returns-then-opened-clause-migrated
 returns-then-opened-clause-migrated g c =
@@ -65,7 +65,7 @@ returns-then-opened-clause-migrated g c =
     let s = c.records.invariant.so_far in
     let opened = c.in_ok-opened.opened in
     let none = none_left opened.rest.now c.is_empty.result c.is_empty.ensures c.if-not-is_empty.false in
-    let old_is = old_ends _ _ _ _ _ _ _ _ _ _ _ _ s (rw c.if-opened.true at c.in_ok-opened.ensures.whole) (rw c.if-opened.true at c.in_ok-opened.ensures.last) none in
+    let old_is = old_ends _ _ _ _ _ _ _ _ _ _ _ _ s (rw c.if-opened.true at c.in_ok-opened.ensures.opened.whole) (rw c.if-opened.true at c.in_ok-opened.ensures.opened.last) none in
     let value = c.deref.ensures.value in
     let new_is = rw (← c.in_ok-seal_last.ensures.appended, value) at (c.in_ok-seal_last.ensures.whole a.key.now a.new_prefix.now a.context.now s.messages c.records.stream.items s.sealed) in
     (old_is.0, s.messages ++ opened.message.items ∷ [], old_is.1, new_is)
@@ -79,7 +79,7 @@ returns-then-opened-clause-accepted g c v ms are =
     let s = c.records.invariant.so_far in
     let opened = c.in_ok-opened.opened in
     let none = none_left opened.rest.now c.is_empty.result c.is_empty.ensures c.if-not-is_empty.false in
-    let old_is = old_ends _ _ _ _ _ _ _ _ _ _ _ _ s (rw c.if-opened.true at c.in_ok-opened.ensures.whole) (rw c.if-opened.true at c.in_ok-opened.ensures.last) none in
+    let old_is = old_ends _ _ _ _ _ _ _ _ _ _ _ _ s (rw c.if-opened.true at c.in_ok-opened.ensures.opened.whole) (rw c.if-opened.true at c.in_ok-opened.ensures.opened.last) none in
     let new_is = new_ends a.key.now a.new_prefix.now a.context.now s.messages opened.message.items c.deref.result.now c.records.stream.items _ c.seal_last.new.out.items
     (c.in_ok-seal_last.ensures.whole a.key.now a.new_prefix.now a.context.now s.messages c.records.stream.items s.sealed) c.deref.ensures.value c.in_ok-seal_last.ensures.appended in
     subst (λ (l : List (List ℕ)). AreRecords Second a.key.now a.new_prefix.now a.context.now l c.seal_last.new.out.items)
@@ -91,7 +91,7 @@ returns-then-opened-clause-length g c =
     let s = c.records.invariant.so_far in
     let opened = c.in_ok-opened.opened in
     let none = none_left opened.rest.now c.is_empty.result c.is_empty.ensures c.if-not-is_empty.false in
-    let old_is = old_ends _ _ _ _ _ _ _ _ _ _ _ _ s (rw c.if-opened.true at c.in_ok-opened.ensures.whole) (rw c.if-opened.true at c.in_ok-opened.ensures.last) none in
+    let old_is = old_ends _ _ _ _ _ _ _ _ _ _ _ _ s (rw c.if-opened.true at c.in_ok-opened.ensures.opened.whole) (rw c.if-opened.true at c.in_ok-opened.ensures.opened.last) none in
     let new_is = new_ends a.key.now a.new_prefix.now a.context.now s.messages opened.message.items c.deref.result.now c.records.stream.items _ c.seal_last.new.out.items
     (c.in_ok-seal_last.ensures.whole a.key.now a.new_prefix.now a.context.now s.messages c.records.stream.items s.sealed) c.deref.ensures.value c.in_ok-seal_last.ensures.appended in
     length-stream (sealed a.key.now a.new_prefix.now a.context.now) (sealed-is a.key.now a.new_prefix.now a.context.now) Second (s.messages ++ opened.message.items ∷ [])
@@ -105,21 +105,21 @@ records-preserved g c =
     let s = c.records.invariant.so_far in
     let m : List ℕ = c.in_ok-opened.opened.message.items in
     let p : Progress = c.records.opener in
-    let next = rw c.if-opened.false at c.in_ok-opened.ensures.next in
+    let next = rw c.if-opened.false at c.in_ok-opened.ensures.opened.next in
     let value = c.deref-in-records.ensures.value in
     let grown = c.in_ok-seal_next.ensures.begun a.key.now a.new_prefix.now a.context.now s.messages c.records.stream.items s.sealed in
-    let opened_more = ap start_of c.in_ok-opened.ensures.progress in
+    let opened_more = ap start_of c.in_ok-opened.ensures.opened.progress in
     let sealed_more = c.in_ok-seal_next.ensures.taken in
     let before = s.same in
     record {
       so_far = record {
         messages = s.messages ++ m ∷ [];
         before = s.before ++ record_of p 0 m;
-        opened = (rw c.if-opened.false at c.in_ok-opened.ensures.begun) a.key.now a.old_prefix.now a.context.now s.messages s.before s.opened;
+        opened = (rw c.if-opened.false at c.in_ok-opened.ensures.opened.begun) a.key.now a.old_prefix.now a.context.now s.messages s.before s.opened;
         sealed = new_next a.key.now a.new_prefix.now a.context.now s.messages m c.deref-in-records.result.now c.records.stream.items _ c.seal_next.new.out.items _ grown value
             c.in_ok-seal_next.ensures.appended;
         all = s.all ∙ ap (λ (l : List ℕ). s.before ++ l) next ∙ sym (append_assoc s.before (record_of p 0 m) c.in_ok-opened.opened.rest.now);
-        fits = c.in_ok-opened.ensures.taken ∙ s.fits;
+        fits = c.in_ok-opened.ensures.opened.taken ∙ s.fits;
         same = omega (arith, opened_more, sealed_more, ap length value);
       };
     }

@@ -1,4 +1,4 @@
-use Rattle.std.proofs.Common.{◌∙◌, ℕ, ◌+◌, ap, arith, false, inr, nat_eq, true}
+use Rattle.std.proofs.Common.{◌∙◌, ℕ, ◌+◌, ap, arith, false, inr, nat_eq, refl, rules, true}
 use Rattle.std.proofs.lemmas.Bool.{true≢false}
 use Rattle.std.proofs.lemmas.Result.{err_from_is_err_and}
 use Rattle.aegis.specs.Calls.{sealing_of}
@@ -9,13 +9,31 @@ use Rattle.aegis.proofs.Stepwise.{begun_ends, begun_fault_or, begun_next, begun_
 use Rattle.aegis.proofs.record.record_opener.RecordOpener.open_next.Goals as goal
 
 pub returns-then-self-clause-refused : goal.returns-then-self-clause-refused
-returns-then-self-clause-refused g c =
-    inr (λ key prefix context ms before more b cut. absurd (true≢false (rw (← c.self.view_is, c.if-self.true) at (begun_open _ key prefix context ms before b))))
+returns-then-self-clause-refused g c = record {
+  fault = λ going. absurd (true≢false (rw (← c.self.view_is, c.if-self.true) at going));
+  first = inr (λ key prefix context ms before more b cut. absurd (true≢false (rw (← c.self.view_is, c.if-self.true) at (begun_open _ key prefix context ms before b))));
+  cut = search rules;
+  unchanged = search rules;
+}
 
 pub returns-in_err-frame-clause-refused : goal.returns-in_err-frame-clause-refused
 returns-in_err-frame-clause-refused g c =
     let p = err_from_is_err_and c.from_residual.result c.from_residual.ensures.1 in
-    rw (p.1, p.2, ← c.self.view_is) (begun_fault_or _ c.args.bytes.now _ c.in_err-frame.ensures.refused)
+    let s = c.self.inside in
+    rw (p.1, p.2, ← c.self.view_is) (record {
+      fault = λ going. c.in_err-frame.ensures.refused;
+      first = begun_fault_or _ c.args.bytes.now _ c.in_err-frame.ensures.refused;
+      cut = cut_of (sealing_of s.cipher) s.version s.number s.before (parts s.version c.args.bytes.now) c.in_err-frame.field-0.0 c.in_err-frame.ensures.refused;
+      unchanged = search rules;
+    })
+
+pub returns-in_err-frame-clause-accepted : goal.returns-in_err-frame-clause-accepted
+returns-in_err-frame-clause-accepted g c =
+    let p = err_from_is_err_and c.from_residual.result c.from_residual.ensures.1 in
+    rw (p.1, p.2, ← c.self.view_is) (record {
+      next = λ going. only_memory _ c.args.bytes.now _ c.in_err-frame.ensures.refused false;
+      last = λ going. only_memory _ c.args.bytes.now _ c.in_err-frame.ensures.refused true;
+    })
 
 pub invariant_of-self-2 : goal.invariant_of-self-2
 invariant_of-self-2 g c =
@@ -24,70 +42,12 @@ invariant_of-self-2 g c =
     let size = c.len.ensures ∙ c.in_ok-frame.message.ok.0 in
     (c.self.invariant.0, omega (arith, long, fits, size), omega (arith, c.self.invariant.2, c.open_record.ensures.capacity))
 
-pub returns-clause-next : goal.returns-clause-next
-returns-clause-next g c = rw (← c.self.view_is) (next_are _ _ _ _ _ (read_of _ _ _ _ _ c.in_ok-frame.ensures.opened))
-
-pub returns-clause-last : goal.returns-clause-last
-returns-clause-last g c = rw (← c.self.view_is) (last_are _ _ _ _ _ (read_of _ _ _ _ _ c.in_ok-frame.ensures.opened))
-
-pub returns-clause-begun : goal.returns-clause-begun
-returns-clause-begun g c =
-    rw (← c.self.view_is) (begun_next _ _ _ _ _ _ (read_of _ _ _ _ _ c.in_ok-frame.ensures.opened) (c.len.ensures ∙ c.in_ok-frame.message.ok.0))
-
-pub returns-clause-whole : goal.returns-clause-whole
-returns-clause-whole g c = rw (← c.self.view_is) (begun_ends _ _ _ _ _ (read_of _ _ _ _ _ c.in_ok-frame.ensures.opened))
-
-pub returns-clause-taken : goal.returns-clause-taken
-returns-clause-taken g c =
-    let long = record_long _ _ _ _ _ _ _ _ _ _ c.in_ok-frame.ensures.opened in
+pub returns-clause-opened : goal.returns-clause-opened
+returns-clause-opened g c =
+    let s = c.self.inside in
+    let read = read_of _ _ _ _ _ c.in_ok-frame.ensures.opened in
     let size = c.len.ensures ∙ c.in_ok-frame.message.ok.0 in
-    rw (← c.self.view_is) (omega (arith, long, size))
-
-pub returns-in_err-frame-clause-cut : goal.returns-in_err-frame-clause-cut
-returns-in_err-frame-clause-cut g c =
-    let p = err_from_is_err_and c.from_residual.result c.from_residual.ensures.1 in
-    let s = c.self.inside in
-    rw (p.1, p.2, ← c.self.view_is) (cut_of (sealing_of s.cipher) s.version s.number s.before (parts s.version c.args.bytes.now) c.in_err-frame.field-0.0 c.in_err-frame.ensures.refused)
-
-pub returns-then-self-clause-accepted : goal.returns-then-self-clause-accepted
-returns-then-self-clause-accepted g c going m rest low e = absurd (true≢false (rw (← c.self.view_is, c.if-self.true) at going))
-
-pub returns-then-self-clause-accepted_last : goal.returns-then-self-clause-accepted_last
-returns-then-self-clause-accepted_last g c going m rest low e = absurd (true≢false (rw (← c.self.view_is, c.if-self.true) at going))
-
-pub returns-then-self-clause-fault : goal.returns-then-self-clause-fault
-returns-then-self-clause-fault g c going = absurd (true≢false (rw (← c.self.view_is, c.if-self.true) at going))
-
-pub returns-in_err-frame-clause-accepted : goal.returns-in_err-frame-clause-accepted
-returns-in_err-frame-clause-accepted g c =
-    let p = err_from_is_err_and c.from_residual.result c.from_residual.ensures.1 in
-    rw (p.1, p.2, ← c.self.view_is) (λ going. only_memory _ c.args.bytes.now _ c.in_err-frame.ensures.refused false)
-
-pub returns-in_err-frame-clause-accepted_last : goal.returns-in_err-frame-clause-accepted_last
-returns-in_err-frame-clause-accepted_last g c =
-    let p = err_from_is_err_and c.from_residual.result c.from_residual.ensures.1 in
-    rw (p.1, p.2, ← c.self.view_is) (λ going. only_memory _ c.args.bytes.now _ c.in_err-frame.ensures.refused true)
-
-pub returns-in_err-frame-clause-fault : goal.returns-in_err-frame-clause-fault
-returns-in_err-frame-clause-fault g c =
-    let p = err_from_is_err_and c.from_residual.result c.from_residual.ensures.1 in
-    rw (p.1, p.2, ← c.self.view_is) (λ going. c.in_err-frame.ensures.refused)
-
-pub returns-clause-accepted : goal.returns-clause-accepted
-returns-clause-accepted g c =
-    rw (← c.self.view_is) (λ going m rest low e.
-    let one = read_one _ _ _ _ _ (read_of _ _ _ _ _ c.in_ok-frame.ensures.opened) false m rest low e in
-    (one.last, one.message, one.others))
-
-pub returns-clause-accepted_last : goal.returns-clause-accepted_last
-returns-clause-accepted_last g c =
-    rw (← c.self.view_is) (λ going m rest low e.
-    let one = read_one _ _ _ _ _ (read_of _ _ _ _ _ c.in_ok-frame.ensures.opened) true m rest low e in
-    (one.last, one.message, one.others))
-
-pub returns-clause-progress : goal.returns-clause-progress
-returns-clause-progress g c =
-    let s = c.self.inside in
+    let long = record_long _ _ _ _ _ _ _ _ _ _ c.in_ok-frame.ensures.opened in
     let at : ℕ → Progress = λ n. record {
       key = s.cipher.key.now;
       prefix = s.cipher.prefix.now;
@@ -97,4 +57,21 @@ returns-clause-progress g c =
       before = s.before + n;
       ended = nat_eq c.in_ok-frame.frame.flag 1;
     } in
-    rw (← c.self.view_is) (ap at (c.len.ensures ∙ c.in_ok-frame.message.ok.0))
+    rw (← c.self.view_is) (record {
+      next = next_are _ _ _ _ _ read;
+      last = last_are _ _ _ _ _ read;
+      begun = begun_next _ _ _ _ _ _ read size;
+      whole = begun_ends _ _ _ _ _ read;
+      progress = ap at size;
+      ended = refl;
+      taken = omega (arith, long, size);
+      within = c.in_ok-frame.ensures.opened.within;
+    })
+
+pub returns-clause-accepted : goal.returns-clause-accepted
+returns-clause-accepted g c =
+    let one = read_one _ _ _ _ _ (read_of _ _ _ _ _ c.in_ok-frame.ensures.opened) in
+    rw (← c.self.view_is) (record {
+      next = λ going m rest low e. let found = one false m rest low e in (found.last, found.message, found.others);
+      last = λ going m rest low e. let found = one true m rest low e in (found.last, found.message, found.others);
+    })

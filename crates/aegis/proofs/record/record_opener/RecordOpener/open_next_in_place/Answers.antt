@@ -1,4 +1,4 @@
-use Rattle.std.proofs.Common.{◌∙◌, ap, arith, false, length, sym, true}
+use Rattle.std.proofs.Common.{◌∙◌, ap, arith, false, length, refl, rules, sym, true}
 use Rattle.std.proofs.lemmas.Bool.{true≢false}
 use Rattle.std.proofs.lemmas.Result.{err_from_is_err_and}
 use Rattle.aegis.proofs.Places.{no_fault, read_one}
@@ -6,13 +6,34 @@ use Rattle.aegis.proofs.Stepwise.{begun_ends, begun_fault, begun_next, begun_ope
 use Rattle.aegis.proofs.record.record_opener.RecordOpener.open_next_in_place.Goals as goal
 
 pub returns-then-self-clause-refused : goal.returns-then-self-clause-refused
-returns-then-self-clause-refused g c key prefix context ms before more b cut =
-    absurd (true≢false (rw (← c.self.view_is, c.if-self.true) at (begun_open _ key prefix context ms before b)))
+returns-then-self-clause-refused g c = record {
+  fault = λ going. absurd (true≢false (rw (← c.self.view_is, c.if-self.true) at going));
+  first = λ key prefix context ms before more b cut. absurd (true≢false (rw (← c.self.view_is, c.if-self.true) at (begun_open _ key prefix context ms before b)));
+  cut = search rules;
+  unchanged = search rules;
+  erased = search rules;
+  kept = search rules;
+}
 
 pub returns-in_err-flag-clause-refused : goal.returns-in_err-flag-clause-refused
 returns-in_err-flag-clause-refused g c =
     let p = err_from_is_err_and c.from_residual.result c.from_residual.ensures.1 in
-    rw (p.1, p.2, ← c.self.view_is) (begun_fault _ c.args.bytes.now _ c.in_err-flag.ensures.refused)
+    rw (p.1, p.2, ← c.self.view_is) (record {
+      fault = λ going. c.in_err-flag.ensures.refused;
+      first = begun_fault _ c.args.bytes.now _ c.in_err-flag.ensures.refused;
+      cut = search rules;
+      unchanged = search rules;
+      erased = c.in_err-flag.ensures.erased;
+      kept = c.in_err-flag.ensures.kept;
+    })
+
+pub returns-in_err-flag-clause-accepted : goal.returns-in_err-flag-clause-accepted
+returns-in_err-flag-clause-accepted g c =
+    let p = err_from_is_err_and c.from_residual.result c.from_residual.ensures.1 in
+    rw (p.1, ← c.self.view_is) (record {
+      next = λ going. no_fault _ c.args.bytes.now _ c.in_err-flag.ensures.refused false;
+      last = λ going. no_fault _ c.args.bytes.now _ c.in_err-flag.ensures.refused true;
+    })
 
 pub invariant_of-self-2 : goal.invariant_of-self-2
 invariant_of-self-2 g c =
@@ -21,46 +42,34 @@ invariant_of-self-2 g c =
     let size = c.in_ok-flag.ensures.message_len in
     (c.self.invariant.0, omega (arith, long, fits, size), omega (arith, c.self.invariant.2, c.open_record_in_place.ensures.capacity))
 
-pub returns-clause-next : goal.returns-clause-next
-returns-clause-next g c = rw (← c.self.view_is) (next_are _ _ _ _ _ (read_of _ _ _ _ _ c.in_ok-flag.ensures.opened))
-
-pub returns-clause-last : goal.returns-clause-last
-returns-clause-last g c = rw (← c.self.view_is) (last_are _ _ _ _ _ (read_of _ _ _ _ _ c.in_ok-flag.ensures.opened))
-
-pub returns-clause-begun : goal.returns-clause-begun
-returns-clause-begun g c =
-    rw (← c.self.view_is) (begun_next _ _ _ _ _ _ (read_of _ _ _ _ _ c.in_ok-flag.ensures.opened) (sym c.in_ok-flag.ensures.message_len))
-
-pub returns-clause-whole : goal.returns-clause-whole
-returns-clause-whole g c = rw (← c.self.view_is) (begun_ends _ _ _ _ _ (read_of _ _ _ _ _ c.in_ok-flag.ensures.opened))
-
-pub returns-clause-taken : goal.returns-clause-taken
-returns-clause-taken g c =
-    let long = record_long _ _ _ _ _ _ _ _ _ _ c.in_ok-flag.ensures.opened in
+pub returns-clause-opened : goal.returns-clause-opened
+returns-clause-opened g c =
+    let read = read_of _ _ _ _ _ c.in_ok-flag.ensures.opened in
     let size = c.in_ok-flag.ensures.message_len in
-    rw (← c.self.view_is) (omega (arith, long, size))
+    let long = record_long _ _ _ _ _ _ _ _ _ _ c.in_ok-flag.ensures.opened in
+    rw (← c.self.view_is) (record {
+      next = next_are _ _ _ _ _ read;
+      last = last_are _ _ _ _ _ read;
+      begun = begun_next _ _ _ _ _ _ read (sym size);
+      whole = begun_ends _ _ _ _ _ read;
+      progress = search rules;
+      ended = refl;
+      taken = omega (arith, long, size);
+      within = c.in_ok-flag.ensures.opened.within;
+    })
 
-pub returns-in_err-flag-clause-accepted : goal.returns-in_err-flag-clause-accepted
-returns-in_err-flag-clause-accepted g c =
-    let p = err_from_is_err_and c.from_residual.result c.from_residual.ensures.1 in
-    rw (p.1, ← c.self.view_is) (λ going. no_fault _ c.args.bytes.now _ c.in_err-flag.ensures.refused false)
-
-pub returns-in_err-flag-clause-accepted_last : goal.returns-in_err-flag-clause-accepted_last
-returns-in_err-flag-clause-accepted_last g c =
-    let p = err_from_is_err_and c.from_residual.result c.from_residual.ensures.1 in
-    rw (p.1, ← c.self.view_is) (λ going. no_fault _ c.args.bytes.now _ c.in_err-flag.ensures.refused true)
+pub returns-clause-written : goal.returns-clause-written
+returns-clause-written g c = record {
+  message_len = c.in_ok-flag.ensures.message_len;
+  written = c.in_ok-flag.ensures.written;
+  size = omega (arith, record_long _ _ _ _ _ _ _ _ _ _ c.in_ok-flag.ensures.opened, c.in_ok-flag.ensures.message_len);
+}
 
 pub returns-clause-accepted : goal.returns-clause-accepted
 returns-clause-accepted g c =
-    rw (← c.self.view_is) (λ going m rest low e.
-    let one = read_one _ _ _ _ _ (read_of _ _ _ _ _ c.in_ok-flag.ensures.opened) false m rest low e in
-    (one.last, sym c.in_ok-flag.ensures.message_len ∙ ap length one.message, one.message, one.others))
-
-pub returns-clause-accepted_last : goal.returns-clause-accepted_last
-returns-clause-accepted_last g c =
-    rw (← c.self.view_is) (λ going m rest low e.
-    let one = read_one _ _ _ _ _ (read_of _ _ _ _ _ c.in_ok-flag.ensures.opened) true m rest low e in
-    (one.last, sym c.in_ok-flag.ensures.message_len ∙ ap length one.message, one.message, one.others))
-
-pub returns-clause-size : goal.returns-clause-size
-returns-clause-size g c = omega (arith, record_long _ _ _ _ _ _ _ _ _ _ c.in_ok-flag.ensures.opened, c.in_ok-flag.ensures.message_len)
+    let size = sym c.in_ok-flag.ensures.message_len in
+    let one = read_one _ _ _ _ _ (read_of _ _ _ _ _ c.in_ok-flag.ensures.opened) in
+    rw (← c.self.view_is) (record {
+      next = λ going m rest low e. let found = one false m rest low e in (found.last, size ∙ ap length found.message, found.message, found.others);
+      last = λ going m rest low e. let found = one true m rest low e in (found.last, size ∙ ap length found.message, found.message, found.others);
+    })
