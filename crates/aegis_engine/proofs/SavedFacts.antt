@@ -1,9 +1,9 @@
 -- What a saved run stands for, when its lanes are read and when they are written.
-use Rattle.std.proofs.Common.{◌≡◌, ◌∙◌, ap, ℕ, ◌+◌, ◌/◌, ◌%◌, ◌<◌, List, [], ◌++◌, length, slice_index, append_assoc, refl, sym, arith}
+use Rattle.std.proofs.Common.{◌≡◌, ◌∙◌, ap, ℕ, ◌+◌, ◌/◌, ◌<◌, List, [], ◌++◌, length, append_assoc, refl, sym, arith}
 use Rattle.std.proofs.lemmas.List.{append-nil}
 use Rattle.aegis_base.specs.Variant.{Variant, rate}
-use Rattle.aegis_base.specs.Message.{block_count, ciphertext, lane_before}
-use Rattle.aegis_base.specs.Run.{IsAlong, Stands, held_by}
+use Rattle.aegis_base.specs.Message.{block_count, ciphertext}
+use Rattle.aegis_base.specs.Run.{Stands, held_by}
 use Rattle.aegis_base.specs.Saved.{saved_lane}
 use Rattle.aegis_base.proofs.HeldFacts.{along-held, held-along}
 use Rattle.aegis_engine.specs.Saved.{HasChecked, IsSaved, held_in}
@@ -20,30 +20,23 @@ stands-of : (variant : Variant) (run : SavedRun) (key nonce ad m : List ℕ) →
 unfolding IsSaved
 stands-of variant run key nonce ad m is = is.1
 
--- equal lanes, with an open block whose bytes are equal, are along the same run
-along-same : (variant : Variant) (lanes here there : ℕ → List (List ℕ)) (block copy x : List ℕ) (t : ℕ)
+-- with equal lanes and as many updates they stand for the same
+stands-same : (variant : Variant) (here there : ℕ → List (List ℕ)) (u v : ℕ) (block : List ℕ) (data_bytes message_bytes : ℕ) (key nonce ad m : List ℕ)
     → ((j : ℕ) → j < variant.lanes → there j ≡ here j)
-    → ((k : ℕ) → k < t % rate variant → slice_index copy k ≡ slice_index block k)
-    → IsAlong variant lanes here block x t → IsAlong variant lanes there copy x t
-along-same variant lanes here there block copy x t same copied on = record {
-  whole = λ j inside. same j inside ∙ on.whole j inside;
-  open_block = λ k low. copied k low ∙ on.open_block k low;
-}
-
--- with as many updates they stand for the same
-stands-same : (variant : Variant) (here there : ℕ → List (List ℕ)) (u v : ℕ) (block copy : List ℕ) (data_bytes message_bytes : ℕ) (key nonce ad m : List ℕ)
-    → ((j : ℕ) → j < variant.lanes → there j ≡ here j)
-    → ((k : ℕ) → k < message_bytes % rate variant → slice_index copy k ≡ slice_index block k)
     → v ≡ block_count variant data_bytes + message_bytes / rate variant
     → Stands variant (held_by variant here u block data_bytes message_bytes) key nonce ad m
-    → Stands variant (held_by variant there v copy data_bytes message_bytes) key nonce ad m
+    → Stands variant (held_by variant there v block data_bytes message_bytes) key nonce ad m
 unfolding Stands
-stands-same variant here there u v block copy data_bytes message_bytes key nonce ad m same copied counted is =
+stands-same variant here there u v block data_bytes message_bytes key nonce ad m same counted is =
     let first : block_count variant data_bytes ≡ block_count variant (length ad) = ap (block_count variant) is.0 in
     let second : message_bytes / rate variant ≡ length m / rate variant = ap (λ (q : ℕ). q / rate variant) is.1 in
-    let on = along-same variant (lane_before variant key nonce ad) here there block copy m (length m) same
-    (rw is.1 at copied) (held-along variant _ here block m _ is.3) in
-    (is.0, is.1, omega arith, along-held variant _ there copy m _ on)
+    let on = held-along variant _ here block m _ is.3 in (
+      is.0,
+      is.1,
+      omega arith,
+      along-held variant _ there block m _
+          (record { whole = λ j inside. same j inside ∙ on.whole j inside; open_block = on.open_block }),
+    )
 
 module _ (variant : Variant) (lane : ℕ → List (List ℕ)) (updates : ℕ) (run : SavedRun) (key nonce ad m : List ℕ) where
   -- lanes that are read from a run, with the number of updates that follows from its numbers of bytes
@@ -53,21 +46,17 @@ module _ (variant : Variant) (lane : ℕ → List (List ℕ)) (updates : ℕ) (r
       → IsSaved variant run key nonce ad m
       → Stands variant (held_by variant lane updates run.block run.data_bytes run.message_bytes) key nonce ad m
   restored r rate_is same counted is =
-      stands-same variant (saved_lane variant run.rows) lane _ updates run.block run.block run.data_bytes run.message_bytes key nonce ad m same
-      (λ k low. refl) (rw rate_is at counted) (stands-of variant run key nonce ad m is)
+      stands-same variant (saved_lane variant run.rows) lane _ updates run.block run.data_bytes run.message_bytes key nonce ad m same
+      (rw rate_is at counted) (stands-of variant run key nonce ad m is)
 
-  -- lanes and a block that are written to a run
-  pub saved : (block : List ℕ) (r : ℕ) → r ≡ rate variant → run.mark ≡ BEGUN
+  -- lanes that are written to a run
+  pub saved : run.mark ≡ BEGUN
       → ((j : ℕ) → j < variant.lanes → saved_lane variant run.rows j ≡ lane j)
-      → ((k : ℕ) → k < run.message_bytes % r → slice_index run.block k ≡ slice_index block k)
-      → Stands variant (held_by variant lane updates block run.data_bytes run.message_bytes) key nonce ad m
+      → Stands variant (held_by variant lane updates run.block run.data_bytes run.message_bytes) key nonce ad m
       → IsSaved variant run key nonce ad m
   unfolding IsSaved
-  saved block r rate_is marked same copied is = (
-    marked,
-    stands-same variant lane (saved_lane variant run.rows) updates _ block run.block run.data_bytes run.message_bytes key nonce ad m same
-        (rw rate_is at copied) refl is,
-  )
+  saved marked same is =
+      (marked, stands-same variant lane (saved_lane variant run.rows) updates _ run.block run.data_bytes run.message_bytes key nonce ad m same refl is)
 
 -- nothing is checked
 pub checked-none : (variant : Variant) (run : SavedRun) → HasChecked variant run run []

@@ -7,7 +7,7 @@
 ghost use Rattle.std.specs.Prelude.{◌≡◌, ℕ, ◌+◌, ◌-◌, ◌*◌, ◌%◌, ◌/◌, ◌^◌, ◌<◌, ◌≤◌, ◌⊎◌, ◌++◌, ◌↔◌, [], bit_xor, length, List, slice_index, true};
 ghost use Rattle.aegis_base.specs.Lane.{IsTagLength};
 ghost use Rattle.aegis_base.specs.Message.{Opens, after_all, block_count, ciphertext, keystream_byte_along, lane_before, lane_end, tag as tag_of};
-ghost use Rattle.aegis_base.specs.Run.{Encrypts, HasFrom, IsAccepted, IsAlong, IsTagged, Stands, Takes};
+ghost use Rattle.aegis_base.specs.Run.{Encrypts, HasFrom, IsAccepted, IsAlong, IsTagged, Stands, Takes, held_by};
 ghost use Rattle.aegis_base.specs.Variant.{key_length};
 ghost use Rattle.aegis_engine.specs.Pass.{absorbed, sealed};
 
@@ -68,6 +68,73 @@ fn filling<S: LaneState>(total: u64, count: usize) -> usize
     }
 }
 
+/// The lanes after the next bytes of an input that is not encrypted, of which they have taken in `total`. The open block
+/// is filled where it lies.
+#[inline(always)]
+pub fn absorb_bytes<S: LaneState>(state: S, block: &mut RateBlock, total: u64, bytes: &[u8]) -> S
+    requires within { total + length bytes.now < 2 ^ 64 }
+    requires countable { S.updates state + length bytes.now < 2 ^ 64 }
+    ensures taken { (data_bytes : ℕ) → Takes S.VARIANT
+        (held_by S.VARIANT (S.lane state) (S.updates state) block.old data_bytes total)
+        (held_by S.VARIANT (S.lane result) (S.updates result) block.new data_bytes
+        (total + length bytes.now))
+        bytes.now }
+    ensures few { S.updates result ≤ S.updates state + length bytes.now }
+{
+    let first = filling::<S>(total, bytes.len());
+    let whole = (bytes.len() - first) / S::RATE;
+    let last = first + whole * S::RATE;
+    let rest = bytes.len() - last;
+    // As in `pass_bytes`. Empty associated data comes here too.
+    if first + rest == 0 {
+        return absorb_whole(state, bytes, 0, whole);
+    }
+    let mut state = state;
+    absorb_part(&mut state, &mut *block, total, bytes, 0, first);
+    let mut state = absorb_whole(state, bytes, first, whole);
+    let end = total + last as u64;
+    absorb_part(&mut state, &mut *block, end, bytes, last, rest);
+    state
+}
+
+/// The lanes after the next bytes of a message, of which they have taken in `total`: each byte is xored with the
+/// keystream, and the lanes take in the bytes that `pass` selects. The open block is filled where it lies.
+#[inline(always)]
+pub fn pass_bytes<S: LaneState>(
+    state: S,
+    block: &mut RateBlock,
+    total: u64,
+    pass: Pass,
+    mc: &mut [u8],
+) -> S
+    requires within { total + length mc.old < 2 ^ 64 }
+    requires countable { S.updates state + length mc.old < 2 ^ 64 }
+    ensures taken { (data_bytes : ℕ) → Takes S.VARIANT
+        (held_by S.VARIANT (S.lane state) (S.updates state) block.old data_bytes total)
+        (held_by S.VARIANT (S.lane result) (S.updates result) block.new data_bytes
+        (total + length mc.old))
+        (absorbed pass mc.old mc.new) }
+    ensures written { (data_bytes : ℕ) → Encrypts S.VARIANT
+        (held_by S.VARIANT (S.lane state) (S.updates state) block.old data_bytes total)
+        (absorbed pass mc.old mc.new) (sealed pass mc.old mc.new) }
+    ensures few { S.updates result ≤ S.updates state + length mc.old }
+{
+    let first = filling::<S>(total, mc.len());
+    let whole = (mc.len() - first) / S::RATE;
+    let last = first + whole * S::RATE;
+    let rest = mc.len() - last;
+    // Most pieces are whole rate blocks alone. They need no call before or after the loop.
+    if first + rest == 0 {
+        return pass_whole(state, pass, mc, 0, whole);
+    }
+    let mut state = state;
+    pass_part(&mut state, &mut *block, total, pass, mc, 0, first);
+    let mut state = pass_whole(state, pass, mc, first, whole);
+    let end = total + last as u64;
+    pass_part(&mut state, &mut *block, end, pass, mc, last, rest);
+    state
+}
+
 // The lanes after their start and associated data. Out of line, it is there once for all calls; a run that begins in its
 // caller has a count that is known to be 0 there.
 #[inline(never)]
@@ -79,13 +146,14 @@ fn begun<S: LaneState>(key: &[u8], nonce: &[u8], ad: &[u8]) -> S
         → S.lane result j ≡ lane_before S.VARIANT key.now nonce.now ad.now j }
     ensures updates { S.updates result ≡ block_count S.VARIANT (length ad.now) }
 {
-    let mut run = Run {
-        state: S::new(key, nonce),
-        block: ZEROS,
+    let mut block = ZEROS;
+    let state = absorb_bytes(S::new(key, nonce), &mut block, 0, ad);
+    let run = Run {
+        state,
+        block,
         data_bytes: 0,
-        message_bytes: 0,
+        message_bytes: ad.len() as u64,
     };
-    run.absorb(ad);
     run.padded()
 }
 
@@ -143,24 +211,11 @@ impl<S: LaneState> Run<S> {
         ensures taken { Takes S.VARIANT self.old self.new bytes.now }
         ensures length { self.new.message_bytes ≡ self.old.message_bytes + length bytes.now }
     {
-        let total = self.message_bytes;
-        let first = filling::<S>(total, bytes.len());
-        let whole = (bytes.len() - first) / S::RATE;
-        let last = first + whole * S::RATE;
-        let rest = bytes.len() - last;
-        self.message_bytes += bytes.len() as u64;
-        // As in `pass`. Empty associated data comes here too.
-        if first + rest == 0 {
-            self.state = absorb_whole(self.state, bytes, 0, whole);
-            return;
-        }
-        let (mut state, mut block) = (self.state, self.block);
-        absorb_part(&mut state, &mut block, total, bytes, 0, first);
-        let mut state = absorb_whole(state, bytes, first, whole);
-        let end = total + last as u64;
-        absorb_part(&mut state, &mut block, end, bytes, last, rest);
-        self.state = state;
+        // A copy, since a run that lends its block to a call would lie in memory in the loop over rate blocks too.
+        let mut block = self.block;
+        self.state = absorb_bytes(self.state, &mut block, self.message_bytes, bytes);
         self.block = block;
+        self.message_bytes += bytes.len() as u64;
     }
 
     /// Processes the next bytes of a message in place: each byte is xored with the keystream, and the lanes take in the
@@ -174,25 +229,11 @@ impl<S: LaneState> Run<S> {
         ensures data_bytes { self.new.data_bytes ≡ self.old.data_bytes }
         ensures length { self.new.message_bytes ≡ self.old.message_bytes + length mc.old }
     {
-        let total = self.message_bytes;
-        let first = filling::<S>(total, mc.len());
-        let whole = (mc.len() - first) / S::RATE;
-        let last = first + whole * S::RATE;
-        let rest = mc.len() - last;
-        self.message_bytes += mc.len() as u64;
-        // Most pieces are whole rate blocks alone. They need no call before or after the loop.
-        if first + rest == 0 {
-            self.state = pass_whole(self.state, pass, mc, 0, whole);
-            return;
-        }
-        // Copies, since a run that is lent to a call would lie in memory in the loop above too.
-        let (mut state, mut block) = (self.state, self.block);
-        pass_part(&mut state, &mut block, total, pass, mc, 0, first);
-        let mut state = pass_whole(state, pass, mc, first, whole);
-        let end = total + last as u64;
-        pass_part(&mut state, &mut block, end, pass, mc, last, rest);
-        self.state = state;
+        // As in `absorb`.
+        let mut block = self.block;
+        self.state = pass_bytes(self.state, &mut block, self.message_bytes, pass, mc);
         self.block = block;
+        self.message_bytes += mc.len() as u64;
     }
 
     /// Returns the lanes after all bytes: if a rate block is open, it is taken in, padded with zeros.

@@ -9,14 +9,14 @@ ghost use Rattle.std.specs.Prelude.{◌≡◌, ℕ, ◌+◌, ◌/◌, ◌%◌, �
 ghost use Rattle.aegis_base.specs.Lane.{IsTagLength};
 ghost use Rattle.aegis_base.specs.Mac.{mac};
 ghost use Rattle.aegis_base.specs.Message.{Opens, block_count, ciphertext, tag as tag_of};
-ghost use Rattle.aegis_base.specs.Run.{Stands};
+ghost use Rattle.aegis_base.specs.Run.{Stands, held_by};
 ghost use Rattle.aegis_base.specs.Variant.{key_length};
 ghost use Rattle.aegis_engine.specs.Pass.{absorbed, sealed};
 ghost use Rattle.aegis_engine.specs.Saved.{HasChecked, HasSealed, HasTaken, IsSaved};
 
 use crate::pass::{Pass, RateBlock, ZEROS};
 use crate::pieces::COPY_BYTES;
-use crate::run::Run;
+use crate::run::{Run, absorb_bytes, pass_bytes};
 use crate::tag::same_bytes;
 use aegis_base::{LaneState, MAX_AEAD_BYTES, SavedLanes, SavedRows};
 
@@ -60,19 +60,35 @@ fn updates_along<S: LaneState>(data_bytes: u64, message_bytes: u64) -> u64
     (data_bytes + (rate - 1)) / rate + message_bytes / rate
 }
 
-// Copies the block that is open after `total` bytes of a message. If none is open, no byte of it matters.
-#[inline(always)]
-fn copy_open_block<S: LaneState>(target: &mut RateBlock, source: &RateBlock, total: u64)
-    ensures { (k : ℕ) → k < total % S.RATE
-        → slice_index target.new k ≡ slice_index source.now k }
-{
-    if total % S::RATE as u64 > 0 {
-        *target = *source;
-    }
-}
-
 impl SavedRun {
-    // The run, with its updates counted.
+    // The lanes, with their updates counted.
+    #[inline(always)]
+    fn lanes<S: SavedLanes>(&self) -> S
+        requires associated_data_within { self.now.data_bytes ≤ MAX_AEAD_BYTES }
+        requires message_within { self.now.message_bytes ≤ MAX_AEAD_BYTES }
+        ensures stands { (key nonce ad m : List ℕ) → IsSaved S.VARIANT self.now key nonce ad m
+            → Stands S.VARIANT (held_by S.VARIANT (S.lane result) (S.updates result)
+            self.now.block self.now.data_bytes self.now.message_bytes) key nonce ad m }
+        ensures few { S.updates result ≤ self.now.data_bytes + self.now.message_bytes }
+    {
+        let count = updates_along::<S>(self.data_bytes, self.message_bytes);
+        S::restore(&self.rows, count)
+    }
+
+    // Saves the lanes of a run whose other values are here.
+    #[inline(always)]
+    fn keep<S: SavedLanes>(&mut self, state: S)
+        ensures stands { (key nonce ad m : List ℕ)
+            → Stands S.VARIANT (held_by S.VARIANT (S.lane state) (S.updates state)
+            self.old.block self.old.data_bytes self.old.message_bytes) key nonce ad m
+            → self.old.mark ≡ BEGUN → IsSaved S.VARIANT self.new key nonce ad m }
+        ensures data_bytes { self.new.data_bytes ≡ self.old.data_bytes }
+        ensures message_bytes { self.new.message_bytes ≡ self.old.message_bytes }
+    {
+        state.save(&mut self.rows);
+    }
+
+    // The run, as a value of its own.
     fn run<S: SavedLanes>(&self) -> Run<S>
         requires associated_data_within { self.now.data_bytes ≤ MAX_AEAD_BYTES }
         requires message_within { self.now.message_bytes ≤ MAX_AEAD_BYTES }
@@ -81,26 +97,12 @@ impl SavedRun {
         ensures data_bytes { result.data_bytes ≡ self.now.data_bytes }
         ensures message_bytes { result.message_bytes ≡ self.now.message_bytes }
     {
-        let count = updates_along::<S>(self.data_bytes, self.message_bytes);
         Run {
-            state: S::restore(&self.rows, count),
+            state: self.lanes::<S>(),
             block: self.block,
             data_bytes: self.data_bytes,
             message_bytes: self.message_bytes,
         }
-    }
-
-    // Saves a run in place of this one, under the same mark.
-    fn keep<S: SavedLanes>(&mut self, run: &Run<S>)
-        ensures stands { (key nonce ad m : List ℕ) → Stands S.VARIANT run.now key nonce ad m
-            → self.old.mark ≡ BEGUN → IsSaved S.VARIANT self.new key nonce ad m }
-        ensures data_bytes { self.new.data_bytes ≡ run.now.data_bytes }
-        ensures message_bytes { self.new.message_bytes ≡ run.now.message_bytes }
-    {
-        run.state.save(&mut self.rows);
-        copy_open_block::<S>(&mut self.block, &run.block, run.message_bytes);
-        self.data_bytes = run.data_bytes;
-        self.message_bytes = run.message_bytes;
     }
 
     /// Begins a message with the associated data `ad`, or a MAC, for which `ad` must be empty. The key and the nonce
@@ -112,12 +114,15 @@ impl SavedRun {
         ensures stands { IsSaved S.VARIANT self.new key.now nonce.now ad.now [] }
         ensures empty { ciphertext S.VARIANT key.now nonce.now ad.now [] ≡ [] }
     {
+        let run = Run::<S>::begin(key, nonce, ad);
         self.mark = BEGUN;
-        self.keep(&Run::<S>::begin(key, nonce, ad));
+        self.block = run.block;
+        self.data_bytes = run.data_bytes;
+        self.message_bytes = run.message_bytes;
+        self.keep(run.state);
     }
 
-    // Processes the next bytes of a message in place, as `Run::pass` does. The run is made here and not by `run`, since to
-    // move it takes a third of the time of a chunk of 64 bytes.
+    // Processes the next bytes of a message in place, as `Run::pass` does.
     #[inline(always)]
     fn pass<S: SavedLanes>(&mut self, pass: Pass, mc: &mut [u8])
         requires associated_data_within { self.old.data_bytes ≤ MAX_AEAD_BYTES }
@@ -128,15 +133,10 @@ impl SavedRun {
         ensures associated_data { self.new.data_bytes ≡ self.old.data_bytes }
         ensures counted { self.new.message_bytes ≡ self.old.message_bytes + length mc.old }
     {
-        let count = updates_along::<S>(self.data_bytes, self.message_bytes);
-        let mut run = Run {
-            state: S::restore(&self.rows, count),
-            block: self.block,
-            data_bytes: self.data_bytes,
-            message_bytes: self.message_bytes,
-        };
-        run.pass(pass, mc);
-        self.keep(&run);
+        let state = self.lanes::<S>();
+        let state = pass_bytes(state, &mut self.block, self.message_bytes, pass, mc);
+        self.message_bytes += mc.len() as u64;
+        self.keep(state);
     }
 
     /// Seals the next bytes of the message in place. Together with those before, there must be at most
@@ -194,9 +194,10 @@ impl SavedRun {
         requires message_within { self.old.message_bytes + length input.now ≤ MAX_AEAD_BYTES }
         ensures { HasTaken S.VARIANT self.old self.new input.now }
     {
-        let mut run = self.run::<S>();
-        run.absorb(input);
-        self.keep(&run);
+        let state = self.lanes::<S>();
+        let state = absorb_bytes(state, &mut self.block, self.message_bytes, input);
+        self.message_bytes += input.len() as u64;
+        self.keep(state);
     }
 
     /// Returns the tag of the message. The run may continue afterwards.

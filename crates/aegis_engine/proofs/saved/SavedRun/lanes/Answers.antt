@@ -1,6 +1,6 @@
 use Rattle.std.proofs.Common.{◌∙◌}
 use Rattle.aegis_engine.proofs.SavedFacts.{restored}
-use Rattle.aegis_engine.proofs.saved.SavedRun.run.Goals as goal
+use Rattle.aegis_engine.proofs.saved.SavedRun.lanes.Goals as goal
 
 pub returns-clause-stands : goal.returns-clause-stands
 returns-clause-stands g c key nonce ad m is =
