@@ -5,7 +5,7 @@ ghost use Rattle.aegis_files.specs.SealedFile.{IfRefused, IsFileOf, IsSealedFile
 
 use aegis::aegis256::Key;
 use aegis::record::{MAX_CONTEXT_BYTES, RecordError};
-use aegis_files::{FileError, open_stream, seal_stream};
+use aegis_files::{FileError, open_stream, rekey_stream, seal_stream};
 use std::alloc::Allocator;
 
 /// Seals a text, and returns its file.
@@ -44,4 +44,28 @@ pub fn open_text<A: Allocator + Copy>(
     let mut input = file;
     open_stream(alloc, key, context, &mut input, &mut text)?;
     Ok(text)
+}
+
+/// Seals the text of a file anew under another key and a new prefix, and returns the new file. An intact file is refused
+/// only if memory runs out.
+pub fn rekey_file<A: Allocator + Copy>(
+    alloc: A,
+    key: &Key,
+    new_key: &Key,
+    prefix: &[u8; 24],
+    context: &[u8],
+    file: &[u8],
+) -> Result<Vec<u8, A>, FileError>
+    requires { length context.now ≤ MAX_CONTEXT_BYTES }
+    ensures rekeyed { IfOk result (λ new_file. (text : List ℕ)
+        × IsSealedFile key.now context.now text file.now
+        × IsFileOf new_key.now prefix.now context.now text new_file.items) }
+    ensures accepted { IfErr result (λ e. (text : List ℕ)
+        → IsSealedFile key.now context.now text file.now
+        → IfRefused e (λ why. why ≡ RecordError.OutOfMemory)) }
+{
+    let mut new_file = Vec::new(alloc);
+    let mut input = file;
+    rekey_stream(alloc, key, new_key, prefix, context, &mut input, &mut new_file)?;
+    Ok(new_file)
 }

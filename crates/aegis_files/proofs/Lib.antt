@@ -6,3 +6,5 @@ pub mod Pieces
 pub mod Records
 pub mod Sealing
 pub mod Verified
+pub mod Rekeying
+pub mod RekeyFailing

@@ -29,7 +29,7 @@ use Rattle.aegis_files.proofs.Pieces.{all_push, concat-push, total-concat, two_p
 abbrev pub IsFull : Progress → Option (List ℕ) → Type 0
 IsFull p left = (p.before ≡ p.number * PIECE_BYTES) ⊎ IsAtEnd left
 
-counted : (p : Progress) (key prefix context : List ℕ) (ms : List (List ℕ)) (bytes : List ℕ) → Begun p key prefix context ms bytes
+pub counted : (p : Progress) (key prefix context : List ℕ) (ms : List (List ℕ)) (bytes : List ℕ) → Begun p key prefix context ms bytes
     → (p.number ≡ length ms) × (p.before ≡ total ms)
 unfolding Begun
 counted p key prefix context ms bytes b = (b.number_is, b.before_is)
@@ -96,7 +96,7 @@ IsLast p m bytes = (key prefix context : List ℕ) (ms : List (List ℕ)) (befor
     → AreRecordsOfSomeVersion key prefix context (ms ++ m ∷ []) (before ++ bytes)
 
 -- the bytes to write are those that were pending, and then the record
-joined : (sent pending bytes out : List ℕ) → out ≡ pending ++ bytes → (sent ++ pending) ++ bytes ≡ sent ++ out
+pub joined : (sent pending bytes out : List ℕ) → out ≡ pending ++ bytes → (sent ++ pending) ++ bytes ≡ sent ++ out
 joined sent pending bytes out is = append_assoc sent pending bytes ∙ ap (λ (l : List ℕ). sent ++ l) (sym is)
 
 pub seals_more : (p q : Progress) (key prefix context : List ℕ) (text left left' old new new' : Option (List ℕ)) (pending m bytes out none : List ℕ)
@@ -154,7 +154,7 @@ unfolding IsFaultOf parts
 cut_fault key prefix context v ms within = AtRecord v ms [] within (sym (append-nil (front (sealed key prefix context) v 0 ms))) refl
 
 -- no stream is a front of records that have no last one
-no_stream : (key prefix context : List ℕ) (v : Version) (ms others : List (List ℕ)) (stream rest : List ℕ) → AreWithin v ms
+pub no_stream : (key prefix context : List ℕ) (v : Version) (ms others : List (List ℕ)) (stream rest : List ℕ) → AreWithin v ms
     → front (sealed key prefix context) v 0 ms ≡ stream ++ rest → AreRecordsOfSomeVersion key prefix context others stream → ⊥
 no_stream key prefix context v ms others stream [] within is are =
     (one_fault (sealed key prefix context) (sealed-is key prefix context)).1 stream are.0 others errors.Truncated are.1
@@ -166,14 +166,14 @@ no_stream key prefix context v ms others stream (x ∷ rest) within is are =
     absurd cc
 
 -- what was written is a file that opens, and the prefix is its prefix
-record Opens (key prefix context text begun rest bytes : List ℕ) : Type 0 where
-  messages : List (List ℕ)
-  stream : List ℕ
-  are : AreRecordsOfSomeVersion key prefix context messages stream
-  text_is : text ≡ concat messages
-  is : bytes ≡ stream ++ rest
+pub record Opens (key prefix context text begun rest bytes : List ℕ) : Type 0 where
+  pub messages : List (List ℕ)
+  pub stream : List ℕ
+  pub are : AreRecordsOfSomeVersion key prefix context messages stream
+  pub text_is : text ≡ concat messages
+  pub is : bytes ≡ stream ++ rest
 
-opens_at : (key prefix context text begun rest bytes : List ℕ) → length prefix ≡ 24 → prefix ++ bytes ≡ begun ++ rest → IsSealedFile key context text begun
+pub opens_at : (key prefix context text begun rest bytes : List ℕ) → length prefix ≡ 24 → prefix ++ bytes ≡ begun ++ rest → IsSealedFile key context text begun
     → Opens key prefix context text begun rest bytes
 opens_at key prefix context text begun rest bytes long is file =
     let same = two_prefixes prefix file.prefix bytes (file.is.stream ++ rest) long file.long
@@ -295,7 +295,7 @@ stops_long p key prefix context (Some t) left left' old new pending m long s rea
         too_many p key prefix context t r s.messages (s.sent ++ pending) (Some l) m s.begun before read some full past
 
 -- the record was sealed, and some of the bytes to write were written
-cut_out : (sent pending bytes out : List ℕ) (n : ℕ) → out ≡ pending ++ bytes → (sent ++ take n out) ++ drop n out ≡ (sent ++ pending) ++ bytes
+pub cut_out : (sent pending bytes out : List ℕ) (n : ℕ) → out ≡ pending ++ bytes → (sent ++ take n out) ++ drop n out ≡ (sent ++ pending) ++ bytes
 cut_out sent pending bytes out n is =
     append_assoc sent (take n out) (drop n out) ∙ ap (λ (l : List ℕ). sent ++ l) (take-append-drop n out) ∙ sym (joined sent pending bytes out is)
 

@@ -1,2 +1,3 @@
 pub mod SealedFile
 pub mod Reading
+pub mod Rekey

@@ -19,7 +19,7 @@ use std::alloc::Allocator;
 use std::io::{Read, Write};
 
 // Reads the next record, or the bytes that there are of it.
-fn read_record<R: Read, A: Allocator + Copy>(
+pub(crate) fn read_record<R: Read, A: Allocator + Copy>(
     input: &mut R,
     opener: &RecordOpener<'_, A>,
     bytes: &mut Vec<u8, A>,
@@ -82,7 +82,7 @@ fn open_under<R: Read, W: Write, A: Allocator + Copy>(
 }
 
 // Returns an error unless the input is at its end.
-fn end<R: Read>(input: &mut R) -> Result<(), FileError>
+pub(crate) fn end<R: Read>(input: &mut R) -> Result<(), FileError>
     ensures read { OnOk result (Consumes (R.remaining input.old) (R.remaining input.new) []) }
     ensures end { OnOk result (IsAtEnd (R.remaining input.new)) }
     ensures err { IfErr result

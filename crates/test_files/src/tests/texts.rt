@@ -2,7 +2,7 @@
 
 use super::{CONTEXT, KEY, PREFIX, TEXT, opened, sealed, three_records};
 use aegis::record::open_records;
-use aegis_files::PIECE_BYTES;
+use aegis_files::{PIECE_BYTES, rekey_stream};
 use std::test::Fail;
 
 #[test]
@@ -41,5 +41,18 @@ fn a_file_of_other_pieces_opens(rt: HostRuntime) -> Result<(), Fail> {
     let (text, result) = opened(rt.alloc(), &file);
     assert!(rt; result.is_ok());
     assert_eq!(rt; text.as_slice(), TEXT);
+    Ok(())
+}
+
+// Each record becomes one record under the other key.
+#[test]
+fn a_file_is_sealed_anew_under_another_key(rt: HostRuntime) -> Result<(), Fail> {
+    let new_key = [8; 32];
+    let new_prefix = [10; 24];
+    let old = three_records(rt.alloc(), &KEY, &PREFIX)?;
+    let mut new = Vec::new(rt.alloc());
+    let mut input = old.as_slice();
+    rekey_stream(rt.alloc(), &KEY, &new_key, &new_prefix, &CONTEXT, &mut input, &mut new)?;
+    assert!(rt; new == three_records(rt.alloc(), &new_key, &new_prefix)?);
     Ok(())
 }
