@@ -66,6 +66,14 @@ pub fn rekey_file<A: Allocator + Copy>(
 {
     let mut new_file = Vec::new(alloc);
     let mut input = file;
-    rekey_stream(alloc, key, new_key, prefix, context, &mut input, &mut new_file)?;
+    rekey_stream(
+        alloc,
+        key,
+        new_key,
+        prefix,
+        context,
+        &mut input,
+        &mut new_file,
+    )?;
     Ok(new_file)
 }

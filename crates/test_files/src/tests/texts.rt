@@ -52,7 +52,15 @@ fn a_file_is_sealed_anew_under_another_key(rt: HostRuntime) -> Result<(), Fail> 
     let old = three_records(rt.alloc(), &KEY, &PREFIX)?;
     let mut new = Vec::new(rt.alloc());
     let mut input = old.as_slice();
-    rekey_stream(rt.alloc(), &KEY, &new_key, &new_prefix, &CONTEXT, &mut input, &mut new)?;
+    rekey_stream(
+        rt.alloc(),
+        &KEY,
+        &new_key,
+        &new_prefix,
+        &CONTEXT,
+        &mut input,
+        &mut new,
+    )?;
     assert!(rt; new == three_records(rt.alloc(), &new_key, &new_prefix)?);
     Ok(())
 }
