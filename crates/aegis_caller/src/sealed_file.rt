@@ -1,11 +1,14 @@
 //! Sealed files in memory.
 
 ghost use Rattle.std.specs.Prelude.{◌≡◌, ◌≤◌, IfErr, IfOk, List, length, ℕ};
+ghost use Rattle.aegis_base.specs.declared.error.TheConstants.{MAX_AEAD_BYTES};
+ghost use Rattle.aegis.specs.Progress.{start_at};
+ghost use Rattle.aegis_files.specs.Range.{IsTextFrom, part_of_text};
 ghost use Rattle.aegis_files.specs.SealedFile.{IfRefused, IsFileOf, IsSealedFile};
 
 use aegis::aegis256::Key;
 use aegis::record::{MAX_CONTEXT_BYTES, RecordError};
-use aegis_files::{FileError, open_stream, rekey_stream, seal_stream};
+use aegis_files::{FileError, TextRange, open_range, open_stream, rekey_stream, seal_stream};
 use std::alloc::Allocator;
 
 /// Seals a text, and returns its file.
@@ -44,6 +47,31 @@ pub fn open_text<A: Allocator + Copy>(
     let mut input = file;
     open_stream(alloc, key, context, &mut input, &mut text)?;
     Ok(text)
+}
+
+/// Opens a part of a text, and returns it: `records` are the bytes of the file from the record at the part's position on.
+/// If they are those of a text, they are refused only if memory runs out.
+pub fn open_part<A: Allocator + Copy>(
+    alloc: A,
+    key: &Key,
+    prefix: &[u8; 24],
+    context: &[u8],
+    range: TextRange,
+    records: &[u8],
+) -> Result<Vec<u8, A>, FileError>
+    requires context_within { length context.now ≤ MAX_CONTEXT_BYTES }
+    requires start_within { start_at range.position.number range.position.before ≤ MAX_AEAD_BYTES }
+    ensures opened { IfOk result (λ part. (text : List ℕ)
+        → IsTextFrom key.now prefix.now context.now range.position text records.now
+        → part.items ≡ part_of_text range text) }
+    ensures accepted { IfErr result (λ e. (text : List ℕ)
+        → IsTextFrom key.now prefix.now context.now range.position text records.now
+        → IfRefused e (λ why. why ≡ RecordError.OutOfMemory)) }
+{
+    let mut part = Vec::new(alloc);
+    let mut input = records;
+    open_range(alloc, key, prefix, context, range, &mut input, &mut part)?;
+    Ok(part)
 }
 
 /// Seals the text of a file anew under another key and a new prefix, and returns the new file. An intact file is refused

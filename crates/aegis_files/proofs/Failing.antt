@@ -1,28 +1,26 @@
 -- The facts that hold if opening fails.
-use Rattle.std.proofs.Common.{◌≡◌, ◌⊎◌, ℕ, ◌+◌, ◌<◌, Bool, true, false, List, [], ◌∷◌, ◌++◌, Option, None, Some, IfErr, IfSome, Result, Ok, Err, drop, length, take, refl, sym, ap, subst, ◌∙◌, append_assoc, arith, inl, inr}
+use Rattle.std.proofs.Common.{◌≡◌, ◌⊎◌, ℕ, Bool, true, false, List, [], ◌∷◌, ◌++◌, Option, None, Some, IfErr, IfSome, Result, Ok, Err, drop, length, take, le_refl, refl, sym, ap, subst, ◌∙◌, append_assoc, arith, inl, inr}
 use Rattle.std.proofs.KnownBytes.{Appends-kept, Appends-trans, Consumes-trans}
-use Rattle.std.proofs.lemmas.List.{append-nil, length-append}
-use Rattle.std.specs.Bool.{OnFalse, OnTrue}
-use Rattle.std.specs.Io.KnownBytes.{Appends, Consumes, IsAtEnd, Keeps}
+use Rattle.std.proofs.Math.ListN.{drop_of_length-le}
+use Rattle.std.proofs.lemmas.List.{append-nil, length-append, take_all}
+use Rattle.std.specs.Io.KnownBytes.{Appends, Consumes, Keeps}
 use Rattle.std.specs.List.{concat}
-use Rattle.aegis_base.specs.declared.error.TheConstants.{MAX_AEAD_BYTES}
 use Rattle.aegis.specs.declared.record.error.RecordError.{RecordError}
 use Rattle.aegis.specs.declared.record.error.RecordError.TheVariants as errors
-use Rattle.aegis.specs.Progress.{AreRecordsOfSomeVersion, Begun, Progress, record_of, start_of}
+use Rattle.aegis.specs.Progress.{AreRecordsOfSomeVersion, Progress, record_of}
 use Rattle.aegis.specs.Records.{IsFault, sealed}
 use Rattle.aegis.proofs.Fronts.{after_a_stream}
 use Rattle.aegis.proofs.Lengths.{length-begun}
 use Rattle.aegis.proofs.Sealed.{sealed-is}
-use Rattle.aegis.proofs.Stepwise.{begun_parts}
 use Rattle.aegis.proofs.Streams.{one_fault}
 use Rattle.aegis_files.specs.declared.error.FileError.{FileError}
 use Rattle.aegis_files.specs.declared.error.FileError.TheVariants.{Read, Write, Stream, TooLong}
-use Rattle.aegis_files.specs.Reading.{FailsUnder, LeavesSome, RefusesNext, WritesFront}
+use Rattle.aegis_files.specs.Reading.{FailsNext, FailsUnder, LeavesSome, ReadsNext, WritesFront}
 use Rattle.aegis_files.specs.SealedFile.{FailsWith, IfRefused, IsFileFault, IsSealedFile, IsVerifiedFront, IsVerifiedInFile, IsWriteError, WritesTextFront}
 use Rattle.aegis_files.proofs.Errors.{in_time, so_long, so_refused, unwritten, write_in_time}
-use Rattle.aegis_files.proofs.Opening.{OpensSome, alone}
-use Rattle.aegis_files.proofs.Pieces.{concat-cut, concat-push, two_prefixes}
-use Rattle.aegis_files.proofs.Sealing.{IsLast, IsStep, split}
+use Rattle.aegis_files.proofs.Opening.{OpensSome}
+use Rattle.aegis_files.proofs.Pieces.{concat-cut, two_prefixes}
+use Rattle.aegis_files.proofs.Sealing.{split}
 use Rattle.aegis_files.proofs.Verified.{verified_begun, verified_ended, verified_text}
 
 -- ---- between records
@@ -37,173 +35,100 @@ front_is p key prefix context f left old new e s =
       verified = inr (verified_begun p key prefix context f s.taken parts.0 (concat s.messages) [] s.messages e s.begun parts.1 (sym (append-nil (concat s.messages))) (inl refl));
     }
 
--- the next record passes the limit
-pub fails_long : (p : Progress) (key prefix context : List ℕ) (stream left left' old new : Option (List ℕ)) (found : List ℕ) → OpensSome p key prefix context stream left old new
-    → Consumes left left' found → MAX_AEAD_BYTES < start_of p + length found → IfSome stream (λ f. FailsUnder key prefix context f old new TooLong)
-fails_long p key prefix context None left left' old new found s read long = tt
-fails_long p key prefix context (Some f) left left' old new found s read long =
-    let parts = split f (s.taken ++ found) left' (Consumes-trans (Some f) left left' s.taken found s.read read) in
+pub fails_next : (p : Progress) (key prefix context : List ℕ) (stream left old new : Option (List ℕ)) (e : FileError) → OpensSome p key prefix context stream left old new
+    → FailsNext p left e → IfSome stream (λ f. FailsUnder key prefix context f old new e)
+fails_next p key prefix context None left old new e s why = tt
+fails_next p key prefix context (Some f) None old new e s why = absurd s.read
+fails_next p key prefix context (Some f) (Some rest) old new (Read e) s why =
+    record { front = front_is p key prefix context f (Some rest) old new (Read e) s; refused = tt; too_long = tt }
+fails_next p key prefix context (Some f) (Some rest) old new (Write e) s why = absurd why
+fails_next p key prefix context (Some f) (Some rest) old new (Stream e) s (inl memory) =
+    record { front = front_is p key prefix context f (Some rest) old new (Stream e) s; refused = inl memory; too_long = tt }
+fails_next p key prefix context (Some f) (Some rest) old new (Stream e) s (inr fault) = record {
+  front = front_is p key prefix context f (Some rest) old new (Stream e) s;
+  refused = inr (subst (λ (l : List ℕ). IsFault key prefix context l e) (sym s.read) (fault key prefix context s.messages s.taken s.begun));
+  too_long = tt;
+}
+fails_next p key prefix context (Some f) (Some rest) old new TooLong s long = record {
+  front = front_is p key prefix context f (Some rest) old new TooLong s;
+  refused = tt;
+  too_long = omega (arith, long, length-begun p key prefix context s.messages s.taken s.begun, ap length s.read, length-append s.taken rest);
+}
+
+-- ---- after the next record
+
+-- the first n bytes of its message were written
+front_next : (p q : Progress) (last : Bool) (key prefix context f : List ℕ) (left left' old new new' : Option (List ℕ)) (m : List ℕ) (n : ℕ) (e : FileError)
+    → OpensSome p key prefix context (Some f) left old new → ReadsNext p q left left' last m → Appends new new' (take n m) → (drop n m ≡ []) ⊎ IsWriteError e
+    → WritesFront key prefix context f old new' e
+front_next p q false key prefix context f left left' old new new' m n e s next written all =
+    let taken : List ℕ = s.taken ++ record_of p 0 m in
+    let parts = split f taken left' (Consumes-trans (Some f) left left' s.taken (record_of p 0 m) s.read next.read) in
     record {
-      front = front_is p key prefix context f left old new TooLong s;
-      refused = tt;
-      too_long = omega (arith, long, length-begun p key prefix context s.messages s.taken s.begun, ap length parts.1, length-append (s.taken ++ found) parts.0, length-append s.taken found);
+      begun = concat s.messages ++ take n m;
+      written = Appends-trans old new new' (concat s.messages) (take n m) s.written written;
+      verified = inr (verified_begun q key prefix context f taken parts.0 (concat s.messages ++ take n m) (drop n m) (s.messages ++ m ∷ []) e
+          (next.begun key prefix context s.messages s.taken s.begun) parts.1 (concat-cut s.messages m n) all);
+    }
+front_next p q true key prefix context f left left' old new new' m n e s next written all =
+    let taken : List ℕ = s.taken ++ record_of p 1 m in
+    let parts = split f taken left' (Consumes-trans (Some f) left left' s.taken (record_of p 1 m) s.read next.read) in
+    record {
+      begun = concat s.messages ++ take n m;
+      written = Appends-trans old new new' (concat s.messages) (take n m) s.written written;
+      verified = inr (verified_ended key prefix context f taken parts.0 (concat s.messages ++ take n m) (drop n m) (s.messages ++ m ∷ []) e
+          (next.whole key prefix context s.messages s.taken s.begun) parts.1 (concat-cut s.messages m n) all);
     }
 
-at_end : (rest : List ℕ) (left : Option (List ℕ)) → left ≡ Some rest → IsAtEnd left → rest ≡ []
-at_end rest None e end = absurd cc
-at_end rest (Some l) e end = let same : l ≡ rest = some_is l rest e in sym same ∙ end
-  where
-    some_is : (l rest : List ℕ) → Some l ≡ Some rest → l ≡ rest
-    some_is l rest e = cc
-
-pub fails_next : (p : Progress) (key prefix context : List ℕ) (stream left left' old new : Option (List ℕ)) (e : FileError) → OpensSome p key prefix context stream left old new
-    → RefusesNext p left left' e → IfSome stream (λ f. FailsUnder key prefix context f old new e)
-fails_next p key prefix context None left left' old new e s why = tt
-fails_next p key prefix context (Some f) left left' old new (Read e) s why =
-    record { front = front_is p key prefix context f left old new (Read e) s; refused = tt; too_long = tt }
-fails_next p key prefix context (Some f) left left' old new (Write e) s why = absurd why
-fails_next p key prefix context (Some f) left left' old new (Stream e) s (inl memory) =
-    record { front = front_is p key prefix context f left old new (Stream e) s; refused = inl memory; too_long = tt }
-fails_next p key prefix context (Some f) left left' old new (Stream e) s (inr refused) =
-    let parts = split f (s.taken ++ refused.0) left' (Consumes-trans (Some f) left left' s.taken refused.0 s.read refused.1) in
-    record {
-      front = front_is p key prefix context f left old new (Stream e) s;
-      refused = inr (subst (λ (l : List ℕ). IsFault key prefix context l e) (sym (parts.1 ∙ append_assoc s.taken refused.0 parts.0))
-          (begun_parts p (refused.0 ++ parts.0) e (refused.2 parts.0) key prefix context s.messages s.taken s.begun));
-      too_long = tt;
-    }
-fails_next p key prefix context (Some f) left left' old new TooLong s why = absurd why
-
-pub fails_open : (p : Progress) (key prefix context : List ℕ) (stream left left' old new : Option (List ℕ)) (found : List ℕ) (e : RecordError)
-    → OpensSome p key prefix context stream left old new → Consumes left left' found
-    → (e ≡ errors.OutOfMemory) ⊎ ((key prefix context : List ℕ) (ms : List (List ℕ)) (before more : List ℕ) → Begun p key prefix context ms before
-    → (e ≡ errors.Truncated → more ≡ []) → IsFault key prefix context (before ++ (found ++ more)) e)
-    → (e ≡ errors.Truncated → IsAtEnd left') → IfSome stream (λ f. FailsUnder key prefix context f old new (Stream e))
-fails_open p key prefix context None left left' old new found e s read why end = tt
-fails_open p key prefix context (Some f) left left' old new found e s read (inl memory) end =
-    record { front = front_is p key prefix context f left old new (Stream e) s; refused = inl memory; too_long = tt }
-fails_open p key prefix context (Some f) left left' old new found e s read (inr refused) end =
-    let parts = split f (s.taken ++ found) left' (Consumes-trans (Some f) left left' s.taken found s.read read) in
-    record {
-      front = front_is p key prefix context f left old new (Stream e) s;
-      refused = inr (subst (λ (l : List ℕ). IsFault key prefix context l e) (sym (parts.1 ∙ append_assoc s.taken found parts.0))
-          (refused key prefix context s.messages s.taken parts.0 s.begun (λ cut. at_end parts.0 left' parts.2 (end cut))));
-      too_long = tt;
-    }
-
--- ---- after a record whose message could not be written
-
-pub fails_write : (p q : Progress) (last : Bool) (key prefix context : List ℕ) (stream left left' old new new' : Option (List ℕ)) (m found rest : List ℕ) (n : ℕ) (e : FileError)
-    → OpensSome p key prefix context stream left old new → Consumes left left' found
-    → OnFalse last (IsStep p q m (record_of p 0 m)) → OnTrue last (IsLast p m (record_of p 1 m))
-    → OnFalse last (found ≡ record_of p 0 m ++ rest) → OnTrue last (found ≡ record_of p 1 m ++ rest)
-    → ((flag : ℕ) → found ≡ record_of p flag m ++ rest → rest ≡ [])
+pub fails_write : (p q : Progress) (last : Bool) (key prefix context : List ℕ) (stream left left' old new new' : Option (List ℕ)) (m : List ℕ) (n : ℕ) (e : FileError)
+    → OpensSome p key prefix context stream left old new → ReadsNext p q left left' last m
     → Appends new new' (take n m) → IsWriteError e → IfSome stream (λ f. FailsUnder key prefix context f old new' e)
-fails_write p q last key prefix context None left left' old new new' m found rest n e s read step ends next is_last none written why = tt
-fails_write p q false key prefix context (Some f) left left' old new new' m found rest n e s read step ends next is_last none written why =
-    let parts = split f (s.taken ++ found) left' (Consumes-trans (Some f) left left' s.taken found s.read read) in
-    record {
-      front = record {
-        begun = concat s.messages ++ take n m;
-        written = Appends-trans old new new' (concat s.messages) (take n m) s.written written;
-        verified =
-            let begun : Begun q key prefix context (s.messages ++ m ∷ []) (s.taken ++ found) =
-            subst (λ (l : List ℕ). Begun q key prefix context (s.messages ++ m ∷ []) (s.taken ++ l)) (alone (record_of p 0 m) found rest next (none 0 next))
-            (step key prefix context s.messages s.taken s.begun) in
-            inr (verified_begun q key prefix context f (s.taken ++ found) parts.0 (concat s.messages ++ take n m) (drop n m) (s.messages ++ m ∷ []) e begun parts.1
-            (concat-cut s.messages m n) (inr why));
-      };
-      refused = unwritten e _ why;
-      too_long = in_time e _ (write_in_time e why);
-    }
-fails_write p q true key prefix context (Some f) left left' old new new' m found rest n e s read step ends next is_last none written why =
-    let parts = split f (s.taken ++ found) left' (Consumes-trans (Some f) left left' s.taken found s.read read) in
-    record {
-      front = record {
-        begun = concat s.messages ++ take n m;
-        written = Appends-trans old new new' (concat s.messages) (take n m) s.written written;
-        verified =
-            let whole : AreRecordsOfSomeVersion key prefix context (s.messages ++ m ∷ []) (s.taken ++ found) =
-            subst (λ (l : List ℕ). AreRecordsOfSomeVersion key prefix context (s.messages ++ m ∷ []) (s.taken ++ l)) (alone (record_of p 1 m) found rest is_last (none 1 is_last))
-            (ends key prefix context s.messages s.taken s.begun) in
-            inr (verified_ended key prefix context f (s.taken ++ found) parts.0 (concat s.messages ++ take n m) (drop n m) (s.messages ++ m ∷ []) e whole parts.1
-            (concat-cut s.messages m n) (inr why));
-      };
-      refused = unwritten e _ why;
-      too_long = in_time e _ (write_in_time e why);
-    }
+fails_write p q last key prefix context None left left' old new new' m n e s next written why = tt
+fails_write p q last key prefix context (Some f) left left' old new new' m n e s next written why = record {
+  front = front_next p q last key prefix context f left left' old new new' m n e s next written (inr why);
+  refused = unwritten e _ why;
+  too_long = in_time e _ (write_in_time e why);
+}
 
 -- ---- after the last record
 
--- the last record was opened
-record Ended (key prefix context f : List ℕ) (left old new : Option (List ℕ)) : Type 0 where
-  messages : List (List ℕ)
-  taken : List ℕ
-  are : AreRecordsOfSomeVersion key prefix context messages taken
-  read : Consumes (Some f) left taken
-  written : Appends old new (concat messages)
+front_last : (p q : Progress) (key prefix context f : List ℕ) (left left' old new new' : Option (List ℕ)) (m : List ℕ) (e : FileError)
+    → OpensSome p key prefix context (Some f) left old new → ReadsNext p q left left' true m → Appends new new' m → WritesFront key prefix context f old new' e
+front_last p q key prefix context f left left' old new new' m e s next written =
+    front_next p q true key prefix context f left left' old new new' m (length m) e s next
+    (subst (Appends new new') (sym (take_all (length m) m (le_refl _))) written) (inl (drop_of_length-le m (le_refl _)))
 
-ended : (p : Progress) (key prefix context f : List ℕ) (left left' old new new' : Option (List ℕ)) (m bytes found rest : List ℕ)
-    → OpensSome p key prefix context (Some f) left old new → Consumes left left' found → IsLast p m bytes → found ≡ bytes ++ rest → rest ≡ []
-    → Appends new new' m → Ended key prefix context f left' old new'
-ended p key prefix context f left left' old new new' m bytes found rest s read last is none written = record {
-  messages = s.messages ++ m ∷ [];
-  taken = s.taken ++ found;
-  are = subst (λ (l : List ℕ). AreRecordsOfSomeVersion key prefix context (s.messages ++ m ∷ []) (s.taken ++ l)) (alone bytes found rest is none)
-      (last key prefix context s.messages s.taken s.begun);
-  read = Consumes-trans (Some f) left left' s.taken found s.read read;
-  written = subst (Appends old new') (sym (concat-push s.messages m)) (Appends-trans old new new' (concat s.messages) m s.written written);
-}
-
-ended_front : (key prefix context f : List ℕ) (left old new : Option (List ℕ)) (e : FileError) → Ended key prefix context f left old new
-    → WritesFront key prefix context f old new e
-ended_front key prefix context f left old new e s =
-    let parts = split f s.taken left s.read in
-    record {
-      begun = concat s.messages;
-      written = s.written;
-      verified = inr (verified_ended key prefix context f s.taken parts.0 (concat s.messages) [] s.messages e s.are parts.1 (sym (append-nil (concat s.messages))) (inl refl));
-    }
-
-ended_fails : (key prefix context f : List ℕ) (left left' old new : Option (List ℕ)) (e : FileError) → Ended key prefix context f left old new → LeavesSome left left' e
-    → FailsUnder key prefix context f old new e
-ended_fails key prefix context f left left' old new (Read e) s why =
-    record { front = ended_front key prefix context f left old new (Read e) s; refused = tt; too_long = tt }
-ended_fails key prefix context f left left' old new (Write e) s why = absurd why
-ended_fails key prefix context f left left' old new (Stream e) s why =
+pub fails_end : (p q : Progress) (key prefix context : List ℕ) (stream left left' left'' old new new' : Option (List ℕ)) (m : List ℕ) (e : FileError)
+    → OpensSome p key prefix context stream left old new → ReadsNext p q left left' true m → Appends new new' m → LeavesSome left' left'' e
+    → IfSome stream (λ f. FailsUnder key prefix context f old new' e)
+fails_end p q key prefix context None left left' left'' old new new' m e s next written why = tt
+fails_end p q key prefix context (Some f) left left' left'' old new new' m (Read e) s next written why =
+    record { front = front_last p q key prefix context f left left' old new new' m (Read e) s next written; refused = tt; too_long = tt }
+fails_end p q key prefix context (Some f) left left' left'' old new new' m (Write e) s next written why = absurd why
+fails_end p q key prefix context (Some f) left left' left'' old new new' m (Stream e) s next written why =
     let more : List ℕ = why.1.0 in
-    let parts = split f (s.taken ++ more) left' (Consumes-trans (Some f) left left' s.taken more s.read why.1.2) in
+    let taken : List ℕ = s.taken ++ record_of p 1 m in
+    let parts = split f (taken ++ more) left''
+    (Consumes-trans (Some f) left' left'' taken more (Consumes-trans (Some f) left left' s.taken (record_of p 1 m) s.read next.read) why.1.2) in
     record {
-      front = ended_front key prefix context f left old new (Stream e) s;
+      front = front_last p q key prefix context f left left' old new new' m (Stream e) s next written;
       refused = inr (subst (λ d. IsFault key prefix context f d) (sym why.0)
-          (subst (λ (l : List ℕ). IsFault key prefix context l errors.Trailing) (sym (parts.1 ∙ append_assoc s.taken more parts.0))
-          (after_a_stream key prefix context s.messages s.taken (more ++ parts.0) s.are (omega (arith, why.1.1, length-append more parts.0)))));
+          (subst (λ (l : List ℕ). IsFault key prefix context l errors.Trailing) (sym (parts.1 ∙ append_assoc taken more parts.0))
+          (after_a_stream key prefix context (s.messages ++ m ∷ []) taken (more ++ parts.0) (next.whole key prefix context s.messages s.taken s.begun)
+          (omega (arith, why.1.1, length-append more parts.0)))));
       too_long = tt;
     }
-ended_fails key prefix context f left left' old new TooLong s why = absurd why
+fails_end p q key prefix context (Some f) left left' left'' old new new' m TooLong s next written why = absurd why
 
-pub fails_end : (p : Progress) (key prefix context : List ℕ) (stream left left' left'' old new new' : Option (List ℕ)) (m bytes found rest : List ℕ) (e : FileError)
-    → OpensSome p key prefix context stream left old new → Consumes left left' found → IsLast p m bytes → found ≡ bytes ++ rest → rest ≡ []
-    → Appends new new' m → LeavesSome left' left'' e → IfSome stream (λ f. FailsUnder key prefix context f old new' e)
-fails_end p key prefix context None left left' left'' old new new' m bytes found rest e s read last is none written why = tt
-fails_end p key prefix context (Some f) left left' left'' old new new' m bytes found rest e s read last is none written why =
-    ended_fails key prefix context f left' left'' old new' e (ended p key prefix context f left left' old new new' m bytes found rest s read last is none written) why
-
-pub fails_flush : (p : Progress) (key prefix context : List ℕ) (stream left left' old new new' new'' : Option (List ℕ)) (m bytes found rest : List ℕ) (e : FileError)
-    → OpensSome p key prefix context stream left old new → Consumes left left' found → IsLast p m bytes → found ≡ bytes ++ rest → rest ≡ []
-    → Appends new new' m → Keeps new' new'' → IsWriteError e → IfSome stream (λ f. FailsUnder key prefix context f old new'' e)
-fails_flush p key prefix context None left left' old new new' new'' m bytes found rest e s read last is none written kept why = tt
-fails_flush p key prefix context (Some f) left left' old new new' new'' m bytes found rest e s read last is none written kept why =
-    let all = ended_front key prefix context f left' old new' e (ended p key prefix context f left left' old new new' m bytes found rest s read last is none written) in
-    record {
-      front = record {
-        begun = all.begun;
-        written = Appends-kept old new' new'' all.begun all.written kept;
-        verified = all.verified;
-      };
-      refused = unwritten e _ why;
-      too_long = in_time e _ (write_in_time e why);
-    }
+pub fails_flush : (p q : Progress) (key prefix context : List ℕ) (stream left left' old new new' new'' : Option (List ℕ)) (m : List ℕ) (e : FileError)
+    → OpensSome p key prefix context stream left old new → ReadsNext p q left left' true m → Appends new new' m → Keeps new' new'' → IsWriteError e
+    → IfSome stream (λ f. FailsUnder key prefix context f old new'' e)
+fails_flush p q key prefix context None left left' old new new' new'' m e s next written kept why = tt
+fails_flush p q key prefix context (Some f) left left' old new new' new'' m e s next written kept why = record {
+  front = front_last p q key prefix context f left left' old new new'' m e s next (Appends-kept new new' new'' m written kept);
+  refused = unwritten e _ why;
+  too_long = in_time e _ (write_in_time e why);
+}
 
 -- ---- with the prefix
 

@@ -1,9 +1,10 @@
 pub mod Errors
 pub mod Failing
 pub mod Filling
+pub mod NextRecord
 pub mod Opening
 pub mod Pieces
-pub mod Records
+pub mod Ranges
 pub mod Sealing
 pub mod Verified
 pub mod Rekeying

@@ -1,5 +1,5 @@
 -- The facts that hold if sealing anew fails.
-use Rattle.std.proofs.Common.{◌≡◌, ◌⊎◌, ℕ, ◌<◌, List, [], ◌∷◌, ◌++◌, Option, None, Some, IfErr, IfSome, Result, Ok, Err, drop, length, take, le_refl, refl, sym, ap, subst, ◌∙◌, append_assoc, arith, inl, inr}
+use Rattle.std.proofs.Common.{◌≡◌, ◌⊎◌, ℕ, ◌<◌, true, false, List, [], ◌∷◌, ◌++◌, Option, None, Some, IfErr, IfSome, Result, Ok, Err, drop, length, take, le_refl, refl, sym, ap, subst, ◌∙◌, append_assoc, arith, inl, inr}
 use Rattle.std.proofs.KnownBytes.{Appends-kept, Appends-nil, Appends-trans, Consumes-trans}
 use Rattle.std.proofs.lemmas.List.{append-nil, length-append, take-append-drop, take_all}
 use Rattle.std.specs.Io.KnownBytes.{Appends, Consumes, IsAtEnd, Keeps}
@@ -9,17 +9,18 @@ use Rattle.aegis.proofs.Streams.{one_record_stream}
 use Rattle.aegis.specs.declared.record.error.RecordError.TheVariants as errors
 use Rattle.aegis.specs.declared.record.version.Version.{Version}
 use Rattle.aegis.specs.declared.record.version.Version.TheVariants.{Second}
-use Rattle.aegis.specs.Progress.{AreRecordsOfSomeVersion, Begun, Progress}
+use Rattle.aegis.specs.Progress.{AreRecordsOfSomeVersion, Begun, Progress, record_of}
 use Rattle.aegis.specs.Records.{AreRecords, sealed}
 use Rattle.aegis.specs.RecordStream.{AreWithin, frames, front}
 use Rattle.aegis_files.specs.declared.error.FileError.{FileError}
 use Rattle.aegis_files.specs.declared.error.FileError.TheVariants.{Stream}
+use Rattle.aegis_files.specs.Reading.{ReadsNext}
 use Rattle.aegis_files.specs.Rekey.{AreFirst, AreFirstInFile, RefusesFile, RefusesStream, RekeysFront, RekeysUnder}
 use Rattle.aegis_files.specs.SealedFile.{FailsWith, IfRefused, IsSealedFile, IsWriteError}
 use Rattle.aegis_files.proofs.Errors.{in_time, unwritten, write_in_time}
 use Rattle.aegis_files.proofs.Failing.{some_intact}
-use Rattle.aegis_files.proofs.Opening.{alone}
-use Rattle.aegis_files.proofs.Rekeying.{RekeysSome, whole_stream}
+use Rattle.aegis_files.proofs.Opening.{whole_stream}
+use Rattle.aegis_files.proofs.Rekeying.{RekeysSome}
 use Rattle.aegis_files.proofs.Sealing.{IsLast, IsStep, cut_out, no_stream, opens_at, split}
 
 -- ---- before the first record
@@ -87,20 +88,19 @@ stops_between p q key prefix new_key new_prefix context (Some f) left old new pe
 
 -- ---- at a record
 
-pub stops_writing : (p p' q q' : Progress) (key prefix new_key new_prefix context : List ℕ) (stream left left' old new new' : Option (List ℕ)) (pending m bytes found rest record_bytes out : List ℕ) (n : ℕ) (e : FileError)
-    → RekeysSome p q key prefix new_key new_prefix context stream left old new pending → Consumes left left' found → IsStep p p' m bytes → found ≡ bytes ++ rest → rest ≡ []
+pub stops_writing : (p p' q q' : Progress) (key prefix new_key new_prefix context : List ℕ) (stream left left' old new new' : Option (List ℕ)) (pending m record_bytes out : List ℕ) (n : ℕ) (e : FileError)
+    → RekeysSome p q key prefix new_key new_prefix context stream left old new pending → ReadsNext p p' left left' false m
     → IsStep q q' m record_bytes → out ≡ pending ++ record_bytes → Appends new new' (take n out)
     → IfSome stream (λ f. RekeysUnder key prefix new_key new_prefix context f old new' e)
-stops_writing p p' q q' key prefix new_key new_prefix context None left left' old new new' pending m bytes found rest record_bytes out n e s read step is empty step' out_is written = tt
-stops_writing p p' q q' key prefix new_key new_prefix context (Some f) left left' old new new' pending m bytes found rest record_bytes out n e s read step is empty step' out_is written =
+stops_writing p p' q q' key prefix new_key new_prefix context None left left' old new new' pending m record_bytes out n e s next step out_is written = tt
+stops_writing p p' q q' key prefix new_key new_prefix context (Some f) left left' old new new' pending m record_bytes out n e s next step out_is written =
     let ms : List (List ℕ) = s.messages ++ m ∷ [] in
-    let parts = split f (s.taken ++ found) left' (Consumes-trans (Some f) left left' s.taken found s.read read) in
-    let opened : Begun p' key prefix context ms (s.taken ++ found) =
-    subst (λ (l : List ℕ). Begun p' key prefix context ms (s.taken ++ l)) (alone bytes found rest is empty) (step key prefix context s.messages s.taken s.opened) in
+    let taken : List ℕ = s.taken ++ record_of p 0 m in
+    let parts = split f taken left' (Consumes-trans (Some f) left left' s.taken (record_of p 0 m) s.read next.read) in
     sent_front q' key prefix new_key new_prefix context f (s.sent ++ take n out) (drop n out) ms old new' e
     (subst (Begun q' new_key new_prefix context ms) (sym (cut_out s.sent pending record_bytes out n out_is))
-    (step' new_key new_prefix context s.messages (s.sent ++ pending) s.sealed))
-    (are_first p' key prefix context f (s.taken ++ found) parts.0 ms opened parts.1)
+    (step new_key new_prefix context s.messages (s.sent ++ pending) s.sealed))
+    (are_first p' key prefix context f taken parts.0 ms (next.begun key prefix context s.messages s.taken s.opened) parts.1)
     (subst (Appends old new') (append_assoc new_prefix s.sent (take n out)) (Appends-trans old new new' (new_prefix ++ s.sent) (take n out) s.written written))
 
 all_first : (key prefix context f : List ℕ) (ms : List (List ℕ)) → AreRecordsOfSomeVersion key prefix context ms f → AreFirst key prefix context f ms
@@ -112,16 +112,15 @@ all_first key prefix context f ms are = record {
   of_stream = ([], are.1.are ∙ sym (append-nil (front (sealed key prefix context) are.0 1 ms)));
 }
 
-pub stops_ending : (p q : Progress) (key prefix new_key new_prefix context : List ℕ) (stream left left' left'' old new new' : Option (List ℕ)) (pending m bytes found rest record_bytes out : List ℕ) (n : ℕ) (e : FileError)
-    → RekeysSome p q key prefix new_key new_prefix context stream left old new pending → Consumes left left' found → IsLast p m bytes → found ≡ bytes ++ rest → rest ≡ []
+pub stops_ending : (p p' q : Progress) (key prefix new_key new_prefix context : List ℕ) (stream left left' left'' old new new' : Option (List ℕ)) (pending m record_bytes out : List ℕ) (n : ℕ) (e : FileError)
+    → RekeysSome p q key prefix new_key new_prefix context stream left old new pending → ReadsNext p p' left left' true m
     → Consumes left' left'' [] → IsAtEnd left'' → IsLast q m record_bytes → out ≡ pending ++ record_bytes → Appends new new' (take n out) → IsWriteError e
     → IfSome stream (λ f. RekeysUnder key prefix new_key new_prefix context f old new' e)
-stops_ending p q key prefix new_key new_prefix context None left left' left'' old new new' pending m bytes found rest record_bytes out n e s read last is none empty end last' out_is written why = tt
-stops_ending p q key prefix new_key new_prefix context (Some f) left left' left'' old new new' pending m bytes found rest record_bytes out n e s read last is none empty end last' out_is written why =
+stops_ending p p' q key prefix new_key new_prefix context None left left' left'' old new new' pending m record_bytes out n e s next none end last out_is written why = tt
+stops_ending p p' q key prefix new_key new_prefix context (Some f) left left' left'' old new new' pending m record_bytes out n e s next none end last out_is written why =
     let ms : List (List ℕ) = s.messages ++ m ∷ [] in
-    let old_are : AreRecordsOfSomeVersion key prefix context ms f =
-    whole_stream p key prefix context f left left' left'' s.messages s.taken m bytes found rest s.opened s.read read last is none empty end in
-    let are = last' new_key new_prefix context s.messages (s.sent ++ pending) s.sealed in
+    let old_are = whole_stream p p' key prefix context f left left' left'' s.messages s.taken m s.opened s.read next none end in
+    let are = last new_key new_prefix context s.messages (s.sent ++ pending) s.sealed in
     let is_front : (s.sent ++ take n out) ++ drop n out ≡ front (sealed new_key new_prefix context) are.0 1 ms =
     cut_out s.sent pending record_bytes out n out_is ∙ are.1.are in
     record {
@@ -136,13 +135,13 @@ stops_ending p q key prefix new_key new_prefix context (Some f) left left' left'
       ends = inr (refl, old_are, why);
     }
 
-pub stops_flushing : (p q : Progress) (key prefix new_key new_prefix context : List ℕ) (stream left left' left'' old new new' new'' : Option (List ℕ)) (pending m bytes found rest record_bytes out : List ℕ) (e : FileError)
-    → RekeysSome p q key prefix new_key new_prefix context stream left old new pending → Consumes left left' found → IsLast p m bytes → found ≡ bytes ++ rest → rest ≡ []
+pub stops_flushing : (p p' q : Progress) (key prefix new_key new_prefix context : List ℕ) (stream left left' left'' old new new' new'' : Option (List ℕ)) (pending m record_bytes out : List ℕ) (e : FileError)
+    → RekeysSome p q key prefix new_key new_prefix context stream left old new pending → ReadsNext p p' left left' true m
     → Consumes left' left'' [] → IsAtEnd left'' → IsLast q m record_bytes → out ≡ pending ++ record_bytes → Appends new new' out → Keeps new' new'' → IsWriteError e
     → IfSome stream (λ f. RekeysUnder key prefix new_key new_prefix context f old new'' e)
-stops_flushing p q key prefix new_key new_prefix context stream left left' left'' old new new' new'' pending m bytes found rest record_bytes out e s read last is none empty end last' out_is written kept why =
+stops_flushing p p' q key prefix new_key new_prefix context stream left left' left'' old new new' new'' pending m record_bytes out e s next none end last out_is written kept why =
     let all = take_all (length out) out (le_refl _) in
-    stops_ending p q key prefix new_key new_prefix context stream left left' left'' old new new'' pending m bytes found rest record_bytes out (length out) e s read last is none empty end last' out_is
+    stops_ending p p' q key prefix new_key new_prefix context stream left left' left'' old new new'' pending m record_bytes out (length out) e s next none end last out_is
     (Appends-kept new new' new'' (take (length out) out) (subst (Appends new new') (sym all) written) kept) why
 
 -- ---- a stream that is not refused

@@ -1,13 +1,16 @@
 -- The facts that hold between two records that are sealed anew.
-use Rattle.std.proofs.Common.{◌≡◌, ℕ, List, [], ◌∷◌, ◌++◌, Option, None, Some, IfSome, OnOk, Result, Ok, Err, length, refl, sym, ap, subst, ◌∙◌, append_assoc, arith}
-use Rattle.std.proofs.KnownBytes.{Appends-kept, Appends-trans, Consumes-all, Consumes-trans}
+use Rattle.std.proofs.Common.{◌≡◌, ℕ, ◌+◌, ◌≤◌, Bool, true, false, List, [], ◌∷◌, ◌++◌, Option, None, Some, IfSome, OnOk, Result, Ok, Err, length, refl, sym, ap, subst, ◌∙◌, append_assoc, arith}
+use Rattle.std.proofs.KnownBytes.{Appends-kept, Appends-trans, Consumes-trans}
 use Rattle.std.proofs.lemmas.List.{append-nil}
 use Rattle.std.specs.Io.KnownBytes.{Appends, Consumes, IsAtEnd, Keeps}
 use Rattle.std.specs.List.{concat}
-use Rattle.aegis.specs.Progress.{AreRecordsOfSomeVersion, Begun, Progress, start_of}
+use Rattle.aegis_base.specs.declared.error.TheConstants.{MAX_AEAD_BYTES}
+use Rattle.aegis.specs.declared.record.length.TheConstants.{RECORD_BYTES}
+use Rattle.aegis.specs.Progress.{AreRecordsOfSomeVersion, Begun, Progress, record_of, start_of}
 use Rattle.aegis_files.specs.declared.error.FileError.{FileError}
+use Rattle.aegis_files.specs.Reading.{ReadsNext}
 use Rattle.aegis_files.specs.SealedFile.{IsFileOf, IsSealedFile}
-use Rattle.aegis_files.proofs.Opening.{OpensSome, alone}
+use Rattle.aegis_files.proofs.Opening.{OpensSome, whole_stream}
 use Rattle.aegis_files.proofs.Sealing.{IsLast, IsStep, counted, joined}
 
 -- The bytes `taken` of the old stream were read. Its messages are sealed anew: the bytes `sent` of the new stream were written
@@ -45,60 +48,46 @@ opens p q key prefix new_key new_prefix context stream left old new pending s = 
   written = tt;
 }
 
--- the next record starts at the same byte in both streams
-pub level : (p q : Progress) (key prefix new_key new_prefix context : List ℕ) (stream left old new : Option (List ℕ)) (pending : List ℕ)
-    → RekeysSome p q key prefix new_key new_prefix context stream left old new pending → start_of q ≡ start_of p
-level p q key prefix new_key new_prefix context stream left old new pending s =
+-- The next record starts at the same byte in both streams, so it fits into the new one.
+pub next_fits : (p p' q : Progress) (last : Bool) (key prefix new_key new_prefix context : List ℕ) (stream left left' old new : Option (List ℕ)) (pending m : List ℕ)
+    → RekeysSome p q key prefix new_key new_prefix context stream left old new pending → ReadsNext p p' left left' last m → start_of p' ≤ MAX_AEAD_BYTES
+    → start_of q + (RECORD_BYTES + length m) ≤ MAX_AEAD_BYTES
+next_fits p p' q last key prefix new_key new_prefix context stream left left' old new pending m s next room =
     let a = counted p key prefix context s.messages s.taken s.opened in
     let b = counted q new_key new_prefix context s.messages (s.sent ++ pending) s.sealed in
-    omega (arith, a.0, a.1, b.0, b.1)
+    omega (arith, a.0, a.1, b.0, b.1, room, ap (λ (p : Progress). start_of p) next.progress)
 
-pub rekeys_more : (p p' q q' : Progress) (key prefix new_key new_prefix context : List ℕ) (stream left left' old new new' : Option (List ℕ)) (pending m bytes found rest record_bytes out none : List ℕ)
-    → RekeysSome p q key prefix new_key new_prefix context stream left old new pending → Consumes left left' found → IsStep p p' m bytes → found ≡ bytes ++ rest → rest ≡ []
+pub rekeys_more : (p p' q q' : Progress) (key prefix new_key new_prefix context : List ℕ) (stream left left' old new new' : Option (List ℕ)) (pending m record_bytes out none : List ℕ)
+    → RekeysSome p q key prefix new_key new_prefix context stream left old new pending → ReadsNext p p' left left' false m
     → IsStep q q' m record_bytes → out ≡ pending ++ record_bytes → Appends new new' out → none ≡ []
     → RekeysSome p' q' key prefix new_key new_prefix context stream left' old new' none
-rekeys_more p p' q q' key prefix new_key new_prefix context stream left left' old new new' pending m bytes found rest record_bytes out none s read step is empty step' out_is written cleared = record {
+rekeys_more p p' q q' key prefix new_key new_prefix context stream left left' old new new' pending m record_bytes out none s next step out_is written cleared = record {
   messages = s.messages ++ m ∷ [];
-  taken = s.taken ++ found;
+  taken = s.taken ++ record_of p 0 m;
   sent = s.sent ++ out;
-  opened = subst (λ (l : List ℕ). Begun p' key prefix context (s.messages ++ m ∷ []) (s.taken ++ l)) (alone bytes found rest is empty)
-      (step key prefix context s.messages s.taken s.opened);
+  opened = next.begun key prefix context s.messages s.taken s.opened;
   sealed = subst (Begun q' new_key new_prefix context (s.messages ++ m ∷ []))
       (joined s.sent pending record_bytes out out_is ∙ sym (append-nil (s.sent ++ out)) ∙ ap (λ (l : List ℕ). (s.sent ++ out) ++ l) (sym cleared))
-      (step' new_key new_prefix context s.messages (s.sent ++ pending) s.sealed);
-  read = Consumes-trans stream left left' s.taken found s.read read;
+      (step new_key new_prefix context s.messages (s.sent ++ pending) s.sealed);
+  read = Consumes-trans stream left left' s.taken (record_of p 0 m) s.read next.read;
   written = subst (Appends old new') (append_assoc new_prefix s.sent out) (Appends-trans old new new' (new_prefix ++ s.sent) out s.written written);
 }
 
--- the whole old stream was read
-pub whole_stream : (p : Progress) (key prefix context f : List ℕ) (left left' left'' : Option (List ℕ)) (ms : List (List ℕ)) (taken m bytes found rest : List ℕ)
-    → Begun p key prefix context ms taken → Consumes (Some f) left taken → Consumes left left' found → IsLast p m bytes → found ≡ bytes ++ rest → rest ≡ []
-    → Consumes left' left'' [] → IsAtEnd left'' → AreRecordsOfSomeVersion key prefix context (ms ++ m ∷ []) f
-whole_stream p key prefix context f left left' left'' ms taken m bytes found rest begun before read last is none empty end =
-    let all : List ℕ = taken ++ found in
-    let whole : all ++ [] ≡ [] ++ f =
-    Consumes-all (Some f) left'' (all ++ []) [] (all ++ [])
-    (Consumes-trans (Some f) left' left'' all [] (Consumes-trans (Some f) left left' taken found before read) empty) end refl in
-    let are : AreRecordsOfSomeVersion key prefix context (ms ++ m ∷ []) all =
-    subst (λ (l : List ℕ). AreRecordsOfSomeVersion key prefix context (ms ++ m ∷ []) (taken ++ l)) (alone bytes found rest is none)
-    (last key prefix context ms taken begun) in
-    subst (AreRecordsOfSomeVersion key prefix context (ms ++ m ∷ [])) (sym (append-nil all) ∙ whole) are
-
-pub rekeys_end : (p q : Progress) (key prefix new_key new_prefix context : List ℕ) (stream left left' left'' old new new' new'' : Option (List ℕ)) (pending m bytes found rest record_bytes out : List ℕ)
-    → RekeysSome p q key prefix new_key new_prefix context stream left old new pending → Consumes left left' found → IsLast p m bytes → found ≡ bytes ++ rest → rest ≡ []
+pub rekeys_end : (p p' q : Progress) (key prefix new_key new_prefix context : List ℕ) (stream left left' left'' old new new' new'' : Option (List ℕ)) (pending m record_bytes out : List ℕ)
+    → RekeysSome p q key prefix new_key new_prefix context stream left old new pending → ReadsNext p p' left left' true m
     → Consumes left' left'' [] → IsAtEnd left'' → IsLast q m record_bytes → out ≡ pending ++ record_bytes → Appends new new' out → Keeps new' new''
     → IfSome stream (λ f. (ms : List (List ℕ)) × AreRecordsOfSomeVersion key prefix context ms f
     × (file : List ℕ) × IsFileOf new_key new_prefix context (concat ms) file × Appends old new'' file)
-rekeys_end p q key prefix new_key new_prefix context None left left' left'' old new new' new'' pending m bytes found rest record_bytes out s read last is none empty end last' out_is written kept = tt
-rekeys_end p q key prefix new_key new_prefix context (Some f) left left' left'' old new new' new'' pending m bytes found rest record_bytes out s read last is none empty end last' out_is written kept = (
+rekeys_end p p' q key prefix new_key new_prefix context None left left' left'' old new new' new'' pending m record_bytes out s next none end last out_is written kept = tt
+rekeys_end p p' q key prefix new_key new_prefix context (Some f) left left' left'' old new new' new'' pending m record_bytes out s next none end last out_is written kept = (
   s.messages ++ m ∷ [],
-  whole_stream p key prefix context f left left' left'' s.messages s.taken m bytes found rest s.opened s.read read last is none empty end,
+  whole_stream p p' key prefix context f left left' left'' s.messages s.taken m s.opened s.read next none end,
   new_prefix ++ (s.sent ++ out),
   record {
     messages = s.messages ++ m ∷ [];
     stream = s.sent ++ out;
     are = subst (AreRecordsOfSomeVersion new_key new_prefix context (s.messages ++ m ∷ [])) (joined s.sent pending record_bytes out out_is)
-        (last' new_key new_prefix context s.messages (s.sent ++ pending) s.sealed);
+        (last new_key new_prefix context s.messages (s.sent ++ pending) s.sealed);
     text_is = refl;
     file_is = refl;
   },

@@ -1,3 +1,4 @@
 pub mod SealedFile
 pub mod Reading
 pub mod Rekey
+pub mod Range

@@ -1,22 +1,25 @@
 -- The bytes that were read, and the facts that hold if opening fails.
-use Rattle.std.specs.Prelude.{◌≡◌, ℕ, ◌<◌, ◌≤◌, ◌⊎◌, Err, List, [], ◌++◌, Option, ⊤, length}
+use Rattle.std.specs.Prelude.{◌≡◌, ℕ, ◌+◌, ◌<◌, Bool, ◌≤◌, ◌⊎◌, IfSome, List, [], ◌∷◌, ◌++◌, Option, ⊤, length, take}
+use Rattle.std.specs.Bool.{OnFalse, OnTrue}
 use Rattle.std.specs.Io.KnownBytes.{Appends, Consumes, IsAtEnd}
 use Rattle.aegis_files.specs.declared.error.FileError.{FileError}
 use Rattle.aegis_files.specs.declared.error.FileError.TheVariants.{Read, Write, Stream, TooLong}
 use Rattle.aegis_files.specs.SealedFile.{IfRefused, IfTooLong, IsVerifiedFront}
 use Rattle.aegis.specs.declared.record.error.RecordError.TheVariants as errors
 use Rattle.aegis_base.specs.declared.error.TheConstants.{MAX_AEAD_BYTES}
-use Rattle.aegis.specs.Fault.{parts}
-use Rattle.aegis.specs.Progress.{Progress}
+use Rattle.aegis.specs.Progress.{AreRecordsOfSomeVersion, Begun, Progress, after, last_flag, record_of, start_of}
 use Rattle.aegis.specs.Records.{IsFault}
+use Rattle.aegis.specs.RecordStream.{limit}
 
--- the next `count` bytes of the reader were appended, or all that were left
-pub record AppendsRead (old new : List ℕ) (count : ℕ) (left left' : Option (List ℕ)) : Type 0 where
-  pub more : List ℕ
-  pub within : length more ≤ count
-  pub grown : new ≡ old ++ more
-  pub read : Consumes left left' more
-  pub end : length more < count → IsAtEnd left'
+-- The bytes `from..end` of a buffer were read, up to `to` unless no more are left. Those before them are as they were: what was
+-- read into them and these follow one another.
+pub record ReadsPart (old new : List ℕ) (from to end : ℕ) (left left' : Option (List ℕ)) : Type 0 where
+  pub within : end ≤ length new
+  pub above : from ≤ end
+  pub below : end ≤ to
+  pub kept : take from new ≡ take from old
+  pub read : (first : Option (List ℕ)) → Consumes first left (take from old) → Consumes first left' (take end new)
+  pub ended : end < to → IsAtEnd left'
 
 abbrev pub IsReadError : FileError → Type 0
 IsReadError (Read e) = ⊤
@@ -24,13 +27,28 @@ IsReadError (Write e) = ⊥
 IsReadError (Stream e) = ⊥
 IsReadError TooLong = ⊥
 
--- a refusal at the next record, which holds for the bytes read of it and any bytes after them
-abbrev pub RefusesNext : Progress → Option (List ℕ) → Option (List ℕ) → FileError → Type 0
-RefusesNext p left left' (Read e) = ⊤
-RefusesNext p left left' (Write e) = ⊥
-RefusesNext p left left' (Stream e) = (e ≡ errors.OutOfMemory)
-    ⊎ ((head : List ℕ) × Consumes left left' head × ((body : List ℕ) → parts p.version (head ++ body) ≡ Err e))
-RefusesNext p left left' TooLong = ⊥
+-- The next record was read, and it is that of the message m.
+pub record ReadsNext (old new : Progress) (left left' : Option (List ℕ)) (is_last : Bool) (m : List ℕ) : Type 0 where
+  pub read : Consumes left left' (record_of old (last_flag is_last) m)
+  -- whatever messages the stream began with, m is the next one, or the last one
+  pub begun : OnFalse is_last ((key prefix context : List ℕ) (ms : List (List ℕ)) (before : List ℕ)
+      → Begun old key prefix context ms before
+      → Begun new key prefix context (ms ++ m ∷ []) (before ++ record_of old 0 m))
+  pub whole : OnTrue is_last ((key prefix context : List ℕ) (ms : List (List ℕ)) (before : List ℕ)
+      → Begun old key prefix context ms before
+      → AreRecordsOfSomeVersion key prefix context (ms ++ m ∷ []) (before ++ record_of old 1 m))
+  pub progress : new ≡ after old is_last m
+  pub within : length m ≤ limit old.version
+
+-- The next record was not opened: a read failed, or memory ran out, or else the error is the first fault of the stream, whose
+-- bytes that are left are these, or they pass the limit.
+abbrev pub FailsNext : Progress → Option (List ℕ) → FileError → Type 0
+FailsNext p left (Read e) = ⊤
+FailsNext p left (Write e) = ⊥
+FailsNext p left (Stream e) = (e ≡ errors.OutOfMemory)
+    ⊎ IfSome left (λ rest. (key prefix context : List ℕ) (ms : List (List ℕ)) (before : List ℕ)
+    → Begun p key prefix context ms before → IsFault key prefix context (before ++ rest) e)
+FailsNext p left TooLong = IfSome left (λ rest. MAX_AEAD_BYTES < start_of p + length rest)
 
 -- the messages of records at the stream's beginning were written, or nothing
 pub record WritesFront (key prefix context stream : List ℕ) (old new : Option (List ℕ)) (e : FileError) : Type 0 where

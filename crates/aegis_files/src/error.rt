@@ -5,8 +5,8 @@ use std::alloc::{AllocError, AllocFailed};
 use std::io;
 use thiserror::Error;
 
-/// The error of [`crate::seal_stream`], [`crate::open_stream`] or [`crate::rekey_stream`]. Their documentation has what
-/// was written before an error.
+/// The error of [`crate::seal_stream`], [`crate::open_stream`], [`crate::open_range`] or [`crate::rekey_stream`]. Their
+/// documentation has what was written before an error.
 #[derive(Debug, Drop, Error)]
 pub enum FileError {
     /// The input could not be read.

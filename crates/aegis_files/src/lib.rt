@@ -1,12 +1,14 @@
 //! Sealed files: a prefix of 24 bytes and a record stream under it, written and read one piece at a time.
 //!
-//! [`seal_stream`], [`open_stream`] and [`rekey_stream`] read from any reader and write to any writer, and hold one piece
-//! in memory. The caller chooses the key and the prefix. A prefix that was used before under the same key is not
-//! detected.
+//! [`seal_stream`], [`open_stream`], [`open_range`] and [`rekey_stream`] read from any reader and write to any writer,
+//! and hold one piece in memory. The caller chooses the key and the prefix. A prefix that was used before under the
+//! same key is not detected.
 #![tactic(auto)]
 
 mod error;
+mod next;
 mod open;
+mod range;
 mod reading;
 mod rekey;
 mod seal;
@@ -14,6 +16,7 @@ mod write;
 
 pub use error::FileError;
 pub use open::open_stream;
+pub use range::{TextRange, open_range};
 pub use reading::fill;
 pub use rekey::rekey_stream;
 pub use seal::{PIECE_BYTES, seal_stream};

@@ -1,49 +1,20 @@
 //! Opening a sealed file, from a reader to a writer.
 
-ghost use Rattle.std.specs.Prelude.{◌≡◌, ◌≤◌, ◌++◌, [], Err, IfErr, IfSome, List, OnOk, length, ℕ};
+ghost use Rattle.std.specs.Prelude.{◌≡◌, ◌≤◌, [], IfErr, IfSome, List, OnOk, length, ℕ};
 ghost use Rattle.std.specs.Io.KnownBytes.{Appends, Consumes, IsAtEnd};
 ghost use Rattle.std.specs.List.{concat};
-ghost use Rattle.aegis.specs.Progress.{AreRecordsOfSomeVersion, record_of};
-ghost use Rattle.aegis_files.specs.Reading.{FailsUnder, LeavesSome, RefusesNext};
+ghost use Rattle.aegis.specs.Progress.{AreRecordsOfSomeVersion};
+ghost use Rattle.aegis_files.specs.Reading.{FailsUnder, LeavesSome};
 ghost use Rattle.aegis_files.specs.SealedFile.{FailsWith, IfRefused, IsSealedFile};
-ghost use Rattle.aegis.specs.Fault.{parts};
 
 use crate::error::FileError;
-use crate::reading::{append, fill};
+use crate::next::{message, next_message};
+use crate::reading::fill;
 use crate::write::{flush, write};
 use aegis::aegis256::Key;
-use aegis::record::{
-    MAX_CONTEXT_BYTES, MAX_MESSAGE_BYTES, RECORD_HEAD_BYTES, RecordError, RecordOpener,
-};
+use aegis::record::{MAX_CONTEXT_BYTES, RecordError, RecordOpener};
 use std::alloc::Allocator;
 use std::io::{Read, Write};
-
-// Reads the next record, or the bytes that there are of it.
-pub(crate) fn read_record<R: Read, A: Allocator + Copy>(
-    input: &mut R,
-    opener: &RecordOpener<'_, A>,
-    bytes: &mut Vec<u8, A>,
-) -> Result<(), FileError>
-    ensures read { OnOk result
-        (Consumes (R.remaining input.old) (R.remaining input.new) bytes.new.items) }
-    ensures alone { OnOk result ((flag : ℕ) (m rest : List ℕ) → length m ≤ MAX_MESSAGE_BYTES
-        → bytes.new.items ≡ record_of opener.now flag m ++ rest → rest ≡ []) }
-    ensures cut { OnOk result
-        (parts opener.now.version bytes.new.items ≡ Err RecordError.Truncated
-        → IsAtEnd (R.remaining input.new)) }
-    ensures refused { IfErr result
-        (λ e. RefusesNext opener.now (R.remaining input.old) (R.remaining input.new) e) }
-{
-    let mut head = [0; RECORD_HEAD_BYTES];
-    let count = fill(input, &mut head)?;
-    bytes.clear();
-    bytes.extend_from_slice(&head[..count])?;
-    if count == RECORD_HEAD_BYTES {
-        let len = opener.record_len(&head)?;
-        append(input, bytes, len - RECORD_HEAD_BYTES)?;
-    }
-    Ok(())
-}
 
 // Opens the record stream that follows the prefix.
 fn open_under<R: Read, W: Write, A: Allocator + Copy>(
@@ -65,14 +36,10 @@ fn open_under<R: Read, W: Write, A: Allocator + Copy>(
     let mut header = [0; 4];
     let count = fill(input, &mut header)?;
     let mut opener = RecordOpener::new(alloc, key, prefix, context, &header[..count])?;
-    let mut record = Vec::new(alloc);
+    let mut buffer = Vec::new(alloc);
     'records: loop {
-        read_record(input, &opener, &mut record)?;
-        if opener.remaining() < record.len() as u64 {
-            return Err(FileError::TooLong);
-        }
-        let opened = opener.open_next(&record)?;
-        write(output, &opened.message)?;
+        let opened = next_message(input, &mut opener, &mut buffer)?;
+        write(output, message(&buffer, opened))?;
         if opened.is_last {
             end(input)?;
             flush(output)?;
@@ -103,8 +70,8 @@ pub(crate) fn end<R: Read>(input: &mut R) -> Result<(), FileError>
 /// is, only the messages of verified records at its beginning were written, all of them unless a write failed: a front of
 /// the file's text, if it has one. A caller that needs the whole text must discard it.
 ///
-/// The context must have at most [`MAX_CONTEXT_BYTES`]. Memory is allocated for one record and its message. In a file
-/// that someone else made with the key, each can have up to 16 MiB.
+/// The context must have at most [`MAX_CONTEXT_BYTES`]. Memory is allocated for one record, which is opened where it
+/// lies. In a file that someone else made with the key, it can have up to 16 MiB.
 pub fn open_stream<R: Read, W: Write, A: Allocator + Copy>(
     alloc: A,
     key: &Key,

@@ -1,11 +1,11 @@
 //! Reading until a buffer is full.
 
-ghost use Rattle.std.specs.Prelude.{◌≡◌, ◌+◌, ◌<◌, ◌≤◌, ◌⊎◌, IfErr, IfOk, OnOk, length, take};
+ghost use Rattle.std.specs.Prelude.{◌≡◌, ◌<◌, ◌≤◌, ◌⊎◌, IfErr, IfOk, length, take};
 ghost use Rattle.std.specs.Io.KnownBytes.{Consumes, IsAtEnd};
-ghost use Rattle.aegis_files.specs.Reading.{AppendsRead, IsReadError};
+ghost use Rattle.aegis_files.specs.Reading.{IsReadError, ReadsPart};
 
 use crate::error::FileError;
-use aegis::record::{MAX_MESSAGE_BYTES, RECORD_BYTES, RecordError};
+use aegis::record::RecordError;
 use std::alloc::Allocator;
 use std::io;
 use std::io::{ErrorKind, Read};
@@ -37,21 +37,23 @@ pub fn fill<R: Read>(input: &mut R, buffer: &mut [u8]) -> Result<usize, FileErro
     Err(FileError::Read(io::Error::from(ErrorKind::TimedOut)))
 }
 
-/// Reads `count` bytes, or all that are left, and appends them to the buffer.
-pub fn append<R: Read, A: Allocator>(
+// Reads the bytes `from..to` of the buffer, or all that are left of the input, and returns where they end. The buffer is
+// made longer if it is shorter than that, and is not filled again.
+pub(crate) fn fill_part<R: Read, A: Allocator>(
     input: &mut R,
     buffer: &mut Vec<u8, A>,
-    count: usize,
-) -> Result<(), FileError>
-    requires { count ≤ RECORD_BYTES + MAX_MESSAGE_BYTES }
-    ensures ok { OnOk result (AppendsRead buffer.old.items buffer.new.items count
+    from: usize,
+    to: usize,
+) -> Result<usize, FileError>
+    requires ordered { from ≤ to }
+    requires within { from ≤ length buffer.old.items }
+    ensures ok { IfOk result (λ end. ReadsPart buffer.old.items buffer.new.items from to end
         (R.remaining input.old) (R.remaining input.new)) }
     ensures err { IfErr result
         (λ e. IsReadError e ⊎ (e ≡ FileError.Stream RecordError.OutOfMemory)) }
 {
-    let start = buffer.len();
-    buffer.resize(start + count, 0)?;
-    let filled = fill(input, &mut buffer[start..])?;
-    buffer.truncate(start + filled);
-    Ok(())
+    if buffer.len() < to {
+        buffer.resize(to, 0)?;
+    }
+    Ok(from + fill(input, &mut buffer[from..to])?)
 }

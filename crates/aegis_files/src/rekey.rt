@@ -8,7 +8,8 @@ ghost use Rattle.aegis_files.specs.SealedFile.{IfRefused, IsFileOf, IsSealedFile
 ghost use Rattle.std.specs.List.{concat};
 
 use crate::error::FileError;
-use crate::open::{end, read_record};
+use crate::next::{message, next_message};
+use crate::open::end;
 use crate::reading::fill;
 use crate::write::{flush, write};
 use aegis::aegis256::Key;
@@ -53,21 +54,18 @@ fn rekey_under<'a, R: Read, W: Write, A: Allocator + Copy>(
     let mut out = Vec::new(alloc);
     write(output, prefix)?;
     let mut sealer = RecordSealer::new(alloc, key, prefix, context, &mut out)?;
-    let mut record = Vec::new(alloc);
+    let mut buffer = Vec::new(alloc);
     'records: loop {
-        read_record(input, &opener, &mut record)?;
-        if opener.remaining() < record.len() as u64 {
-            return Err(FileError::TooLong);
-        }
-        let opened = opener.open_next(&record)?;
+        let opened = next_message(input, &mut opener, &mut buffer)?;
+        let text = message(&buffer, opened);
         if opened.is_last {
             end(input)?;
-            sealer.seal_last(&opened.message, &mut out)?;
+            sealer.seal_last(text, &mut out)?;
             write(output, &out)?;
             flush(output)?;
             return Ok(());
         }
-        sealer.seal_next(&opened.message, &mut out)?;
+        sealer.seal_next(text, &mut out)?;
         write(output, &out)?;
         out.clear();
     }
@@ -85,8 +83,7 @@ fn rekey_under<'a, R: Read, W: Write, A: Allocator + Copy>(
 /// any other error it is the file of no text.
 ///
 /// Under one key, a prefix must be used for one file only. The context must have at most [`MAX_CONTEXT_BYTES`]. Memory is
-/// allocated for one record, its message and the new record. In a file that someone else made with the key, each can have
-/// up to 16 MiB.
+/// allocated for one record and the new record. In a file that someone else made with the key, each can have up to 16 MiB.
 pub fn rekey_stream<R: Read, W: Write, A: Allocator + Copy>(
     alloc: A,
     key: &Key,

@@ -2,6 +2,7 @@
 
 mod failures;
 mod faults;
+mod ranges;
 mod texts;
 
 use aegis::record::RecordSealer;

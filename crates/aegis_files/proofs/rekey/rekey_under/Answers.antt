@@ -1,16 +1,13 @@
-use Rattle.std.proofs.Common.{◌≡◌, ◌++◌, ◌∙◌, Err, None, ap, arith, length, subst, sym}
+use Rattle.std.proofs.Common.{◌++◌, ◌∙◌, None, ap, arith, length, subst}
 use Rattle.std.proofs.KnownBytes.{Appends-nil}
 use Rattle.std.proofs.lemmas.Result.{err_from_is_err_and}
-use Rattle.std.specs.Io.KnownBytes.{Consumes}
-use Rattle.aegis.specs.Fault.{parts}
+use Rattle.aegis.specs.Calls.{message_of}
 use Rattle.aegis.specs.Progress.{Progress, record_of, start_of}
 use Rattle.aegis.specs.RecordStream.{header}
-use Rattle.aegis.specs.declared.record.error.RecordError.TheVariants.{Truncated}
 use Rattle.aegis.specs.declared.record.version.Version.TheVariants.{Second}
-use Rattle.aegis_files.proofs.Failing.{fails_end, fails_long, fails_next, fails_open}
-use Rattle.aegis_files.proofs.Records.{within_limit}
+use Rattle.aegis_files.proofs.Failing.{fails_end, fails_next}
 use Rattle.aegis_files.proofs.RekeyFailing.{refuses, stops_after_prefix, stops_between, stops_ending, stops_flushing, stops_in_prefix, stops_writing}
-use Rattle.aegis_files.proofs.Rekeying.{level, opens, rekeys_begin, rekeys_end, rekeys_more}
+use Rattle.aegis_files.proofs.Rekeying.{next_fits, opens, rekeys_begin, rekeys_end, rekeys_more}
 use Rattle.aegis_files.proofs.Sealing.{IsLast, IsStep}
 use Rattle.aegis_files.proofs.rekey.rekey_under.Goals as goal
 
@@ -40,24 +37,6 @@ records-init g c =
     rekeys_begin _ _ _ _ _ _ _ _ _ _ _ _ _ _ c.in_ok-opener.ensures.begun c.in_ok-count.ensures.read c.in_ok-sealer.ensures.begun
     (c.in_ok-sealer.ensures.appended ∙ ap (λ l. l ++ header Second) c.new-out.ensures.items) c.in_ok-write.ensures.ok
 
-pub returns-in_err-read_record-clause-stopped : goal.returns-in_err-read_record-clause-stopped
-returns-in_err-read_record-clause-stopped g c =
-    let p = err_from_is_err_and c.from_residual-in_err-read_record.result c.from_residual-in_err-read_record.ensures.1 in
-    rw (p.1, p.2) (stops_between _ _ _ _ _ _ _ _ _ _ _ _ _ c.records.invariant)
-
-pub returns-in_err-read_record-clause-refused : goal.returns-in_err-read_record-clause-refused
-returns-in_err-read_record-clause-refused g c =
-    let p = err_from_is_err_and c.from_residual-in_err-read_record.result c.from_residual-in_err-read_record.ensures.1 in
-    rw (p.1, p.2) (fails_next _ _ _ _ _ _ _ _ _ _ (opens _ _ _ _ _ _ _ _ _ _ _ _ c.records.invariant) c.in_err-read_record.ensures.refused)
-
-pub returns-then-remaining-len-clause-stopped : goal.returns-then-remaining-len-clause-stopped
-returns-then-remaining-len-clause-stopped g c = stops_between _ _ _ _ _ _ _ _ _ _ _ _ _ c.records.invariant
-
-pub returns-then-remaining-len-clause-refused : goal.returns-then-remaining-len-clause-refused
-returns-then-remaining-len-clause-refused g c =
-    fails_long _ _ _ _ _ _ _ _ _ _ (opens _ _ _ _ _ _ _ _ _ _ _ _ c.records.invariant) c.in_ok-read_record.ensures.read
-    (omega (arith, c.remaining.ensures, c.len.ensures, c.if-remaining-len.true))
-
 pub returns-in_err-opened-clause-stopped : goal.returns-in_err-opened-clause-stopped
 returns-in_err-opened-clause-stopped g c =
     let p = err_from_is_err_and c.from_residual-in_err-opened.result c.from_residual-in_err-opened.ensures.1 in
@@ -66,10 +45,7 @@ returns-in_err-opened-clause-stopped g c =
 pub returns-in_err-opened-clause-refused : goal.returns-in_err-opened-clause-refused
 returns-in_err-opened-clause-refused g c =
     let p = err_from_is_err_and c.from_residual-in_err-opened.result c.from_residual-in_err-opened.ensures.1 in
-    let found = c.deref.ensures.value in
-    rw (p.1, p.2) (fails_open _ _ _ _ _ _ _ _ _ c.deref.result.now _ (opens _ _ _ _ _ _ _ _ _ _ _ _ c.records.invariant)
-    (subst (Consumes _ _) (sym found) c.in_ok-read_record.ensures.read) c.in_err-opened.ensures.refused.first
-    (λ cut. c.in_ok-read_record.ensures.cut (subst (λ l. parts c.records.opener.version l ≡ Err Truncated) found (c.in_err-opened.ensures.refused.cut cut))))
+    rw (p.1, p.2) (fails_next _ _ _ _ _ _ _ _ _ (opens _ _ _ _ _ _ _ _ _ _ _ _ c.records.invariant) c.in_err-opened.ensures.failed)
 
 pub returns-in_err-end-clause-stopped : goal.returns-in_err-end-clause-stopped
 returns-in_err-end-clause-stopped g c =
@@ -79,20 +55,19 @@ returns-in_err-end-clause-stopped g c =
 pub returns-in_err-end-clause-refused : goal.returns-in_err-end-clause-refused
 returns-in_err-end-clause-refused g c =
     let p = err_from_is_err_and c.from_residual-in_err-end.result c.from_residual-in_err-end.ensures.1 in
-    let ends = c.if-opened.true in
-    let e = c.in_ok-opened.ensures.opened in
-    let is = rw ends at e.last in
-    let whole = rw ends at e.whole in
-    let found = sym c.deref.ensures.value in
-    rw (p.1, p.2) (fails_end _ _ _ _ _ _ _ _ _ _ None _ _ _ _ _ (opens _ _ _ _ _ _ _ _ _ _ _ _ c.records.invariant) c.in_ok-read_record.ensures.read whole (found ∙ is)
-    (c.in_ok-read_record.ensures.alone _ _ _ (within_limit _ _ e.within) (found ∙ is)) tt c.in_err-end.ensures.err)
+    rw (p.1, p.2) (fails_end _ _ _ _ _ _ _ _ _ None None None _ _ (opens _ _ _ _ _ _ _ _ _ _ _ _ c.records.invariant)
+    (rw c.if-opened.true at c.in_ok-opened.ensures.opened) tt c.in_err-end.ensures.err)
 
 pub seal_last-requires-clause-fits : goal.seal_last-requires-clause-fits
 seal_last-requires-clause-fits g c =
-    let e = c.in_ok-opened.ensures.opened in
-    let same = level _ _ _ _ _ _ _ _ _ _ _ _ c.records.invariant in
-    let message = ap length c.deref-then-opened.ensures.value in
-    omega (arith, same, message, ap (λ (p : Progress). start_of p) e.progress, e.taken, ap length c.deref.ensures.value, c.remaining.ensures, c.len.ensures, c.if-remaining-len.false)
+    let m = c.message-text.ensures ∙ ap (message_of c.in_ok-opened.opened) c.deref.ensures.value in
+    let o = c.opener-in-records in
+    omega (
+      arith,
+      ap length m,
+      next_fits _ _ _ _ _ _ _ _ _ _ _ _ _ _ _ _ c.records.invariant c.in_ok-opened.ensures.opened
+          (omega (arith, ap (λ (p : Progress). start_of p) o.view_is, o.invariant)),
+    )
 
 pub returns-in_err-seal_last-clause-stopped : goal.returns-in_err-seal_last-clause-stopped
 returns-in_err-seal_last-clause-stopped g c =
@@ -102,18 +77,14 @@ returns-in_err-seal_last-clause-stopped g c =
 pub returns-in_err-write-2-clause-stopped : goal.returns-in_err-write-2-clause-stopped
 returns-in_err-write-2-clause-stopped g c =
     let p = err_from_is_err_and c.from_residual-in_err-write-2.result c.from_residual-in_err-write-2.ensures.1 in
-    let ends = c.if-opened.true in
-    let e = c.in_ok-opened.ensures.opened in
-    let is = rw ends at e.last in
-    let whole = rw ends at e.whole in
-    let found = sym c.deref.ensures.value in
-    let message = c.deref-then-opened.result.now in
-    let last = subst (λ m. IsLast c.records.sealer m (record_of c.records.sealer 1 message)) c.deref-then-opened.ensures.value
+    let m = c.message-text.ensures ∙ ap (message_of c.in_ok-opened.opened) c.deref.ensures.value in
+    let text = c.message-text.result.now in
+    let last = subst (λ m. IsLast c.records.sealer m (record_of c.records.sealer 1 text)) m
     (λ key prefix context ms before b. (Second, c.in_ok-seal_last.ensures.whole key prefix context ms before b)) in
     let written = c.in_err-write-2.ensures.front in
-    rw (p.1, p.2) (stops_ending _ _ _ _ _ _ _ _ _ _ _ _ _ _ _ _ _ _ _ _ c.deref-then-opened-2.result.now written.0 _ c.records.invariant c.in_ok-read_record.ensures.read
-    whole (found ∙ is) (c.in_ok-read_record.ensures.alone _ _ _ (within_limit _ _ e.within) (found ∙ is)) c.in_ok-end.ensures.read c.in_ok-end.ensures.end
-    last (c.deref-then-opened-2.ensures.value ∙ c.in_ok-seal_last.ensures.appended) written.1 c.in_err-write-2.ensures.err)
+    rw (p.1, p.2) (stops_ending _ _ _ _ _ _ _ _ _ _ _ _ _ _ _ _ _ _ c.deref-then-opened.result.now written.0 _ c.records.invariant
+    (rw c.if-opened.true at c.in_ok-opened.ensures.opened) c.in_ok-end.ensures.read c.in_ok-end.ensures.end
+    last (c.deref-then-opened.ensures.value ∙ c.in_ok-seal_last.ensures.appended) written.1 c.in_err-write-2.ensures.err)
 
 pub returns-in_err-write-2-clause-refused : goal.returns-in_err-write-2-clause-refused
 returns-in_err-write-2-clause-refused g c =
@@ -123,17 +94,13 @@ returns-in_err-write-2-clause-refused g c =
 pub returns-in_err-flush-clause-stopped : goal.returns-in_err-flush-clause-stopped
 returns-in_err-flush-clause-stopped g c =
     let p = err_from_is_err_and c.from_residual-in_err-flush.result c.from_residual-in_err-flush.ensures.1 in
-    let ends = c.if-opened.true in
-    let e = c.in_ok-opened.ensures.opened in
-    let is = rw ends at e.last in
-    let whole = rw ends at e.whole in
-    let found = sym c.deref.ensures.value in
-    let message = c.deref-then-opened.result.now in
-    let last = subst (λ m. IsLast c.records.sealer m (record_of c.records.sealer 1 message)) c.deref-then-opened.ensures.value
+    let m = c.message-text.ensures ∙ ap (message_of c.in_ok-opened.opened) c.deref.ensures.value in
+    let text = c.message-text.result.now in
+    let last = subst (λ m. IsLast c.records.sealer m (record_of c.records.sealer 1 text)) m
     (λ key prefix context ms before b. (Second, c.in_ok-seal_last.ensures.whole key prefix context ms before b)) in
-    rw (p.1, p.2) (stops_flushing _ _ _ _ _ _ _ _ _ _ _ _ _ _ _ _ _ _ _ _ _ c.deref-then-opened-2.result.now _ c.records.invariant c.in_ok-read_record.ensures.read
-    whole (found ∙ is) (c.in_ok-read_record.ensures.alone _ _ _ (within_limit _ _ e.within) (found ∙ is)) c.in_ok-end.ensures.read c.in_ok-end.ensures.end
-    last (c.deref-then-opened-2.ensures.value ∙ c.in_ok-seal_last.ensures.appended) c.in_ok-write-2.ensures.ok c.in_err-flush.ensures.kept c.in_err-flush.ensures.err)
+    rw (p.1, p.2) (stops_flushing _ _ _ _ _ _ _ _ _ _ _ _ _ _ _ _ _ _ _ c.deref-then-opened.result.now _ c.records.invariant
+    (rw c.if-opened.true at c.in_ok-opened.ensures.opened) c.in_ok-end.ensures.read c.in_ok-end.ensures.end
+    last (c.deref-then-opened.ensures.value ∙ c.in_ok-seal_last.ensures.appended) c.in_ok-write-2.ensures.ok c.in_err-flush.ensures.kept c.in_err-flush.ensures.err)
 
 pub returns-in_err-flush-clause-refused : goal.returns-in_err-flush-clause-refused
 returns-in_err-flush-clause-refused g c =
@@ -142,24 +109,24 @@ returns-in_err-flush-clause-refused g c =
 
 pub returns-then-opened-clause-rekeyed : goal.returns-then-opened-clause-rekeyed
 returns-then-opened-clause-rekeyed g c =
-    let ends = c.if-opened.true in
-    let e = c.in_ok-opened.ensures.opened in
-    let is = rw ends at e.last in
-    let whole = rw ends at e.whole in
-    let found = sym c.deref.ensures.value in
-    let message = c.deref-then-opened.result.now in
-    let last = subst (λ m. IsLast c.records.sealer m (record_of c.records.sealer 1 message)) c.deref-then-opened.ensures.value
+    let m = c.message-text.ensures ∙ ap (message_of c.in_ok-opened.opened) c.deref.ensures.value in
+    let text = c.message-text.result.now in
+    let last = subst (λ m. IsLast c.records.sealer m (record_of c.records.sealer 1 text)) m
     (λ key prefix context ms before b. (Second, c.in_ok-seal_last.ensures.whole key prefix context ms before b)) in
-    rekeys_end _ _ _ _ _ _ _ _ _ _ _ _ _ _ _ _ _ _ _ _ _ _ c.records.invariant c.in_ok-read_record.ensures.read
-    whole (found ∙ is) (c.in_ok-read_record.ensures.alone _ _ _ (within_limit _ _ e.within) (found ∙ is)) c.in_ok-end.ensures.read c.in_ok-end.ensures.end
-    last (c.deref-then-opened-2.ensures.value ∙ c.in_ok-seal_last.ensures.appended) c.in_ok-write-2.ensures.ok c.in_ok-flush.ensures.kept
+    rekeys_end _ _ _ _ _ _ _ _ _ _ _ _ _ _ _ _ _ _ _ _ c.records.invariant
+    (rw c.if-opened.true at c.in_ok-opened.ensures.opened) c.in_ok-end.ensures.read c.in_ok-end.ensures.end
+    last (c.deref-then-opened.ensures.value ∙ c.in_ok-seal_last.ensures.appended) c.in_ok-write-2.ensures.ok c.in_ok-flush.ensures.kept
 
 pub seal_next-requires-clause-fits : goal.seal_next-requires-clause-fits
 seal_next-requires-clause-fits g c =
-    let e = c.in_ok-opened.ensures.opened in
-    let same = level _ _ _ _ _ _ _ _ _ _ _ _ c.records.invariant in
-    let message = ap length c.deref-in-records.ensures.value in
-    omega (arith, same, message, ap (λ (p : Progress). start_of p) e.progress, e.taken, ap length c.deref.ensures.value, c.remaining.ensures, c.len.ensures, c.if-remaining-len.false)
+    let m = c.message-text.ensures ∙ ap (message_of c.in_ok-opened.opened) c.deref.ensures.value in
+    let o = c.opener-in-records in
+    omega (
+      arith,
+      ap length m,
+      next_fits _ _ _ _ _ _ _ _ _ _ _ _ _ _ _ _ c.records.invariant c.in_ok-opened.ensures.opened
+          (omega (arith, ap (λ (p : Progress). start_of p) o.view_is, o.invariant)),
+    )
 
 pub returns-in_err-seal_next-clause-stopped : goal.returns-in_err-seal_next-clause-stopped
 returns-in_err-seal_next-clause-stopped g c =
@@ -169,27 +136,17 @@ returns-in_err-seal_next-clause-stopped g c =
 pub returns-in_err-write-3-clause-stopped : goal.returns-in_err-write-3-clause-stopped
 returns-in_err-write-3-clause-stopped g c =
     let p = err_from_is_err_and c.from_residual-in_err-write-3.result c.from_residual-in_err-write-3.ensures.1 in
-    let going = c.if-opened.false in
-    let e = c.in_ok-opened.ensures.opened in
-    let is = rw going at e.next in
-    let step = rw going at e.begun in
-    let found = sym c.deref.ensures.value in
-    let message = c.deref-in-records.result.now in
-    let next = subst (λ m. IsStep c.records.sealer c.seal_next.new.self m (record_of c.records.sealer 0 message)) c.deref-in-records.ensures.value c.in_ok-seal_next.ensures.begun in
+    let m = c.message-text.ensures ∙ ap (message_of c.in_ok-opened.opened) c.deref.ensures.value in
+    let text = c.message-text.result.now in
+    let step = subst (λ m. IsStep c.records.sealer c.seal_next.new.self m (record_of c.records.sealer 0 text)) m c.in_ok-seal_next.ensures.begun in
     let written = c.in_err-write-3.ensures.front in
-    rw (p.1, p.2) (stops_writing _ _ _ _ _ _ _ _ _ _ _ _ _ _ _ _ _ _ _ _ _ c.deref-in-records-2.result.now written.0 _ c.records.invariant c.in_ok-read_record.ensures.read
-    step (found ∙ is) (c.in_ok-read_record.ensures.alone _ _ _ (within_limit _ _ e.within) (found ∙ is))
-    next (c.deref-in-records-2.ensures.value ∙ c.in_ok-seal_next.ensures.appended) written.1)
+    rw (p.1, p.2) (stops_writing _ _ _ _ _ _ _ _ _ _ _ _ _ _ _ _ _ _ c.deref-in-records.result.now written.0 _ c.records.invariant
+    (rw c.if-opened.false at c.in_ok-opened.ensures.opened) step (c.deref-in-records.ensures.value ∙ c.in_ok-seal_next.ensures.appended) written.1)
 
 pub records-preserved : goal.records-preserved
 records-preserved g c =
-    let going = c.if-opened.false in
-    let e = c.in_ok-opened.ensures.opened in
-    let is = rw going at e.next in
-    let step = rw going at e.begun in
-    let found = sym c.deref.ensures.value in
-    let message = c.deref-in-records.result.now in
-    let next = subst (λ m. IsStep c.records.sealer c.seal_next.new.self m (record_of c.records.sealer 0 message)) c.deref-in-records.ensures.value c.in_ok-seal_next.ensures.begun in
-    rekeys_more _ _ _ _ _ _ _ _ _ _ _ _ _ _ _ _ _ _ _ _ _ _ _ c.records.invariant c.in_ok-read_record.ensures.read
-    step (found ∙ is) (c.in_ok-read_record.ensures.alone _ _ _ (within_limit _ _ e.within) (found ∙ is))
-    next (c.deref-in-records-2.ensures.value ∙ c.in_ok-seal_next.ensures.appended) c.in_ok-write-3.ensures.ok c.clear.ensures.items
+    let m = c.message-text.ensures ∙ ap (message_of c.in_ok-opened.opened) c.deref.ensures.value in
+    let text = c.message-text.result.now in
+    let step = subst (λ m. IsStep c.records.sealer c.seal_next.new.self m (record_of c.records.sealer 0 text)) m c.in_ok-seal_next.ensures.begun in
+    rekeys_more _ _ _ _ _ _ _ _ _ _ _ _ _ _ _ _ _ _ _ _ c.records.invariant
+    (rw c.if-opened.false at c.in_ok-opened.ensures.opened) step (c.deref-in-records.ensures.value ∙ c.in_ok-seal_next.ensures.appended) c.in_ok-write-3.ensures.ok c.clear.ensures.items

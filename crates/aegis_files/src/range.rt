@@ -1,0 +1,87 @@
+//! Opening a part of the text of a sealed file, from a reader to a writer.
+
+ghost use Rattle.std.specs.Prelude.{◌≡◌, ◌≤◌, IfErr, IfOk, IfSome, drop, length, take};
+ghost use Rattle.aegis_base.specs.declared.error.TheConstants.{MAX_AEAD_BYTES};
+ghost use Rattle.aegis.specs.Progress.{start_at};
+ghost use Rattle.aegis_files.specs.Range.{OpensRange, StopsRange};
+
+use crate::error::FileError;
+use crate::next::{message, next_message};
+use crate::write::{flush, write};
+use aegis::aegis256::Key;
+use aegis::record::{MAX_CONTEXT_BYTES, RecordOpener, RecordPosition};
+use std::alloc::Allocator;
+use std::io::{Read, Write};
+
+/// A part of a text, from one of its records on.
+#[derive(Clone, Copy, Debug, PartialEq, Eq)]
+pub struct TextRange {
+    /// The position of the record at which the input begins.
+    pub position: RecordPosition,
+    /// How many bytes of the text, from that record's first one on, come before the part.
+    pub skip: u64,
+    /// How many bytes the part has at most.
+    pub length: u64,
+}
+
+// At most `length` bytes of the message, after its first `skip` ones.
+fn part<'b>(message: &'b [u8], skip: u64, length: u64) -> &'b [u8]
+    ensures { result.now ≡ take length (drop skip message.now) }
+{
+    let start = skip.min(message.len() as u64) as usize;
+    let end = start + length.min((message.len() - start) as u64) as usize;
+    &message[start..end]
+}
+
+/// Opens a part of the text of a sealed file, from one of its records on. Writes those bytes of each message that are
+/// in the part, after the message's tag has been verified, and returns how many bytes were written.
+///
+/// The input begins at the record at `range.position`, and only the records up to the part's end are read from it:
+/// none if `range.length` is 0. The prefix is the file's first 24 bytes. The record starts at byte
+/// `28 + 37 * number + before` of the file; [`RecordOpener::position`] returns such positions.
+///
+/// Fewer than `range.length` bytes are written only if the last record was opened, so that the text ends there. If
+/// the file is that of a text, they are its bytes from byte `before + skip` on. Whatever the file is, they are bytes
+/// of messages that are sealed at just these positions. Nothing is known of the records before those that were read,
+/// nor of the ones after them.
+///
+/// After any error, only bytes of the part from verified records were written, all of them unless a write failed. The
+/// file of a text is refused only if memory runs out. The error is [`FileError::TooLong`] only if the record stream
+/// has more than [`aegis::MAX_AEAD_BYTES`].
+///
+/// The context must have at most [`MAX_CONTEXT_BYTES`], and the record must start at byte [`aegis::MAX_AEAD_BYTES`]
+/// of the stream at most. Memory is allocated for one record, which is opened where it lies.
+pub fn open_range<R: Read, W: Write, A: Allocator + Copy>(
+    alloc: A,
+    key: &Key,
+    prefix: &[u8; 24],
+    context: &[u8],
+    range: TextRange,
+    input: &mut R,
+    output: &mut W,
+) -> Result<u64, FileError>
+    requires context_within { length context.now ≤ MAX_CONTEXT_BYTES }
+    requires start_within { start_at range.position.number range.position.before ≤ MAX_AEAD_BYTES }
+    ensures opened { IfOk result (λ n. IfSome (R.remaining input.old) (λ stream.
+        OpensRange key.now prefix.now context.now range n stream (R.remaining input.new)
+        (W.contents output.old) (W.contents output.new))) }
+    ensures stopped { IfErr result (λ e. IfSome (R.remaining input.old) (λ stream.
+        StopsRange key.now prefix.now context.now range stream
+        (W.contents output.old) (W.contents output.new) e)) }
+{
+    let mut opener = RecordOpener::begin_at(alloc, key, prefix, context, range.position)?;
+    let mut buffer = Vec::new(alloc);
+    let mut skip = range.skip;
+    let mut left = range.length;
+    let mut is_last = false;
+    'records: while left > 0 && !is_last {
+        let opened = next_message(input, &mut opener, &mut buffer)?;
+        let piece = part(message(&buffer, opened), skip, left);
+        write(output, piece)?;
+        skip = skip.saturating_sub(opened.message_len as u64);
+        left -= piece.len() as u64;
+        is_last = opened.is_last;
+    }
+    flush(output)?;
+    Ok(range.length - left)
+}
