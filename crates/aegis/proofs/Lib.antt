@@ -2,7 +2,6 @@ pub mod Frames
 pub mod Fronts
 mod InPlace
 pub mod Lengths
-mod Pieces
 pub mod Places
 pub mod Reading
 pub mod Sealed

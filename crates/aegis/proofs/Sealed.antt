@@ -3,7 +3,7 @@ use borrow.Rule.Slice.PartMut.{put_mid}
 use Rattle.std.proofs.Common.{◌≡◌, ℕ, zero, suc, ◌+◌, ◌-◌, ◌≤◌, List, [], ◌∷◌, ◌++◌, length, take, drop, refl, sym, ap, ◌∙◌, arith, inl, inr}
 use Rattle.std.proofs.lemmas.List.{append-nil, drop_at, length-append, take_at, take-append-drop}
 use Rattle.aegis_base.specs.Variant.{Aegis256}
-use Rattle.aegis_base.specs.Message.{Opens, ciphertext, lane_before, tag}
+use Rattle.aegis_base.specs.Message.{Opens, ciphertext, lane_before, seal, tag}
 use Rattle.aegis_base.proofs.Bijection.{ciphertext-injective, length-ciphertext}
 use Rattle.aegis_base.proofs.Lengths.{length-tag}
 use Rattle.aegis.specs.declared.record.version.Version.{Version}
@@ -26,6 +26,12 @@ nonce_filled a z b p le ae long size be =
 
 tag_long : (key nonce ad m : List ℕ) → length (tag Aegis256 32 key nonce ad m) ≡ 32
 tag_long key nonce ad m = length-tag Aegis256 32 key nonce ad m (inl refl) (inr refl)
+
+-- a ciphertext and the tag after it are what the message is sealed to
+pub joined : (key prefix context : List ℕ) (v : Version) (k o flag : ℕ) (m c t : List ℕ)
+    → (c, t) ≡ seal Aegis256 32 key (nonce prefix k) (associated_data v k o flag context) m → c ++ t ≡ sealed key prefix context v k o flag m
+unfolding sealed
+joined key prefix context v k o flag m c t is = ap (λ (p : List ℕ × List ℕ). p.0 ++ p.1) is
 
 -- bytes whose front opens with the tag after it are what the message is sealed to
 pub opened : (key prefix context : List ℕ) (v : Version) (k o flag : ℕ) (m bytes c t : List ℕ)

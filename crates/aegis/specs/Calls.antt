@@ -1,5 +1,5 @@
 -- Relations between the code's values and the definitions.
-use Rattle.std.specs.Prelude.{◌≡◌, ℕ, ◌+◌, Bool, ◌≤◌, ◌⊎◌, List, ◌++◌, drop, length, map, replicate, take, Result, Ok, Err}
+use Rattle.std.specs.Prelude.{◌≡◌, ℕ, ◌+◌, ◌-◌, Bool, ◌≤◌, ◌⊎◌, List, ◌++◌, drop, length, map, replicate, take, Result, Ok, Err}
 use Rattle.aegis_engine.specs.declared.cipher.TheConstants.{ERASED}
 use Rattle.std.specs.declared.vec.Vec.{Vec}
 use Rattle.aegis.specs.declared.record.error.RecordError.{RecordError}
@@ -39,7 +39,7 @@ abbrev pub OpensRecordTo : {A : Type 0} → Bool → List ℕ → List ℕ → R
 OpensRecordTo is_last m rest (Ok opened) = (opened.is_last ≡ is_last) × (opened.message.items ≡ m) × (opened.rest.now ≡ rest)
 OpensRecordTo is_last m rest (Err e) = e ≡ errors.OutOfMemory
 
--- ---- a record that is opened in place, in a buffer that begins with it
+-- ---- a record that is opened or sealed in place, in a buffer that begins with it
 
 -- the message of n bytes in the buffer's first record, and the bytes after that record
 abbrev pub message_at : ℕ → List ℕ → List ℕ
@@ -47,6 +47,14 @@ message_at n bytes = take n (drop 5 bytes)
 
 abbrev pub rest_at : ℕ → List ℕ → List ℕ
 rest_at n bytes = drop (37 + n) bytes
+
+-- the message in a buffer that has one record and no more, or is to have it
+abbrev pub message_in : List ℕ → List ℕ
+message_in bytes = message_at (length bytes - 37) bytes
+
+-- the buffer in which a message is to be sealed
+abbrev pub unsealed : List ℕ → List ℕ
+unsealed m = replicate 5 0 ++ (m ++ replicate 32 0)
 
 -- the message in the buffer once its record is opened, and the bytes after the record
 abbrev pub message_of : OpenedInPlace → List ℕ → List ℕ

@@ -27,8 +27,8 @@
 //! }
 //! ```
 //!
-//! [`RecordSealer`] and [`RecordOpener`] seal and open a stream one record at a time; [`RecordOpener::open_next_in_place`] opens a
-//! record in the buffer that holds it, and allocates nothing.
+//! [`RecordSealer`] and [`RecordOpener`] seal and open a stream one record at a time; [`RecordSealer::seal_next_in_place`] and
+//! [`RecordOpener::open_next_in_place`] do so in the buffer that holds the record, and allocate nothing.
 //!
 //! Not covered: that a prefix is used once under its key, which the caller has to ensure.
 mod error;

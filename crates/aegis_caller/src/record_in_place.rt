@@ -1,12 +1,15 @@
-//! Records that are read one at a time in the buffer that holds them.
+//! Records that are read or sealed one at a time in the buffer that holds them.
 
-ghost use Rattle.std.specs.Prelude.{◌≡◌, ◌+◌, ◌≤◌, ◌++◌, ◌∷◌, [], IfErr, IfOk, List, OnErr, false, length, ℕ};
+ghost use Rattle.std.specs.Prelude.{◌≡◌, ◌+◌, ◌≤◌, ◌++◌, ◌∷◌, [], IfErr, IfOk, List, OnErr, OnOk, false, length, ℕ};
 ghost use Rattle.std.specs.Bool.{OnFalse, OnTrue};
+ghost use Rattle.aegis.specs.Calls.{message_in};
 ghost use Rattle.aegis.specs.Progress.{AreRecordsOfSomeVersion, Begun, IsRecordFault, record_of, start_of};
 
 use aegis::MAX_AEAD_BYTES;
-use aegis::record::{RECORD_HEAD_BYTES, RecordError, RecordOpener};
-use std::alloc::Allocator;
+use aegis::record::{
+    MAX_MESSAGE_BYTES, RECORD_BYTES, RECORD_HEAD_BYTES, RecordError, RecordOpener, RecordSealer,
+};
+use std::alloc::{AllocError, Allocator};
 
 /// An entry of a log: a part of the buffer that held its record.
 #[derive(Clone, Copy)]
@@ -42,4 +45,47 @@ pub fn next_entry<'b, A: Allocator + Copy>(
         message: &buffer[RECORD_HEAD_BYTES..][..opened.message_len],
         is_last: opened.is_last,
     })
+}
+
+/// How many bytes a reading has.
+pub const READING_BYTES: usize = 16;
+
+/// How many bytes the packet of a reading has.
+pub const PACKET_BYTES: usize = READING_BYTES + RECORD_BYTES as usize;
+
+/// Seals a reading in a packet of its own. No memory is taken, and there is no error.
+pub fn seal_reading<A: Allocator + Copy>(
+    sealer: &mut RecordSealer<'_, A>,
+    reading: &[u8; READING_BYTES],
+) -> [u8; PACKET_BYTES]
+    requires { start_of sealer.old + PACKET_BYTES ≤ MAX_AEAD_BYTES }
+    ensures sealed { result ≡ record_of sealer.old 0 reading.now }
+    ensures begun { (key prefix context : List ℕ) (ms : List (List ℕ)) (before : List ℕ)
+        → Begun sealer.old key prefix context ms before
+        → Begun sealer.new key prefix context (ms ++ reading.now ∷ []) (before ++ result) }
+{
+    let mut packet = [0; PACKET_BYTES];
+    packet[RECORD_HEAD_BYTES..RECORD_HEAD_BYTES + READING_BYTES].copy_from_slice(reading);
+    sealer.seal_next_in_place(&mut packet);
+    packet
+}
+
+/// Seals an entry in the buffer that holds it, and appends its record to a log. Room is made first: after an error nothing was
+/// sealed.
+pub fn append_entry<A: Allocator + Copy>(
+    sealer: &mut RecordSealer<'_, A>,
+    buffer: &mut [u8],
+    log: &mut Vec<u8, A>,
+) -> Result<(), AllocError>
+    requires room { RECORD_BYTES ≤ length buffer.old }
+    requires within { length buffer.old ≤ RECORD_BYTES + MAX_MESSAGE_BYTES }
+    requires fits { start_of sealer.old + length buffer.old ≤ MAX_AEAD_BYTES }
+    ensures appended { OnOk result ((key prefix context : List ℕ) (ms : List (List ℕ))
+        → Begun sealer.old key prefix context ms log.old.items
+        → Begun sealer.new key prefix context (ms ++ message_in buffer.old ∷ []) log.new.items) }
+    ensures kept { OnErr result (sealer.new ≡ sealer.old) }
+{
+    log.reserve(buffer.len())?;
+    sealer.seal_next_in_place(buffer);
+    log.extend_from_slice(buffer)
 }

@@ -1,10 +1,13 @@
 -- The facts that hold between two pieces that are sealed.
+use borrow.Rule.Slice.PartMut.{post_of, put_mid}
 use Rattle.std.proofs.Common.{◌≡◌, ◌⊎◌, ℕ, ◌+◌, ◌-◌, ◌*◌, ◌<◌, ◌≤◌, List, [], ◌∷◌, ◌++◌, Option, None, Some, IfSome, drop, length, take, le_refl, refl, sym, ap, subst, ◌∙◌, append_assoc, arith, inl, inr}
 use Rattle.std.proofs.KnownBytes.{Appends-kept, Appends-trans, Consumes-all, Consumes-nil, Consumes-trans}
 use Rattle.std.proofs.Math.Nat.{le-div_iff_mul-le}
 use Rattle.std.proofs.lemmas.Bool.{cases_lt}
-use Rattle.std.proofs.lemmas.List.{append-nil, length-append, nil_from_length, take-append-drop, take_all}
+use Rattle.std.proofs.lemmas.List.{append-nil, drop-take, drop_at, length-append, length-drop, length-take, nil_from_length, take-append-drop, take-append-le, take-take, take_all, with_items_is}
 use Rattle.std.specs.Io.KnownBytes.{Appends, Consumes, IsAtEnd, Keeps}
+use Rattle.std.specs.Prelude.{Vec}
+use Rattle.std.specs.Vec.{with_items}
 use Rattle.std.specs.List.{AllByRecursion, concat}
 use Rattle.aegis_base.specs.declared.error.TheConstants.{MAX_AEAD_BYTES}
 use Rattle.aegis.proofs.Fronts.{after_a_stream}
@@ -12,12 +15,14 @@ use Rattle.aegis.proofs.Reading.{total_push}
 use Rattle.aegis.proofs.Sealed.{sealed-is}
 use Rattle.aegis.proofs.Streams.{one_fault, one_record_stream}
 use Rattle.aegis.specs.declared.record.error.RecordError.TheVariants as errors
+use Rattle.aegis.specs.declared.record.length.TheConstants.{RECORD_BYTES}
+use Rattle.aegis.specs.Calls.{message_at, message_in}
 use Rattle.aegis.specs.Fault.{AtRecord, IsFaultOf, parts}
 use Rattle.aegis.specs.Progress.{AreRecordsOfSomeVersion, Begun, Progress, start_of}
 use Rattle.aegis.specs.declared.record.version.Version.{Version}
 use Rattle.aegis.specs.declared.record.version.Version.TheVariants.{Second}
 use Rattle.aegis.specs.Records.{AreRecords, IsFault, sealed}
-use Rattle.aegis.specs.RecordStream.{AreWithin, front, total}
+use Rattle.aegis.specs.RecordStream.{AreWithin, frames, front, header, total}
 use Rattle.aegis_files.specs.declared.error.FileError.{FileError}
 use Rattle.aegis_files.specs.declared.error.FileError.TheVariants.{TooLong}
 use Rattle.aegis_files.specs.declared.seal.TheConstants.{PIECE_BYTES}
@@ -61,12 +66,65 @@ full_more p q key prefix context (Some t) left left' ms m bytes bytes' b b' befo
       | inr whole ↦ inl (omega (arith, full, c.0, c.1, d.0, d.1, whole, piece, total_push ms m, length-append ms (m ∷ [])))
     ]
 
--- The messages were read from the text. The bytes `sent` of their stream were written after the prefix, and `pending`
--- is not written yet.
-pub record SealsSome (p : Progress) (key prefix context : List ℕ) (text left old new : Option (List ℕ)) (pending : List ℕ) : Type 0 where
+-- a buffer for the record of a piece, before and after a piece was read to its place
+pub record Placed {Z : Type 0} (v : Vec ℕ Z) (all piece : List ℕ) : Type 0 where
+  pub room : length v.items ≡ RECORD_BYTES + PIECE_BYTES
+  pub all_is : all ≡ v.items
+  pub same : length piece ≡ length (take PIECE_BYTES (drop 5 all))
+
+pub placed_size : {Z : Type 0} (v : Vec ℕ Z) (all piece : List ℕ) → Placed v all piece → length piece ≡ PIECE_BYTES
+placed_size v all piece p =
+    omega (arith, p.room, ap length p.all_is, p.same, length-take PIECE_BYTES (drop 5 all), length-drop 5 all)
+
+-- the message that is to be sealed is what was read
+pub placed_in : {Z : Type 0} (v : Vec ℕ Z) (n : ℕ) (all piece again : List ℕ) → Placed v all piece → n ≤ PIECE_BYTES
+    → again ≡ (with_items v (put_mid 5 PIECE_BYTES all piece)).items → message_in (take (RECORD_BYTES + n) again) ≡ take n piece
+placed_in v n all piece again p within is =
+    ap (λ (l : List ℕ). message_in (take (RECORD_BYTES + n) l)) (is ∙ with_items_is v whole (omega (arith, long, p.room, v.ok.0)))
+    ∙ ap (λ (k : ℕ). message_at k (take (RECORD_BYTES + n) whole)) count
+    ∙ ap (λ (k : ℕ). message_at n (take k whole)) cut
+    ∙ ap (take n) (drop-take 5 (32 + n) whole)
+    ∙ take-take n (32 + n) (drop 5 whole) (omega arith)
+    ∙ ap (take n) (drop_at (take 5 all) (piece ++ after) 5 head)
+    ∙ take-append-le n piece after (omega (arith, size, within))
+  where
+    after : List ℕ
+    after = post_of 5 PIECE_BYTES all
+
+    whole : List ℕ
+    whole = put_mid 5 PIECE_BYTES all piece
+
+    size : length piece ≡ PIECE_BYTES
+    size = placed_size v all piece p
+
+    head : length (take 5 all) ≡ 5
+    head = omega (arith, length-take 5 all, p.room, ap length p.all_is)
+
+    long : length whole ≡ RECORD_BYTES + PIECE_BYTES
+    long =
+        omega (
+          arith,
+          p.room,
+          ap length p.all_is,
+          size,
+          head,
+          length-append (take 5 all) (piece ++ after),
+          length-append piece after,
+          length-drop PIECE_BYTES (drop 5 all),
+          length-drop 5 all,
+        )
+
+    cut : RECORD_BYTES + n ≡ 5 + (32 + n)
+    cut = omega arith
+
+    count : length (take (RECORD_BYTES + n) whole) - 37 ≡ n
+    count = omega (arith, length-take (RECORD_BYTES + n) whole, long, within)
+
+-- The messages were read from the text, and the bytes `sent` of their stream were written after the prefix.
+pub record SealsSome (p : Progress) (key prefix context : List ℕ) (text left old new : Option (List ℕ)) : Type 0 where
   pub messages : List (List ℕ)
   pub sent : List ℕ
-  pub begun : Begun p key prefix context messages (sent ++ pending)
+  pub begun : Begun p key prefix context messages sent
   pub read : Consumes text left (concat messages)
   pub written : Appends old new (prefix ++ sent)
   pub within : AllByRecursion IsPiece messages
@@ -74,14 +132,14 @@ pub record SealsSome (p : Progress) (key prefix context : List ℕ) (text left o
   pub room : start_of p + 37 ≤ MAX_AEAD_BYTES
   pub full : IfSome text (λ t. IsFull p left)
 
-pub seals_begin : (p : Progress) (key prefix context : List ℕ) (text old new : Option (List ℕ)) (pending first : List ℕ) → Begun p key prefix context [] first
-    → pending ≡ first → Appends old new prefix → SealsSome p key prefix context text text old new pending
-seals_begin p key prefix context text old new pending first begun is written = record {
+pub seals_begin : (p : Progress) (key prefix context : List ℕ) (text old new : Option (List ℕ)) (first : List ℕ) → Begun p key prefix context [] first
+    → Appends old new (prefix ++ first) → SealsSome p key prefix context text text old new
+seals_begin p key prefix context text old new first begun written = record {
   messages = [];
-  sent = [];
-  begun = rw is begun;
+  sent = first;
+  begun = begun;
   read = Consumes-nil text;
-  written = rw append-nil written;
+  written = written;
   within = tt;
   room = let c = counted p key prefix context [] first begun in omega (arith, c.0, c.1);
   full = full_none p key prefix context text text first begun;
@@ -95,47 +153,44 @@ abbrev pub IsLast : Progress → List ℕ → List ℕ → Type 0
 IsLast p m bytes = (key prefix context : List ℕ) (ms : List (List ℕ)) (before : List ℕ) → Begun p key prefix context ms before
     → AreRecordsOfSomeVersion key prefix context (ms ++ m ∷ []) (before ++ bytes)
 
--- the bytes to write are those that were pending, and then the record
+-- bytes that were pending are written before the record
 pub joined : (sent pending bytes out : List ℕ) → out ≡ pending ++ bytes → (sent ++ pending) ++ bytes ≡ sent ++ out
 joined sent pending bytes out is = append_assoc sent pending bytes ∙ ap (λ (l : List ℕ). sent ++ l) (sym is)
 
-pub seals_more : (p q : Progress) (key prefix context : List ℕ) (text left left' old new new' : Option (List ℕ)) (pending m bytes out none : List ℕ)
-    → SealsSome p key prefix context text left old new pending → Consumes left left' m → IsStep p q m bytes → out ≡ pending ++ bytes
-    → Appends new new' out → none ≡ [] → IsPiece m → (length m < PIECE_BYTES → IsAtEnd left') → start_of q + 37 ≤ MAX_AEAD_BYTES
-    → SealsSome q key prefix context text left' old new' none
-seals_more p q key prefix context text left left' old new new' pending m bytes out none s read step is written empty piece end room = record {
+pub seals_more : (p q : Progress) (key prefix context : List ℕ) (text left left' old new new' : Option (List ℕ)) (m bytes : List ℕ)
+    → SealsSome p key prefix context text left old new → Consumes left left' m → IsStep p q m bytes → Appends new new' bytes
+    → IsPiece m → (length m < PIECE_BYTES → IsAtEnd left') → start_of q + 37 ≤ MAX_AEAD_BYTES
+    → SealsSome q key prefix context text left' old new'
+seals_more p q key prefix context text left left' old new new' m bytes s read step written piece end room = record {
   messages = s.messages ++ m ∷ [];
-  sent = s.sent ++ out;
-  begun = subst (Begun q key prefix context (s.messages ++ m ∷ []))
-      (joined s.sent pending bytes out is ∙ sym (append-nil (s.sent ++ out)) ∙ ap (λ (l : List ℕ). (s.sent ++ out) ++ l) (sym empty))
-      (step key prefix context s.messages (s.sent ++ pending) s.begun);
+  sent = s.sent ++ bytes;
+  begun = step key prefix context s.messages s.sent s.begun;
   read = subst (Consumes text left') (sym (concat-push s.messages m)) (Consumes-trans text left left' (concat s.messages) m s.read read);
-  written = subst (Appends old new') (append_assoc prefix s.sent out) (Appends-trans old new new' (prefix ++ s.sent) out s.written written);
+  written = subst (Appends old new') (append_assoc prefix s.sent bytes) (Appends-trans old new new' (prefix ++ s.sent) bytes s.written written);
   within = all_push IsPiece s.messages m s.within piece;
   room = room;
-  full = full_more p q key prefix context text left left' s.messages m (s.sent ++ pending) ((s.sent ++ pending) ++ bytes) s.begun
-      (step key prefix context s.messages (s.sent ++ pending) s.begun) s.read read piece end s.full;
+  full = full_more p q key prefix context text left left' s.messages m s.sent (s.sent ++ bytes) s.begun
+      (step key prefix context s.messages s.sent s.begun) s.read read piece end s.full;
 }
 
-pub seals_end : (p : Progress) (key prefix context : List ℕ) (text left left' old new new' new'' : Option (List ℕ)) (pending bytes out : List ℕ)
-    → SealsSome p key prefix context text left old new pending → Consumes left left' [] → IsAtEnd left' → IsLast p [] bytes → out ≡ pending ++ bytes
-    → Appends new new' out → Keeps new' new''
+pub seals_end : (p : Progress) (key prefix context : List ℕ) (text left left' old new new' new'' : Option (List ℕ)) (bytes : List ℕ)
+    → SealsSome p key prefix context text left old new → Consumes left left' [] → IsAtEnd left' → IsLast p [] bytes
+    → Appends new new' bytes → Keeps new' new''
     → IfSome text (λ t. (file : List ℕ) × (is : IsFileOf key prefix context t file) × Appends old new'' file × AllByRecursion IsPiece is.messages)
-seals_end p key prefix context None left left' old new new' new'' pending bytes out s read end last is written kept = tt
-seals_end p key prefix context (Some t) left left' old new new' new'' pending bytes out s read end last is written kept =
+seals_end p key prefix context None left left' old new new' new'' bytes s read end last written kept = tt
+seals_end p key prefix context (Some t) left left' old new new' new'' bytes s read end last written kept =
     let whole : concat s.messages ++ [] ≡ [] ++ t =
     Consumes-all (Some t) left' (concat s.messages ++ []) [] (concat s.messages ++ []) (Consumes-trans (Some t) left left' (concat s.messages) [] s.read read) end refl in (
-      prefix ++ (s.sent ++ out),
+      prefix ++ (s.sent ++ bytes),
       record {
         messages = s.messages ++ [] ∷ [];
-        stream = s.sent ++ out;
-        are = subst (AreRecordsOfSomeVersion key prefix context (s.messages ++ [] ∷ [])) (joined s.sent pending bytes out is)
-            (last key prefix context s.messages (s.sent ++ pending) s.begun);
+        stream = s.sent ++ bytes;
+        are = last key prefix context s.messages s.sent s.begun;
         text_is = sym whole ∙ sym (concat-push s.messages []);
         file_is = refl;
       },
-      Appends-kept old new' new'' (prefix ++ (s.sent ++ out))
-          (subst (Appends old new') (append_assoc prefix s.sent out) (Appends-trans old new new' (prefix ++ s.sent) out s.written written)) kept,
+      Appends-kept old new' new'' (prefix ++ (s.sent ++ bytes))
+          (subst (Appends old new') (append_assoc prefix s.sent bytes) (Appends-trans old new new' (prefix ++ s.sent) bytes s.written written)) kept,
       all_push IsPiece s.messages [] s.within (omega arith),
     )
 
@@ -231,20 +286,18 @@ whole key prefix context t begun rest v ms old new e long are is text written wh
 
 -- ---- each exit
 
--- some bytes of the prefix were written
-pub stops_in_prefix : (key prefix context : List ℕ) (text old new : Option (List ℕ)) (n : ℕ) (e : FileError) → length prefix ≡ 24 → IsInTime e
-    → Appends old new (take n prefix) → IfSome text (λ t. WritesFileFront key prefix context t old new e)
-stops_in_prefix key prefix context None old new n e long time written = tt
-stops_in_prefix key prefix context (Some t) old new n e long time written =
-    let more : List ℕ = front (sealed key prefix context) Second 0 [] in
-    no_last key prefix context t (take n prefix) (drop n prefix ++ more) t Second [] old new e long tt
-    (ap (λ (l : List ℕ). l ++ more) (sym (take-append-drop n prefix)) ∙ append_assoc (take n prefix) (drop n prefix) more) refl written (in_time e _ time)
+front_none : (key prefix context : List ℕ) → front (sealed key prefix context) Second 0 [] ≡ header Second
+unfolding frames
+front_none key prefix context = append-nil (header Second)
 
-pub stops_after_prefix : (key prefix context : List ℕ) (text old new : Option (List ℕ)) (e : FileError) → length prefix ≡ 24 → IsInTime e → Appends old new prefix
-    → IfSome text (λ t. WritesFileFront key prefix context t old new e)
-stops_after_prefix key prefix context None old new e long time written = tt
-stops_after_prefix key prefix context (Some t) old new e long time written =
-    no_last key prefix context t prefix (front (sealed key prefix context) Second 0 []) t Second [] old new e long tt refl refl written (in_time e _ time)
+-- some bytes of the prefix and the header were written
+pub stops_in_front : (key prefix context : List ℕ) (text old new : Option (List ℕ)) (n : ℕ) (e : FileError) → length prefix ≡ 24 → IsInTime e
+    → Appends old new (take n (prefix ++ header Second)) → IfSome text (λ t. WritesFileFront key prefix context t old new e)
+stops_in_front key prefix context None old new n e long time written = tt
+stops_in_front key prefix context (Some t) old new n e long time written =
+    let all : List ℕ = prefix ++ header Second in
+    no_last key prefix context t (take n all) (drop n all) t Second [] old new e long tt
+    (ap (λ (l : List ℕ). prefix ++ l) (front_none key prefix context) ∙ sym (take-append-drop n all)) refl written (in_time e _ time)
 
 -- the records so far
 sent_front : (p : Progress) (key prefix context t sent rest : List ℕ) (ms : List (List ℕ)) (left old new : Option (List ℕ)) (e : FileError) → length prefix ≡ 24
@@ -256,11 +309,11 @@ sent_front p key prefix context t sent rest ms left old new e long b read writte
     no_last key prefix context t (prefix ++ sent) rest parts.0 p.version ms old new e long b.within
     (ap (λ (l : List ℕ). prefix ++ l) (sym b.are) ∙ sym (append_assoc prefix sent rest)) parts.1 written too_long
 
-pub stops_between : (p : Progress) (key prefix context : List ℕ) (text left old new : Option (List ℕ)) (pending : List ℕ) (e : FileError) → length prefix ≡ 24
-    → IsInTime e → SealsSome p key prefix context text left old new pending → IfSome text (λ t. WritesFileFront key prefix context t old new e)
-stops_between p key prefix context None left old new pending e long time s = tt
-stops_between p key prefix context (Some t) left old new pending e long time s =
-    sent_front p key prefix context t s.sent pending s.messages left old new e long s.begun s.read s.written (in_time e _ time)
+pub stops_between : (p : Progress) (key prefix context : List ℕ) (text left old new : Option (List ℕ)) (e : FileError) → length prefix ≡ 24
+    → IsInTime e → SealsSome p key prefix context text left old new → IfSome text (λ t. WritesFileFront key prefix context t old new e)
+stops_between p key prefix context None left old new e long time s = tt
+stops_between p key prefix context (Some t) left old new e long time s =
+    sent_front p key prefix context t s.sent [] s.messages left old new e long (rw append-nil s.begun) s.read s.written (in_time e _ time)
 
 -- the text has more full pieces than the limit allows
 too_many : (p : Progress) (key prefix context t left' : List ℕ) (ms : List (List ℕ)) (bytes : List ℕ) (left : Option (List ℕ)) (m : List ℕ)
@@ -279,12 +332,12 @@ too_many p key prefix context t left' ms bytes (Some l) m b before read some (in
     let pieces : p.number + 1 ≤ pieces_in (length t) = (le-div_iff_mul-le {x = p.number + 1} (omega arith)).1 low in
     omega (arith, full, c.1, length-append (concat ms) l, length-append m left')
 
-pub stops_long : (p : Progress) (key prefix context : List ℕ) (text left left' old new : Option (List ℕ)) (pending m : List ℕ) → length prefix ≡ 24
-    → SealsSome p key prefix context text left old new pending → Consumes left left' m → 0 < length m → MAX_AEAD_BYTES < start_of p + (74 + length m)
+pub stops_long : (p : Progress) (key prefix context : List ℕ) (text left left' old new : Option (List ℕ)) (m : List ℕ) → length prefix ≡ 24
+    → SealsSome p key prefix context text left old new → Consumes left left' m → 0 < length m → MAX_AEAD_BYTES < start_of p + (74 + length m)
     → IfSome text (λ t. WritesFileFront key prefix context t old new TooLong)
-stops_long p key prefix context None left left' old new pending m long s read some past = tt
-stops_long p key prefix context (Some t) left left' old new pending m long s read some past =
-    sent_front p key prefix context t s.sent pending s.messages left old new TooLong long s.begun s.read s.written
+stops_long p key prefix context None left left' old new m long s read some past = tt
+stops_long p key prefix context (Some t) left left' old new m long s read some past =
+    sent_front p key prefix context t s.sent [] s.messages left old new TooLong long (rw append-nil s.begun) s.read s.written
     (past_limit left left' s.read read s.full)
   where
     past_limit : (left left' : Option (List ℕ)) → Consumes (Some t) left (concat s.messages) → Consumes left left' m → IsFull p left
@@ -292,46 +345,48 @@ stops_long p key prefix context (Some t) left left' old new pending m long s rea
     past_limit None left' before read full = absurd before
     past_limit (Some l) None before read full = absurd read
     past_limit (Some l) (Some r) before read full =
-        too_many p key prefix context t r s.messages (s.sent ++ pending) (Some l) m s.begun before read some full past
+        too_many p key prefix context t r s.messages s.sent (Some l) m s.begun before read some full past
 
 -- the record was sealed, and some of the bytes to write were written
-pub cut_out : (sent pending bytes out : List ℕ) (n : ℕ) → out ≡ pending ++ bytes → (sent ++ take n out) ++ drop n out ≡ (sent ++ pending) ++ bytes
-cut_out sent pending bytes out n is =
-    append_assoc sent (take n out) (drop n out) ∙ ap (λ (l : List ℕ). sent ++ l) (take-append-drop n out) ∙ sym (joined sent pending bytes out is)
+cut : (sent out : List ℕ) (n : ℕ) → (sent ++ take n out) ++ drop n out ≡ sent ++ out
+cut sent out n = append_assoc sent (take n out) (drop n out) ∙ ap (λ (l : List ℕ). sent ++ l) (take-append-drop n out)
 
-pub stops_writing : (p q : Progress) (key prefix context : List ℕ) (text left left' old new new' : Option (List ℕ)) (pending m bytes out : List ℕ) (n : ℕ) (e : FileError)
-    → length prefix ≡ 24 → IsInTime e → SealsSome p key prefix context text left old new pending → Consumes left left' m → IsStep p q m bytes → out ≡ pending ++ bytes
-    → Appends new new' (take n out) → IfSome text (λ t. WritesFileFront key prefix context t old new' e)
-stops_writing p q key prefix context None left left' old new new' pending m bytes out n e long time s read step is written = tt
-stops_writing p q key prefix context (Some t) left left' old new new' pending m bytes out n e long time s read step is written =
+pub cut_out : (sent pending bytes out : List ℕ) (n : ℕ) → out ≡ pending ++ bytes → (sent ++ take n out) ++ drop n out ≡ (sent ++ pending) ++ bytes
+cut_out sent pending bytes out n is = cut sent out n ∙ sym (joined sent pending bytes out is)
+
+pub stops_writing : (p q : Progress) (key prefix context : List ℕ) (text left left' old new new' : Option (List ℕ)) (m bytes : List ℕ) (n : ℕ) (e : FileError)
+    → length prefix ≡ 24 → IsInTime e → SealsSome p key prefix context text left old new → Consumes left left' m → IsStep p q m bytes
+    → Appends new new' (take n bytes) → IfSome text (λ t. WritesFileFront key prefix context t old new' e)
+stops_writing p q key prefix context None left left' old new new' m bytes n e long time s read step written = tt
+stops_writing p q key prefix context (Some t) left left' old new new' m bytes n e long time s read step written =
     let ms : List (List ℕ) = s.messages ++ m ∷ [] in
-    sent_front q key prefix context t (s.sent ++ take n out) (drop n out) ms left' old new' e long
-    (subst (Begun q key prefix context ms) (sym (cut_out s.sent pending bytes out n is)) (step key prefix context s.messages (s.sent ++ pending) s.begun))
+    sent_front q key prefix context t (s.sent ++ take n bytes) (drop n bytes) ms left' old new' e long
+    (subst (Begun q key prefix context ms) (sym (cut s.sent bytes n)) (step key prefix context s.messages s.sent s.begun))
     (subst (Consumes (Some t) left') (sym (concat-push s.messages m)) (Consumes-trans (Some t) left left' (concat s.messages) m s.read read))
-    (subst (Appends old new') (append_assoc prefix s.sent (take n out)) (Appends-trans old new new' (prefix ++ s.sent) (take n out) s.written written))
+    (subst (Appends old new') (append_assoc prefix s.sent (take n bytes)) (Appends-trans old new new' (prefix ++ s.sent) (take n bytes) s.written written))
     (in_time e _ time)
 
-pub stops_ending : (p : Progress) (key prefix context : List ℕ) (text left left' old new new' : Option (List ℕ)) (pending bytes out : List ℕ) (n : ℕ) (e : FileError)
-    → length prefix ≡ 24 → SealsSome p key prefix context text left old new pending → Consumes left left' [] → IsAtEnd left' → IsLast p [] bytes → out ≡ pending ++ bytes
-    → Appends new new' (take n out) → IsWriteError e → IfSome text (λ t. WritesFileFront key prefix context t old new' e)
-stops_ending p key prefix context None left left' old new new' pending bytes out n e long s read end last is written why = tt
-stops_ending p key prefix context (Some t) left left' old new new' pending bytes out n e long s read end last is written why =
+pub stops_ending : (p : Progress) (key prefix context : List ℕ) (text left left' old new new' : Option (List ℕ)) (bytes : List ℕ) (n : ℕ) (e : FileError)
+    → length prefix ≡ 24 → SealsSome p key prefix context text left old new → Consumes left left' [] → IsAtEnd left' → IsLast p [] bytes
+    → Appends new new' (take n bytes) → IsWriteError e → IfSome text (λ t. WritesFileFront key prefix context t old new' e)
+stops_ending p key prefix context None left left' old new new' bytes n e long s read end last written why = tt
+stops_ending p key prefix context (Some t) left left' old new new' bytes n e long s read end last written why =
     let ms : List (List ℕ) = s.messages ++ [] ∷ [] in
-    let are = last key prefix context s.messages (s.sent ++ pending) s.begun in
+    let are = last key prefix context s.messages s.sent s.begun in
     let all : concat ms ≡ concat s.messages ++ [] = concat-push s.messages [] in
     let text : concat s.messages ++ [] ≡ [] ++ t =
     Consumes-all (Some t) left' (concat s.messages ++ []) [] (concat s.messages ++ []) (Consumes-trans (Some t) left left' (concat s.messages) [] s.read read) end refl in
-    let stream : (s.sent ++ take n out) ++ drop n out ≡ front (sealed key prefix context) are.0 1 ms = cut_out s.sent pending bytes out n is ∙ are.1.are in
-    whole key prefix context t (prefix ++ (s.sent ++ take n out)) (drop n out) are.0 ms old new' e long
+    let stream : (s.sent ++ take n bytes) ++ drop n bytes ≡ front (sealed key prefix context) are.0 1 ms = cut s.sent bytes n ∙ are.1.are in
+    whole key prefix context t (prefix ++ (s.sent ++ take n bytes)) (drop n bytes) are.0 ms old new' e long
     (record { some = are.1.some; within = are.1.within; are = refl })
-    (ap (λ (l : List ℕ). prefix ++ l) (sym stream) ∙ sym (append_assoc prefix (s.sent ++ take n out) (drop n out)))
+    (ap (λ (l : List ℕ). prefix ++ l) (sym stream) ∙ sym (append_assoc prefix (s.sent ++ take n bytes) (drop n bytes)))
     (sym text ∙ sym all)
-    (subst (Appends old new') (append_assoc prefix s.sent (take n out)) (Appends-trans old new new' (prefix ++ s.sent) (take n out) s.written written)) why
+    (subst (Appends old new') (append_assoc prefix s.sent (take n bytes)) (Appends-trans old new new' (prefix ++ s.sent) (take n bytes) s.written written)) why
 
-pub stops_flushing : (p : Progress) (key prefix context : List ℕ) (text left left' old new new' new'' : Option (List ℕ)) (pending bytes out : List ℕ) (e : FileError)
-    → length prefix ≡ 24 → SealsSome p key prefix context text left old new pending → Consumes left left' [] → IsAtEnd left' → IsLast p [] bytes → out ≡ pending ++ bytes
-    → Appends new new' out → Keeps new' new'' → IsWriteError e → IfSome text (λ t. WritesFileFront key prefix context t old new'' e)
-stops_flushing p key prefix context text left left' old new new' new'' pending bytes out e long s read end last is written kept why =
-    let all = take_all (length out) out (le_refl _) in
-    stops_ending p key prefix context text left left' old new new'' pending bytes out (length out) e long s read end last is
-    (Appends-kept new new' new'' (take (length out) out) (subst (Appends new new') (sym all) written) kept) why
+pub stops_flushing : (p : Progress) (key prefix context : List ℕ) (text left left' old new new' new'' : Option (List ℕ)) (bytes : List ℕ) (e : FileError)
+    → length prefix ≡ 24 → SealsSome p key prefix context text left old new → Consumes left left' [] → IsAtEnd left' → IsLast p [] bytes
+    → Appends new new' bytes → Keeps new' new'' → IsWriteError e → IfSome text (λ t. WritesFileFront key prefix context t old new'' e)
+stops_flushing p key prefix context text left left' old new new' new'' bytes e long s read end last written kept why =
+    let all = take_all (length bytes) bytes (le_refl _) in
+    stops_ending p key prefix context text left left' old new new'' bytes (length bytes) e long s read end last
+    (Appends-kept new new' new'' (take (length bytes) bytes) (subst (Appends new new') (sym all) written) kept) why

@@ -1,6 +1,6 @@
 //! Sealing a file, from a reader to a writer.
 
-ghost use Rattle.std.specs.Prelude.{◌≡◌, ◌≤◌, IfErr, IfOk, IfSome, List, OnOk, length, ℕ};
+ghost use Rattle.std.specs.Prelude.{◌≡◌, ◌+◌, ◌≤◌, IfErr, IfOk, IfSome, List, OnOk, length, ℕ};
 ghost use Rattle.std.specs.Io.KnownBytes.{Appends};
 ghost use Rattle.std.specs.List.{AllByRecursion};
 ghost use Rattle.aegis_files.specs.SealedFile.{IsFileOf, IsPiece, WritesFileFront};
@@ -9,25 +9,25 @@ use crate::error::FileError;
 use crate::reading::fill;
 use crate::write::{flush, write};
 use aegis::aegis256::Key;
-use aegis::record::{MAX_CONTEXT_BYTES, RECORD_BYTES, RecordSealer};
+use aegis::record::{MAX_CONTEXT_BYTES, RECORD_BYTES, RECORD_HEAD_BYTES, RecordSealer};
 use std::alloc::{AllocError, Allocator};
 use std::io::{Read, Write};
 
 /// The number of bytes of the input in each record. The last record is empty, and the one before it may be shorter.
 pub const PIECE_BYTES: usize = 65_536;
 
-// A buffer for one piece.
-fn piece_buffer<A: Allocator>(alloc: A) -> Result<Vec<u8, A>, AllocError>
-    ensures { IfOk result (λ piece. length piece.items ≡ PIECE_BYTES) }
+// A buffer for the record of one piece.
+fn record_buffer<A: Allocator>(alloc: A) -> Result<Vec<u8, A>, AllocError>
+    ensures { IfOk result (λ buffer. length buffer.items ≡ RECORD_BYTES + PIECE_BYTES) }
 {
-    vec![in alloc; 0; PIECE_BYTES]
+    vec![in alloc; 0; RECORD_BYTES as usize + PIECE_BYTES]
 }
 
 /// Seals the whole input: writes the prefix, and then the record stream of the input's pieces. The last message is
 /// empty, so that each piece is written before the next one is read.
 ///
 /// Under one key, a prefix must be used for one file only. The context must have at most [`MAX_CONTEXT_BYTES`]. Memory
-/// is allocated for one piece and its record.
+/// is allocated at the start only, for one record: each piece is read to its place in it, and sealed there.
 ///
 /// After an error, a front of such a file was written, whose pieces are a front of the text. If it is a file that opens,
 /// it has the whole text, and a write or the flush failed; so after any other error it is the file of no text. The error
@@ -49,27 +49,27 @@ pub fn seal_stream<R: Read, W: Write, A: Allocator + Copy>(
         (λ text. WritesFileFront key.now prefix.now context.now text
         (W.contents output.old) (W.contents output.new) e)) }
 {
-    let mut piece = piece_buffer(alloc)?;
-    let mut out = Vec::with_capacity(alloc, PIECE_BYTES + RECORD_BYTES as usize)?;
-    write(output, prefix)?;
+    let mut buffer = record_buffer(alloc)?;
+    // The prefix and the header, and later the last record.
+    let mut out = Vec::with_capacity(alloc, RECORD_BYTES as usize)?;
+    out.extend_from_slice(prefix)?;
     let mut sealer = RecordSealer::new(alloc, key, prefix, context, &mut out)?;
+    write(output, &out)?;
     'pieces: loop {
-        match fill(input, &mut piece) {
-            Ok(0) => {
-                sealer.seal_last(&[], &mut out)?;
-                write(output, &out)?;
-                flush(output)?;
-                return Ok(());
-            }
-            Ok(count) => {
-                if sealer.remaining() < 2 * RECORD_BYTES + count as u64 {
-                    return Err(FileError::TooLong);
-                }
-                sealer.seal_next(&piece[..count], &mut out)?;
-                write(output, &out)?;
-                out.clear();
-            }
-            Err(error) => return Err(error),
+        let piece = &mut buffer[RECORD_HEAD_BYTES..RECORD_HEAD_BYTES + PIECE_BYTES];
+        let count = fill(input, piece)?;
+        if count == 0 {
+            out.clear();
+            sealer.seal_last(&[], &mut out)?;
+            write(output, &out)?;
+            flush(output)?;
+            return Ok(());
         }
+        if sealer.remaining() < 2 * RECORD_BYTES + count as u64 {
+            return Err(FileError::TooLong);
+        }
+        let record = &mut buffer[..RECORD_BYTES as usize + count];
+        sealer.seal_next_in_place(record);
+        write(output, record)?;
     }
 }

@@ -18,10 +18,6 @@ pub const MAX_CONTEXT_BYTES: usize = 65_535;
 /// How many bytes the associated data has at most, but for the context: a header, a number, a sum of lengths and a flag.
 pub const DATA_BYTES: usize = 4 + 8 + 8 + 1;
 
-// A message is copied and sealed in updates of this many bytes: so few that a copy waits for memory while rounds run. Of the
-// lengths from 128 to 65536 it is the fastest for AEGIS-256.
-const UPDATE_BYTES: usize = 256;
-
 /// What all records of a stream are sealed under.
 #[derive(Clone, Copy)]
 pub struct RecordCipher<'a> {
@@ -78,32 +74,26 @@ impl RecordPlace {
 }
 
 impl RecordCipher<'_> {
-    /// Appends the ciphertext and the tag of a record to a stream. `ad` is overwritten.
-    pub fn seal<A: Allocator>(
+    /// Seals a message in place: `sealed` has the message and then 32 bytes, over which its ciphertext and its tag are written.
+    /// `ad` is overwritten, and has room for the associated data.
+    pub fn seal_in_place<A: Allocator>(
         &self,
-        out: &mut Vec<u8, A>,
         ad: &mut Vec<u8, A>,
         place: RecordPlace,
-        message: &[u8],
-    ) -> Result<(), RecordError>
+        sealed: &mut [u8],
+    )
         requires context { length self.now.context.now ≤ MAX_CONTEXT_BYTES }
-        requires within { length message.now ≤ limit place.version }
-        ensures ok { OnOk result (out.new.items
-            ≡ out.old.items ++ sealed_at self.now place message.now) }
-        ensures err { IfErr result (λ e. e ≡ RecordError.OutOfMemory) }
-        ensures kept { OnErr result
-            ((part : List ℕ) × (out.new.items ≡ out.old.items ++ part)) }
+        requires room { DATA_BYTES + length self.now.context.now ≤ vec_capacity ad.old }
+        requires long { 32 ≤ length sealed.old }
+        requires within { length sealed.old ≤ limit place.version + 32 }
+        ensures sealed { sealed.new
+            ≡ sealed_at self.now place (take (length sealed.old - 32) sealed.old) }
+        ensures capacity { vec_capacity ad.old ≤ vec_capacity ad.new }
     {
-        place.write_data(ad, self.context)?;
+        place.write_data(ad, self.context).unwrap();
         let cipher = Aegis256::<TAG_BYTES>::new(self.key, &nonce(self.prefix, place.number));
-        let mut encryptor = cipher.encryptor(ad);
-        for piece in message.chunks(UPDATE_BYTES) {
-            let start = out.len();
-            out.extend_from_slice(piece)?;
-            encryptor.update_in_place(&mut out[start..]);
-        }
-        out.extend_from_slice(&encryptor.finalize())?;
-        Ok(())
+        let (message, tag) = sealed.split_last_chunk_mut::<TAG_BYTES>().unwrap();
+        *tag = cipher.encrypt_in_place(message, ad);
     }
 
     /// Returns the message that is sealed to the bytes of a record, ciphertext and tag, in a fresh vector. `ad` is overwritten.

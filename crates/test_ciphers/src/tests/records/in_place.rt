@@ -1,10 +1,13 @@
-//! Records that are opened in the buffer that holds them.
+//! Records that are opened or sealed in the buffer that holds them.
 
 ghost use Rattle.std.specs.Prelude.{◌<◌, ◌≤◌};
 
 use crate::tests::records::streams::{CONTEXT, FIRST, KEY, MESSAGES, PREFIX, SECOND};
 use aegis::ERASED;
-use aegis::record::{OpenedInPlace, RecordError, RecordOpener};
+use aegis::record::{
+    MAX_MESSAGE_BYTES, OpenedInPlace, RECORD_BYTES, RECORD_HEAD_BYTES, RecordError, RecordOpener,
+    RecordSealer,
+};
 use std::alloc::Allocator;
 use std::test::Fail;
 use test_tools::memory::Rationed;
@@ -147,5 +150,62 @@ fn after_the_last_record_the_buffer_is_left(rt: HostRuntime) -> Result<(), Fail>
     );
     assert_eq!(rt; record, SECOND);
     assert_eq!(rt; opened(&mut opener, &mut []), Err(RecordError::Trailing));
+    Ok(())
+}
+
+// Seals a message behind these bytes, where it lies, if it is not too long for the sealer.
+fn seal_in_place<A: Allocator + Copy>(
+    sealer: &mut RecordSealer<'_, A>,
+    record: &mut [u8],
+) -> Result<(), RecordError> {
+    let len = record.len() as u64;
+    if len < RECORD_BYTES || len > MAX_MESSAGE_BYTES as u64 || sealer.remaining() < len {
+        return Err(RecordError::TooLong);
+    }
+    sealer.seal_next_in_place(record);
+    Ok(())
+}
+
+// Appends the record of the next message, if it is not too long for the sealer.
+fn seal<A: Allocator + Copy>(
+    sealer: &mut RecordSealer<'_, A>,
+    message: &[u8],
+    out: &mut Vec<u8, A>,
+) -> Result<(), RecordError> {
+    let len = message.len() as u64;
+    if len > MAX_MESSAGE_BYTES as u64 || sealer.remaining() < RECORD_BYTES + len {
+        return Err(RecordError::TooLong);
+    }
+    sealer.seal_next(message, out)
+}
+
+#[test]
+fn records_sealed_in_place_are_those_of_a_vector(rt: HostRuntime) -> Result<(), Fail> {
+    let text = [0x5a; 1000];
+    let mut header = Vec::new(rt.alloc());
+    let mut in_place = RecordSealer::new(rt.alloc(), &KEY, &PREFIX, &CONTEXT, &mut header)?;
+    let mut appending = RecordSealer::new(rt.alloc(), &KEY, &PREFIX, &CONTEXT, &mut header)?;
+    for len in [0, 1, 15, 16, 17, 255, 256, 1000usize] {
+        let mut record = [0xff; 1037];
+        record[RECORD_HEAD_BYTES..][..len].copy_from_slice(&text[..len]);
+        let record = &mut record[..RECORD_BYTES as usize + len];
+        seal_in_place(&mut in_place, record)?;
+        let mut expected = Vec::new(rt.alloc());
+        seal(&mut appending, &text[..len], &mut expected)?;
+        assert_eq!(rt; &*record, expected.as_slice(), "{len}");
+    }
+    assert!(rt; in_place.position() == appending.position());
+    Ok(())
+}
+
+#[test]
+fn no_memory_is_taken_to_seal_in_place(rt: HostRuntime) -> Result<(), Fail> {
+    let heap = Rationed::new(rt.alloc(), 2);
+    let mut header = Vec::new(&heap);
+    let mut sealer = RecordSealer::new(&heap, &KEY, &PREFIX, &CONTEXT, &mut header)?;
+    assert_eq!(rt; heap.left(), 0);
+    let mut stream = [0; 41];
+    seal_in_place(&mut sealer, &mut stream[4..])?;
+    assert_eq!(rt; stream[4..], SECOND[4..41]);
     Ok(())
 }

@@ -1,0 +1,15 @@
+use Rattle.std.proofs.Common.{◌-◌, arith, drop, length, refl}
+use Rattle.std.proofs.lemmas.List.{length-take}
+use Rattle.aegis.specs.Progress.{record_of}
+use Rattle.aegis.proofs.Stepwise.{begun_more, length-record_of}
+use Rattle.aegis.proofs.record.record_sealer.RecordSealer.seal_next_in_place.Goals as goal
+
+pub returns-clause-written : goal.returns-clause-written
+unfolding record_of
+returns-clause-written g c = rw (← c.self.view_is) c.seal_record_in_place.ensures.written
+
+pub returns-clause-begun : goal.returns-clause-begun
+returns-clause-begun g c =
+    rw (returns-clause-written g c, ← c.self.view_is) (begun_more _ _ _
+    (record { key = refl; prefix = refl; context = refl; version = refl; number = refl; before = omega (arith, length-record_of); unended = refl })
+    (omega (arith, c.requires.within, length-take (length c.args.buffer.now - 37) (drop 5 c.args.buffer.now))))
