@@ -5,6 +5,7 @@ pub mod NextRecord
 pub mod Opening
 pub mod Pieces
 pub mod Ranges
+pub mod RangeFailing
 pub mod Sealing
 pub mod Verified
 pub mod Rekeying

@@ -1,5 +1,5 @@
 -- Pieces that are put together.
-use Rattle.std.proofs.Common.{◌≡◌, ℕ, ◌-◌, List, [], ◌∷◌, ◌++◌, drop, length, take, refl, sym, ap, ◌∙◌, append_assoc, arith}
+use Rattle.std.proofs.Common.{◌≡◌, ℕ, zero, suc, ◌-◌, List, [], ◌∷◌, ◌++◌, drop, length, take, refl, sym, ap, ◌∙◌, append_assoc, arith}
 use Rattle.std.proofs.lemmas.List.{append-nil, drop_at, length-append, length-drop, take-append-drop, take_all, take_at}
 use Rattle.std.specs.List.{AllByRecursion, concat}
 use Rattle.aegis.specs.RecordStream.{total}
@@ -38,3 +38,27 @@ total-concat (m ∷ ms) = let rest = total-concat ms in omega (arith, length-app
 pub two_prefixes : (a b x y : List ℕ) → length a ≡ 24 → length b ≡ 24 → a ++ x ≡ b ++ y → (a ≡ b) × (x ≡ y)
 two_prefixes a b x y la lb e =
     (sym (take_at a x 24 la) ∙ ap (take 24) e ∙ take_at b y 24 lb, sym (drop_at a x 24 la) ∙ ap (drop 24) e ∙ drop_at b y 24 lb)
+
+-- a part of no bytes, and of bytes that are put together
+pub part_nil : (skip len : ℕ) → take len (drop {A = ℕ} skip []) ≡ []
+part_nil skip zero = refl
+part_nil zero (suc len) = refl
+part_nil (suc skip) (suc len) = refl
+
+pub part-append : (skip len : ℕ) (a b : List ℕ)
+    → take len (drop skip (a ++ b)) ≡ take len (drop skip a) ++ take (len - length (take len (drop skip a))) (drop (skip - length a) b)
+part-append zero zero a b = refl
+part-append zero (suc len) [] b = let e : suc len - 0 ≡ suc len = omega arith in rw e refl
+part-append zero (suc len) (x ∷ a) b =
+    let rest = part-append zero len a b in
+    let e : suc len - suc (length (take len a)) ≡ len - length (take len a) = omega arith in
+    let f : 0 - suc (length a) ≡ 0 - length a = omega arith in
+    rw (e, f) (ap (λ (l : List ℕ). x ∷ l) rest)
+part-append (suc skip) zero [] b = refl
+part-append (suc skip) (suc len) [] b =
+    let e : suc len - 0 ≡ suc len = omega arith in
+    let f : suc skip - 0 ≡ suc skip = omega arith in
+    rw (e, f) refl
+part-append (suc skip) len (x ∷ a) b =
+    let e : suc skip - suc (length a) ≡ skip - length a = omega arith in
+    rw e (part-append skip len a b)

@@ -1,8 +1,9 @@
-use Rattle.std.proofs.Common.{◌≡◌, ◌-◌, ◌∙◌, ap, arith, drop, inl, inr, length, refl, take}
+use Rattle.std.proofs.Common.{◌≡◌, ◌∙◌, ap, arith, drop, inl, inr, length, refl, take}
 use Rattle.std.proofs.lemmas.List.{length-drop, length-take}
 use Rattle.std.proofs.lemmas.Result.{err_from_is_err_and}
 use Rattle.aegis.specs.Calls.{message_of}
-use Rattle.aegis_files.proofs.Ranges.{range_begin, range_end, range_more, stops_begin, stops_flush, stops_next, stops_write}
+use Rattle.aegis_files.proofs.RangeFailing.{stops_begin, stops_flush, stops_next, stops_write}
+use Rattle.aegis_files.proofs.Ranges.{range_begin, range_end, range_more}
 use Rattle.aegis_files.proofs.range.open_range.Goals.{then-records-test+else-not-is_last, else-records-test}
 use Rattle.aegis_files.proofs.range.open_range.Goals as goal
 
