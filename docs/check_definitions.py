@@ -14,7 +14,7 @@ PUBLIC = [
     *(f"aegis_base/src/{name}.rt" for name in ("chunks", "laws")),
     *(f"aegis_engine/src/{name}.rt" for name in ("cipher", "encryptor", "decryptor", "mac")),
     *(f"aegis/src/record/{name}.rt" for name in ("laws", "length", "migration", "open", "position", "seal", "version")),
-    *(f"aegis/src/record/{name}.rt" for name in ("record_opener", "record_opener/in_place", "record_sealer")),
+    *(f"aegis/src/record/record_{name}.rt" for name in ("opener", "opener/in_place", "sealer", "sealer/in_place")),
     *(f"aegis_files/src/{name}.rt" for name in ("open", "range", "reading", "rekey", "seal")),
     *(f"aegis_variants/src/{name}.rt" for name in ("cipher", "variant")),
     *(f"aegis_lines/src/{name}.rt" for name in ("answer", "session")),

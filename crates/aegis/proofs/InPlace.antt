@@ -1,13 +1,10 @@
--- A record that is opened or sealed in the buffer that it begins.
-use borrow.Rule.Slice.PartMut.{put_mid}
+-- A record that is opened in the buffer that it begins.
 use Rattle.std.proofs.Common.{◌≡◌, ℕ, ◌+◌, ◌-◌, ◌<◌, List, ◌++◌, length, take, drop, get_or, refl, sym, ap, subst, ◌∙◌, append_assoc, arith}
-use Rattle.std.specs.Prelude.{Vec, replicate}
-use Rattle.std.specs.Vec.{with_items}
-use Rattle.std.proofs.lemmas.List.{append-nil, drop_at, get_or-take, get_or_append_left, length-append, length-take, take_all, take_at, take-append-drop, take-append-le, with_items_is}
+use Rattle.std.specs.Prelude.{replicate}
+use Rattle.std.proofs.lemmas.List.{drop_at, get_or-take, get_or_append_left, length-append, length-take, take_at, take-append-drop, take-append-le}
 use Rattle.aegis.specs.declared.record.version.Version.{Version}
-use Rattle.aegis.specs.Calls.{message_at, message_in, rest_at, unsealed, with_message}
+use Rattle.aegis.specs.Calls.{message_at, rest_at, with_message}
 use Rattle.aegis.proofs.Reading.{Cut}
-use Rattle.aegis.proofs.Sealed.{drop-past}
 
 -- A buffer of a head, a sealed message of n bytes and a rest, in which the sealed message became `made`, with the tag as it was.
 pub record Made (n : ℕ) (head sealed made : List ℕ) : Type 0 where
@@ -110,36 +107,3 @@ head_fits bytes head others is long fits i low =
     let same : get_or bytes i 0 ≡ get_or (head ++ others) i 0 =
     sym (get_or-take 5 bytes i 0 low) ∙ ap (λ (l : List ℕ). get_or l i 0) (sym is) ∙ sym (get_or_append_left head others 0 i (omega arith)) in
     rw same (fits i)
-
--- ---- a record that is sealed in its buffer
-
-pub length-unsealed : (m : List ℕ) → length (unsealed m) ≡ 37 + length m
-length-unsealed m = omega (arith, length-append m (replicate 32 0))
-
-pub message-unsealed : (buffer m : List ℕ) → buffer ≡ unsealed m → message_in buffer ≡ m
-message-unsealed buffer m is =
-    let size : length (unsealed m) - 37 ≡ length m = omega (arith, length-unsealed m) in
-    ap message_in is ∙ ap (λ (n : ℕ). message_at n (unsealed m)) size ∙ take_at m (replicate 32 0) (length m) refl
-
--- the buffer is the end of a vector
-pub tail_is : (n : ℕ) (all before m : List ℕ) → all ≡ before ++ unsealed m → n ≡ length before → take (length all - n) (drop n all) ≡ unsealed m
-tail_is n all before m is start =
-    rw (is, drop_at before (unsealed m) n (sym start)) (take_all (length (before ++ unsealed m) - n) (unsealed m) (omega (arith, start, length-append before (unsealed m))))
-
-pub tail_sealed : {Z : Type 0} (out : Vec ℕ Z) (n : ℕ) (all before m buffer : List ℕ) → all ≡ out.items → out.items ≡ before ++ unsealed m → n ≡ length before
-    → length buffer ≡ length (unsealed m) → (with_items out (put_mid n (length all - n) all buffer)).items ≡ before ++ buffer
-tail_sealed out n all before m buffer is items start same =
-    with_items_is out (put_mid n (length all - n) all buffer)
-    (omega (arith, ap length put, ap length items, same, length-append before buffer, length-append before (unsealed m), out.ok.0)) ∙ put
-  where
-    put : put_mid n (length all - n) all buffer ≡ before ++ buffer
-    put =
-        rw (
-          is,
-          items,
-          take_at before (unsealed m) n (sym start),
-          drop_at before (unsealed m) n (sym start),
-          drop-past (length (before ++ unsealed m) - n) (unsealed m) (omega (arith, start, length-append before (unsealed m))),
-          append-nil buffer,
-        )
-        refl

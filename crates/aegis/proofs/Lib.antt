@@ -2,6 +2,7 @@ pub mod Frames
 pub mod Fronts
 mod InPlace
 pub mod Lengths
+mod Pieces
 pub mod Places
 pub mod Reading
 pub mod Sealed

@@ -52,10 +52,6 @@ rest_at n bytes = drop (37 + n) bytes
 abbrev pub message_in : List ℕ → List ℕ
 message_in bytes = message_at (length bytes - 37) bytes
 
--- the buffer in which a message is to be sealed
-abbrev pub unsealed : List ℕ → List ℕ
-unsealed m = replicate 5 0 ++ (m ++ replicate 32 0)
-
 -- the message in the buffer once its record is opened, and the bytes after the record
 abbrev pub message_of : OpenedInPlace → List ℕ → List ℕ
 message_of opened bytes = message_at opened.message_len bytes

@@ -1,6 +1,7 @@
 //! The cipher of a stream's records.
 
-ghost use Rattle.std.specs.Prelude.{◌≡◌, ◌≢◌, ◌-◌, ◌≤◌, ◌⊎◌, ◌+◌, ◌++◌, IfErr, IfOk, IsOk, List, OnErr, OnOk, drop, length, replicate, take, vec_capacity, ℕ};
+ghost use Rattle.std.specs.Prelude.{◌≡◌, ◌≢◌, ◌-◌, ◌≤◌, ◌⊎◌, ◌+◌, ◌++◌, ◌∷◌, IfErr, IfOk, IsOk, List, OnErr, OnOk, drop, length, replicate, take, vec_capacity, ℕ};
+ghost use Rattle.std.specs.Int.{to_le_bytes, w32};
 ghost use Rattle.aegis_engine.specs.declared.cipher.TheConstants.{ERASED};
 ghost use Rattle.aegis.specs.Calls.{sealed_at};
 ghost use Rattle.aegis.specs.Records.{associated_data, nonce};
@@ -9,6 +10,7 @@ ghost use Rattle.aegis.specs.RecordStream.{limit};
 use crate::aegis256::{Aegis256, Error, Key, Nonce};
 use crate::record::error::RecordError;
 use crate::record::frame::TAG_BYTES;
+use crate::record::length::RECORD_HEAD_BYTES;
 use crate::record::version::Version;
 use std::alloc::Allocator;
 
@@ -17,6 +19,10 @@ pub const MAX_CONTEXT_BYTES: usize = 65_535;
 
 /// How many bytes the associated data has at most, but for the context: a header, a number, a sum of lengths and a flag.
 pub const DATA_BYTES: usize = 4 + 8 + 8 + 1;
+
+// A message is copied and sealed in updates of this many bytes: so few that a copy waits for memory while rounds run. Of the
+// lengths from 128 to 65536 it is the fastest for AEGIS-256.
+const UPDATE_BYTES: usize = 256;
 
 /// What all records of a stream are sealed under.
 #[derive(Clone, Copy)]
@@ -49,6 +55,15 @@ fn nonce(prefix: &[u8; 24], number: u64) -> Nonce
 }
 
 impl RecordPlace {
+    /// Returns what a record has in front of the ciphertext of a message of so many bytes.
+    pub fn head(self, message_len: usize) -> [u8; RECORD_HEAD_BYTES]
+        requires { message_len ≤ limit self.version }
+        ensures { result ≡ self.flag ∷ to_le_bytes w32 message_len }
+    {
+        let [a, b, c, d] = (message_len as u32).to_le_bytes();
+        [self.flag, a, b, c, d]
+    }
+
     // Replaces the bytes of `ad` by the associated data of the record. Memory is taken only if `ad` has too little room.
     fn write_data<A: Allocator>(
         self,
@@ -74,6 +89,35 @@ impl RecordPlace {
 }
 
 impl RecordCipher<'_> {
+    /// Appends the ciphertext and the tag of a record to a stream. `ad` is overwritten, and keeps its room.
+    pub fn seal<A: Allocator>(
+        &self,
+        out: &mut Vec<u8, A>,
+        ad: &mut Vec<u8, A>,
+        place: RecordPlace,
+        message: &[u8],
+    ) -> Result<(), RecordError>
+        requires context { length self.now.context.now ≤ MAX_CONTEXT_BYTES }
+        requires within { length message.now ≤ limit place.version }
+        ensures ok { OnOk result (out.new.items
+            ≡ out.old.items ++ sealed_at self.now place message.now) }
+        ensures err { IfErr result (λ e. e ≡ RecordError.OutOfMemory) }
+        ensures kept { OnErr result
+            ((part : List ℕ) × (out.new.items ≡ out.old.items ++ part)) }
+        ensures capacity { vec_capacity ad.old ≤ vec_capacity ad.new }
+    {
+        place.write_data(ad, self.context)?;
+        let cipher = Aegis256::<TAG_BYTES>::new(self.key, &nonce(self.prefix, place.number));
+        let mut encryptor = cipher.encryptor(ad);
+        for piece in message.chunks(UPDATE_BYTES) {
+            let start = out.len();
+            out.extend_from_slice(piece)?;
+            encryptor.update_in_place(&mut out[start..]);
+        }
+        out.extend_from_slice(&encryptor.finalize())?;
+        Ok(())
+    }
+
     /// Seals a message in place: `sealed` has the message and then 32 bytes, over which its ciphertext and its tag are written.
     /// `ad` is overwritten, and has room for the associated data.
     pub fn seal_in_place<A: Allocator>(

@@ -1,8 +1,9 @@
 //! Sealing a stream a record at a time.
+mod in_place;
 
 ghost use Rattle.std.specs.Prelude.{◌≡◌, ◌+◌, ◌-◌, ◌≤◌, ◌++◌, ◌∷◌, [], IfErr, IfOk, List, OnErr, OnOk, false, length, vec_capacity, ℕ};
 ghost use Rattle.aegis_base.specs.declared.error.TheConstants.{MAX_AEAD_BYTES};
-ghost use Rattle.aegis.specs.Calls.{frame_at, message_in, unsealed};
+ghost use Rattle.aegis.specs.Calls.{frame_at};
 ghost use Rattle.aegis.specs.Progress.{Begun, after, first_position, position_of, progress_at, record_of, start_of};
 ghost use Rattle.aegis.specs.Records.{AreRecords};
 ghost use Rattle.aegis.specs.RecordStream.{header, limit};
@@ -10,8 +11,7 @@ ghost use Rattle.aegis.specs.declared.record.version.Version.TheVariants.{Second
 
 use crate::aegis256::Key;
 use crate::record::error::RecordError;
-use crate::record::frame::TAG_BYTES;
-use crate::record::length::{HEADER_BYTES, RECORD_BYTES, RECORD_HEAD_BYTES};
+use crate::record::length::{HEADER_BYTES, RECORD_BYTES};
 use crate::record::position::RecordPosition;
 use crate::record::record_cipher::{DATA_BYTES, MAX_CONTEXT_BYTES, RecordCipher, RecordPlace};
 use crate::record::version::{MAX_MESSAGE_BYTES, Version};
@@ -22,39 +22,48 @@ use std::marker::Model;
 // The version in which streams are sealed.
 const WRITTEN: Version = Version::Second;
 
-// Appends a message to `out`, between zeros for its head and its tag. After an error `out` is as it was.
-fn append_unsealed<A: Allocator>(out: &mut Vec<u8, A>, message: &[u8]) -> Result<(), RecordError>
-    requires { length message.now ≤ MAX_MESSAGE_BYTES }
-    ensures ok { OnOk result (out.new.items ≡ out.old.items ++ unsealed message.now) }
-    ensures err { IfErr result (λ e. e ≡ RecordError.OutOfMemory) }
-    ensures kept { OnErr result (out.new.items ≡ out.old.items) }
-{
-    out.reserve(RECORD_BYTES as usize + message.len())?;
-    out.extend_from_slice(&[0; RECORD_HEAD_BYTES])?;
-    out.extend_from_slice(message)?;
-    out.extend_from_slice(&[0; TAG_BYTES])?;
-    Ok(())
-}
-
-// Seals a record where its message lies, between the bytes of its head and those of its tag.
-fn seal_record_in_place<A: Allocator>(
+// Appends a record to `out`. After an error `out` may have a part of it.
+fn append_record<A: Allocator>(
+    out: &mut Vec<u8, A>,
     ad: &mut Vec<u8, A>,
     cipher: &RecordCipher<'_>,
     place: RecordPlace,
-    buffer: &mut [u8],
-)
+    message: &[u8],
+) -> Result<(), RecordError>
     requires context { length cipher.now.context.now ≤ MAX_CONTEXT_BYTES }
-    requires ad_room { DATA_BYTES + length cipher.now.context.now ≤ vec_capacity ad.old }
-    requires room { RECORD_BYTES ≤ length buffer.old }
-    requires within { length buffer.old ≤ RECORD_BYTES + limit place.version }
-    ensures written { buffer.new ≡ frame_at cipher.now place (message_in buffer.old) }
+    requires within { length message.now ≤ limit place.version }
+    ensures ok { OnOk result
+        (out.new.items ≡ out.old.items ++ frame_at cipher.now place message.now) }
+    ensures err { IfErr result (λ e. e ≡ RecordError.OutOfMemory) }
+    ensures kept { OnErr result ((part : List ℕ) × (out.new.items ≡ out.old.items ++ part)) }
     ensures capacity { vec_capacity ad.old ≤ vec_capacity ad.new }
 {
-    let message_len = (buffer.len() - RECORD_BYTES as usize) as u32;
-    let (head, sealed) = buffer.split_at_mut(RECORD_HEAD_BYTES);
-    head[0] = place.flag;
-    head[1..].copy_from_slice(&message_len.to_le_bytes());
-    cipher.seal_in_place(ad, place, sealed);
+    out.extend_from_slice(&place.head(message.len()))?;
+    cipher.seal(out, ad, place, message)
+}
+
+// Appends a record to `out`, which is as it was after an error.
+fn seal_record<A: Allocator>(
+    out: &mut Vec<u8, A>,
+    ad: &mut Vec<u8, A>,
+    cipher: &RecordCipher<'_>,
+    place: RecordPlace,
+    message: &[u8],
+) -> Result<(), RecordError>
+    requires context { length cipher.now.context.now ≤ MAX_CONTEXT_BYTES }
+    requires within { length message.now ≤ limit place.version }
+    ensures ok { OnOk result
+        (out.new.items ≡ out.old.items ++ frame_at cipher.now place message.now) }
+    ensures err { IfErr result (λ e. e ≡ RecordError.OutOfMemory) }
+    ensures kept { OnErr result (out.new.items ≡ out.old.items) }
+    ensures capacity { vec_capacity ad.old ≤ vec_capacity ad.new }
+{
+    let start = out.len();
+    let appended = append_record(out, ad, cipher, place, message);
+    if appended.is_err() {
+        out.truncate(start);
+    }
+    appended
 }
 
 /// Seals a stream a record at a time, in version 2.
@@ -158,8 +167,9 @@ impl<'a, A: Allocator + Copy> RecordSealer<'a, A> {
     /// Appends the record of the next message, which is not the last one, to `out`.
     ///
     /// A message has at most [`MAX_MESSAGE_BYTES`], and the whole stream at most [`MAX_AEAD_BYTES`], of which
-    /// [`RecordSealer::remaining`] are left. [`RecordError::OutOfMemory`] is the only error; nothing is sealed then, and the
-    /// sealer and `out` are as they were.
+    /// [`RecordSealer::remaining`] are left. [`RecordError::OutOfMemory`] is the only error; the sealer and `out` are then as
+    /// they were. The next call uses the same record number, so `out`'s spare memory must not be given to anyone if the next
+    /// message differs from that of the failed call.
     pub fn seal_next(&mut self, message: &[u8], out: &mut Vec<u8, A>) -> Result<(), RecordError>
         requires within { length message.now ≤ MAX_MESSAGE_BYTES }
         requires fits { start_of self.old + (RECORD_BYTES + length message.now) ≤ MAX_AEAD_BYTES }
@@ -179,37 +189,16 @@ impl<'a, A: Allocator + Copy> RecordSealer<'a, A> {
         ensures unchanged { OnErr result (self.new ≡ self.old) }
         ensures kept { OnErr result (out.new.items ≡ out.old.items) }
     {
-        let start = out.len();
-        append_unsealed(out, message)?;
-        self.seal_next_in_place(&mut out[start..]);
-        Ok(())
-    }
-
-    /// Seals the next message, which is not the last one, where it lies: `buffer` has [`RECORD_HEAD_BYTES`] for the head, the
-    /// message, and 32 bytes for the tag, and becomes its record.
-    ///
-    /// This is [`RecordSealer::seal_next`] with no vector, and has the same limits. It allocates nothing, and has no error.
-    pub fn seal_next_in_place(&mut self, buffer: &mut [u8])
-        requires room { RECORD_BYTES ≤ length buffer.old }
-        requires within { length buffer.old ≤ RECORD_BYTES + MAX_MESSAGE_BYTES }
-        requires fits { start_of self.old + length buffer.old ≤ MAX_AEAD_BYTES }
-        ensures written { buffer.new ≡ record_of self.old 0 (message_in buffer.old) }
-        ensures begun { (key prefix context : List ℕ) (ms : List (List ℕ)) (bytes : List ℕ)
-            → Begun self.old key prefix context ms bytes
-            → Begun self.new key prefix context
-            (ms ++ message_in buffer.old ∷ []) (bytes ++ buffer.new) }
-        ensures progress { self.new ≡ after self.old false (message_in buffer.old) }
-        ensures taken { start_of self.new ≡ start_of self.old + length buffer.old }
-    {
         let place = RecordPlace {
             version: WRITTEN,
             number: self.number,
             before: self.before,
             flag: 0,
         };
-        seal_record_in_place(&mut self.ad, &self.cipher, place, buffer);
+        seal_record(out, &mut self.ad, &self.cipher, place, message)?;
         self.number += 1;
-        self.before += buffer.len() as u64 - RECORD_BYTES;
+        self.before += message.len() as u64;
+        Ok(())
     }
 
     /// Appends the record of the last message to `out`, and ends the stream: the sealer is taken by value, so no record can
@@ -244,9 +233,7 @@ impl<'a, A: Allocator + Copy> RecordSealer<'a, A> {
             before,
             flag: 1,
         };
-        let start = out.len();
-        append_unsealed(out, message)?;
-        seal_record_in_place(&mut ad, &cipher, place, &mut out[start..]);
+        seal_record(out, &mut ad, &cipher, place, message)?;
         Ok(())
     }
 }

@@ -18,7 +18,7 @@ use std::alloc::Allocator;
 ///
 /// A message has at most [`MAX_MESSAGE_BYTES`] and the context [`MAX_CONTEXT_BYTES`], and [`records_len`] must return a number,
 /// which is the length of the stream. [`RecordError::OutOfMemory`] is the only error. Memory is taken twice: for the whole
-/// stream, in which the messages are sealed, and for the associated data.
+/// stream, in which the messages are sealed piece by piece, and for the associated data.
 pub fn seal_records<A: Allocator + Copy>(
     alloc: A,
     key: &Key,

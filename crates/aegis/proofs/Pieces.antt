@@ -1,0 +1,72 @@
+-- A message that is sealed piece by piece after the bytes of a stream.
+use borrow.Rule.Slice.PartMut.{put_mid}
+use Rattle.std.proofs.Common.{◌≡◌, ℕ, ◌-◌, ◌≤◌, List, [], ◌++◌, length, take, drop, refl, sym, ap, ◌∙◌, append_assoc, arith}
+use Rattle.std.proofs.lemmas.List.{append-nil, drop_at, length-append, nil_from_length, take_at, with_items_is}
+use Rattle.std.specs.Prelude.{Vec}
+use Rattle.std.specs.Vec.{with_items}
+use Rattle.aegis_base.specs.Variant.{Aegis256}
+use Rattle.aegis_base.specs.Message.{ciphertext, tag}
+use Rattle.aegis_base.specs.Run.{Held, Stands}
+use Rattle.aegis.specs.Calls.{sealed_at}
+use Rattle.aegis.specs.Records.{associated_data, nonce, sealed}
+use Rattle.aegis.specs.RecordStream.{limit}
+use Rattle.aegis.specs.declared.record.record_cipher.RecordPlace.{RecordPlace}
+use Rattle.aegis.specs.declared.record.record_cipher.RecordCipher.{RecordCipher}
+use Rattle.aegis.specs.declared.record.version.Version.{Version}
+use Rattle.aegis.specs.declared.record.version.Version.TheVariants.{First, Second}
+use Rattle.aegis.proofs.Sealed.{drop-past}
+
+-- the nonce and the associated data of a record
+abbrev pub nonce_of : RecordCipher → RecordPlace → List ℕ
+nonce_of cipher place = nonce cipher.prefix.now place.number
+
+abbrev pub data_of : RecordCipher → RecordPlace → List ℕ
+data_of cipher place = associated_data place.version place.number place.before place.flag cipher.context.now
+
+-- an encryptor stands for this front of a record's message
+abbrev pub StandsFor : RecordCipher → RecordPlace → Held → List ℕ → Type 0
+StandsFor cipher place encryptor m =
+    Stands Aegis256 encryptor cipher.key.now (nonce_of cipher place) (data_of cipher place) m
+
+-- of a record's message `rest` is to be sealed yet, and the ciphertext of the bytes before it follows what the stream held
+pub record HasSealed (cipher : RecordCipher) (place : RecordPlace) (message rest : List ℕ) (encryptor : Held) (before out : List ℕ) : Type 0 where
+  pub done : List ℕ
+  pub parts : done ++ rest ≡ message
+  pub stands : StandsFor cipher place encryptor done
+  pub bytes : encryptor.message_bytes ≡ length done
+  pub items : out ≡ before ++ ciphertext Aegis256 cipher.key.now (nonce_of cipher place) (data_of cipher place) done
+
+pub limit-within : (v : Version) → limit v ≤ 16777216
+limit-within First = omega arith
+limit-within Second = omega arith
+
+-- the piece that was appended
+pub piece_is : (n : ℕ) (all out piece : List ℕ) → all ≡ out ++ piece → n ≡ length out → take (length all - n) (drop n all) ≡ piece
+piece_is n all out piece e long =
+    rw (e, drop_at out piece n (sym long)) (ap (λ (l : List ℕ). take (length (out ++ piece) - n) l) (sym (append-nil piece))
+    ∙ take_at piece [] (length (out ++ piece) - n) (omega (arith, long, length-append out piece)))
+
+-- what the stream holds once the piece is sealed there
+pub piece_sealed : {Z : Type 0} (stream : Vec ℕ Z) (n : ℕ) (all out piece sealed : List ℕ) → all ≡ stream.items → stream.items ≡ out ++ piece → n ≡ length out
+    → length sealed ≡ length piece → (with_items stream (put_mid n (length all - n) all sealed)).items ≡ out ++ sealed
+piece_sealed stream n all out piece sealed is e long same =
+    with_items_is stream (put_mid n (length all - n) all sealed)
+    (omega (arith, ap length put, ap length e, same, length-append out sealed, length-append out piece, stream.ok.0)) ∙ put
+  where
+    put : put_mid n (length all - n) all sealed ≡ out ++ sealed
+    put =
+        rw (is, e, take_at out piece n (sym long), drop_at out piece n (sym long), drop-past (length (out ++ piece) - n) piece (omega (arith, long, length-append out piece)), append-nil sealed)
+        refl
+
+-- the ciphertext and the tag of all of a message
+pub all_sealed : (cipher : RecordCipher) (place : RecordPlace) (message rest : List ℕ) (encryptor : Held) (before out t all : List ℕ)
+    → HasSealed cipher place message rest encryptor before out → length rest ≡ 0
+    → ((m : List ℕ) → StandsFor cipher place encryptor m → t ≡ tag Aegis256 32 cipher.key.now (nonce_of cipher place) (data_of cipher place) m)
+    → all ≡ out ++ t → all ≡ before ++ sealed_at cipher place message
+unfolding sealed
+all_sealed cipher place message rest encryptor before out t all has none is e =
+    let whole : has.done ≡ message = sym (append-nil has.done) ∙ ap (λ (l : List ℕ). has.done ++ l) (sym (nil_from_length rest none)) ∙ has.parts in
+    e ∙ ap (λ (l : List ℕ). l ++ t) has.items
+    ∙ append_assoc before (ciphertext Aegis256 cipher.key.now (nonce_of cipher place) (data_of cipher place) has.done) t
+    ∙ ap (λ (l : List ℕ). before ++ (ciphertext Aegis256 cipher.key.now (nonce_of cipher place) (data_of cipher place) has.done ++ l)) (is has.done has.stands)
+    ∙ ap (λ (m : List ℕ). before ++ sealed_at cipher place m) whole

@@ -1,0 +1,63 @@
+//! Sealing a record in the buffer that holds its message.
+
+ghost use Rattle.std.specs.Prelude.{◌≡◌, ◌+◌, ◌≤◌, ◌++◌, ◌∷◌, [], List, false, length, vec_capacity, ℕ};
+ghost use Rattle.aegis_base.specs.declared.error.TheConstants.{MAX_AEAD_BYTES};
+ghost use Rattle.aegis.specs.Calls.{frame_at, message_in};
+ghost use Rattle.aegis.specs.Progress.{Begun, after, record_of, start_of};
+ghost use Rattle.aegis.specs.RecordStream.{limit};
+
+use crate::record::frame::TAG_BYTES;
+use crate::record::length::{RECORD_BYTES, RECORD_HEAD_BYTES};
+use crate::record::record_cipher::{DATA_BYTES, MAX_CONTEXT_BYTES, RecordCipher, RecordPlace};
+use crate::record::record_sealer::{RecordSealer, WRITTEN};
+use crate::record::version::MAX_MESSAGE_BYTES;
+use aegis_base::MAX_AEAD_BYTES;
+use std::alloc::Allocator;
+
+// Seals a record where its message lies, between the bytes of its head and those of its tag.
+fn seal_record_in_place<A: Allocator>(
+    ad: &mut Vec<u8, A>,
+    cipher: &RecordCipher<'_>,
+    place: RecordPlace,
+    buffer: &mut [u8],
+)
+    requires context { length cipher.now.context.now ≤ MAX_CONTEXT_BYTES }
+    requires ad_room { DATA_BYTES + length cipher.now.context.now ≤ vec_capacity ad.old }
+    requires room { RECORD_BYTES ≤ length buffer.old }
+    requires within { length buffer.old ≤ RECORD_BYTES + limit place.version }
+    ensures written { buffer.new ≡ frame_at cipher.now place (message_in buffer.old) }
+    ensures capacity { vec_capacity ad.old ≤ vec_capacity ad.new }
+{
+    let (head, sealed) = buffer.split_at_mut(RECORD_HEAD_BYTES);
+    head.copy_from_slice(&place.head(sealed.len() - TAG_BYTES));
+    cipher.seal_in_place(ad, place, sealed);
+}
+
+impl<'a, A: Allocator + Copy> RecordSealer<'a, A> {
+    /// Seals the next message, which is not the last one, where it lies: `buffer` has [`RECORD_HEAD_BYTES`] for the head, the
+    /// message, and 32 bytes for the tag, and becomes its record.
+    ///
+    /// This is [`RecordSealer::seal_next`] with no vector, and has the same limits. It allocates nothing, and has no error.
+    pub fn seal_next_in_place(&mut self, buffer: &mut [u8])
+        requires room { RECORD_BYTES ≤ length buffer.old }
+        requires within { length buffer.old ≤ RECORD_BYTES + MAX_MESSAGE_BYTES }
+        requires fits { start_of self.old + length buffer.old ≤ MAX_AEAD_BYTES }
+        ensures written { buffer.new ≡ record_of self.old 0 (message_in buffer.old) }
+        ensures begun { (key prefix context : List ℕ) (ms : List (List ℕ)) (bytes : List ℕ)
+            → Begun self.old key prefix context ms bytes
+            → Begun self.new key prefix context
+            (ms ++ message_in buffer.old ∷ []) (bytes ++ buffer.new) }
+        ensures progress { self.new ≡ after self.old false (message_in buffer.old) }
+        ensures taken { start_of self.new ≡ start_of self.old + length buffer.old }
+    {
+        let place = RecordPlace {
+            version: WRITTEN,
+            number: self.number,
+            before: self.before,
+            flag: 0,
+        };
+        seal_record_in_place(&mut self.ad, &self.cipher, place, buffer);
+        self.number += 1;
+        self.before += buffer.len() as u64 - RECORD_BYTES;
+    }
+}
