@@ -1,5 +1,5 @@
-.PHONY: run program test check-pages check-edits bench bench-peers bench-states c-library check-c check-header check-c++ \
-	check-sodium check-rust check-time check-install install install-tool check-tool gcc-aarch64-linux-gnu qemu-user
+.PHONY: run program test check-pages check-edits bench bench-peers bench-states bench-tool c-library check-c check-header check-c++ \
+	check-sodium check-rust check-python check-time check-install check-dist check-shared dist install install-tool check-tool tool-pages gcc-aarch64-linux-gnu qemu-user
 .SECONDARY:
 
 SHELL = /bin/bash
@@ -91,7 +91,7 @@ C_FLAGS = -Wall -Wextra -Wpedantic -Werror -Iinclude
 SANITIZERS = -O1 -g -fsanitize=address,undefined -fno-sanitize-recover
 RUSTC = rustc -O --edition 2024
 PREFIX = /usr/local
-VERSION = $(shell sed -n 's/^.define HUNKRAVY_VERSION "\(.*\)"/\1/p' include/hunkravy.h)
+VERSION = $(shell cat VERSION)
 
 # The platform. If TARGET is that of ARM, there is one build, and its programs run here under an emulator.
 TARGET = x86_64-unknown-linux-gnu
@@ -114,6 +114,9 @@ STORED_LINES = crates/check_lines/data
 HEADERS = hunkravy.h aegis_compat.h sodium_compat.h
 C_EXAMPLES = seal chunks libaegis libaegis_chunks libsodium
 
+# The names that the library exports, as the header declares them.
+EXPORTS = sed -nE 's/^(HUNKRAVY_MUST_USE )?(int|size_t) (hunkravy_[a-z0-9_]*).*/\3/p' include/hunkravy.h
+
 C_SOURCES = $(call sources,aegis_aes aegis_base aegis_128 aegis_256 aegis_engine aegis_c_calls aegis_c)
 
 c-library: $(LIBRARY)
@@ -125,6 +128,14 @@ $(OUT)/both/libhunkravy.a: $(LEVELS:%=$(OUT)/%/aegis_c.a) levels/join.sh levels/
 $(OUT)/%/libhunkravy.a: $(OUT)/%/aegis_c.a levels/join.sh levels/choose.c
 	LEVEL=$(patsubst x86-64-v%,%,$(filter x86-64-v%,$*)) CC=$(TOOLS_$*)gcc AR=$(TOOLS_$*)ar \
 		OBJCOPY=$(TOOLS_$*)objcopy levels/join.sh $@ $<
+
+# The shared library, which exports the calls alone.
+SONAME = libhunkravy.so.0
+
+$(OUT)/%/$(SONAME): $(OUT)/%/libhunkravy.a include/hunkravy.h
+	(echo '{ global:'; $(EXPORTS) | sed 's/$$/;/'; echo 'local: *; };') > $(@D)/exports.map
+	$(TOOLS_$*)$(CC) -shared -s -Wl,-soname,$(SONAME),--version-script=$(@D)/exports.map,-z,defs,-z,relro,-z,now \
+		-Wl,--whole-archive $< -Wl,--no-whole-archive -o $@
 
 # Both levels are built in one folder, so one after the other.
 $(OUT)/x86-64-v3/aegis_c.a: | $(if $(CPU),,$(OUT)/x86-64-v2/aegis_c.a)
@@ -150,7 +161,7 @@ gcc-aarch64-linux-gnu qemu-user:
 # processor lacks is left out. For ARM the programs run under an emulator, where the sanitizers do not look for leaks.
 RUNNABLE = $(if $(shell grep -m1 -w avx2 /proc/cpuinfo),$(LEVELS),x86-64-v2)
 
-check-c: $(if $(filter aarch64,$(FOLDER)),check-c-aarch64,check-header $(addprefix check-c-,both $(RUNNABLE)) check-c++ check-sodium)
+check-c: $(if $(filter aarch64,$(FOLDER)),check-c-aarch64,check-header $(addprefix check-c-,both $(RUNNABLE)) check-shared check-c++ check-sodium)
 check-c-aarch64: export ASAN_OPTIONS = detect_leaks=0
 
 # Each header compiles alone, as C and as C++.
@@ -166,7 +177,7 @@ C_PROGRAMS = $(C_EXAMPLES) $(C_TESTS) check_libaegis_written
 CLANG = $(shell command -v clang)
 
 check-c-%: $(OUT)/%/libhunkravy.a
-	diff <(sed -nE 's/^(HUNKRAVY_MUST_USE )?(int|size_t) (hunkravy_[a-z0-9_]*).*/\3/p' include/hunkravy.h | sort) \
+	diff <($(EXPORTS) | sort) \
 		<($(TOOLS_$*)nm --defined-only -g $< | awk '{ print $$3 }' | grep '^hunkravy_' | grep -v '^hunkravy_v[23]_' | sort)
 	for program in $(C_PROGRAMS); do for flags in -O2 '$(SANITIZERS)'; do \
 		source=$${program%_written}; \
@@ -178,6 +189,14 @@ check-c-%: $(OUT)/%/libhunkravy.a
 		$$compiler -std=c99 $(C_FLAGS) $$flags examples/c/check_wipe.c $< -o $(OUT)/$*/check_wipe && \
 		$(RUN_$*) $(OUT)/$*/check_wipe || exit 1; \
 	done; done
+
+# The tests over the shared library, which exports the calls of the header and nothing else.
+check-shared: $(OUT)/both/$(SONAME)
+	diff <($(EXPORTS) | sort) <(nm -D --defined-only $< | awk '{ print $$3 }' | sort)
+	for program in $(C_TESTS); do \
+		$(CC) -std=c99 $(C_FLAGS) -O2 examples/c/$$program.c $< -Wl,-rpath,$(abspath $(<D)) -o $(<D)/$$program-shared && \
+		$(<D)/$$program-shared $(STORED_LINES) || exit 1; \
+	done
 
 # The tests as C++, which call what the headers have.
 check-c++: $(OUT)/both/libhunkravy.a
@@ -207,24 +226,32 @@ check-sodium: $(OUT)/both/libhunkravy.a
 		echo 'libsodium 1.0.19 or newer is not installed, so sodium_compat.h is not compared with it'; \
 	fi
 
-# Installs the headers, the library, the examples, and the file that pkg-config reads.
+# Installs the headers, the libraries, the examples, and the file that pkg-config reads, which finds the others from where it
+# lies itself.
 EXAMPLES_FOLDER = $(PREFIX)/share/doc/hunkravy/examples
+LIBRARIES = $(PREFIX)/lib
+SHARED = $(OUT)/$(FOLDER)/$(SONAME)
 
-install: $(LIBRARY)
-	install -d $(addprefix $(DESTDIR),$(PREFIX)/include $(PREFIX)/lib/pkgconfig $(EXAMPLES_FOLDER))
+install: $(LIBRARY) $(SHARED)
+	install -d $(addprefix $(DESTDIR),$(PREFIX)/include $(LIBRARIES)/pkgconfig $(EXAMPLES_FOLDER))
 	install -m 644 $(HEADERS:%=include/%) $(DESTDIR)$(PREFIX)/include
-	install -m 644 $(LIBRARY) $(DESTDIR)$(PREFIX)/lib/libhunkravy.a
+	install -m 644 $(LIBRARY) $(SHARED) $(DESTDIR)$(LIBRARIES)
+	ln -sf $(SONAME) $(DESTDIR)$(LIBRARIES)/libhunkravy.so
 	install -m 644 $(C_EXAMPLES:%=examples/c/%.c) $(DESTDIR)$(EXAMPLES_FOLDER)
-	sed -e 's|@PREFIX@|$(abspath $(PREFIX))|' -e 's|@VERSION@|$(VERSION)|' include/hunkravy.pc.in \
-		> $(DESTDIR)$(PREFIX)/lib/pkgconfig/hunkravy.pc
+	include=$$(realpath -m --relative-to=$(DESTDIR)$(LIBRARIES)/pkgconfig $(DESTDIR)$(PREFIX)/include) && \
+		sed -e "s|@INCLUDE@|$$include|" -e 's|@VERSION@|$(VERSION)|' include/hunkravy.pc.in \
+		> $(DESTDIR)$(LIBRARIES)/pkgconfig/hunkravy.pc
 
-# Builds and runs the examples that are installed at PREFIX, by what pkg-config says of it.
+# Builds and runs the examples that are installed at PREFIX, by what pkg-config says of it: over the shared library, and over
+# the static one.
+INSTALLED = PKG_CONFIG_PATH=$(LIBRARIES)/pkgconfig pkg-config
+
 check-install: | $(OUT) $(if $(filter aarch64,$(FOLDER)),gcc-aarch64-linux-gnu qemu-user)
-	for example in $(C_EXAMPLES); do \
+	for example in $(C_EXAMPLES); do for library in -lhunkravy -l:libhunkravy.a; do \
 		$(TOOLS_$(FOLDER))$(CC) -std=c99 $(EXAMPLES_FOLDER)/$$example.c \
-			$$(PKG_CONFIG_PATH=$(PREFIX)/lib/pkgconfig pkg-config --cflags --libs hunkravy) \
-			-o $(OUT)/$$example-installed && $(RUN_$(FOLDER)) $(OUT)/$$example-installed || exit 1; \
-	done
+			$$($(INSTALLED) --cflags --libs-only-L hunkravy) $$library -o $(OUT)/$$example-installed && \
+		LD_LIBRARY_PATH=$(LIBRARIES) $(RUN_$(FOLDER)) $(OUT)/$$example-installed || exit 1; \
+	done; done
 
 # ---- The Rust crate over the C library
 
@@ -237,23 +264,83 @@ check-rust-%: $(OUT)/%/libhunkravy.a $(OUT)/%/driver
 		cargo test --offline && cargo run --offline --example seal
 	$(OUT)/$*/driver
 
+# ---- The Python package over the shared library
+
+WHEEL = $(OUT)/hunkravy-$(VERSION)-py3-none-manylinux_2_17_x86_64.whl
+
+$(WHEEL): python/make_wheel.py python/README.md $(wildcard python/hunkravy/*) VERSION $(OUT)/both/$(SONAME)
+	python3 $< $(VERSION) $(OUT)/both/$(SONAME) $(OUT)
+
+# The tests of the package as the wheel has it: the stored lines, buffers, refusals and threads, the samples of its pages, and
+# its types, where mypy is installed.
+check-python: $(WHEEL)
+	rm -rf $(OUT)/python && mkdir $(OUT)/python && python3 -m zipfile -e $(WHEEL) $(OUT)/python
+	cd python/tests && export PYTHONPATH=$(abspath $(OUT)/python) PYTHONDONTWRITEBYTECODE=1 && \
+		python3 -W error -m unittest && \
+		for module in hunkravy hunkravy._ciphers hunkravy._states hunkravy._macs hunkravy._library; do \
+			python3 -c "import doctest, importlib; \
+				raise SystemExit(doctest.testmod(importlib.import_module('$$module')).failed)" || exit 1; \
+		done && \
+		sed -n '/^```python/,/^```$$/{/^```/!p}' ../README.md | python3 -
+	if command -v mypy > /dev/null; then \
+		cd python && MYPYPATH=$(abspath $(OUT)/python) mypy --strict --cache-dir=/dev/null -p hunkravy tests; \
+	else \
+		echo 'mypy is not installed, so the types are not checked'; \
+	fi
+
 # ---- The file tool
 
-TOOL = crates/hunkravy/out/hunkravy
+# It is built for the best level that this machine has, for that of CPU, or for each if CPU is `both`.
+TOOL_LEVELS = $(if $(filter both,$(CPU)),$(LEVELS),$(or $(CPU),$(lastword $(RUNNABLE))))
 TOOL_SOURCES = $(call sources,aegis_aes aegis_base aegis_128 aegis_256 aegis_engine aegis aegis_files hunkravy)
+TOOL_PAGES = crates/hunkravy/manual
 
-$(TOOL): $(TOOL_SOURCES) crates.txt
-	cd crates/hunkravy && rt run -- --help > /dev/null
-	@touch $@
+# The levels are built in one folder, so one after the other.
+$(OUT)/x86-64-v3/hunkravy: | $(if $(filter both,$(CPU))$(filter bench% %dist,$(MAKECMDGOALS)),$(OUT)/x86-64-v2/hunkravy)
 
-# Installs the program hunkravy.
-install-tool: $(TOOL)
+$(OUT)/%/hunkravy: $(TOOL_SOURCES) crates.txt
+	mkdir -p $(@D)
+	cd crates/hunkravy && rt run --cpu=$* -- --help > /dev/null
+	cp crates/hunkravy/out/hunkravy $@
+
+# Installs the program hunkravy, its manual page, and completions for shells. The program is a link to the build for the
+# level, or, if there are two, a script that starts the better one.
+install-tool: $(TOOL_LEVELS:%=$(OUT)/%/hunkravy)
 	install -d $(DESTDIR)$(PREFIX)/bin
-	install -m 755 $(TOOL) $(DESTDIR)$(PREFIX)/bin/hunkravy
+	for level in $(TOOL_LEVELS); do \
+		install -D -m 755 $(OUT)/$$level/hunkravy $(DESTDIR)$(PREFIX)/lib/hunkravy/$$level/hunkravy && \
+		ln -sf ../lib/hunkravy/$$level/hunkravy $(DESTDIR)$(PREFIX)/bin/hunkravy && \
+		echo "hunkravy is built for $$level" || exit 1; \
+	done
+	if [ $(words $(TOOL_LEVELS)) = 2 ]; then \
+		rm $(DESTDIR)$(PREFIX)/bin/hunkravy && install -m 755 levels/start.sh $(DESTDIR)$(PREFIX)/bin/hunkravy; \
+	fi
+	install -D -m 644 $(TOOL_PAGES)/man $(DESTDIR)$(PREFIX)/share/man/man1/hunkravy.1
+	install -D -m 644 $(TOOL_PAGES)/bash $(DESTDIR)$(PREFIX)/share/bash-completion/completions/hunkravy
+	install -D -m 644 $(TOOL_PAGES)/zsh $(DESTDIR)$(PREFIX)/share/zsh/site-functions/_hunkravy
+	install -D -m 644 $(TOOL_PAGES)/fish $(DESTDIR)$(PREFIX)/share/fish/vendor_completions.d/hunkravy.fish
 
 # The tests of the program that need files, pipes and kills: some minutes, and 100 MB of disk.
-check-tool: $(TOOL)
-	crates/hunkravy/check.sh $(TOOL)
+check-tool: $(OUT)/$(lastword $(TOOL_LEVELS))/hunkravy
+	crates/hunkravy/check.sh $< $(VERSION)
+
+# Writes the manual page and the completions, which check-tool compares with what the program prints.
+tool-pages: $(OUT)/$(lastword $(TOOL_LEVELS))/hunkravy
+	for form in man bash zsh fish; do $< manual $$form > $(TOOL_PAGES)/$$form; done
+
+# ---- What is released
+
+# Writes the archives, the packages and their sums to out/dist. If the tools for ARM are there, its archive too.
+HAS_ARM = $(shell command -v aarch64-linux-gnu-gcc)
+
+dist: $(OUT)/both/libhunkravy.a $(OUT)/both/$(SONAME) $(LEVELS:%=$(OUT)/%/hunkravy) $(WHEEL) \
+		$(if $(HAS_ARM),$(OUT)/aarch64/libhunkravy.a $(OUT)/aarch64/$(SONAME))
+	dist/pack.sh $(VERSION) $(OUT)
+
+# Packs the same builds once more, in a copy of the repository in another folder, which has to give the same bytes; and uses what
+# was unpacked in an empty folder, with no kit.
+check-dist: dist
+	dist/check.sh $(VERSION) $(OUT)
 
 # ---- Speed
 
@@ -269,7 +356,7 @@ $(OUT)/%/driver: $(wildcard bench/*.rs $(STORED_LINES)/*) rust/src/exports.rs $(
 
 # Compares the library with look-up tables and AES instructions, with libsodium if it is installed, and the chunked
 # calls and record streams with the one-shot calls. Writes the tables of BENCH_FOLDER and of bench/.
-bench: $(OUT)/$(BENCH_CPU)/driver bench-peers bench-states
+bench: $(OUT)/$(BENCH_CPU)/driver bench-peers bench-states bench-tool
 	mkdir -p $(BENCH_FOLDER)
 	$< $(BENCH_FOLDER)
 	cd crates/bench_calls && rt run -- bench > ../../$(OUT)/speeds
@@ -281,6 +368,16 @@ bench-states: $(OUT)/$(BENCH_CPU)/libhunkravy.a
 	$(CC) -std=c11 -O2 $(C_FLAGS) bench/states.c $< -o $(OUT)/$(BENCH_CPU)/states
 	($(OUT)/$(BENCH_CPU)/states > $(OUT)/$(BENCH_CPU)/states.md) && \
 		cat bench/states.md $(OUT)/$(BENCH_CPU)/states.md > $(BENCH_FOLDER)/STATES.md
+
+# Measures the file tool, at each level that this machine has.
+bench-tool: $(RUNNABLE:%=$(OUT)/%/pieces) $(RUNNABLE:%=$(OUT)/%/hunkravy)
+	(cat bench/tool.md; for level in $(RUNNABLE); do \
+		bench/tool.sh $$level $(OUT)/$$level/hunkravy $(OUT)/$$level/pieces || exit 1; \
+	done) > $(OUT)/tool.md
+	cp $(OUT)/tool.md bench/TOOL.md
+
+$(OUT)/%/pieces: bench/pieces.c $(OUT)/%/libhunkravy.a
+	$(CC) -std=c11 -O2 $(C_FLAGS) $^ -o $@
 
 bench-peers: $(OUT)/$(BENCH_CPU)/libhunkravy.a
 	if pkg-config --exists libsodium; then \

@@ -1,13 +1,34 @@
 //! The command line.
 
-use clap::{Arg, ArgAction, ArgMatches, Command};
+use clap::{Arg, ArgAction, ArgMatches, Command, value_parser};
 use std::alloc::{AllocError, Global};
 
 /// A file, or standard input or output.
 #[derive(Clone, Copy)]
 pub enum Place<'a> {
+    /// Standard input or output, since no file is named.
+    Default,
+    /// Standard input or output, which `-` names.
     Standard,
     File(&'a str),
+}
+
+impl<'a> Place<'a> {
+    /// Returns the name of an input for messages.
+    pub fn input_name(self) -> &'a str {
+        match self {
+            Place::File(name) => name,
+            _ => "standard input",
+        }
+    }
+
+    /// Returns the name of an output for messages.
+    pub fn output_name(self) -> &'a str {
+        match self {
+            Place::File(name) => name,
+            _ => "standard output",
+        }
+    }
 }
 
 /// The key file, the input and the output of a command.
@@ -19,38 +40,94 @@ pub struct Transfer<'a> {
     pub output: Place<'a>,
     /// Whether an output file that exists is replaced.
     pub force: bool,
+    /// Whether only errors are printed.
+    pub quiet: bool,
+}
+
+/// The part of a text that is opened.
+#[derive(Clone, Copy)]
+pub enum Span {
+    /// So many bytes from a byte on.
+    Bytes { from: u64, length: u64 },
+    /// The records from a number on, up to one that is not opened.
+    Records { first: u64, end: u64 },
 }
 
 /// The action that a command line asks for.
+#[derive(Clone, Copy)]
 pub enum Action<'a> {
-    Keygen { output: Place<'a> },
+    Keygen {
+        output: Place<'a>,
+    },
     Seal(Transfer<'a>),
     Open(Transfer<'a>),
-    Check { key: &'a str, input: Place<'a> },
-    Info { input: Place<'a> },
+    /// Opens a part of a text.
+    OpenPart {
+        span: Span,
+        paths: Transfer<'a>,
+    },
+    /// The argument of `--records` is not understood.
+    NoSpan,
+    Rekey {
+        new_key: &'a str,
+        paths: Transfer<'a>,
+    },
+    Check(Transfer<'a>),
+    Info {
+        input: Place<'a>,
+    },
+    /// Prints the manual page, or the completions for a shell.
+    Manual {
+        form: &'a str,
+    },
 }
 
 fn key_argument<'a>(alloc: Global) -> Arg<'a> {
-    Arg::new(alloc, "key")
+    Arg::new(alloc, "KEY")
         .long("key-file")
         .short('k')
-        .value_name("KEY")
         .required(true)
         .help("The key file, as keygen writes it")
 }
 
+fn new_key_argument<'a>(alloc: Global) -> Arg<'a> {
+    Arg::new(alloc, "NEW")
+        .long("new-key-file")
+        .short('n')
+        .required(true)
+        .help("The key file to seal under")
+}
+
+fn from_argument<'a>(alloc: Global) -> Arg<'a> {
+    Arg::new(alloc, "BYTE")
+        .long("from")
+        .value_parser(value_parser!(u64))
+        .help(
+            "Open the text from this byte on, counted from 0; the rest of the file is not looked at",
+        )
+}
+
+fn length_argument<'a>(alloc: Global) -> Arg<'a> {
+    Arg::new(alloc, "N")
+        .long("length")
+        .value_parser(value_parser!(u64))
+        .help("Open so many bytes of the text")
+}
+
+fn records_argument<'a>(alloc: Global) -> Result<Arg<'a>, AllocError> {
+    Arg::new(alloc, "A..B")
+        .long("records")
+        .help("Open the records from number A on, counted from 0, up to B, which is left out")
+        .conflicts_with("BYTE")?
+        .conflicts_with("N")
+}
+
 fn input_argument<'a>(alloc: Global) -> Arg<'a> {
-    Arg::new(alloc, "input")
-        .value_name("IN")
-        .default_value("-")
-        .help("The file to read, or - for standard input")
+    Arg::new(alloc, "IN").help("The file to read; standard input if it is - or missing")
 }
 
 fn output_argument<'a>(alloc: Global) -> Arg<'a> {
-    Arg::new(alloc, "output")
-        .value_name("OUT")
-        .default_value("-")
-        .help("The file to write, or - for standard output")
+    Arg::new(alloc, "OUT").help("The file to write; standard output if it is - or missing")
 }
 
 fn force_argument<'a>(alloc: Global) -> Arg<'a> {
@@ -60,60 +137,73 @@ fn force_argument<'a>(alloc: Global) -> Arg<'a> {
         .help("Replace OUT if it exists")
 }
 
+fn quiet_argument<'a>(alloc: Global) -> Arg<'a> {
+    Arg::new(alloc, "quiet")
+        .action(ArgAction::SetTrue)
+        .long("quiet")
+        .short('q')
+        .help("Print nothing but errors")
+}
+
 fn keygen<'a>(alloc: Global) -> Result<Command<'a>, AllocError> {
     Command::new(alloc, "keygen")
         .about("Draws a key at random")
-        .after_help("Example: hunkravy keygen backup.key")
         .arg(output_argument(alloc))
 }
 
-// A command that reads one file and writes another under a key.
-fn transfer_command<'a>(
-    alloc: Global,
-    name: &'a str,
-    about: &'a str,
-    example: &'a str,
-) -> Result<Command<'a>, AllocError> {
-    Command::new(alloc, name)
-        .about(about)
-        .after_help(example)
-        .arg(key_argument(alloc))?
+// Adds the arguments of a command that reads one file and writes another.
+fn with_files<'a>(alloc: Global, command: Command<'a>) -> Result<Command<'a>, AllocError> {
+    command
         .arg(force_argument(alloc))?
+        .arg(quiet_argument(alloc))?
         .arg(input_argument(alloc))?
         .arg(output_argument(alloc))
 }
 
 fn seal<'a>(alloc: Global) -> Result<Command<'a>, AllocError> {
-    transfer_command(
-        alloc,
-        "seal",
-        "Seals a file under a key",
-        "Example: hunkravy seal -k backup.key backup.tar backup.sealed",
-    )
+    let command = Command::new(alloc, "seal")
+        .about("Seals a file under a key")
+        .arg(key_argument(alloc))?;
+    with_files(alloc, command)
 }
 
 fn open<'a>(alloc: Global) -> Result<Command<'a>, AllocError> {
-    transfer_command(
-        alloc,
-        "open",
-        "Opens a sealed file",
-        "Example: hunkravy open -k backup.key backup.sealed backup.tar",
-    )
+    let command = Command::new(alloc, "open")
+        .about("Opens a sealed file, or a part of it")
+        .arg(key_argument(alloc))?
+        .arg(from_argument(alloc))?
+        .arg(length_argument(alloc))?
+        .arg(records_argument(alloc)?)?;
+    with_files(alloc, command)
+}
+
+fn rekey<'a>(alloc: Global) -> Result<Command<'a>, AllocError> {
+    let command = Command::new(alloc, "rekey")
+        .about("Seals the text of a sealed file under another key")
+        .arg(key_argument(alloc))?
+        .arg(new_key_argument(alloc))?;
+    with_files(alloc, command)
 }
 
 fn check<'a>(alloc: Global) -> Result<Command<'a>, AllocError> {
     Command::new(alloc, "check")
         .about("Opens a sealed file and writes nothing")
-        .after_help("Example: hunkravy check -k backup.key backup.sealed")
         .arg(key_argument(alloc))?
+        .arg(quiet_argument(alloc))?
         .arg(input_argument(alloc))
 }
 
 fn info<'a>(alloc: Global) -> Result<Command<'a>, AllocError> {
     Command::new(alloc, "info")
-        .about("Shows what can be seen of a sealed file without its key")
-        .after_help("Example: hunkravy info backup.sealed")
+        .about("Shows what can be seen of a sealed file without its key; verifies nothing")
         .arg(input_argument(alloc))
+}
+
+fn manual<'a>(alloc: Global) -> Result<Command<'a>, AllocError> {
+    Command::new(alloc, "manual")
+        .about("Prints the manual page (man), or the completions for bash, zsh or fish")
+        .hide(true)
+        .arg(Arg::new(alloc, "FORM").required(true))
 }
 
 // Adds a command to the program's.
@@ -124,17 +214,45 @@ fn with_command<'a>(
     program.subcommand(command?)
 }
 
-/// The commands and their arguments.
-pub fn command<'a>(alloc: Global) -> Result<Command<'a>, AllocError> {
+/// Examples, the exit statuses and what an interrupted run leaves, with which `--help` and the manual page end.
+pub const AFTER_HELP: &str = "\
+Examples:
+  hunkravy keygen backup.key
+  hunkravy seal -k backup.key backup.tar backup.sealed
+  hunkravy check -k backup.key backup.sealed
+  hunkravy open -k backup.key backup.sealed backup.tar
+  hunkravy open -k backup.key --from 1000000 --length 512 backup.sealed part
+  hunkravy rekey -k backup.key -n new.key backup.sealed backup.new
+
+Exit status:
+  0  all went well
+  1  a sealed file is refused
+  2  the command line is not understood
+  3  reading, writing or an allocation failed, or a key file has no key
+
+OUT is written as OUT.part and gets its name once it is complete. A run that
+is interrupted leaves OUT.part, with text in it if it opened a file: the next
+run for OUT replaces it, or remove it.";
+
+/// The commands that users call, and their arguments.
+pub fn users_commands<'a>(alloc: Global, version: &'a str) -> Result<Command<'a>, AllocError> {
     let program = Command::new(alloc, "hunkravy")
         .about("Seals and opens files with AEGIS-256")
+        .version(version)
+        .after_help(AFTER_HELP)
         .subcommand_required(true)
         .arg_required_else_help(true);
     let program = with_command(program, keygen(alloc))?;
     let program = with_command(program, seal(alloc))?;
     let program = with_command(program, open(alloc))?;
+    let program = with_command(program, rekey(alloc))?;
     let program = with_command(program, check(alloc))?;
     with_command(program, info(alloc))
+}
+
+/// All commands: also the one that prints the manual page and completions.
+pub fn command<'a>(alloc: Global, version: &'a str) -> Result<Command<'a>, AllocError> {
+    with_command(users_commands(alloc, version)?, manual(alloc))
 }
 
 fn name<'a>(matches: &ArgMatches<'a>, id: &str) -> &'a str {
@@ -142,19 +260,51 @@ fn name<'a>(matches: &ArgMatches<'a>, id: &str) -> &'a str {
 }
 
 fn place_of<'a>(matches: &ArgMatches<'a>, id: &str) -> Place<'a> {
-    match name(matches, id) {
-        "-" => Place::Standard,
-        file => Place::File(file),
+    match matches.get_str(id) {
+        None => Place::Default,
+        Some("-") => Place::Standard,
+        Some(file) => Place::File(file),
     }
 }
 
 fn transfer_of<'a>(matches: &ArgMatches<'a>) -> Transfer<'a> {
     Transfer {
-        key: name(matches, "key"),
-        input: place_of(matches, "input"),
-        output: place_of(matches, "output"),
+        key: name(matches, "KEY"),
+        input: place_of(matches, "IN"),
+        output: place_of(matches, "OUT"),
         force: matches.get_flag("force"),
+        quiet: matches.get_flag("quiet"),
     }
+}
+
+// The records `A..B`.
+fn records_of(text: &str) -> Option<Span> {
+    let (first, end) = text.split_once("..")?;
+    Some(Span::Records {
+        first: first.parse().ok()?,
+        end: end.parse().ok()?,
+    })
+}
+
+// The action of `open`.
+fn open_of<'a>(found: &ArgMatches<'a>) -> Action<'a> {
+    let paths = transfer_of(found);
+    if let Some(text) = found.get_str("A..B") {
+        return match records_of(text) {
+            Some(span) => Action::OpenPart { span, paths },
+            None => Action::NoSpan,
+        };
+    }
+    let from: Option<u64> = found.get_one("BYTE");
+    let length: Option<u64> = found.get_one("N");
+    if from.is_none() && length.is_none() {
+        return Action::Open(paths);
+    }
+    let span = Span::Bytes {
+        from: from.unwrap_or(0),
+        length: length.unwrap_or(u64::MAX),
+    };
+    Action::OpenPart { span, paths }
 }
 
 /// Returns the action of the arguments, or `None` if there is no subcommand, which [`command`] does not allow.
@@ -162,16 +312,20 @@ pub fn parse<'a>(matches: &ArgMatches<'a>) -> Option<Action<'a>> {
     let (subcommand, found) = matches.subcommand()?;
     match subcommand {
         "keygen" => Some(Action::Keygen {
-            output: place_of(found, "output"),
+            output: place_of(found, "OUT"),
         }),
         "seal" => Some(Action::Seal(transfer_of(found))),
-        "open" => Some(Action::Open(transfer_of(found))),
-        "check" => Some(Action::Check {
-            key: name(found, "key"),
-            input: place_of(found, "input"),
+        "open" => Some(open_of(found)),
+        "rekey" => Some(Action::Rekey {
+            new_key: name(found, "NEW"),
+            paths: transfer_of(found),
         }),
+        "check" => Some(Action::Check(transfer_of(found))),
         "info" => Some(Action::Info {
-            input: place_of(found, "input"),
+            input: place_of(found, "IN"),
+        }),
+        "manual" => Some(Action::Manual {
+            form: name(found, "FORM"),
         }),
         _ => None,
     }

@@ -1,47 +1,70 @@
 //! The errors of commands, and the exit statuses.
 
+use crate::command::Place;
 use aegis::record::RecordError;
 use aegis_files::FileError;
 use std::alloc::AllocError;
 use std::io;
 use thiserror::Error;
 
-/// The error of a command.
+/// The error of a command. Each names the file, and says what to do where something can be done.
 #[derive(Debug, Drop, Error)]
-pub enum Failure {
-    #[error("{0}")]
-    File(FileError),
-    #[error("cannot open the input: {0}")]
-    Input(io::Error),
-    #[error("cannot write the output: {0}")]
-    Output(io::Error),
-    #[error("the output file exists; --force replaces it")]
-    Exists,
-    #[error("the output file's .part exists: another run writes it, or one that was ended left it")]
-    Part,
-    #[error("input and output are the same file")]
-    SameFile,
-    #[error("cannot read the key file: {0}")]
-    Key(io::Error),
-    #[error("the key file has no key of 64 hexadecimal digits")]
-    NoKey,
-    #[error("no random bytes: {0}")]
+pub enum Failure<'a> {
+    #[error("{0} is not a sealed file: its first bytes after the prefix are not AGR1 or AGR2")]
+    NotSealed(&'a str),
+    #[error("{0}: the key is not the one it was sealed under, or the file is damaged from its first record")]
+    Key(&'a str),
+    #[error("{0} is damaged from record {1}; the first {2} bytes of the text are right")]
+    Damaged(&'a str, u64, u64),
+    #[error("{0} is damaged: after {1} bytes of the text comes no record")]
+    NoRecord(&'a str, u64),
+    #[error("{0} is cut off after {1} bytes of the text")]
+    Truncated(&'a str, u64),
+    #[error("{0} is cut off after {1} bytes of the text: at least {2} bytes are missing")]
+    Missing(&'a str, u64, u64),
+    #[error("{0} goes on after the end of its sealed file")]
+    Trailing(&'a str),
+    #[error("{0} is longer than a sealed file may be")]
+    TooLong(&'a str),
+    #[error("{0} cannot be read: {1}")]
+    Input(&'a str, io::Error),
+    #[error("{0} cannot be written: {1}")]
+    Output(&'a str, io::Error),
+    #[error("{0} exists; --force replaces it")]
+    Exists(&'a str),
+    #[error("{0} is a link to a file that does not exist: name that file")]
+    DanglingLink(&'a str),
+    #[error("{0}.part is there and cannot be replaced: another run writes it, or remove it")]
+    Part(&'a str),
+    #[error("{0} is the input too: input and output must be different files")]
+    SameFile(&'a str),
+    #[error("{0} is the key file {1}: it would be lost")]
+    OverKey(&'a str, &'a str),
+    #[error("standard output is a terminal: name OUT, redirect the output by >, or write - for OUT to print it anyway")]
+    Terminal,
+    #[error("the text has bytes that a terminal cannot show: name OUT, redirect the output by >, or write - for OUT to print it anyway")]
+    NoText,
+    #[error("the key file {0} cannot be read: {1}")]
+    KeyFile(&'a str, io::Error),
+    #[error("the key file {0} has no key: 64 hexadecimal digits and a line feed, as keygen writes them")]
+    NoKey(&'a str),
+    #[error("the system gives no random bytes: {0}")]
     Random(io::Error),
-    #[error("no command")]
+    #[error("a part is opened of a file alone: name IN")]
+    NoFile,
+    #[error("--records takes A..B: the numbers of the first record and of the one after the last")]
+    NoSpan,
+    #[error("there is no manual for {0}: man, bash, zsh or fish")]
+    NoManual(&'a str),
+    #[error("there is no command; --help lists them")]
     NoCommand,
-    #[error("Out of memory")]
+    #[error("out of memory")]
     OutOfMemory,
 }
 
-impl From<AllocError> for Failure {
-    fn from(_error: AllocError) -> Failure {
+impl From<AllocError> for Failure<'_> {
+    fn from(_error: AllocError) -> Self {
         Failure::OutOfMemory
-    }
-}
-
-impl From<FileError> for Failure {
-    fn from(error: FileError) -> Failure {
-        Failure::File(error)
     }
 }
 
@@ -51,17 +74,72 @@ const REFUSED: u8 = 1;
 /// The exit status for a command line that is not understood.
 pub const MISUSED: u8 = 2;
 
-/// The exit status if reading, writing or an allocation fails, or the key file has no key.
+/// The exit status if reading, writing or an allocation fails, or a key file has no key.
 pub const FAILED: u8 = 3;
 
-impl Failure {
+impl<'a> Failure<'a> {
     /// Returns the exit status.
     pub fn status(&self) -> u8 {
         match self {
-            Failure::File(FileError::Stream(RecordError::OutOfMemory)) => FAILED,
-            Failure::File(FileError::Stream(_)) => REFUSED,
-            Failure::NoCommand => MISUSED,
+            Failure::NotSealed(_)
+            | Failure::Key(_)
+            | Failure::Damaged(..)
+            | Failure::NoRecord(..)
+            | Failure::Truncated(..)
+            | Failure::Missing(..)
+            | Failure::Trailing(_)
+            | Failure::TooLong(_) => REFUSED,
+            Failure::NoCommand | Failure::NoManual(_) | Failure::NoFile | Failure::NoSpan =>
+                MISUSED,
             _ => FAILED,
+        }
+    }
+
+    /// Returns the failure of reading `input` and writing `output`, after `text_bytes` of the text.
+    pub fn of_files(
+        error: FileError,
+        input: Place<'a>,
+        output: Place<'a>,
+        text_bytes: u64,
+    ) -> Self {
+        let input = input.input_name();
+        match error {
+            FileError::Read(error) => Failure::Input(input, error),
+            FileError::Write(error) => match error.kind() {
+                io::ErrorKind::InvalidData => Failure::NoText,
+                _ => Failure::Output(output.output_name(), error),
+            },
+            FileError::TooLong => Failure::TooLong(input),
+            FileError::Stream(fault) => Failure::of_stream(fault, input, text_bytes),
+        }
+    }
+
+    // The failure of a sealed file with this fault, after `text_bytes` of its text.
+    fn of_stream(fault: RecordError, input: &'a str, text_bytes: u64) -> Self {
+        match fault {
+            RecordError::Header => Failure::NotSealed(input),
+            RecordError::Damaged(0) => Failure::Key(input),
+            RecordError::Damaged(number) => Failure::Damaged(input, number, text_bytes),
+            RecordError::Flag | RecordError::TooLong => Failure::NoRecord(input, text_bytes),
+            RecordError::Truncated => Failure::Truncated(input, text_bytes),
+            RecordError::Trailing => Failure::Trailing(input),
+            RecordError::OutOfMemory => Failure::OutOfMemory,
+        }
+    }
+}
+
+/// A failure, and whether a part of the output was written and stays.
+#[derive(Debug, Drop)]
+pub struct Stopped<'a> {
+    pub failure: Failure<'a>,
+    pub incomplete: bool,
+}
+
+impl<'a> From<Failure<'a>> for Stopped<'a> {
+    fn from(failure: Failure<'a>) -> Self {
+        Stopped {
+            failure,
+            incomplete: false,
         }
     }
 }

@@ -11,43 +11,54 @@ use std::io::Read;
 // The numbers that follow from the lengths in a file.
 #[derive(Clone, Copy)]
 struct Outline {
-    /// The number of records, including the last one.
+    /// The number of whole records, including the last one.
     records: u64,
-    /// The length of all messages together, in bytes.
+    /// The length of their messages together, in bytes.
     text_bytes: u64,
+    /// How many bytes of the record after them are missing, at least; 0 if the file is whole.
+    missing: u64,
 }
 
-// Fills a buffer.
-fn part<R: Read>(input: &mut R, buffer: &mut [u8]) -> Result<(), FileError> {
-    if fill(input, buffer)? < buffer.len() {
-        return Err(FileError::Stream(RecordError::Truncated));
-    }
-    Ok(())
+// Fills a buffer. Returns how many bytes are missing.
+fn missing_in<R: Read>(input: &mut R, buffer: &mut [u8]) -> Result<u64, FileError> {
+    Ok((buffer.len() - fill(input, buffer)?) as u64)
 }
 
-// Reads so many bytes and discards them.
-fn skip<R: Read>(input: &mut R, count: usize) -> Result<(), FileError> {
+// Reads so many bytes and discards them. Returns how many are missing.
+fn skip<R: Read>(input: &mut R, count: usize) -> Result<u64, FileError> {
     let mut buffer = [0; 4096];
+    let mut missing: u64 = 0;
     for _ in 0..count / buffer.len() {
-        part(input, &mut buffer)?;
+        missing = missing.saturating_add(missing_in(input, &mut buffer)?);
     }
-    part(input, &mut buffer[..count % 4096])
+    let last = missing_in(input, &mut buffer[..count % 4096])?;
+    Ok(missing.saturating_add(last))
 }
 
 // Goes from record to record by their lengths. The opener's key is never used.
 fn outline_of<R: Read>(alloc: Global, input: &mut R) -> Result<Outline, FileError> {
     let mut front = [0; 28];
-    part(input, &mut front)?;
+    if missing_in(input, &mut front)? > 0 {
+        return Err(FileError::Stream(RecordError::Header));
+    }
     let lengths = RecordOpener::new(alloc, &[0; 32], &[0; 24], &[], &front[24..])?;
     let mut seen = Outline {
         records: 0,
         text_bytes: 0,
+        missing: 0,
     };
     for _ in 0..u64::MAX {
         let mut head = [0; RECORD_HEAD_BYTES];
-        part(input, &mut head)?;
+        let missing = missing_in(input, &mut head)?;
+        if missing > 0 {
+            seen.missing = missing.saturating_add(RECORD_BYTES - RECORD_HEAD_BYTES as u64);
+            return Ok(seen);
+        }
         let length = lengths.record_len(&head)?;
-        skip(input, length - head.len())?;
+        seen.missing = skip(input, length - head.len())?;
+        if seen.missing > 0 {
+            return Ok(seen);
+        }
         seen.records = seen.records.saturating_add(1);
         seen.text_bytes = seen.text_bytes.saturating_add(length as u64 - RECORD_BYTES);
         if head[0] == 1 {
@@ -60,19 +71,42 @@ fn outline_of<R: Read>(alloc: Global, input: &mut R) -> Result<Outline, FileErro
     Err(FileError::TooLong)
 }
 
+// The outline of the file of this name.
+fn outline_of_file<'a>(rt: &HostRuntime, name: &'a str) -> Result<Outline, Failure<'a>> {
+    let mut file = File::open(rt, name).map_err(|error| Failure::Input(name, error))?;
+    match outline_of(rt.alloc(), &mut file) {
+        Ok(seen) => Ok(seen),
+        Err(error) => Err(Failure::of_files(error, Place::File(name), Place::Standard, 0)),
+    }
+}
+
+/// Returns the failure, with how many bytes are missing in a file that is cut off.
+pub fn with_missing<'a>(rt: &HostRuntime, failure: Failure<'a>, input: Place<'a>) -> Failure<'a> {
+    let (Failure::Truncated(name, text_bytes), Place::File(file)) = (&failure, input) else {
+        return failure;
+    };
+    match outline_of_file(rt, file) {
+        Ok(seen) if seen.missing > 0 => Failure::Missing(name, *text_bytes, seen.missing),
+        _ => failure,
+    }
+}
+
 /// Prints the number of records and of bytes of text of a sealed file, if it consists of whole records. No tag is
 /// verified.
-pub fn info(rt: &HostRuntime, input: Place<'_>) -> Result<(), Failure> {
+pub fn info<'a>(rt: &HostRuntime, input: Place<'a>) -> Result<(), Failure<'a>> {
     let seen = match input {
-        Place::Standard => outline_of(rt.alloc(), &mut rt.stdin())?,
-        Place::File(name) => {
-            let mut file = File::open(rt, name).map_err(Failure::Input)?;
-            outline_of(rt.alloc(), &mut file)?
-        }
+        Place::File(name) => outline_of_file(rt, name)?,
+        _ => match outline_of(rt.alloc(), &mut rt.stdin()) {
+            Ok(seen) => seen,
+            Err(error) => return Err(Failure::of_files(error, input, Place::Standard, 0)),
+        },
     };
+    if seen.missing > 0 {
+        return Err(Failure::Missing(input.input_name(), seen.text_bytes, seen.missing));
+    }
     println!(rt;
-        "{} records, {} bytes of text",
+        "{} records, {} bytes of text, not verified",
         seen.records, seen.text_bytes
     )
-    .map_err(Failure::Output)
+    .map_err(|error| Failure::Output("standard output", error))
 }

@@ -2,32 +2,61 @@
 
 use crate::failure::Failure;
 use aegis::aegis256::Key;
+use aegis_files::{FileError, fill};
 use hex::FromHex;
-use std::fs;
+use std::fs::File;
 use std::os::unix::fs::MetadataExt;
 use std::random::RandomSource;
-use std::rt::Files;
+use std::{io, str};
 
 // The bits of a file's mode that let others than its owner read or write it.
 const OTHERS: u32 = 0o077;
 
+// A key file has two more bytes at most: it ends with a line feed, or with a carriage return before it.
+const MOST_BYTES: usize = 66;
+
 /// Draws a key at random, and returns it as the line of a key file.
-pub fn draw(rt: &(impl RandomSource + AllocGlobal)) -> Result<String, Failure> {
+pub fn draw<'a>(rt: &(impl RandomSource + AllocGlobal)) -> Result<String, Failure<'a>> {
     let mut key = [0; 32];
-    rt.fill_bytes(&mut key).map_err(Failure::Random)?;
+    if let Err(error) = rt.fill_bytes(&mut key) {
+        return Err(Failure::Random(error));
+    }
     let mut text = hex::encode(rt.alloc(), key.as_slice())?;
     text.push('\n')?;
     Ok(text)
 }
 
-/// Reads the key of a key file. Warns on standard error if the file's mode lets others read it.
-pub fn read(rt: &HostRuntime, name: &str) -> Result<Key, Failure> {
-    let mode = fs::metadata(rt, name).map_err(Failure::Key)?.mode();
-    if mode & OTHERS != 0 {
+// The key of a key file's bytes.
+fn parse(bytes: &[u8]) -> Option<Key> {
+    if bytes.len() > MOST_BYTES {
+        return None;
+    }
+    let text = str::from_utf8(bytes).ok()?;
+    <Key as FromHex>::from_hex(text.trim_end()).ok()
+}
+
+// Reads a key file, or as much of it as shows that it is none.
+fn read_key(file: &mut File) -> io::Result<Option<Key>> {
+    let mut bytes = [0; MOST_BYTES + 1];
+    match fill(file, &mut bytes) {
+        Ok(count) => Ok(parse(&bytes[..count])),
+        Err(FileError::Read(error)) => Err(error),
+        Err(_) => Err(io::Error::from(io::ErrorKind::OutOfMemory)),
+    }
+}
+
+/// Reads the key of a key file. Warns on standard error if it is a file whose mode lets others read it, unless `quiet`.
+pub fn read<'a>(rt: &HostRuntime, name: &'a str, quiet: bool) -> Result<Key, Failure<'a>> {
+    let unreadable = |error| Failure::KeyFile(name, error);
+    let mut file = File::open(rt, name).map_err(unreadable)?;
+    let Some(key) = read_key(&mut file).map_err(unreadable)? else {
+        return Err(Failure::NoKey(name));
+    };
+    let found = file.metadata().map_err(unreadable)?;
+    if found.is_file() && found.mode() & OTHERS != 0 && !quiet {
         let _ = eprintln!(rt;
             "hunkravy: the mode of {name} lets others use this key: chmod 600 {name}"
         );
     }
-    let text = fs::read_to_string(rt, name).map_err(Failure::Key)?;
-    <Key as FromHex>::from_hex(text.trim_end()).map_err(|_| Failure::NoKey)
+    Ok(key)
 }

@@ -1,36 +1,79 @@
-//! Progress of a long input, shown on a terminal.
+//! Counted inputs and outputs, and the progress of a long input on a terminal.
 
 use std::io;
-use std::io::Read;
+use std::io::{ErrorKind, Read, Write};
+use std::time::Instant;
 
 /// The number of bytes from one message to the next.
 const STEP: u64 = 64 * 1024 * 1024;
 
 const MEBIBYTE: u64 = 1024 * 1024;
 
+/// Where progress is shown: a terminal, with a clock.
+#[derive(Clone, Copy)]
+pub struct Display<'a> {
+    pub terminal: &'a HostRuntime,
+    pub begun: Instant,
+    /// The length of the input in bytes, if it is known.
+    pub length: Option<u64>,
+}
+
+impl Display<'_> {
+    // Shows how many bytes were read, at which rate, and how long the rest takes.
+    fn show(&self, read: u64) {
+        let seconds = match self.begun.elapsed(self.terminal) {
+            Ok(time) => time.as_secs().max(1),
+            Err(_) => return,
+        };
+        let rate = (read / seconds).max(1);
+        let _ = match self.length {
+            Some(length) => eprint!(self.terminal;
+                "\r{} of {} MiB, {} MiB/s, {} s left   ",
+                read / MEBIBYTE,
+                length / MEBIBYTE,
+                rate / MEBIBYTE,
+                length.saturating_sub(read) / rate
+            ),
+            None => eprint!(self.terminal;
+                "\r{} MiB, {} MiB/s   ",
+                read / MEBIBYTE,
+                rate / MEBIBYTE
+            ),
+        };
+    }
+}
+
 /// A reader that shows how much was read from it.
 #[derive(Drop)]
-pub struct Counted<'a, R: Read + Drop, E: Eprint> {
+pub struct Counted<'a, R: Read + Drop> {
     inner: R,
-    /// The terminal, if there is one.
-    terminal: Option<&'a E>,
+    display: Option<Display<'a>>,
     read: u64,
     said: u64,
 }
 
-impl<'a, R: Read + Drop, E: Eprint> Counted<'a, R, E> {
+impl<'a, R: Read + Drop> Counted<'a, R> {
     /// Creates a reader that has shown nothing yet.
-    pub fn new(inner: R, terminal: Option<&'a E>) -> Self {
+    pub fn new(inner: R, display: Option<Display<'a>>) -> Self {
         Counted {
             inner,
-            terminal,
+            display,
             read: 0,
             said: 0,
         }
     }
+
+    /// Ends the line that shows the progress, if one was shown.
+    pub fn end(&self) {
+        if self.said > 0 {
+            if let Some(display) = self.display {
+                let _ = eprintln!(display.terminal; "");
+            }
+        }
+    }
 }
 
-impl<R: Read + Drop, E: Eprint> Read for Counted<'_, R, E> {
+impl<R: Read + Drop> Read for Counted<'_, R> {
     ghost remaining = { λ t. R.remaining t.inner };
 
     fn read(&mut self, buf: &mut [u8]) -> io::Result<usize> {
@@ -38,10 +81,54 @@ impl<R: Read + Drop, E: Eprint> Read for Counted<'_, R, E> {
         self.read = self.read.saturating_add(count as u64);
         if self.read.saturating_sub(self.said) >= STEP {
             self.said = self.read;
-            if let Some(terminal) = self.terminal {
-                let _ = eprint!(terminal; "\r{} MiB", self.read / MEBIBYTE);
+            if let Some(display) = self.display {
+                display.show(self.read);
             }
         }
         Ok(count)
+    }
+}
+
+/// A writer that counts what was written to it.
+#[derive(Drop)]
+pub struct Measured<W: Write + Drop> {
+    inner: W,
+    /// How many bytes were written.
+    pub written: u64,
+    /// Whether the first bytes must be text.
+    text_only: bool,
+}
+
+impl<W: Write + Drop> Measured<W> {
+    /// Creates a writer that has written nothing yet. If `text_only`, the first write fails with
+    /// [`ErrorKind::InvalidData`] if a terminal cannot show its bytes.
+    pub fn new(inner: W, text_only: bool) -> Self {
+        Measured {
+            inner,
+            written: 0,
+            text_only,
+        }
+    }
+}
+
+// Whether a terminal shows the byte as a part of a text, and does not act on it.
+fn is_text(byte: u8) -> bool {
+    matches!(byte, b'\t' | b'\n' | b'\r' | 0x20..=0x7e | 0x80..=0xff)
+}
+
+impl<W: Write + Drop> Write for Measured<W> {
+    ghost contents = { λ t. W.contents t.inner };
+
+    fn write(&mut self, buf: &[u8]) -> io::Result<usize> {
+        if self.text_only && !buf.iter().all(|byte| is_text(*byte)) {
+            return Err(io::Error::from(ErrorKind::InvalidData));
+        }
+        let count = self.inner.write(buf)?;
+        self.written = self.written.saturating_add(count as u64);
+        Ok(count)
+    }
+
+    fn flush(&mut self) -> io::Result<()> {
+        self.inner.flush()
     }
 }
