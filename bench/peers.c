@@ -2,7 +2,7 @@
  * Sealing in place by the library and by libsodium, in one process: MB/s, as lines of a table.
  *
  * libsodium's AEGIS is measured before sodium_init, where it runs in software, and after it, where it runs by the
- * processor's AES instructions if there are any; its ChaCha20-Poly1305 after it. The contenders take turns, and the best
+ * processor's AES instructions; its ChaCha20-Poly1305 and its AES-256-GCM, which needs these instructions, after it. The contenders take turns, and the best
  * turn of each counts. How fast a loop is depends on where its vectors on the stack lie in the lines of the cache, so the
  * turns are made at four places of the stack. Each call does all of its work on one message with no associated data;
  * AEGIS makes tags of 32 bytes.
@@ -61,6 +61,7 @@ OURS(aegis256x4, HUNKRAVY_AEGIS256X4, 32)
 SODIUM(aegis128l)
 SODIUM(aegis256)
 SODIUM(chacha20poly1305_ietf)
+SODIUM(aes256gcm)
 
 struct contender {
     const char *name;
@@ -129,6 +130,7 @@ int main(void)
         {"AEGIS-256X2", ours_aegis256x2, {0}},
         {"AEGIS-256X4", ours_aegis256x4, {0}},
         {"libsodium ChaCha20-Poly1305", sodium_chacha20poly1305_ietf, {0}},
+        {"libsodium AES-256-GCM, AES instructions", sodium_aes256gcm, {0}},
         {"libsodium AEGIS-128L, AES instructions", sodium_aegis128l, {0}},
         {"libsodium AEGIS-256, AES instructions", sodium_aegis256, {0}},
     };
@@ -136,7 +138,7 @@ int main(void)
     printf("libsodium %s, hunkravy at level %d, %s\n\n", sodium_version_string(), hunkravy_level(), __VERSION__);
     printf("| Sealing, MB/s | 64 | 1 KiB | 16 KiB | 1 MiB |\n|---|---:|---:|---:|---:|\n");
     measure(software, sizeof software / sizeof software[0]);
-    expect(sodium_init() >= 0);
+    expect(sodium_init() >= 0 && crypto_aead_aes256gcm_is_available());
     measure(all, sizeof all / sizeof all[0]);
     return 0;
 }

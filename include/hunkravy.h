@@ -46,9 +46,9 @@ extern "C" {
 #endif
 
 /* The version of this header and of the library that it belongs to. */
-#define HUNKRAVY_VERSION "0.1.0"
+#define HUNKRAVY_VERSION "0.2.0"
 #define HUNKRAVY_VERSION_MAJOR 0
-#define HUNKRAVY_VERSION_MINOR 1
+#define HUNKRAVY_VERSION_MINOR 2
 #define HUNKRAVY_VERSION_PATCH 0
 
 /* ---- The variants. The first three have keys and nonces of 16 bytes, the others of 32. */

@@ -1,4 +1,4 @@
-//! Finds the static library, and links it.
+//! Finds the static library, and links it. Without it the crate is checked and documented, and a link fails.
 
 use std::env;
 use std::path::{Path, PathBuf};
@@ -22,10 +22,10 @@ fn main() {
         Ok(folder) => {
             println!("cargo::rerun-if-changed={}", folder.join(ARCHIVE).display());
             println!("cargo::rustc-link-search=native={}", folder.display());
-            println!("cargo::rustc-link-lib=static=hunkravy");
         }
-        Err(message) => println!("cargo::error={message}"),
+        Err(message) => println!("cargo::warning={message}"),
     }
+    println!("cargo::rustc-link-lib=static=hunkravy");
 }
 
 /// An error if the library cannot be built for what is compiled for.
@@ -41,10 +41,15 @@ fn target() -> Result<(), String> {
     }
 }
 
-/// The folder with the library: that of the variable if it is set, and otherwise the one that pkg-config knows.
+/// The folder with the library: that of the variable if it is set, that of the package if it came with one, and otherwise the
+/// one that pkg-config knows.
 fn folder() -> Result<PathBuf, String> {
     if let Some(folder) = env::var_os(FOLDER_VARIABLE) {
         return with_archive(folder.into(), FOLDER_VARIABLE);
+    }
+    let own = PathBuf::from(env::var_os("CARGO_MANIFEST_DIR").unwrap_or_default()).join("lib");
+    if own.join(ARCHIVE).is_file() {
+        return Ok(own);
     }
     let program = env::var_os("PKG_CONFIG").unwrap_or_else(|| "pkg-config".into());
     let found = installed(Path::new(&program)).map_err(|reason| {

@@ -1,0 +1,115 @@
+#!/bin/bash
+# pack.sh VERSION OUT: writes to OUT/dist the archives, the Debian packages and the wheel of what was built in OUT, and their
+# sums. Equal builds give equal bytes: files are sorted, and their times are that of the commit.
+set -euo pipefail
+version=$1 out=$2
+export SOURCE_DATE_EPOCH=${SOURCE_DATE_EPOCH:-$(git log -1 --format=%ct)}
+export LC_ALL=C TZ=UTC
+umask 022
+work=$out/dist/work
+rm -rf "$out/dist"
+mkdir -p "$work"
+
+# Installs with `make` into a folder.
+install_to() {
+    local folder=$1
+    shift
+    "${MAKE:-make}" --no-print-directory -s "$@" DESTDIR="$PWD/$folder" OUT="$out" > /dev/null
+}
+
+# What was proved, by what, and when it passed.
+proved() {
+    cat dist/PROVED.md
+    echo
+    echo "- Commit: ${COMMIT:-$(git rev-parse HEAD)}"
+    echo "- Proved by: $(rt version 2> /dev/null || cat "$out/kit")"
+    if [ -f "$out/gate" ]; then
+        echo "- The last line of the gate: $(cat "$out/gate")"
+    fi
+}
+
+# Gives all files of a folder the time of the commit.
+settle() {
+    find "$1" -exec touch -h -d "@$SOURCE_DATE_EPOCH" {} +
+}
+
+archive() {
+    settle "$work/$1"
+    tar -C "$work" --sort=name --owner=0 --group=0 --numeric-owner --format=gnu -cf - "$1" | gzip -9n > "$out/dist/$1.tar.gz"
+}
+
+# What the archives of both processors have.
+common() {
+    cp LICENSE SECURITY.md CHANGELOG.md "$1"
+    proved > "$1/PROVED.md"
+    mkdir -p "$1/rust/lib"
+    cp -R rust/Cargo.toml rust/Cargo.lock rust/README.md rust/build.rs rust/src rust/examples "$1/rust"
+    cp "$1/lib/libhunkravy.a" "$1/rust/lib"
+}
+
+# package NAME DEPENDS DESCRIPTION: the Debian package of the files in work/NAME.
+package() {
+    local folder=$work/$1 doc=$work/$1/usr/share/doc/$1
+    mkdir -p "$folder/DEBIAN" "$doc"
+    cp dist/copyright "$doc/copyright"
+    printf 'hunkravy (%s) unstable; urgency=medium\n\n  * See /usr/share/doc/%s/CHANGELOG.md.gz.\n\n -- %s  %s\n' "$version" "$1" \
+        "$MAINTAINER" "$(date -R -d "@$SOURCE_DATE_EPOCH")" | gzip -9n > "$doc/changelog.gz"
+    gzip -9nc CHANGELOG.md > "$doc/CHANGELOG.md.gz"
+    if [ -d "$folder/usr/share/man" ]; then
+        find "$folder/usr/share/man" -type f -exec gzip -9n {} +
+    fi
+    (cd "$folder" && find usr -type f -print0 | sort -z | xargs -0 md5sum > DEBIAN/md5sums)
+    {
+        echo "Package: $1"
+        echo "Source: hunkravy"
+        echo "Version: $version"
+        echo "Architecture: amd64"
+        echo "Maintainer: $MAINTAINER"
+        echo "Installed-Size: $(du -k -s --apparent-size "$folder/usr" | cut -f 1)"
+        if [ -n "$2" ]; then echo "Depends: $2"; fi
+        echo "Section: ${5:-utils}"
+        echo "Priority: optional"
+        echo "Description: $3"
+        echo " $4"
+    } > "$folder/DEBIAN/control"
+    settle "$folder"
+    dpkg-deb --root-owner-group -Zxz --build "$folder" "$out/dist/$1_${version}_amd64.deb" > /dev/null
+}
+
+MAINTAINER="Hunkravy maintainers <maintainers@users.noreply.hunkravy.example>"
+
+name=hunkravy-$version-x86_64-linux
+install_to "$work/$name" install PREFIX=
+install_to "$work/$name" install-tool PREFIX= CPU=both
+common "$work/$name"
+mkdir "$work/$name/python"
+cp "$out"/hunkravy-"$version"-*.whl "$work/$name/python"
+cp "$out"/hunkravy-"$version"-*.whl "$out/dist"
+archive "$name"
+
+if [ -f "$out/aarch64/libhunkravy.a" ]; then
+    name=hunkravy-$version-aarch64-linux
+    install_to "$work/$name" install PREFIX= TARGET=aarch64-unknown-linux-gnu
+    common "$work/$name"
+    archive "$name"
+fi
+
+if command -v dpkg-deb > /dev/null; then
+    install_to "$work/hunkravy" install-tool PREFIX=/usr CPU=both
+    package hunkravy 'libc6 (>= 2.34)' 'seals and opens files by AEGIS-256' \
+        'Each file gets a prefix of its own, and nothing of a file that was changed comes out.'
+    library=usr/lib/x86_64-linux-gnu
+    install_to "$work/libhunkravy-dev" install PREFIX=/usr LIBRARIES=/$library
+    mkdir -p "$work/libhunkravy0/$library"
+    mv "$work/libhunkravy-dev/$library"/libhunkravy.so.0 "$work/libhunkravy0/$library"
+    package libhunkravy0 'libc6 (>= 2.17)' 'the AEGIS ciphers and their MACs, proved' \
+        'The shared library. It uses no AES instructions and no look-up tables.' libs
+    echo "libhunkravy 0 libhunkravy0" > "$work/shlibs"
+    package libhunkravy-dev "libhunkravy0 (= $version)" 'the AEGIS ciphers and their MACs, for development' \
+        'Headers, the static library, and examples.' libdevel
+fi
+
+rm -r "$work"
+cd "$out/dist"
+sha256sum -- * > SHA256SUMS
+cat SHA256SUMS

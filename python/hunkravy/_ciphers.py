@@ -1,0 +1,249 @@
+"""The ciphers: messages at once, and keystreams."""
+
+from __future__ import annotations
+
+import os
+from typing import TYPE_CHECKING, ClassVar, Optional
+
+from . import _library as library
+from ._states import Decryptor, Encryptor
+
+if TYPE_CHECKING:
+    from _typeshed import ReadableBuffer, WriteableBuffer
+
+
+class Cipher:
+    """A cipher with a key. `tag_length` is the number of bytes of its tags, 16 or 32.
+
+    Data, associated data and nonces may be any buffers of bytes: bytes, bytearray, memoryview, mmap, array and the like. A key,
+    a nonce or a tag of a wrong length, or an output buffer of a wrong length, is a `ValueError`.
+    """
+
+    KEY_BYTES: ClassVar[int]
+    NONCE_BYTES: ClassVar[int]
+    _VARIANT: ClassVar[int]
+
+    __slots__ = ("_key", "_tag_length")
+
+    def __init__(self, key: ReadableBuffer, tag_length: int = 32) -> None:
+        self._key = library.exactly("key", key, self.KEY_BYTES)
+        self._tag_length = library.tag_length_of(tag_length)
+
+    @classmethod
+    def generate_key(cls) -> bytes:
+        """Returns a key that is drawn at random."""
+        return os.urandom(cls.KEY_BYTES)
+
+    @classmethod
+    def generate_nonce(cls) -> bytes:
+        """Returns a nonce that is drawn at random.
+
+        Nonces of 32 bytes may be drawn for any number of messages, and those of 16 bytes for up to 2^48 under one key.
+        """
+        return os.urandom(cls.NONCE_BYTES)
+
+    @property
+    def tag_length(self) -> int:
+        """The number of bytes of a tag."""
+        return self._tag_length
+
+    def encrypt(
+        self,
+        nonce: ReadableBuffer,
+        data: ReadableBuffer,
+        associated_data: Optional[ReadableBuffer] = None,
+    ) -> bytes:
+        """Encrypts a message. Returns the ciphertext, with its tag after it."""
+        message = library.readable(data)
+        sealed = bytearray(message)
+        sealed += bytes(self._tag_length)
+        self._seal(nonce, sealed, len(message), associated_data)
+        return bytes(sealed)
+
+    def encrypt_into(
+        self,
+        nonce: ReadableBuffer,
+        data: ReadableBuffer,
+        associated_data: Optional[ReadableBuffer],
+        buf: WriteableBuffer,
+    ) -> int:
+        """Encrypts a message into a buffer, which has the message's length and the tag's. Returns that length."""
+        message = memoryview(data).cast("B")
+        length = len(message) + self._tag_length
+        with library.writable(buf, length) as sealed:
+            sealed[: len(message)] = message
+            self._seal(nonce, sealed, len(message), associated_data)
+        return length
+
+    def decrypt(
+        self,
+        nonce: ReadableBuffer,
+        data: ReadableBuffer,
+        associated_data: Optional[ReadableBuffer] = None,
+    ) -> bytes:
+        """Decrypts a ciphertext that has its tag after it. Raises `InvalidTag` if it is another's, or if there is none."""
+        sealed = memoryview(data).cast("B")
+        length = len(sealed) - self._tag_length
+        message = bytearray(sealed[: max(length, 0)])
+        self._open(nonce, sealed, message, associated_data)
+        return bytes(message)
+
+    def decrypt_into(
+        self,
+        nonce: ReadableBuffer,
+        data: ReadableBuffer,
+        associated_data: Optional[ReadableBuffer],
+        buf: WriteableBuffer,
+    ) -> int:
+        """Decrypts a ciphertext into a buffer of the message's length, and returns that length.
+
+        If it raises `InvalidTag`, each byte of the buffer is 0xaa.
+        """
+        sealed = memoryview(data).cast("B")
+        length = max(len(sealed) - self._tag_length, 0)
+        with library.writable(buf, length) as message:
+            message[:] = sealed[:length]
+            self._open(nonce, sealed, message, associated_data)
+        return length
+
+    def encryptor(
+        self, nonce: ReadableBuffer, associated_data: Optional[ReadableBuffer] = None
+    ) -> Encryptor:
+        """Begins a message that is encrypted in chunks."""
+        return Encryptor(self._begin(nonce, associated_data), self._tag_length)
+
+    def decryptor(
+        self, nonce: ReadableBuffer, associated_data: Optional[ReadableBuffer] = None
+    ) -> Decryptor:
+        """Begins a ciphertext that comes in chunks."""
+        return Decryptor(self._begin(nonce, associated_data), self._tag_length)
+
+    def keystream(self, nonce: ReadableBuffer, length: int) -> bytes:
+        """Returns so many bytes of the keystream. A nonce must not be used for a message and for a keystream."""
+        out = bytearray(length)
+        library.check(
+            library.stream(
+                self._VARIANT, library.pointer(out), length, *self._nonce_and_key(nonce)
+            )
+        )
+        return bytes(out)
+
+    def _nonce_and_key(self, nonce: ReadableBuffer) -> tuple[bytes, int, bytes, int]:
+        size = self.NONCE_BYTES
+        return library.exactly("nonce", nonce, size), size, self._key, self.KEY_BYTES
+
+    def _begin(
+        self, nonce: ReadableBuffer, associated_data: Optional[ReadableBuffer]
+    ) -> library.State:
+        data = library.associated(associated_data)
+        state = library.State()
+        library.check(
+            library.state_init(
+                self._VARIANT, state, data, len(data), *self._nonce_and_key(nonce)
+            )
+        )
+        return state
+
+    def _seal(
+        self,
+        nonce: ReadableBuffer,
+        sealed: bytearray | memoryview,
+        length: int,
+        associated_data: Optional[ReadableBuffer],
+    ) -> None:
+        data = library.associated(associated_data)
+        tag = bytearray(self._tag_length)
+        library.check(
+            library.encrypt_in_place(
+                self._VARIANT,
+                library.pointer(sealed),
+                length,
+                data,
+                len(data),
+                *self._nonce_and_key(nonce),
+                library.pointer(tag),
+                self._tag_length,
+            )
+        )
+        sealed[length:] = tag
+
+    def _open(
+        self,
+        nonce: ReadableBuffer,
+        sealed: memoryview,
+        message: bytearray | memoryview,
+        associated_data: Optional[ReadableBuffer],
+    ) -> None:
+        data = library.associated(associated_data)
+        arguments = self._nonce_and_key(nonce)
+        if len(sealed) < self._tag_length:
+            raise library.InvalidTag
+        tag = bytes(sealed[len(message) :])
+        library.check(
+            library.decrypt_in_place(
+                self._VARIANT,
+                library.pointer(message),
+                len(message),
+                data,
+                len(data),
+                *arguments,
+                tag,
+                self._tag_length,
+            )
+        )
+
+
+class Aegis128L(Cipher):
+    """AEGIS-128L: keys and nonces of 16 bytes.
+
+    A published test vector:
+
+    >>> key = bytes.fromhex("10010000000000000000000000000000")
+    >>> nonce = bytes.fromhex("10000200000000000000000000000000")
+    >>> Aegis128L(key, 16).encrypt(nonce, bytes(16)).hex()
+    'c1c0e58bd913006feba00f4b3cc3594eabe0ece80c24868a226a35d16bdae37a'
+    """
+
+    __slots__ = ()
+    KEY_BYTES = NONCE_BYTES = 16
+    _VARIANT = 0
+
+
+class Aegis128X2(Cipher):
+    """AEGIS-128X2: two lanes of AEGIS-128L."""
+
+    __slots__ = ()
+    KEY_BYTES = NONCE_BYTES = 16
+    _VARIANT = 1
+
+
+class Aegis128X4(Cipher):
+    """AEGIS-128X4: four lanes of AEGIS-128L."""
+
+    __slots__ = ()
+    KEY_BYTES = NONCE_BYTES = 16
+    _VARIANT = 2
+
+
+class Aegis256(Cipher):
+    """AEGIS-256: keys and nonces of 32 bytes."""
+
+    __slots__ = ()
+    KEY_BYTES = NONCE_BYTES = 32
+    _VARIANT = 3
+
+
+class Aegis256X2(Cipher):
+    """AEGIS-256X2: two lanes of AEGIS-256."""
+
+    __slots__ = ()
+    KEY_BYTES = NONCE_BYTES = 32
+    _VARIANT = 4
+
+
+class Aegis256X4(Cipher):
+    """AEGIS-256X4: four lanes of AEGIS-256."""
+
+    __slots__ = ()
+    KEY_BYTES = NONCE_BYTES = 32
+    _VARIANT = 5

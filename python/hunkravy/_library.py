@@ -1,0 +1,117 @@
+"""The C library: its exports, and how buffers and codes become those of Python. Nothing else of the package calls it."""
+
+from __future__ import annotations
+
+import ctypes
+import os
+from typing import TYPE_CHECKING, Any, Optional
+
+if TYPE_CHECKING:
+    from _typeshed import ReadableBuffer, WriteableBuffer
+
+
+class InvalidTag(Exception):
+    """The tag is not that of the message, or the MAC is not that of the input."""
+
+
+# The most bytes of a message, of associated data, and of the input of a MAC.
+MAX_BYTES = (1 << 61) - 1
+
+# What the exports return if nothing is wrong, and if a tag or a MAC is.
+OK = 0
+INVALID_TAG = -1
+
+# `hunkravy_state` of the library's header: 672 bytes, aligned to 8.
+State = ctypes.c_uint64 * 84
+STATE_BYTES = ctypes.sizeof(State)
+
+
+def _load() -> ctypes.CDLL:
+    name = "libhunkravy.so.0"
+    beside = os.path.join(os.path.dirname(os.path.abspath(__file__)), name)
+    return ctypes.CDLL(beside if os.path.exists(beside) else name)
+
+
+_loaded = _load()
+_part = [ctypes.c_void_p, ctypes.c_size_t]
+
+
+def _export(name: str, *parameters: Any) -> Any:
+    call = _loaded[f"hunkravy_{name}_nonnull"]
+    call.argtypes = parameters
+    call.restype = ctypes.c_int
+    return call
+
+
+encrypt_in_place = _export("encrypt_in_place", ctypes.c_uint32, *_part * 5)
+decrypt_in_place = _export("decrypt_in_place", ctypes.c_uint32, *_part * 5)
+stream = _export("stream", ctypes.c_uint32, *_part * 3)
+stream_xor_in_place = _export("stream_xor_in_place", ctypes.c_uint32, *_part * 3)
+state_init = _export("state_init", ctypes.c_uint32, ctypes.c_void_p, *_part * 3)
+state_encrypt = _export("state_encrypt_in_place", ctypes.c_void_p, *_part)
+state_encrypt_final = _export("state_encrypt_final", ctypes.c_void_p, *_part)
+state_decrypt_unverified = _export(
+    "state_decrypt_in_place_unverified", ctypes.c_void_p, *_part
+)
+state_decrypt_final = _export("state_decrypt_final", ctypes.c_void_p, *_part * 2)
+mac_init = _export("mac_init", ctypes.c_uint32, ctypes.c_void_p, *_part * 2)
+mac_update = _export("mac_update", ctypes.c_void_p, *_part)
+mac_final = _export("mac_final", ctypes.c_void_p, *_part)
+mac_final_verify = _export("mac_final_verify", ctypes.c_void_p, *_part)
+
+
+def level() -> int:
+    """Returns which build of the library runs: 3 or 2 for x86-64-v3 or x86-64-v2, and 0 for another.
+
+    >>> level() in (0, 2, 3)
+    True
+    """
+    return int(_loaded.hunkravy_level())
+
+
+def check(code: int) -> None:
+    """Raises the error of a code. Lengths are checked before a call, so only a tag can be wrong."""
+    if code == INVALID_TAG:
+        raise InvalidTag
+    if code != OK:
+        raise RuntimeError(f"the library returned {code}")
+
+
+def readable(data: ReadableBuffer) -> bytes:
+    """The bytes of a buffer: itself if it is bytes, and otherwise a copy."""
+    return data if isinstance(data, bytes) else bytes(memoryview(data))
+
+
+def associated(data: Optional[ReadableBuffer]) -> bytes:
+    """The bytes of associated data, of which `None` are none."""
+    return b"" if data is None else readable(data)
+
+
+def exactly(name: str, data: ReadableBuffer, length: int) -> bytes:
+    """The bytes of a key, a nonce or a tag."""
+    found = readable(data)
+    if len(found) != length:
+        raise ValueError(f"the {name} has {len(found)} bytes, and not {length}")
+    return found
+
+
+def tag_length_of(length: int) -> int:
+    """Returns the length, if a tag or a MAC may have it."""
+    if length not in (16, 32):
+        raise ValueError("a tag has 16 or 32 bytes")
+    return length
+
+
+def writable(buffer: WriteableBuffer, length: int) -> memoryview:
+    """A view of the bytes of a buffer that has exactly so many."""
+    view = memoryview(buffer).cast("B")
+    if view.readonly:
+        raise ValueError("the buffer is read-only")
+    if len(view) != length:
+        raise ValueError(f"the buffer has {len(view)} bytes, and not {length}")
+    return view
+
+
+def pointer(buffer: Any) -> Any:
+    """A pointer to the first byte of a writable buffer. It keeps the buffer from being resized while it lives."""
+    return ctypes.byref(ctypes.c_char.from_buffer(buffer)) if len(buffer) else b""

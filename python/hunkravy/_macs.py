@@ -1,0 +1,145 @@
+"""MACs, in the manner of the standard library's `hmac`."""
+
+from __future__ import annotations
+
+import ctypes
+import threading
+from typing import TYPE_CHECKING, ClassVar, Optional
+
+from . import _library as library
+
+if TYPE_CHECKING:
+    from _typeshed import ReadableBuffer
+
+
+class Mac:
+    """The MAC of an input that comes in chunks. The key must be used for nothing but MACs.
+
+    `tag_length` is the number of bytes of the MAC, 16 or 32. The nonce is one of zeros if none is given.
+
+    >>> from hunkravy import Aegis128LMac
+    >>> mac = Aegis128LMac(bytes(16))
+    >>> mac.update(b"the ")
+    >>> mac.update(b"input")
+    >>> mac.verify(Aegis128LMac(bytes(16), b"the input").digest())
+    """
+
+    KEY_BYTES: ClassVar[int]
+    NONCE_BYTES: ClassVar[int]
+    name: ClassVar[str]
+    _VARIANT: ClassVar[int]
+
+    __slots__ = ("_lock", "_state", "digest_size")
+
+    def __init__(
+        self,
+        key: ReadableBuffer,
+        data: Optional[ReadableBuffer] = None,
+        *,
+        nonce: Optional[ReadableBuffer] = None,
+        tag_length: int = 32,
+    ) -> None:
+        size = self.NONCE_BYTES
+        start = library.exactly("nonce", bytes(size) if nonce is None else nonce, size)
+        found = library.exactly("key", key, self.KEY_BYTES)
+        self.digest_size = library.tag_length_of(tag_length)
+        self._lock = threading.Lock()
+        self._state = library.State()
+        library.check(
+            library.mac_init(self._VARIANT, self._state, start, size, found, len(found))
+        )
+        if data is not None:
+            self.update(data)
+
+    def __del__(self) -> None:
+        state = getattr(self, "_state", None)
+        if state is not None:
+            ctypes.memset(state, 0, library.STATE_BYTES)
+
+    def update(self, data: ReadableBuffer) -> None:
+        """Takes in the next bytes of the input."""
+        chunk = library.readable(data)
+        with self._lock:
+            library.check(library.mac_update(self._state, chunk, len(chunk)))
+
+    def digest(self) -> bytes:
+        """Returns the MAC of the input so far. More of it may follow."""
+        mac = bytearray(self.digest_size)
+        with self._lock:
+            library.check(library.mac_final(self._state, library.pointer(mac), len(mac)))
+        return bytes(mac)
+
+    def hexdigest(self) -> str:
+        """Returns the MAC of the input so far in hexadecimal digits."""
+        return self.digest().hex()
+
+    def verify(self, mac: ReadableBuffer) -> None:
+        """Raises `InvalidTag` unless this is the MAC of the input so far. The time does not tell where they differ."""
+        expected = library.exactly("MAC", mac, self.digest_size)
+        with self._lock:
+            library.check(
+                library.mac_final_verify(self._state, expected, len(expected))
+            )
+
+    def copy(self) -> Mac:
+        """Returns a MAC that has taken in the same input."""
+        other = type(self).__new__(type(self))
+        other.digest_size = self.digest_size
+        other._lock = threading.Lock()
+        with self._lock:
+            other._state = library.State.from_buffer_copy(self._state)
+        return other
+
+
+class Aegis128LMac(Mac):
+    """The MAC of AEGIS-128L: keys and nonces of 16 bytes."""
+
+    __slots__ = ()
+    KEY_BYTES = NONCE_BYTES = 16
+    name = "aegis-128l"
+    _VARIANT = 0
+
+
+class Aegis128X2Mac(Mac):
+    """The MAC of AEGIS-128X2: keys and nonces of 16 bytes."""
+
+    __slots__ = ()
+    KEY_BYTES = NONCE_BYTES = 16
+    name = "aegis-128x2"
+    _VARIANT = 1
+
+
+class Aegis128X4Mac(Mac):
+    """The MAC of AEGIS-128X4: keys and nonces of 16 bytes."""
+
+    __slots__ = ()
+    KEY_BYTES = NONCE_BYTES = 16
+    name = "aegis-128x4"
+    _VARIANT = 2
+
+
+class Aegis256Mac(Mac):
+    """The MAC of AEGIS-256: keys and nonces of 32 bytes."""
+
+    __slots__ = ()
+    KEY_BYTES = NONCE_BYTES = 32
+    name = "aegis-256"
+    _VARIANT = 3
+
+
+class Aegis256X2Mac(Mac):
+    """The MAC of AEGIS-256X2: keys and nonces of 32 bytes."""
+
+    __slots__ = ()
+    KEY_BYTES = NONCE_BYTES = 32
+    name = "aegis-256x2"
+    _VARIANT = 4
+
+
+class Aegis256X4Mac(Mac):
+    """The MAC of AEGIS-256X4: keys and nonces of 32 bytes."""
+
+    __slots__ = ()
+    KEY_BYTES = NONCE_BYTES = 32
+    name = "aegis-256x4"
+    _VARIANT = 5

@@ -1,0 +1,121 @@
+"""Messages and ciphertexts in chunks."""
+
+from __future__ import annotations
+
+import ctypes
+import threading
+from typing import TYPE_CHECKING, Optional
+
+from . import _library as library
+
+if TYPE_CHECKING:
+    from _typeshed import ReadableBuffer
+
+
+class Chunks:
+    """A state of the library, which is overwritten when it ends. One call at a time uses it."""
+
+    __slots__ = ("_lock", "_state", "_tag_length")
+
+    def __init__(self, state: library.State, tag_length: int) -> None:
+        self._lock = threading.Lock()
+        self._state: Optional[library.State] = state
+        self._tag_length = tag_length
+
+    def __del__(self) -> None:
+        state = getattr(self, "_state", None)
+        if state is not None:
+            ctypes.memset(state, 0, library.STATE_BYTES)
+
+    def _running(self) -> library.State:
+        if self._state is None:
+            raise RuntimeError("the message has ended")
+        return self._state
+
+
+class Encryptor(Chunks):
+    """A message that is encrypted in chunks, by `Cipher.encryptor`.
+
+    >>> from hunkravy import Aegis128L
+    >>> cipher, nonce = Aegis128L(bytes(16)), bytes(16)
+    >>> encryptor = cipher.encryptor(nonce)
+    >>> sealed = encryptor.update(b"a mes") + encryptor.update(b"sage") + encryptor.finalize()
+    >>> sealed == cipher.encrypt(nonce, b"a message")
+    True
+    """
+
+    __slots__ = ()
+
+    def update(self, data: ReadableBuffer) -> bytes:
+        """Encrypts the next chunk."""
+        chunk = bytearray(memoryview(data))
+        with self._lock:
+            library.check(
+                library.state_encrypt(self._running(), library.pointer(chunk), len(chunk))
+            )
+        return bytes(chunk)
+
+    def finalize(self) -> bytes:
+        """Ends the message, and returns its tag."""
+        tag = bytearray(self._tag_length)
+        with self._lock:
+            library.check(
+                library.state_encrypt_final(self._running(), library.pointer(tag), len(tag))
+            )
+            self._state = None
+        return bytes(tag)
+
+
+class Decryptor(Chunks):
+    """A ciphertext that comes in chunks, by `Cipher.decryptor`.
+
+    The message is kept in memory, and none of it can be read before `finalize` has verified the tag.
+
+    >>> from hunkravy import Aegis128L
+    >>> cipher, nonce = Aegis128L(bytes(16)), bytes(16)
+    >>> sealed = cipher.encrypt(nonce, b"a message")
+    >>> decryptor = cipher.decryptor(nonce)
+    >>> decryptor.update(sealed[:5])
+    >>> decryptor.update(sealed[5:-32])
+    >>> decryptor.finalize(sealed[-32:])
+    b'a message'
+    """
+
+    __slots__ = ("_message",)
+
+    def __init__(self, state: library.State, tag_length: int) -> None:
+        super().__init__(state, tag_length)
+        self._message = bytearray()
+
+    def __del__(self) -> None:
+        super().__del__()
+        self._erase()
+
+    def update(self, data: ReadableBuffer) -> None:
+        """Takes in the next chunk of the ciphertext, without its tag."""
+        with self._lock:
+            state = self._running()
+            start = len(self._message)
+            self._message += memoryview(data)
+            with memoryview(self._message)[start:] as chunk:
+                library.check(
+                    library.state_decrypt_unverified(state, library.pointer(chunk), len(chunk))
+                )
+
+    def finalize(self, tag: ReadableBuffer) -> bytes:
+        """Ends the ciphertext, and returns its message. Raises `InvalidTag`, and erases the message, if the tag is wrong."""
+        expected = library.exactly("tag", tag, self._tag_length)
+        with self._lock:
+            state = self._running()
+            self._state = None
+            code = library.state_decrypt_final(state, b"", 0, expected, len(expected))
+            message = bytes(self._message) if code == library.OK else b""
+            self._erase()
+        library.check(code)
+        return message
+
+    def _erase(self) -> None:
+        message = getattr(self, "_message", None)
+        if message:
+            ctypes.memset(library.pointer(message), 0, len(message))
+        self._message = bytearray()

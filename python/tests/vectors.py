@@ -1,0 +1,48 @@
+"""The stored lines of the repository, with their answers."""
+
+import pathlib
+from typing import Iterator, NamedTuple
+
+import hunkravy
+
+CIPHERS = {
+    "aegis128l": (hunkravy.Aegis128L, hunkravy.Aegis128LMac),
+    "aegis128x2": (hunkravy.Aegis128X2, hunkravy.Aegis128X2Mac),
+    "aegis128x4": (hunkravy.Aegis128X4, hunkravy.Aegis128X4Mac),
+    "aegis256": (hunkravy.Aegis256, hunkravy.Aegis256Mac),
+    "aegis256x2": (hunkravy.Aegis256X2, hunkravy.Aegis256X2Mac),
+    "aegis256x4": (hunkravy.Aegis256X4, hunkravy.Aegis256X4Mac),
+}
+FOLDER = pathlib.Path(__file__).parents[2] / "crates" / "check_lines" / "data"
+
+
+class Line(NamedTuple):
+    """The fields of a line, the first of which is its command, and its answer."""
+
+    fields: list[str]
+    answer: str
+
+
+def pieces(field: str) -> list[bytes]:
+    """The pieces of a field."""
+    return [b"" if part == "-" else bytes.fromhex(part) for part in field.split(",")]
+
+
+def joined(field: str) -> bytes:
+    """The bytes of a field."""
+    return b"".join(pieces(field))
+
+
+def written(data: bytes) -> str:
+    """The field that stands for bytes in an answer."""
+    return data.hex() or "-"
+
+
+def lines(command: str) -> Iterator[Line]:
+    """The stored lines of a command whose answer is no fault of the line."""
+    for source in sorted(FOLDER.glob("*.in")):
+        answers = source.with_suffix(".out").read_text().splitlines()
+        for line, answer in zip(source.read_text().splitlines(), answers):
+            fields = line.split(" ")
+            if fields[0] == command and not answer.startswith("error"):
+                yield Line(fields, answer)
