@@ -11,8 +11,8 @@ use Rattle.aegis.specs.Progress.{AreRecordsOfSomeVersion, Begun, Progress, after
 use Rattle.aegis.specs.Records.{IsFault}
 use Rattle.aegis.specs.RecordStream.{limit}
 
--- The bytes `from..end` of a buffer were read, up to `to` unless no more are left. Those before them are as they were: what was
--- read into them and these follow one another.
+-- The bytes `from..end` of a buffer were read: all up to `to`, or all that were left. Those before them are as they were, so if
+-- they were read before, one after the other, all up to `end` were.
 pub record ReadsPart (old new : List ℕ) (from to end : ℕ) (left left' : Option (List ℕ)) : Type 0 where
   pub within : end ≤ length new
   pub above : from ≤ end
@@ -40,8 +40,8 @@ pub record ReadsNext (old new : Progress) (left left' : Option (List ℕ)) (is_l
   pub progress : new ≡ after old is_last m
   pub within : length m ≤ limit old.version
 
--- The next record was not opened: a read failed, or memory ran out, or else the error is the first fault of the stream, whose
--- bytes that are left are these, or they pass the limit.
+-- The next record was not opened: a read failed, or memory ran out, or else the error is the first fault of the stream that
+-- ends with the bytes that were left, or that stream passes the limit.
 abbrev pub FailsNext : Progress → Option (List ℕ) → FileError → Type 0
 FailsNext p left (Read e) = ⊤
 FailsNext p left (Write e) = ⊥

@@ -2,7 +2,8 @@
 
 use super::{CONTEXT, KEY, PREFIX, TEXT, opened, opened_with, sealed, three_records};
 use aegis::record::RecordError;
-use aegis_files::{FileError, PIECE_BYTES, open_stream, seal_stream};
+use aegis_files::{FileError, PIECE_BYTES, open_stream, rekey_stream, seal_stream};
+use std::alloc::Global;
 use std::io::ErrorKind;
 use std::test::Fail;
 use test_tools::ends::{CutOff, Narrow};
@@ -183,5 +184,31 @@ fn memory_is_taken_at_the_start_alone(rt: HostRuntime) -> Result<(), Fail> {
         assert_eq!(rt; result.is_ok(), requests == 3, "{requests}");
         assert_eq!(rt; file.is_empty(), requests < 3, "{requests}");
     }
+    Ok(())
+}
+
+// How many requests are left after the file of a text of this length was opened, and sealed anew.
+fn requests_left(alloc: Global, length: usize) -> Result<u64, FileError> {
+    let mut text = Vec::new(alloc);
+    text.resize(length, 0x5a)?;
+    let file = sealed(alloc, &text)?;
+    let heap = Rationed::new(alloc, REQUESTS);
+    let mut found = Vec::new(alloc);
+    let mut input = file.as_slice();
+    open_stream(&heap, &KEY, &CONTEXT, &mut input, &mut found)?;
+    let mut anew = Vec::new(alloc);
+    let mut input = file.as_slice();
+    rekey_stream(
+        &heap, &KEY, &[8; 32], &[10; 24], &CONTEXT, &mut input, &mut anew,
+    )?;
+    Ok(heap.left())
+}
+
+// After the first record, those that are no longer take no memory.
+#[test]
+fn later_records_take_no_memory(rt: HostRuntime) -> Result<(), Fail> {
+    let left = requests_left(rt.alloc(), PIECE_BYTES)?;
+    assert!(rt; left > 0);
+    assert_eq!(rt; requests_left(rt.alloc(), 4 * PIECE_BYTES)?, left);
     Ok(())
 }
