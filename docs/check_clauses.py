@@ -10,7 +10,8 @@ DECISION_LINES = 5
 
 CLAUSE = re.compile(r"\s*(requires|ensures)\b")
 DECISIONS = pathlib.Path("docs/DECISIONS.md")
-PAGES = [pathlib.Path("README.md"), pathlib.Path("docs/PROOFS.md"), DECISIONS]
+NAMES = ["README", "SECURITY", "CONTRIBUTING", "CHANGELOG", "docs/PROOFS", "docs/FILES", "docs/VERSIONS"]
+PAGES = [*(pathlib.Path(f"{name}.md") for name in NAMES), DECISIONS]
 
 
 def long_clauses(path):
