@@ -281,7 +281,7 @@ check-python: $(WHEEL)
 			python3 -c "import doctest, importlib; \
 				raise SystemExit(doctest.testmod(importlib.import_module('$$module')).failed)" || exit 1; \
 		done && \
-		sed -n '/^```python/,/^```$$/{/^```/!p}' ../README.md | python3 -
+		sed -n '/^```python/,/^```$$/{/^```/!p}' ../../README.md ../README.md | python3 -
 	if command -v mypy > /dev/null; then \
 		cd python && MYPYPATH=$(abspath $(OUT)/python) mypy --strict --cache-dir=/dev/null -p hunkravy tests; \
 	else \

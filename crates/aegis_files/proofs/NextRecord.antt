@@ -15,9 +15,8 @@ use Rattle.aegis.specs.declared.record.record_opener.in_place.OpenedInPlace.{Ope
 use Rattle.aegis.specs.declared.record.version.TheConstants.{MAX_MESSAGE_BYTES}
 use Rattle.aegis.specs.declared.record.version.Version.{Version}
 use Rattle.aegis.specs.declared.record.version.Version.TheVariants.{First, Second}
-use Rattle.aegis_files.specs.declared.error.FileError.{FileError}
-use Rattle.aegis_files.specs.declared.error.FileError.TheVariants.{Read, Write, Stream, TooLong}
-use Rattle.aegis_files.specs.Reading.{FailsNext, IsReadError, ReadsNext, ReadsPart}
+use Rattle.aegis_files.specs.declared.error.FileError.TheVariants.{Stream}
+use Rattle.aegis_files.specs.Reading.{FailsNext, ReadsNext, ReadsPart}
 use Rattle.aegis_files.proofs.Sealing.{split}
 
 -- ---- what was read
@@ -71,15 +70,6 @@ message_kept opened part after fits =
     ∙ take-append-le opened.message_len (drop 5 part) after (omega (arith, length-drop 5 part)))
 
 -- ---- it is refused
-
-pub read_fails : (p : Progress) (left : Option (List ℕ)) (e : FileError) → IsReadError e ⊎ (e ≡ Stream errors.OutOfMemory) → FailsNext p left e
-read_fails p left (Read e) why = tt
-read_fails p left (Write e) (inl is) = absurd is
-read_fails p left (Write e) (inr is) = absurd cc
-read_fails p left (Stream e) (inl is) = absurd is
-read_fails p left (Stream e) (inr is) = inl cc
-read_fails p left TooLong (inl is) = absurd is
-read_fails p left TooLong (inr is) = absurd cc
 
 pub head_refused : (p : Progress) (left left' : Option (List ℕ)) (head : List ℕ) (e : RecordError) → Consumes left left' head
     → ((body : List ℕ) → parts p.version (head ++ body) ≡ Err e) → FailsNext p left (Stream e)
