@@ -12,22 +12,22 @@ mkdir "$copy"
 git ls-files -z | tar --null -T - -cf - | tar -C "$copy" -xf -
 (cd "$out" && find . -path ./dist -prune -o -type f -print0 | tar --null -T - -cf -) | (mkdir "$copy/$out" && tar -C "$copy/$out" -xf -)
 epoch=$(git log -1 --format=%ct)
-(cd "$copy" && touch -c "$out"/*/* && SOURCE_DATE_EPOCH=$epoch COMMIT=$(cd "$OLDPWD" && git rev-parse HEAD) dist/pack.sh "$version" "$out") \
-    | diff "$dist/SHA256SUMS" -
+commit=$(git rev-parse HEAD)
+(cd "$copy" && touch -c "$out"/*/* && SOURCE_DATE_EPOCH=$epoch COMMIT=$commit dist/pack.sh "$version" "$out") | diff "$dist/SHA256SUMS" -
 
-# What follows has no kit, and nothing of the repository.
-name=hunkravy-$version-x86_64-linux
+# Uses what is installed in a folder, with no kit and nothing of the repository in PATH.
 tests=$PWD/dist/use.sh
-mkdir "$work/empty"
-cd "$work/empty"
-tar -xf "$dist/$name.tar.gz"
-env -i HOME="$HOME" PATH="$(dist_path="$(dirname "$(command -v cargo || echo /usr/bin/cargo)"):$(dirname "$(command -v python3)"):/usr/bin:/bin"; echo "$dist_path")" \
-    "$tests" "$PWD/$name"
+programs=$(for program in cargo python3; do dirname "$(command -v "$program" || echo "/usr/bin/$program")"; done | paste -sd :)
+use() {
+    (cd "$work/empty" && env -i HOME="$HOME" PATH="$programs:/usr/bin:/bin" "$tests" "$@")
+}
 
-# The packages, unpacked as a system of their own.
-if command -v dpkg-deb > /dev/null; then
-    for package in "$dist"/*.deb; do
-        dpkg-deb -x "$package" "$work/system"
-    done
-    "$tests" "$work/system/usr" lib/x86_64-linux-gnu
-fi
+# The archive, and the packages, unpacked as a system of their own.
+mkdir "$work/empty"
+name=hunkravy-$version-x86_64-linux
+tar -C "$work/empty" -xf "$dist/$name.tar.gz"
+use "$work/empty/$name"
+for package in "$dist"/*.deb; do
+    dpkg-deb -x "$package" "$work/system"
+done
+use "$work/system/usr" lib/x86_64-linux-gnu

@@ -11,7 +11,7 @@ export PKG_CONFIG_PATH=$libraries/pkgconfig LD_LIBRARY_PATH=$libraries
 for example in seal chunks libaegis libsodium; do
     source=$folder/share/doc/hunkravy/examples/$example.c
     cc "$source" $(pkg-config --cflags --libs hunkravy) -o shared
-    ldd shared | grep -q "libhunkravy.so.0 => $libraries"
+    ldd shared | grep "libhunkravy.so.0 => $libraries" > found
     ./shared > shared.out
     cc "$source" $(pkg-config --cflags hunkravy) "$libraries/libhunkravy.a" -o static
     ./static > static.out
