@@ -2,6 +2,7 @@
 
 from __future__ import annotations
 
+import ctypes
 import os
 from typing import TYPE_CHECKING, ClassVar, Optional
 
@@ -54,10 +55,8 @@ class Cipher:
         associated_data: Optional[ReadableBuffer] = None,
     ) -> bytes:
         """Encrypts a message. Returns the ciphertext, with its tag after it."""
-        message = library.readable(data)
-        sealed = bytearray(message)
-        sealed += bytes(self._tag_length)
-        self._seal(nonce, sealed, len(message), associated_data)
+        sealed = bytearray(library.readable(data) + bytes(self._tag_length))
+        self._seal(nonce, sealed, associated_data)
         return bytes(sealed)
 
     def encrypt_into(
@@ -72,7 +71,7 @@ class Cipher:
         length = len(message) + self._tag_length
         with library.writable(buf, length) as sealed:
             sealed[: len(message)] = message
-            self._seal(nonce, sealed, len(message), associated_data)
+            self._seal(nonce, sealed, associated_data)
         return length
 
     def decrypt(
@@ -82,11 +81,9 @@ class Cipher:
         associated_data: Optional[ReadableBuffer] = None,
     ) -> bytes:
         """Decrypts a ciphertext that has its tag after it. Raises `InvalidTag` if it is another's, or if there is none."""
-        sealed = memoryview(data).cast("B")
-        length = len(sealed) - self._tag_length
-        message = bytearray(sealed[: max(length, 0)])
-        self._open(nonce, sealed, message, associated_data)
-        return bytes(message)
+        sealed = bytearray(library.readable(data))
+        length = self._open(nonce, sealed, associated_data)
+        return bytes(memoryview(sealed)[:length])
 
     def decrypt_into(
         self,
@@ -97,13 +94,17 @@ class Cipher:
     ) -> int:
         """Decrypts a ciphertext into a buffer of the message's length, and returns that length.
 
-        If it raises `InvalidTag`, each byte of the buffer is 0xaa.
+        If it raises `InvalidTag`, each byte of the buffer is 0xaa, if the ciphertext has a tag at all.
         """
-        sealed = memoryview(data).cast("B")
+        sealed = bytearray(memoryview(data).cast("B"))
         length = max(len(sealed) - self._tag_length, 0)
         with library.writable(buf, length) as message:
-            message[:] = sealed[:length]
-            self._open(nonce, sealed, message, associated_data)
+            try:
+                self._open(nonce, sealed, associated_data)
+            except library.InvalidTag:
+                message[:] = memoryview(sealed)[:length]
+                raise
+            message[:] = memoryview(sealed)[:length]
         return length
 
     def encryptor(
@@ -145,52 +146,54 @@ class Cipher:
         return state
 
     def _seal(
-        self,
-        nonce: ReadableBuffer,
-        sealed: bytearray | memoryview,
-        length: int,
-        associated_data: Optional[ReadableBuffer],
+        self, nonce: ReadableBuffer, sealed: bytearray | memoryview, associated_data: Optional[ReadableBuffer]
     ) -> None:
-        data = library.associated(associated_data)
-        tag = bytearray(self._tag_length)
+        """Encrypts a message in place, and writes the tag, for which the buffer has room after it."""
+        data = b"" if associated_data is None else library.readable(associated_data)
+        size, length = self.NONCE_BYTES, len(sealed) - self._tag_length
+        first = library.first_byte(sealed)
+        place = ctypes.addressof(first)
         library.check(
             library.encrypt_in_place(
                 self._VARIANT,
-                library.pointer(sealed),
+                place,
                 length,
                 data,
                 len(data),
-                *self._nonce_and_key(nonce),
-                library.pointer(tag),
+                library.exactly("nonce", nonce, size),
+                size,
+                self._key,
+                size,
+                place + length,
                 self._tag_length,
             )
         )
-        sealed[length:] = tag
 
-    def _open(
-        self,
-        nonce: ReadableBuffer,
-        sealed: memoryview,
-        message: bytearray | memoryview,
-        associated_data: Optional[ReadableBuffer],
-    ) -> None:
-        data = library.associated(associated_data)
-        arguments = self._nonce_and_key(nonce)
-        if len(sealed) < self._tag_length:
+    def _open(self, nonce: ReadableBuffer, sealed: bytearray, associated_data: Optional[ReadableBuffer]) -> int:
+        """Decrypts a ciphertext in place, if the tag after it is right. Returns the length of the message."""
+        data = b"" if associated_data is None else library.readable(associated_data)
+        size, length = self.NONCE_BYTES, len(sealed) - self._tag_length
+        found = library.exactly("nonce", nonce, size)
+        if length < 0:
             raise library.InvalidTag
-        tag = bytes(sealed[len(message) :])
+        first = library.first_byte(sealed)
+        place = ctypes.addressof(first)
         library.check(
             library.decrypt_in_place(
                 self._VARIANT,
-                library.pointer(message),
-                len(message),
+                place,
+                length,
                 data,
                 len(data),
-                *arguments,
-                tag,
+                found,
+                size,
+                self._key,
+                size,
+                place + length,
                 self._tag_length,
             )
         )
+        return length
 
 
 class Aegis128L(Cipher):

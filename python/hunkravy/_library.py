@@ -71,10 +71,8 @@ def level() -> int:
 
 def check(code: int) -> None:
     """Raises the error of a code. Lengths are checked before a call, so only a tag can be wrong."""
-    if code == INVALID_TAG:
-        raise InvalidTag
     if code != OK:
-        raise RuntimeError(f"the library returned {code}")
+        raise InvalidTag if code == INVALID_TAG else RuntimeError(f"the library returned {code}")
 
 
 def readable(data: ReadableBuffer) -> bytes:
@@ -112,6 +110,10 @@ def writable(buffer: WriteableBuffer, length: int) -> memoryview:
     return view
 
 
+# The first byte of a writable buffer, which has one. While it lives, the buffer cannot be resized.
+first_byte = ctypes.c_char.from_buffer
+
+
 def pointer(buffer: Any) -> Any:
-    """A pointer to the first byte of a writable buffer. It keeps the buffer from being resized while it lives."""
-    return ctypes.byref(ctypes.c_char.from_buffer(buffer)) if len(buffer) else b""
+    """A pointer to the first byte of a writable buffer, or to an address where nothing is read or written if it is empty."""
+    return ctypes.byref(first_byte(buffer)) if len(buffer) else b""
