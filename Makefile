@@ -360,18 +360,18 @@ bench: $(OUT)/$(BENCH_CPU)/driver bench-peers bench-states bench-tool
 	mkdir -p $(BENCH_FOLDER)
 	$< $(BENCH_FOLDER)
 	cd crates/bench_calls && rt run -- bench > ../../$(OUT)/speeds
-	(cat bench/calls.md; grep '^| aegis' $(OUT)/speeds) > bench/CALLS.md
-	(cat bench/records.md; grep '^| 16 MiB' $(OUT)/speeds) > bench/RECORDS.md
+	(cat bench/calls.md.in; grep '^| aegis' $(OUT)/speeds) > bench/CALLS.md
+	(cat bench/records.md.in; grep '^| 16 MiB' $(OUT)/speeds) > bench/RECORDS.md
 
 bench-states: $(OUT)/$(BENCH_CPU)/libhunkravy.a
 	mkdir -p $(BENCH_FOLDER)
 	$(CC) -std=c11 -O2 $(C_FLAGS) bench/states.c $< -o $(OUT)/$(BENCH_CPU)/states
 	($(OUT)/$(BENCH_CPU)/states > $(OUT)/$(BENCH_CPU)/states.md) && \
-		cat bench/states.md $(OUT)/$(BENCH_CPU)/states.md > $(BENCH_FOLDER)/STATES.md
+		cat bench/states.md.in $(OUT)/$(BENCH_CPU)/states.md > $(BENCH_FOLDER)/STATES.md
 
 # Measures the file tool, at each level that this machine has.
 bench-tool: $(RUNNABLE:%=$(OUT)/%/pieces) $(RUNNABLE:%=$(OUT)/%/hunkravy)
-	(cat bench/tool.md; for level in $(RUNNABLE); do \
+	(cat bench/tool.md.in; for level in $(RUNNABLE); do \
 		bench/tool.sh $$level $(OUT)/$$level/hunkravy $(OUT)/$$level/pieces || exit 1; \
 	done) > $(OUT)/tool.md
 	cp $(OUT)/tool.md bench/TOOL.md
@@ -383,7 +383,7 @@ bench-peers: $(OUT)/$(BENCH_CPU)/libhunkravy.a
 	if pkg-config --exists libsodium; then \
 		$(CC) -std=c11 -O2 $(C_FLAGS) bench/peers.c $< $$(pkg-config --cflags --libs libsodium) -o $(OUT)/$(BENCH_CPU)/peers && \
 		$(OUT)/$(BENCH_CPU)/peers > $(OUT)/$(BENCH_CPU)/peers.md && \
-		cat bench/peers.md $(OUT)/$(BENCH_CPU)/peers.md > $(BENCH_FOLDER)/PEERS.md && \
+		cat bench/peers.md.in $(OUT)/$(BENCH_CPU)/peers.md > $(BENCH_FOLDER)/PEERS.md && \
 		$(RUSTC) bench/peers_picture.rs -o $(OUT)/peers-picture && \
 		$(OUT)/peers-picture $(BENCH_CPU) < $(BENCH_FOLDER)/PEERS.md > $(BENCH_FOLDER)/peers.svg; \
 	else \
