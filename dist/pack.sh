@@ -17,15 +17,12 @@ install_to() {
     "${MAKE:-make}" --no-print-directory -s "$@" DESTDIR="$PWD/$folder" OUT="$out" > /dev/null
 }
 
-# What was proved, by what, and when it passed.
+# What was proved, by what.
 proved() {
     cat dist/PROVED.md
     echo
     echo "- Commit: ${COMMIT:-$(git rev-parse HEAD)}"
-    echo "- Proved by: $(rt version 2> /dev/null || cat "$out/kit")"
-    if [ -f "$out/gate" ]; then
-        echo "- The last line of the gate: $(cat "$out/gate")"
-    fi
+    echo "- Proved by: $(rt version)"
 }
 
 # Gives all files of a folder the time of the commit.
@@ -104,7 +101,6 @@ if command -v dpkg-deb > /dev/null; then
     mv "$work/libhunkravy-dev/$library"/libhunkravy.so.0 "$work/libhunkravy0/$library"
     package libhunkravy0 'libc6 (>= 2.17)' 'the AEGIS ciphers and their MACs, proved' \
         'The shared library. It uses no AES instructions and no look-up tables.' libs
-    echo "libhunkravy 0 libhunkravy0" > "$work/shlibs"
     package libhunkravy-dev "libhunkravy0 (= $version)" 'the AEGIS ciphers and their MACs, for development' \
         'Headers, the static library, and examples.' libdevel
 fi

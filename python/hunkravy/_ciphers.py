@@ -4,25 +4,22 @@ from __future__ import annotations
 
 import ctypes
 import os
-from typing import TYPE_CHECKING, ClassVar, Optional
+from typing import TYPE_CHECKING, Any, Optional
 
 from . import _library as library
+from . import _variants as variants
 from ._states import Decryptor, Encryptor
 
 if TYPE_CHECKING:
     from _typeshed import ReadableBuffer, WriteableBuffer
 
 
-class Cipher:
+class Cipher(variants.Variant):
     """A cipher with a key. `tag_length` is the number of bytes of its tags, 16 or 32.
 
     Data, associated data and nonces may be any buffers of bytes: bytes, bytearray, memoryview, mmap, array and the like. A key,
     a nonce or a tag of a wrong length, or an output buffer of a wrong length, is a `ValueError`.
     """
-
-    KEY_BYTES: ClassVar[int]
-    NONCE_BYTES: ClassVar[int]
-    _VARIANT: ClassVar[int]
 
     __slots__ = ("_key", "_tag_length")
 
@@ -56,7 +53,7 @@ class Cipher:
     ) -> bytes:
         """Encrypts a message. Returns the ciphertext, with its tag after it."""
         sealed = bytearray(library.readable(data) + bytes(self._tag_length))
-        self._seal(nonce, sealed, associated_data)
+        self._in_place(library.encrypt_in_place, nonce, sealed, associated_data)
         return bytes(sealed)
 
     def encrypt_into(
@@ -71,7 +68,7 @@ class Cipher:
         length = len(message) + self._tag_length
         with library.writable(buf, length) as sealed:
             sealed[: len(message)] = message
-            self._seal(nonce, sealed, associated_data)
+            self._in_place(library.encrypt_in_place, nonce, sealed, associated_data)
         return length
 
     def decrypt(
@@ -82,7 +79,7 @@ class Cipher:
     ) -> bytes:
         """Decrypts a ciphertext that has its tag after it. Raises `InvalidTag` if it is another's, or if there is none."""
         sealed = bytearray(library.readable(data))
-        length = self._open(nonce, sealed, associated_data)
+        length = self._in_place(library.decrypt_in_place, nonce, sealed, associated_data)
         return bytes(memoryview(sealed)[:length])
 
     def decrypt_into(
@@ -100,7 +97,7 @@ class Cipher:
         length = max(len(sealed) - self._tag_length, 0)
         with library.writable(buf, length) as message:
             try:
-                self._open(nonce, sealed, associated_data)
+                self._in_place(library.decrypt_in_place, nonce, sealed, associated_data)
             except library.InvalidTag:
                 message[:] = memoryview(sealed)[:length]
                 raise
@@ -145,58 +142,26 @@ class Cipher:
         )
         return state
 
-    def _seal(
-        self, nonce: ReadableBuffer, sealed: bytearray | memoryview, associated_data: Optional[ReadableBuffer]
-    ) -> None:
-        """Encrypts a message in place, and writes the tag, for which the buffer has room after it."""
-        data = b"" if associated_data is None else library.readable(associated_data)
-        size, length = self.NONCE_BYTES, len(sealed) - self._tag_length
-        first = library.first_byte(sealed)
-        place = ctypes.addressof(first)
-        library.check(
-            library.encrypt_in_place(
-                self._VARIANT,
-                place,
-                length,
-                data,
-                len(data),
-                library.exactly("nonce", nonce, size),
-                size,
-                self._key,
-                size,
-                place + length,
-                self._tag_length,
-            )
-        )
-
-    def _open(self, nonce: ReadableBuffer, sealed: bytearray, associated_data: Optional[ReadableBuffer]) -> int:
-        """Decrypts a ciphertext in place, if the tag after it is right. Returns the length of the message."""
-        data = b"" if associated_data is None else library.readable(associated_data)
-        size, length = self.NONCE_BYTES, len(sealed) - self._tag_length
-        found = library.exactly("nonce", nonce, size)
+    def _in_place(
+        self,
+        call: Any,
+        nonce: ReadableBuffer,
+        sealed: bytearray | memoryview,
+        associated_data: Optional[ReadableBuffer],
+    ) -> int:
+        """Encrypts or decrypts in place the bytes of a buffer in front of their tag. Returns how many there are."""
+        data = library.associated(associated_data)
+        arguments = data, len(data), *self._nonce_and_key(nonce)
+        length = len(sealed) - self._tag_length
         if length < 0:
             raise library.InvalidTag
         first = library.first_byte(sealed)
         place = ctypes.addressof(first)
-        library.check(
-            library.decrypt_in_place(
-                self._VARIANT,
-                place,
-                length,
-                data,
-                len(data),
-                found,
-                size,
-                self._key,
-                size,
-                place + length,
-                self._tag_length,
-            )
-        )
+        library.check(call(self._VARIANT, place, length, *arguments, place + length, self._tag_length))
         return length
 
 
-class Aegis128L(Cipher):
+class Aegis128L(variants.Aegis128L, Cipher):
     """AEGIS-128L: keys and nonces of 16 bytes.
 
     A published test vector:
@@ -208,45 +173,33 @@ class Aegis128L(Cipher):
     """
 
     __slots__ = ()
-    KEY_BYTES = NONCE_BYTES = 16
-    _VARIANT = 0
 
 
-class Aegis128X2(Cipher):
+class Aegis128X2(variants.Aegis128X2, Cipher):
     """AEGIS-128X2: two lanes of AEGIS-128L."""
 
     __slots__ = ()
-    KEY_BYTES = NONCE_BYTES = 16
-    _VARIANT = 1
 
 
-class Aegis128X4(Cipher):
+class Aegis128X4(variants.Aegis128X4, Cipher):
     """AEGIS-128X4: four lanes of AEGIS-128L."""
 
     __slots__ = ()
-    KEY_BYTES = NONCE_BYTES = 16
-    _VARIANT = 2
 
 
-class Aegis256(Cipher):
+class Aegis256(variants.Aegis256, Cipher):
     """AEGIS-256: keys and nonces of 32 bytes."""
 
     __slots__ = ()
-    KEY_BYTES = NONCE_BYTES = 32
-    _VARIANT = 3
 
 
-class Aegis256X2(Cipher):
+class Aegis256X2(variants.Aegis256X2, Cipher):
     """AEGIS-256X2: two lanes of AEGIS-256."""
 
     __slots__ = ()
-    KEY_BYTES = NONCE_BYTES = 32
-    _VARIANT = 4
 
 
-class Aegis256X4(Cipher):
+class Aegis256X4(variants.Aegis256X4, Cipher):
     """AEGIS-256X4: four lanes of AEGIS-256."""
 
     __slots__ = ()
-    KEY_BYTES = NONCE_BYTES = 32
-    _VARIANT = 5

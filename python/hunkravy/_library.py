@@ -14,9 +14,6 @@ class InvalidTag(Exception):
     """The tag is not that of the message, or the MAC is not that of the input."""
 
 
-# The most bytes of a message, of associated data, and of the input of a MAC.
-MAX_BYTES = (1 << 61) - 1
-
 # What the exports return if nothing is wrong, and if a tag or a MAC is.
 OK = 0
 INVALID_TAG = -1
@@ -46,7 +43,6 @@ def _export(name: str, *parameters: Any) -> Any:
 encrypt_in_place = _export("encrypt_in_place", ctypes.c_uint32, *_part * 5)
 decrypt_in_place = _export("decrypt_in_place", ctypes.c_uint32, *_part * 5)
 stream = _export("stream", ctypes.c_uint32, *_part * 3)
-stream_xor_in_place = _export("stream_xor_in_place", ctypes.c_uint32, *_part * 3)
 state_init = _export("state_init", ctypes.c_uint32, ctypes.c_void_p, *_part * 3)
 state_encrypt = _export("state_encrypt_in_place", ctypes.c_void_p, *_part)
 state_encrypt_final = _export("state_encrypt_final", ctypes.c_void_p, *_part)

@@ -4,15 +4,16 @@ from __future__ import annotations
 
 import ctypes
 import threading
-from typing import TYPE_CHECKING, ClassVar, Optional
+from typing import TYPE_CHECKING, Optional
 
 from . import _library as library
+from . import _variants as variants
 
 if TYPE_CHECKING:
     from _typeshed import ReadableBuffer
 
 
-class Mac:
+class Mac(variants.Variant):
     """The MAC of an input that comes in chunks. The key must be used for nothing but MACs.
 
     `tag_length` is the number of bytes of the MAC, 16 or 32. The nonce is one of zeros if none is given.
@@ -23,11 +24,6 @@ class Mac:
     >>> mac.update(b"input")
     >>> mac.verify(Aegis128LMac(bytes(16), b"the input").digest())
     """
-
-    KEY_BYTES: ClassVar[int]
-    NONCE_BYTES: ClassVar[int]
-    name: ClassVar[str]
-    _VARIANT: ClassVar[int]
 
     __slots__ = ("_lock", "_state", "digest_size")
 
@@ -91,55 +87,37 @@ class Mac:
         return other
 
 
-class Aegis128LMac(Mac):
+class Aegis128LMac(variants.Aegis128L, Mac):
     """The MAC of AEGIS-128L: keys and nonces of 16 bytes."""
 
     __slots__ = ()
-    KEY_BYTES = NONCE_BYTES = 16
-    name = "aegis-128l"
-    _VARIANT = 0
 
 
-class Aegis128X2Mac(Mac):
+class Aegis128X2Mac(variants.Aegis128X2, Mac):
     """The MAC of AEGIS-128X2: keys and nonces of 16 bytes."""
 
     __slots__ = ()
-    KEY_BYTES = NONCE_BYTES = 16
-    name = "aegis-128x2"
-    _VARIANT = 1
 
 
-class Aegis128X4Mac(Mac):
+class Aegis128X4Mac(variants.Aegis128X4, Mac):
     """The MAC of AEGIS-128X4: keys and nonces of 16 bytes."""
 
     __slots__ = ()
-    KEY_BYTES = NONCE_BYTES = 16
-    name = "aegis-128x4"
-    _VARIANT = 2
 
 
-class Aegis256Mac(Mac):
+class Aegis256Mac(variants.Aegis256, Mac):
     """The MAC of AEGIS-256: keys and nonces of 32 bytes."""
 
     __slots__ = ()
-    KEY_BYTES = NONCE_BYTES = 32
-    name = "aegis-256"
-    _VARIANT = 3
 
 
-class Aegis256X2Mac(Mac):
+class Aegis256X2Mac(variants.Aegis256X2, Mac):
     """The MAC of AEGIS-256X2: keys and nonces of 32 bytes."""
 
     __slots__ = ()
-    KEY_BYTES = NONCE_BYTES = 32
-    name = "aegis-256x2"
-    _VARIANT = 4
 
 
-class Aegis256X4Mac(Mac):
+class Aegis256X4Mac(variants.Aegis256X4, Mac):
     """The MAC of AEGIS-256X4: keys and nonces of 32 bytes."""
 
     __slots__ = ()
-    KEY_BYTES = NONCE_BYTES = 32
-    name = "aegis-256x4"
-    _VARIANT = 5
