@@ -73,21 +73,21 @@ test:
 
 # Tries the edits that the gate leaves out: the prover has to refuse each.
 check-edits:
-	edits/check.sh
+	tools/check_edits.sh
 
 # Each Rust sample of the pages is a part of a proved crate, no line of a contract or a page and no decision is too long, each
 # definition that a public contract reaches is listed, and each edit that the gate leaves out can be applied.
 check-pages:
-	sh docs/check_samples.sh README.md docs/CALLING.md
-	python3 docs/check_clauses.py
-	python3 docs/check_definitions.py
-	python3 edits/check_texts.py
+	sh tools/check_samples.sh README.md docs/CALLING.md
+	python3 tools/check_clauses.py
+	python3 tools/check_definitions.py
+	python3 tools/check_edit_texts.py
 
 # ---- The C library, for Linux. What follows builds with stock gcc and rustc, and proves nothing but that library.
 
 C_LIBRARY = crates/aegis_c/out/libaegis_c.a
 CC = gcc
-C_FLAGS = -Wall -Wextra -Wpedantic -Werror -Iinclude
+C_FLAGS = -Wall -Wextra -Wpedantic -Werror -Ic/include
 SANITIZERS = -O1 -g -fsanitize=address,undefined -fno-sanitize-recover
 RUSTC = rustc -O --edition 2024
 PREFIX = /usr/local
@@ -110,29 +110,29 @@ FOLDER_$(ARM) = aarch64
 FOLDER = $(or $(FOLDER_$(TARGET)),$(error TARGET is x86_64-unknown-linux-gnu or $(ARM)))
 LIBRARY = $(OUT)/$(FOLDER)/libhunkravy.a
 
-STORED_LINES = crates/check_lines/data
+STORED_LINES = crates/test_agreement/data
 HEADERS = hunkravy.h aegis_compat.h sodium_compat.h
 C_EXAMPLES = seal chunks libaegis libaegis_chunks libsodium
 
 # The names that the library exports, as the header declares them.
-EXPORTS = sed -nE 's/^(HUNKRAVY_MUST_USE )?(int|size_t) (hunkravy_[a-z0-9_]*).*/\3/p' include/hunkravy.h
+EXPORTS = sed -nE 's/^(HUNKRAVY_MUST_USE )?(int|size_t) (hunkravy_[a-z0-9_]*).*/\3/p' c/include/hunkravy.h
 
 C_SOURCES = $(call sources,aegis_aes aegis_base aegis_128 aegis_256 aegis_engine aegis_c_calls aegis_c)
 
 c-library: $(LIBRARY)
 
-$(OUT)/both/libhunkravy.a: $(LEVELS:%=$(OUT)/%/aegis_c.a) levels/join.sh levels/choose.c
+$(OUT)/both/libhunkravy.a: $(LEVELS:%=$(OUT)/%/aegis_c.a) c/levels/join.sh c/levels/choose.c
 	mkdir -p $(@D)
-	levels/join.sh $@ $(LEVELS:%=$(OUT)/%/aegis_c.a)
+	c/levels/join.sh $@ $(LEVELS:%=$(OUT)/%/aegis_c.a)
 
-$(OUT)/%/libhunkravy.a: $(OUT)/%/aegis_c.a levels/join.sh levels/choose.c
+$(OUT)/%/libhunkravy.a: $(OUT)/%/aegis_c.a c/levels/join.sh c/levels/choose.c
 	LEVEL=$(patsubst x86-64-v%,%,$(filter x86-64-v%,$*)) CC=$(TOOLS_$*)gcc AR=$(TOOLS_$*)ar \
-		OBJCOPY=$(TOOLS_$*)objcopy levels/join.sh $@ $<
+		OBJCOPY=$(TOOLS_$*)objcopy c/levels/join.sh $@ $<
 
 # The shared library, which exports the calls alone.
 SONAME = libhunkravy.so.0
 
-$(OUT)/%/$(SONAME): $(OUT)/%/libhunkravy.a include/hunkravy.h
+$(OUT)/%/$(SONAME): $(OUT)/%/libhunkravy.a c/include/hunkravy.h
 	(echo '{ global:'; $(EXPORTS) | sed 's/$$/;/'; echo 'local: *; };') > $(@D)/exports.map
 	$(TOOLS_$*)$(CC) -shared -s -Wl,-soname,$(SONAME),--version-script=$(@D)/exports.map,-z,defs,-z,relro,-z,now \
 		-Wl,--whole-archive $< -Wl,--no-whole-archive -o $@
@@ -182,11 +182,11 @@ check-c-%: $(OUT)/%/libhunkravy.a
 	for program in $(C_PROGRAMS); do for flags in -O2 '$(SANITIZERS)'; do \
 		source=$${program%_written}; \
 		if [ $$source != $$program ]; then flags="$$flags -DHUNKRAVY_COMPAT_WRITTEN"; fi; \
-		$(TOOLS_$*)$(CC) -std=c99 $(C_FLAGS) $$flags examples/c/$$source.c $< -o $(OUT)/$*/$$program && \
+		$(TOOLS_$*)$(CC) -std=c99 $(C_FLAGS) $$flags c/*/$$source.c $< -o $(OUT)/$*/$$program && \
 		$(RUN_$*) $(OUT)/$*/$$program $(STORED_LINES) || exit 1; \
 	done; done
 	for compiler in $(TOOLS_$*)$(CC) $(if $(TOOLS_$*),,$(CLANG)); do for flags in -O3 '-O3 -DOTHER_COMPILER'; do \
-		$$compiler -std=c99 $(C_FLAGS) $$flags examples/c/check_wipe.c $< -o $(OUT)/$*/check_wipe && \
+		$$compiler -std=c99 $(C_FLAGS) $$flags c/tests/check_wipe.c $< -o $(OUT)/$*/check_wipe && \
 		$(RUN_$*) $(OUT)/$*/check_wipe || exit 1; \
 	done; done
 
@@ -194,14 +194,14 @@ check-c-%: $(OUT)/%/libhunkravy.a
 check-shared: $(OUT)/both/$(SONAME)
 	diff <($(EXPORTS) | sort) <(nm -D --defined-only $< | awk '{ print $$3 }' | sort)
 	for program in $(C_TESTS); do \
-		$(CC) -std=c99 $(C_FLAGS) -O2 examples/c/$$program.c $< -Wl,-rpath,$(abspath $(<D)) -o $(<D)/$$program-shared && \
+		$(CC) -std=c99 $(C_FLAGS) -O2 c/tests/$$program.c $< -Wl,-rpath,$(abspath $(<D)) -o $(<D)/$$program-shared && \
 		$(<D)/$$program-shared $(STORED_LINES) || exit 1; \
 	done
 
 # The tests as C++, which call what the headers have.
 check-c++: $(OUT)/both/libhunkravy.a
 	for program in $(C_TESTS); do \
-		$(CC) -std=c++11 $(C_FLAGS) $(SANITIZERS) -x c++ examples/c/$$program.c -x none $< -o $(OUT)/both/$$program++ && \
+		$(CC) -std=c++11 $(C_FLAGS) $(SANITIZERS) -x c++ c/tests/$$program.c -x none $< -o $(OUT)/both/$$program++ && \
 		$(OUT)/both/$$program++ $(STORED_LINES) || exit 1; \
 	done
 
@@ -210,8 +210,8 @@ check-time: $(addprefix check-time-,$(RUNNABLE))
 
 check-time-%: $(OUT)/%/libhunkravy.a
 	if command -v valgrind > /dev/null; then \
-		$(CC) -std=c99 $(C_FLAGS) -O2 examples/c/check_time.c $< -o $(OUT)/$*/check_time && \
-		examples/c/check_time.sh $(OUT)/$*/check_time; \
+		$(CC) -std=c99 $(C_FLAGS) -O2 c/tests/check_time.c $< -o $(OUT)/$*/check_time && \
+		tools/check_time.sh $(OUT)/$*/check_time; \
 	else \
 		echo 'valgrind is not installed, so nothing looks for jumps and addresses that depend on secrets'; \
 	fi
@@ -219,7 +219,7 @@ check-time-%: $(OUT)/%/libhunkravy.a
 # Runs the test of libsodium's calls with libsodium itself, if its release has AEGIS, to see that both behave the same.
 check-sodium: $(OUT)/both/libhunkravy.a
 	if pkg-config --exists 'libsodium >= 1.0.19'; then \
-		$(CC) -std=c99 $(C_FLAGS) -DWITH_LIBSODIUM examples/c/check_libsodium.c $< \
+		$(CC) -std=c99 $(C_FLAGS) -DWITH_LIBSODIUM c/tests/check_libsodium.c $< \
 			$$(pkg-config --cflags --libs libsodium) -o $(OUT)/check-sodium && \
 		$(OUT)/check-sodium $(STORED_LINES); \
 	else \
@@ -234,12 +234,12 @@ SHARED = $(OUT)/$(FOLDER)/$(SONAME)
 
 install: $(LIBRARY) $(SHARED)
 	install -d $(addprefix $(DESTDIR),$(PREFIX)/include $(LIBRARIES)/pkgconfig $(EXAMPLES_FOLDER))
-	install -m 644 $(HEADERS:%=include/%) $(DESTDIR)$(PREFIX)/include
+	install -m 644 $(HEADERS:%=c/include/%) $(DESTDIR)$(PREFIX)/include
 	install -m 644 $(LIBRARY) $(SHARED) $(DESTDIR)$(LIBRARIES)
 	ln -sf $(SONAME) $(DESTDIR)$(LIBRARIES)/libhunkravy.so
-	install -m 644 $(C_EXAMPLES:%=examples/c/%.c) $(DESTDIR)$(EXAMPLES_FOLDER)
+	install -m 644 $(C_EXAMPLES:%=c/examples/%.c) $(DESTDIR)$(EXAMPLES_FOLDER)
 	include=$$(realpath -m --relative-to=$(DESTDIR)$(LIBRARIES)/pkgconfig $(DESTDIR)$(PREFIX)/include) && \
-		sed -e "s|@INCLUDE@|$$include|" -e 's|@VERSION@|$(VERSION)|' include/hunkravy.pc.in \
+		sed -e "s|@INCLUDE@|$$include|" -e 's|@VERSION@|$(VERSION)|' c/include/hunkravy.pc.in \
 		> $(DESTDIR)$(LIBRARIES)/pkgconfig/hunkravy.pc
 
 # Builds and runs the examples that are installed at PREFIX, by what pkg-config says of it: over the shared library, and over
@@ -268,7 +268,7 @@ check-rust-%: $(OUT)/%/libhunkravy.a $(OUT)/%/driver
 
 WHEEL = $(OUT)/hunkravy-$(VERSION)-py3-none-manylinux_2_17_x86_64.whl
 
-$(WHEEL): python/make_wheel.py python/README.md $(wildcard python/hunkravy/*) VERSION $(OUT)/both/$(SONAME)
+$(WHEEL): tools/make_wheel.py python/README.md $(wildcard python/hunkravy/*) VERSION $(OUT)/both/$(SONAME)
 	python3 $< $(VERSION) $(OUT)/both/$(SONAME) $(OUT)
 
 # The tests of the package as the wheel has it: the stored lines, buffers, refusals and threads, the samples of its pages, and
@@ -313,7 +313,7 @@ install-tool: $(TOOL_LEVELS:%=$(OUT)/%/hunkravy)
 		echo "hunkravy is built for $$level" || exit 1; \
 	done
 	if [ $(words $(TOOL_LEVELS)) = 2 ]; then \
-		rm $(DESTDIR)$(PREFIX)/bin/hunkravy && install -m 755 levels/start.sh $(DESTDIR)$(PREFIX)/bin/hunkravy; \
+		rm $(DESTDIR)$(PREFIX)/bin/hunkravy && install -m 755 dist/start.sh $(DESTDIR)$(PREFIX)/bin/hunkravy; \
 	fi
 	install -D -m 644 $(TOOL_PAGES)/man $(DESTDIR)$(PREFIX)/share/man/man1/hunkravy.1
 	install -D -m 644 $(TOOL_PAGES)/bash $(DESTDIR)$(PREFIX)/share/bash-completion/completions/hunkravy
@@ -322,7 +322,7 @@ install-tool: $(TOOL_LEVELS:%=$(OUT)/%/hunkravy)
 
 # The tests of the program that need files, pipes and kills: some minutes, and 100 MB of disk.
 check-tool: $(OUT)/$(lastword $(TOOL_LEVELS))/hunkravy
-	crates/hunkravy/check.sh $< $(VERSION)
+	tools/check_tool.sh $< $(VERSION)
 
 # Writes the manual page and the completions, which check-tool compares with what the program prints.
 tool-pages: $(OUT)/$(lastword $(TOOL_LEVELS))/hunkravy
@@ -335,12 +335,12 @@ HAS_ARM = $(shell command -v aarch64-linux-gnu-gcc)
 
 dist: $(OUT)/both/libhunkravy.a $(OUT)/both/$(SONAME) $(LEVELS:%=$(OUT)/%/hunkravy) $(WHEEL) \
 		$(if $(HAS_ARM),$(OUT)/aarch64/libhunkravy.a $(OUT)/aarch64/$(SONAME))
-	dist/pack.sh $(VERSION) $(OUT)
+	tools/pack.sh $(VERSION) $(OUT)
 
 # Packs the same builds once more, in a copy of the repository in another folder, which has to give the same bytes; and uses what
 # was unpacked in an empty folder, with no kit.
 check-dist: dist
-	dist/check.sh $(VERSION) $(OUT)
+	tools/check_dist.sh $(VERSION) $(OUT)
 
 # ---- Speed
 
@@ -372,7 +372,7 @@ bench-states: $(OUT)/$(BENCH_CPU)/libhunkravy.a
 # Measures the file tool, at each level that this machine has.
 bench-tool: $(RUNNABLE:%=$(OUT)/%/pieces) $(RUNNABLE:%=$(OUT)/%/hunkravy)
 	(cat bench/tool.md.in; for level in $(RUNNABLE); do \
-		bench/tool.sh $$level $(OUT)/$$level/hunkravy $(OUT)/$$level/pieces || exit 1; \
+		tools/measure_tool.sh $$level $(OUT)/$$level/hunkravy $(OUT)/$$level/pieces || exit 1; \
 	done) > $(OUT)/tool.md
 	cp $(OUT)/tool.md bench/TOOL.md
 

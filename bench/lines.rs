@@ -1,4 +1,4 @@
-//! The stored lines of `crates/check_lines/data`, each through the call of the C interface that it asks for. The answers
+//! The stored lines of `crates/test_agreement/data`, each through the call of the C interface that it asks for. The answers
 //! are the published ones, or were computed by an independent program.
 
 use crate::hunkravy::{ERASED, Refusal, VARIANTS, Variant};
@@ -7,8 +7,8 @@ use crate::sample::hexadecimal;
 macro_rules! files {
     ($($name:literal),*) => {
         [$((
-            include_str!(concat!("../crates/check_lines/data/", $name, ".in")),
-            include_str!(concat!("../crates/check_lines/data/", $name, ".out")),
+            include_str!(concat!("../crates/test_agreement/data/", $name, ".in")),
+            include_str!(concat!("../crates/test_agreement/data/", $name, ".out")),
         )),*]
     };
 }

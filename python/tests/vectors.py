@@ -13,7 +13,7 @@ CIPHERS = {
     "aegis256x2": (hunkravy.Aegis256X2, hunkravy.Aegis256X2Mac),
     "aegis256x4": (hunkravy.Aegis256X4, hunkravy.Aegis256X4Mac),
 }
-FOLDER = pathlib.Path(__file__).parents[2] / "crates" / "check_lines" / "data"
+FOLDER = pathlib.Path(__file__).parents[2] / "crates" / "test_agreement" / "data"
 
 
 class Line(NamedTuple):

@@ -1,4 +1,4 @@
-//! The stored lines of the repository's `vectors/`, each through every call of the crate that gives its answer.
+//! The stored lines of `crates/test_agreement/data`, each through every call of the crate that gives its answer.
 
 use hunkravy::{Cipher, ERASED, Error, Mac, Variant};
 use hunkravy::{aegis128l, aegis128x2, aegis128x4, aegis256, aegis256x2, aegis256x4};
@@ -252,7 +252,7 @@ fn line_answer(line: &str) -> String {
 
 /// Checks that the lines of a file have their answers, and that there are so many of them.
 fn check(name: &str, count: usize) {
-    let folder = Path::new(env!("CARGO_MANIFEST_DIR")).join("../vectors");
+    let folder = Path::new(env!("CARGO_MANIFEST_DIR")).join("../crates/test_agreement/data");
     let read = |ending: &str| {
         let path = folder.join(format!("{name}.{ending}"));
         fs::read_to_string(&path).unwrap_or_else(|error| panic!("{}: {error}", path.display()))

@@ -1,4 +1,4 @@
-//! The AEGIS ciphers for C, as `include/hunkravy.h` declares them.
+//! The AEGIS ciphers for C, as `c/include/hunkravy.h` declares them.
 //!
 //! An export is one call of `aegis_c_calls`, for the variant that its first parameter or its state names, and has the
 //! contract of that call. `by_variant` is the only place that matches the numbers with the types. `message` has the

@@ -4,7 +4,7 @@ ghost use Rattle.std.specs.Prelude.{◌<◌, ◌^◌, IfOk, length};
 
 use crate::answers::shown;
 use aegis_variants::{AnyCipher, Keys, TagLength};
-use reference_lanes::{SubstitutionTable, halves, slow_open, slow_seal};
+use test_reference::{SubstitutionTable, halves, slow_open, slow_seal};
 use std::alloc::{AllocError, Global};
 
 // No stream or context of a line has more bytes.

@@ -1,9 +1,9 @@
 #!/bin/sh
-# check_time.sh PROGRAM: runs check_time.c under valgrind's memcheck, which must report both controls, and otherwise nothing
-# but what check_time.supp names: at most one jump for each opening.
+# check_time.sh PROGRAM: runs c/tests/check_time.c under valgrind's memcheck, which must report both controls, and
+# otherwise nothing but what c/tests/check_time.supp names: at most one jump for each opening.
 set -eu
 program=$1
-suppressions=$(dirname "$0")/check_time.supp
+suppressions=c/tests/check_time.supp
 log=$(mktemp)
 trap 'rm -f "$log"' EXIT
 

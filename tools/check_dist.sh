@@ -1,5 +1,5 @@
 #!/bin/bash
-# check.sh VERSION OUT: whether what `make dist` wrote can be written again with the same bytes, and used with no kit.
+# check_dist.sh VERSION OUT: whether what `make dist` wrote can be written again with the same bytes, and used with no kit.
 set -euo pipefail
 version=$1 out=$2
 dist=$PWD/$out/dist
@@ -13,10 +13,10 @@ git ls-files -z | tar --null -T - -cf - | tar -C "$copy" -xf -
 (cd "$out" && find . -path ./dist -prune -o -type f -print0 | tar --null -T - -cf -) | (mkdir "$copy/$out" && tar -C "$copy/$out" -xf -)
 epoch=$(git log -1 --format=%ct)
 commit=$(git rev-parse HEAD)
-(cd "$copy" && touch -c "$out"/*/* && SOURCE_DATE_EPOCH=$epoch COMMIT=$commit dist/pack.sh "$version" "$out") | diff "$dist/SHA256SUMS" -
+(cd "$copy" && touch -c "$out"/*/* && SOURCE_DATE_EPOCH=$epoch COMMIT=$commit tools/pack.sh "$version" "$out") | diff "$dist/SHA256SUMS" -
 
 # Uses what is installed in a folder, with no kit and nothing of the repository in PATH.
-tests=$PWD/dist/use.sh
+tests=$PWD/tools/use_dist.sh
 programs=$(for program in cargo python3; do dirname "$(command -v "$program" || echo "/usr/bin/$program")"; done | paste -sd :)
 use() {
     (cd "$work/empty" && env -i HOME="$HOME" PATH="$programs:/usr/bin:/bin" "$tests" "$@")

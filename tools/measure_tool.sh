@@ -2,7 +2,7 @@
 # Measures the file tool beside sealing in memory, and beside other programs where they are installed. Prints the rows of
 # bench/TOOL.md for one level.
 #
-#   tool.sh LEVEL TOOL PIECES
+#   measure_tool.sh LEVEL TOOL PIECES
 set -euo pipefail
 
 level=$1 tool=$(realpath "$2") pieces=$(realpath "$3")

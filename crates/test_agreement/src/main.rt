@@ -1,9 +1,9 @@
 //! The library and the line program, checked against stored answers and a slow reference.
 //!
-//! The lines of `vectors/` are run first, and the answers are compared with the stored ones. Then the library is
-//! compared with the slow functions of `reference_lanes`, one lane at a time. Last, a generator with a fixed seed
+//! The lines of `data/` are run first, and the answers are compared with the stored ones. Then the library is
+//! compared with the slow functions of `test_reference`, one lane at a time. Last, a generator with a fixed seed
 //! changes good lines, and each answer of the library is compared with that of a second reader, with a grammar and
-//! record streams of its own, over the slow functions of `reference_lanes`. The exit status is 1 if an answer differs.
+//! record streams of its own, over the slow functions of `test_reference`. The exit status is 1 if an answer differs.
 #![tactic(auto)]
 
 ghost use Rattle.std.specs.Prelude.{◌<◌};
@@ -19,7 +19,7 @@ mod stored;
 use aegis_lines::answer_line;
 use answers::expected_answer;
 use mutations::{Generator, mutated_line};
-use reference_lanes::SubstitutionTable;
+use test_reference::SubstitutionTable;
 use std::io;
 use std::process::ExitCode;
 

@@ -1,5 +1,5 @@
 #!/bin/sh
-# Starts the build of hunkravy for the best level that the processor has, as levels/choose.c chooses one.
+# Starts the build of hunkravy for the best level that the processor has, as c/levels/choose.c chooses one.
 builds=$(dirname "$(readlink -f "$0")")/../lib/hunkravy
 level=x86-64-v3
 for feature in avx2 bmi2 fma; do

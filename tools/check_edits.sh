@@ -1,6 +1,6 @@
 #!/bin/sh
-# Tries the edits of this folder, or of the crates that are named: the prover has to refuse each. They are tried in a copy
-# of the crates, in which each crate has the edits of this folder in the place of the gate's.
+# Tries the edits of edits/, or of the crates that are named: the prover has to refuse each. They are tried in a copy
+# of the crates, in which each crate has the edits of that folder in the place of the gate's.
 set -eu
 
 copy=$(mktemp -d)

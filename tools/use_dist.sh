@@ -1,5 +1,5 @@
 #!/bin/bash
-# use.sh FOLDER [LIBRARIES]: uses what is installed in a folder: from C, Rust and Python, and the tool.
+# use_dist.sh FOLDER [LIBRARIES]: uses what is installed in a folder: from C, Rust and Python, and the tool.
 set -euo pipefail
 folder=$1 libraries=$1/${2:-lib}
 work=$(mktemp -d)

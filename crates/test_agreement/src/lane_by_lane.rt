@@ -1,4 +1,4 @@
-//! The library beside the slow functions of `reference_lanes`, one lane at a time: ciphertexts, tags and MACs.
+//! The library beside the slow functions of `test_reference`, one lane at a time: ciphertexts, tags and MACs.
 
 ghost use Rattle.std.specs.Prelude.{◌≤◌};
 
@@ -6,7 +6,7 @@ mod library;
 
 use aegis_variants::{AnyCipher, AnyVariant, Keys, TAG_LENGTHS, TagLength, VARIANTS};
 use library::{library_mac, library_seal};
-use reference_lanes::{SubstitutionTable, slow_mac, slow_seal};
+use test_reference::{SubstitutionTable, slow_mac, slow_seal};
 use std::{fmt, io};
 
 // The longest message or associated data: one byte more than two rate blocks of 128 bytes.

@@ -2,18 +2,18 @@
 # Tests hunkravy with files, links, pipes, terminals, full devices and kills, which no proof covers. `make check-tool` runs
 # it.
 #
-#   check.sh TOOL VERSION
+#   check_tool.sh TOOL VERSION
 set -euo pipefail
 
 tool=$(realpath "$1")
 version=$2
-here=$(realpath "$(dirname "$0")")
+pages=$(realpath crates/hunkravy/manual)
 folder=$(mktemp -d)
 trap 'rm -rf "$folder"' EXIT
 cd "$folder"
 
 fail() {
-    echo "check.sh: $*" >&2
+    echo "check_tool.sh: $*" >&2
     exit 1
 }
 
@@ -52,9 +52,9 @@ status 0 "$tool" -V
 status 0 "$tool" --help
 says 'Exit status'
 for form in man bash zsh fish; do
-    "$tool" manual "$form" | cmp - "$here/manual/$form"
+    "$tool" manual "$form" | cmp - "$pages/$form"
 done
-bash -n "$here/manual/bash"
+bash -n "$pages/bash"
 status 2 "$tool" manual nothing
 
 echo 'keys'

@@ -11,7 +11,7 @@ import sys
 import time
 import zipfile
 
-HERE = pathlib.Path(__file__).parent
+SOURCES = pathlib.Path("python")
 # The oldest system whose loader has what the library asks for.
 TAG = "py3-none-manylinux_2_17_x86_64"
 
@@ -28,7 +28,7 @@ Requires-Python: >=3.9
 Classifier: Operating System :: POSIX :: Linux
 Description-Content-Type: text/markdown
 
-{(HERE / "README.md").read_text()}"""
+{(SOURCES / "README.md").read_text()}"""
 
 
 def record_line(name: str, data: bytes) -> str:
@@ -40,13 +40,13 @@ def record_line(name: str, data: bytes) -> str:
 def contents(version: str, library: pathlib.Path) -> dict[str, bytes]:
     """The files of the wheel, by their names."""
     info = f"hunkravy-{version}.dist-info"
-    files = {f"hunkravy/{source.name}": source.read_bytes() for source in sorted((HERE / "hunkravy").glob("*.py*"))}
+    files = {f"hunkravy/{source.name}": source.read_bytes() for source in sorted((SOURCES / "hunkravy").glob("*.py*"))}
     files["hunkravy/py.typed"] = b""
     files["hunkravy/_version.py"] = f'"""The version of the package."""\n\nVERSION = "{version}"\n'.encode()
     files["hunkravy/libhunkravy.so.0"] = library.read_bytes()
     files[f"{info}/METADATA"] = metadata(version).encode()
     files[f"{info}/WHEEL"] = f"Wheel-Version: 1.0\nGenerator: make_wheel\nRoot-Is-Purelib: false\nTag: {TAG}\n".encode()
-    files[f"{info}/LICENSE"] = (HERE.parent / "LICENSE").read_bytes()
+    files[f"{info}/LICENSE"] = pathlib.Path("LICENSE").read_bytes()
     lines = [record_line(name, data) for name, data in files.items()]
     files[f"{info}/RECORD"] = "".join([*lines, f"{info}/RECORD,,\n"]).encode()
     return files

@@ -3,7 +3,7 @@
 ghost use Rattle.std.specs.Prelude.{◌<◌, ◌^◌, length};
 
 use aegis_variants::{AnyCipher, TagLength};
-use reference_lanes::{TwoBlocks, halves};
+use test_reference::{TwoBlocks, halves};
 use test_tools::calls::encrypt_in_place;
 
 /// Seals a message in place. A tag of 16 bytes has zeros after it.

@@ -1,4 +1,4 @@
-//! Answers to lines, by the slow functions of `reference_lanes`.
+//! Answers to lines, by the slow functions of `test_reference`.
 
 ghost use Rattle.std.specs.Prelude.{◌<◌, ◌^◌, IfOk, length};
 
@@ -6,7 +6,7 @@ use crate::faults::first_fault;
 use crate::fields::{Kind, bytes_of, count_of, pieces_of, tag_length_of, variant_of};
 use crate::records::RecordKeys;
 use aegis_variants::{AnyCipher, TagLength};
-use reference_lanes::{SubstitutionTable, TwoBlocks, slow_mac, slow_open, slow_seal};
+use test_reference::{SubstitutionTable, TwoBlocks, slow_mac, slow_open, slow_seal};
 use std::alloc::{AllocError, Global};
 
 // No line has more bytes.

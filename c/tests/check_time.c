@@ -2,7 +2,7 @@
  * Whether a jump or an address depends on a secret, for valgrind's memcheck. Each call of hunkravy.h
  * runs on keys, nonces, associated data and messages that are marked as undefined: memcheck reports
  * each conditional jump and each address that depends on such bytes. Lengths and returned codes are
- * public. check_time.sh runs it.
+ * public. tools/check_time.sh runs it.
  *
  * The last word of its output is the number of openings at once, which is that of openings on a
  * state too. With the parameter `jump` or `address` it only does what memcheck has to report.

@@ -1,4 +1,4 @@
-//! The lines of `vectors/` and their stored answers.
+//! The lines of `data/` and their stored answers.
 
 use std::{fs, io};
 
