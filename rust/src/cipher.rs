@@ -27,7 +27,7 @@ use core::fmt;
 /// ```
 pub struct Cipher<V: Variant, const TAG_BYTES: usize> {
     key: V::Key,
-    nonce: V::Key,
+    nonce: V::Nonce,
 }
 
 impl<V: Variant, const TAG_BYTES: usize> Cipher<V, TAG_BYTES> {
@@ -43,7 +43,7 @@ impl<V: Variant, const TAG_BYTES: usize> Cipher<V, TAG_BYTES> {
     /// ```compile_fail,E0080
     /// hunkravy::aegis256::Aegis256::<24>::new(&[1; 32], &[2; 32]);
     /// ```
-    pub fn new(key: &V::Key, nonce: &V::Key) -> Self {
+    pub fn new(key: &V::Key, nonce: &V::Nonce) -> Self {
         assert_tag_bytes::<TAG_BYTES>();
         Self {
             key: *key,

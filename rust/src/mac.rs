@@ -43,7 +43,7 @@ impl<V: Variant, const TAG_BYTES: usize> Mac<V, TAG_BYTES> {
     /// assert_eq!(mac.finalize(), with_nonce.finalize());
     /// ```
     pub fn new(key: &V::Key) -> Self {
-        Self::new_with_nonce(key, &V::Key::default())
+        Self::new_with_nonce(key, &V::Nonce::default())
     }
 
     /// Returns the MAC of no input so far under a key and a nonce. `TAG_BYTES` is 16 or 32: with another length the program
@@ -55,7 +55,7 @@ impl<V: Variant, const TAG_BYTES: usize> Mac<V, TAG_BYTES> {
     /// let tag = Aegis256X4Mac::<16>::new_with_nonce(&[1; 32], &[2; 32]).finalize();
     /// assert_ne!(tag, Aegis256X4Mac::new_with_nonce(&[1; 32], &[3; 32]).finalize());
     /// ```
-    pub fn new_with_nonce(key: &V::Key, nonce: &V::Key) -> Self {
+    pub fn new_with_nonce(key: &V::Key, nonce: &V::Nonce) -> Self {
         Self::of(Run::of_mac(key, nonce))
     }
 

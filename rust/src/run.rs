@@ -21,7 +21,7 @@ impl<V: Variant> Run<V> {
 
     /// Begins a MAC.
     #[track_caller]
-    pub fn of_mac(key: &V::Key, nonce: &V::Key) -> Self {
+    pub fn of_mac(key: &V::Key, nonce: &V::Nonce) -> Self {
         let mut run = Self::ended();
         done(V::EXPORTS.mac_init(&mut run.state, nonce.as_ref(), key.as_ref()));
         run
@@ -29,7 +29,7 @@ impl<V: Variant> Run<V> {
 
     /// Begins a message.
     #[track_caller]
-    pub fn new(key: &V::Key, nonce: &V::Key, ad: &[u8]) -> Self {
+    pub fn new(key: &V::Key, nonce: &V::Nonce, ad: &[u8]) -> Self {
         let mut run = Self::ended();
         done(V::EXPORTS.state_init(&mut run.state, ad, nonce.as_ref(), key.as_ref()));
         run

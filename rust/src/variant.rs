@@ -23,12 +23,19 @@ pub type Tag<const TAG_BYTES: usize> = [u8; TAG_BYTES];
 /// empty(Aegis256::new(&[1; 32], &[2; 32]));
 /// ```
 pub trait Variant: sealed::Sealed {
-    /// A key, and a nonce, which has the same length.
+    /// A key.
     ///
     /// ```
     /// let key: <hunkravy::aegis256::Marker as hunkravy::Variant>::Key = [0; 32];
     /// ```
     type Key: AsRef<[u8]> + AsMut<[u8]> + Copy + Default;
+
+    /// A nonce, which has the length of a key.
+    ///
+    /// ```
+    /// let nonce: <hunkravy::aegis256::Marker as hunkravy::Variant>::Nonce = [0; 32];
+    /// ```
+    type Nonce: AsRef<[u8]> + AsMut<[u8]> + Copy + Default;
 }
 
 pub(crate) mod sealed {
@@ -106,6 +113,7 @@ macro_rules! module {
 
             impl crate::Variant for Marker {
                 type Key = Key;
+                type Nonce = Nonce;
             }
 
             impl super::sealed::Sealed for Marker {

@@ -11,7 +11,7 @@ const LONGEST_RATE: usize = 128;
 const AD: &[u8] = b"associated data";
 
 fn cipher<V: Variant>() -> Cipher<V, 16> {
-    let (mut key, mut nonce) = (V::Key::default(), V::Key::default());
+    let (mut key, mut nonce) = (V::Key::default(), V::Nonce::default());
     key.as_mut().fill(3);
     nonce.as_mut().fill(4);
     Cipher::new(&key, &nonce)

@@ -36,11 +36,11 @@ fn field(bytes: &[u8]) -> String {
     bytes.iter().map(|byte| format!("{byte:02x}")).collect()
 }
 
-/// A key, or a nonce.
-fn key<V: Variant>(field: &str) -> V::Key {
-    let mut key = V::Key::default();
-    key.as_mut().copy_from_slice(&bytes(field));
-    key
+/// The key or the nonce of a field.
+fn array<T: Default + AsMut<[u8]>>(field: &str) -> T {
+    let mut array = T::default();
+    array.as_mut().copy_from_slice(&bytes(field));
+    array
 }
 
 /// A message as its own pieces, and cut into pieces of other lengths.
@@ -69,7 +69,7 @@ impl<'a> Keys<'a> {
     }
 
     fn cipher<V: Variant, const TAG_BYTES: usize>(&self) -> Cipher<V, TAG_BYTES> {
-        Cipher::new(&key::<V>(self.key), &key::<V>(self.nonce))
+        Cipher::new(&array(self.key), &array(self.nonce))
     }
 }
 
@@ -181,7 +181,8 @@ fn xor<V: Variant, const TAG_BYTES: usize>(keys: &Keys, message: &str) -> String
 }
 
 fn mac<V: Variant, const TAG_BYTES: usize>(keys: &Keys, input: &str) -> String {
-    let (key, nonce) = (key::<V>(keys.key), key::<V>(keys.nonce));
+    let key: V::Key = array(keys.key);
+    let nonce: V::Nonce = array(keys.nonce);
     let empty = Mac::<V, TAG_BYTES>::new_with_nonce(&key, &nonce);
     let tag = empty.clone().finalize_chunks(&slices(&pieces(input)));
     for chunks in cuts(input) {
