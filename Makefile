@@ -283,7 +283,7 @@ check-python: $(WHEEL)
 		done && \
 		sed -n '/^```python/,/^```$$/{/^```/!p}' ../../README.md ../README.md | python3 -
 	if command -v mypy > /dev/null; then \
-		cd python && MYPYPATH=$(abspath $(OUT)/python) mypy --strict --cache-dir=/dev/null -p hunkravy tests; \
+		cd python/tests && MYPYPATH=$(abspath $(OUT)/python) mypy --strict --cache-dir=/dev/null *.py; \
 	else \
 		echo 'mypy is not installed, so the types are not checked'; \
 	fi

@@ -18,8 +18,13 @@ class InvalidTag(Exception):
 OK = 0
 INVALID_TAG = -1
 
-# `hunkravy_state` of the library's header: 672 bytes, aligned to 8.
-State = ctypes.c_uint64 * 84
+class State(ctypes.Array[ctypes.c_uint64]):
+    """`hunkravy_state` of the library's header: 672 bytes, aligned to 8."""
+
+    _type_ = ctypes.c_uint64
+    _length_ = 84
+
+
 STATE_BYTES = ctypes.sizeof(State)
 
 
@@ -67,8 +72,10 @@ def level() -> int:
 
 def check(code: int) -> None:
     """Raises the error of a code. Lengths are checked before a call, so only a tag can be wrong."""
+    if code == INVALID_TAG:
+        raise InvalidTag
     if code != OK:
-        raise InvalidTag if code == INVALID_TAG else RuntimeError(f"the library returned {code}")
+        raise RuntimeError(f"the library returned {code}")
 
 
 def readable(data: ReadableBuffer) -> bytes:

@@ -3,9 +3,13 @@
 import array
 import mmap
 import unittest
+from typing import TYPE_CHECKING, Callable
 
 import hunkravy
 from hunkravy import Aegis128L, Aegis256, Aegis256Mac
+
+if TYPE_CHECKING:
+    from _typeshed import ReadableBuffer, WriteableBuffer
 
 KEY, NONCE = bytes(range(32)), bytes(32)
 CIPHER = Aegis256(KEY)
@@ -17,7 +21,9 @@ class Buffers(unittest.TestCase):
         sealed = CIPHER.encrypt(NONCE, message, b"header")
         mapped = mmap.mmap(-1, len(message))
         mapped[:] = message
-        for buffer in (bytearray(message), memoryview(message), array.array("B", message), mapped):
+        array_of_bytes = array.array("B", message)
+        buffers: list[ReadableBuffer] = [bytearray(message), memoryview(message), array_of_bytes, mapped]
+        for buffer in buffers:
             self.assertEqual(CIPHER.encrypt(bytearray(NONCE), buffer, memoryview(b"header")), sealed)
             encryptor = CIPHER.encryptor(NONCE, bytearray(b"header"))
             self.assertEqual(encryptor.update(buffer) + encryptor.finalize(), sealed)
@@ -27,9 +33,11 @@ class Buffers(unittest.TestCase):
         message = bytes(range(200))
         sealed = CIPHER.encrypt(NONCE, message)
         mapped = mmap.mmap(-1, len(sealed))
-        for buffer in (bytearray(len(sealed)), array.array("B", bytes(len(sealed))), mapped):
+        array_of_bytes = array.array("B", bytes(len(sealed)))
+        buffers: list[WriteableBuffer] = [bytearray(len(sealed)), array_of_bytes, mapped]
+        for buffer in buffers:
             CIPHER.encrypt_into(NONCE, message, None, buffer)
-            self.assertEqual(bytes(buffer), sealed)
+            self.assertEqual(bytes(memoryview(buffer)), sealed)
         numbers = array.array("I", bytes(len(message)))
         CIPHER.decrypt_into(NONCE, memoryview(sealed), None, numbers)
         self.assertEqual(numbers.tobytes(), message)
@@ -94,7 +102,12 @@ class Refusals(unittest.TestCase):
         decryptor = CIPHER.decryptor(NONCE)
         with self.assertRaises(hunkravy.InvalidTag):
             decryptor.finalize(bytes(32))
-        for call in (encryptor.finalize, lambda: encryptor.update(b""), lambda: decryptor.finalize(bytes(32))):
+        calls: list[Callable[[], bytes]] = [
+            encryptor.finalize,
+            lambda: encryptor.update(b""),
+            lambda: decryptor.finalize(bytes(32)),
+        ]
+        for call in calls:
             with self.assertRaises(RuntimeError):
                 call()
 

@@ -4,8 +4,10 @@ import pathlib
 from typing import Iterator, NamedTuple
 
 import hunkravy
+from hunkravy._ciphers import Cipher
+from hunkravy._macs import Mac
 
-CIPHERS = {
+CIPHERS: dict[str, tuple[type[Cipher], type[Mac]]] = {
     "aegis128l": (hunkravy.Aegis128L, hunkravy.Aegis128LMac),
     "aegis128x2": (hunkravy.Aegis128X2, hunkravy.Aegis128X2Mac),
     "aegis128x4": (hunkravy.Aegis128X4, hunkravy.Aegis128X4Mac),
