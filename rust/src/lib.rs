@@ -5,6 +5,8 @@
 #![deny(clippy::undocumented_unsafe_blocks)]
 
 extern crate alloc;
+#[cfg(feature = "std")]
+extern crate std;
 
 mod chunks;
 mod cipher;
@@ -13,6 +15,8 @@ mod encryptor;
 mod error;
 mod exports;
 mod mac;
+#[cfg(feature = "std")]
+pub mod raf;
 mod run;
 mod variant;
 mod wipe;
