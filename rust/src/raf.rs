@@ -35,9 +35,7 @@ use alloc::vec;
 use alloc::vec::Vec;
 use core::fmt;
 use core::marker::PhantomData;
-use layout::{
-    BOX_BYTES, CLEAR_BYTES, FIRST_PAGE, HEADER_BYTES, Header, Layout, NONCE_BYTES, SLOT_BYTES,
-};
+use layout::{BOX_BYTES, CLEAR_BYTES, FIRST_PAGE, Header, Layout, NONCE_BYTES, SECTOR_BYTES};
 use std::fs::File;
 use std::io::{self, Read, Seek, SeekFrom, Write};
 use std::os::unix::fs::FileExt;
@@ -280,8 +278,8 @@ impl<A: Algorithm> RafBuilder<A> {
     /// Opens the file that the bytes of `io` are.
     pub fn open<I: RafIo>(mut self, mut io: I, key: &[u8; 32]) -> Result<Raf<A, I>> {
         let rng = self.take_rng()?;
-        let first = read_slot(&mut io, key, 0)?;
-        let second = read_slot(&mut io, key, 1)?;
+        let first = read_header(&mut io, key, 0)?;
+        let second = read_header(&mut io, key, 1)?;
         let newest = first
             .into_iter()
             .chain(second)
@@ -310,11 +308,11 @@ impl<A: Algorithm> RafBuilder<A> {
     }
 }
 
-/// Reads the header of a slot, or returns `None` if it has none that opens.
-fn read_slot(io: &mut impl RafIo, key: &[u8; 32], slot: u64) -> Result<Option<Header>> {
-    let mut header = [0; HEADER_BYTES];
-    match io.read_at(&mut header, slot * SLOT_BYTES) {
-        Ok(()) => Ok(layout::open_header(key, slot, &mut header)),
+/// Reads the header of a sector, 0 or 1, or returns `None` if it has none that opens.
+fn read_header(io: &mut impl RafIo, key: &[u8; 32], number: u64) -> Result<Option<Header>> {
+    let mut sector = [0; SECTOR_BYTES];
+    match io.read_at(&mut sector, number * SECTOR_BYTES as u64) {
+        Ok(()) => Ok(layout::open_header(key, number, &mut sector)),
         Err(error) if error.kind() == io::ErrorKind::UnexpectedEof => Ok(None),
         Err(error) => Err(error.into()),
     }
@@ -475,7 +473,8 @@ impl<A: Algorithm, I: RafIo> Raf<A, I> {
         let mut nonce = [0; NONCE_BYTES];
         self.rng.fill(&mut nonce)?;
         let header = self.layout.header(counter, size, &nonce);
-        self.io.write_at(&header, counter % 2 * SLOT_BYTES)?;
+        self.io
+            .write_at(&header, counter % 2 * SECTOR_BYTES as u64)?;
         self.counter = counter;
         self.size = size;
         Ok(())

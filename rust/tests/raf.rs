@@ -164,7 +164,7 @@ fn wrong_files() {
     let (bytes, _) = file_of_three_pages();
     let refused = builder().open(Memory::new(bytes.clone()), &[8; 32]);
     assert!(matches!(refused, Err(RafError::Header)));
-    for size in [0, 100, 112] {
+    for size in [0, 100, 511] {
         assert!(matches!(
             open(&Memory::new(bytes[..size].to_vec())),
             Err(RafError::Header)

@@ -7,14 +7,14 @@ pub const NONCE_BYTES: usize = 32;
 const TAG_BYTES: usize = 32;
 /// What an encrypted text has beside its bytes: a nonce before them, and a tag after them.
 pub const BOX_BYTES: usize = NONCE_BYTES + TAG_BYTES;
-/// Each header has a slot of its own.
-pub const SLOT_BYTES: u64 = 512;
+/// The length of a sector. Each of the first two has a header, and then zeros.
+pub const SECTOR_BYTES: usize = 512;
 /// Where the first page is.
-pub const FIRST_PAGE: u64 = 2 * SLOT_BYTES;
+pub const FIRST_PAGE: u64 = 1024;
 /// The length of the clear part of a header: the magic number, the variant, the chunk size and the id.
 pub const CLEAR_BYTES: usize = 33;
 /// The length of a header: the clear part, and the encrypted counter and size.
-pub const HEADER_BYTES: usize = CLEAR_BYTES + BOX_BYTES + 16;
+const HEADER_BYTES: usize = CLEAR_BYTES + BOX_BYTES + 16;
 
 const MAGIC: [u8; 4] = *b"AGP1";
 /// The byte that stands for AEGIS-256.
@@ -72,16 +72,16 @@ impl Layout {
             .is_ok()
     }
 
-    /// Returns the header of this counter, for a text of `size` bytes.
-    pub fn header(&self, counter: u64, size: u64, nonce: &[u8; NONCE_BYTES]) -> [u8; HEADER_BYTES] {
-        let mut header = [0; HEADER_BYTES];
-        let (clear, sealed) = header.split_at_mut(CLEAR_BYTES);
+    /// Returns the sector of the header of this counter, for a text of `size` bytes.
+    pub fn header(&self, counter: u64, size: u64, nonce: &[u8; NONCE_BYTES]) -> [u8; SECTOR_BYTES] {
+        let mut sector = [0; SECTOR_BYTES];
+        let (clear, sealed) = sector[..HEADER_BYTES].split_at_mut(CLEAR_BYTES);
         clear.copy_from_slice(&self.clear());
         sealed[..NONCE_BYTES].copy_from_slice(nonce);
         sealed[NONCE_BYTES..NONCE_BYTES + 8].copy_from_slice(&counter.to_le_bytes());
         sealed[NONCE_BYTES + 8..NONCE_BYTES + 16].copy_from_slice(&size.to_le_bytes());
         self.seal(HEADER_NUMBER, sealed);
-        header
+        sector
     }
 }
 
@@ -93,9 +93,9 @@ pub fn chunk_size_of(clear: &[u8; CLEAR_BYTES]) -> Option<u32> {
     is_known.then_some(chunk_size)
 }
 
-/// Opens the header that was read from a slot, and returns what it says, if it was sealed under the key for this slot.
-pub fn open_header(key: &[u8; 32], slot: u64, header: &mut [u8; HEADER_BYTES]) -> Option<Header> {
-    let (clear, sealed) = header.split_first_chunk_mut::<CLEAR_BYTES>()?;
+/// Opens the header of a sector, 0 or 1, and returns what it says, if it was sealed under the key for this sector.
+pub fn open_header(key: &[u8; 32], number: u64, sector: &mut [u8; SECTOR_BYTES]) -> Option<Header> {
+    let (clear, sealed) = sector[..HEADER_BYTES].split_first_chunk_mut::<CLEAR_BYTES>()?;
     let layout = Layout {
         key: *key,
         chunk_size: chunk_size_of(clear)?,
@@ -104,13 +104,10 @@ pub fn open_header(key: &[u8; 32], slot: u64, header: &mut [u8; HEADER_BYTES]) -
     if !layout.open(HEADER_NUMBER, sealed) {
         return None;
     }
-    let number = |at: usize| {
-        Some(u64::from_le_bytes(
-            sealed[NONCE_BYTES + at..][..8].try_into().ok()?,
-        ))
-    };
-    let (counter, size) = (number(0)?, number(8)?);
-    (counter % 2 == slot && size <= super::MAX_SIZE).then_some(Header {
+    let (counter, rest) = sealed[NONCE_BYTES..].split_first_chunk()?;
+    let counter = u64::from_le_bytes(*counter);
+    let size = u64::from_le_bytes(*rest.first_chunk()?);
+    (counter % 2 == number && size <= super::MAX_SIZE).then_some(Header {
         chunk_size: layout.chunk_size,
         id: layout.id,
         counter,
