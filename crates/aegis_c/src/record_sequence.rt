@@ -1,7 +1,7 @@
 //! Sequences of calls on a record stream: several records are sealed and opened together as the definition of streams says.
 //! These functions are not exported. They are proved from the contracts of the exports alone.
 
-ghost use Rattle.std.specs.Prelude.{◌≡◌, ◌×◌, ◌∷◌, ◌++◌, [], true};
+ghost use Rattle.std.specs.Prelude.{◌≡◌, ◌∷◌, ◌++◌, [], true};
 ghost use Rattle.aegis.specs.Calls.{message_in};
 ghost use Rattle.aegis.specs.Progress.{AreRecordsOfSomeVersion};
 ghost use Rattle.aegis.specs.Records.{AreRecords};
@@ -58,7 +58,7 @@ pub fn two_records_opened(
     hunkravy_record_open_nonnull(st, context, second, &mut is_last) == DONE && is_last == 1
 }
 
-/// Seals two messages and opens their records again, and returns whether all calls have succeeded. The messages are then what they
+/// Seals two messages and opens their records in their order, which succeeds if sealing does. The messages are then what they
 /// were.
 pub fn two_records_sealed_and_opened(
     sealer: &mut RecordState,
@@ -73,8 +73,52 @@ pub fn two_records_sealed_and_opened(
     ensures second { result ≡ true → message_in second.new ≡ message_in second.old }
 {
     let mut header = [0; 4];
-    if !two_records_sealed(sealer, k, prefix, context, &mut header, first, second) {
+    if hunkravy_record_begin_nonnull(sealer, k, prefix, context, &mut header) != DONE
+        || hunkravy_record_begin_open_nonnull(opener, k, prefix, context, &header) != DONE
+    {
         return false;
     }
-    two_records_opened(opener, k, prefix, context, &header, first, second)
+    let mut is_last = 0;
+    if hunkravy_record_seal_nonnull(sealer, context, first) != DONE
+        || hunkravy_record_open_nonnull(opener, context, first, &mut is_last) != DONE
+    {
+        return false;
+    }
+    if hunkravy_record_seal_last_nonnull(sealer, context, second) != DONE {
+        return false;
+    }
+    hunkravy_record_open_nonnull(opener, context, second, &mut is_last) == DONE
+}
+
+/// Seals with a stream after its last record, which is refused.
+pub fn refused_after_the_last_record(
+    st: &mut RecordState,
+    context: &[u8],
+    last: &mut [u8],
+    bytes: &mut [u8],
+) -> bool
+    ensures refused { result ≡ true }
+    ensures kept { bytes.new ≡ bytes.old }
+{
+    if hunkravy_record_seal_last_nonnull(st, context, last) != DONE {
+        return true;
+    }
+    hunkravy_record_seal_nonnull(st, context, bytes) == WRONG_STATE
+}
+
+/// Opens with a stream that is sealed, which is refused.
+pub fn refused_in_the_other_direction(
+    st: &mut RecordState,
+    context: &[u8],
+    message: &mut [u8],
+    bytes: &mut [u8],
+) -> bool
+    ensures refused { result ≡ true }
+    ensures kept { bytes.new ≡ bytes.old }
+{
+    let mut is_last = 0;
+    if hunkravy_record_seal_nonnull(st, context, message) != DONE {
+        return true;
+    }
+    hunkravy_record_open_nonnull(st, context, bytes, &mut is_last) == WRONG_STATE
 }

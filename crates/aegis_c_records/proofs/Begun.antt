@@ -1,5 +1,5 @@
 -- What a state stands for, before its first record and after one more.
-use Rattle.std.proofs.Common.{◌≡◌, ℕ, ◌+◌, ◌-◌, ◌≤◌, List, [], ◌∷◌, ◌++◌, length, refl, sym, ap, arith}
+use Rattle.std.proofs.Common.{◌≡◌, ℕ, ◌+◌, ◌≤◌, List, [], ◌∷◌, ◌++◌, length, refl, ap, arith}
 use Rattle.aegis.specs.Progress.{Begun, record_of}
 use Rattle.aegis.specs.Records.{AreRecords}
 use Rattle.aegis.specs.RecordStream.{header, limit}

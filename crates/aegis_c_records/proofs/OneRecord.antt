@@ -1,7 +1,7 @@
 -- One record, in a buffer of its length: a head of 5 bytes, and the sealed message.
-use Rattle.std.proofs.Common.{◌≡◌, ℕ, ◌+◌, ◌-◌, ◌≤◌, List, [], ◌∷◌, ◌++◌, length, take, drop, get_or, refl, sym, ap, ◌∙◌, append_assoc, arith}
+use Rattle.std.proofs.Common.{◌≡◌, ℕ, ◌+◌, ◌-◌, ◌≤◌, List, ◌∷◌, ◌++◌, length, take, drop, get_or, refl, sym, ap, ◌∙◌, append_assoc, arith}
 use Rattle.std.specs.Int.{w32, to_le_bytes}
-use Rattle.std.proofs.lemmas.List.{append-nil, drop_at, length-append, length-take, take_at, take-append-drop}
+use Rattle.std.proofs.lemmas.List.{drop_at, length-append, length-take, take_at, take-append-drop}
 use Rattle.aegis.specs.Calls.{message_in, with_message}
 use Rattle.aegis.specs.Progress.{Progress, record_of}
 use Rattle.aegis.specs.Records.{sealed}

@@ -1,4 +1,4 @@
-use Rattle.std.proofs.Common.{◌≡◌, ◌∙◌, ap, arith, refl, rules, subst, sym}
+use Rattle.std.proofs.Common.{◌∙◌, ap, arith, refl, rules}
 use Rattle.aegis.specs.Calls.{message_in}
 use Rattle.aegis_c_records.specs.Stream.{after_record}
 use Rattle.aegis_c_records.proofs.Begun.{last_whole, next_begun}

@@ -1,4 +1,4 @@
-use Rattle.std.proofs.Common.{◌≡◌, ◌∷◌, [], refl, ◌∙◌, ap, arith, length, sym}
+use Rattle.std.proofs.Common.{◌≡◌, ◌∷◌, [], refl, ◌∙◌, ap, length, sym}
 use Rattle.std.specs.Int.{w64, to_le_bytes}
 use Rattle.aegis.proofs.Sealed.{nonce_filled}
 use Rattle.aegis_c_records.proofs.data.nonce.Goals as goal
