@@ -83,9 +83,9 @@ static void check_sealed(const struct keys *keys, const struct bytes *messages,
     for (size_t i = 0; i < messages->chunk_count; i++) {
         size_t length = messages->chunks[i];
         uint8_t *record = with_message(messages->at + at, length);
-        HOLDS((i + 1 < messages->chunk_count ? hunkravy_record_seal(&st, record, length)
-                                             : hunkravy_record_seal_last(&st, record, length)) ==
-              HUNKRAVY_OK);
+        HOLDS((i + 1 < messages->chunk_count
+                   ? hunkravy_record_seal(&st, record, length)
+                   : hunkravy_record_seal_last(&st, record, length)) == HUNKRAVY_OK);
         HOLDS(end + length + MORE <= stream->length);
         HOLDS(memcmp(record, stream->at + end, length + MORE) == 0);
         at += length;

@@ -78,7 +78,8 @@ static int seal(FILE *out, FILE *in, const uint8_t *key)
             HUNKRAVY_OK) {
         return -1;
     }
-    result = fwrite(begin, 1, sizeof begin, out) == sizeof begin ? seal_pieces(&stream, out, in) : -1;
+    result =
+        fwrite(begin, 1, sizeof begin, out) == sizeof begin ? seal_pieces(&stream, out, in) : -1;
     /* After an error it has not ended. */
     hunkravy_wipe(&stream, sizeof stream);
     return result;

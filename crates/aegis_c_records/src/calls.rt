@@ -49,8 +49,8 @@ pub fn begin_sealing(
     context: &[u8],
     header_out: &mut [u8; 4],
 ) -> i32
-    ensures { BeginsSealing key.now prefix.now context.now st.old st.new header_out.old header_out.new
-        result }
+    ensures { BeginsSealing key.now prefix.now context.now st.old st.new
+        header_out.old header_out.new result }
 {
     if context.len() > MAX_CONTEXT_BYTES {
         return DATA_TOO_LONG;
