@@ -16,22 +16,22 @@ use Rattle.aegis_c_records.specs.declared.state.RecordState.{RecordState}
 use Rattle.aegis_c_records.specs.declared.state.TheConstants.{ENDED, OPENING, SEALING, SECOND}
 
 -- The call begins to seal a stream, and writes its header; or it changes nothing.
-pub record BeginsSealing (key prefix context : List ℕ) (old new : RecordState) (header' header'' : List ℕ) (answer : ℤ) : Type 0 where
+pub record BeginsSealing (key prefix context : List ℕ) (old new : RecordState) (bytes bytes' : List ℕ) (answer : ℤ) : Type 0 where
   pub answered : answer ≡ context_answer (length context) DONE
-  pub written : answer ≡ DONE → header'' ≡ header Second
+  pub written : answer ≡ DONE → bytes' ≡ header Second
   pub first : answer ≡ DONE → new ≡ first_of SEALING SECOND key prefix
-  pub begun : answer ≡ DONE → Begun (progress_of new context) key prefix context [] header''
+  pub begun : answer ≡ DONE → Begun (progress_of new context) key prefix context [] bytes'
   pub state_kept : answer ≢ DONE → new ≡ old
-  pub kept : answer ≢ DONE → header'' ≡ header'
+  pub kept : answer ≢ DONE → bytes' ≡ bytes
 
 -- The call begins to open a stream with this header, if a version has it; or it changes nothing.
-pub record BeginsOpening (key prefix context : List ℕ) (old new : RecordState) (header' : List ℕ) (answer : ℤ) : Type 0 where
+pub record BeginsOpening (key prefix context : List ℕ) (old new : RecordState) (bytes : List ℕ) (answer : ℤ) : Type 0 where
   pub answered : answer ≢ WRONG_VARIANT → answer ≡ context_answer (length context) DONE
-  pub known : (v : Version) → header' ≡ header v → answer ≢ WRONG_VARIANT
-  pub found : answer ≡ DONE → header' ≡ header (version_of new.version)
-  pub one : answer ≡ DONE → (v : Version) → header' ≡ header v → version_of new.version ≡ v
+  pub known : (v : Version) → bytes ≡ header v → answer ≢ WRONG_VARIANT
+  pub found : answer ≡ DONE → bytes ≡ header (version_of new.version)
+  pub one : answer ≡ DONE → (v : Version) → bytes ≡ header v → version_of new.version ≡ v
   pub first : answer ≡ DONE → new ≡ first_of OPENING new.version key prefix
-  pub begun : answer ≡ DONE → Begun (progress_of new context) key prefix context [] header'
+  pub begun : answer ≡ DONE → Begun (progress_of new context) key prefix context [] bytes
   pub state_kept : answer ≢ DONE → new ≡ old
 
 -- The call seals the next message where it lies, and the bytes become its record; or it changes nothing.

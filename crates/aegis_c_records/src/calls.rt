@@ -11,7 +11,7 @@ ghost use Rattle.aegis_c_records.specs.Stream.{after_record, first_of};
 
 use crate::check::{check_record, check_state};
 use crate::cipher::{open_record, seal_record};
-use crate::data::{header, limit, number_of, version};
+use crate::data::{header_of, limit, number_of, version};
 use crate::state::*;
 use aegis::ERASED;
 use aegis::record::{MAX_CONTEXT_BYTES, RECORD_BYTES, Version};
@@ -47,15 +47,15 @@ pub fn begin_sealing(
     key: &[u8; 32],
     prefix: &[u8; 24],
     context: &[u8],
-    header_out: &mut [u8; 4],
+    header: &mut [u8; 4],
 ) -> i32
     ensures { BeginsSealing key.now prefix.now context.now st.old st.new
-        header_out.old header_out.new result }
+        header.old header.new result }
 {
     if context.len() > MAX_CONTEXT_BYTES {
         return DATA_TOO_LONG;
     }
-    *header_out = header(Version::Second);
+    *header = header_of(Version::Second);
     *st = first(SEALING, SECOND, key, prefix);
     DONE
 }
@@ -66,11 +66,11 @@ pub fn begin_opening(
     key: &[u8; 32],
     prefix: &[u8; 24],
     context: &[u8],
-    header_in: &[u8; 4],
+    header: &[u8; 4],
 ) -> i32
-    ensures { BeginsOpening key.now prefix.now context.now st.old st.new header_in.now result }
+    ensures { BeginsOpening key.now prefix.now context.now st.old st.new header.now result }
 {
-    let Some(number) = number_of(header_in) else {
+    let Some(number) = number_of(header) else {
         return WRONG_VARIANT;
     };
     if context.len() > MAX_CONTEXT_BYTES {

@@ -28,7 +28,7 @@ pub fn version(st: &RecordState) -> Version
 }
 
 /// Returns the four bytes that a stream begins with.
-pub fn header(version: Version) -> [u8; 4]
+pub fn header_of(version: Version) -> [u8; 4]
     ensures { result ≡ header version }
 {
     match version {
@@ -44,10 +44,10 @@ pub fn number_of(bytes: &[u8; 4]) -> Option<u64>
         → version_of number ≡ v) }
     ensures none { IfNone result ((v : Version) → bytes.now ≢ header v) }
 {
-    if *bytes == header(Version::First) {
+    if *bytes == header_of(Version::First) {
         return Some(FIRST);
     }
-    if *bytes == header(Version::Second) {
+    if *bytes == header_of(Version::Second) {
         return Some(SECOND);
     }
     None
@@ -92,7 +92,7 @@ pub fn write_data(room: &mut [u8], st: &RecordState, flag: u8, context: &[u8]) -
     ensures within { result ≤ DATA_BYTES + length context.now }
 {
     let version = version(st);
-    let mut end = append(room, 0, &header(version));
+    let mut end = append(room, 0, &header_of(version));
     end = append(room, end, &st.number.to_le_bytes());
     if let Version::Second = version {
         end = append(room, end, &st.before.to_le_bytes());

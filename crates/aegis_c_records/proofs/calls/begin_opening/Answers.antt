@@ -10,6 +10,6 @@ returns c = record {
   found = λ _. rw c.first.ensures c.in-Some.ensures.some;
   one = λ _. rw c.first.ensures c.in-Some.ensures.one;
   first = λ _. rw c.first.ensures refl;
-  begun = λ _. first_begun c.first.result OPENING c.in-Some.number c.args.key.now c.args.prefix.now c.args.context.now c.args.header_in.now c.first.ensures c.in-Some.ensures.some;
+  begun = λ _. first_begun c.first.result OPENING c.in-Some.number c.args.key.now c.args.prefix.now c.args.context.now c.args.header.now c.first.ensures c.in-Some.ensures.some;
   state_kept = search rules;
 }

@@ -8,7 +8,7 @@ pub returns-then-found-eq1 : goal.returns-then-found-eq1
 returns-then-found-eq1 c = record {
   answered = search rules;
   lengths = search rules;
-  known = λ _. c.in-Some.ensures.known;
+  known = λ _. omega (arith, c.in-Some.ensures.known);
   opened = λ _. c.in-Some.ensures.opened;
   one = λ _. c.in-Some.ensures.one;
   written = λ _. c.in-Some.ensures.written;
@@ -28,7 +28,7 @@ pub returns-else-found-eq1 : goal.returns-else-found-eq1
 returns-else-found-eq1 c = record {
   answered = search rules;
   lengths = search rules;
-  known = λ _. c.in-Some.ensures.known;
+  known = λ _. omega (arith, c.in-Some.ensures.known);
   opened = λ _. c.in-Some.ensures.opened;
   one = λ _. c.in-Some.ensures.one;
   written = λ _. c.in-Some.ensures.written;
