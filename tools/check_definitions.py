@@ -18,7 +18,7 @@ PUBLIC = [
     *(f"aegis_files/src/{name}.rt" for name in ("open", "range", "reading", "rekey", "seal")),
     *(f"aegis_variants/src/{name}.rt" for name in ("cipher", "variant")),
     *(f"aegis_lines/src/{name}.rt" for name in ("answer", "session")),
-    *(f"aegis_c/src/{name}.rt" for name in ("message", "state")),
+    *(f"aegis_c/src/{name}.rt" for name in ("message", "record", "state")),
 ]
 
 # The contracts of a public function, and the views and laws of a type.

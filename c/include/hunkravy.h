@@ -1,6 +1,6 @@
 /*
- * Hunkravy: the six AEGIS ciphers and their MACs, for Linux on x86-64 and on ARM (aarch64). No call allocates
- * memory.
+ * Hunkravy: the six AEGIS ciphers, their MACs, and record streams, for Linux on x86-64 and on ARM (aarch64). No call
+ * allocates memory.
  *
  * To build a program: `cc program.c $(pkg-config --cflags --libs hunkravy)`. If the library was installed by `make
  * install PREFIX=/some/where`, set PKG_CONFIG_PATH to /some/where/lib/pkgconfig first.
@@ -10,7 +10,8 @@
  * - Never encrypt two messages with the same key and nonce, and never use one nonce for a message and for a
  *   keystream. Whoever sees both ciphertexts learns about both messages, and may forge others. Nonces of 32
  *   bytes may be drawn at random; those of 16 bytes too, for up to 2^48 messages under one key.
- * - Never continue two copies of a state with different messages: that uses its nonce twice.
+ * - Never continue two copies of a state with different messages: that uses its nonce twice. Never seal two record
+ *   streams with the same key and prefix.
  * - Never let an output buffer overlap another argument, unless the call's comment says that they may be the
  *   same pointer.
  * - Never use decrypted bytes before their tag is verified: do not show, parse or store them, or act on them.
@@ -32,7 +33,7 @@
  *
  * CODES. A call checks the variant or the state first, then the lengths of the nonce, the key, the message, the
  * associated data and the tag. It returns the code of the first that is wrong, and writes nothing, except that an init
- * then leaves a state of zeros.
+ * then leaves a state of zeros. The calls on record streams have their own codes for a record.
  */
 #ifndef HUNKRAVY_H
 #define HUNKRAVY_H
@@ -70,15 +71,15 @@ extern "C" {
 #define HUNKRAVY_WRONG_NONCE_LENGTH (-2)
 /* The key's length is not that of the variant. */
 #define HUNKRAVY_WRONG_KEY_LENGTH (-3)
-/* The message, or the input of a MAC, has more than HUNKRAVY_MAX_BYTES. */
+/* The message, or the input of a MAC, has more than HUNKRAVY_MAX_BYTES; or a record's message too many for it. */
 #define HUNKRAVY_MESSAGE_TOO_LONG (-4)
-/* The associated data have more than HUNKRAVY_MAX_BYTES. */
+/* The associated data have more than HUNKRAVY_MAX_BYTES, or the context more than HUNKRAVY_RECORD_MAX_CONTEXT_BYTES. */
 #define HUNKRAVY_DATA_TOO_LONG (-5)
 /* The tag, or the MAC, has neither 16 nor 32 bytes. */
 #define HUNKRAVY_WRONG_TAG_LENGTH (-6)
 /* The state is zeros (it has ended, or was not begun), or has another role: the other direction, a MAC, no MAC. */
 #define HUNKRAVY_WRONG_STATE (-7)
-/* The variant is none of the six. */
+/* The variant is none of the six, or no version of record streams has the header. */
 #define HUNKRAVY_WRONG_VARIANT (-8)
 
 /* ---- Lengths in bytes */
@@ -111,6 +112,32 @@ typedef struct hunkravy_state {
     uint32_t role;
 } hunkravy_state;
 
+/*
+ * What the library's exports keep of a record stream between two calls. Do not write to the fields. Zeros are a stream
+ * that has ended.
+ */
+typedef struct hunkravy_record_state {
+    uint64_t mark;
+    uint64_t number;
+    uint64_t before;
+    uint8_t key[32];
+    uint8_t prefix[24];
+    uint64_t version;
+} hunkravy_record_state;
+
+/*
+ * A record stream between two calls. It has the key, and THE POINTER TO THE CONTEXT: until the stream has ended, the
+ * context must stay at its place, and must not change.
+ *
+ * A stream may be dropped at any time; nothing has to be freed. Call hunkravy_wipe before you drop one that has not
+ * ended. A stream that has ended is zeros, which each call but a begin refuses.
+ */
+typedef struct hunkravy_record_stream {
+    hunkravy_record_state state;
+    const uint8_t *context;
+    size_t contextlen;
+} hunkravy_record_stream;
+
 /* A returned code must be used: gcc and clang warn if it is not. */
 #if defined(__GNUC__) || defined(__clang__)
 #define HUNKRAVY_MUST_USE __attribute__((warn_unused_result))
@@ -121,7 +148,8 @@ typedef struct hunkravy_state {
 /*
  * ---- The library's exports. They are for the calls below and for programs in other languages. Each has the
  * parameters of the call of the same name and returns the same, but its pointers must not be null, even if the length
- * is 0, and what `st` points to must be initialised, even for an init.
+ * is 0, and what `st` points to must be initialised, even for an init. Those on a record stream are given its context
+ * each time, and to seal a message the length of its record.
  */
 
 HUNKRAVY_MUST_USE int hunkravy_encrypt_in_place_nonnull(uint32_t variant, uint8_t *mc, size_t mclen,
@@ -156,10 +184,23 @@ HUNKRAVY_MUST_USE int hunkravy_mac_update_nonnull(hunkravy_state *st, const uint
 HUNKRAVY_MUST_USE int hunkravy_mac_final_nonnull(const hunkravy_state *st, uint8_t *mac, size_t maclen);
 HUNKRAVY_MUST_USE int hunkravy_mac_final_verify_nonnull(const hunkravy_state *st, const uint8_t *mac,
     size_t maclen);
+HUNKRAVY_MUST_USE int hunkravy_record_begin_nonnull(hunkravy_record_state *st, const uint8_t *k,
+    const uint8_t *prefix, const uint8_t *context, size_t contextlen, uint8_t *header);
+HUNKRAVY_MUST_USE int hunkravy_record_begin_open_nonnull(hunkravy_record_state *st, const uint8_t *k,
+    const uint8_t *prefix, const uint8_t *context, size_t contextlen, const uint8_t *header);
+HUNKRAVY_MUST_USE int hunkravy_record_seal_nonnull(hunkravy_record_state *st, const uint8_t *context,
+    size_t contextlen, uint8_t *record, size_t recordlen);
+HUNKRAVY_MUST_USE int hunkravy_record_seal_last_nonnull(hunkravy_record_state *st, const uint8_t *context,
+    size_t contextlen, uint8_t *record, size_t recordlen);
+HUNKRAVY_MUST_USE int hunkravy_record_len_nonnull(const hunkravy_record_state *st, const uint8_t *head,
+    size_t *recordlen);
+HUNKRAVY_MUST_USE int hunkravy_record_open_nonnull(hunkravy_record_state *st, const uint8_t *context,
+    size_t contextlen, uint8_t *record, size_t recordlen, uint8_t *is_last);
 
 /* ---- What the calls below share. None of it is for callers. */
 
 typedef char hunkravy_state_has_672_bytes[sizeof(hunkravy_state) == 672 ? 1 : -1];
+typedef char hunkravy_record_state_has_88_bytes[sizeof(hunkravy_record_state) == 88 ? 1 : -1];
 
 /* The pointer, or if there are no bytes an address where nothing is read or written. */
 static inline uint8_t *hunkravy_writable(uint8_t *bytes, size_t length)
@@ -539,6 +580,141 @@ HUNKRAVY_MUST_USE static inline int hunkravy_mac_final_verify(const hunkravy_sta
     size_t maclen)
 {
     return hunkravy_mac_final_verify_nonnull(st, HUNKRAVY_IN(mac, maclen));
+}
+
+/*
+ * ---- A record stream: a list of messages, each of which is encrypted and decrypted on its own, in the buffer that
+ * holds it, by AEGIS-256 with a tag of 32 bytes. No byte of a message comes out before its tag is verified, and a record
+ * opens only at its place in its stream. The last record is marked: a stream is whole only if its last record was
+ * opened.
+ *
+ * The bytes of a stream are a header of 4 bytes and a record for each message, one after the other. A record is a head
+ * of 5 bytes, the ciphertext, and the tag. They are the streams of the Rattle library's `aegis::record`, so its limits
+ * hold: HUNKRAVY_RECORD_MAX_MESSAGE_BYTES for a message, HUNKRAVY_RECORD_MAX_CONTEXT_BYTES for the context, and
+ * HUNKRAVY_MAX_BYTES for the whole stream.
+ *
+ * `k` is a key of 32 bytes. `prefix` is 24 bytes that are used for one stream only under that key: they may be drawn
+ * at random, and need not be secret. The context is what the stream belongs to, as a file's name; it is authenticated,
+ * and not a part of the stream. With a context of more than 491 bytes a call takes 64 KiB of the stack.
+ */
+
+#define HUNKRAVY_RECORD_KEY_BYTES 32
+#define HUNKRAVY_RECORD_PREFIX_BYTES 24
+/* A stream's header. */
+#define HUNKRAVY_RECORD_HEADER_BYTES 4
+/* A record's head: its message begins so far from its first byte. */
+#define HUNKRAVY_RECORD_HEAD_BYTES 5
+/* How many bytes a record has more than its message. */
+#define HUNKRAVY_RECORD_BYTES 37
+#define HUNKRAVY_RECORD_MAX_MESSAGE_BYTES ((size_t)16777216)
+#define HUNKRAVY_RECORD_MAX_CONTEXT_BYTES ((size_t)65535)
+
+/* The length of the record of `mlen` bytes, or a length that each call refuses if they are too many. */
+static inline size_t hunkravy_record_bytes(size_t mlen)
+{
+    return HUNKRAVY_RECORD_BYTES +
+           (mlen > HUNKRAVY_RECORD_MAX_MESSAGE_BYTES ? HUNKRAVY_RECORD_MAX_MESSAGE_BYTES + 1 : mlen);
+}
+
+/* Keeps the context of a stream that was begun, and returns `code`. */
+static inline int hunkravy_record_keep(hunkravy_record_stream *st, const uint8_t *context, size_t contextlen,
+    int code)
+{
+    if (code == HUNKRAVY_OK) {
+        st->context = context;
+        st->contextlen = contextlen;
+    }
+    return code;
+}
+
+/*
+ * Begins to seal a stream, and writes its header of HUNKRAVY_RECORD_HEADER_BYTES to `header`. `st` may hold anything
+ * before.
+ *
+ * Returns HUNKRAVY_OK, or HUNKRAVY_DATA_TOO_LONG if the context is too long. After HUNKRAVY_DATA_TOO_LONG the stream is
+ * zeros, and nothing else is written.
+ */
+HUNKRAVY_MUST_USE static inline int hunkravy_record_begin(hunkravy_record_stream *st, const uint8_t *k,
+    const uint8_t *prefix, const uint8_t *context, size_t contextlen, uint8_t *header)
+{
+    memset(st, 0, sizeof *st);
+    return hunkravy_record_keep(st, context, contextlen,
+        hunkravy_record_begin_nonnull(&st->state, k, prefix, HUNKRAVY_IN(context, contextlen), header));
+}
+
+/*
+ * Begins to open a stream whose first HUNKRAVY_RECORD_HEADER_BYTES are at `header`. `st` may hold anything before.
+ *
+ * Returns HUNKRAVY_OK, HUNKRAVY_WRONG_VARIANT if no version of record streams has this header, or
+ * HUNKRAVY_DATA_TOO_LONG. After any code but HUNKRAVY_OK the stream is zeros.
+ */
+HUNKRAVY_MUST_USE static inline int hunkravy_record_begin_open(hunkravy_record_stream *st, const uint8_t *k,
+    const uint8_t *prefix, const uint8_t *context, size_t contextlen, const uint8_t *header)
+{
+    memset(st, 0, sizeof *st);
+    return hunkravy_record_keep(st, context, contextlen,
+        hunkravy_record_begin_open_nonnull(&st->state, k, prefix, HUNKRAVY_IN(context, contextlen), header));
+}
+
+/*
+ * Seals the next message, which is not the last one, in place: its `mlen` bytes are at `record +
+ * HUNKRAVY_RECORD_HEAD_BYTES`, and the `mlen + HUNKRAVY_RECORD_BYTES` bytes at `record` become its record.
+ *
+ * Returns HUNKRAVY_OK, HUNKRAVY_WRONG_STATE if the stream is not one that is sealed, or HUNKRAVY_MESSAGE_TOO_LONG if the
+ * message or the stream would be too long. After any code but HUNKRAVY_OK nothing is written, and `record` still holds
+ * the message, unencrypted.
+ */
+HUNKRAVY_MUST_USE static inline int hunkravy_record_seal(hunkravy_record_stream *st, uint8_t *record,
+    size_t mlen)
+{
+    return hunkravy_record_seal_nonnull(&st->state, HUNKRAVY_IN(st->context, st->contextlen), record,
+        hunkravy_record_bytes(mlen));
+}
+
+/* As hunkravy_record_seal, for the last message. After HUNKRAVY_OK the stream has ended: it is zeros. */
+HUNKRAVY_MUST_USE static inline int hunkravy_record_seal_last(hunkravy_record_stream *st, uint8_t *record,
+    size_t mlen)
+{
+    int code = hunkravy_record_seal_last_nonnull(&st->state, HUNKRAVY_IN(st->context, st->contextlen), record,
+        hunkravy_record_bytes(mlen));
+    return hunkravy_record_keep(st, NULL, 0, code);
+}
+
+/*
+ * Writes to `recordlen` how many bytes the next record has, whose first HUNKRAVY_RECORD_HEAD_BYTES are at `head`. They
+ * ARE NOT VERIFIED: the number, which is at most 16 MiB and 37 bytes, says how many bytes to read, and no more.
+ *
+ * Returns HUNKRAVY_OK; HUNKRAVY_WRONG_STATE if the stream is not one that is opened; HUNKRAVY_INVALID_TAG if no record
+ * begins with these bytes; or HUNKRAVY_MESSAGE_TOO_LONG if the record would have too long a message. After any code but
+ * HUNKRAVY_OK nothing is written.
+ */
+HUNKRAVY_MUST_USE static inline int hunkravy_record_len(const hunkravy_record_stream *st, const uint8_t *head,
+    size_t *recordlen)
+{
+    return hunkravy_record_len_nonnull(&st->state, head, recordlen);
+}
+
+/*
+ * Opens the next record, which is the `recordlen` bytes at `record`, in place: its message is then the `*mlen` bytes at
+ * `record + HUNKRAVY_RECORD_HEAD_BYTES`. `*is_last` becomes 1 if it is the last record, and 0 otherwise. After the last
+ * record the stream has ended: it is zeros. Check that no bytes follow.
+ *
+ * Returns HUNKRAVY_OK; HUNKRAVY_INVALID_TAG if the bytes are not the next record of the stream; HUNKRAVY_WRONG_STATE if
+ * the stream is not one that is opened; or HUNKRAVY_MESSAGE_TOO_LONG if the record or the stream would be too long.
+ * After HUNKRAVY_INVALID_TAG each of the `recordlen` bytes is 0xaa. After any code but HUNKRAVY_OK nothing else is
+ * written, and the stream is as it was.
+ */
+HUNKRAVY_MUST_USE static inline int hunkravy_record_open(hunkravy_record_stream *st, uint8_t *record,
+    size_t recordlen, size_t *mlen, int *is_last)
+{
+    uint8_t flag = 0;
+    int code = hunkravy_record_open_nonnull(&st->state, HUNKRAVY_IN(st->context, st->contextlen),
+        HUNKRAVY_OUT(record, recordlen), &flag);
+    if (code == HUNKRAVY_OK) {
+        *mlen = recordlen - HUNKRAVY_RECORD_BYTES;
+        *is_last = flag;
+    }
+    return flag == 0 ? code : hunkravy_record_keep(st, NULL, 0, code);
 }
 
 #ifdef __cplusplus

@@ -5,7 +5,8 @@
  * public. tools/check_time.sh runs it.
  *
  * The last word of its output is the number of openings at once, which is that of openings on a
- * state too. With the parameter `jump` or `address` it only does what memcheck has to report.
+ * state, and of records too. With the parameter `jump` or `address` it only does what memcheck has
+ * to report.
  */
 #include "check.h"
 
@@ -128,7 +129,40 @@ static void check_macs(const struct message *this)
     RETURNS(HUNKRAVY_INVALID_TAG, hunkravy_mac_final_verify(&st, mac, this->maclen));
 }
 
-/* Returns the number of messages. Each is opened three times at once, and three times on a state. */
+/*
+ * Two records, whatever the variant. The context is the message, whose length decides how much of
+ * the stack it takes.
+ */
+static void check_records(const struct message *this)
+{
+    size_t length = this->length, recordlen = length + HUNKRAVY_RECORD_BYTES, mlen = 0;
+    uint8_t header[HUNKRAVY_RECORD_HEADER_BYTES];
+    uint8_t records[3][LONGEST + HUNKRAVY_RECORD_BYTES];
+    hunkravy_record_stream st;
+    int is_last = -1;
+
+    for (size_t i = 0; i < 2; i++) {
+        memcpy(records[i] + HUNKRAVY_RECORD_HEAD_BYTES, this->secret.text, length);
+    }
+    RETURNS(HUNKRAVY_OK, hunkravy_record_begin(&st, this->secret.k, this->secret.npub,
+                                               this->secret.text, length, header));
+    RETURNS(HUNKRAVY_OK, hunkravy_record_seal(&st, records[0], length));
+    RETURNS(HUNKRAVY_OK, hunkravy_record_seal_last(&st, records[1], length));
+    memcpy(records[2], records[0], recordlen);
+    records[2][recordlen - 1] ^= 1;
+
+    RETURNS(HUNKRAVY_OK, hunkravy_record_begin_open(&st, this->secret.k, this->secret.npub,
+                                                    this->secret.text, length, header));
+    RETURNS(HUNKRAVY_INVALID_TAG,
+            hunkravy_record_open(&st, records[2], recordlen, &mlen, &is_last));
+    RETURNS(HUNKRAVY_OK, hunkravy_record_len(&st, records[0], &mlen));
+    RETURNS(HUNKRAVY_OK, hunkravy_record_open(&st, records[0], recordlen, &mlen, &is_last));
+    HOLDS(mlen == length && is_last == 0);
+    RETURNS(HUNKRAVY_OK, hunkravy_record_open(&st, records[1], recordlen, &mlen, &is_last));
+    HOLDS(mlen == length && is_last == 1);
+}
+
+/* Returns the number of messages. Each is opened three times at once, on a state and in records. */
 static unsigned check_variant(const struct variant *calls)
 {
     struct message message;
@@ -144,6 +178,7 @@ static unsigned check_variant(const struct variant *calls)
                 check_at_once(&message);
                 check_messages(&message);
                 check_macs(&message);
+                check_records(&message);
                 count++;
             }
         }

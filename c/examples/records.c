@@ -1,0 +1,252 @@
+/*
+ * Seals standard input to a record stream, in pieces of 64 KiB, and opens one. Both read their
+ * input once, so it may be a pipe, and the opener writes no byte before its tag is verified:
+ *
+ *     records seal KEYFILE < plain > sealed
+ *     records open KEYFILE < sealed > plain
+ *
+ * A key file has 32 bytes. If the opener fails, what it has written is only the beginning of what
+ * was sealed. Without these arguments the program tries both on each other.
+ *
+ * cc records.c $(pkg-config --cflags --libs hunkravy)
+ */
+#define _POSIX_C_SOURCE 200809L
+
+#include "hunkravy.h"
+
+#include <stdio.h>
+#include <stdlib.h>
+#include <string.h>
+#include <sys/random.h>
+#include <sys/wait.h>
+#include <unistd.h>
+
+#define KEY_BYTES HUNKRAVY_RECORD_KEY_BYTES
+#define PREFIX_BYTES HUNKRAVY_RECORD_PREFIX_BYTES
+#define HEADER_BYTES HUNKRAVY_RECORD_HEADER_BYTES
+#define HEAD_BYTES HUNKRAVY_RECORD_HEAD_BYTES
+#define PIECE_BYTES 65536
+
+/* Both sides know it: it is authenticated with each piece, and not sent. */
+static const uint8_t CONTEXT[] = "example record streams, version 1";
+
+/* A record, and within it the piece that it holds. */
+static uint8_t record[PIECE_BYTES + HUNKRAVY_RECORD_BYTES];
+static uint8_t *const piece = record + HEAD_BYTES;
+
+/* Says whether a file has no more bytes. Of a file that failed ferror then holds. */
+static int is_at_end(FILE *in)
+{
+    int byte = getc(in);
+    return byte == EOF || ungetc(byte, in) == EOF;
+}
+
+/* Writes the records of a stream that was begun, one for each piece. Returns 0, or -1. */
+static int seal_pieces(hunkravy_record_stream *stream, FILE *out, FILE *in)
+{
+    int is_last, code;
+
+    do {
+        size_t length = fread(piece, 1, PIECE_BYTES, in);
+        is_last = is_at_end(in);
+        /* A read that failed is not the end. */
+        if (ferror(in)) {
+            return -1;
+        }
+        if (is_last) {
+            code = hunkravy_record_seal_last(stream, record, length);
+        } else {
+            code = hunkravy_record_seal(stream, record, length);
+        }
+        length += HUNKRAVY_RECORD_BYTES;
+        if (code != HUNKRAVY_OK || fwrite(record, 1, length, out) != length) {
+            return -1;
+        }
+    } while (!is_last);
+    return fflush(out) == 0 ? 0 : -1;
+}
+
+/* Writes a fresh prefix, and then the stream of all that `in` has. Returns 0, or -1. */
+static int seal(FILE *out, FILE *in, const uint8_t *key)
+{
+    uint8_t begin[PREFIX_BYTES + HEADER_BYTES];
+    hunkravy_record_stream stream;
+    int result;
+
+    if (getentropy(begin, PREFIX_BYTES) != 0 ||
+        hunkravy_record_begin(&stream, key, begin, CONTEXT, sizeof CONTEXT, begin + PREFIX_BYTES) !=
+            HUNKRAVY_OK) {
+        return -1;
+    }
+    result =
+        fwrite(begin, 1, sizeof begin, out) == sizeof begin ? seal_pieces(&stream, out, in) : -1;
+    /* After an error it has not ended. */
+    hunkravy_wipe(&stream, sizeof stream);
+    return result;
+}
+
+/* Reads a record, and returns its length, or 0 if there is none that fits. */
+static size_t read_record(const hunkravy_record_stream *stream, FILE *in)
+{
+    size_t length;
+
+    if (fread(record, 1, HEAD_BYTES, in) != HEAD_BYTES ||
+        hunkravy_record_len(stream, record, &length) != HUNKRAVY_OK || length > sizeof record ||
+        fread(piece, 1, length - HEAD_BYTES, in) != length - HEAD_BYTES) {
+        return 0;
+    }
+    return length;
+}
+
+/* Writes the pieces of a stream that was begun, each once it is verified. Returns 0, or -1. */
+static int open_pieces(hunkravy_record_stream *stream, FILE *out, FILE *in)
+{
+    size_t length;
+    int is_last;
+
+    do {
+        length = read_record(stream, in);
+        if (length == 0 ||
+            hunkravy_record_open(stream, record, length, &length, &is_last) != HUNKRAVY_OK ||
+            fwrite(piece, 1, length, out) != length) {
+            return -1;
+        }
+    } while (!is_last);
+    return is_at_end(in) && !ferror(in) && fflush(out) == 0 ? 0 : -1;
+}
+
+/* Writes what was sealed to `in`. Returns 0 if that is all of it, and -1 otherwise. */
+static int open_sealed(FILE *out, FILE *in, const uint8_t *key)
+{
+    uint8_t begin[PREFIX_BYTES + HEADER_BYTES];
+    hunkravy_record_stream stream;
+    int result;
+
+    if (fread(begin, 1, sizeof begin, in) != sizeof begin ||
+        hunkravy_record_begin_open(&stream, key, begin, CONTEXT, sizeof CONTEXT,
+                                   begin + PREFIX_BYTES) != HUNKRAVY_OK) {
+        return -1;
+    }
+    result = open_pieces(&stream, out, in);
+    hunkravy_wipe(&stream, sizeof stream);
+    return result;
+}
+
+/* ---- Trying both on each other */
+
+/* Opens what another process seals to a pipe. Returns 0, or -1. */
+static int through_pipe(FILE *opened, FILE *plain, const uint8_t *key)
+{
+    int ends[2], status, result = -1;
+    FILE *in;
+    pid_t child;
+
+    if (pipe(ends) != 0 || (child = fork()) < 0) {
+        return -1;
+    }
+    if (child == 0) {
+        FILE *out = fdopen(ends[1], "wb");
+        close(ends[0]);
+        _exit(out != NULL && seal(out, plain, key) == 0 ? EXIT_SUCCESS : EXIT_FAILURE);
+    }
+    close(ends[1]);
+    in = fdopen(ends[0], "rb");
+    if (in != NULL) {
+        result = open_sealed(opened, in, key);
+        fclose(in);
+    }
+    return waitpid(child, &status, 0) == child && status == 0 ? result : -1;
+}
+
+/* Seals `plain` to a file, and changes the byte `at` from its end. Returns 0 if it is refused. */
+static int try_changed(FILE *plain, const uint8_t *key, long at)
+{
+    FILE *sealed = tmpfile(), *opened = tmpfile();
+    int result = -1;
+
+    rewind(plain);
+    if (sealed != NULL && opened != NULL && seal(sealed, plain, key) == 0 &&
+        fseek(sealed, at, SEEK_END) == 0) {
+        int byte = at < 0 ? getc(sealed) : 0;
+        fseek(sealed, at, SEEK_END);
+        putc(byte ^ 1, sealed);
+        rewind(sealed);
+        result = open_sealed(opened, sealed, key) == 0 ? -1 : 0;
+    }
+    if (sealed != NULL) {
+        fclose(sealed);
+    }
+    if (opened != NULL) {
+        fclose(opened);
+    }
+    return result;
+}
+
+/* Returns 0 if both files have the same bytes. */
+static int compare(FILE *one, FILE *other)
+{
+    int byte;
+
+    rewind(one);
+    rewind(other);
+    while ((byte = getc(one)) != EOF) {
+        if (getc(other) != byte) {
+            return -1;
+        }
+    }
+    return getc(other) == EOF ? 0 : -1;
+}
+
+static int try_all(FILE *plain, FILE *opened, const uint8_t *key)
+{
+    int i;
+
+    for (i = 0; i < 3 * PIECE_BYTES + 100; i++) {
+        putc(i % 251, plain);
+    }
+    rewind(plain);
+    if (through_pipe(opened, plain, key) != 0 || compare(plain, opened) != 0) {
+        return -1;
+    }
+    /* A byte of the last tag, one of an earlier record, and one more at the end. */
+    return try_changed(plain, key, -1) == 0 && try_changed(plain, key, -PIECE_BYTES) == 0 &&
+                   try_changed(plain, key, 0) == 0
+               ? 0
+               : -1;
+}
+
+static int read_key(uint8_t *key, const char *name)
+{
+    FILE *file = fopen(name, "rb");
+    int result = -1;
+
+    if (file != NULL) {
+        result = fread(key, 1, KEY_BYTES, file) == KEY_BYTES && is_at_end(file) ? 0 : -1;
+        fclose(file);
+    }
+    return result;
+}
+
+int main(int count, char **arguments)
+{
+    uint8_t key[KEY_BYTES];
+    int result = -1;
+
+    if (count == 3) {
+        if (read_key(key, arguments[2]) == 0) {
+            result = strcmp(arguments[1], "seal") == 0   ? seal(stdout, stdin, key)
+                     : strcmp(arguments[1], "open") == 0 ? open_sealed(stdout, stdin, key)
+                                                         : -1;
+        }
+    } else {
+        FILE *plain = tmpfile(), *opened = tmpfile();
+        if (plain != NULL && opened != NULL && getentropy(key, sizeof key) == 0) {
+            result = try_all(plain, opened, key);
+        }
+        if (result == 0) {
+            puts("hunkravy: a stream was opened from a pipe, and each changed one was refused");
+        }
+    }
+    hunkravy_wipe(key, sizeof key);
+    return result == 0 ? EXIT_SUCCESS : EXIT_FAILURE;
+}

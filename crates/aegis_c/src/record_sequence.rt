@@ -1,0 +1,124 @@
+//! Sequences of calls on a record stream: several records are sealed and opened together as the definition of streams says.
+//! These functions are not exported. They are proved from the contracts of the exports alone.
+
+ghost use Rattle.std.specs.Prelude.{◌≡◌, ◌∷◌, ◌++◌, [], true};
+ghost use Rattle.aegis.specs.Calls.{message_in};
+ghost use Rattle.aegis.specs.Progress.{AreRecordsOfSomeVersion};
+ghost use Rattle.aegis.specs.Records.{AreRecords};
+ghost use Rattle.aegis.specs.declared.record.version.Version.TheVariants.{Second};
+
+use crate::record::*;
+use aegis_c_calls::answer::*;
+use aegis_c_records::state::RecordState;
+
+/// Seals a stream of two messages, and returns whether all calls have succeeded.
+pub fn two_records_sealed(
+    st: &mut RecordState,
+    k: &[u8; 32],
+    prefix: &[u8; 24],
+    context: &[u8],
+    header: &mut [u8; 4],
+    first: &mut [u8],
+    second: &mut [u8],
+) -> bool
+    ensures { result ≡ true → AreRecords Second k.now prefix.now context.now
+        (message_in first.old ∷ message_in second.old ∷ [])
+        ((header.new ++ first.new) ++ second.new) }
+{
+    if hunkravy_record_begin_nonnull(st, k, prefix, context, header) != DONE {
+        return false;
+    }
+    if hunkravy_record_seal_nonnull(st, context, first) != DONE {
+        return false;
+    }
+    hunkravy_record_seal_last_nonnull(st, context, second) == DONE
+}
+
+/// Opens a stream of two records, and returns whether all calls have succeeded.
+pub fn two_records_opened(
+    st: &mut RecordState,
+    k: &[u8; 32],
+    prefix: &[u8; 24],
+    context: &[u8],
+    header: &[u8; 4],
+    first: &mut [u8],
+    second: &mut [u8],
+) -> bool
+    ensures { result ≡ true → AreRecordsOfSomeVersion k.now prefix.now context.now
+        (message_in first.new ∷ message_in second.new ∷ [])
+        ((header.now ++ first.old) ++ second.old) }
+{
+    let mut is_last = 0;
+    if hunkravy_record_begin_open_nonnull(st, k, prefix, context, header) != DONE {
+        return false;
+    }
+    if hunkravy_record_open_nonnull(st, context, first, &mut is_last) != DONE || is_last == 1 {
+        return false;
+    }
+    hunkravy_record_open_nonnull(st, context, second, &mut is_last) == DONE && is_last == 1
+}
+
+/// Seals two messages and opens their records in their order, which succeeds if sealing does. The messages are then what they
+/// were.
+pub fn two_records_sealed_and_opened(
+    sealer: &mut RecordState,
+    opener: &mut RecordState,
+    k: &[u8; 32],
+    prefix: &[u8; 24],
+    context: &[u8],
+    first: &mut [u8],
+    second: &mut [u8],
+) -> bool
+    ensures first { result ≡ true → message_in first.new ≡ message_in first.old }
+    ensures second { result ≡ true → message_in second.new ≡ message_in second.old }
+{
+    let mut header = [0; 4];
+    if hunkravy_record_begin_nonnull(sealer, k, prefix, context, &mut header) != DONE
+        || hunkravy_record_begin_open_nonnull(opener, k, prefix, context, &header) != DONE
+    {
+        return false;
+    }
+    let mut is_last = 0;
+    if hunkravy_record_seal_nonnull(sealer, context, first) != DONE
+        || hunkravy_record_open_nonnull(opener, context, first, &mut is_last) != DONE
+    {
+        return false;
+    }
+    if hunkravy_record_seal_last_nonnull(sealer, context, second) != DONE {
+        return false;
+    }
+    hunkravy_record_open_nonnull(opener, context, second, &mut is_last) == DONE
+}
+
+/// Seals with a stream after its last record, which is refused.
+pub fn refused_after_the_last_record(
+    st: &mut RecordState,
+    context: &[u8],
+    last: &mut [u8],
+    bytes: &mut [u8],
+) -> bool
+    ensures refused { result ≡ true }
+    ensures kept { bytes.new ≡ bytes.old }
+{
+    if hunkravy_record_seal_last_nonnull(st, context, last) != DONE {
+        return true;
+    }
+    hunkravy_record_seal_nonnull(st, context, bytes) == WRONG_STATE
+}
+
+/// Opens with a stream that is sealed, which is refused.
+pub fn refused_in_the_other_direction(
+    st: &mut RecordState,
+    context: &[u8],
+    message: &mut [u8],
+    bytes: &mut [u8],
+) -> bool
+    ensures refused { result ≡ true }
+    ensures kept { bytes.new ≡ bytes.old }
+{
+    let mut is_last = 0;
+    if hunkravy_record_seal_nonnull(st, context, message) != DONE {
+        return true;
+    }
+    hunkravy_record_open_nonnull(st, context, bytes, &mut is_last) == WRONG_STATE
+}
