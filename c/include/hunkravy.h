@@ -149,7 +149,8 @@ typedef struct hunkravy_record_stream {
  * ---- The library's exports. They are for the calls below and for programs in other languages. Each has the
  * parameters of the call of the same name and returns the same, but its pointers must not be null, even if the length
  * is 0, and what `st` points to must be initialised, even for an init. Those on a record stream are given its context
- * each time, and to seal a message the length of its record.
+ * each time; and to seal a message the length of its record, or they return HUNKRAVY_WRONG_TAG_LENGTH if that is less
+ * than HUNKRAVY_RECORD_BYTES.
  */
 
 HUNKRAVY_MUST_USE int hunkravy_encrypt_in_place_nonnull(uint32_t variant, uint8_t *mc, size_t mclen,
@@ -584,9 +585,9 @@ HUNKRAVY_MUST_USE static inline int hunkravy_mac_final_verify(const hunkravy_sta
 
 /*
  * ---- A record stream: a list of messages, each of which is encrypted and decrypted on its own, in the buffer that
- * holds it, by AEGIS-256 with a tag of 32 bytes. No byte of a message comes out before its tag is verified, and a record
- * opens only at its place in its stream. The last record is marked: a stream is whole only if its last record was
- * opened.
+ * holds it, by AEGIS-256 with a tag of 32 bytes. No byte of a message comes out before its tag is verified, and a
+ * record opens only at its place in its stream. The last record is marked: a stream is whole only if its last record
+ * was opened.
  *
  * The bytes of a stream are a header of 4 bytes and a record for each message, one after the other. A record is a head
  * of 5 bytes, the ciphertext, and the tag. They are the streams of the Rattle library's `aegis::record`, so its limits
@@ -660,9 +661,9 @@ HUNKRAVY_MUST_USE static inline int hunkravy_record_begin_open(hunkravy_record_s
  * Seals the next message, which is not the last one, in place: its `mlen` bytes are at `record +
  * HUNKRAVY_RECORD_HEAD_BYTES`, and the `mlen + HUNKRAVY_RECORD_BYTES` bytes at `record` become its record.
  *
- * Returns HUNKRAVY_OK, HUNKRAVY_WRONG_STATE if the stream is not one that is sealed, or HUNKRAVY_MESSAGE_TOO_LONG if the
- * message or the stream would be too long. After any code but HUNKRAVY_OK nothing is written, and `record` still holds
- * the message, unencrypted.
+ * Returns HUNKRAVY_OK, HUNKRAVY_WRONG_STATE if the stream is not one that is sealed, or HUNKRAVY_MESSAGE_TOO_LONG if
+ * the message or the stream would be too long. After any code but HUNKRAVY_OK nothing is written, and `record` still
+ * holds the message, unencrypted.
  */
 HUNKRAVY_MUST_USE static inline int hunkravy_record_seal(hunkravy_record_stream *st, uint8_t *record,
     size_t mlen)

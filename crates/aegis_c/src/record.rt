@@ -1,5 +1,5 @@
-//! The exports on a record stream, which is sealed and opened a record at a time, in place. The state says what the stream is
-//! sealed under and where its next record is; the context is passed to each call.
+//! The exports on a record stream, which is sealed and opened a record at a time, in place. The state says what the
+//! stream is sealed under and where its next record is; the context is passed to each call.
 //!
 //! Each returns a code of `answer`. After a code but that of an invalid tag, nothing has changed.
 
@@ -73,8 +73,8 @@ pub extern "C" fn hunkravy_record_len_nonnull(
     find_length(st, head, record_len)
 }
 
-/// Opens the next record in place. `is_last` becomes 1 for the last record, which ends the stream, and 0 for another. If no
-/// message is sealed to the record, each of its bytes is 0xaa, and the result is `INVALID_TAG`.
+/// Opens the next record in place. `is_last` becomes 1 for the last record, which ends the stream, and 0 for another.
+/// If no message is sealed to the record, each of its bytes is 0xaa, and the result is `INVALID_TAG`.
 #[unsafe(no_mangle)]
 pub extern "C" fn hunkravy_record_open_nonnull(
     st: &mut RecordState,

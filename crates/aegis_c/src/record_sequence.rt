@@ -1,5 +1,5 @@
-//! Sequences of calls on a record stream: several records are sealed and opened together as the definition of streams says.
-//! These functions are not exported. They are proved from the contracts of the exports alone.
+//! Sequences of calls on a record stream: several records are sealed and opened together as the definition of streams
+//! says. These functions are not exported. They are proved from the contracts of the exports alone.
 
 ghost use Rattle.std.specs.Prelude.{◌≡◌, ◌∷◌, ◌++◌, [], true};
 ghost use Rattle.aegis.specs.Calls.{message_in};
@@ -58,8 +58,8 @@ pub fn two_records_opened(
     hunkravy_record_open_nonnull(st, context, second, &mut is_last) == DONE && is_last == 1
 }
 
-/// Seals two messages and opens their records in their order, which succeeds if sealing does. The messages are then what they
-/// were.
+/// Seals two messages and opens their records in the same order, and returns whether all calls have succeeded. The
+/// messages are then what they were.
 pub fn two_records_sealed_and_opened(
     sealer: &mut RecordState,
     opener: &mut RecordState,

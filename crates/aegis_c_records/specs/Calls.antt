@@ -1,5 +1,5 @@
--- What each call on a record stream does: the code that it returns (`answer`), and the state and the bytes at its pointers
--- before and after it. A state stands for a stream of a context, which C passes to each call again.
+-- What each call on a record stream does: the code that it returns (`answer`), and the state and the bytes at its
+-- pointers before and after it. A state stands for a stream of a context, which C passes to each call again.
 use Rattle.std.specs.Prelude.{◌≡◌, ◌≢◌, ℕ, ℤ, ◌+◌, ◌≤◌, List, [], ◌∷◌, ◌++◌, drop, length, replicate}
 use Rattle.aegis_engine.specs.declared.cipher.TheConstants.{ERASED}
 use Rattle.aegis.specs.Calls.{message_in, with_message}
@@ -64,9 +64,9 @@ pub record FindsLength (st : RecordState) (head : List ℕ) (old new : ℕ) (ans
       → head ++ body ≡ record_of (progress_of st context) flag m → new ≡ length (head ++ body)
   pub kept : answer ≢ DONE → new ≡ old
 
--- The call opens the next record, which `bytes` are: its message is written over its ciphertext, and `flag` becomes 1 for the
--- last record and 0 for another. After the last one it ends the state. If `bytes` are no next record it erases them all, and
--- keeps the state; and if the state or a length is wrong, it changes nothing.
+-- The call opens the next record, which `bytes` are: its message is written over its ciphertext, and `flag` becomes 1
+-- for the last record and 0 for another. After the last one it ends the state. If `bytes` are no next record it erases
+-- them all, and keeps the state; and if the state or a length is wrong, it changes nothing.
 pub record OpensRecord (context : List ℕ) (old new : RecordState) (bytes bytes' : List ℕ) (flag flag' : ℕ) (answer : ℤ) : Type 0 where
   pub answered : answer ≢ INVALID_TAG → answer ≡ open_answer old (length context) (length bytes)
   pub lengths : answer ≡ INVALID_TAG → open_answer old (length context) (length bytes) ≡ DONE

@@ -1,7 +1,7 @@
 //! The calls on a record stream.
 //!
-//! Each returns a code of `aegis_c_calls::answer`. C may pass a state that no call has begun, or one that it has changed. So its
-//! mark and its two numbers are checked, and each call is safe for any other bytes.
+//! Each returns a code of `aegis_c_calls::answer`. C may pass a state that no call has begun, or one that it has
+//! changed. So its mark and its two numbers are checked, and each call is safe for any other bytes.
 
 ghost use Rattle.std.specs.Prelude.{◌≡◌, ◌+◌, ◌≤◌};
 ghost use Rattle.aegis_base.specs.declared.error.TheConstants.{MAX_AEAD_BYTES};
@@ -80,8 +80,8 @@ pub fn begin_opening(
     DONE
 }
 
-/// Seals the next message, which is not the last one, where it lies: `bytes` has 5 bytes for its head, the message, and 32
-/// bytes for its tag.
+/// Seals the next message, which is not the last one, where it lies: `bytes` has 5 bytes for its head, the message, and
+/// 32 bytes for its tag.
 pub fn seal_next(st: &mut RecordState, context: &[u8], bytes: &mut [u8]) -> i32
     ensures { SealsNext context.now st.old st.new bytes.old bytes.new result }
 {
@@ -129,9 +129,9 @@ pub fn find_length(st: &RecordState, head: &[u8; 5], bytes: &mut usize) -> i32
     DONE
 }
 
-/// Opens the next record in place: its message is written over its ciphertext, and `flag` becomes 1 for the last record, and 0
-/// for another. If `bytes` is no next record, each of its bytes is [`ERASED`], and the state is as it was. The last record
-/// ends the state.
+/// Opens the next record in place: its message is written over its ciphertext, and `flag` becomes 1 for the last
+/// record, and 0 for another. If `bytes` is no next record, each of its bytes is [`ERASED`], and the state is as it
+/// was. The last record ends the state.
 pub fn open_next(st: &mut RecordState, context: &[u8], bytes: &mut [u8], flag: &mut u8) -> i32
     ensures { OpensRecord context.now st.old st.new bytes.old bytes.new flag.old flag.new result }
 {

@@ -32,8 +32,8 @@ fn start(st: &RecordState) -> Option<u64>
     }
 }
 
-/// Returns at which byte of its stream the next record starts, or the code of the call if the state does not have this mark, or
-/// its stream is past the limit.
+/// Returns at which byte of its stream the next record starts, or the code of the call if the state does not have this
+/// mark, or its stream is past the limit.
 pub fn check_state(st: &RecordState, mark: u64) -> Result<u64, i32>
     ensures start { IfOk result (λ at. at ≡ start_at st.now.number st.now.before) }
     ensures within { IfOk result (λ at. at ≤ MAX_AEAD_BYTES) }
@@ -50,8 +50,8 @@ pub fn check_state(st: &RecordState, mark: u64) -> Result<u64, i32>
     }
 }
 
-/// Returns the code of the call, as an error, if a state does not have this mark, its stream is past the limit, or a length is
-/// wrong: that of its next record, or that of its context.
+/// Returns the code of the call, as an error, if a state does not have this mark, its stream is past the limit, or a
+/// length is wrong: that of its next record, or that of its context.
 pub fn check_record(st: &RecordState, mark: u64, context: usize, bytes: usize) -> Result<(), i32>
     ensures context { OnOk result (context ≤ MAX_CONTEXT_BYTES) }
     ensures within { OnOk result (bytes ≤ RECORD_BYTES + limit (version_of st.now.version)) }

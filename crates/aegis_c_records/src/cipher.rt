@@ -28,8 +28,8 @@ fn head(flag: u8, message_len: usize) -> [u8; RECORD_HEAD_BYTES]
     [flag, a, b, c, d]
 }
 
-// Seals a message in place: `body` has the message and then 32 bytes, over which its ciphertext and its tag are written. The
-// associated data is written to `ROOM` bytes of the stack.
+// Seals a message in place: `body` has the message and then 32 bytes, over which its ciphertext and its tag are
+// written. The associated data is written to `ROOM` bytes of the stack.
 #[inline(never)]
 fn seal_with_room<const ROOM: usize>(st: &RecordState, flag: u8, context: &[u8], body: &mut [u8])
     requires room { DATA_BYTES + length context.now ≤ ROOM }
@@ -61,8 +61,8 @@ fn seal_body(st: &RecordState, flag: u8, context: &[u8], body: &mut [u8])
     }
 }
 
-// Opens a ciphertext and its tag in place: the message is written over the ciphertext. Returns whether some message is sealed
-// to them.
+// Opens a ciphertext and its tag in place: the message is written over the ciphertext. Returns whether some message is
+// sealed to them.
 #[inline(never)]
 fn open_with_room<const ROOM: usize>(
     st: &RecordState,
@@ -110,8 +110,8 @@ fn open_body(st: &RecordState, flag: u8, context: &[u8], body: &mut [u8]) -> boo
     }
 }
 
-/// Seals the next message, with this flag, where it lies: `bytes` has 5 bytes for its head, the message, and 32 bytes for its
-/// tag.
+/// Seals the next message, with this flag, where it lies: `bytes` has 5 bytes for its head, the message, and 32 bytes
+/// for its tag.
 pub fn seal_record(st: &RecordState, flag: u8, context: &[u8], bytes: &mut [u8])
     requires context { length context.now ≤ MAX_CONTEXT_BYTES }
     requires room { RECORD_BYTES ≤ length bytes.old }
@@ -148,8 +148,8 @@ fn flag_of(bytes: &[u8]) -> Option<u8>
     }
 }
 
-/// Opens the next record in place, and returns its flag. Returns `None` if no message is sealed to `bytes`, which must then not
-/// be used.
+/// Opens the next record in place, and returns its flag. Returns `None` if no message is sealed to `bytes`, which must
+/// then not be used.
 pub fn open_record(st: &RecordState, context: &[u8], bytes: &mut [u8]) -> Option<u8>
     requires context { length context.now ≤ MAX_CONTEXT_BYTES }
     requires within { length bytes.old ≤ RECORD_BYTES + MAX_MESSAGE_BYTES }

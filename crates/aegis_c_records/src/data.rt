@@ -10,7 +10,8 @@ use crate::state::{FIRST, RecordState, SECOND};
 use aegis::aegis256::Nonce;
 use aegis::record::{MAX_MESSAGE_BYTES, Version};
 
-/// How many bytes the associated data has at most, but for the context: a header, a number, a sum of lengths and a flag.
+/// How many bytes the associated data has at most, but for the context: a header, a number, a sum of lengths and a
+/// flag.
 pub const DATA_BYTES: usize = 4 + 8 + 8 + 1;
 
 // How many bytes a record's message may have in the first version.
