@@ -1,0 +1,9 @@
+pub mod Boxes
+pub mod Composing
+pub mod Heading
+pub mod Known
+pub mod Laying
+pub mod Overwriting
+pub mod Ranging
+pub mod Rewriting
+pub mod Standing

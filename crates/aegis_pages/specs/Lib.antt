@@ -1,0 +1,4 @@
+pub mod Bytes
+pub mod Errors
+pub mod Layouts
+pub mod SealedPages
