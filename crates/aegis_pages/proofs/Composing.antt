@@ -1,10 +1,9 @@
 -- The text of a page, as it is after a part was written.
-use Rattle.std.proofs.Common.{◌≡◌, ℕ, ◌+◌, ◌-◌, ◌<◌, ◌≤◌, ◌⊎◌, inl, inr, List, ◌*◌, ◌++◌, drop, get_or, length, take, sym, ap, ◌∙◌, arith}
+use Rattle.std.proofs.Common.{◌≡◌, ℕ, ◌+◌, ◌-◌, ◌<◌, ◌≤◌, ◌⊎◌, inl, inr, List, ◌*◌, ◌++◌, drop, get_or, length, take, sym, ap, subst, ◌∙◌, arith}
 use Rattle.std.proofs.lemmas.Bool.{cases_lt}
 use Rattle.std.proofs.lemmas.List.{get_or-take, get_or_past, length-drop, length-take}
-use Rattle.aegis_pages.specs.declared.layout.Layout.{Layout}
 use Rattle.aegis_pages.specs.Bytes.{overwritten}
-use Rattle.aegis_pages.specs.Layouts.{OpensAt, inner}
+use Rattle.aegis_pages.specs.Layouts.{Layout, OpensAt, box_bytes, inner, nonce_bytes}
 use Rattle.aegis_pages.specs.SealedPages.{IsPage}
 use Rattle.aegis_pages.proofs.Boxes.{inner_of}
 use Rattle.aegis_pages.proofs.Overwriting.{after_part, before_part, within_part}
@@ -41,16 +40,28 @@ lies_so text part before after page_bytes live start at l i low = cases (cases_l
     cases (inr from) (inr above) = other (inr above) (cases_lt i live)
 
 -- the bytes of a page that was read are the text's
-pub live_so : (layout : Layout) (number : ℕ) (text sealed page : List ℕ) (i : ℕ) → length page ≡ layout.page_bytes + 64 → ((m : List ℕ) → OpensAt layout number sealed m → inner page ≡ m)
+pub live_so : (layout : Layout) (number n : ℕ) (text sealed page : List ℕ) (i : ℕ) → n ≡ nonce_bytes layout → length page ≡ box_bytes layout layout.page_bytes
+    → ((m : List ℕ) → OpensAt layout number sealed m → inner layout page ≡ m)
     → IsPage layout number sealed text → i < layout.page_bytes → number * layout.page_bytes + i < length text
-    → get_or (take ((32 + layout.page_bytes) - 32) (drop 32 page)) i 0 ≡ get_or text (number * layout.page_bytes + i) 0
-live_so layout number text sealed page i room only is low within =
-    get_or-take ((32 + layout.page_bytes) - 32) (drop 32 page) i 0 (omega arith)
-    ∙ sym (get_or-take (length page - 64) (drop 32 page) i 0 (omega arith))
+    → get_or (take ((n + layout.page_bytes) - n) (drop n page)) i 0 ≡ get_or text (number * layout.page_bytes + i) 0
+live_so layout number n text sealed page i nonce room only is low within =
+    get_or-take ((n + layout.page_bytes) - n) (drop n page) i 0 (omega arith)
+    ∙ ap (λ (k : ℕ). get_or (drop k page) i 0) nonce
+    ∙ sym (get_or-take (length page - (nonce_bytes layout + 32)) (drop (nonce_bytes layout) page) i 0 (omega (arith, room, low)))
     ∙ ap (λ (l : List ℕ). get_or l i 0) (only is.message is.opens) ∙ is.bytes i low within
 
+-- the same, with the page size that the code has
+pub live_at : (layout : Layout) (number n p : ℕ) (text sealed page : List ℕ) (i : ℕ) → p ≡ layout.page_bytes → n ≡ nonce_bytes layout → length page ≡ box_bytes layout layout.page_bytes
+    → ((m : List ℕ) → OpensAt layout number sealed m → inner layout page ≡ m)
+    → IsPage layout number sealed text → i < p → number * p + i < length text
+    → get_or (take ((n + p) - n) (drop n page)) i 0 ≡ get_or text (number * p + i) 0
+live_at layout number n p text sealed page i size nonce room only is =
+    subst (λ (q : ℕ). i < q → number * q + i < length text → get_or (take ((n + q) - n) (drop n page)) i 0 ≡ get_or text (number * q + i) 0) (sym size)
+    (live_so layout number n text sealed page i nonce room only is)
+
 -- the page with its text exchanged
-pub inner_put : (n : ℕ) (page text : List ℕ) → length page ≡ n + 64 → length text ≡ n → inner (take 32 page ++ (text ++ drop ((32 + n) - 32) (drop 32 page))) ≡ text
-inner_put n page text room size =
-    inner_of (take 32 page) text (drop ((32 + n) - 32) (drop 32 page)) (omega (arith, length-take 32 page))
-    (omega (arith, length-drop ((32 + n) - 32) (drop 32 page), length-drop 32 page))
+pub inner_put : (layout : Layout) (n m : ℕ) (page text : List ℕ) → n ≡ nonce_bytes layout → length page ≡ box_bytes layout m → length text ≡ m
+    → inner layout (take n page ++ (text ++ drop ((n + m) - n) (drop n page))) ≡ text
+inner_put layout n m page text nonce room size =
+    inner_of layout (take n page) text (drop ((n + m) - n) (drop n page)) (omega (arith, nonce, room, length-take n page))
+    (omega (arith, nonce, room, length-drop ((n + m) - n) (drop n page), length-drop n page))

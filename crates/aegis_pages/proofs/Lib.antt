@@ -3,6 +3,7 @@ pub mod Composing
 pub mod Heading
 pub mod Known
 pub mod Laying
+pub mod Newest
 pub mod Overwriting
 pub mod Ranging
 pub mod Rewriting

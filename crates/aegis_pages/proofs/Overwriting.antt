@@ -1,6 +1,6 @@
 -- Bytes that are overwritten.
 use Rattle.std.proofs.Common.{◌≡◌, ℕ, ◌+◌, ◌-◌, ◌<◌, ◌≤◌, ◌⊎◌, inl, inr, List, ◌++◌, drop, get_or, length, replicate, take, refl, sym, ap, ◌∙◌, arith, min}
-use Rattle.std.proofs.lemmas.List.{append-nil, append_assoc, ext_get_or, drop_at, get_or-append_right, get_or-drop, get_or-take, get_or_append_left, get_or_past, length-append, length-drop, length-replicate, length-take, places, take_at}
+use Rattle.std.proofs.lemmas.List.{append-nil, append_assoc, ext_get_or, drop_all, drop_at, get_or-append_right, get_or-drop, get_or-take, get_or_append_left, get_or_past, length-append, length-drop, length-replicate, length-take, places, take_at}
 use Rattle.std.proofs.lemmas.Bool.{cases_lt}
 use Rattle.aegis_pages.specs.Bytes.{overwritten, part_at, resized}
 
@@ -43,6 +43,12 @@ overwritten_resized xs at bs short =
     let long = length-overwritten (resized xs (at + length bs)) at bs in
     let same = length-resized xs (at + length bs) in
     ext_get_or 0 _ _ (omega (arith, long, length-overwritten xs at bs, same)) (λ k h. longer_byte xs at bs k (omega (arith, h, long, same)) (cases_lt k at))
+
+pub overwritten_whole : (text part : List ℕ) → length text ≤ length part → overwritten text 0 part ≡ part
+overwritten_whole text part short =
+    let none : 0 - length text ≡ 0 = omega arith in
+    ap (λ (n : ℕ). replicate n 0 ++ (part ++ drop (0 + length part) text)) none
+    ∙ ap (λ (l : List ℕ). part ++ l) (drop_all (0 + length part) text (omega (arith, short))) ∙ append-nil part
 
 -- ---- parts
 

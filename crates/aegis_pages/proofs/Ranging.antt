@@ -3,22 +3,23 @@ use Rattle.std.proofs.Common.{◌≡◌, ℕ, ◌+◌, ◌-◌, ◌*◌, ◌/◌
 use Rattle.std.proofs.lemmas.Bool.{cases_lt}
 use Rattle.std.proofs.lemmas.List.{get_or-drop, get_or-take, length-drop, length-take}
 use Rattle.std.proofs.lemmas.Nat.{div-add-mod', div-mul-add, mod-mul-add}
-use Rattle.aegis_pages.specs.declared.layout.Layout.{Layout}
 use Rattle.aegis_pages.specs.Bytes.{overwritten}
-use Rattle.aegis_pages.specs.Layouts.{OpensAt, inner, page_at}
+use Rattle.aegis_pages.specs.Layouts.{Layout, OpensAt, box_bytes, inner, nonce_bytes, page_at}
 use Rattle.aegis_pages.specs.SealedPages.{ArePages, IsByte}
 use Rattle.aegis_pages.proofs.Overwriting.{before_part, within_part}
 
 -- A piece of the page's text was put into `out`, after `done` bytes.
 pub record Puts (layout : Layout) (page out piece new : List ℕ) (at done count : ℕ) : Type 0 where
-  pub room : length page ≡ layout.page_bytes + 64
-  pub piece_is : piece ≡ take (((32 + (at + done) % layout.page_bytes) + count) - (32 + (at + done) % layout.page_bytes)) (drop (32 + (at + done) % layout.page_bytes) page)
+  pub nonce : ℕ
+  pub nonce_is : nonce ≡ nonce_bytes layout
+  pub room : length page ≡ box_bytes layout layout.page_bytes
+  pub piece_is : piece ≡ take (((nonce + (at + done) % layout.page_bytes) + count) - (nonce + (at + done) % layout.page_bytes)) (drop (nonce + (at + done) % layout.page_bytes) page)
   pub put : new ≡ overwritten out done piece
   pub within : (at + done) % layout.page_bytes + count ≤ layout.page_bytes
 
 -- where byte k of the piece lies
 pub record IsIn (layout : Layout) (page new : List ℕ) (at done i : ℕ) : Type 0 where
-  pub byte : get_or new i 0 ≡ get_or (inner page) ((at + i) % layout.page_bytes) 0
+  pub byte : get_or new i 0 ≡ get_or (inner layout page) ((at + i) % layout.page_bytes) 0
   pub number : (at + i) / layout.page_bytes ≡ (at + done) / layout.page_bytes
   pub place : (at + done) / layout.page_bytes * layout.page_bytes + (at + i) % layout.page_bytes ≡ at + i
   pub below : (at + i) % layout.page_bytes < layout.page_bytes
@@ -30,6 +31,8 @@ put_in layout page out piece new at done count p i from to =
     let q : ℕ = (at + done) / n in
     let r : ℕ = (at + done) % n in
     let room = p.room in
+    let nonce = p.nonce_is in
+    let h : ℕ = p.nonce in
     let within = p.within in
     let split : q * n + r ≡ at + done = div-add-mod' (at + done) n in
     let low : r + (i - done) < n = omega arith in
@@ -37,16 +40,17 @@ put_in layout page out piece new at done count p i from to =
     let number : (at + i) / n ≡ q = ap (λ (x : ℕ). x / n) is ∙ div-mul-add q n (r + (i - done)) low in
     let rest : (at + i) % n ≡ r + (i - done) = ap (λ (x : ℕ). x % n) is ∙ mod-mul-add q n (r + (i - done)) low in
     let size : length piece ≡ count =
-    omega (arith, ap length p.piece_is, length-take (((32 + r) + count) - (32 + r)) (drop (32 + r) page), length-drop (32 + r) page) in
-    let here : get_or piece (i - done) 0 ≡ get_or page (32 + (r + (i - done))) 0 =
+    omega (arith, ap length p.piece_is, length-take (((h + r) + count) - (h + r)) (drop (h + r) page), length-drop (h + r) page, nonce, room, within) in
+    let here : get_or piece (i - done) 0 ≡ get_or page (nonce_bytes layout + (r + (i - done))) 0 =
     ap (λ (l : List ℕ). get_or l (i - done) 0) p.piece_is
-    ∙ get_or-take (((32 + r) + count) - (32 + r)) (drop (32 + r) page) (i - done) 0 (omega arith)
-    ∙ get_or-drop (32 + r) page (i - done) 0 ∙ ap (λ (k : ℕ). get_or page k 0) (omega arith) in
-    let there : get_or (inner page) (r + (i - done)) 0 ≡ get_or page (32 + (r + (i - done))) 0 =
-    get_or-take (length page - 64) (drop 32 page) (r + (i - done)) 0 (omega arith) ∙ get_or-drop 32 page (r + (i - done)) 0 in
+    ∙ get_or-take (((h + r) + count) - (h + r)) (drop (h + r) page) (i - done) 0 (omega arith)
+    ∙ get_or-drop (h + r) page (i - done) 0 ∙ ap (λ (k : ℕ). get_or page k 0) (omega (arith, nonce)) in
+    let there : get_or (inner layout page) (r + (i - done)) 0 ≡ get_or page (nonce_bytes layout + (r + (i - done))) 0 =
+    get_or-take (length page - (nonce_bytes layout + 32)) (drop (nonce_bytes layout) page) (r + (i - done)) 0 (omega (arith, room, low))
+    ∙ get_or-drop (nonce_bytes layout) page (r + (i - done)) 0 in
     record {
       byte = ap (λ (l : List ℕ). get_or l i 0) p.put ∙ within_part out done piece i from (omega arith) ∙ here ∙ sym there
-          ∙ ap (λ (k : ℕ). get_or (inner page) k 0) (sym rest);
+          ∙ ap (λ (k : ℕ). get_or (inner layout page) k 0) (sym rest);
       number = number;
       place = omega (arith, rest, is);
       below = omega arith;
@@ -56,7 +60,7 @@ put_in layout page out piece new at done count p i from to =
 
 pub bytes_more : (layout : Layout) (file page out piece new : List ℕ) (at done count : ℕ) → Puts layout page out piece new at done count
     → ((i : ℕ) → i < done → IsByte layout file (at + i) (get_or out i 0))
-    → OpensAt layout ((at + done) / layout.page_bytes) (page_at layout file ((at + done) / layout.page_bytes)) (inner page)
+    → OpensAt layout ((at + done) / layout.page_bytes) (page_at layout file ((at + done) / layout.page_bytes)) (inner layout page)
     → (i : ℕ) → i < done + count → IsByte layout file (at + i) (get_or new i 0)
 bytes_more layout file page out piece new at done count p before opens i low = cases (cases_lt i done)
   where
@@ -66,8 +70,8 @@ bytes_more layout file page out piece new at done count p before opens i low = c
     cases (inr from) =
         let is = put_in layout page out piece new at done count p i from low in
         record {
-          message = inner page;
-          opens = subst (λ (k : ℕ). OpensAt layout k (page_at layout file k) (inner page)) (sym is.number) opens;
+          message = inner layout page;
+          opens = subst (λ (k : ℕ). OpensAt layout k (page_at layout file k) (inner layout page)) (sym is.number) opens;
           byte = is.byte;
         }
 
@@ -75,7 +79,7 @@ bytes_more layout file page out piece new at done count p before opens i low = c
 
 pub text_more : (layout : Layout) (file page out piece new text : List ℕ) (at done count : ℕ) → Puts layout page out piece new at done count
     → ArePages layout text file → ((i : ℕ) → i < done → get_or out i 0 ≡ get_or text (at + i) 0)
-    → ((m : List ℕ) → OpensAt layout ((at + done) / layout.page_bytes) (page_at layout file ((at + done) / layout.page_bytes)) m → inner page ≡ m)
+    → ((m : List ℕ) → OpensAt layout ((at + done) / layout.page_bytes) (page_at layout file ((at + done) / layout.page_bytes)) m → inner layout page ≡ m)
     → at + (done + count) ≤ length text
     → (i : ℕ) → i < done + count → get_or new i 0 ≡ get_or text (at + i) 0
 text_more layout file page out piece new text at done count p are before only fits i low = cases (cases_lt i done)

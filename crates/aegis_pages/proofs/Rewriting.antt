@@ -2,67 +2,67 @@
 use Rattle.std.proofs.Common.{◌≡◌, ℕ, ◌+◌, ◌-◌, ◌*◌, ◌/◌, ◌%◌, ◌<◌, ◌≤◌, ◌⊎◌, inl, inr, List, get_or, length, min, refl, sym, ap, subst, ◌∙◌, arith}
 use Rattle.std.proofs.lemmas.Bool.{cases_lt}
 use Rattle.std.proofs.lemmas.Nat.{div-add-mod', div_below, le-div, mod_below}
-use Rattle.aegis_pages.specs.declared.layout.Layout.{Layout}
 use Rattle.aegis_pages.specs.Bytes.{overwritten, part_at}
-use Rattle.aegis_pages.specs.Layouts.{OpensAt, page_at, page_place}
-use Rattle.aegis_pages.specs.SealedPages.{ArePages, IsApart, IsPage, KeepsHeader, KeepsOthers, KeepsPage, WritesText}
+use Rattle.aegis_pages.specs.Layouts.{Layout, OpensAt, box_bytes, page_at, page_place}
+use Rattle.aegis_pages.specs.Headers.{KeepsSectors}
+use Rattle.aegis_pages.specs.SealedPages.{ArePages, IsApart, IsPage, KeepsOthers, KeepsPage, WritesText}
 use Rattle.aegis_pages.proofs.Overwriting.{after_part, before_part, kept_part, length-overwritten, put_part}
 use Rattle.std.proofs.Math.Nat.{mul-le-mul_right}
 
 -- Of the pages from `first` on, those before `number` were written.
 pub record Rewrites (layout : Layout) (len at : ℕ) (part : List ℕ) (first number : ℕ) (old new : List ℕ) : Type 0 where
-  pub header : KeepsHeader old new
+  pub sectors : KeepsSectors old new
   pub others : (k : ℕ) → (k < first) ⊎ (number ≤ k) → KeepsPage layout k old new
   pub written : (k : ℕ) → first ≤ k → k < number → (text : List ℕ) → length text ≡ len → ArePages layout text old
       → IsPage layout k (page_at layout new k) (overwritten text at part)
 
 pub rewrites_none : (layout : Layout) (len at : ℕ) (part : List ℕ) (first : ℕ) (old : List ℕ) → Rewrites layout len at part first first old old
 rewrites_none layout len at part first old = record {
-  header = λ whole. refl;
+  sectors = λ whole. refl;
   others = λ k apart whole. refl;
   written = λ k from below. absurd (omega arith);
 }
 
 -- two pages lie apart
-pub places_apart : (page_bytes j k : ℕ) → j < k → page_place page_bytes j + (page_bytes + 64) ≤ page_place page_bytes k
-places_apart page_bytes j k below =
-    let more = mul-le-mul_right (page_bytes + 64) (let h : j + 1 ≤ k = omega arith in h) in
+pub places_apart : (layout : Layout) (j k : ℕ) → j < k → page_place layout j + box_bytes layout layout.page_bytes ≤ page_place layout k
+places_apart layout j k below =
+    let more = mul-le-mul_right (box_bytes layout layout.page_bytes) (let h : j + 1 ≤ k = omega arith in h) in
     omega (arith, more)
 
 -- a write of the box of page `number`, in whole or in part
-pub other_page : (layout : Layout) (k number : ℕ) (old torn : List ℕ) → (k < number) ⊎ (number < k) → length torn ≤ layout.page_bytes + 64
-    → KeepsPage layout k old (overwritten old (page_place layout.page_bytes number) torn)
+pub other_page : (layout : Layout) (k number : ℕ) (old torn : List ℕ) → (k < number) ⊎ (number < k) → length torn ≤ box_bytes layout layout.page_bytes
+    → KeepsPage layout k old (overwritten old (page_place layout number) torn)
 other_page layout k number old torn (inl below) size = λ whole.
-    let far = places_apart layout.page_bytes k number below in
-    kept_part old (page_place layout.page_bytes number) torn (page_place layout.page_bytes k) (layout.page_bytes + 64) (inl far) whole
+    let far = places_apart layout k number below in
+    kept_part old (page_place layout number) torn (page_place layout k) (box_bytes layout layout.page_bytes) (inl far) whole
 other_page layout k number old torn (inr above) size = λ whole.
-    let far = places_apart layout.page_bytes number k above in
-    kept_part old (page_place layout.page_bytes number) torn (page_place layout.page_bytes k) (layout.page_bytes + 64) (inr (omega (arith, far))) whole
+    let far = places_apart layout number k above in
+    kept_part old (page_place layout number) torn (page_place layout k) (box_bytes layout layout.page_bytes) (inr (omega (arith, far))) whole
 
-pub other_header : (page_bytes number : ℕ) (old torn : List ℕ) → KeepsHeader old (overwritten old (page_place page_bytes number) torn)
-other_header page_bytes number old torn = λ whole. kept_part old (page_place page_bytes number) torn 0 104 (inl (omega arith)) whole
+pub other_sectors : (layout : Layout) (number : ℕ) (old torn : List ℕ) → KeepsSectors old (overwritten old (page_place layout number) torn)
+other_sectors layout number old torn = λ whole. kept_part old (page_place layout number) torn 0 1024 (inl (omega arith)) whole
 
 pub keeps_both : (layout : Layout) (k : ℕ) (a b c : List ℕ) → KeepsPage layout k a b → KeepsPage layout k b c → KeepsPage layout k a c
 keeps_both layout k a b c first second = λ whole. let same = first whole in second (ap length same ∙ whole) ∙ same
 
-pub header_both : (a b c : List ℕ) → KeepsHeader a b → KeepsHeader b c → KeepsHeader a c
-header_both a b c first second = λ whole. let same = first whole in second (ap length same ∙ whole) ∙ same
+pub sectors_both : (a b c : List ℕ) → KeepsSectors a b → KeepsSectors b c → KeepsSectors a c
+sectors_both a b c first second = λ whole. let same = first whole in second (ap length same ∙ whole) ∙ same
 
 -- what is written as page `number`
 pub record Written (layout : Layout) (len at : ℕ) (part : List ℕ) (number : ℕ) (file sealed made : List ℕ) : Type 0 where
-  pub long : length sealed ≡ layout.page_bytes + 64
+  pub long : length sealed ≡ box_bytes layout layout.page_bytes
   pub opens : OpensAt layout number sealed made
   pub bytes : (text : List ℕ) → length text ≡ len → (number * layout.page_bytes < len → IsPage layout number (page_at layout file number) text)
       → (i : ℕ) → i < layout.page_bytes → get_or made i 0 ≡ get_or (overwritten text at part) (number * layout.page_bytes + i) 0
 
 pub rewrites_more : (layout : Layout) (len at : ℕ) (part : List ℕ) (first number : ℕ) (old new sealed made : List ℕ) → first ≤ number
     → Rewrites layout len at part first number old new → Written layout len at part number new sealed made
-    → Rewrites layout len at part first (number + 1) old (overwritten new (page_place layout.page_bytes number) sealed)
+    → Rewrites layout len at part first (number + 1) old (overwritten new (page_place layout number) sealed)
 rewrites_more layout len at part first number old new sealed made from r w =
     let n : ℕ = layout.page_bytes in
     let long = w.long in
     record {
-      header = header_both old new _ r.header (other_header n number new sealed);
+      sectors = sectors_both old new _ r.sectors (other_sectors layout number new sealed);
       others = λ k apart. keeps_both layout k old new _ (r.others k (earlier k apart)) (other_page layout k number new sealed (away k apart) (omega arith));
       written = λ k low high. cases k low (cases_lt k number) high;
     }
@@ -75,21 +75,21 @@ rewrites_more layout len at part first number old new sealed made from r w =
     away k (inl below) = inl (omega arith)
     away k (inr above) = inr (omega arith)
 
-    size : length sealed ≤ layout.page_bytes + 64
+    size : length sealed ≤ box_bytes layout layout.page_bytes
     size = omega (arith, w.long)
 
     same : (k : ℕ) → k < number → (text : List ℕ) → length text ≡ len → ArePages layout text old
         → IsPage layout k (page_at layout new k) (overwritten text at part)
-        → IsPage layout k (page_at layout (overwritten new (page_place layout.page_bytes number) sealed) k) (overwritten text at part)
+        → IsPage layout k (page_at layout (overwritten new (page_place layout number) sealed) k) (overwritten text at part)
     same k below text is are page =
         subst (λ (l : List ℕ). IsPage layout k l (overwritten text at part)) (sym (other_page layout k number new sealed (inl below) size page.whole)) page
 
     here : (text : List ℕ) → length text ≡ len → ArePages layout text old
-        → IsPage layout number (page_at layout (overwritten new (page_place layout.page_bytes number) sealed) number) (overwritten text at part)
+        → IsPage layout number (page_at layout (overwritten new (page_place layout number) sealed) number) (overwritten text at part)
     here text is are =
-        let got : page_at layout (overwritten new (page_place layout.page_bytes number) sealed) number ≡ sealed =
-        ap (part_at (overwritten new (page_place layout.page_bytes number) sealed) (page_place layout.page_bytes number)) (sym w.long)
-        ∙ put_part new (page_place layout.page_bytes number) sealed in
+        let got : page_at layout (overwritten new (page_place layout number) sealed) number ≡ sealed =
+        ap (part_at (overwritten new (page_place layout number) sealed) (page_place layout number)) (sym w.long)
+        ∙ put_part new (page_place layout number) sealed in
         let live : number * layout.page_bytes < len → IsPage layout number (page_at layout new number) text =
         λ low. let page = are.page number (let h : number * layout.page_bytes < length text = omega arith in h) in
         subst (λ (l : List ℕ). IsPage layout number l text) (sym (r.others number (inr (let h : number ≤ number = omega arith in h)) page.whole)) page in
@@ -101,11 +101,11 @@ rewrites_more layout len at part first number old new sealed made from r w =
         })
 
     cases : (k : ℕ) → first ≤ k → (k < number) ⊎ (number ≤ k) → k < number + 1 → (text : List ℕ) → length text ≡ len → ArePages layout text old
-        → IsPage layout k (page_at layout (overwritten new (page_place layout.page_bytes number) sealed) k) (overwritten text at part)
+        → IsPage layout k (page_at layout (overwritten new (page_place layout number) sealed) k) (overwritten text at part)
     cases k low (inl below) high text is are = same k below text is are (r.written k low below text is are)
     cases k low (inr above) high text is are =
         let at_it : number ≡ k = omega arith in
-        subst (λ (j : ℕ). IsPage layout j (page_at layout (overwritten new (page_place layout.page_bytes number) sealed) j) (overwritten text at part)) at_it (here text is are)
+        subst (λ (j : ℕ). IsPage layout j (page_at layout (overwritten new (page_place layout number) sealed) j) (overwritten text at part)) at_it (here text is are)
 
 -- ---- at the end, or after an error
 
@@ -149,7 +149,7 @@ pub rewrites_others : (layout : Layout) (len at : ℕ) (part : List ℕ) (first 
     → Spans layout.page_bytes len at (length part) first last → number ≤ last → Rewrites layout len at part first number old new
     → KeepsOthers layout (min at len) (at + length part) old new
 rewrites_others layout len at part first last number old new s to r = record {
-  header = r.header;
+  sectors = r.sectors;
   pages = λ k apart. r.others k (outside k (apart_outside layout.page_bytes len at (length part) first last k s apart));
 }
   where
@@ -160,10 +160,10 @@ rewrites_others layout len at part first last number old new s to r = record {
 -- the box of page `number` may be torn too
 pub torn_others : (layout : Layout) (len at : ℕ) (part : List ℕ) (first last number : ℕ) (old new torn : List ℕ)
     → Spans layout.page_bytes len at (length part) first last → first ≤ number → number < last → Rewrites layout len at part first number old new
-    → length torn ≤ layout.page_bytes + 64
-    → KeepsOthers layout (min at len) (at + length part) old (overwritten new (page_place layout.page_bytes number) torn)
+    → length torn ≤ box_bytes layout layout.page_bytes
+    → KeepsOthers layout (min at len) (at + length part) old (overwritten new (page_place layout number) torn)
 torn_others layout len at part first last number old new torn s from to r size = record {
-  header = header_both old new _ r.header (other_header layout.page_bytes number new torn);
+  sectors = sectors_both old new _ r.sectors (other_sectors layout number new torn);
   pages = λ k apart.
       let out = apart_outside layout.page_bytes len at (length part) first last k s apart in
       keeps_both layout k old new _ (r.others k (outside k out)) (other_page layout k number new torn (away k out) size);

@@ -3,7 +3,7 @@
 use std::io;
 use thiserror::Error;
 
-/// The error of a call of [`crate::SealedPages`]. The call's documentation says what it leaves.
+/// The error of a call of [`crate::Pages`]. The call's documentation says what it leaves.
 #[derive(Debug, Drop, Error)]
 pub enum PagesError {
     /// The storage could not be read, or ends before the page that is wanted.
@@ -15,13 +15,13 @@ pub enum PagesError {
     /// No nonce could be drawn.
     #[error("drawing a nonce: {0}")]
     Nonce(io::Error),
-    /// The header is not one of this format, or not one that was sealed under the key.
-    #[error("not a header that was sealed under this key")]
+    /// The storage has no header that was sealed with this variant and under the key.
+    #[error("no header that was sealed with this variant and under this key")]
     Header,
     /// The page of this number is not one that was sealed under the key for this place of this file.
     #[error("page {0} is damaged")]
     Damaged(u64),
-    /// The text would have more than [`crate::MAX_TEXT_BYTES`].
+    /// The text would have more than [`crate::MAX_TEXT_BYTES`], or 2^64 headers were written.
     #[error("too long")]
     TooLong,
     /// Memory ran out.

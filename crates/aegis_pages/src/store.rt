@@ -35,8 +35,9 @@ pub trait Storage {
         ensures read { OnOk result (IfSome (bytes self.old)
             (λ xs. out.new ≡ part_at xs at (length out.old))) };
 
-    /// Writes all of `part` over the bytes from `at` on. What lies past the end is added, and a gap is filled with zeros.
-    /// After an error the bytes from `at` on may be any, as many as `part` has at most, and the others are as they were.
+    /// Writes all of `part` over the bytes from `at` on. What lies past the end is added, and a gap is filled with
+    /// zeros. After an error the bytes from `at` on may be any, as many as `part` has at most, and the others are as
+    /// they were.
     fn write_at(&mut self, at: u64, part: &[u8]) -> io::Result<()>
         requires { at + length part.now ≤ MAX_STORAGE_BYTES }
         ensures written { OnOk result (WritesAt (bytes self.old) (bytes self.new) at part.now) }

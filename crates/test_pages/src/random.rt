@@ -1,11 +1,13 @@
-//! What the tests and the measurements share.
-
-ghost use Rattle.std.specs.Prelude.{◌<◌};
+//! What the tests share.
 
 use aegis_pages::Nonces;
 use std::io;
 
+/// The key of the files under AEGIS-256, AEGIS-256X2 and AEGIS-256X4.
 pub const KEY: [u8; 32] = [7; 32];
+
+/// The key of the other files.
+pub const SHORT_KEY: [u8; 16] = [7; 16];
 
 pub const ID: [u8; 24] = [9; 24];
 
@@ -14,8 +16,10 @@ pub const ID: [u8; 24] = [9; 24];
 pub struct Counter(pub u64);
 
 impl Nonces for Counter {
-    fn draw(&mut self, nonce: &mut [u8; 32]) -> io::Result<()> {
-        nonce[..8].copy_from_slice(&self.0.to_le_bytes());
+    fn draw(&mut self, nonce: &mut [u8]) -> io::Result<()> {
+        if nonce.len() >= 8 {
+            nonce[..8].copy_from_slice(&self.0.to_le_bytes());
+        }
         self.0 = self.0.wrapping_add(1);
         Ok(())
     }

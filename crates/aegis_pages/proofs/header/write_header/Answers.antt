@@ -4,5 +4,5 @@ use Rattle.aegis_pages.proofs.header.write_header.Goals as goal
 
 pub returns-in-Ok-write_at-clause-written : goal.returns-in-Ok-write_at-clause-written
 returns-in-Ok-write_at-clause-written g c =
-    let long : length c.header_bytes-header.result ≡ 104 = omega arith in
-    writes_header c.args.layout.now c.args.len _ _ c.header_bytes-header.result long c.header_bytes-header.ensures c.in-Ok-write_at.ensures.written
+    let long : length c.header_sector-sector.result ≡ 512 = omega arith in
+    writes_header c.args.layout.now c.args.counter c.args.len _ _ c.header_sector-sector.result long c.header_sector-sector.ensures c.in-Ok-write_at.ensures.written
