@@ -1,0 +1,50 @@
+//! A table of rows of 64 bytes in a sealed file.
+
+ghost use Rattle.std.specs.Prelude.{◌≡◌, ◌+◌, ◌*◌, ◌<◌, ◌≤◌, ◌⊎◌, List, OnOk, ℕ};
+ghost use Rattle.aegis_pages.specs.Bytes.{overwritten, part_at};
+ghost use Rattle.aegis_pages.specs.OpenFile.{HasText};
+
+use aegis_pages::laws::others_are_kept;
+use aegis_pages::{Nonces, PagesError, SealedPages, Storage};
+use std::alloc::Allocator;
+
+/// The length of a row.
+pub const ROW_BYTES: u64 = 64;
+
+/// How many rows a table may have.
+pub const MAX_ROWS: u64 = 1_000_000;
+
+/// Writes row `k`.
+pub fn write_row<S: Storage + Drop, N: Nonces + Drop, A: Allocator>(
+    pages: &mut SealedPages<S, N, A>,
+    k: u64,
+    row: &[u8; 64],
+) -> Result<(), PagesError>
+    requires { k < MAX_ROWS }
+    ensures { OnOk result ((table : List ℕ) → HasText pages.old table
+        → HasText pages.new (overwritten table (ROW_BYTES * k) row.now)) }
+{
+    pages.write_at(ROW_BYTES * k, row)
+}
+
+/// Writes row `k`, and reads row `j`.
+pub fn written_and_read_row<S: Storage + Drop, N: Nonces + Drop, A: Allocator>(
+    pages: &mut SealedPages<S, N, A>,
+    k: u64,
+    row: &[u8; 64],
+    j: u64,
+    out: &mut [u8; 64],
+) -> Result<(), PagesError>
+    requires k { k < MAX_ROWS }
+    requires j { j < MAX_ROWS }
+    requires within { ROW_BYTES * j + ROW_BYTES ≤ pages.old.len }
+    ensures same { OnOk result ((table : List ℕ) → HasText pages.old table → j ≡ k
+        → out.new ≡ row.now) }
+    ensures others { OnOk result ((table : List ℕ) → HasText pages.old table → (j < k) ⊎ (k < j)
+        → out.new ≡ part_at table (ROW_BYTES * j) ROW_BYTES) }
+{
+    others_are_kept();
+    write_row(pages, k, row)?;
+    pages.read_at(ROW_BYTES * j, out)?;
+    Ok(())
+}

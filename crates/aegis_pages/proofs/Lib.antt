@@ -1,0 +1,10 @@
+pub mod Boxes
+pub mod Composing
+pub mod Heading
+pub mod Known
+pub mod Laying
+pub mod Newest
+pub mod Overwriting
+pub mod Ranging
+pub mod Rewriting
+pub mod Standing

@@ -1,0 +1,95 @@
+use Rattle.std.proofs.Common.{◌≡◌, ◌+◌, ◌<◌, ◌≤◌, ◌∙◌, ℕ, List, ◌++◌, ap, arith, drop, length, subst, sym, take}
+use Rattle.std.proofs.lemmas.List.{get_or_append_left, length-append, length-drop, length-take, take_all, take_at}
+use Rattle.aegis_pages.specs.Bytes.{overwritten, part_at}
+use Rattle.aegis_pages.specs.SealedPages.{IsByte, Stands}
+use Rattle.aegis_pages.proofs.Known.{known_map, refusal_within}
+use Rattle.aegis_pages.proofs.Standing.{read_so, stands_len, stands_use, written_none, written_read}
+use Rattle.aegis_pages.proofs.pages.Pages.read_at.Given.{Over}
+use Rattle.aegis_pages.proofs.pages.Pages.read_at.Goals as goal
+
+pub returns-then-at-self-clause-written : goal.returns-then-at-self-clause-written
+returns-then-at-self-clause-written g c = rw (← c.self.view_is) (λ text part same stands.
+    written_none text part c.args.out.now c.args.at c.self.inside.len (stands_len _ _ _ _ _ stands) same c.if-at-self.true)
+
+pub invariant_of-self : goal.invariant_of-self
+invariant_of-self g c =
+    let new = c.read_range-read.new.page in
+    let items = c.self.inside.page.bytes.items in
+    let same : length c.read_range-read.new.page ≡ length c.self.inside.page.bytes.items = c.read_range-read.auto.page ∙ ap length c.deref_mut.ensures.value in
+    let all = c.self.inside.page.bytes.ok.0 in
+    let long : length (take c.self.inside.page.bytes.len (c.read_range-read.new.page ++ drop (length c.read_range-read.new.page) c.self.inside.page.bytes.items))
+    ≡ length c.self.inside.page.bytes.items =
+    omega (arith, same, all, length-take c.self.inside.page.bytes.len (new ++ drop (length new) items), length-append new (drop (length new) items), length-drop (length new) items) in
+    (long ∙ c.self.invariant.0, c.self.invariant.1, c.self.invariant.2)
+
+pub returns-in-Err-clause-refused : goal.returns-in-Err-clause-refused
+returns-in-Err-clause-refused g c =
+    let count = c.min-count.ensures in
+    let low = c.if-at-self.false in
+    let within : c.args.at + length (take c.min-count.result c.args.out.now) ≤ c.self.inside.len = omega (arith, count, low, length-take c.min-count.result c.args.out.now) in
+    rw (← c.self.view_is)
+    (refusal_within c.self.inside.layout (c.args.at + length (take c.min-count.result c.args.out.now)) c.self.inside.len _ c.in-Err.error within c.in-Err.ensures.refused)
+
+pub invariant_of-self-2 : goal.invariant_of-self-2
+invariant_of-self-2 g c =
+    let new = c.read_range-read.new.page in
+    let items = c.self.inside.page.bytes.items in
+    let same : length c.read_range-read.new.page ≡ length c.self.inside.page.bytes.items = c.read_range-read.auto.page ∙ ap length c.deref_mut.ensures.value in
+    let all = c.self.inside.page.bytes.ok.0 in
+    let long : length (take c.self.inside.page.bytes.len (c.read_range-read.new.page ++ drop (length c.read_range-read.new.page) c.self.inside.page.bytes.items))
+    ≡ length c.self.inside.page.bytes.items =
+    omega (arith, same, all, length-take c.self.inside.page.bytes.len (new ++ drop (length new) items), length-append new (drop (length new) items), length-drop (length new) items) in
+    (long ∙ c.self.invariant.0, c.self.invariant.1, c.self.invariant.2)
+
+reads : (g : Over) (c : goal.In_default g) (text : List ℕ) → Stands c.self.inside.layout c.self.inside.counter c.self.inside.len (g.S.Storage.bytes c.self.inside.storage) text
+    → take c.min-count.result (c.read_range-read.new.out ++ drop c.min-count.result c.args.out.now) ≡ part_at text c.args.at c.min-count.result
+reads g c text stands =
+    let count = c.min-count.result in
+    let out = c.read_range-read.new.out in
+    let at = c.args.at in
+    let low = c.if-at-self.false in
+    let size : length c.read_range-read.new.out ≡ c.min-count.result = omega (arith, c.read_range-read.auto.out, c.min-count.ensures, length-take count c.args.out.now) in
+    let s = stands_use _ _ _ _ text _ c.in_default.ensures.read stands in
+    let within : c.args.at + length c.read_range-read.new.out ≤ length text = omega (arith, s.2, size, low, c.min-count.ensures) in
+    take_at out (drop count c.args.out.now) count size
+    ∙ read_so text out at within (s.1 text s.3.pages within)
+    ∙ ap (part_at text at) size
+
+all_long : (g : Over) (c : goal.In_default g) → length (c.read_range-read.new.out ++ drop c.min-count.result c.args.out.now) ≡ length c.args.out.now
+all_long g c = omega (
+  arith,
+  c.read_range-read.auto.out,
+  c.min-count.ensures,
+  length-take c.min-count.result c.args.out.now,
+  length-drop c.min-count.result c.args.out.now,
+  length-append c.read_range-read.new.out (drop c.min-count.result c.args.out.now),
+)
+
+pub returns-clause-read : goal.returns-clause-read
+returns-clause-read g c =
+    let count = c.min-count.ensures in
+    let out = c.read_range-read.new.out in
+    let rest = drop c.min-count.result c.args.out.now in
+    let size : length c.read_range-read.new.out ≡ c.min-count.result = omega (arith, c.read_range-read.auto.out, count, length-take c.min-count.result c.args.out.now) in
+    rw (← c.self.view_is) (record {
+      count = omega (arith, count);
+      opened = known_map (g.S.Storage.bytes c.self.inside.storage) _ _ (λ bytes opened i low.
+          let near : i < length c.read_range-read.new.out = omega (arith, low, size) in
+          subst (IsByte c.self.inside.layout bytes (c.args.at + i)) (sym (get_or_append_left out rest 0 i near)) (opened i near)) c.in_default.ensures.opened;
+      text = λ text stands. reads g c text stands;
+    })
+
+pub returns-clause-whole : goal.returns-clause-whole
+returns-clause-whole g c = rw (← c.self.view_is) (λ text stands within.
+    let low = c.if-at-self.false in
+    let count : c.min-count.result ≡ length c.args.out.now = omega (arith, c.min-count.ensures, low, within) in
+    sym (take_all c.min-count.result (c.read_range-read.new.out ++ drop c.min-count.result c.args.out.now) (omega (arith, all_long g c, count)))
+    ∙ reads g c text stands ∙ ap (part_at text c.args.at) count)
+
+pub returns-clause-written : goal.returns-clause-written
+returns-clause-written g c = rw (← c.self.view_is) (λ text part same stands.
+    let low = c.if-at-self.false in
+    let count = c.min-count.ensures in
+    let size = all_long g c in
+    written_read text part (c.read_range-read.new.out ++ drop c.min-count.result c.args.out.now) c.args.at c.self.inside.len c.min-count.result
+    (stands_len _ _ _ _ _ stands) (same ∙ sym size) (omega (arith, count, size)) (reads g c (overwritten text c.args.at part) stands))

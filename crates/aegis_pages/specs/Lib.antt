@@ -1,0 +1,7 @@
+pub mod Bytes
+pub mod Errors
+pub mod Headers
+pub mod Layouts
+pub mod OpenFile
+pub mod Reading
+pub mod SealedPages

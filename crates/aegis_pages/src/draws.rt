@@ -1,0 +1,10 @@
+//! Where nonces come from.
+
+use std::io;
+
+/// Draws nonces. A nonce must never be drawn twice for one key: random bytes of the system's serve, or a counter that
+/// is never set back. No contract says that a nonce is fresh.
+pub trait Nonces {
+    /// Fills `nonce`, of 16 or 32 bytes by the variant, or returns an error.
+    fn draw(&mut self, nonce: &mut [u8]) -> io::Result<()>;
+}

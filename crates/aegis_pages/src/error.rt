@@ -1,0 +1,33 @@
+//! The errors of sealed pages.
+
+use std::io;
+use thiserror::Error;
+
+/// The error of a call of [`crate::Pages`]. The call's documentation says what it leaves.
+#[derive(Debug, Drop, Error)]
+pub enum PagesError {
+    /// The storage could not be read, or ends before the page that is wanted.
+    #[error("reading: {0}")]
+    Read(io::Error),
+    /// The storage could not be written.
+    #[error("writing: {0}")]
+    Write(io::Error),
+    /// No nonce could be drawn.
+    #[error("drawing a nonce: {0}")]
+    Nonce(io::Error),
+    /// The storage has no header that was sealed with this variant and under the key.
+    #[error("no header that was sealed with this variant and under this key")]
+    Header,
+    /// The page of this number is not one that was sealed under the key for this place of this file.
+    #[error("page {0} is damaged")]
+    Damaged(u64),
+    /// The text would have more than [`crate::MAX_TEXT_BYTES`], or 2^64 headers were written.
+    #[error("too long")]
+    TooLong,
+    /// Memory ran out.
+    #[error("out of memory")]
+    OutOfMemory,
+    /// The page size is not from [`crate::MIN_PAGE_BYTES`] to [`crate::MAX_PAGE_BYTES`].
+    #[error("page size")]
+    PageSize,
+}

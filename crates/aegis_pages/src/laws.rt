@@ -1,0 +1,22 @@
+//! Laws: functions that do nothing, and whose contracts are facts about the definitions that the other contracts cite.
+
+ghost use Rattle.std.specs.Prelude.{◌≡◌, ◌+◌, ◌≤◌, ◌⊎◌, List, length, ℕ};
+ghost use Rattle.aegis_pages.specs.Bytes.{overwritten, part_at};
+
+/// A part that was written is what is read at its place.
+pub fn written_is_read()
+    ensures { (text : List ℕ) (at : ℕ) (part : List ℕ)
+        → part_at (overwritten text at part) at (length part) ≡ part }
+{}
+
+/// Bytes that a part does not touch are read as before.
+pub fn others_are_kept()
+    ensures { (text : List ℕ) (at : ℕ) (part : List ℕ) (place count : ℕ)
+        → (place + count ≤ at) ⊎ (at + length part ≤ place) → place + count ≤ length text
+        → part_at (overwritten text at part) place count ≡ part_at text place count }
+{}
+
+/// A part that is written over a whole text is the text.
+pub fn whole_is_written()
+    ensures { (text part : List ℕ) → length text ≤ length part → overwritten text 0 part ≡ part }
+{}

@@ -1,0 +1,211 @@
+//! How a file of sealed pages is laid out.
+
+ghost use Rattle.std.specs.Prelude.{◌≡◌, ◌+◌, ◌*◌, ◌≤◌, ◌↔◌, IfSome, IsSome, IsTrue, length, ℕ};
+ghost use Rattle.aegis_base.specs.Variant.{key_length};
+ghost use Rattle.aegis_pages.specs.Layouts.{IsPageSize, Layout, associated_data, box_bytes, clear_part, nonce_bytes, page_place, variant_byte};
+
+use crate::bytes::put;
+use aegis_aes::Row;
+use aegis_base::{LaneState, Names};
+use aegis_engine::Cipher;
+use std::marker::{Model, PhantomData};
+
+/// The least page size, in bytes of text.
+pub const MIN_PAGE_BYTES: u32 = 256;
+
+/// The greatest page size, in bytes of text.
+pub const MAX_PAGE_BYTES: u32 = 65_536;
+
+/// The page size for most uses, in bytes of text.
+pub const DEFAULT_PAGE_BYTES: u32 = 4_096;
+
+/// How many bytes a text may have, 2^60.
+pub const MAX_TEXT_BYTES: u64 = 1_152_921_504_606_846_976;
+
+/// The length of a tag.
+pub const TAG_BYTES: usize = 32;
+
+/// The length of a sector. Each of the two first sectors has a header.
+pub const SECTOR_BYTES: usize = 512;
+
+/// The length of the clear part of a header: a magic number, the variant, the page size and the file's id.
+pub const CLEAR_BYTES: usize = 33;
+
+/// The length of the text in a header's box.
+pub const HEADER_TEXT_BYTES: usize = 16;
+
+/// The number that stands for a header where a page has its own. No page has it.
+pub const HEADER_NUMBER: u64 = 18_446_744_073_709_551_615;
+
+/// The first bytes of a file.
+pub const MAGIC: [u8; 4] = [65, 71, 80, 49];
+
+/// What all boxes of a file are sealed under. The key is overwritten when it is dropped.
+pub struct FileLayout<L: LaneState, V: Names, const KEY_BYTES: usize> {
+    key: [u8; KEY_BYTES],
+    page_bytes: u32,
+    id: [u8; 24],
+    cipher: PhantomData<(L, V)>,
+}
+
+impl<L: LaneState, V: Names, const KEY_BYTES: usize> Model for FileLayout<L, V, KEY_BYTES> {
+    ghost use Rattle.std.specs.Prelude.{◌≡◌, length};
+    ghost use Rattle.aegis_base.specs.Variant.{key_length};
+    ghost use Rattle.aegis_pages.specs.Layouts.{IsPageSize, Layout};
+
+    ghost Value = { Layout };
+
+    ghost view = { λ l. record {
+      variant = L.VARIANT;
+      key = l.key;
+      page_bytes = l.page_bytes;
+      id = l.id;
+    } };
+
+    ghost invariant = { λ l. (KEY_BYTES ≡ key_length L.VARIANT.family)
+        × IsPageSize l.page_bytes };
+}
+
+impl<L: LaneState, V: Names, const KEY_BYTES: usize> Drop for FileLayout<L, V, KEY_BYTES> {
+    fn drop(self) {
+        let FileLayout {
+            mut key,
+            page_bytes: _,
+            id: _,
+            cipher: _,
+        } = self;
+        key = [0; KEY_BYTES];
+    }
+}
+
+/// Returns whether a page may have so many bytes of text.
+pub fn is_page_size(page_bytes: u32) -> bool
+    ensures { IsTrue result ↔ IsPageSize page_bytes }
+{
+    page_bytes >= MIN_PAGE_BYTES && page_bytes <= MAX_PAGE_BYTES
+}
+
+/// Returns the byte that stands for a variant.
+pub fn variant_byte<L: LaneState, const KEY_BYTES: usize>() -> u8
+    requires { KEY_BYTES ≡ key_length L.VARIANT.family }
+    ensures { result ≡ variant_byte L.VARIANT }
+{
+    (KEY_BYTES + L::Row::LANES) as u8
+}
+
+impl<L: LaneState, V: Names, const KEY_BYTES: usize> FileLayout<L, V, KEY_BYTES> {
+    /// Makes a layout.
+    pub fn new(key: &[u8; KEY_BYTES], page_bytes: u32, id: &[u8; 24]) -> Self
+        requires key_bytes { KEY_BYTES ≡ key_length L.VARIANT.family }
+        requires size { IsPageSize page_bytes }
+        ensures { result ≡ record {
+          variant = L.VARIANT;
+          key = key.now;
+          page_bytes = page_bytes;
+          id = id.now;
+        } }
+    {
+        FileLayout {
+            key: *key,
+            page_bytes,
+            id: *id,
+            cipher: PhantomData,
+        }
+    }
+
+    /// Returns the page size, in bytes of text.
+    pub fn page_bytes(&self) -> u32
+        ensures value { result ≡ self.now.page_bytes }
+        ensures size { IsPageSize result }
+    {
+        self.page_bytes
+    }
+
+    /// Returns the page size and the file's id.
+    pub fn size_and_id(&self) -> (u32, [u8; 24])
+        ensures { result ≡ (self.now.page_bytes, self.now.id) }
+    {
+        (self.page_bytes, self.id)
+    }
+
+    /// Returns the length of a nonce.
+    pub fn nonce_bytes(&self) -> usize
+        ensures value { result ≡ nonce_bytes self.now }
+        ensures key { result ≡ KEY_BYTES }
+        ensures most { result ≤ 32 }
+    {
+        let _page_bytes = &self.page_bytes;
+        KEY_BYTES
+    }
+
+    /// Returns the clear part of a header, which is the front of all associated data too.
+    pub fn clear(&self) -> [u8; CLEAR_BYTES]
+        ensures clear { result ≡ clear_part self.now }
+        ensures size { IsPageSize self.now.page_bytes }
+    {
+        let page_bytes = self.page_bytes.to_le_bytes();
+        let mut clear = [0; CLEAR_BYTES];
+        put(&mut clear, 0, &MAGIC);
+        put(&mut clear, 4, &[variant_byte::<L, KEY_BYTES>()]);
+        put(&mut clear, 5, &page_bytes);
+        put(&mut clear, 9, &self.id);
+        clear
+    }
+
+    /// Returns the associated data of the page of a number, or of a header.
+    pub fn associated_data(&self, number: u64) -> [u8; 41]
+        ensures { result ≡ associated_data self.now number }
+    {
+        let mut ad = [0; 41];
+        put(&mut ad, 0, &self.clear());
+        put(&mut ad, CLEAR_BYTES, &number.to_le_bytes());
+        ad
+    }
+
+    /// Returns the cipher of a nonce.
+    pub fn cipher(&self, nonce: &[u8; KEY_BYTES]) -> Cipher<L, V, KEY_BYTES, TAG_BYTES>
+        ensures variant { self.now.variant ≡ L.VARIANT }
+        ensures key { result.key ≡ self.now.key }
+        ensures nonce { result.nonce ≡ nonce.now }
+    {
+        Cipher::new(&self.key, nonce)
+    }
+
+    /// Returns the place of a page in the file.
+    pub fn page_place(&self, number: u64) -> u64
+        requires { number * self.now.page_bytes ≤ MAX_TEXT_BYTES + MAX_PAGE_BYTES }
+        ensures place { result ≡ page_place self.now number }
+        ensures within { result ≤ 1024 + 2 * (MAX_TEXT_BYTES + MAX_PAGE_BYTES) }
+        ensures box_bytes { box_bytes self.now self.now.page_bytes ≤ MAX_PAGE_BYTES + 64 }
+    {
+        let box_bytes = self.page_bytes as u64 + (KEY_BYTES as u64 + TAG_BYTES as u64);
+        2 * SECTOR_BYTES as u64 + number * box_bytes
+    }
+
+    /// Returns the layout that the clear part of a header names, for a key, or `None` if it names none of this variant.
+    pub fn read(clear: &[u8], key: &[u8; KEY_BYTES]) -> Option<Self>
+        requires key_bytes { KEY_BYTES ≡ key_length L.VARIANT.family }
+        requires long { length clear.now ≡ CLEAR_BYTES }
+        ensures clear { IfSome result (λ layout. clear.now ≡ clear_part layout) }
+        ensures variant { IfSome result (λ layout. layout.variant ≡ L.VARIANT) }
+        ensures key { IfSome result (λ layout. layout.key ≡ key.now) }
+        ensures size { IfSome result (λ layout. IsPageSize layout.page_bytes) }
+        ensures found { (layout : Layout) → layout.variant ≡ L.VARIANT
+            → IsPageSize layout.page_bytes → clear.now ≡ clear_part layout → IsSome result }
+    {
+        let mut page_bytes = [0; 4];
+        page_bytes.copy_from_slice(&clear[5..9]);
+        let page_bytes = u32::from_le_bytes(page_bytes);
+        if !is_page_size(page_bytes) {
+            return None;
+        }
+        let mut id = [0; 24];
+        id.copy_from_slice(&clear[9..]);
+        let layout = FileLayout::new(key, page_bytes, &id);
+        if layout.clear()[..] == clear[..] {
+            Some(layout)
+        } else {
+            None
+        }
+    }
+}

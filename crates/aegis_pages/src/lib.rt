@@ -1,0 +1,35 @@
+//! Sealed pages: a text that is read and written at any place, in a file of which each page is sealed by itself.
+//!
+//! [`SealedPages`] stands over any [`Storage`], as a vector or a file, and draws a fresh nonce for each page and header
+//! that it writes from a [`Nonces`] of the caller's. Each page is sealed to its number and its file, so a page that was
+//! changed, moved or brought from another file is refused. An older page of the same number and file is not detected,
+//! nor is an older copy of the whole file.
+//!
+//! The first two sectors of 512 bytes have a header each, which are written in turn: the newest one that opens counts.
+//! If writing a header fails in the middle, the one before it still stands.
+//!
+//! [`Pages`] is generic in the variant of AEGIS, and [`SealedPages`], for AEGIS-256, and the five other names are
+//! aliases of it.
+#![tactic(auto)]
+
+mod bytes;
+mod draws;
+mod error;
+mod header;
+pub mod laws;
+mod layout;
+mod page;
+mod pages;
+mod range;
+mod store;
+mod variants;
+
+pub use draws::Nonces;
+pub use error::PagesError;
+pub use layout::{DEFAULT_PAGE_BYTES, MAX_PAGE_BYTES, MAX_TEXT_BYTES, MIN_PAGE_BYTES};
+pub use pages::Pages;
+pub use store::{MAX_STORAGE_BYTES, Storage};
+pub use variants::{
+    SealedPages, SealedPages128L, SealedPages128X2, SealedPages128X4, SealedPages256X2,
+    SealedPages256X4,
+};

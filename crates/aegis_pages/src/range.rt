@@ -1,0 +1,166 @@
+//! Reading and writing the bytes of a text across pages.
+
+ghost use Rattle.std.specs.Prelude.{◌≡◌, ◌+◌, ◌*◌, ◌-◌, ◌<◌, ◌≤◌, ◌⊎◌, ◌^◌, min, IfErr, IfSome, List, OnOk, length, slice_index, ℕ};
+ghost use Rattle.std.specs.Io.KnownBytes.{Keeps};
+ghost use Rattle.aegis_pages.specs.Bytes.{overwritten};
+ghost use Rattle.aegis_pages.specs.Errors.{IsRangeRefusal, IsReadError, IsReadRefusal};
+ghost use Rattle.aegis_pages.specs.Layouts.{OpensAt, box_bytes, inner, page_at};
+ghost use Rattle.aegis_pages.specs.SealedPages.{ArePages, IsByte, IsPage, KeepsOthers, OnKnown, WritesText};
+
+use crate::bytes::{clear_from, put};
+use crate::draws::Nonces;
+use crate::error::PagesError;
+use crate::layout::{FileLayout, MAX_TEXT_BYTES};
+use crate::page::{read_page, write_page};
+use crate::store::Storage;
+use aegis_base::{LaneState, Names};
+
+/// Reads the bytes of the text from `at` on until `out` is full.
+pub fn read_range<S: Storage, L: LaneState, V: Names, const KEY_BYTES: usize>(
+    storage: &mut S,
+    layout: &FileLayout<L, V, KEY_BYTES>,
+    page: &mut [u8],
+    at: u64,
+    out: &mut [u8],
+) -> Result<(), PagesError>
+    requires room { length page.old ≡ box_bytes layout.now layout.now.page_bytes }
+    requires within { at + length out.old ≤ MAX_TEXT_BYTES }
+    ensures kept { Keeps (S.bytes storage.old) (S.bytes storage.new) }
+    ensures opened { OnOk result (IfSome (S.bytes storage.old) (λ file. (i : ℕ)
+        → i < length out.new → IsByte layout.now file (at + i) (slice_index out.new i))) }
+    ensures read { OnOk result (IfSome (S.bytes storage.old) (λ file. (text : List ℕ)
+        → ArePages layout.now text file → at + length out.new ≤ length text → (i : ℕ)
+        → i < length out.new → slice_index out.new i ≡ slice_index text (at + i))) }
+    ensures refused { IfErr result
+        (IsReadRefusal layout.now (at + length out.old) (S.bytes storage.old)) }
+{
+    let page_bytes = layout.page_bytes() as u64;
+    let nonce_bytes = layout.nonce_bytes();
+    let mut done = 0;
+    while done < out.len() {
+        let place = at + done as u64;
+        let from = (place % page_bytes) as usize;
+        let count = (page_bytes as usize - from).min(out.len() - done);
+        read_page(storage, layout, place / page_bytes, page)?;
+        let start = nonce_bytes + from;
+        put(out, done, &page[start..start + count]);
+        done += count;
+    }
+    Ok(())
+}
+
+/// Makes the text of a page that begins at `start` what it is after `part` was written over the text from `at` on:
+/// keeps its first `live` bytes, clears the others, and lays over them what of `part` falls into the page.
+pub fn lay(text: &mut [u8], live: usize, start: u64, at: u64, part: &[u8])
+    requires live { live ≤ length text.old }
+    requires start { start + length text.old < 2 ^ 63 }
+    requires end { at + length part.now < 2 ^ 63 }
+    ensures laid { (i : ℕ) → i < length text.old → at ≤ start + i
+        → start + i < at + length part.now
+        → slice_index text.new i ≡ slice_index part.now ((start + i) - at) }
+    ensures kept { (i : ℕ) → i < live
+        → (start + i < at) ⊎ (at + length part.now ≤ start + i)
+        → slice_index text.new i ≡ slice_index text.old i }
+    ensures cleared { (i : ℕ) → i < length text.old → live ≤ i
+        → (start + i < at) ⊎ (at + length part.now ≤ start + i)
+        → slice_index text.new i ≡ 0 }
+{
+    clear_from(text, live);
+    let from = at.max(start);
+    let to = (at + part.len() as u64).min(start + text.len() as u64);
+    if from < to {
+        let piece = &part[(from - at) as usize..(to - at) as usize];
+        put(text, (from - start) as usize, piece);
+    }
+}
+
+/// Returns how many bytes of the page that begins at `start` are kept when the bytes from `at` up to `end` are written
+/// over a text of `len` bytes, or 0 if none are, or all that the page has are written over.
+pub fn live_bytes(page_bytes: u64, len: u64, start: u64, at: u64, end: u64) -> u64
+    requires { start + page_bytes < 2 ^ 63 }
+    ensures within { result ≤ page_bytes }
+    ensures live { 0 < result → start + result ≤ len }
+    ensures rest { (i : ℕ) → result ≤ i → i < page_bytes
+        → (start + i < at) ⊎ (end ≤ start + i) → len ≤ start + i }
+{
+    if start >= len {
+        return 0;
+    }
+    let stop = len.min(start + page_bytes);
+    if at <= start {
+        if stop <= end {
+            return 0;
+        }
+    }
+    stop - start
+}
+
+/// Puts into the page's box its text as it is after `part` was written over the text from `at` on. The text had `len`
+/// bytes before. The page is read only if some of its bytes are kept.
+pub fn compose<S: Storage, L: LaneState, V: Names, const KEY_BYTES: usize>(
+    storage: &mut S,
+    layout: &FileLayout<L, V, KEY_BYTES>,
+    len: u64,
+    number: u64,
+    page: &mut [u8],
+    at: u64,
+    part: &[u8],
+) -> Result<(), PagesError>
+    requires room { length page.old ≡ box_bytes layout.now layout.now.page_bytes }
+    requires number { number * layout.now.page_bytes ≤ MAX_TEXT_BYTES }
+    requires len { len ≤ MAX_TEXT_BYTES }
+    requires end { at + length part.now ≤ MAX_TEXT_BYTES }
+    ensures kept { Keeps (S.bytes storage.old) (S.bytes storage.new) }
+    ensures composed { OnOk result (IfSome (S.bytes storage.old) (λ file. (text : List ℕ)
+        → length text ≡ len
+        → (number * layout.now.page_bytes < len
+        → IsPage layout.now number (page_at layout.now file number) text)
+        → (i : ℕ) → i < layout.now.page_bytes → slice_index (inner layout.now page.new) i
+        ≡ slice_index (overwritten text at part.now) (number * layout.now.page_bytes + i))) }
+    ensures refused { IfErr result (λ e. IsReadError e ⊎ ((e ≡ PagesError.Damaged number)
+        × (number * layout.now.page_bytes < len)
+        × IfSome (S.bytes storage.old) (λ file. (m : List ℕ)
+        → OpensAt layout.now number (page_at layout.now file number) m → ⊥))) }
+{
+    let page_bytes = layout.page_bytes() as u64;
+    let start = number * page_bytes;
+    let live = live_bytes(page_bytes, len, start, at, at + part.len() as u64);
+    if live > 0 {
+        read_page(storage, layout, number, page)?;
+    }
+    let nonce_bytes = layout.nonce_bytes();
+    let text = &mut page[nonce_bytes..nonce_bytes + page_bytes as usize];
+    lay(text, live as usize, start, at, part);
+    Ok(())
+}
+
+/// Writes `part` over the bytes of the text from `at` on, in the pages that have some of these bytes or of a gap before
+/// them. The text has `len` bytes before.
+pub fn write_range<S: Storage, N: Nonces, L: LaneState, V: Names, const KEY_BYTES: usize>(
+    storage: &mut S,
+    nonces: &mut N,
+    layout: &FileLayout<L, V, KEY_BYTES>,
+    len: u64,
+    page: &mut [u8],
+    at: u64,
+    part: &[u8],
+) -> Result<(), PagesError>
+    requires room { length page.old ≡ box_bytes layout.now layout.now.page_bytes }
+    requires len { len ≤ MAX_TEXT_BYTES }
+    requires end { at + length part.now ≤ MAX_TEXT_BYTES }
+    ensures written { OnOk result (OnKnown (S.bytes storage.old) (S.bytes storage.new)
+        (WritesText layout.now len at part.now)) }
+    ensures others { OnKnown (S.bytes storage.old) (S.bytes storage.new)
+        (KeepsOthers layout.now (min at len) (at + length part.now)) }
+    ensures refused { IfErr result (IsRangeRefusal layout.now len (S.bytes storage.old)) }
+{
+    let page_bytes = layout.page_bytes() as u64;
+    let end = at + part.len() as u64;
+    let first = at.min(len) / page_bytes;
+    let last = (end + (page_bytes - 1)) / page_bytes;
+    for number in first..last {
+        compose(storage, layout, len, number, page, at, part)?;
+        write_page(storage, nonces, layout, number, page)?;
+    }
+    Ok(())
+}
