@@ -1,0 +1,4 @@
+pub mod Crashing
+pub mod Disks
+pub mod Lists
+pub mod Overwriting
