@@ -3,7 +3,8 @@ use Rattle.std.specs.Prelude.{⊤}
 use Rattle.std.proofs.lemmas.List.{append-nil, append_assoc}
 use Rattle.std.proofs.Common.{◌≡◌, ℕ, ◌+◌, ◌-◌, ◌⊎◌, inl, inr, List, [], ◌∷◌, ◌++◌, None, Some, OnErr, OnOk, Option, Result, Ok, Err, length, replicate, take, refl, sym, ap, subst, ◌∙◌, arith}
 use Rattle.aegis_storage.specs.Bytes.{ResizesTo, WritesAt, overwritten, resized}
-use Rattle.aegis_storage.specs.Disk.{Adds, AddsSome, AreParts, Change, Crashed, Disk, IsPart, IsPartOfOne, IsPossible, IsWholeOrEmpty, IsWrittenOver, KeepsDisk, MakesCertain, Size, Write, Writes, WritesAll, after, applied, certain, changed, changes, written}
+use Rattle.aegis_storage.specs.Calls.{AddsSome, IsWholeOrEmpty, IsWrittenOver}
+use Rattle.aegis_storage.specs.Disk.{Adds, AreParts, Change, Crashed, Disk, IsPart, IsPartOfOne, IsPossible, KeepsDisk, MakesCertain, Size, Write, Writes, WritesAll, after, applied, certain, changed, changes, written}
 use Rattle.aegis_storage.proofs.Crashing.{written_again}
 
 -- ---- certain bytes

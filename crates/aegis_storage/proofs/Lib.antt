@@ -1,4 +1,5 @@
 pub mod Crashing
 pub mod Disks
+pub mod Journals
 pub mod Lists
 pub mod Overwriting

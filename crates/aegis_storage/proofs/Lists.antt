@@ -1,7 +1,13 @@
 -- Loops over writes and messages.
 use Rattle.std.proofs.Common.{◌≡◌, ◌+◌, ◌<◌, ◌≤◌, ℕ, List, [], ◌∷◌, ◌++◌, get_or, length, map, take, refl, ap, ◌∙◌}
 use Rattle.std.specs.List.{AllByRecursion}
-use Rattle.std.proofs.lemmas.List.{map-append, take_all, take_more}
+use Rattle.std.proofs.Common.{arith, drop, sym, zero, suc}
+use Rattle.std.proofs.lemmas.List.{map-append, take-append-drop, take_all, take_more}
+use Rattle.aegis_storage.specs.declared.pending.PendingWrite.{PendingWrite}
+use Rattle.aegis_storage.specs.declared.store.TheConstants.{MAX_STORAGE_BYTES}
+use Rattle.aegis_storage.specs.Disk.{Writes}
+use Rattle.aegis_storage.specs.Journal.{AreWithin, place_and_bytes}
+use Rattle.aegis_storage.specs.Pending.{writes_of}
 
 -- a map of one more element
 pub map_taken : {X Y : Type 0} (f : X → Y) (xs : List X) (i : ℕ) (d : X) → i < length xs → map f (take (i + 1) xs) ≡ map f (take i xs) ++ f (get_or xs i d) ∷ []
@@ -10,3 +16,24 @@ map_taken f xs i d low = rw (take_more xs i d low, map-append) refl
 pub all_more : {X : Type 0} (P : X → Type 0) (xs : List X) (x : X) → AllByRecursion P xs → P x → AllByRecursion P (xs ++ x ∷ [])
 all_more P [] x all p = (p, tt)
 all_more P (y ∷ xs) x all p = (all.0, all_more P xs x all.1 p)
+
+-- ---- writes
+
+pub writes_taken : {A : Type 0} (writes : List (PendingWrite A)) (i : ℕ) (write : PendingWrite A) (bs : List ℕ) → i < length writes → write ≡ get_or writes i write → bs ≡ write.bytes.items
+    → writes_of (take (i + 1) writes) ≡ writes_of (take i writes) ++ (write.place, bs) ∷ []
+writes_taken writes i write bs low is same =
+    map_taken (λ w. (w.place, w.bytes.items)) writes i write low
+    ∙ ap (λ w. writes_of (take i writes) ++ (w.place, w.bytes.items) ∷ []) (sym is)
+    ∙ ap (λ (l : List ℕ). writes_of (take i writes) ++ (write.place, l) ∷ []) (sym same)
+
+pub writes_split : {A : Type 0} (writes : List (PendingWrite A)) (i : ℕ) → writes_of writes ≡ writes_of (take i writes) ++ writes_of (drop i writes)
+writes_split writes i = ap writes_of (sym (take-append-drop i writes)) ∙ map-append (λ w. (w.place, w.bytes.items)) (take i writes) (drop i writes)
+
+-- ---- messages
+
+-- each message is that of a write
+pub message_is : (writes : Writes) (i : ℕ) → AreWithin writes → i < length writes
+    → (write : ℕ × List ℕ) × (write.0 + length write.1 ≤ MAX_STORAGE_BYTES) × (get_or (map place_and_bytes writes) i [] ≡ place_and_bytes write)
+message_is [] i within low = absurd (omega arith)
+message_is (write ∷ writes) zero within low = (write, within.0, refl)
+message_is (write ∷ writes) (suc i) within low = message_is writes i within.1 (omega arith)

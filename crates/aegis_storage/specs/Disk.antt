@@ -85,26 +85,9 @@ KeepsDisk old new = (disk : Disk) → old ≡ Some disk → new ≡ Some disk
 abbrev pub Adds : Option Disk → Option Disk → Change → Type 0
 Adds old new change = (disk : Disk) → old ≡ Some disk → new ≡ Some (after disk change)
 
--- the first of the writes are pending, too: some of them, or all
-abbrev pub AddsSome : Option Disk → Option Disk → Writes → Type 0
-AddsSome old new writes = (disk : Disk) → old ≡ Some disk
-    → (done rest : Writes) × (writes ≡ done ++ rest) × (new ≡ Some (record { synced = disk.synced; pending = disk.pending ++ changes done; }))
-
 -- what can be read is certain
 abbrev pub MakesCertain : Option (List ℕ) → Option Disk → Option Disk → Type 0
 MakesCertain bytes old new = (disk : Disk) (xs : List ℕ) → old ≡ Some disk → bytes ≡ Some xs → new ≡ Some (certain xs)
-
--- Whatever a crash now leaves of bytes that were xs before the writes, the writes make of it what they make of xs.
-pub record IsWrittenOver (writes : Writes) (xs : List ℕ) (state : Option Disk) : Type 0 where
-  pub disk : Disk
-  pub is : state ≡ Some disk
-  pub again : (ys : List ℕ) → Crashed disk ys → written writes ys ≡ written writes xs
-
--- A crash now leaves xs, or nothing.
-pub record IsWholeOrEmpty (xs : List ℕ) (state : Option Disk) : Type 0 where
-  pub disk : Disk
-  pub is : state ≡ Some disk
-  pub either : (ys : List ℕ) → Crashed disk ys → (ys ≡ xs) ⊎ (ys ≡ [])
 
 -- If the disk is known, so is what can be read, and a crash may leave it.
 abbrev pub IsPossible : Option (List ℕ) → Option Disk → Type 0

@@ -1,4 +1,5 @@
 pub mod Bytes
+pub mod Calls
 pub mod Disk
 pub mod Journal
 pub mod Pending

@@ -1,8 +1,9 @@
 //! Writes that are all there after a crash, or none of them.
 
-ghost use Rattle.std.specs.Prelude.{◌≤◌, List, OnOk, length, ℕ};
-ghost use Rattle.aegis_storage.specs.Disk.{WritesAll, written};
-ghost use Rattle.aegis_storage.specs.Journal.{IsAtRest, NoForgery, Recovers, RecoversKnown, RestsAtOneOf};
+ghost use Rattle.std.specs.Prelude.{◌≡◌, ◌≤◌, List, OnOk, Some, length, ℕ};
+ghost use Rattle.aegis_storage.specs.Calls.{GivesFrom, IsRedone};
+ghost use Rattle.aegis_storage.specs.Disk.{WritesAll, certain, written};
+ghost use Rattle.aegis_storage.specs.Journal.{GivesOneOf, IsAtRest, NoForgery, Recovers, RecoversKnown, RestsAtOneOf};
 ghost use Rattle.aegis_storage.specs.Pending.{writes_of};
 
 use crate::calls::{empty, read_all, write_and_sync};
@@ -46,6 +47,29 @@ pub fn commit<S: Storage, J: Storage, A: Allocator + Copy>(
     empty(journal)
 }
 
+// Makes the writes of a whole journal again, and syncs them. For any other journal it does nothing.
+fn redo<S: Storage, A: Allocator + Copy>(
+    alloc: A,
+    storage: &mut S,
+    key: &Key,
+    context: &[u8],
+    journal: &[u8],
+) -> io::Result<()>
+    requires { length context.now ≤ MAX_CONTEXT_BYTES }
+    ensures recovered { OnOk result (RecoversKnown key.now context.now (Some journal.now)
+        (S.bytes storage.old) (S.bytes storage.new)) }
+    ensures torn { (a b xs : List ℕ) → S.disk storage.old ≡ Some (certain xs)
+        → GivesOneOf key.now context.now a b journal.now xs
+        → GivesFrom key.now context.now a b journal.now (S.disk storage.new) }
+    ensures certain { OnOk result ((xs : List ℕ) → S.disk storage.old ≡ Some (certain xs)
+        → IsRedone key.now context.now journal.now xs (S.disk storage.new)) }
+{
+    match journaled_writes(alloc, key, context, journal)? {
+        Some(writes) => write_and_sync(storage, &writes),
+        None => Ok(()),
+    }
+}
+
 /// Makes the writes of a commit again that a crash cut short, or none of them.
 pub fn recover<S: Storage, J: Storage, A: Allocator + Copy>(
     alloc: A,
@@ -68,8 +92,6 @@ pub fn recover<S: Storage, J: Storage, A: Allocator + Copy>(
     storage.sync()?;
     journal.sync()?;
     let content = read_all(alloc, journal)?;
-    if let Some(writes) = journaled_writes(alloc, key, context, &content)? {
-        write_and_sync(storage, &writes)?;
-    }
+    redo(alloc, storage, key, context, &content)?;
     empty(journal)
 }

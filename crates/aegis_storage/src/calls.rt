@@ -3,7 +3,8 @@
 ghost use Rattle.std.specs.Prelude.{◌≡◌, [], IfOk, IfSome, List, None, OnErr, OnOk, Option, Some, length, ℕ};
 ghost use Rattle.std.specs.Io.KnownBytes.{Keeps};
 ghost use Rattle.aegis_storage.specs.Bytes.{ResizesTo};
-ghost use Rattle.aegis_storage.specs.Disk.{AddsSome, IsWholeOrEmpty, IsWrittenOver, KeepsDisk, WritesAll, certain, written};
+ghost use Rattle.aegis_storage.specs.Calls.{AddsSome, IsWholeOrEmpty, IsWrittenOver};
+ghost use Rattle.aegis_storage.specs.Disk.{KeepsDisk, WritesAll, certain, written};
 ghost use Rattle.aegis_storage.specs.Pending.{writes_of};
 
 use crate::pending::PendingWrite;

@@ -67,6 +67,8 @@ pub fn journal_bytes<A: Allocator + Copy>(
     requires context_within { length context.now ≤ MAX_CONTEXT_BYTES }
     ensures journal { IfOk result (λ made. made.items
         ≡ journal_of key.now prefix.now context.now (writes_of writes.now)) }
+    ensures whole { IfOk result
+        (λ made. IsJournal key.now context.now (writes_of writes.now) made.items) }
     ensures size { IfOk result (λ made. length made.items ≤ MAX_STORAGE_BYTES) }
 {
     let messages = messages_of(alloc, writes)?;
