@@ -1,6 +1,6 @@
 -- Journals, and the states of a commit and of a recovery.
 use Rattle.std.specs.Prelude.{⊤}
-use Rattle.std.proofs.Common.{◌≡◌, ℕ, ◌+◌, ◌-◌, ◌^◌, ◌<◌, ◌≤◌, ◌⊎◌, inl, inr, List, [], ◌∷◌, ◌++◌, None, Some, Option, drop, length, map, take, refl, sym, ap, subst, ◌∙◌, arith}
+use Rattle.std.proofs.Common.{◌≡◌, ℕ, ◌+◌, ◌-◌, ◌^◌, ◌<◌, ◌≤◌, ◌⊎◌, inl, inr, IfNone, IfSome, List, [], ◌∷◌, ◌++◌, None, Some, Option, drop, length, map, take, refl, sym, ap, subst, ◌∙◌, arith}
 use Rattle.std.proofs.lemmas.List.{append-nil, drop_at, length-append, take_at}
 use Rattle.std.proofs.lemmas.Nat.{from_le_bytes-to_le_bytes_8}
 use Rattle.std.specs.Int.{from_le_bytes, to_le_bytes, w64}
@@ -11,7 +11,7 @@ use Rattle.aegis.proofs.Streams.{one_record_stream}
 use Rattle.aegis_storage.specs.declared.store.TheConstants.{MAX_STORAGE_BYTES}
 use Rattle.aegis_storage.specs.Bytes.{WritesAt, overwritten, resized}
 use Rattle.aegis_storage.specs.Calls.{GivesFrom, IsRedone, IsWholeOrEmpty, IsWrittenOver}
-use Rattle.aegis_storage.specs.Disk.{Adds, Crashed, Disk, IsPossible, KeepsDisk, MakesCertain, Write, Writes, after, certain, written}
+use Rattle.aegis_storage.specs.Disk.{Adds, Crashed, Disk, IsPossible, KeepsDisk, MakesCertain, Write, Writes, WritesAll, after, certain, written}
 use Rattle.aegis_storage.specs.Journal.{AreWithin, GivesOneOf, IsAtRest, IsJournal, IsOneOf, IsRecovered, NoForgery, Recovers, RecoversKnown, RestsAtOneOf, journal_of, place_and_bytes}
 use Rattle.aegis_storage.proofs.Disks.{certain_only, crashed_certain, readable, readable_certain}
 
@@ -79,18 +79,17 @@ rest_recovers key context storage journal a b xs one rest = record {
 }
 
 -- while the journal is written
-pub torn_journal : (key prefix context : List ℕ) (writes : Writes) (storage journal : Option Disk) (xs : List ℕ) → storage ≡ Some (certain xs)
-    → journal ≡ Some (after (certain []) (Write 0 (journal_of key prefix context writes))) → IsJournal key context writes (journal_of key prefix context writes) → NoForgery key prefix context writes
-    → Recovers key context storage journal xs (written writes xs)
-torn_journal key prefix context writes storage journal xs storage_is journal_is is no_forgery = record {
+pub torn_journal : (key prefix context : List ℕ) (writes : Writes) (js : List ℕ) (storage journal : Option Disk) (xs : List ℕ) → js ≡ journal_of key prefix context writes → storage ≡ Some (certain xs)
+    → journal ≡ Some (after (certain []) (Write 0 js)) → IsJournal key context writes js → NoForgery key prefix context writes → Recovers key context storage journal xs (written writes xs)
+torn_journal key prefix context writes js storage journal xs made storage_is journal_is is no_forgery = record {
   storage_disk = certain xs;
-  journal_disk = after (certain []) (Write 0 (journal_of key prefix context writes));
+  journal_disk = after (certain []) (Write 0 js);
   storage_is = storage_is;
   journal_is = journal_is;
-  gives = λ ys js p q. record {
+  gives = λ ys ks p q. record {
       whole = λ found found_is.
-        let same = no_forgery js found q found_is in
-        let writes_are = one_journal key context found writes (journal_of key prefix context writes) (subst (IsJournal key context found) same found_is) is in
+        let same : ks ≡ js = no_forgery ks found (subst (λ (l : List ℕ). Crashed (after (certain []) (Write 0 l)) ks) made q) found_is ∙ sym made in
+        let writes_are = one_journal key context found writes js (subst (IsJournal key context found) same found_is) is in
         inr (ap (written found) (certain_only xs ys p) ∙ ap (λ (l : Writes). written l xs) writes_are);
       other = λ not. inl (certain_only xs ys p);
     };
@@ -198,3 +197,55 @@ journal_synced key context bytes storage old new a b possible recovers (inr keep
   journal_is = keeps recovers.journal_disk recovers.journal_is;
   gives = recovers.gives;
 }
+
+pub journal_kept : (key context : List ℕ) (storage old new : Option Disk) (a b : List ℕ) → Recovers key context storage old a b → KeepsDisk old new → Recovers key context storage new a b
+journal_kept key context storage old new a b recovers keeps = record {
+  storage_disk = recovers.storage_disk;
+  journal_disk = recovers.journal_disk;
+  storage_is = recovers.storage_is;
+  journal_is = keeps recovers.journal_disk recovers.journal_is;
+  gives = recovers.gives;
+}
+
+-- Both are synced, and the journal was read.
+pub record Settled (key context : List ℕ) (storage journal : Option Disk) (a b js : List ℕ) : Type 0 where
+  pub xs : List ℕ
+  pub storage_is : storage ≡ Some (certain xs)
+  pub journal_is : journal ≡ Some (certain js)
+  pub gives : GivesOneOf key context a b js xs
+
+read_is : (js read : List ℕ) (bytes : Option (List ℕ)) → bytes ≡ Some js → IfSome bytes (λ xs. read ≡ xs) → read ≡ js
+read_is js read bytes is found = subst (λ (o : Option (List ℕ)). IfSome o (λ xs. read ≡ xs)) is found
+
+-- `a_bytes` are the storage's, and `b_bytes` and `c_bytes` the journal's before and after its sync
+pub settled : (key context : List ℕ) (a_bytes b_bytes c_bytes : Option (List ℕ)) (storage storage' journal journal' journal'' : Option Disk) (a b read js : List ℕ)
+    → IsPossible a_bytes storage → IsPossible b_bytes journal → IsPossible c_bytes journal' → Recovers key context storage journal a b → MakesCertain a_bytes storage storage' → MakesCertain b_bytes journal journal'
+    → IfSome c_bytes (λ xs. read ≡ xs) → js ≡ read → KeepsDisk journal' journal'' → Settled key context storage' journal'' a b js
+settled key context a_bytes b_bytes c_bytes storage storage' journal journal' journal'' a b read js p q r recovers s t found same keeps =
+    let x = readable a_bytes storage recovers.storage_disk p recovers.storage_is in
+    let y = readable b_bytes journal recovers.journal_disk q recovers.journal_is in
+    let synced = t recovers.journal_disk y.xs recovers.journal_is y.is in
+    let js_are : js ≡ y.xs = same ∙ read_is y.xs read c_bytes (readable_certain c_bytes journal' y.xs r synced) found in record {
+  xs = x.xs;
+  storage_is = s recovers.storage_disk x.xs recovers.storage_is x.is;
+  journal_is = keeps (certain y.xs) synced ∙ ap (λ (l : List ℕ). Some (certain l)) (sym js_are);
+  gives = gives_same key context a b y.xs js x.xs x.xs js_are refl (recovers.gives x.xs y.xs x.possible y.possible);
+}
+
+-- ---- what is known
+
+pub if_none_map : {X P Q : Type 0} (o : Option X) → (P → Q) → IfNone o P → IfNone o Q
+if_none_map None f p = f p
+if_none_map (Some x) f p = tt
+
+pub known_whole : (key context : List ℕ) (writes : Writes) (js : List ℕ) (a b : Option (List ℕ)) → IsJournal key context writes js → WritesAll a b writes → RecoversKnown key context (Some js) a b
+known_whole key context writes js None b is all = tt
+known_whole key context writes js (Some xs) None is all = absurd all
+known_whole key context writes js (Some xs) (Some ys) is all = record {
+  whole = λ found found_is. all ∙ ap (λ (l : Writes). written l xs) (sym (one_journal key context found writes js found_is is));
+  other = λ not. absurd (not writes is);
+}
+
+pub known_other : (key context js : List ℕ) (a : Option (List ℕ)) → ((writes : Writes) → IsJournal key context writes js → ⊥) → RecoversKnown key context (Some js) a a
+known_other key context js None not = tt
+known_other key context js (Some xs) not = record { whole = λ writes is. absurd (not writes is); other = λ also. refl; }

@@ -2,7 +2,9 @@
 use Rattle.std.proofs.Common.{◌≡◌, ◌+◌, ◌<◌, ◌≤◌, ℕ, List, [], ◌∷◌, ◌++◌, get_or, length, map, take, refl, ap, ◌∙◌}
 use Rattle.std.specs.List.{AllByRecursion}
 use Rattle.std.proofs.Common.{arith, drop, sym, zero, suc}
-use Rattle.std.proofs.lemmas.List.{map-append, take-append-drop, take_all, take_more}
+use Rattle.std.specs.declared.vec.Vec.{Vec}
+use Rattle.std.specs.Vec.{vec_items}
+use Rattle.std.proofs.lemmas.List.{get_or-map, length-map, map-append, take-append-drop, take_all, take_more}
 use Rattle.aegis_storage.specs.declared.pending.PendingWrite.{PendingWrite}
 use Rattle.aegis_storage.specs.declared.store.TheConstants.{MAX_STORAGE_BYTES}
 use Rattle.aegis_storage.specs.Disk.{Writes}
@@ -37,3 +39,17 @@ pub message_is : (writes : Writes) (i : ℕ) → AreWithin writes → i < length
 message_is [] i within low = absurd (omega arith)
 message_is (write ∷ writes) zero within low = (write, within.0, refl)
 message_is (write ∷ writes) (suc i) within low = message_is writes i within.1 (omega arith)
+
+pub all_within : {A : Type 0} (writes : List (PendingWrite A)) → AreWithin (writes_of writes)
+all_within [] = tt
+all_within (write ∷ writes) = (write.within, all_within writes)
+
+-- no writes have these messages, since one of them is of no write
+pub no_writes : {A : Type 0} (messages : List (Vec ℕ A)) (i : ℕ) (message : Vec ℕ A) (bs : List ℕ) → i < length messages → message ≡ get_or messages i message → bs ≡ message.items
+    → ((write : ℕ × List ℕ) → write.0 + length write.1 ≤ MAX_STORAGE_BYTES → bs ≡ place_and_bytes write → ⊥)
+    → (writes : Writes) → AreWithin writes → map vec_items messages ≡ map place_and_bytes writes → ⊥
+no_writes messages i message bs low is same none writes within all =
+    let sizes : length messages ≡ length writes = sym (length-map vec_items messages) ∙ ap length all ∙ length-map place_and_bytes writes in
+    let found = message_is writes i within (omega (arith, low, sizes)) in
+    let item : bs ≡ get_or (map vec_items messages) i [] = same ∙ ap vec_items is ∙ sym (get_or-map vec_items messages i [] message low) in
+    none found.0 found.1 (item ∙ ap (λ (l : List (List ℕ)). get_or l i []) all ∙ found.2)

@@ -152,7 +152,9 @@ pub fn journaled_writes<A: Allocator + Copy>(
     prefix.copy_from_slice(front);
     match open_records(alloc, key, &prefix, context, stream) {
         Ok(messages) => Ok(writes_in(alloc, &messages)?),
-        Err(RecordError::OutOfMemory) => Err(io::Error::from(ErrorKind::OutOfMemory)),
-        Err(_) => Ok(None),
+        Err(error) => match error {
+            RecordError::OutOfMemory => Err(io::Error::from(ErrorKind::OutOfMemory)),
+            _ => Ok(None),
+        },
     }
 }
