@@ -49,7 +49,7 @@ pub no_writes : {A : Type 0} (messages : List (Vec ℕ A)) (i : ℕ) (message : 
     → ((write : ℕ × List ℕ) → write.0 + length write.1 ≤ MAX_STORAGE_BYTES → bs ≡ place_and_bytes write → ⊥)
     → (writes : Writes) → AreWithin writes → map vec_items messages ≡ map place_and_bytes writes → ⊥
 no_writes messages i message bs low is same none writes within all =
-    let sizes : length messages ≡ length writes = sym (length-map vec_items messages) ∙ ap length all ∙ length-map place_and_bytes writes in
+    let sizes : length messages ≡ length writes = sym (length-map messages vec_items) ∙ ap length all ∙ length-map writes place_and_bytes in
     let found = message_is writes i within (omega (arith, low, sizes)) in
-    let item : bs ≡ get_or (map vec_items messages) i [] = same ∙ ap vec_items is ∙ sym (get_or-map vec_items messages i [] message low) in
+    let item : bs ≡ get_or (map vec_items messages) i [] = same ∙ ap vec_items is ∙ sym (get_or-map vec_items messages i message [] low) in
     none found.0 found.1 (item ∙ ap (λ (l : List (List ℕ)). get_or l i []) all ∙ found.2)
