@@ -12,7 +12,7 @@ use Rattle.aegis_storage.specs.declared.store.TheConstants.{MAX_STORAGE_BYTES}
 use Rattle.aegis_storage.specs.Bytes.{WritesAt, overwritten, resized}
 use Rattle.aegis_storage.specs.Calls.{GivesFrom, IsRedone, IsWholeOrEmpty, IsWrittenOver}
 use Rattle.aegis_storage.specs.Disk.{Adds, Crashed, Disk, IsPossible, KeepsDisk, MakesCertain, Write, Writes, WritesAll, after, certain, written}
-use Rattle.aegis_storage.specs.Journal.{AreWithin, GivesOneOf, IsAtRest, IsJournal, IsOneOf, IsRecovered, NoForgery, Recovers, RecoversKnown, RestsAtOneOf, journal_of, place_and_bytes}
+use Rattle.aegis_storage.specs.Journal.{AreWithin, GivesOneOf, IsAtRest, IsJournal, IsOneOf, IsNoForgery, IsRecovered, Recovers, RecoversKnown, journal_of, place_and_bytes}
 use Rattle.aegis_storage.proofs.Disks.{certain_only, crashed_certain, readable, readable_certain}
 
 -- ---- one list of writes for a journal
@@ -69,28 +69,26 @@ gives_same key context a b js ks xs ys same also gives =
 by_empty : (key context a b xs : List ℕ) → IsOneOf a b xs → GivesOneOf key context a b [] xs
 by_empty key context a b xs one = record { whole = λ writes is. absurd (empty_is_none key context writes is); other = λ not. one; }
 
-pub rest_recovers : (key context : List ℕ) (storage journal : Option Disk) (a b xs : List ℕ) → IsOneOf a b xs → IsAtRest storage journal xs → Recovers key context storage journal a b
-rest_recovers key context storage journal a b xs one rest = record {
-  storage_disk = certain xs;
+pub rest_recovers : (key context xs : List ℕ) (writes : Writes) (storage journal : Option Disk) (zs : List ℕ) → IsOneOf xs (written writes xs) zs → IsAtRest storage journal zs
+    → Recovers key context xs writes storage journal
+rest_recovers key context xs writes storage journal zs one rest = record {
+  storage_disk = certain zs;
   journal_disk = certain [];
   storage_is = rest.storage_is;
   journal_is = rest.journal_is;
-  gives = λ ys js p q. gives_same key context a b [] js xs ys (certain_only [] js q) (certain_only xs ys p) (by_empty key context a b xs one);
+  gives = λ ys js p q _. gives_same key context xs (written writes xs) [] js zs ys (certain_only [] js q) (certain_only zs ys p) (by_empty key context xs (written writes xs) zs one);
 }
 
 -- while the journal is written
-pub torn_journal : (key prefix context : List ℕ) (writes : Writes) (js : List ℕ) (storage journal : Option Disk) (xs : List ℕ) → js ≡ journal_of key prefix context writes → storage ≡ Some (certain xs)
-    → journal ≡ Some (after (certain []) (Write 0 js)) → IsJournal key context writes js → NoForgery key prefix context writes → Recovers key context storage journal xs (written writes xs)
-torn_journal key prefix context writes js storage journal xs made storage_is journal_is is no_forgery = record {
+pub torn_journal : (key context : List ℕ) (writes : Writes) (torn : Disk) (storage journal : Option Disk) (xs : List ℕ) → storage ≡ Some (certain xs) → journal ≡ Some torn
+    → Recovers key context xs writes storage journal
+torn_journal key context writes torn storage journal xs storage_is journal_is = record {
   storage_disk = certain xs;
-  journal_disk = after (certain []) (Write 0 js);
+  journal_disk = torn;
   storage_is = storage_is;
   journal_is = journal_is;
-  gives = λ ys ks p q. record {
-      whole = λ found found_is.
-        let same : ks ≡ js = no_forgery ks found (subst (λ (l : List ℕ). Crashed (after (certain []) (Write 0 l)) ks) made q) found_is ∙ sym made in
-        let writes_are = one_journal key context found writes js (subst (IsJournal key context found) same found_is) is in
-        inr (ap (written found) (certain_only xs ys p) ∙ ap (λ (l : Writes). written l xs) writes_are);
+  gives = λ ys ks p q no_forgery. record {
+      whole = λ found is. inr (ap (written found) (certain_only xs ys p) ∙ ap (λ (l : Writes). written l xs) (no_forgery found is));
       other = λ not. inl (certain_only xs ys p);
     };
 }
@@ -115,32 +113,33 @@ certain_gives key context a b js xs state is gives = record {
   gives = λ ys p. gives_same key context a b js js xs ys refl (certain_only xs ys p) gives;
 }
 
-pub middle : (key context a b js : List ℕ) (storage journal : Option Disk) → GivesFrom key context a b js storage → journal ≡ Some (certain js) → Recovers key context storage journal a b
-middle key context a b js storage journal from is = record {
+pub middle : (key context xs : List ℕ) (writes : Writes) (js : List ℕ) (storage journal : Option Disk) → GivesFrom key context xs (written writes xs) js storage → journal ≡ Some (certain js)
+    → Recovers key context xs writes storage journal
+middle key context xs writes js storage journal from is = record {
   storage_disk = from.disk;
   journal_disk = certain js;
   storage_is = from.is;
   journal_is = is;
-  gives = λ ys ks p q. gives_same key context a b js ks ys ys (certain_only js ks q) refl (from.gives ys p);
+  gives = λ ys ks p q _. gives_same key context xs (written writes xs) js ks ys ys (certain_only js ks q) refl (from.gives ys p);
 }
 
 -- while the journal is emptied
-pub finish : (key context a b js zs : List ℕ) (storage journal : Option Disk) → GivesFrom key context a b js storage → storage ≡ Some (certain zs) → IsOneOf a b zs → IsWholeOrEmpty js journal
-    → Recovers key context storage journal a b
-finish key context a b js zs storage journal from is one cut = record {
+pub finish : (key context xs : List ℕ) (writes : Writes) (js zs : List ℕ) (storage journal : Option Disk) → GivesFrom key context xs (written writes xs) js storage → storage ≡ Some (certain zs)
+    → IsOneOf xs (written writes xs) zs → IsWholeOrEmpty js journal → Recovers key context xs writes storage journal
+finish key context xs writes js zs storage journal from is one cut = record {
   storage_disk = certain zs;
   journal_disk = cut.disk;
   storage_is = is;
   journal_is = cut.is;
-  gives = λ ys ks p q. cases ys ks p (cut.either ks q);
+  gives = λ ys ks p q _. cases ys ks p (cut.either ks q);
 }
   where
     same_disk : from.disk ≡ certain zs
     same_disk = let both : Some from.disk ≡ Some (certain zs) = sym from.is ∙ is in cc
 
-    cases : (ys ks : List ℕ) → Crashed (certain zs) ys → (ks ≡ js) ⊎ (ks ≡ []) → GivesOneOf key context a b ks ys
-    cases ys ks p (inl whole) = gives_same key context a b js ks ys ys whole refl (from.gives ys (subst (λ (d : Disk). Crashed d ys) (sym same_disk) p))
-    cases ys ks p (inr none) = gives_same key context a b [] ks zs ys none (certain_only zs ys p) (by_empty key context a b zs one)
+    cases : (ys ks : List ℕ) → Crashed (certain zs) ys → (ks ≡ js) ⊎ (ks ≡ []) → GivesOneOf key context xs (written writes xs) ks ys
+    cases ys ks p (inl whole) = gives_same key context xs (written writes xs) js ks ys ys whole refl (from.gives ys (subst (λ (d : Disk). Crashed d ys) (sym same_disk) p))
+    cases ys ks p (inr none) = gives_same key context xs (written writes xs) [] ks zs ys none (certain_only zs ys p) (by_empty key context xs (written writes xs) zs one)
 
 -- ---- the journal's first write
 
@@ -162,17 +161,17 @@ whole_journal js a b old over new possible is wrote adds certainly =
 -- ---- syncs
 
 -- the storage, or the journal, is synced, or not
-pub storage_synced : (key context : List ℕ) (bytes : Option (List ℕ)) (old new journal : Option Disk) (a b : List ℕ) → IsPossible bytes old → Recovers key context old journal a b
-    → MakesCertain bytes old new ⊎ KeepsDisk old new → Recovers key context new journal a b
-storage_synced key context bytes old new journal a b possible recovers (inl certainly) =
+pub storage_synced : (key context xs : List ℕ) (writes : Writes) (bytes : Option (List ℕ)) (old new journal : Option Disk) → IsPossible bytes old → Recovers key context xs writes old journal
+    → MakesCertain bytes old new ⊎ KeepsDisk old new → Recovers key context xs writes new journal
+storage_synced key context xs writes bytes old new journal possible recovers (inl certainly) =
     let r = readable bytes old recovers.storage_disk possible recovers.storage_is in record {
   storage_disk = certain r.xs;
   journal_disk = recovers.journal_disk;
   storage_is = certainly recovers.storage_disk r.xs recovers.storage_is r.is;
   journal_is = recovers.journal_is;
-  gives = λ ys js p q. gives_same key context a b js js r.xs ys refl (certain_only r.xs ys p) (recovers.gives r.xs js r.possible q);
+  gives = λ ys js p q nf. gives_same key context xs (written writes xs) js js r.xs ys refl (certain_only r.xs ys p) (recovers.gives r.xs js r.possible q nf);
 }
-storage_synced key context bytes old new journal a b possible recovers (inr keeps) = record {
+storage_synced key context xs writes bytes old new journal possible recovers (inr keeps) = record {
   storage_disk = recovers.storage_disk;
   journal_disk = recovers.journal_disk;
   storage_is = keeps recovers.storage_disk recovers.storage_is;
@@ -180,17 +179,18 @@ storage_synced key context bytes old new journal a b possible recovers (inr keep
   gives = recovers.gives;
 }
 
-pub journal_synced : (key context : List ℕ) (bytes : Option (List ℕ)) (storage old new : Option Disk) (a b : List ℕ) → IsPossible bytes old → Recovers key context storage old a b
-    → MakesCertain bytes old new ⊎ KeepsDisk old new → Recovers key context storage new a b
-journal_synced key context bytes storage old new a b possible recovers (inl certainly) =
+pub journal_synced : (key context xs : List ℕ) (writes : Writes) (bytes : Option (List ℕ)) (storage old new : Option Disk) → IsPossible bytes old → Recovers key context xs writes storage old
+    → MakesCertain bytes old new ⊎ KeepsDisk old new → Recovers key context xs writes storage new
+journal_synced key context xs writes bytes storage old new possible recovers (inl certainly) =
     let r = readable bytes old recovers.journal_disk possible recovers.journal_is in record {
   storage_disk = recovers.storage_disk;
   journal_disk = certain r.xs;
   storage_is = recovers.storage_is;
   journal_is = certainly recovers.journal_disk r.xs recovers.journal_is r.is;
-  gives = λ ys js p q. gives_same key context a b r.xs js ys ys (certain_only r.xs js q) refl (recovers.gives ys r.xs p r.possible);
+  gives = λ ys js p q nf. gives_same key context xs (written writes xs) r.xs js ys ys (certain_only r.xs js q) refl
+      (recovers.gives ys r.xs p r.possible (subst (IsNoForgery key context writes) (certain_only r.xs js q) nf));
 }
-journal_synced key context bytes storage old new a b possible recovers (inr keeps) = record {
+journal_synced key context xs writes bytes storage old new possible recovers (inr keeps) = record {
   storage_disk = recovers.storage_disk;
   journal_disk = recovers.journal_disk;
   storage_is = recovers.storage_is;
@@ -198,8 +198,8 @@ journal_synced key context bytes storage old new a b possible recovers (inr keep
   gives = recovers.gives;
 }
 
-pub journal_kept : (key context : List ℕ) (storage old new : Option Disk) (a b : List ℕ) → Recovers key context storage old a b → KeepsDisk old new → Recovers key context storage new a b
-journal_kept key context storage old new a b recovers keeps = record {
+pub journal_kept : (key context xs : List ℕ) (writes : Writes) (storage old new : Option Disk) → Recovers key context xs writes storage old → KeepsDisk old new → Recovers key context xs writes storage new
+journal_kept key context xs writes storage old new recovers keeps = record {
   storage_disk = recovers.storage_disk;
   journal_disk = recovers.journal_disk;
   storage_is = recovers.storage_is;
@@ -209,27 +209,29 @@ journal_kept key context storage old new a b recovers keeps = record {
 
 -- Both are synced, and the journal was read.
 pub record Settled (key context : List ℕ) (storage journal : Option Disk) (a b js : List ℕ) : Type 0 where
-  pub xs : List ℕ
-  pub storage_is : storage ≡ Some (certain xs)
+  pub now : List ℕ
+  pub storage_is : storage ≡ Some (certain now)
   pub journal_is : journal ≡ Some (certain js)
-  pub gives : GivesOneOf key context a b js xs
+  pub gives : GivesOneOf key context a b js now
 
-read_is : (js read : List ℕ) (bytes : Option (List ℕ)) → bytes ≡ Some js → IfSome bytes (λ xs. read ≡ xs) → read ≡ js
-read_is js read bytes is found = subst (λ (o : Option (List ℕ)). IfSome o (λ xs. read ≡ xs)) is found
+if_some_is : (P : List ℕ → Type 0) (js : List ℕ) (bytes : Option (List ℕ)) → bytes ≡ Some js → IfSome bytes P → P js
+if_some_is P js bytes is found = subst (λ (o : Option (List ℕ)). IfSome o P) is found
 
 -- `a_bytes` are the storage's, and `b_bytes` and `c_bytes` the journal's before and after its sync
-pub settled : (key context : List ℕ) (a_bytes b_bytes c_bytes : Option (List ℕ)) (storage storage' journal journal' journal'' : Option Disk) (a b read js : List ℕ)
-    → IsPossible a_bytes storage → IsPossible b_bytes journal → IsPossible c_bytes journal' → Recovers key context storage journal a b → MakesCertain a_bytes storage storage' → MakesCertain b_bytes journal journal'
-    → IfSome c_bytes (λ xs. read ≡ xs) → js ≡ read → KeepsDisk journal' journal'' → Settled key context storage' journal'' a b js
-settled key context a_bytes b_bytes c_bytes storage storage' journal journal' journal'' a b read js p q r recovers s t found same keeps =
+pub settled : (key context xs : List ℕ) (writes : Writes) (a_bytes b_bytes c_bytes : Option (List ℕ)) (storage storage' journal journal' journal'' : Option Disk) (read js : List ℕ)
+    → IsPossible a_bytes storage → IsPossible b_bytes journal → IsPossible c_bytes journal' → Recovers key context xs writes storage journal → IfSome b_bytes (IsNoForgery key context writes)
+    → MakesCertain a_bytes storage storage' → MakesCertain b_bytes journal journal' → IfSome c_bytes (λ ys. read ≡ ys) → js ≡ read → KeepsDisk journal' journal''
+    → Settled key context storage' journal'' xs (written writes xs) js
+settled key context xs writes a_bytes b_bytes c_bytes storage storage' journal journal' journal'' read js p q r recovers no_forgery s t found same keeps =
     let x = readable a_bytes storage recovers.storage_disk p recovers.storage_is in
     let y = readable b_bytes journal recovers.journal_disk q recovers.journal_is in
     let synced = t recovers.journal_disk y.xs recovers.journal_is y.is in
-    let js_are : js ≡ y.xs = same ∙ read_is y.xs read c_bytes (readable_certain c_bytes journal' y.xs r synced) found in record {
-  xs = x.xs;
+    let js_are : js ≡ y.xs = same ∙ if_some_is (λ ys. read ≡ ys) y.xs c_bytes (readable_certain c_bytes journal' y.xs r synced) found in record {
+  now = x.xs;
   storage_is = s recovers.storage_disk x.xs recovers.storage_is x.is;
   journal_is = keeps (certain y.xs) synced ∙ ap (λ (l : List ℕ). Some (certain l)) (sym js_are);
-  gives = gives_same key context a b y.xs js x.xs x.xs js_are refl (recovers.gives x.xs y.xs x.possible y.possible);
+  gives = gives_same key context xs (written writes xs) y.xs js x.xs x.xs js_are refl
+      (recovers.gives x.xs y.xs x.possible y.possible (if_some_is (IsNoForgery key context writes) y.xs b_bytes y.is no_forgery));
 }
 
 -- ---- what is known

@@ -6,7 +6,7 @@ use Rattle.aegis.specs.declared.record.version.Version.{Version}
 use Rattle.aegis.specs.declared.record.version.Version.TheVariants.{Second}
 use Rattle.aegis.specs.Records.{AreRecords, records}
 use Rattle.aegis_storage.specs.declared.store.TheConstants.{MAX_STORAGE_BYTES}
-use Rattle.aegis_storage.specs.Disk.{Change, Crashed, Disk, Write, Writes, after, certain, written}
+use Rattle.aegis_storage.specs.Disk.{Crashed, Disk, Writes, certain, written}
 
 -- the message of a write's record: its place, and then its bytes
 abbrev pub place_and_bytes : ℕ × List ℕ → List ℕ
@@ -52,28 +52,28 @@ pub record GivesOneOf (key context a b journal old : List ℕ) : Type 0 where
   pub whole : (writes : Writes) → IsJournal key context writes journal → IsOneOf a b (written writes old)
   pub other : ((writes : Writes) → IsJournal key context writes journal → ⊥) → IsOneOf a b old
 
--- Whatever a crash now leaves of the storage and of the journal, recovery gives a or b.
-pub record Recovers (key context : List ℕ) (storage journal : Option Disk) (a b : List ℕ) : Type 0 where
+-- The premise on AEGIS: if the bytes are a journal under the key and the context, then of these writes. Bytes that are not are a
+-- forgery, which nobody can find without the key but by chance.
+abbrev pub IsNoForgery : (key context : List ℕ) → Writes → List ℕ → Type 0
+IsNoForgery key context writes bytes = (found : Writes) → IsJournal key context found bytes → found ≡ writes
+
+-- Whatever a crash now leaves of the storage and of the journal, unless it leaves a forgery, recovery gives xs, or xs with all
+-- the writes over it.
+pub record Recovers (key context xs : List ℕ) (writes : Writes) (storage journal : Option Disk) : Type 0 where
   pub storage_disk : Disk
   pub journal_disk : Disk
   pub storage_is : storage ≡ Some storage_disk
   pub journal_is : journal ≡ Some journal_disk
-  pub gives : (xs js : List ℕ) → Crashed storage_disk xs → Crashed journal_disk js → GivesOneOf key context a b js xs
+  pub gives : (ys js : List ℕ) → Crashed storage_disk ys → Crashed journal_disk js → IsNoForgery key context writes js
+      → GivesOneOf key context xs (written writes xs) js ys
 
 -- The storage holds xs and the journal is empty, and both are certain.
 pub record IsAtRest (storage journal : Option Disk) (xs : List ℕ) : Type 0 where
   pub storage_is : storage ≡ Some (certain xs)
   pub journal_is : journal ≡ Some (certain [])
 
--- the same, with one of two contents
-pub record RestsAtOneOf (storage journal : Option Disk) (a b : List ℕ) : Type 0 where
+-- the same, with xs or with xs and all the writes over it
+pub record RestsAtEither (storage journal : Option Disk) (xs : List ℕ) (writes : Writes) : Type 0 where
   pub bytes : List ℕ
-  pub one : IsOneOf a b bytes
+  pub one : IsOneOf xs (written writes xs) bytes
   pub rests : IsAtRest storage journal bytes
-
--- No torn journal of these writes opens by chance: of all that a crash may leave of the write that makes it, only the whole is a
--- journal.
-abbrev pub NoForgery : (key prefix context : List ℕ) → Writes → Type 0
-NoForgery key prefix context writes = (bytes : List ℕ) (found : Writes)
-    → Crashed (after (certain []) (Write 0 (journal_of key prefix context writes))) bytes
-    → IsJournal key context found bytes → bytes ≡ journal_of key prefix context writes

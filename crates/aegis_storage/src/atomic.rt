@@ -1,9 +1,9 @@
 //! Writes that are all there after a crash, or none of them.
 
-ghost use Rattle.std.specs.Prelude.{◌≡◌, ◌≤◌, List, OnOk, Some, length, ℕ};
+ghost use Rattle.std.specs.Prelude.{◌≡◌, ◌≤◌, IfSome, List, OnOk, Some, length, ℕ};
 ghost use Rattle.aegis_storage.specs.Calls.{GivesFrom, IsRedone};
-ghost use Rattle.aegis_storage.specs.Disk.{WritesAll, certain, written};
-ghost use Rattle.aegis_storage.specs.Journal.{GivesOneOf, IsAtRest, NoForgery, Recovers, RecoversKnown, RestsAtOneOf};
+ghost use Rattle.aegis_storage.specs.Disk.{Writes, WritesAll, certain, written};
+ghost use Rattle.aegis_storage.specs.Journal.{GivesOneOf, IsAtRest, IsNoForgery, Recovers, RecoversKnown, RestsAtEither};
 ghost use Rattle.aegis_storage.specs.Pending.{writes_of};
 
 use crate::calls::{empty, read_all, write_and_sync};
@@ -29,9 +29,8 @@ pub fn commit<S: Storage, J: Storage, A: Allocator + Copy>(
     ensures written { OnOk result
         (WritesAll (S.bytes storage.old) (S.bytes storage.new) (writes_of writes.now)) }
     ensures recovers { (xs : List ℕ) → IsAtRest (S.disk storage.old) (J.disk journal.old) xs
-        → NoForgery key.now prefix.now context.now (writes_of writes.now)
-        → Recovers key.now context.now (S.disk storage.new) (J.disk journal.new) xs
-        (written (writes_of writes.now) xs) }
+        → Recovers key.now context.now xs (writes_of writes.now)
+        (S.disk storage.new) (J.disk journal.new) }
     ensures at_rest { OnOk result ((xs : List ℕ)
         → IsAtRest (S.disk storage.old) (J.disk journal.old) xs
         → IsAtRest (S.disk storage.new) (J.disk journal.new)
@@ -81,12 +80,14 @@ pub fn recover<S: Storage, J: Storage, A: Allocator + Copy>(
     requires { length context.now ≤ MAX_CONTEXT_BYTES }
     ensures recovered { OnOk result (RecoversKnown key.now context.now (J.bytes journal.old)
         (S.bytes storage.old) (S.bytes storage.new)) }
-    ensures recovers { (a b : List ℕ)
-        → Recovers key.now context.now (S.disk storage.old) (J.disk journal.old) a b
-        → Recovers key.now context.now (S.disk storage.new) (J.disk journal.new) a b }
-    ensures at_rest { OnOk result ((a b : List ℕ)
-        → Recovers key.now context.now (S.disk storage.old) (J.disk journal.old) a b
-        → RestsAtOneOf (S.disk storage.new) (J.disk journal.new) a b) }
+    ensures recovers { (xs : List ℕ) (writes : Writes)
+        → IfSome (J.bytes journal.old) (IsNoForgery key.now context.now writes)
+        → Recovers key.now context.now xs writes (S.disk storage.old) (J.disk journal.old)
+        → Recovers key.now context.now xs writes (S.disk storage.new) (J.disk journal.new) }
+    ensures at_rest { OnOk result ((xs : List ℕ) (writes : Writes)
+        → IfSome (J.bytes journal.old) (IsNoForgery key.now context.now writes)
+        → Recovers key.now context.now xs writes (S.disk storage.old) (J.disk journal.old)
+        → RestsAtEither (S.disk storage.new) (J.disk journal.new) xs writes) }
 {
     // What was written before may not be certain yet, if no power was lost.
     storage.sync()?;

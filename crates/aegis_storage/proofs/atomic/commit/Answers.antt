@@ -7,32 +7,29 @@ use Rattle.aegis_storage.proofs.Journals.{finish, middle, over_gives, rest_recov
 use Rattle.aegis_storage.proofs.atomic.commit.Goals as goal
 
 pub returns-then-is_empty-clause-recovers : goal.returns-then-is_empty-clause-recovers
-returns-then-is_empty-clause-recovers g c xs rest _ = rest_recovers _ _ _ _ xs _ xs (inl refl) rest
+returns-then-is_empty-clause-recovers g c xs rest = rest_recovers _ _ xs _ _ _ xs (inl refl) rest
 
 pub returns-in_err-content-clause-recovers : goal.returns-in_err-content-clause-recovers
-returns-in_err-content-clause-recovers g c xs rest _ = rest_recovers _ _ _ _ xs _ xs (inl refl) rest
+returns-in_err-content-clause-recovers g c xs rest = rest_recovers _ _ xs _ _ _ xs (inl refl) rest
 
 pub returns-in_err-write_at-clause-recovers : goal.returns-in_err-write_at-clause-recovers
-returns-in_err-write_at-clause-recovers g c xs rest no_forgery =
-    let whole : IsJournal c.args.key.now c.args.context.now (writes_of c.args.writes.now) c.deref.result.now = rw c.deref.ensures.value c.in_ok-content.ensures.whole in
-    torn_journal _ c.args.prefix.now _ _ c.deref.result.now _ _ xs (c.deref.ensures.value ∙ c.in_ok-content.ensures.journal) rest.storage_is
-    (c.write_at.ensures.pending (certain []) rest.journal_is) whole no_forgery
+returns-in_err-write_at-clause-recovers g c xs rest =
+    torn_journal _ _ _ _ _ _ xs rest.storage_is (c.write_at.ensures.pending (certain []) rest.journal_is)
 
 pub returns-in_err-sync-clause-recovers : goal.returns-in_err-sync-clause-recovers
-returns-in_err-sync-clause-recovers g c xs rest no_forgery =
-    let whole : IsJournal c.args.key.now c.args.context.now (writes_of c.args.writes.now) c.deref.result.now = rw c.deref.ensures.value c.in_ok-content.ensures.whole in
-    torn_journal _ c.args.prefix.now _ _ c.deref.result.now _ _ xs (c.deref.ensures.value ∙ c.in_ok-content.ensures.journal) rest.storage_is
-    (c.in_err-sync.ensures.uncertain (after (certain []) (Write 0 c.deref.result.now)) (c.write_at.ensures.pending (certain []) rest.journal_is)) whole no_forgery
+returns-in_err-sync-clause-recovers g c xs rest =
+    torn_journal _ _ _ _ _ _ xs rest.storage_is
+    (c.in_err-sync.ensures.uncertain (after (certain []) (Write 0 c.deref.result.now)) (c.write_at.ensures.pending (certain []) rest.journal_is))
 
 pub returns-in_err-write_and_sync-clause-recovers : goal.returns-in_err-write_and_sync-clause-recovers
-returns-in_err-write_and_sync-clause-recovers g c xs rest _ =
+returns-in_err-write_and_sync-clause-recovers g c xs rest =
     let whole : IsJournal c.args.key.now c.args.context.now (writes_of c.args.writes.now) c.deref.result.now = rw c.deref.ensures.value c.in_ok-content.ensures.whole in
     middle _ _ xs _ c.deref.result.now _ _
     (over_gives _ _ _ xs _ c.deref.result.now xs _ whole (inr refl) (c.write_and_sync.ensures.torn xs rest.storage_is))
     (whole_journal c.deref.result.now _ _ _ _ _ (g.met.J.Storage.possible c.args.journal.now) rest.journal_is c.in_ok-write_at.ensures.written c.write_at.ensures.pending c.in_ok-sync.ensures.certain)
 
 pub returns-clause-recovers : goal.returns-clause-recovers
-returns-clause-recovers g c xs rest _ =
+returns-clause-recovers g c xs rest =
     let whole : IsJournal c.args.key.now c.args.context.now (writes_of c.args.writes.now) c.deref.result.now = rw c.deref.ensures.value c.in_ok-content.ensures.whole in
     let kept = whole_journal c.deref.result.now _ _ _ _ _ (g.met.J.Storage.possible c.args.journal.now) rest.journal_is c.in_ok-write_at.ensures.written c.write_at.ensures.pending c.in_ok-sync.ensures.certain in
     finish _ _ xs _ c.deref.result.now _ _ _
