@@ -4,7 +4,7 @@ use Rattle.std.proofs.lemmas.List.{append-nil, append_assoc}
 use Rattle.std.proofs.Common.{◌≡◌, ℕ, ◌+◌, ◌-◌, ◌⊎◌, inl, inr, List, [], ◌∷◌, ◌++◌, None, Some, OnErr, OnOk, Option, Result, Ok, Err, length, replicate, take, refl, sym, ap, subst, ◌∙◌, arith}
 use Rattle.aegis_storage.specs.Bytes.{ResizesTo, WritesAt, overwritten, resized}
 use Rattle.aegis_storage.specs.Calls.{AddsSome, IsWholeOrEmpty, IsWrittenOver}
-use Rattle.aegis_storage.specs.Disk.{Adds, AreParts, Change, Crashed, Disk, IsPart, IsPartOfOne, IsPossible, KeepsDisk, MakesCertain, Size, Write, Writes, WritesAll, after, applied, certain, changed, changes, written}
+use Rattle.aegis_storage.specs.Disk.{Adds, AreParts, Change, Crashed, Disk, IsPart, IsPartOfOne, IsPossible, KeepsDisk, MakesCertain, MayAdd, Size, Write, Writes, WritesAll, after, applied, certain, changed, changes, written}
 use Rattle.aegis_storage.proofs.Crashing.{written_again}
 
 -- ---- certain bytes
@@ -89,6 +89,10 @@ cut_down xs old new is adds = record {
   where
     either_of : (ys : List ℕ) → Crashed (after (certain xs) (Size 0)) ys → (ys ≡ xs) ⊎ (ys ≡ [])
     either_of ys crashed = subst (λ (l : List ℕ). (l ≡ xs) ⊎ (l ≡ [])) (sym crashed.are) (either_left xs crashed.parts crashed.of_pending)
+
+pub maybe_cut : (xs : List ℕ) (old new : Option Disk) → old ≡ Some (certain xs) → MayAdd old new (Size 0) → IsWholeOrEmpty xs new
+maybe_cut xs old new is (inl keeps) = record { disk = certain xs; is = keeps (certain xs) is; either = λ ys crashed. inl (certain_only xs ys crashed); }
+maybe_cut xs old new is (inr adds) = cut_down xs old new is adds
 
 pub cut_synced : (xs : List ℕ) (bytes : Option (List ℕ)) (old new : Option Disk) → IsPossible bytes old → IsWholeOrEmpty xs old
     → MakesCertain bytes old new ⊎ KeepsDisk old new → IsWholeOrEmpty xs new
@@ -189,3 +193,9 @@ pub one_added : (writes : Writes) (at : ℕ) (bs : List ℕ) (a b c : Option Dis
 one_added writes at bs a b c all one disk is =
     one (record { synced = disk.synced; pending = disk.pending ++ changes writes; }) (all disk is)
     ∙ ap (λ (l : List Change). Some (record { synced = disk.synced; pending = l; })) (append_assoc disk.pending (changes writes) (Write at bs ∷ []) ∙ ap (λ (l : List Change). disk.pending ++ l) (sym (changes_more writes at bs)))
+
+-- a write that failed: it is pending, or it is not
+pub some_added : (writes rest : Writes) (at : ℕ) (bs : List ℕ) (a b c : Option Disk) → AddsAll a b writes → MayAdd b c (Write at bs) → AddsSome a c ((writes ++ (at, bs) ∷ []) ++ rest)
+some_added writes rest at bs a b c all (inl keeps) disk is =
+    (writes, (at, bs) ∷ rest, append_assoc writes ((at, bs) ∷ []) rest, keeps (record { synced = disk.synced; pending = disk.pending ++ changes writes; }) (all disk is))
+some_added writes rest at bs a b c all (inr adds) disk is = (writes ++ (at, bs) ∷ [], rest, refl, one_added writes at bs a b c all adds disk is)

@@ -11,7 +11,7 @@ use Rattle.aegis.proofs.Streams.{one_record_stream}
 use Rattle.aegis_storage.specs.declared.store.TheConstants.{MAX_STORAGE_BYTES}
 use Rattle.aegis_storage.specs.Bytes.{WritesAt, overwritten, resized}
 use Rattle.aegis_storage.specs.Calls.{GivesFrom, IsRedone, IsWholeOrEmpty, IsWrittenOver}
-use Rattle.aegis_storage.specs.Disk.{Adds, Crashed, Disk, IsPossible, KeepsDisk, MakesCertain, Write, Writes, WritesAll, after, certain, written}
+use Rattle.aegis_storage.specs.Disk.{Adds, Crashed, Disk, IsPossible, KeepsDisk, MakesCertain, MayAdd, Write, Writes, WritesAll, after, certain, written}
 use Rattle.aegis_storage.specs.Journal.{AreWithin, GivesOneOf, IsAtRest, IsJournal, IsOneOf, IsNoForgery, IsRecovered, Recovers, RecoversKnown, journal_of, place_and_bytes}
 use Rattle.aegis_storage.proofs.Disks.{certain_only, crashed_certain, readable, readable_certain}
 
@@ -92,6 +92,12 @@ torn_journal key context writes torn storage journal xs storage_is journal_is = 
       other = λ not. inl (certain_only xs ys p);
     };
 }
+
+-- the journal's first write failed: it is pending, or it is not
+pub failed_journal : (key context : List ℕ) (writes : Writes) (js : List ℕ) (storage old journal : Option Disk) (xs : List ℕ) → storage ≡ Some (certain xs) → old ≡ Some (certain [])
+    → MayAdd old journal (Write 0 js) → Recovers key context xs writes storage journal
+failed_journal key context writes js storage old journal xs storage_is is (inl keeps) = torn_journal key context writes (certain []) storage journal xs storage_is (keeps (certain []) is)
+failed_journal key context writes js storage old journal xs storage_is is (inr adds) = torn_journal key context writes (after (certain []) (Write 0 js)) storage journal xs storage_is (adds (certain []) is)
 
 -- once the journal is certain, and while the writes are made
 pub over_gives : (key context : List ℕ) (writes : Writes) (a b js xs : List ℕ) (state : Option Disk) → IsJournal key context writes js → IsOneOf a b (written writes xs)

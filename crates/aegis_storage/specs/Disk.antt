@@ -85,6 +85,10 @@ KeepsDisk old new = (disk : Disk) → old ≡ Some disk → new ≡ Some disk
 abbrev pub Adds : Option Disk → Option Disk → Change → Type 0
 Adds old new change = (disk : Disk) → old ≡ Some disk → new ≡ Some (after disk change)
 
+-- the change is pending, too, or the disk is as it was
+abbrev pub MayAdd : Option Disk → Option Disk → Change → Type 0
+MayAdd old new change = KeepsDisk old new ⊎ Adds old new change
+
 -- what can be read is certain
 abbrev pub MakesCertain : Option (List ℕ) → Option Disk → Option Disk → Type 0
 MakesCertain bytes old new = (disk : Disk) (xs : List ℕ) → old ≡ Some disk → bytes ≡ Some xs → new ≡ Some (certain xs)

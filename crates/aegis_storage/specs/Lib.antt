@@ -2,4 +2,5 @@ pub mod Bytes
 pub mod Calls
 pub mod Disk
 pub mod Journal
+pub mod Overlay
 pub mod Pending

@@ -5,9 +5,11 @@ mod atomic;
 mod bytes;
 mod calls;
 mod journal;
+mod overlay;
 mod pending;
 mod store;
 
 pub use atomic::{commit, recover};
+pub use overlay::Overlay;
 pub use pending::PendingWrite;
 pub use store::{MAX_STORAGE_BYTES, Storage};

@@ -3,7 +3,7 @@
 ghost use Rattle.std.specs.Prelude.{◌≡◌, ◌+◌, ◌≤◌, IfOk, IfSome, List, None, OnErr, OnOk, Option, Some, length, ℕ};
 ghost use Rattle.std.specs.Io.KnownBytes.{Keeps};
 ghost use Rattle.aegis_storage.specs.Bytes.{ResizesTo, TearsAt, WritesAt, part_at};
-ghost use Rattle.aegis_storage.specs.Disk.{Adds, Disk, IsPossible, KeepsDisk, MakesCertain, Size, Write};
+ghost use Rattle.aegis_storage.specs.Disk.{Adds, Disk, IsPossible, KeepsDisk, MakesCertain, MayAdd, Size, Write};
 
 use crate::bytes::put;
 use std::alloc::Allocator;
@@ -48,14 +48,16 @@ pub trait Storage {
         ensures written { OnOk result (WritesAt (bytes self.old) (bytes self.new) at part.now) }
         ensures torn { OnErr result
             (TearsAt (bytes self.old) (bytes self.new) at (length part.now)) }
-        ensures pending { Adds (disk self.old) (disk self.new) (Write at part.now) };
+        ensures pending { OnOk result (Adds (disk self.old) (disk self.new) (Write at part.now)) }
+        ensures maybe { OnErr result (MayAdd (disk self.old) (disk self.new) (Write at part.now)) };
 
     /// Cuts the bytes off at `size`, or fills them up to it with zeros. After an error they are as they were.
     fn set_size(&mut self, size: u64) -> io::Result<()>
         requires { size ≤ MAX_STORAGE_BYTES }
         ensures resized { OnOk result (ResizesTo (bytes self.old) (bytes self.new) size) }
         ensures kept { OnErr result (Keeps (bytes self.old) (bytes self.new)) }
-        ensures pending { Adds (disk self.old) (disk self.new) (Size size) };
+        ensures pending { OnOk result (Adds (disk self.old) (disk self.new) (Size size)) }
+        ensures maybe { OnErr result (MayAdd (disk self.old) (disk self.new) (Size size)) };
 
     /// Returns once all that was written is where it outlasts a loss of power.
     fn sync(&mut self) -> io::Result<()>
