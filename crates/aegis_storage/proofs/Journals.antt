@@ -257,3 +257,18 @@ known_whole key context writes js (Some xs) (Some ys) is all = record {
 pub known_other : (key context js : List ℕ) (a : Option (List ℕ)) → ((writes : Writes) → IsJournal key context writes js → ⊥) → RecoversKnown key context (Some js) a a
 known_other key context js None not = tt
 known_other key context js (Some xs) not = record { whole = λ writes is. absurd (not writes is); other = λ also. refl; }
+
+-- ---- a crash
+
+pub crashed_recovers : (key context xs : List ℕ) (writes : Writes) (storage journal : Disk) (ys js : List ℕ) → Recovers key context xs writes (Some storage) (Some journal)
+    → Crashed storage ys → Crashed journal js → Recovers key context xs writes (Some (certain ys)) (Some (certain js))
+crashed_recovers key context xs writes storage journal ys js recovers p q =
+    let s : storage ≡ recovers.storage_disk = (let is = recovers.storage_is in cc) in
+    let j : journal ≡ recovers.journal_disk = (let is = recovers.journal_is in cc) in record {
+  storage_disk = certain ys;
+  journal_disk = certain js;
+  storage_is = refl;
+  journal_is = refl;
+  gives = λ zs ks a b nf. gives_same key context xs (written writes xs) js ks ys zs (certain_only js ks b) (certain_only ys zs a)
+      (recovers.gives ys js (subst (λ (d : Disk). Crashed d ys) s p) (subst (λ (d : Disk). Crashed d js) j q) (subst (IsNoForgery key context writes) (certain_only js ks b) nf));
+}

@@ -5,6 +5,7 @@ mod atomic;
 mod bytes;
 mod calls;
 mod journal;
+pub mod laws;
 mod overlay;
 mod pending;
 mod store;
