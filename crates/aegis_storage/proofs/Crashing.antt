@@ -1,10 +1,10 @@
 -- Bytes after parts of writes, and after the writes again.
 use Rattle.std.specs.Prelude.{⊤}
-use Rattle.std.proofs.Common.{◌≡◌, ℕ, ◌+◌, ◌-◌, ◌<◌, ◌≤◌, ◌⊎◌, inl, inr, List, [], ◌∷◌, ◌++◌, drop, get_or, length, max, take, refl, sym, ap, ◌∙◌, arith}
+use Rattle.std.proofs.Common.{◌≡◌, ℕ, ◌+◌, ◌<◌, ◌≤◌, ◌⊎◌, inl, inr, List, [], ◌∷◌, get_or, length, max, refl, sym, ◌∙◌, arith}
 use Rattle.std.proofs.lemmas.Bool.{cases_lt}
-use Rattle.std.proofs.lemmas.List.{ext_get_or, length-append}
-use Rattle.aegis_storage.specs.Bytes.{overwritten, part_at}
-use Rattle.aegis_storage.specs.Disk.{AreParts, Change, IsPart, IsPartOfOne, Size, Write, Writes, applied, changed, changes, written}
+use Rattle.std.proofs.lemmas.List.{ext_get_or}
+use Rattle.aegis_storage.specs.Bytes.{overwritten}
+use Rattle.aegis_storage.specs.Disk.{AreParts, Change, IsPartOfOne, Size, Write, Writes, applied, changed, changes, written}
 use Rattle.aegis_storage.proofs.Overwriting.{after_part, before_part, length-overwritten, within_part}
 
 -- byte i is none of those that the writes write
@@ -58,9 +58,9 @@ within_of (write ∷ writes) at bs (inl part) = record {
 }
 within_of (write ∷ writes) at bs (inr part) =
     let rest = within_of writes at bs part in record {
-  ends = let ends = rest.ends in omega (arith, ends);
-  leaves = λ i leaves. rest.leaves i leaves.1;
-}
+      ends = let ends = rest.ends in omega (arith, ends);
+      leaves = λ i leaves. rest.leaves i leaves.1;
+    }
 
 no_size : (writes : Writes) (n : ℕ) → IsPartOfOne (changes writes) (Size n) → ⊥
 no_size [] n part = part
@@ -74,20 +74,20 @@ left_byte xs at bs i (inr past) = after_part xs at bs i past
 alike_part : (writes : Writes) (part : Change) (xs : List ℕ) → IsPartOfOne (changes writes) part → Alike writes (changed part xs) xs
 alike_part writes (Write at bs) xs part =
     let within = within_of writes at bs part in record {
-  size = let ends = within.ends in omega (arith, ends, length-overwritten xs at bs);
-  bytes = λ i leaves. left_byte xs at bs i (within.leaves i leaves);
-}
+      size = let ends = within.ends in omega (arith, ends, length-overwritten xs at bs);
+      bytes = λ i leaves. left_byte xs at bs i (within.leaves i leaves);
+    }
 alike_part writes (Size n) xs part = absurd (no_size writes n part)
 
 -- bytes after any parts of the writes
 pub alike_parts : (writes : Writes) (parts : List Change) (xs : List ℕ) → AreParts (changes writes) parts → Alike writes (applied parts xs) xs
-alike_parts writes [] xs are = record { size = refl; bytes = λ i leaves. refl; }
+alike_parts writes [] xs are = record { size = refl; bytes = λ i leaves. refl }
 alike_parts writes (part ∷ parts) xs are =
     let first = alike_part writes part xs are.0 in
     let rest = alike_parts writes parts (changed part xs) are.1 in record {
-  size = rest.size ∙ first.size;
-  bytes = λ i leaves. rest.bytes i leaves ∙ first.bytes i leaves;
-}
+      size = rest.size ∙ first.size;
+      bytes = λ i leaves. rest.bytes i leaves ∙ first.bytes i leaves;
+    }
 
 -- The key: after any parts of the writes, in any order, the writes give what they give without these.
 pub written_again : (writes : Writes) (parts : List Change) (xs : List ℕ) → AreParts (changes writes) parts → written writes (applied parts xs) ≡ written writes xs

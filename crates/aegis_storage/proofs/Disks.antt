@@ -1,10 +1,9 @@
 -- What calls do to what a crash may leave.
-use Rattle.std.specs.Prelude.{⊤}
 use Rattle.std.proofs.lemmas.List.{append-nil, append_assoc}
-use Rattle.std.proofs.Common.{◌≡◌, ℕ, ◌+◌, ◌-◌, ◌⊎◌, inl, inr, List, [], ◌∷◌, ◌++◌, None, Some, OnErr, OnOk, Option, Result, Ok, Err, length, replicate, take, refl, sym, ap, subst, ◌∙◌, arith}
+use Rattle.std.proofs.Common.{◌≡◌, ℕ, ◌-◌, ◌⊎◌, inl, inr, List, [], ◌∷◌, ◌++◌, None, Some, OnErr, OnOk, Option, Result, Ok, Err, length, replicate, refl, sym, ap, subst, ◌∙◌, arith}
 use Rattle.aegis_storage.specs.Bytes.{ResizesTo, WritesAt, overwritten, resized}
 use Rattle.aegis_storage.specs.Calls.{AddsSome, IsWholeOrEmpty, IsWrittenOver}
-use Rattle.aegis_storage.specs.Disk.{Adds, AreParts, Change, Crashed, Disk, IsPart, IsPartOfOne, IsPossible, KeepsDisk, MakesCertain, MayAdd, Size, Write, Writes, WritesAll, after, applied, certain, changed, changes, written}
+use Rattle.aegis_storage.specs.Disk.{Adds, AreParts, Change, Crashed, Disk, IsPartOfOne, IsPossible, KeepsDisk, MakesCertain, MayAdd, Size, Write, Writes, WritesAll, after, applied, certain, changes, written}
 use Rattle.aegis_storage.proofs.Crashing.{written_again}
 
 -- ---- certain bytes
@@ -17,7 +16,7 @@ certain_only xs ys crashed = crashed.are ∙ none crashed.parts crashed.of_pendi
     none (part ∷ parts) are = absurd are.0
 
 pub crashed_certain : (xs : List ℕ) → Crashed (certain xs) xs
-crashed_certain xs = record { parts = []; of_pending = tt; are = refl; }
+crashed_certain xs = record { parts = []; of_pending = tt; are = refl }
 
 -- ---- what can be read
 
@@ -32,7 +31,7 @@ readable bytes state disk possible is = cases bytes (subst (IsPossible bytes) is
   where
     cases : (bytes : Option (List ℕ)) → IsPossible bytes (Some disk) → Readable bytes disk
     cases None p = absurd p
-    cases (Some xs) p = record { xs = xs; is = refl; possible = p; }
+    cases (Some xs) p = record { xs = xs; is = refl; possible = p }
 
 pub readable_certain : (bytes : Option (List ℕ)) (state : Option Disk) (xs : List ℕ) → IsPossible bytes state → state ≡ Some (certain xs) → bytes ≡ Some xs
 readable_certain bytes state xs possible is =
@@ -91,18 +90,18 @@ cut_down xs old new is adds = record {
     either_of ys crashed = subst (λ (l : List ℕ). (l ≡ xs) ⊎ (l ≡ [])) (sym crashed.are) (either_left xs crashed.parts crashed.of_pending)
 
 pub maybe_cut : (xs : List ℕ) (old new : Option Disk) → old ≡ Some (certain xs) → MayAdd old new (Size 0) → IsWholeOrEmpty xs new
-maybe_cut xs old new is (inl keeps) = record { disk = certain xs; is = keeps (certain xs) is; either = λ ys crashed. inl (certain_only xs ys crashed); }
+maybe_cut xs old new is (inl keeps) = record { disk = certain xs; is = keeps (certain xs) is; either = λ ys crashed. inl (certain_only xs ys crashed) }
 maybe_cut xs old new is (inr adds) = cut_down xs old new is adds
 
 pub cut_synced : (xs : List ℕ) (bytes : Option (List ℕ)) (old new : Option Disk) → IsPossible bytes old → IsWholeOrEmpty xs old
     → MakesCertain bytes old new ⊎ KeepsDisk old new → IsWholeOrEmpty xs new
 cut_synced xs bytes old new possible cut (inl certainly) =
     let r = readable bytes old cut.disk possible cut.is in record {
-  disk = certain r.xs;
-  is = certainly cut.disk r.xs cut.is r.is;
-  either = λ ys crashed. subst (λ (l : List ℕ). (l ≡ xs) ⊎ (l ≡ [])) (sym (certain_only r.xs ys crashed)) (cut.either r.xs r.possible);
-}
-cut_synced xs bytes old new possible cut (inr keeps) = record { disk = cut.disk; is = keeps cut.disk cut.is; either = cut.either; }
+      disk = certain r.xs;
+      is = certainly cut.disk r.xs cut.is r.is;
+      either = λ ys crashed. subst (λ (l : List ℕ). (l ≡ xs) ⊎ (l ≡ [])) (sym (certain_only r.xs ys crashed)) (cut.either r.xs r.possible);
+    }
+cut_synced xs bytes old new possible cut (inr keeps) = record { disk = cut.disk; is = keeps cut.disk cut.is; either = cut.either }
 
 resizes : (xs : List ℕ) (n : ℕ) (a b : Option (List ℕ)) → a ≡ Some xs → ResizesTo a b n → b ≡ Some (resized xs n)
 resizes xs n a b is to = cases b (subst (λ (o : Option (List ℕ)). ResizesTo o b n) is to)
@@ -132,21 +131,21 @@ parts_more done rest (part ∷ parts) are = (one done are.0, parts_more done res
 pub some_written : (writes : Writes) (xs : List ℕ) (old new : Option Disk) → old ≡ Some (certain xs) → AddsSome old new writes → IsWrittenOver writes xs new
 some_written writes xs old new is adds =
     let some = adds (certain xs) is in record {
-  disk = record { synced = xs; pending = changes some.0; };
-  is = some.3;
-  again = λ ys crashed. subst (λ (l : Writes). written l ys ≡ written l xs) (sym some.2)
-      (ap (written (some.0 ++ some.1)) crashed.are ∙ written_again (some.0 ++ some.1) crashed.parts xs (parts_more some.0 some.1 crashed.parts crashed.of_pending));
-}
+      disk = record { synced = xs; pending = changes some.0 };
+      is = some.3;
+      again = λ ys crashed. subst (λ (l : Writes). written l ys ≡ written l xs) (sym some.2)
+          (ap (written (some.0 ++ some.1)) crashed.are ∙ written_again (some.0 ++ some.1) crashed.parts xs (parts_more some.0 some.1 crashed.parts crashed.of_pending));
+    }
 
 pub over_synced : (writes : Writes) (xs : List ℕ) (bytes : Option (List ℕ)) (old new : Option Disk) → IsPossible bytes old → IsWrittenOver writes xs old
     → MakesCertain bytes old new ⊎ KeepsDisk old new → IsWrittenOver writes xs new
 over_synced writes xs bytes old new possible over (inl certainly) =
     let r = readable bytes old over.disk possible over.is in record {
-  disk = certain r.xs;
-  is = certainly over.disk r.xs over.is r.is;
-  again = λ ys crashed. ap (written writes) (certain_only r.xs ys crashed) ∙ over.again r.xs r.possible;
-}
-over_synced writes xs bytes old new possible over (inr keeps) = record { disk = over.disk; is = keeps over.disk over.is; again = over.again; }
+      disk = certain r.xs;
+      is = certainly over.disk r.xs over.is r.is;
+      again = λ ys crashed. ap (written writes) (certain_only r.xs ys crashed) ∙ over.again r.xs r.possible;
+    }
+over_synced writes xs bytes old new possible over (inr keeps) = record { disk = over.disk; is = keeps over.disk over.is; again = over.again }
 
 pub writes_all : (writes : Writes) (xs : List ℕ) (a b : Option (List ℕ)) → a ≡ Some xs → WritesAll a b writes → b ≡ Some (written writes xs)
 writes_all writes xs a b is all = cases b (subst (λ (o : Option (List ℕ)). WritesAll o b writes) is all)
@@ -184,18 +183,18 @@ none_written (Some xs) = refl
 
 -- these writes are pending, too
 abbrev pub AddsAll : Option Disk → Option Disk → Writes → Type 0
-AddsAll old new writes = (disk : Disk) → old ≡ Some disk → new ≡ Some (record { synced = disk.synced; pending = disk.pending ++ changes writes; })
+AddsAll old new writes = (disk : Disk) → old ≡ Some disk → new ≡ Some (record { synced = disk.synced; pending = disk.pending ++ changes writes })
 
 pub none_added : (a : Option Disk) → AddsAll a a []
-none_added a disk is = is ∙ ap (λ (l : List Change). Some (record { synced = disk.synced; pending = l; })) (sym (append-nil disk.pending))
+none_added a disk is = is ∙ ap (λ (l : List Change). Some (record { synced = disk.synced; pending = l })) (sym (append-nil disk.pending))
 
 pub one_added : (writes : Writes) (at : ℕ) (bs : List ℕ) (a b c : Option Disk) → AddsAll a b writes → Adds b c (Write at bs) → AddsAll a c (writes ++ (at, bs) ∷ [])
 one_added writes at bs a b c all one disk is =
-    one (record { synced = disk.synced; pending = disk.pending ++ changes writes; }) (all disk is)
-    ∙ ap (λ (l : List Change). Some (record { synced = disk.synced; pending = l; })) (append_assoc disk.pending (changes writes) (Write at bs ∷ []) ∙ ap (λ (l : List Change). disk.pending ++ l) (sym (changes_more writes at bs)))
+    one (record { synced = disk.synced; pending = disk.pending ++ changes writes }) (all disk is)
+    ∙ ap (λ (l : List Change). Some (record { synced = disk.synced; pending = l })) (append_assoc disk.pending (changes writes) (Write at bs ∷ []) ∙ ap (λ (l : List Change). disk.pending ++ l) (sym (changes_more writes at bs)))
 
 -- a write that failed: it is pending, or it is not
 pub some_added : (writes rest : Writes) (at : ℕ) (bs : List ℕ) (a b c : Option Disk) → AddsAll a b writes → MayAdd b c (Write at bs) → AddsSome a c ((writes ++ (at, bs) ∷ []) ++ rest)
 some_added writes rest at bs a b c all (inl keeps) disk is =
-    (writes, (at, bs) ∷ rest, append_assoc writes ((at, bs) ∷ []) rest, keeps (record { synced = disk.synced; pending = disk.pending ++ changes writes; }) (all disk is))
+    (writes, (at, bs) ∷ rest, append_assoc writes ((at, bs) ∷ []) rest, keeps (record { synced = disk.synced; pending = disk.pending ++ changes writes }) (all disk is))
 some_added writes rest at bs a b c all (inr adds) disk is = (writes ++ (at, bs) ∷ [], rest, refl, one_added writes at bs a b c all adds disk is)

@@ -1,19 +1,17 @@
 -- Journals, and the states of a commit and of a recovery.
-use Rattle.std.specs.Prelude.{⊤}
-use Rattle.std.proofs.Common.{◌≡◌, ℕ, ◌+◌, ◌-◌, ◌^◌, ◌<◌, ◌≤◌, ◌⊎◌, inl, inr, IfNone, IfSome, List, [], ◌∷◌, ◌++◌, None, Some, Option, drop, length, map, take, refl, sym, ap, subst, ◌∙◌, arith}
+use Rattle.std.proofs.Common.{◌≡◌, ℕ, ◌+◌, ◌≤◌, ◌⊎◌, inl, inr, IfNone, IfSome, List, [], ◌∷◌, ◌++◌, None, Some, Option, drop, length, map, take, refl, sym, ap, subst, ◌∙◌, arith}
 use Rattle.std.proofs.lemmas.List.{append-nil, drop_at, length-append, take_at}
 use Rattle.std.proofs.lemmas.Nat.{from_le_bytes-to_le_bytes_8}
 use Rattle.std.specs.Int.{from_le_bytes, to_le_bytes, w64}
 use Rattle.aegis.specs.Records.{AreRecords, sealed}
-use Rattle.aegis.specs.declared.record.version.Version.{Version}
 use Rattle.aegis.proofs.Sealed.{sealed-is}
 use Rattle.aegis.proofs.Streams.{one_record_stream}
 use Rattle.aegis_storage.specs.declared.store.TheConstants.{MAX_STORAGE_BYTES}
-use Rattle.aegis_storage.specs.Bytes.{WritesAt, overwritten, resized}
-use Rattle.aegis_storage.specs.Calls.{GivesFrom, IsRedone, IsWholeOrEmpty, IsWrittenOver}
+use Rattle.aegis_storage.specs.Bytes.{WritesAt, overwritten}
+use Rattle.aegis_storage.specs.Calls.{GivesFrom, IsWholeOrEmpty, IsWrittenOver}
 use Rattle.aegis_storage.specs.Disk.{Adds, Crashed, Disk, IsPossible, KeepsDisk, MakesCertain, MayAdd, Write, Writes, WritesAll, after, certain, written}
-use Rattle.aegis_storage.specs.Journal.{AreWithin, GivesOneOf, IsAtRest, IsJournal, IsOneOf, IsNoForgery, IsRecovered, Recovers, RecoversKnown, journal_of, place_and_bytes}
-use Rattle.aegis_storage.proofs.Disks.{certain_only, crashed_certain, readable, readable_certain}
+use Rattle.aegis_storage.specs.Journal.{AreWithin, GivesOneOf, IsAtRest, IsJournal, IsOneOf, IsNoForgery, Recovers, RecoversKnown, place_and_bytes}
+use Rattle.aegis_storage.proofs.Disks.{certain_only, readable, readable_certain}
 
 -- ---- one list of writes for a journal
 
@@ -67,7 +65,7 @@ gives_same key context a b js ks xs ys same also gives =
 
 -- an empty journal changes nothing
 by_empty : (key context a b xs : List ℕ) → IsOneOf a b xs → GivesOneOf key context a b [] xs
-by_empty key context a b xs one = record { whole = λ writes is. absurd (empty_is_none key context writes is); other = λ not. one; }
+by_empty key context a b xs one = record { whole = λ writes is. absurd (empty_is_none key context writes is); other = λ not. one }
 
 pub rest_recovers : (key context xs : List ℕ) (writes : Writes) (storage journal : Option Disk) (zs : List ℕ) → IsOneOf xs (written writes xs) zs → IsAtRest storage journal zs
     → Recovers key context xs writes storage journal
@@ -88,9 +86,9 @@ torn_journal key context writes torn storage journal xs storage_is journal_is = 
   storage_is = storage_is;
   journal_is = journal_is;
   gives = λ ys ks p q no_forgery. record {
-      whole = λ found is. inr (ap (written found) (certain_only xs ys p) ∙ ap (λ (l : Writes). written l xs) (no_forgery found is));
-      other = λ not. inl (certain_only xs ys p);
-    };
+    whole = λ found is. inr (ap (written found) (certain_only xs ys p) ∙ ap (λ (l : Writes). written l xs) (no_forgery found is));
+    other = λ not. inl (certain_only xs ys p);
+  };
 }
 
 -- the journal's first write failed: it is pending, or it is not
@@ -106,10 +104,10 @@ over_gives key context writes a b js xs state is one over = record {
   disk = over.disk;
   is = over.is;
   gives = λ ys p. record {
-      whole = λ found found_is.
+    whole = λ found found_is.
         one_of a b (written writes xs) (written found ys) (ap (λ (l : Writes). written l ys) (one_journal key context found writes js found_is is) ∙ over.again ys p) one;
-      other = λ not. absurd (not writes is);
-    };
+    other = λ not. absurd (not writes is);
+  };
 }
 
 pub certain_gives : (key context a b js xs : List ℕ) (state : Option Disk) → state ≡ Some (certain xs) → GivesOneOf key context a b js xs → GivesFrom key context a b js state
@@ -171,12 +169,12 @@ pub storage_synced : (key context xs : List ℕ) (writes : Writes) (bytes : Opti
     → MakesCertain bytes old new ⊎ KeepsDisk old new → Recovers key context xs writes new journal
 storage_synced key context xs writes bytes old new journal possible recovers (inl certainly) =
     let r = readable bytes old recovers.storage_disk possible recovers.storage_is in record {
-  storage_disk = certain r.xs;
-  journal_disk = recovers.journal_disk;
-  storage_is = certainly recovers.storage_disk r.xs recovers.storage_is r.is;
-  journal_is = recovers.journal_is;
-  gives = λ ys js p q nf. gives_same key context xs (written writes xs) js js r.xs ys refl (certain_only r.xs ys p) (recovers.gives r.xs js r.possible q nf);
-}
+      storage_disk = certain r.xs;
+      journal_disk = recovers.journal_disk;
+      storage_is = certainly recovers.storage_disk r.xs recovers.storage_is r.is;
+      journal_is = recovers.journal_is;
+      gives = λ ys js p q nf. gives_same key context xs (written writes xs) js js r.xs ys refl (certain_only r.xs ys p) (recovers.gives r.xs js r.possible q nf);
+    }
 storage_synced key context xs writes bytes old new journal possible recovers (inr keeps) = record {
   storage_disk = recovers.storage_disk;
   journal_disk = recovers.journal_disk;
@@ -189,13 +187,13 @@ pub journal_synced : (key context xs : List ℕ) (writes : Writes) (bytes : Opti
     → MakesCertain bytes old new ⊎ KeepsDisk old new → Recovers key context xs writes storage new
 journal_synced key context xs writes bytes storage old new possible recovers (inl certainly) =
     let r = readable bytes old recovers.journal_disk possible recovers.journal_is in record {
-  storage_disk = recovers.storage_disk;
-  journal_disk = certain r.xs;
-  storage_is = recovers.storage_is;
-  journal_is = certainly recovers.journal_disk r.xs recovers.journal_is r.is;
-  gives = λ ys js p q nf. gives_same key context xs (written writes xs) r.xs js ys ys (certain_only r.xs js q) refl
-      (recovers.gives ys r.xs p r.possible (subst (IsNoForgery key context writes) (certain_only r.xs js q) nf));
-}
+      storage_disk = recovers.storage_disk;
+      journal_disk = certain r.xs;
+      storage_is = recovers.storage_is;
+      journal_is = certainly recovers.journal_disk r.xs recovers.journal_is r.is;
+      gives = λ ys js p q nf. gives_same key context xs (written writes xs) r.xs js ys ys (certain_only r.xs js q) refl
+          (recovers.gives ys r.xs p r.possible (subst (IsNoForgery key context writes) (certain_only r.xs js q) nf));
+    }
 journal_synced key context xs writes bytes storage old new possible recovers (inr keeps) = record {
   storage_disk = recovers.storage_disk;
   journal_disk = recovers.journal_disk;
@@ -233,12 +231,12 @@ settled key context xs writes a_bytes b_bytes c_bytes storage storage' journal j
     let y = readable b_bytes journal recovers.journal_disk q recovers.journal_is in
     let synced = t recovers.journal_disk y.xs recovers.journal_is y.is in
     let js_are : js ≡ y.xs = same ∙ if_some_is (λ ys. read ≡ ys) y.xs c_bytes (readable_certain c_bytes journal' y.xs r synced) found in record {
-  now = x.xs;
-  storage_is = s recovers.storage_disk x.xs recovers.storage_is x.is;
-  journal_is = keeps (certain y.xs) synced ∙ ap (λ (l : List ℕ). Some (certain l)) (sym js_are);
-  gives = gives_same key context xs (written writes xs) y.xs js x.xs x.xs js_are refl
-      (recovers.gives x.xs y.xs x.possible y.possible (if_some_is (IsNoForgery key context writes) y.xs b_bytes y.is no_forgery));
-}
+      now = x.xs;
+      storage_is = s recovers.storage_disk x.xs recovers.storage_is x.is;
+      journal_is = keeps (certain y.xs) synced ∙ ap (λ (l : List ℕ). Some (certain l)) (sym js_are);
+      gives = gives_same key context xs (written writes xs) y.xs js x.xs x.xs js_are refl
+          (recovers.gives x.xs y.xs x.possible y.possible (if_some_is (IsNoForgery key context writes) y.xs b_bytes y.is no_forgery));
+    }
 
 -- ---- what is known
 
@@ -256,7 +254,7 @@ known_whole key context writes js (Some xs) (Some ys) is all = record {
 
 pub known_other : (key context js : List ℕ) (a : Option (List ℕ)) → ((writes : Writes) → IsJournal key context writes js → ⊥) → RecoversKnown key context (Some js) a a
 known_other key context js None not = tt
-known_other key context js (Some xs) not = record { whole = λ writes is. absurd (not writes is); other = λ also. refl; }
+known_other key context js (Some xs) not = record { whole = λ writes is. absurd (not writes is); other = λ also. refl }
 
 -- ---- a crash
 
@@ -265,10 +263,10 @@ pub crashed_recovers : (key context xs : List ℕ) (writes : Writes) (storage jo
 crashed_recovers key context xs writes storage journal ys js recovers p q =
     let s : storage ≡ recovers.storage_disk = (let is = recovers.storage_is in cc) in
     let j : journal ≡ recovers.journal_disk = (let is = recovers.journal_is in cc) in record {
-  storage_disk = certain ys;
-  journal_disk = certain js;
-  storage_is = refl;
-  journal_is = refl;
-  gives = λ zs ks a b nf. gives_same key context xs (written writes xs) js ks ys zs (certain_only js ks b) (certain_only ys zs a)
-      (recovers.gives ys js (subst (λ (d : Disk). Crashed d ys) s p) (subst (λ (d : Disk). Crashed d js) j q) (subst (IsNoForgery key context writes) (certain_only js ks b) nf));
-}
+      storage_disk = certain ys;
+      journal_disk = certain js;
+      storage_is = refl;
+      journal_is = refl;
+      gives = λ zs ks a b nf. gives_same key context xs (written writes xs) js ks ys zs (certain_only js ks b) (certain_only ys zs a)
+          (recovers.gives ys js (subst (λ (d : Disk). Crashed d ys) s p) (subst (λ (d : Disk). Crashed d js) j q) (subst (IsNoForgery key context writes) (certain_only js ks b) nf));
+    }

@@ -6,7 +6,7 @@ use Rattle.aegis_storage.specs.Journal.{GivesOneOf, IsOneOf}
 -- the first of the writes are pending, too: some of them, or all
 abbrev pub AddsSome : Option Disk → Option Disk → Writes → Type 0
 AddsSome old new writes = (disk : Disk) → old ≡ Some disk
-    → (done rest : Writes) × (writes ≡ done ++ rest) × (new ≡ Some (record { synced = disk.synced; pending = disk.pending ++ changes done; }))
+    → (done rest : Writes) × (writes ≡ done ++ rest) × (new ≡ Some (record { synced = disk.synced; pending = disk.pending ++ changes done }))
 
 -- Whatever a crash now leaves of bytes that were xs before the writes, the writes make of it what they make of xs.
 pub record IsWrittenOver (writes : Writes) (xs : List ℕ) (state : Option Disk) : Type 0 where

@@ -1,5 +1,5 @@
 -- What a storage holds after a crash: what was synced, and of what came since any parts in any order.
-use Rattle.std.specs.Prelude.{◌≡◌, ℕ, ◌+◌, ◌≤◌, ◌⊎◌, List, [], ◌∷◌, ◌++◌, Option, None, Some, ⊤, length, map}
+use Rattle.std.specs.Prelude.{◌≡◌, ℕ, ◌+◌, ◌≤◌, ◌⊎◌, List, [], ◌∷◌, ◌++◌, Option, None, Some, ⊤, length}
 use Rattle.aegis_storage.specs.Bytes.{overwritten, part_at, resized}
 
 -- a call that changes the bytes: these bytes are written at a place, or there are to be n of them
@@ -43,11 +43,11 @@ pub record Disk : Type 0 where
 
 -- everything is certain
 abbrev pub certain : List ℕ → Disk
-certain xs = record { synced = xs; pending = []; }
+certain xs = record { synced = xs; pending = [] }
 
 -- the disk after one more change
 abbrev pub after : Disk → Change → Disk
-after disk change = record { synced = disk.synced; pending = disk.pending ++ change ∷ []; }
+after disk change = record { synced = disk.synced; pending = disk.pending ++ change ∷ [] }
 
 -- ---- crashes
 

@@ -59,14 +59,14 @@ pub fn write_and_sync<S: Storage, A: Allocator>(
     storage.sync()
 }
 
-/// Empties the storage, and syncs that.
-pub fn empty<S: Storage>(storage: &mut S) -> io::Result<()>
-    ensures emptied { OnOk result (ResizesTo (S.bytes storage.old) (S.bytes storage.new) 0) }
-    ensures torn { (xs : List ℕ) → S.disk storage.old ≡ Some (certain xs)
-        → IsWholeOrEmpty xs (S.disk storage.new) }
-    ensures certain { OnOk result ((xs : List ℕ) → S.disk storage.old ≡ Some (certain xs)
-        → S.disk storage.new ≡ Some (certain [])) }
+/// Empties the journal, and syncs that.
+pub fn empty<J: Storage>(journal: &mut J) -> io::Result<()>
+    ensures emptied { OnOk result (ResizesTo (J.bytes journal.old) (J.bytes journal.new) 0) }
+    ensures torn { (xs : List ℕ) → J.disk journal.old ≡ Some (certain xs)
+        → IsWholeOrEmpty xs (J.disk journal.new) }
+    ensures certain { OnOk result ((xs : List ℕ) → J.disk journal.old ≡ Some (certain xs)
+        → J.disk journal.new ≡ Some (certain [])) }
 {
-    storage.set_size(0)?;
-    storage.sync()
+    journal.set_size(0)?;
+    journal.sync()
 }

@@ -10,7 +10,9 @@ ghost use Rattle.aegis_storage.specs.Pending.{writes_of};
 use crate::pending::PendingWrite;
 use crate::store::MAX_STORAGE_BYTES;
 use aegis::aegis256::Key;
-use aegis::record::{MAX_CONTEXT_BYTES, MAX_MESSAGE_BYTES, RecordError, open_records, records_len, seal_records};
+use aegis::record::{
+    MAX_CONTEXT_BYTES, MAX_MESSAGE_BYTES, RecordError, open_records, records_len, seal_records,
+};
 use aegis_base::slices;
 use std::alloc::{AllocError, Allocator};
 use std::io;
@@ -86,10 +88,7 @@ pub fn journal_bytes<A: Allocator + Copy>(
 }
 
 // Returns the write of a message, or `None` if it is the message of no write.
-fn write_of<A: Allocator>(
-    alloc: A,
-    message: &[u8],
-) -> Result<Option<PendingWrite<A>>, AllocError>
+fn write_of<A: Allocator>(alloc: A, message: &[u8]) -> Result<Option<PendingWrite<A>>, AllocError>
     ensures some { IfOk result (λ found. IfSome found
         (λ write. message.now ≡ place_and_bytes (write.place, write.bytes.items))) }
     ensures none { IfOk result (λ found. IfNone found ((write : ℕ × List ℕ)

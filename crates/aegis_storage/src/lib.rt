@@ -8,9 +8,11 @@ mod journal;
 pub mod laws;
 mod overlay;
 mod pending;
+mod recovery;
 mod store;
 
-pub use atomic::{commit, recover};
+pub use atomic::commit;
 pub use overlay::Overlay;
 pub use pending::PendingWrite;
+pub use recovery::recover;
 pub use store::{MAX_STORAGE_BYTES, Storage};

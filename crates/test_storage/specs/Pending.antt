@@ -16,7 +16,7 @@ abbrev pub changes_of : List PendingChange → List Change
 changes_of pending = map change_of pending
 
 abbrev pub disk_of : TestDisk → Disk
-disk_of test_disk = record { synced = test_disk.synced.items; pending = changes_of test_disk.pending.items; }
+disk_of test_disk = record { synced = test_disk.synced.items; pending = changes_of test_disk.pending.items }
 
 -- what can be read: everything that was written
 abbrev pub bytes_of : TestDisk → List ℕ
@@ -37,4 +37,4 @@ all_parts [] = tt
 all_parts (change ∷ changes) = (inl (self_part change), more_parts change changes changes (all_parts changes))
 
 pub all_there : (test_disk : TestDisk) → Crashed (disk_of test_disk) (bytes_of test_disk)
-all_there test_disk = record { parts = changes_of test_disk.pending.items; of_pending = all_parts (changes_of test_disk.pending.items); are = refl; }
+all_there test_disk = record { parts = changes_of test_disk.pending.items; of_pending = all_parts (changes_of test_disk.pending.items); are = refl }

@@ -3,6 +3,5 @@
 
 pub mod disk;
 pub mod pending;
-
 #[cfg(test)]
 mod tests;

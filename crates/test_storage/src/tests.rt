@@ -32,16 +32,88 @@ struct Fill {
 /// Batches of up to five writes: over all bytes, past the end, after a gap, over one another, and of several sectors.
 const BATCHES: [&[Fill]; 6] = [
     &[],
-    &[Fill { place: 0, size: 1300, byte: 1 }],
-    &[Fill { place: 40, size: 20, byte: 1 }, Fill { place: 60, size: 20, byte: 2 }],
-    &[Fill { place: 90, size: 30, byte: 1 }, Fill { place: 150, size: 10, byte: 2 }, Fill { place: 0, size: 5, byte: 3 }],
-    &[Fill { place: 0, size: 100, byte: 1 }, Fill { place: 50, size: 1100, byte: 2 }, Fill { place: 20, size: 60, byte: 3 }, Fill { place: 1000, size: 9, byte: 4 }],
+    &[Fill {
+        place: 0,
+        size: 1300,
+        byte: 1,
+    }],
     &[
-        Fill { place: 10, size: 10, byte: 1 },
-        Fill { place: 15, size: 10, byte: 2 },
-        Fill { place: 2000, size: 700, byte: 3 },
-        Fill { place: 12, size: 1, byte: 4 },
-        Fill { place: 0, size: 2100, byte: 5 },
+        Fill {
+            place: 40,
+            size: 20,
+            byte: 1,
+        },
+        Fill {
+            place: 60,
+            size: 20,
+            byte: 2,
+        },
+    ],
+    &[
+        Fill {
+            place: 90,
+            size: 30,
+            byte: 1,
+        },
+        Fill {
+            place: 150,
+            size: 10,
+            byte: 2,
+        },
+        Fill {
+            place: 0,
+            size: 5,
+            byte: 3,
+        },
+    ],
+    &[
+        Fill {
+            place: 0,
+            size: 100,
+            byte: 1,
+        },
+        Fill {
+            place: 50,
+            size: 1100,
+            byte: 2,
+        },
+        Fill {
+            place: 20,
+            size: 60,
+            byte: 3,
+        },
+        Fill {
+            place: 1000,
+            size: 9,
+            byte: 4,
+        },
+    ],
+    &[
+        Fill {
+            place: 10,
+            size: 10,
+            byte: 1,
+        },
+        Fill {
+            place: 15,
+            size: 10,
+            byte: 2,
+        },
+        Fill {
+            place: 2000,
+            size: 700,
+            byte: 3,
+        },
+        Fill {
+            place: 12,
+            size: 1,
+            byte: 4,
+        },
+        Fill {
+            place: 0,
+            size: 2100,
+            byte: 5,
+        },
     ],
 ];
 
@@ -85,7 +157,11 @@ fn write_part(
 // Makes a part of a change: none of it, a front, every other sector, or all.
 fn tear(bytes: &mut Vec<u8>, pending: &PendingChange, part: u32) -> io::Result<()> {
     let PendingChange::Write(write) = pending else {
-        return if part % 2 == 0 { Ok(()) } else { change(bytes, pending) };
+        return if part % 2 == 0 {
+            Ok(())
+        } else {
+            change(bytes, pending)
+        };
     };
     let size = write.bytes.len();
     match part {

@@ -1,8 +1,6 @@
 //! A commit and a recovery that are cut at each call.
 
-use super::{
-    ALL_CALLS, BATCHES, CONTEXT, Fill, KEY, PREFIX, after, before, left_of, writes_of,
-};
+use super::{ALL_CALLS, BATCHES, CONTEXT, Fill, KEY, PREFIX, after, before, left_of, writes_of};
 use crate::disk::TestDisk;
 use aegis_storage::{commit, recover};
 use std::alloc::Global;
@@ -49,18 +47,16 @@ fn recovers(
     let mut storage = TestDisk::new(alloc, storage, ALL_CALLS);
     let mut journal = TestDisk::new(alloc, journal, ALL_CALLS);
     recovered(&mut storage, &mut journal)?;
-    Ok(wanted.has(&storage.synced)
-        && storage.pending.is_empty()
-        && journal.synced.is_empty()
-        && journal.pending.is_empty())
+    Ok(
+        wanted.has(&storage.synced)
+            && storage.pending.is_empty()
+            && journal.synced.is_empty()
+            && journal.pending.is_empty(),
+    )
 }
 
 // Whether recovery gives what is wanted after a recovery that was cut: some ways in which a crash may leave its changes.
-fn recovers_again(
-    storage: &TestDisk,
-    journal: &TestDisk,
-    wanted: &Wanted,
-) -> io::Result<bool> {
+fn recovers_again(storage: &TestDisk, journal: &TestDisk, wanted: &Wanted) -> io::Result<bool> {
     for parts in [0, 0xaaa, 0x3cc] {
         for journal_parts in [0, 3] {
             let left = left_of(storage, parts, 1)?;
@@ -94,18 +90,14 @@ fn recovers_when_cut(
 }
 
 // Whether recovery gives what is wanted, however a crash leaves the pending changes of both.
-fn recovers_from_all(
-    storage: &TestDisk,
-    journal: &TestDisk,
-    wanted: &Wanted,
-) -> io::Result<bool> {
+fn recovers_from_all(storage: &TestDisk, journal: &TestDisk, wanted: &Wanted) -> io::Result<bool> {
     let alloc = storage.alloc;
     for order in 0..ORDERS {
         for parts in 0..combinations(storage) {
             for journal_parts in 0..combinations(journal) {
                 let left = left_of(storage, parts, order)?;
                 let journal_left = left_of(journal, journal_parts, order)?;
-                if parts % 7 == 0 && !recovers_when_cut(alloc, &left, &journal_left, wanted)? {
+                if parts % 3 == 0 && !recovers_when_cut(alloc, &left, &journal_left, wanted)? {
                     return Ok(false);
                 }
                 if !recovers(alloc, left, journal_left, wanted)? {

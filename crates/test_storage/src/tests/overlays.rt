@@ -1,6 +1,6 @@
 //! A batch that is collected by an overlay.
 
-use super::{BATCHES, KEY, PREFIX, CONTEXT, ALL_CALLS, after, before, writes_of};
+use super::{ALL_CALLS, BATCHES, CONTEXT, KEY, PREFIX, after, before, writes_of};
 use crate::disk::TestDisk;
 use aegis_storage::{MAX_STORAGE_BYTES, Overlay, Storage, commit};
 use std::alloc::Global;

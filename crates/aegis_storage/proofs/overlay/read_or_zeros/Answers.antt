@@ -1,5 +1,5 @@
 use Rattle.std.proofs.Common.{◌≡◌, ◌-◌, ◌∙◌, ap, arith, drop, length, refl, replicate, take}
-use Rattle.std.proofs.lemmas.List.{drop_at, length-append, length-replicate, length-take}
+use Rattle.std.proofs.lemmas.List.{drop_at, length-take}
 use Rattle.aegis_storage.proofs.Disks.{on_ok_map}
 use Rattle.aegis_storage.proofs.Overlays.{known_both, shows_read}
 use Rattle.aegis_storage.proofs.overlay.read_or_zeros.Goals as goal

@@ -1,4 +1,4 @@
-use Rattle.std.proofs.Common.{◌≡◌, ◌+◌, ◌++◌, ◌∷◌, ◌∙◌, [], ap, arith, length, refl, take}
+use Rattle.std.proofs.Common.{◌≡◌, ◌+◌, ap, arith, length, refl, take}
 use Rattle.aegis_storage.specs.Bytes.{overwritten}
 use Rattle.aegis_storage.specs.Disk.{written}
 use Rattle.aegis_storage.specs.Pending.{writes_of}

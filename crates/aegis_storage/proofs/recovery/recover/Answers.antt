@@ -1,7 +1,7 @@
 use Rattle.aegis_storage.specs.Disk.{written}
 use Rattle.aegis_storage.proofs.Disks.{on_ok_map, sync_either}
 use Rattle.aegis_storage.proofs.Journals.{finish, journal_kept, journal_synced, middle, settled, storage_synced}
-use Rattle.aegis_storage.proofs.atomic.recover.Goals as goal
+use Rattle.aegis_storage.proofs.recovery.recover.Goals as goal
 
 pub returns-in_err-sync-2-clause-recovers : goal.returns-in_err-sync-2-clause-recovers
 returns-in_err-sync-2-clause-recovers g c xs writes no_forgery recovers =
@@ -40,5 +40,5 @@ returns-clause-at_rest g c =
     (g.met.S.Storage.possible c.args.storage.now) (g.met.J.Storage.possible c.args.journal.now) (g.met.J.Storage.possible c.sync-2.new.self) recovers no_forgery
     c.in_ok-sync.ensures.certain c.in_ok-sync-2.ensures.certain c.in_ok-content.ensures.read c.deref.ensures.value c.read_all.ensures.kept_disk in
     let redone = c.in_ok-redo.ensures.certain s.now s.storage_is in
-    record { bytes = redone.bytes; one = redone.one xs (written writes xs) s.gives; rests = record { storage_is = redone.is; journal_is = certainly c.deref.result.now s.journal_is; }; })
+    record { bytes = redone.bytes; one = redone.one xs (written writes xs) s.gives; rests = record { storage_is = redone.is; journal_is = certainly c.deref.result.now s.journal_is } })
     c.empty.ensures.certain
