@@ -1,0 +1,272 @@
+-- Journals, and the states of a commit and of a recovery.
+use Rattle.std.proofs.Common.{◌≡◌, ℕ, ◌+◌, ◌≤◌, ◌⊎◌, inl, inr, IfNone, IfSome, List, [], ◌∷◌, ◌++◌, None, Some, Option, drop, length, map, take, refl, sym, ap, subst, ◌∙◌, arith}
+use Rattle.std.proofs.lemmas.List.{append-nil, drop_at, length-append, take_at}
+use Rattle.std.proofs.lemmas.Nat.{from_le_bytes-to_le_bytes_8}
+use Rattle.std.specs.Int.{from_le_bytes, to_le_bytes, w64}
+use Rattle.aegis.specs.Records.{AreRecords, sealed}
+use Rattle.aegis.proofs.Sealed.{sealed-is}
+use Rattle.aegis.proofs.Streams.{one_record_stream}
+use Rattle.aegis_storage.specs.declared.store.TheConstants.{MAX_STORAGE_BYTES}
+use Rattle.aegis_storage.specs.Bytes.{WritesAt, overwritten}
+use Rattle.aegis_storage.specs.Calls.{GivesFrom, IsWholeOrEmpty, IsWrittenOver}
+use Rattle.aegis_storage.specs.Disk.{Adds, Crashed, Disk, IsPossible, KeepsDisk, MakesCertain, MayAdd, Write, Writes, WritesAll, after, certain, written}
+use Rattle.aegis_storage.specs.Journal.{AreWithin, GivesOneOf, IsAtRest, IsJournal, IsOneOf, IsNoForgery, Recovers, RecoversKnown, place_and_bytes}
+use Rattle.aegis_storage.proofs.Disks.{certain_only, readable, readable_certain}
+
+-- ---- one list of writes for a journal
+
+same_write : (v w : ℕ × List ℕ) → v.0 + length v.1 ≤ MAX_STORAGE_BYTES → w.0 + length w.1 ≤ MAX_STORAGE_BYTES → place_and_bytes v ≡ place_and_bytes w → v ≡ w
+same_write v w low high same =
+    let place : v.0 ≡ w.0 =
+    sym (from_le_bytes-to_le_bytes_8 v.0 (omega (arith, low))) ∙ ap (from_le_bytes w64) (sym (take_at (to_le_bytes w64 v.0) v.1 8 refl) ∙ ap (take 8) same ∙ take_at (to_le_bytes w64 w.0) w.1 8 refl)
+    ∙ from_le_bytes-to_le_bytes_8 w.0 (omega (arith, high)) in
+    let bytes : v.1 ≡ w.1 = sym (drop_at (to_le_bytes w64 v.0) v.1 8 refl) ∙ ap (drop 8) same ∙ drop_at (to_le_bytes w64 w.0) w.1 8 refl in
+    ap (λ (n : ℕ). (n, v.1)) place ∙ ap (λ (l : List ℕ). (w.0, l)) bytes
+
+same_writes : (vs ws : Writes) → AreWithin vs → AreWithin ws → map place_and_bytes vs ≡ map place_and_bytes ws → vs ≡ ws
+same_writes [] [] p q same = refl
+same_writes [] (w ∷ ws) p q same = absurd (let sizes : 0 ≡ length (map place_and_bytes (w ∷ ws)) = ap length same in omega (arith, sizes))
+same_writes (v ∷ vs) [] p q same = absurd (let sizes : length (map place_and_bytes (v ∷ vs)) ≡ 0 = ap length same in omega (arith, sizes))
+same_writes (v ∷ vs) (w ∷ ws) p q same =
+    let first : place_and_bytes v ≡ place_and_bytes w = cc in
+    let rest : map place_and_bytes vs ≡ map place_and_bytes ws = cc in
+    ap (λ x. x ∷ vs) (same_write v w p.0 q.0 first) ∙ ap (λ (l : Writes). w ∷ l) (same_writes vs ws p.1 q.1 rest)
+
+-- the stream of a journal, by its parts
+pub records_at : (key context : List ℕ) (writes : Writes) (journal prefix stream : List ℕ) (is : IsJournal key context writes journal) → prefix ≡ take 24 journal → stream ≡ drop 24 journal
+    → AreRecords is.version key prefix context (map place_and_bytes writes) stream
+records_at key context writes journal prefix stream is front end =
+    let first : is.prefix ≡ prefix = sym (take_at is.prefix is.stream 24 is.prefix_size) ∙ ap (take 24) (sym is.are) ∙ sym front in
+    let rest : is.stream ≡ stream = sym (drop_at is.prefix is.stream 24 is.prefix_size) ∙ ap (drop 24) (sym is.are) ∙ sym end in
+    subst (λ (l : List ℕ). AreRecords is.version key prefix context (map place_and_bytes writes) l) rest
+    (subst (λ (l : List ℕ). AreRecords is.version key l context (map place_and_bytes writes) is.stream) first is.records)
+
+pub one_journal : (key context : List ℕ) (vs ws : Writes) (journal : List ℕ) → IsJournal key context vs journal → IsJournal key context ws journal → vs ≡ ws
+one_journal key context vs ws journal p q =
+    let a = records_at key context vs journal (take 24 journal) (drop 24 journal) p refl refl in
+    let b = records_at key context ws journal (take 24 journal) (drop 24 journal) q refl refl in
+    same_writes vs ws p.within q.within
+    (one_record_stream (sealed key (take 24 journal) context) (sealed-is key (take 24 journal) context) p.version q.version (map place_and_bytes vs) (map place_and_bytes ws) (drop 24 journal) (drop 24 journal) [] [] a b refl).1
+
+pub length-journal : (key context : List ℕ) (writes : Writes) (journal : List ℕ) → IsJournal key context writes journal → 24 ≤ length journal
+length-journal key context writes journal is = omega (arith, ap length is.are, is.prefix_size, length-append is.prefix is.stream)
+
+pub empty_is_none : (key context : List ℕ) (writes : Writes) → IsJournal key context writes [] → ⊥
+empty_is_none key context writes is = let long : 24 ≤ 0 = length-journal key context writes [] is in omega (arith, long)
+
+-- ---- states
+
+one_of : (a b xs ys : List ℕ) → ys ≡ xs → IsOneOf a b xs → IsOneOf a b ys
+one_of a b xs ys same one = subst (λ (l : List ℕ). IsOneOf a b l) (sym same) one
+
+gives_same : (key context a b js ks xs ys : List ℕ) → ks ≡ js → ys ≡ xs → GivesOneOf key context a b js xs → GivesOneOf key context a b ks ys
+gives_same key context a b js ks xs ys same also gives =
+    subst (λ (l : List ℕ). GivesOneOf key context a b l ys) (sym same) (subst (λ (l : List ℕ). GivesOneOf key context a b js l) (sym also) gives)
+
+-- an empty journal changes nothing
+by_empty : (key context a b xs : List ℕ) → IsOneOf a b xs → GivesOneOf key context a b [] xs
+by_empty key context a b xs one = record { whole = λ writes is. absurd (empty_is_none key context writes is); other = λ not. one }
+
+pub rest_recovers : (key context xs : List ℕ) (writes : Writes) (storage journal : Option Disk) (zs : List ℕ) → IsOneOf xs (written writes xs) zs → IsAtRest storage journal zs
+    → Recovers key context xs writes storage journal
+rest_recovers key context xs writes storage journal zs one rest = record {
+  storage_disk = certain zs;
+  journal_disk = certain [];
+  storage_is = rest.storage_is;
+  journal_is = rest.journal_is;
+  gives = λ ys js p q _. gives_same key context xs (written writes xs) [] js zs ys (certain_only [] js q) (certain_only zs ys p) (by_empty key context xs (written writes xs) zs one);
+}
+
+-- while the journal is written
+pub torn_journal : (key context : List ℕ) (writes : Writes) (torn : Disk) (storage journal : Option Disk) (xs : List ℕ) → storage ≡ Some (certain xs) → journal ≡ Some torn
+    → Recovers key context xs writes storage journal
+torn_journal key context writes torn storage journal xs storage_is journal_is = record {
+  storage_disk = certain xs;
+  journal_disk = torn;
+  storage_is = storage_is;
+  journal_is = journal_is;
+  gives = λ ys ks p q no_forgery. record {
+    whole = λ found is. inr (ap (written found) (certain_only xs ys p) ∙ ap (λ (l : Writes). written l xs) (no_forgery found is));
+    other = λ not. inl (certain_only xs ys p);
+  };
+}
+
+-- the journal's first write failed: it is pending, or it is not
+pub failed_journal : (key context : List ℕ) (writes : Writes) (js : List ℕ) (storage old journal : Option Disk) (xs : List ℕ) → storage ≡ Some (certain xs) → old ≡ Some (certain [])
+    → MayAdd old journal (Write 0 js) → Recovers key context xs writes storage journal
+failed_journal key context writes js storage old journal xs storage_is is (inl keeps) = torn_journal key context writes (certain []) storage journal xs storage_is (keeps (certain []) is)
+failed_journal key context writes js storage old journal xs storage_is is (inr adds) = torn_journal key context writes (after (certain []) (Write 0 js)) storage journal xs storage_is (adds (certain []) is)
+
+-- once the journal is certain, and while the writes are made
+pub over_gives : (key context : List ℕ) (writes : Writes) (a b js xs : List ℕ) (state : Option Disk) → IsJournal key context writes js → IsOneOf a b (written writes xs)
+    → IsWrittenOver writes xs state → GivesFrom key context a b js state
+over_gives key context writes a b js xs state is one over = record {
+  disk = over.disk;
+  is = over.is;
+  gives = λ ys p. record {
+    whole = λ found found_is.
+        one_of a b (written writes xs) (written found ys) (ap (λ (l : Writes). written l ys) (one_journal key context found writes js found_is is) ∙ over.again ys p) one;
+    other = λ not. absurd (not writes is);
+  };
+}
+
+pub certain_gives : (key context a b js xs : List ℕ) (state : Option Disk) → state ≡ Some (certain xs) → GivesOneOf key context a b js xs → GivesFrom key context a b js state
+certain_gives key context a b js xs state is gives = record {
+  disk = certain xs;
+  is = is;
+  gives = λ ys p. gives_same key context a b js js xs ys refl (certain_only xs ys p) gives;
+}
+
+pub middle : (key context xs : List ℕ) (writes : Writes) (js : List ℕ) (storage journal : Option Disk) → GivesFrom key context xs (written writes xs) js storage → journal ≡ Some (certain js)
+    → Recovers key context xs writes storage journal
+middle key context xs writes js storage journal from is = record {
+  storage_disk = from.disk;
+  journal_disk = certain js;
+  storage_is = from.is;
+  journal_is = is;
+  gives = λ ys ks p q _. gives_same key context xs (written writes xs) js ks ys ys (certain_only js ks q) refl (from.gives ys p);
+}
+
+-- while the journal is emptied
+pub finish : (key context xs : List ℕ) (writes : Writes) (js zs : List ℕ) (storage journal : Option Disk) → GivesFrom key context xs (written writes xs) js storage → storage ≡ Some (certain zs)
+    → IsOneOf xs (written writes xs) zs → IsWholeOrEmpty js journal → Recovers key context xs writes storage journal
+finish key context xs writes js zs storage journal from is one cut = record {
+  storage_disk = certain zs;
+  journal_disk = cut.disk;
+  storage_is = is;
+  journal_is = cut.is;
+  gives = λ ys ks p q _. cases ys ks p (cut.either ks q);
+}
+  where
+    same_disk : from.disk ≡ certain zs
+    same_disk = let both : Some from.disk ≡ Some (certain zs) = sym from.is ∙ is in cc
+
+    cases : (ys ks : List ℕ) → Crashed (certain zs) ys → (ks ≡ js) ⊎ (ks ≡ []) → GivesOneOf key context xs (written writes xs) ks ys
+    cases ys ks p (inl whole) = gives_same key context xs (written writes xs) js ks ys ys whole refl (from.gives ys (subst (λ (d : Disk). Crashed d ys) (sym same_disk) p))
+    cases ys ks p (inr none) = gives_same key context xs (written writes xs) [] ks zs ys none (certain_only zs ys p) (by_empty key context xs (written writes xs) zs one)
+
+-- ---- the journal's first write
+
+pub whole_journal : (js : List ℕ) (a b : Option (List ℕ)) (old over new : Option Disk) → IsPossible a old → old ≡ Some (certain []) → WritesAt a b 0 js → Adds old over (Write 0 js) → MakesCertain b over new
+    → new ≡ Some (certain js)
+whole_journal js a b old over new possible is wrote adds certainly =
+    certainly (after (certain []) (Write 0 js)) js (adds (certain []) is) (cases b (subst (λ (o : Option (List ℕ)). WritesAt o b 0 js) (readable_certain a old [] possible is) wrote))
+  where
+    none_after : (n : ℕ) → drop {A = ℕ} n [] ≡ []
+    none_after n = search (arith)
+
+    all : overwritten [] 0 js ≡ js
+    all = ap (λ (l : List ℕ). js ++ l) (none_after (0 + length js)) ∙ append-nil js
+
+    cases : (b : Option (List ℕ)) → WritesAt (Some []) b 0 js → b ≡ Some js
+    cases None w = absurd w
+    cases (Some ys) w = ap Some (w ∙ all)
+
+-- ---- syncs
+
+-- the storage, or the journal, is synced, or not
+pub storage_synced : (key context xs : List ℕ) (writes : Writes) (bytes : Option (List ℕ)) (old new journal : Option Disk) → IsPossible bytes old → Recovers key context xs writes old journal
+    → MakesCertain bytes old new ⊎ KeepsDisk old new → Recovers key context xs writes new journal
+storage_synced key context xs writes bytes old new journal possible recovers (inl certainly) =
+    let r = readable bytes old recovers.storage_disk possible recovers.storage_is in record {
+      storage_disk = certain r.xs;
+      journal_disk = recovers.journal_disk;
+      storage_is = certainly recovers.storage_disk r.xs recovers.storage_is r.is;
+      journal_is = recovers.journal_is;
+      gives = λ ys js p q nf. gives_same key context xs (written writes xs) js js r.xs ys refl (certain_only r.xs ys p) (recovers.gives r.xs js r.possible q nf);
+    }
+storage_synced key context xs writes bytes old new journal possible recovers (inr keeps) = record {
+  storage_disk = recovers.storage_disk;
+  journal_disk = recovers.journal_disk;
+  storage_is = keeps recovers.storage_disk recovers.storage_is;
+  journal_is = recovers.journal_is;
+  gives = recovers.gives;
+}
+
+pub journal_synced : (key context xs : List ℕ) (writes : Writes) (bytes : Option (List ℕ)) (storage old new : Option Disk) → IsPossible bytes old → Recovers key context xs writes storage old
+    → MakesCertain bytes old new ⊎ KeepsDisk old new → Recovers key context xs writes storage new
+journal_synced key context xs writes bytes storage old new possible recovers (inl certainly) =
+    let r = readable bytes old recovers.journal_disk possible recovers.journal_is in record {
+      storage_disk = recovers.storage_disk;
+      journal_disk = certain r.xs;
+      storage_is = recovers.storage_is;
+      journal_is = certainly recovers.journal_disk r.xs recovers.journal_is r.is;
+      gives = λ ys js p q nf. gives_same key context xs (written writes xs) r.xs js ys ys (certain_only r.xs js q) refl
+          (recovers.gives ys r.xs p r.possible (subst (IsNoForgery key context writes) (certain_only r.xs js q) nf));
+    }
+journal_synced key context xs writes bytes storage old new possible recovers (inr keeps) = record {
+  storage_disk = recovers.storage_disk;
+  journal_disk = recovers.journal_disk;
+  storage_is = recovers.storage_is;
+  journal_is = keeps recovers.journal_disk recovers.journal_is;
+  gives = recovers.gives;
+}
+
+pub journal_kept : (key context xs : List ℕ) (writes : Writes) (storage old new : Option Disk) → Recovers key context xs writes storage old → KeepsDisk old new → Recovers key context xs writes storage new
+journal_kept key context xs writes storage old new recovers keeps = record {
+  storage_disk = recovers.storage_disk;
+  journal_disk = recovers.journal_disk;
+  storage_is = recovers.storage_is;
+  journal_is = keeps recovers.journal_disk recovers.journal_is;
+  gives = recovers.gives;
+}
+
+-- Both are synced, and the journal was read.
+pub record Settled (key context : List ℕ) (storage journal : Option Disk) (a b js : List ℕ) : Type 0 where
+  pub now : List ℕ
+  pub storage_is : storage ≡ Some (certain now)
+  pub journal_is : journal ≡ Some (certain js)
+  pub gives : GivesOneOf key context a b js now
+
+if_some_is : (P : List ℕ → Type 0) (js : List ℕ) (bytes : Option (List ℕ)) → bytes ≡ Some js → IfSome bytes P → P js
+if_some_is P js bytes is found = subst (λ (o : Option (List ℕ)). IfSome o P) is found
+
+-- `a_bytes` are the storage's, and `b_bytes` and `c_bytes` the journal's before and after its sync
+pub settled : (key context xs : List ℕ) (writes : Writes) (a_bytes b_bytes c_bytes : Option (List ℕ)) (storage storage' journal journal' journal'' : Option Disk) (read js : List ℕ)
+    → IsPossible a_bytes storage → IsPossible b_bytes journal → IsPossible c_bytes journal' → Recovers key context xs writes storage journal → IfSome b_bytes (IsNoForgery key context writes)
+    → MakesCertain a_bytes storage storage' → MakesCertain b_bytes journal journal' → IfSome c_bytes (λ ys. read ≡ ys) → js ≡ read → KeepsDisk journal' journal''
+    → Settled key context storage' journal'' xs (written writes xs) js
+settled key context xs writes a_bytes b_bytes c_bytes storage storage' journal journal' journal'' read js p q r recovers no_forgery s t found same keeps =
+    let x = readable a_bytes storage recovers.storage_disk p recovers.storage_is in
+    let y = readable b_bytes journal recovers.journal_disk q recovers.journal_is in
+    let synced = t recovers.journal_disk y.xs recovers.journal_is y.is in
+    let js_are : js ≡ y.xs = same ∙ if_some_is (λ ys. read ≡ ys) y.xs c_bytes (readable_certain c_bytes journal' y.xs r synced) found in record {
+      now = x.xs;
+      storage_is = s recovers.storage_disk x.xs recovers.storage_is x.is;
+      journal_is = keeps (certain y.xs) synced ∙ ap (λ (l : List ℕ). Some (certain l)) (sym js_are);
+      gives = gives_same key context xs (written writes xs) y.xs js x.xs x.xs js_are refl
+          (recovers.gives x.xs y.xs x.possible y.possible (if_some_is (IsNoForgery key context writes) y.xs b_bytes y.is no_forgery));
+    }
+
+-- ---- what is known
+
+pub if_none_map : {X P Q : Type 0} (o : Option X) → (P → Q) → IfNone o P → IfNone o Q
+if_none_map None f p = f p
+if_none_map (Some x) f p = tt
+
+pub known_whole : (key context : List ℕ) (writes : Writes) (js : List ℕ) (a b : Option (List ℕ)) → IsJournal key context writes js → WritesAll a b writes → RecoversKnown key context (Some js) a b
+known_whole key context writes js None b is all = tt
+known_whole key context writes js (Some xs) None is all = absurd all
+known_whole key context writes js (Some xs) (Some ys) is all = record {
+  whole = λ found found_is. all ∙ ap (λ (l : Writes). written l xs) (sym (one_journal key context found writes js found_is is));
+  other = λ not. absurd (not writes is);
+}
+
+pub known_other : (key context js : List ℕ) (a : Option (List ℕ)) → ((writes : Writes) → IsJournal key context writes js → ⊥) → RecoversKnown key context (Some js) a a
+known_other key context js None not = tt
+known_other key context js (Some xs) not = record { whole = λ writes is. absurd (not writes is); other = λ also. refl }
+
+-- ---- a crash
+
+pub crashed_recovers : (key context xs : List ℕ) (writes : Writes) (storage journal : Disk) (ys js : List ℕ) → Recovers key context xs writes (Some storage) (Some journal)
+    → Crashed storage ys → Crashed journal js → Recovers key context xs writes (Some (certain ys)) (Some (certain js))
+crashed_recovers key context xs writes storage journal ys js recovers p q =
+    let s : storage ≡ recovers.storage_disk = (let is = recovers.storage_is in cc) in
+    let j : journal ≡ recovers.journal_disk = (let is = recovers.journal_is in cc) in record {
+      storage_disk = certain ys;
+      journal_disk = certain js;
+      storage_is = refl;
+      journal_is = refl;
+      gives = λ zs ks a b nf. gives_same key context xs (written writes xs) js ks ys zs (certain_only js ks b) (certain_only ys zs a)
+          (recovers.gives ys js (subst (λ (d : Disk). Crashed d ys) s p) (subst (λ (d : Disk). Crashed d js) j q) (subst (IsNoForgery key context writes) (certain_only js ks b) nf));
+    }

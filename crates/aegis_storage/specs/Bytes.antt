@@ -1,0 +1,32 @@
+-- Bytes that are read and written at any place.
+use Rattle.std.specs.Prelude.{◌≡◌, ℕ, ◌+◌, ◌-◌, ◌≤◌, ◌⊎◌, List, ◌++◌, Option, None, Some, ⊤, drop, length, replicate, take}
+
+-- n bytes from place `at` on, or all that there are
+abbrev pub part_at : List ℕ → ℕ → ℕ → List ℕ
+part_at xs at n = take n (drop at xs)
+
+-- cut off at n bytes, or filled up to n with zeros
+abbrev pub resized : List ℕ → ℕ → List ℕ
+resized xs n = take n xs ++ replicate (n - length xs) 0
+
+-- bs over the bytes from place `at` on, after zeros where there are none
+abbrev pub overwritten : List ℕ → ℕ → List ℕ → List ℕ
+overwritten xs at bs = resized xs at ++ (bs ++ drop (at + length bs) xs)
+
+-- known bytes are overwritten by bs
+abbrev pub WritesAt : Option (List ℕ) → Option (List ℕ) → ℕ → List ℕ → Type 0
+WritesAt None new at bs = ⊤
+WritesAt (Some xs) None at bs = ⊥
+WritesAt (Some xs) (Some ys) at bs = ys ≡ overwritten xs at bs
+
+-- known bytes are kept, or overwritten by n bytes at most
+abbrev pub TearsAt : Option (List ℕ) → Option (List ℕ) → ℕ → ℕ → Type 0
+TearsAt None new at n = ⊤
+TearsAt (Some xs) None at n = ⊥
+TearsAt (Some xs) (Some ys) at n = (ys ≡ xs) ⊎ ((torn : List ℕ) × (length torn ≤ n) × (ys ≡ overwritten xs at torn))
+
+-- known bytes are resized
+abbrev pub ResizesTo : Option (List ℕ) → Option (List ℕ) → ℕ → Type 0
+ResizesTo None new n = ⊤
+ResizesTo (Some xs) None n = ⊥
+ResizesTo (Some xs) (Some ys) n = ys ≡ resized xs n

@@ -1,0 +1,100 @@
+-- What a storage holds after a crash: what was synced, and of what came since any parts in any order.
+use Rattle.std.specs.Prelude.{◌≡◌, ℕ, ◌+◌, ◌≤◌, ◌⊎◌, List, [], ◌∷◌, ◌++◌, Option, None, Some, ⊤, length}
+use Rattle.aegis_storage.specs.Bytes.{overwritten, part_at, resized}
+
+-- a call that changes the bytes: these bytes are written at a place, or there are to be n of them
+pub data Change : Type 0 where
+  Write : ℕ → List ℕ → Change
+  Size : ℕ → Change
+
+-- the bytes after a change
+abbrev pub changed : Change → List ℕ → List ℕ
+changed (Write at bs) xs = overwritten xs at bs
+changed (Size n) xs = resized xs n
+
+-- the bytes after changes, the first of them first
+abbrev pub applied : List Change → List ℕ → List ℕ
+applied [] xs = xs
+applied (change ∷ changes) xs = applied changes (changed change xs)
+
+-- Writes, each as a place and its bytes.
+abbrev pub Writes : Type 0
+Writes = List (ℕ × List ℕ)
+
+abbrev pub changes : Writes → List Change
+changes [] = []
+changes (write ∷ writes) = Write write.0 write.1 ∷ changes writes
+
+-- the bytes after writes, the first of them first: later ones win
+abbrev pub written : Writes → List ℕ → List ℕ
+written writes xs = applied (changes writes) xs
+
+-- known bytes are changed by writes
+abbrev pub WritesAll : Option (List ℕ) → Option (List ℕ) → Writes → Type 0
+WritesAll None new writes = ⊤
+WritesAll (Some xs) None writes = ⊥
+WritesAll (Some xs) (Some ys) writes = ys ≡ written writes xs
+
+-- What a sync has made certain, and the changes since then, the first of them first. A change whose call returned an error is
+-- among them.
+pub record Disk : Type 0 where
+  pub synced : List ℕ
+  pub pending : List Change
+
+-- everything is certain
+abbrev pub certain : List ℕ → Disk
+certain xs = record { synced = xs; pending = [] }
+
+-- the disk after one more change
+abbrev pub after : Disk → Change → Disk
+after disk change = record { synced = disk.synced; pending = disk.pending ++ change ∷ [] }
+
+-- ---- crashes
+
+-- The first change is a part of the second: a run of its bytes at their place, whole or short or empty. A size is whole.
+abbrev pub IsPart : Change → Change → Type 0
+IsPart (Write at bs) (Write place all) = (k : ℕ) × (k + length bs ≤ length all) × (at ≡ place + k) × (bs ≡ part_at all k (length bs))
+IsPart (Write at bs) (Size n) = ⊥
+IsPart (Size m) (Write place all) = ⊥
+IsPart (Size m) (Size n) = m ≡ n
+
+-- a part of one of the changes
+abbrev pub IsPartOfOne : List Change → Change → Type 0
+IsPartOfOne [] part = ⊥
+IsPartOfOne (change ∷ changes) part = IsPart part change ⊎ IsPartOfOne changes part
+
+-- each is a part of one of the changes
+abbrev pub AreParts : List Change → List Change → Type 0
+AreParts changes [] = ⊤
+AreParts changes (part ∷ parts) = IsPartOfOne changes part × AreParts changes parts
+
+-- What a crash may leave: the synced bytes after any parts of the pending changes, in any order. So of each pending write all,
+-- any runs of bytes (a front, sectors) or none may be there, over or under those of other writes; a pending size is there or
+-- not; and bytes that nothing wrote are as they were synced, or 0 past the end.
+pub record Crashed (disk : Disk) (bytes : List ℕ) : Type 0 where
+  pub parts : List Change
+  pub of_pending : AreParts disk.pending parts
+  pub are : bytes ≡ applied parts disk.synced
+
+-- ---- what calls do to a disk that is known
+
+abbrev pub KeepsDisk : Option Disk → Option Disk → Type 0
+KeepsDisk old new = (disk : Disk) → old ≡ Some disk → new ≡ Some disk
+
+-- the change is pending, too
+abbrev pub Adds : Option Disk → Option Disk → Change → Type 0
+Adds old new change = (disk : Disk) → old ≡ Some disk → new ≡ Some (after disk change)
+
+-- the change is pending, too, or the disk is as it was
+abbrev pub MayAdd : Option Disk → Option Disk → Change → Type 0
+MayAdd old new change = KeepsDisk old new ⊎ Adds old new change
+
+-- what can be read is certain
+abbrev pub MakesCertain : Option (List ℕ) → Option Disk → Option Disk → Type 0
+MakesCertain bytes old new = (disk : Disk) (xs : List ℕ) → old ≡ Some disk → bytes ≡ Some xs → new ≡ Some (certain xs)
+
+-- If the disk is known, so is what can be read, and a crash may leave it.
+abbrev pub IsPossible : Option (List ℕ) → Option Disk → Type 0
+IsPossible bytes None = ⊤
+IsPossible None (Some disk) = ⊥
+IsPossible (Some xs) (Some disk) = Crashed disk xs

@@ -1,0 +1,6 @@
+pub mod Bytes
+pub mod Calls
+pub mod Disk
+pub mod Journal
+pub mod Overlay
+pub mod Pending

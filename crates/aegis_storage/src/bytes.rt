@@ -1,0 +1,20 @@
+//! Writing a part of a slice.
+
+ghost use Rattle.std.specs.Prelude.{◌≡◌, ◌+◌, ◌-◌, ◌≤◌, ◌++◌, length, replicate, take};
+ghost use Rattle.aegis_storage.specs.Bytes.{overwritten};
+
+/// Writes `part` over the bytes from `at` on.
+pub fn put(bytes: &mut [u8], at: usize, part: &[u8])
+    requires { at + length part.now ≤ length bytes.old }
+    ensures { bytes.new ≡ overwritten bytes.old at part.now }
+{
+    bytes[at..at + part.len()].copy_from_slice(part);
+}
+
+/// Writes zeros over all bytes from `at` on.
+pub fn clear_from(bytes: &mut [u8], at: usize)
+    requires { at ≤ length bytes.old }
+    ensures { bytes.new ≡ take at bytes.old ++ replicate (length bytes.old - at) 0 }
+{
+    bytes[at..].fill(0);
+}

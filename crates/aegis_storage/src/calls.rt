@@ -1,0 +1,72 @@
+//! Several calls of a storage in a row.
+
+ghost use Rattle.std.specs.Prelude.{◌≡◌, [], IfOk, IfSome, List, None, OnErr, OnOk, Option, Some, length, ℕ};
+ghost use Rattle.std.specs.Io.KnownBytes.{Keeps};
+ghost use Rattle.aegis_storage.specs.Bytes.{ResizesTo};
+ghost use Rattle.aegis_storage.specs.Calls.{AddsSome, IsWholeOrEmpty, IsWrittenOver};
+ghost use Rattle.aegis_storage.specs.Disk.{KeepsDisk, WritesAll, certain, written};
+ghost use Rattle.aegis_storage.specs.Pending.{writes_of};
+
+use crate::pending::PendingWrite;
+use crate::store::{MAX_STORAGE_BYTES, Storage};
+use std::alloc::Allocator;
+use std::io;
+use std::io::ErrorKind;
+
+/// Returns all the bytes.
+pub fn read_all<S: Storage, A: Allocator>(alloc: A, storage: &mut S) -> io::Result<Vec<u8, A>>
+    ensures kept { Keeps (S.bytes storage.old) (S.bytes storage.new) }
+    ensures kept_disk { KeepsDisk (S.disk storage.old) (S.disk storage.new) }
+    ensures read { IfOk result (λ found. IfSome (S.bytes storage.old) (λ xs. found.items ≡ xs)) }
+{
+    let size = storage.size()?;
+    if size > MAX_STORAGE_BYTES {
+        return Err(io::Error::from(ErrorKind::InvalidData));
+    }
+    let mut bytes = vec![in alloc; 0; size as usize]?;
+    storage.read_at(0, &mut bytes)?;
+    Ok(bytes)
+}
+
+/// Makes the writes, the first of them first.
+pub fn write_all<S: Storage, A: Allocator>(
+    storage: &mut S,
+    writes: &[PendingWrite<A>],
+) -> io::Result<()>
+    ensures written { OnOk result
+        (WritesAll (S.bytes storage.old) (S.bytes storage.new) (writes_of writes.now)) }
+    ensures pending { AddsSome (S.disk storage.old) (S.disk storage.new) (writes_of writes.now) }
+{
+    for write in writes {
+        storage.write_at(write.place, &write.bytes)?;
+    }
+    Ok(())
+}
+
+/// Makes the writes, and syncs them.
+pub fn write_and_sync<S: Storage, A: Allocator>(
+    storage: &mut S,
+    writes: &[PendingWrite<A>],
+) -> io::Result<()>
+    ensures written { OnOk result
+        (WritesAll (S.bytes storage.old) (S.bytes storage.new) (writes_of writes.now)) }
+    ensures torn { (xs : List ℕ) → S.disk storage.old ≡ Some (certain xs)
+        → IsWrittenOver (writes_of writes.now) xs (S.disk storage.new) }
+    ensures certain { OnOk result ((xs : List ℕ) → S.disk storage.old ≡ Some (certain xs)
+        → S.disk storage.new ≡ Some (certain (written (writes_of writes.now) xs))) }
+{
+    write_all(storage, writes)?;
+    storage.sync()
+}
+
+/// Empties the journal, and syncs that.
+pub fn empty<J: Storage>(journal: &mut J) -> io::Result<()>
+    ensures emptied { OnOk result (ResizesTo (J.bytes journal.old) (J.bytes journal.new) 0) }
+    ensures torn { (xs : List ℕ) → J.disk journal.old ≡ Some (certain xs)
+        → IsWholeOrEmpty xs (J.disk journal.new) }
+    ensures certain { OnOk result ((xs : List ℕ) → J.disk journal.old ≡ Some (certain xs)
+        → J.disk journal.new ≡ Some (certain [])) }
+{
+    journal.set_size(0)?;
+    journal.sync()
+}

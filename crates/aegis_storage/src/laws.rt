@@ -1,0 +1,33 @@
+//! Laws of storages that crash: functions that do nothing, and whose contracts are facts about the definitions that the other
+//! contracts cite.
+
+ghost use Rattle.std.specs.Prelude.{◌≡◌, [], List, Option, Some, ℕ};
+ghost use Rattle.aegis_storage.specs.Disk.{AreParts, Change, Crashed, Disk, Writes, applied, certain, changes, written};
+ghost use Rattle.aegis_storage.specs.Journal.{IsAtRest, Recovers};
+
+/// After any parts of writes, in any order, all of the writes give what they give without these.
+pub fn written_again()
+    ensures { (writes : Writes) (parts : List Change) (xs : List ℕ)
+        → AreParts (changes writes) parts
+        → written writes (applied parts xs) ≡ written writes xs }
+{}
+
+/// Certain bytes are all that a crash may leave.
+pub fn certain_bytes()
+    ensures { (xs ys : List ℕ) → Crashed (certain xs) ys → ys ≡ xs }
+{}
+
+/// Of a storage and a journal at rest, recovery gives what the storage holds.
+pub fn recovers_at_rest()
+    ensures { (key context xs : List ℕ) (storage journal : Option Disk)
+        → IsAtRest storage journal xs → Recovers key context xs [] storage journal }
+{}
+
+/// What recovers before a crash does so after it.
+pub fn recovers_after_a_crash()
+    ensures { (key context xs : List ℕ) (writes : Writes)
+        (storage journal : Disk) (ys js : List ℕ)
+        → Recovers key context xs writes (Some storage) (Some journal)
+        → Crashed storage ys → Crashed journal js
+        → Recovers key context xs writes (Some (certain ys)) (Some (certain js)) }
+{}

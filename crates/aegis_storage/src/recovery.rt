@@ -1,0 +1,65 @@
+//! What a storage and its journal hold after a crash.
+
+ghost use Rattle.std.specs.Prelude.{◌≡◌, ◌≤◌, IfSome, List, OnOk, Some, length, ℕ};
+ghost use Rattle.aegis_storage.specs.Calls.{GivesFrom, IsRedone};
+ghost use Rattle.aegis_storage.specs.Disk.{Writes, certain};
+ghost use Rattle.aegis_storage.specs.Journal.{GivesOneOf, IsNoForgery, Recovers, RecoversKnown, RestsAtEither};
+
+use crate::calls::{empty, read_all, write_and_sync};
+use crate::journal::journaled_writes;
+use crate::store::Storage;
+use aegis::aegis256::Key;
+use aegis::record::MAX_CONTEXT_BYTES;
+use std::alloc::Allocator;
+use std::io;
+
+// Makes the writes of a whole journal again, and syncs them. For any other journal it does nothing.
+fn redo<S: Storage, A: Allocator + Copy>(
+    alloc: A,
+    storage: &mut S,
+    key: &Key,
+    context: &[u8],
+    journal: &[u8],
+) -> io::Result<()>
+    requires { length context.now ≤ MAX_CONTEXT_BYTES }
+    ensures recovered { OnOk result (RecoversKnown key.now context.now (Some journal.now)
+        (S.bytes storage.old) (S.bytes storage.new)) }
+    ensures torn { (a b xs : List ℕ) → S.disk storage.old ≡ Some (certain xs)
+        → GivesOneOf key.now context.now a b journal.now xs
+        → GivesFrom key.now context.now a b journal.now (S.disk storage.new) }
+    ensures certain { OnOk result ((xs : List ℕ) → S.disk storage.old ≡ Some (certain xs)
+        → IsRedone key.now context.now journal.now xs (S.disk storage.new)) }
+{
+    match journaled_writes(alloc, key, context, journal)? {
+        Some(writes) => write_and_sync(storage, &writes),
+        None => Ok(()),
+    }
+}
+
+/// Makes the writes of a commit again that a crash cut short, or none of them.
+pub fn recover<S: Storage, J: Storage, A: Allocator + Copy>(
+    alloc: A,
+    storage: &mut S,
+    journal: &mut J,
+    key: &Key,
+    context: &[u8],
+) -> io::Result<()>
+    requires { length context.now ≤ MAX_CONTEXT_BYTES }
+    ensures recovered { OnOk result (RecoversKnown key.now context.now (J.bytes journal.old)
+        (S.bytes storage.old) (S.bytes storage.new)) }
+    ensures recovers { (xs : List ℕ) (writes : Writes)
+        → IfSome (J.bytes journal.old) (IsNoForgery key.now context.now writes)
+        → Recovers key.now context.now xs writes (S.disk storage.old) (J.disk journal.old)
+        → Recovers key.now context.now xs writes (S.disk storage.new) (J.disk journal.new) }
+    ensures at_rest { OnOk result ((xs : List ℕ) (writes : Writes)
+        → IfSome (J.bytes journal.old) (IsNoForgery key.now context.now writes)
+        → Recovers key.now context.now xs writes (S.disk storage.old) (J.disk journal.old)
+        → RestsAtEither (S.disk storage.new) (J.disk journal.new) xs writes) }
+{
+    // What was written before may not be certain yet, if no power was lost.
+    storage.sync()?;
+    journal.sync()?;
+    let content = read_all(alloc, journal)?;
+    redo(alloc, storage, key, context, &content)?;
+    empty(journal)
+}

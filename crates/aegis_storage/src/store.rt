@@ -1,0 +1,134 @@
+//! Where the bytes of a file are kept.
+
+ghost use Rattle.std.specs.Prelude.{◌≡◌, ◌+◌, ◌≤◌, IfOk, IfSome, List, None, OnErr, OnOk, Option, Some, length, ℕ};
+ghost use Rattle.std.specs.Io.KnownBytes.{Keeps};
+ghost use Rattle.aegis_storage.specs.Bytes.{ResizesTo, TearsAt, WritesAt, part_at};
+ghost use Rattle.aegis_storage.specs.Disk.{Adds, Disk, IsPossible, KeepsDisk, MakesCertain, MayAdd, Size, Write};
+
+use crate::bytes::put;
+use std::alloc::Allocator;
+use std::fs::File;
+use std::io;
+use std::io::ErrorKind;
+use std::os::unix::fs::FileExt;
+
+/// The last byte that a storage is asked for lies below this place, 2^63 - 1.
+pub const MAX_STORAGE_BYTES: u64 = 9_223_372_036_854_775_807;
+
+/// Bytes that are read and written at any place, as those of a file.
+///
+/// Its ghost member `bytes` is what it holds, where that is known: for a vector its items, and for a file `None`, since
+/// others may write the file too. The contracts then say nothing but that each call is safe and returns.
+pub trait Storage {
+    // All the bytes, where they are known.
+    ghost bytes: { Self → Option (List ℕ) } = { λ _. None };
+
+    // What a crash may leave of them, where that is known.
+    ghost disk: { Self → Option Disk } = { λ _. None };
+
+    /// Returns the number of bytes.
+    fn size(&mut self) -> io::Result<u64>
+        ensures kept { Keeps (bytes self.old) (bytes self.new) }
+        ensures kept_disk { KeepsDisk (disk self.old) (disk self.new) }
+        ensures size { IfOk result (λ n. IfSome (bytes self.old) (λ xs. n ≡ length xs)) };
+
+    /// Reads the bytes from `at` on until `out` is full. Returns an error if there are fewer, or if reading fails; the
+    /// content of `out` is then any bytes.
+    fn read_at(&mut self, at: u64, out: &mut [u8]) -> io::Result<()>
+        requires { at + length out.old ≤ MAX_STORAGE_BYTES }
+        ensures kept { Keeps (bytes self.old) (bytes self.new) }
+        ensures kept_disk { KeepsDisk (disk self.old) (disk self.new) }
+        ensures read { OnOk result (IfSome (bytes self.old)
+            (λ xs. out.new ≡ part_at xs at (length out.old))) };
+
+    /// Writes all of `part` over the bytes from `at` on. What lies past the end is added, and a gap is filled with zeros.
+    /// After an error the bytes from `at` on may be any, as many as `part` has at most, and the others are as they were.
+    fn write_at(&mut self, at: u64, part: &[u8]) -> io::Result<()>
+        requires { at + length part.now ≤ MAX_STORAGE_BYTES }
+        ensures written { OnOk result (WritesAt (bytes self.old) (bytes self.new) at part.now) }
+        ensures torn { OnErr result
+            (TearsAt (bytes self.old) (bytes self.new) at (length part.now)) }
+        ensures pending { OnOk result (Adds (disk self.old) (disk self.new) (Write at part.now)) }
+        ensures maybe { OnErr result (MayAdd (disk self.old) (disk self.new) (Write at part.now)) };
+
+    /// Cuts the bytes off at `size`, or fills them up to it with zeros. After an error they are as they were.
+    fn set_size(&mut self, size: u64) -> io::Result<()>
+        requires { size ≤ MAX_STORAGE_BYTES }
+        ensures resized { OnOk result (ResizesTo (bytes self.old) (bytes self.new) size) }
+        ensures kept { OnErr result (Keeps (bytes self.old) (bytes self.new)) }
+        ensures pending { OnOk result (Adds (disk self.old) (disk self.new) (Size size)) }
+        ensures maybe { OnErr result (MayAdd (disk self.old) (disk self.new) (Size size)) };
+
+    /// Returns once all that was written is where it outlasts a loss of power.
+    fn sync(&mut self) -> io::Result<()>
+        ensures kept { Keeps (bytes self.old) (bytes self.new) }
+        ensures certain { OnOk result
+            (MakesCertain (bytes self.old) (disk self.old) (disk self.new)) }
+        ensures uncertain { OnErr result (KeepsDisk (disk self.old) (disk self.new)) };
+
+    /// What can be read is one of the contents that a crash may leave.
+    ghost possible: { (storage : Self) → IsPossible (bytes storage) (disk storage) };
+}
+
+impl<A: Allocator> Storage for Vec<u8, A> {
+    ghost bytes = { λ v. Some v.items };
+
+    ghost possible = { λ _. tt };
+
+    fn size(&mut self) -> io::Result<u64> {
+        Ok(self.as_slice().len() as u64)
+    }
+
+    fn read_at(&mut self, at: u64, out: &mut [u8]) -> io::Result<()> {
+        let start = at as usize;
+        let end = start + out.len();
+        if end > self.as_slice().len() {
+            return Err(io::Error::from(ErrorKind::UnexpectedEof));
+        }
+        out.copy_from_slice(&self.as_slice()[start..end]);
+        Ok(())
+    }
+
+    fn write_at(&mut self, at: u64, part: &[u8]) -> io::Result<()> {
+        let start = at as usize;
+        let end = start + part.len();
+        if end > self.as_slice().len() {
+            self.resize(end, 0)?;
+        }
+        put(self, start, part);
+        Ok(())
+    }
+
+    fn set_size(&mut self, size: u64) -> io::Result<()> {
+        self.resize(size as usize, 0)?;
+        Ok(())
+    }
+
+    fn sync(&mut self) -> io::Result<()> {
+        Ok(())
+    }
+}
+
+impl Storage for File {
+    ghost possible = { λ _. tt };
+
+    fn size(&mut self) -> io::Result<u64> {
+        Ok(self.metadata()?.len())
+    }
+
+    fn read_at(&mut self, at: u64, out: &mut [u8]) -> io::Result<()> {
+        self.read_exact_at(out, at)
+    }
+
+    fn write_at(&mut self, at: u64, part: &[u8]) -> io::Result<()> {
+        self.write_all_at(part, at)
+    }
+
+    fn set_size(&mut self, size: u64) -> io::Result<()> {
+        self.set_len(size)
+    }
+
+    fn sync(&mut self) -> io::Result<()> {
+        self.sync_all()
+    }
+}

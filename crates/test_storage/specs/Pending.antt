@@ -1,0 +1,40 @@
+-- What a disk of the tests holds.
+use Rattle.std.specs.Prelude.{◌≡◌, ℕ, ◌+◌, ◌≤◌, ◌⊎◌, List, [], ◌∷◌, drop, length, map, take}
+use Rattle.std.proofs.Common.{arith, inl, inr, refl, sym, ap, ◌∙◌}
+use Rattle.std.proofs.lemmas.List.{take_all}
+use Rattle.aegis_storage.specs.Disk.{AreParts, Change, Crashed, Disk, IsPartOfOne, IsPossible, applied}
+use Rattle.aegis_storage.specs.Disk as disk
+use Rattle.test_storage.specs.declared.pending.PendingChange.{PendingChange}
+use Rattle.test_storage.specs.declared.pending.PendingChange.TheVariants.{Size, Write}
+use Rattle.test_storage.specs.declared.disk.TestDisk.{TestDisk}
+
+abbrev pub change_of : PendingChange → Change
+change_of (Write write) = disk.Write write.place write.bytes.items
+change_of (Size size) = disk.Size size.size
+
+abbrev pub changes_of : List PendingChange → List Change
+changes_of pending = map change_of pending
+
+abbrev pub disk_of : TestDisk → Disk
+disk_of test_disk = record { synced = test_disk.synced.items; pending = changes_of test_disk.pending.items }
+
+-- what can be read: everything that was written
+abbrev pub bytes_of : TestDisk → List ℕ
+bytes_of test_disk = applied (changes_of test_disk.pending.items) test_disk.synced.items
+
+-- ---- a crash may leave all of it
+
+self_part : (change : Change) → disk.IsPart change change
+self_part (disk.Write at bs) = (0, omega arith, omega arith, sym (take_all (length bs) bs (omega arith)))
+self_part (disk.Size n) = refl
+
+more_parts : (change : Change) (changes parts : List Change) → AreParts changes parts → AreParts (change ∷ changes) parts
+more_parts change changes [] are = tt
+more_parts change changes (part ∷ parts) are = (inr are.0, more_parts change changes parts are.1)
+
+all_parts : (changes : List Change) → AreParts changes changes
+all_parts [] = tt
+all_parts (change ∷ changes) = (inl (self_part change), more_parts change changes changes (all_parts changes))
+
+pub all_there : (test_disk : TestDisk) → Crashed (disk_of test_disk) (bytes_of test_disk)
+all_there test_disk = record { parts = changes_of test_disk.pending.items; of_pending = all_parts (changes_of test_disk.pending.items); are = refl }

@@ -1,0 +1,108 @@
+//! A disk that keeps what was written apart until it is synced, and whose calls fail from some call on.
+
+ghost use Rattle.std.specs.Prelude.{◌≡◌, ◌∷◌, [], IfOk, OnOk, Some};
+ghost use Rattle.aegis_storage.specs.Disk.{applied};
+ghost use Rattle.test_storage.specs.Pending.{all_there, bytes_of, changes_of, disk_of};
+
+use crate::pending::{NewSize, PendingChange};
+use aegis_storage::{PendingWrite, Storage};
+use std::alloc::Global;
+use std::io;
+use std::io::ErrorKind;
+
+/// A disk: the synced bytes, and the changes since, the first of them first.
+#[derive(Drop)]
+pub struct TestDisk {
+    pub alloc: Global,
+    pub synced: Vec<u8>,
+    pub pending: Vec<PendingChange>,
+    /// How many calls still succeed.
+    pub calls: u64,
+}
+
+/// Makes one change.
+pub fn change(bytes: &mut Vec<u8>, change: &PendingChange) -> io::Result<()>
+    ensures { OnOk result (bytes.new.items ≡ applied (changes_of (change.now ∷ [])) bytes.old.items) }
+{
+    match change {
+        PendingChange::Write(write) => bytes.write_at(write.place, &write.bytes),
+        PendingChange::Size(size) => bytes.set_size(size.size),
+    }
+}
+
+impl TestDisk {
+    /// A disk with these bytes, all of them synced. The call after the first `calls` calls fails, and those after it.
+    pub fn new(alloc: Global, synced: Vec<u8>, calls: u64) -> TestDisk
+        ensures synced { result.synced ≡ synced }
+        ensures pending { result.pending.items ≡ [] }
+    {
+        TestDisk {
+            alloc,
+            synced,
+            pending: Vec::new(alloc),
+            calls,
+        }
+    }
+
+    /// Returns everything that was written.
+    pub fn current(&self) -> io::Result<Vec<u8>>
+        ensures { IfOk result (λ bytes. bytes.items ≡ bytes_of self.now) }
+    {
+        let mut bytes = self.synced.to_vec(self.alloc)?;
+        for pending in &self.pending {
+            change(&mut bytes, pending)?;
+        }
+        Ok(bytes)
+    }
+
+    // Counts a call. Returns an error if it fails.
+    fn count(&mut self) -> io::Result<()>
+        ensures synced { self.new.synced ≡ self.old.synced }
+        ensures pending { self.new.pending ≡ self.old.pending }
+    {
+        if self.calls == 0 {
+            return Err(io::Error::from(ErrorKind::Other));
+        }
+        self.calls -= 1;
+        Ok(())
+    }
+}
+
+impl Storage for TestDisk {
+    ghost bytes = { λ disk. Some (bytes_of disk) };
+
+    ghost disk = { λ disk. Some (disk_of disk) };
+
+    ghost possible = { λ disk. all_there disk };
+
+    fn size(&mut self) -> io::Result<u64> {
+        self.count()?;
+        Ok(self.current()?.len() as u64)
+    }
+
+    fn read_at(&mut self, at: u64, out: &mut [u8]) -> io::Result<()> {
+        self.count()?;
+        let mut bytes = self.current()?;
+        bytes.read_at(at, out)
+    }
+
+    fn write_at(&mut self, at: u64, part: &[u8]) -> io::Result<()> {
+        let write = PendingWrite::new(self.alloc, at, part)?;
+        self.pending.push(PendingChange::Write(write))?;
+        self.count()
+    }
+
+    fn set_size(&mut self, size: u64) -> io::Result<()> {
+        self.count()?;
+        self.pending.push(PendingChange::Size(NewSize { size }))?;
+        Ok(())
+    }
+
+    fn sync(&mut self) -> io::Result<()> {
+        self.count()?;
+        let synced = self.current()?;
+        self.synced = synced;
+        self.pending.clear();
+        Ok(())
+    }
+}

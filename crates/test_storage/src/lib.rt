@@ -1,0 +1,7 @@
+//! Tests of storages that crash, over a disk that tears what was not synced.
+#![tactic(auto)]
+
+pub mod disk;
+pub mod pending;
+#[cfg(test)]
+mod tests;
