@@ -5,7 +5,8 @@ ghost use Rattle.std.specs.Int.{to_le_bytes, w64};
 ghost use Rattle.aegis_pages.specs.OpenFile.{HasText};
 
 use aegis_pages::laws::whole_is_written;
-use aegis_pages::{Nonces, PagesError, SealedPages, Storage};
+use aegis_pages::{Nonces, PagesError, SealedPages};
+use aegis_storage::Storage;
 use std::alloc::Allocator;
 
 /// Adds one to a counter that is the text of a file, 8 bytes, the lowest first, and returns its new number. After

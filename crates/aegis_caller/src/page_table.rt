@@ -1,11 +1,12 @@
 //! A table of rows of 64 bytes in a sealed file.
 
 ghost use Rattle.std.specs.Prelude.{◌≡◌, ◌+◌, ◌*◌, ◌<◌, ◌≤◌, ◌⊎◌, List, OnOk, ℕ};
-ghost use Rattle.aegis_pages.specs.Bytes.{overwritten, part_at};
+ghost use Rattle.aegis_storage.specs.Bytes.{overwritten, part_at};
 ghost use Rattle.aegis_pages.specs.OpenFile.{HasText};
 
 use aegis_pages::laws::others_are_kept;
-use aegis_pages::{Nonces, PagesError, SealedPages, Storage};
+use aegis_pages::{Nonces, PagesError, SealedPages};
+use aegis_storage::Storage;
 use std::alloc::Allocator;
 
 /// The length of a row.

@@ -7,9 +7,9 @@ use Rattle.aegis_aes.specs.Lanes.{IsLaneCount}
 use Rattle.aegis_base.specs.Variant.{Family, Family128, Family256, Variant, key_length}
 use Rattle.aegis_base.specs.Message.{Opens, lane_before}
 use Rattle.aegis_base.proofs.Bijection.{ciphertext-injective}
-use Rattle.aegis_pages.specs.Bytes.{overwritten}
+use Rattle.aegis_storage.specs.Bytes.{overwritten}
 use Rattle.aegis_pages.specs.Layouts.{Layout, OpensAt, associated_data, inner, nonce_bytes}
-use Rattle.aegis_pages.proofs.Overwriting.{filled_front}
+use Rattle.aegis_storage.proofs.Overwriting.{filled_front}
 
 pub key_length_most : (family : Family) → key_length family ≤ 32
 key_length_most Family128 = omega arith

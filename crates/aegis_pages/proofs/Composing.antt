@@ -2,11 +2,11 @@
 use Rattle.std.proofs.Common.{◌≡◌, ℕ, ◌+◌, ◌-◌, ◌<◌, ◌≤◌, ◌⊎◌, inl, inr, List, ◌*◌, ◌++◌, drop, get_or, length, take, sym, ap, subst, ◌∙◌, arith}
 use Rattle.std.proofs.lemmas.Bool.{cases_lt}
 use Rattle.std.proofs.lemmas.List.{get_or-take, get_or_past, length-drop, length-take}
-use Rattle.aegis_pages.specs.Bytes.{overwritten}
+use Rattle.aegis_storage.specs.Bytes.{overwritten}
 use Rattle.aegis_pages.specs.Layouts.{Layout, OpensAt, box_bytes, inner, nonce_bytes}
 use Rattle.aegis_pages.specs.SealedPages.{IsPage}
 use Rattle.aegis_pages.proofs.Boxes.{inner_of}
-use Rattle.aegis_pages.proofs.Overwriting.{after_part, before_part, within_part}
+use Rattle.aegis_storage.proofs.Overwriting.{after_part, before_part, within_part}
 
 -- The part was laid over the first `live` bytes of the page's text and zeros. Where it was not, the text has no byte past `live`.
 pub record Lies (text part before after : List ℕ) (page_bytes live start at : ℕ) : Type 0 where

@@ -8,12 +8,12 @@ use Rattle.std.specs.Int.{from_le_bytes, to_le_bytes, w32, w64}
 use Rattle.aegis_aes.specs.Lanes.{IsLaneCount}
 use Rattle.aegis_base.specs.Variant.{Variant}
 use Rattle.aegis_pages.specs.declared.layout.TheConstants.{HEADER_NUMBER, MAGIC, MAX_TEXT_BYTES}
-use Rattle.aegis_pages.specs.Bytes.{WritesAt, overwritten, part_at}
+use Rattle.aegis_storage.specs.Bytes.{WritesAt, overwritten, part_at}
 use Rattle.aegis_pages.specs.Headers.{IsHeader, IsNewest, IsSector, WritesHeader, header_text, sector_place}
 use Rattle.aegis_pages.specs.Layouts.{IsPageSize, Layout, OpensAt, box_bytes, clear_part, inner, nonce_bytes, variant_byte}
 use Rattle.aegis_pages.specs.SealedPages.{OnKnown}
 use Rattle.aegis_pages.proofs.Boxes.{opens_one}
-use Rattle.aegis_pages.proofs.Overwriting.{filled_front, kept_part, length-overwritten, length-part, put_part}
+use Rattle.aegis_storage.proofs.Overwriting.{filled_front, kept_part, length-overwritten, length-part, put_part}
 
 -- ---- the two sectors
 

@@ -1,7 +1,7 @@
 -- Bytes that are known, or not.
 use Rattle.std.proofs.Common.{◌≡◌, ℕ, ◌*◌, ◌<◌, ◌≤◌, ◌⊎◌, inl, inr, List, Option, None, Some, IfSome, length, refl, sym, subst, arith}
 use Rattle.std.specs.Io.KnownBytes.{Keeps}
-use Rattle.aegis_pages.specs.Bytes.{TearsAt, WritesAt, overwritten}
+use Rattle.aegis_storage.specs.Bytes.{TearsAt, WritesAt, overwritten}
 use Rattle.aegis_pages.specs.SealedPages.{KeepsPage, OnKnown}
 use Rattle.aegis_pages.specs.declared.error.PagesError.{PagesError}
 use Rattle.aegis_pages.specs.declared.error.PagesError.TheVariants.{Read, Write, Nonce, Header, Damaged, TooLong, OutOfMemory, PageSize}

@@ -1,8 +1,8 @@
 -- A part that is laid over the text of a page.
 use Rattle.std.proofs.Common.{◌≡◌, ℕ, ◌+◌, ◌-◌, ◌<◌, ◌≤◌, ◌⊎◌, inl, inr, List, ◌++◌, drop, get_or, length, replicate, take, ap, ◌∙◌, arith, max, min}
 use Rattle.std.proofs.lemmas.List.{get_or-append_right, get_or-drop, get_or-replicate, get_or-take, get_or_append_left, length-drop, length-take}
-use Rattle.aegis_pages.specs.Bytes.{overwritten}
-use Rattle.aegis_pages.proofs.Overwriting.{after_part, before_part, within_part}
+use Rattle.aegis_storage.specs.Bytes.{overwritten}
+use Rattle.aegis_storage.proofs.Overwriting.{after_part, before_part, within_part}
 
 -- how `part`, of which the bytes from place `from` up to `to` are in the page, was laid over the page's text
 pub record Lays (text cleared part piece new : List ℕ) (live start at from to : ℕ) : Type 0 where

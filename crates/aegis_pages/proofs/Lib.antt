@@ -4,7 +4,6 @@ pub mod Heading
 pub mod Known
 pub mod Laying
 pub mod Newest
-pub mod Overwriting
 pub mod Ranging
 pub mod Rewriting
 pub mod Standing

@@ -6,13 +6,13 @@ use Rattle.std.proofs.lemmas.List.{drop-take, take-take}
 use Rattle.aegis_aes.specs.Lanes.{IsLaneCount}
 use Rattle.aegis_base.specs.Variant.{Variant}
 use Rattle.aegis_pages.specs.declared.header.FileHeader.{FileHeader}
-use Rattle.aegis_pages.specs.Bytes.{part_at}
+use Rattle.aegis_storage.specs.Bytes.{part_at}
 use Rattle.aegis_pages.specs.Errors.{HasNoHeader}
 use Rattle.aegis_pages.specs.Headers.{IsHeader, IsNewest, IsSector}
 use Rattle.aegis_pages.specs.Layouts.{Layout}
 use Rattle.aegis_pages.specs.Reading.{IsNewer, layout_of}
 use Rattle.aegis_pages.proofs.Heading.{newest_by, one_sector, turns}
-use Rattle.aegis_pages.proofs.Overwriting.{length-part}
+use Rattle.aegis_storage.proofs.Overwriting.{length-part}
 
 -- what was read of the sector of the even or the odd counters
 pub record ReadsOne (variant : Variant) (key : List ℕ) (turn : ℕ) (found : Option FileHeader) (file : List ℕ) : Type 0 where

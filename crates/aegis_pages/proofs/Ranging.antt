@@ -3,10 +3,10 @@ use Rattle.std.proofs.Common.{◌≡◌, ℕ, ◌+◌, ◌-◌, ◌*◌, ◌/◌
 use Rattle.std.proofs.lemmas.Bool.{cases_lt}
 use Rattle.std.proofs.lemmas.List.{get_or-drop, get_or-take, length-drop, length-take}
 use Rattle.std.proofs.lemmas.Nat.{div-add-mod', div-mul-add, mod-mul-add}
-use Rattle.aegis_pages.specs.Bytes.{overwritten}
+use Rattle.aegis_storage.specs.Bytes.{overwritten}
 use Rattle.aegis_pages.specs.Layouts.{Layout, OpensAt, box_bytes, inner, nonce_bytes, page_at}
 use Rattle.aegis_pages.specs.SealedPages.{ArePages, IsByte}
-use Rattle.aegis_pages.proofs.Overwriting.{before_part, within_part}
+use Rattle.aegis_storage.proofs.Overwriting.{before_part, within_part}
 
 -- A piece of the page's text was put into `out`, after `done` bytes.
 pub record Puts (layout : Layout) (page out piece new : List ℕ) (at done count : ℕ) : Type 0 where

@@ -2,11 +2,11 @@
 use Rattle.std.proofs.Common.{◌≡◌, ℕ, ◌+◌, ◌-◌, ◌*◌, ◌/◌, ◌%◌, ◌<◌, ◌≤◌, ◌⊎◌, inl, inr, List, get_or, length, min, refl, sym, ap, subst, ◌∙◌, arith}
 use Rattle.std.proofs.lemmas.Bool.{cases_lt}
 use Rattle.std.proofs.lemmas.Nat.{div-add-mod', div_below, le-div, mod_below}
-use Rattle.aegis_pages.specs.Bytes.{overwritten, part_at}
+use Rattle.aegis_storage.specs.Bytes.{overwritten, part_at}
 use Rattle.aegis_pages.specs.Layouts.{Layout, OpensAt, box_bytes, page_at, page_place}
 use Rattle.aegis_pages.specs.Headers.{KeepsSectors}
 use Rattle.aegis_pages.specs.SealedPages.{ArePages, IsApart, IsPage, KeepsOthers, KeepsPage, WritesText}
-use Rattle.aegis_pages.proofs.Overwriting.{after_part, before_part, kept_part, length-overwritten, put_part}
+use Rattle.aegis_storage.proofs.Overwriting.{after_part, before_part, kept_part, length-overwritten, put_part}
 use Rattle.std.proofs.Math.Nat.{mul-le-mul_right}
 
 -- Of the pages from `first` on, those before `number` were written.

@@ -3,14 +3,14 @@ use Rattle.std.proofs.Common.{◌≡◌, ℕ, ◌+◌, ◌-◌, ◌*◌, ◌/◌
 use Rattle.std.proofs.lemmas.List.{append-nil, drop_all, ext_get_or, nil_from_length, take_all}
 use Rattle.std.proofs.lemmas.Nat.{div-add-mod', le-div}
 use Rattle.std.specs.Io.KnownBytes.{Keeps}
-use Rattle.aegis_pages.specs.Bytes.{ResizesTo, TearsAt, overwritten, part_at, resized}
+use Rattle.aegis_storage.specs.Bytes.{ResizesTo, TearsAt, overwritten, part_at, resized}
 use Rattle.aegis_pages.specs.Layouts.{Layout, box_bytes, page_at, page_place}
 use Rattle.aegis_aes.specs.Lanes.{IsLaneCount}
 use Rattle.aegis_pages.specs.Headers.{IsHeader, IsNewest, KeepsNewest, WritesHeader, sector_place}
 use Rattle.aegis_pages.specs.SealedPages.{ArePages, Holds, IsPage, IsSealed, KeepsFront, KeepsOthers, KeepsPage, KeepsPages, OnKnown, Stands, WritesText}
 use Rattle.aegis_pages.proofs.Heading.{first_headers, header_same, newest_same, next_header, old_header, one_newest, sector_within, sectors_long}
 use Rattle.aegis_pages.proofs.Known.{keeps_same, on_both, on_map, on_same, on_torn}
-use Rattle.aegis_pages.proofs.Overwriting.{cut_part, kept_part, length-overwritten, length-part, length-resized, part_byte, put_part, resized_byte}
+use Rattle.aegis_storage.proofs.Overwriting.{cut_part, kept_part, length-overwritten, length-part, length-resized, part_byte, put_part, resized_byte}
 use Rattle.aegis_pages.proofs.Rewriting.{keeps_both, places_apart}
 
 pub stands_use : (layout : Layout) (counter len : ℕ) (o : Option (List ℕ)) (text : List ℕ) (P : List ℕ → Type 0) → IfSome o P → Stands layout counter len o text

@@ -2,7 +2,7 @@
 use Rattle.std.specs.Prelude.{◌≡◌, ℕ, ◌*◌, ◌%◌, ◌^◌, ◌<◌, ◌≤◌, List, ◌++◌, length, take}
 use Rattle.std.specs.Int.{to_le_bytes, w64}
 use Rattle.aegis_pages.specs.declared.layout.TheConstants.{HEADER_NUMBER, MAX_TEXT_BYTES}
-use Rattle.aegis_pages.specs.Bytes.{overwritten, part_at}
+use Rattle.aegis_storage.specs.Bytes.{overwritten, part_at}
 use Rattle.aegis_pages.specs.Layouts.{IsPageSize, Layout, OpensAt, box_bytes, clear_part}
 
 -- the text of a header's box: how many headers were written before, and the length of the file's text

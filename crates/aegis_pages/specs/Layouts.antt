@@ -4,7 +4,7 @@ use Rattle.std.specs.Int.{to_le_bytes, w32, w64}
 use Rattle.aegis_base.specs.Variant.{Variant, key_length}
 use Rattle.aegis_base.specs.Message.{Opens}
 use Rattle.aegis_pages.specs.declared.layout.TheConstants.{MAGIC, MAX_PAGE_BYTES, MIN_PAGE_BYTES}
-use Rattle.aegis_pages.specs.Bytes.{part_at}
+use Rattle.aegis_storage.specs.Bytes.{part_at}
 
 -- what all boxes of a file are sealed under
 pub record Layout : Type 0 where

@@ -1,4 +1,3 @@
-pub mod Bytes
 pub mod Errors
 pub mod Headers
 pub mod Layouts

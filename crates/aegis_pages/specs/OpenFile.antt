@@ -1,7 +1,7 @@
 -- A file that is open.
 use Rattle.std.specs.Prelude.{◌≡◌, ℕ, ◌+◌, ◌-◌, ◌<◌, List, Option, min, slice_index, take, IfSome}
 use Rattle.std.specs.Io.KnownBytes.{Keeps}
-use Rattle.aegis_pages.specs.Bytes.{part_at}
+use Rattle.aegis_storage.specs.Bytes.{part_at}
 use Rattle.aegis_pages.specs.Layouts.{Layout}
 use Rattle.aegis_pages.specs.SealedPages.{IsByte, Stands}
 

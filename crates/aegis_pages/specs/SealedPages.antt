@@ -1,7 +1,7 @@
 -- A text in sealed pages.
 use Rattle.std.specs.Prelude.{◌≡◌, ℕ, ◌+◌, ◌*◌, ◌/◌, ◌%◌, ◌<◌, ◌≤◌, ◌⊎◌, List, Option, None, Some, ⊤, length, slice_index}
 use Rattle.aegis_base.specs.Variant.{Variant}
-use Rattle.aegis_pages.specs.Bytes.{overwritten}
+use Rattle.aegis_storage.specs.Bytes.{overwritten}
 use Rattle.aegis_pages.specs.Headers.{IsNewest, KeepsSectors}
 use Rattle.aegis_pages.specs.Layouts.{Layout, OpensAt, box_bytes, page_at}
 

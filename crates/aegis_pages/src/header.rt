@@ -4,14 +4,13 @@ ghost use Rattle.std.specs.Prelude.{◌≡◌, ◌+◌, ◌%◌, ◌<◌, ◌≤
 ghost use Rattle.std.specs.Int.{to_le_bytes, w64};
 ghost use Rattle.std.specs.Io.KnownBytes.{Keeps};
 ghost use Rattle.aegis_base.specs.Variant.{key_length};
-ghost use Rattle.aegis_pages.specs.Bytes.{TearsAt};
+ghost use Rattle.aegis_storage.specs.Bytes.{TearsAt};
 ghost use Rattle.aegis_pages.specs.Errors.{IsOpenRefusal, IsWriteError};
 ghost use Rattle.aegis_pages.specs.Headers.{IsNewest, IsSector, WritesHeader, header_text, sector_place};
 ghost use Rattle.aegis_pages.specs.Layouts.{IsPageSize, Layout, OpensAt, box_bytes, nonce_bytes};
 ghost use Rattle.aegis_pages.specs.Reading.{IsNewer, layout_of};
 ghost use Rattle.aegis_pages.specs.SealedPages.{OnKnown};
 
-use crate::bytes::put;
 use crate::draws::Nonces;
 use crate::error::PagesError;
 use crate::layout::{
@@ -19,8 +18,9 @@ use crate::layout::{
     TAG_BYTES,
 };
 use crate::page::{open_box, seal_box};
-use crate::store::Storage;
 use aegis_base::{LaneState, Names};
+use aegis_storage::Storage;
+use aegis_storage::bytes::put;
 
 /// What a header names.
 #[derive(Clone, Copy)]

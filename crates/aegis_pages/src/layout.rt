@@ -4,10 +4,10 @@ ghost use Rattle.std.specs.Prelude.{◌≡◌, ◌+◌, ◌*◌, ◌≤◌, ◌�
 ghost use Rattle.aegis_base.specs.Variant.{key_length};
 ghost use Rattle.aegis_pages.specs.Layouts.{IsPageSize, Layout, associated_data, box_bytes, clear_part, nonce_bytes, page_place, variant_byte};
 
-use crate::bytes::put;
 use aegis_aes::Row;
 use aegis_base::{LaneState, Names};
 use aegis_engine::Cipher;
+use aegis_storage::bytes::put;
 use std::marker::{Model, PhantomData};
 
 /// The least page size, in bytes of text.

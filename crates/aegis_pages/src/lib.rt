@@ -12,7 +12,6 @@
 //! aliases of it.
 #![tactic(auto)]
 
-mod bytes;
 mod draws;
 mod error;
 mod header;
@@ -21,14 +20,12 @@ mod layout;
 mod page;
 mod pages;
 mod range;
-mod store;
 mod variants;
 
 pub use draws::Nonces;
 pub use error::PagesError;
 pub use layout::{DEFAULT_PAGE_BYTES, MAX_PAGE_BYTES, MAX_TEXT_BYTES, MIN_PAGE_BYTES};
 pub use pages::Pages;
-pub use store::{MAX_STORAGE_BYTES, Storage};
 pub use variants::{
     SealedPages, SealedPages128L, SealedPages128X2, SealedPages128X4, SealedPages256X2,
     SealedPages256X4,

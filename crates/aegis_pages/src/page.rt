@@ -4,15 +4,15 @@
 
 ghost use Rattle.std.specs.Prelude.{◌≡◌, ◌+◌, ◌*◌, ◌-◌, ◌≤◌, ◌⊎◌, ◌^◌, IfErr, IfSome, List, OnErr, OnOk, length, true, ℕ};
 ghost use Rattle.std.specs.Io.KnownBytes.{Keeps};
-ghost use Rattle.aegis_pages.specs.Bytes.{TearsAt, WritesAt};
+ghost use Rattle.aegis_storage.specs.Bytes.{TearsAt, WritesAt};
 ghost use Rattle.aegis_pages.specs.Layouts.{OpensAt, box_bytes, inner, page_at, page_place};
 ghost use Rattle.aegis_pages.specs.Errors.{IsReadError, IsWriteError};
 
 use crate::draws::Nonces;
 use crate::error::PagesError;
 use crate::layout::{FileLayout, MAX_TEXT_BYTES, TAG_BYTES};
-use crate::store::Storage;
 use aegis_base::{LaneState, Names};
+use aegis_storage::Storage;
 
 /// Seals a box in place: its text stands where the ciphertext is to be.
 pub fn seal_box<L: LaneState, V: Names, const KEY_BYTES: usize>(

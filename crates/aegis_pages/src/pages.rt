@@ -3,7 +3,7 @@
 ghost use Rattle.std.specs.Prelude.{◌≡◌, ◌+◌, ◌-◌, ◌<◌, ◌≤◌, ◌⊎◌, ◌^◌, ◌↔◌, [], Err, IfErr, IfOk, IfSome, IsTrue, List, OnErr, OnOk, if◌then◌else◌, is_ok, length, max, min, replicate, true, ℕ};
 ghost use Rattle.std.specs.Io.KnownBytes.{Keeps};
 ghost use Rattle.aegis_base.specs.Variant.{key_length};
-ghost use Rattle.aegis_pages.specs.Bytes.{overwritten, part_at, resized};
+ghost use Rattle.aegis_storage.specs.Bytes.{overwritten, part_at, resized};
 ghost use Rattle.aegis_pages.specs.Errors.{IsCreateRefusal, IsOpenRefusal, IsReadRefusal, IsWriteRefusal};
 ghost use Rattle.aegis_pages.specs.Headers.{IsNewest, KeepsNewest};
 ghost use Rattle.aegis_pages.specs.Layouts.{IsPageSize};
@@ -15,8 +15,8 @@ use crate::error::PagesError;
 use crate::header::{read_newest, write_header};
 use crate::layout::{FileLayout, MAX_TEXT_BYTES, TAG_BYTES, is_page_size};
 use crate::range::{read_range, write_range};
-use crate::store::Storage;
 use aegis_base::{LaneState, Names};
+use aegis_storage::Storage;
 use std::alloc::{AllocError, Allocator};
 use std::marker::Model;
 

@@ -2,18 +2,18 @@
 
 ghost use Rattle.std.specs.Prelude.{◌≡◌, ◌+◌, ◌*◌, ◌-◌, ◌<◌, ◌≤◌, ◌⊎◌, ◌^◌, min, IfErr, IfSome, List, OnOk, length, slice_index, ℕ};
 ghost use Rattle.std.specs.Io.KnownBytes.{Keeps};
-ghost use Rattle.aegis_pages.specs.Bytes.{overwritten};
+ghost use Rattle.aegis_storage.specs.Bytes.{overwritten};
 ghost use Rattle.aegis_pages.specs.Errors.{IsRangeRefusal, IsReadError, IsReadRefusal};
 ghost use Rattle.aegis_pages.specs.Layouts.{OpensAt, box_bytes, inner, page_at};
 ghost use Rattle.aegis_pages.specs.SealedPages.{ArePages, IsByte, IsPage, KeepsOthers, OnKnown, WritesText};
 
-use crate::bytes::{clear_from, put};
 use crate::draws::Nonces;
 use crate::error::PagesError;
 use crate::layout::{FileLayout, MAX_TEXT_BYTES};
 use crate::page::{read_page, write_page};
-use crate::store::Storage;
 use aegis_base::{LaneState, Names};
+use aegis_storage::Storage;
+use aegis_storage::bytes::{clear_from, put};
 
 /// Reads the bytes of the text from `at` on until `out` is full.
 pub fn read_range<S: Storage, L: LaneState, V: Names, const KEY_BYTES: usize>(

@@ -1,6 +1,6 @@
 -- Bytes that are overwritten.
 use Rattle.std.proofs.Common.{◌≡◌, ℕ, ◌+◌, ◌-◌, ◌<◌, ◌≤◌, ◌⊎◌, inl, inr, List, ◌++◌, drop, get_or, length, replicate, take, refl, sym, ap, ◌∙◌, arith, min}
-use Rattle.std.proofs.lemmas.List.{append-nil, append_assoc, ext_get_or, drop_at, get_or-append_right, get_or-drop, get_or-take, get_or_append_left, get_or_past, length-append, length-drop, length-replicate, length-take, places, take_at}
+use Rattle.std.proofs.lemmas.List.{append-nil, append_assoc, ext_get_or, drop_all, drop_at, get_or-append_right, get_or-drop, get_or-take, get_or_append_left, get_or_past, length-append, length-drop, length-replicate, length-take, places, take_at}
 use Rattle.std.proofs.lemmas.Bool.{cases_lt}
 use Rattle.aegis_storage.specs.Bytes.{overwritten, part_at, resized}
 
@@ -43,6 +43,55 @@ overwritten_resized xs at bs short =
     let long = length-overwritten (resized xs (at + length bs)) at bs in
     let same = length-resized xs (at + length bs) in
     ext_get_or 0 _ _ (omega (arith, long, length-overwritten xs at bs, same)) (λ k h. longer_byte xs at bs k (omega (arith, h, long, same)) (cases_lt k at))
+
+-- ---- parts
+
+pub length-part : (xs : List ℕ) (a n : ℕ) → length (part_at xs a n) ≡ min n (length xs - a)
+length-part xs a n = length-take n (drop a xs) ∙ ap (min n) (length-drop a xs)
+
+pub part_byte : (xs : List ℕ) (a n i : ℕ) → i < n → get_or (part_at xs a n) i 0 ≡ get_or xs (a + i) 0
+part_byte xs a n i low = get_or-take n (drop a xs) i 0 low ∙ get_or-drop a xs i 0
+
+-- bytes that the part does not touch
+kept_byte : (xs : List ℕ) (at : ℕ) (bs : List ℕ) (a n i : ℕ) → (a + n ≤ at) ⊎ (at + length bs ≤ a) → i < n → get_or (overwritten xs at bs) (a + i) 0 ≡ get_or xs (a + i) 0
+kept_byte xs at bs a n i (inl below) low = before_part xs at bs (a + i) (omega arith)
+kept_byte xs at bs a n i (inr above) low = after_part xs at bs (a + i) (omega arith)
+
+pub kept_part : (xs : List ℕ) (at : ℕ) (bs : List ℕ) (a n : ℕ) → (a + n ≤ at) ⊎ (at + length bs ≤ a) → length (part_at xs a n) ≡ n → part_at (overwritten xs at bs) a n ≡ part_at xs a n
+kept_part xs at bs a n apart whole =
+    let long : length (part_at (overwritten xs at bs) a n) ≡ n =
+    omega (arith, whole, length-part xs a n, length-part (overwritten xs at bs) a n, length-overwritten xs at bs) in
+    ext_get_or 0 _ _ (long ∙ sym whole)
+    (λ i h. let low : i < n = omega (arith, h, long) in part_byte (overwritten xs at bs) a n i low ∙ kept_byte xs at bs a n i apart low ∙ sym (part_byte xs a n i low))
+
+-- the part itself
+pub put_part : (xs : List ℕ) (at : ℕ) (bs : List ℕ) → part_at (overwritten xs at bs) at (length bs) ≡ bs
+put_part xs at bs =
+    ap (take (length bs)) (drop_at (resized xs at) (bs ++ drop (at + length bs) xs) at (length-resized xs at)) ∙ take_at bs (drop (at + length bs) xs) (length bs) refl
+
+-- a part of bytes that were cut off after it
+pub cut_part : (xs : List ℕ) (size a n : ℕ) → a + n ≤ size → length (part_at xs a n) ≡ n → part_at (resized xs size) a n ≡ part_at xs a n
+cut_part xs size a n below whole =
+    let long : length (part_at (resized xs size) a n) ≡ n = omega (arith, length-part (resized xs size) a n, length-resized xs size) in
+    ext_get_or 0 _ _ (long ∙ sym whole)
+    (λ i h. let low : i < n = omega (arith, h, long) in part_byte (resized xs size) a n i low ∙ resized_byte xs size (a + i) (omega arith) ∙ sym (part_byte xs a n i low))
+
+-- ---- a front that is filled
+
+pub filled_front : (xs : List ℕ) (done bs : List ℕ) (at : ℕ) → take at xs ≡ done → length done ≡ at → take (at + length bs) (overwritten xs at bs) ≡ done ++ bs
+filled_front xs done bs at is long =
+    let full : at ≤ length xs = omega (arith, long, ap length is, length-take at xs) in
+    let none : at - length xs ≡ 0 = omega (arith, full) in
+    let front : resized xs at ≡ done = ap (λ (n : ℕ). take at xs ++ replicate n 0) none ∙ append-nil (take at xs) ∙ is in
+    ap (λ (l : List ℕ). take (at + length bs) (l ++ (bs ++ drop (at + length bs) xs))) front
+    ∙ ap (take (at + length bs)) (sym (append_assoc done bs (drop (at + length bs) xs)))
+    ∙ take_at (done ++ bs) (drop (at + length bs) xs) (at + length bs) (omega (arith, long, length-append done bs))
+
+pub overwritten_whole : (text part : List ℕ) → length text ≤ length part → overwritten text 0 part ≡ part
+overwritten_whole text part short =
+    let none : 0 - length text ≡ 0 = omega arith in
+    ap (λ (n : ℕ). replicate n 0 ++ (part ++ drop (0 + length part) text)) none
+    ∙ ap (λ (l : List ℕ). part ++ l) (drop_all (0 + length part) text (omega (arith, short))) ∙ append-nil part
 
 -- ---- parts
 

@@ -2,7 +2,7 @@
 #![tactic(auto)]
 
 mod atomic;
-mod bytes;
+pub mod bytes;
 mod calls;
 mod journal;
 pub mod laws;

@@ -1,7 +1,8 @@
 //! Storages and memory that fail.
 
 use crate::random::{Counter, ID, KEY};
-use aegis_pages::{PagesError, SealedPages, Storage};
+use aegis_pages::{PagesError, SealedPages};
+use aegis_storage::Storage;
 use std::alloc::Global;
 use std::io;
 use std::io::ErrorKind;

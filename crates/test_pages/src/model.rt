@@ -5,7 +5,8 @@ ghost use Rattle.aegis_base.specs.Variant.{key_length};
 
 use crate::random::{Counter, ID, Random, copy, part_mut};
 use aegis_base::{LaneState, Names};
-use aegis_pages::{Pages, Storage};
+use aegis_pages::Pages;
+use aegis_storage::Storage;
 use std::alloc::Global;
 
 // What is counted.

@@ -1,5 +1,5 @@
 use Rattle.std.proofs.Common.{◌≡◌, ◌+◌, ◌<◌, ◌^◌, ◌∙◌, ap, arith, length, refl, replicate, sym}
-use Rattle.aegis_pages.specs.Bytes.{overwritten}
+use Rattle.aegis_storage.specs.Bytes.{overwritten}
 use Rattle.aegis_pages.proofs.Heading.{made_sector}
 use Rattle.aegis_pages.proofs.header.header_sector.Goals as goal
 

@@ -1,5 +1,5 @@
 use Rattle.std.proofs.Common.{◌≡◌, Some, arith, length}
-use Rattle.aegis_pages.specs.Bytes.{part_at}
+use Rattle.aegis_storage.specs.Bytes.{part_at}
 use Rattle.aegis_pages.proofs.Known.{kept_known, known_map}
 use Rattle.aegis_pages.proofs.Newest.{newest_read, none_read, reads_both}
 use Rattle.aegis_pages.proofs.header.read_newest.Goals as goal

@@ -1,5 +1,5 @@
 use Rattle.std.proofs.Common.{arith}
-use Rattle.aegis_pages.proofs.Overwriting.{kept_part, length-part}
+use Rattle.aegis_storage.proofs.Overwriting.{kept_part, length-part}
 use Rattle.aegis_pages.proofs.laws.others_are_kept.Goals as goal
 
 pub returns : goal.returns

@@ -1,4 +1,4 @@
-use Rattle.aegis_pages.proofs.Overwriting.{put_part}
+use Rattle.aegis_storage.proofs.Overwriting.{put_part}
 use Rattle.aegis_pages.proofs.laws.written_is_read.Goals as goal
 
 pub returns : goal.returns

@@ -1,6 +1,6 @@
 use Rattle.std.proofs.Common.{◌≡◌, ℕ, ◌+◌, ◌-◌, ◌*◌, ◌<◌, ◌∙◌, IfSome, List, ap, arith, drop, get_or, length, sym, take}
 use Rattle.std.proofs.lemmas.List.{length-drop, length-take}
-use Rattle.aegis_pages.specs.Bytes.{overwritten}
+use Rattle.aegis_storage.specs.Bytes.{overwritten}
 use Rattle.aegis_pages.specs.Layouts.{box_bytes, page_at}
 use Rattle.aegis_pages.specs.SealedPages.{IsPage}
 use Rattle.aegis_pages.proofs.Composing.{inner_put, lies_so, live_at}

@@ -1,6 +1,6 @@
 use Rattle.std.proofs.Common.{◌≡◌, ◌+◌, ◌-◌, ◌%◌, ◌<◌, ◌≤◌, ◌∙◌, ℕ, ap, arith, drop, length, refl, take}
 use Rattle.std.proofs.lemmas.Nat.{mod_below}
-use Rattle.aegis_pages.specs.Bytes.{overwritten}
+use Rattle.aegis_storage.specs.Bytes.{overwritten}
 use Rattle.aegis_pages.proofs.Known.{keeps_trans, kept_known, known_map2}
 use Rattle.aegis_pages.proofs.Ranging.{Puts, bytes_more, text_more}
 use Rattle.aegis_pages.proofs.range.read_range.Given.{Over}

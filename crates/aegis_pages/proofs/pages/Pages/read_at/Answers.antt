@@ -1,6 +1,6 @@
 use Rattle.std.proofs.Common.{◌≡◌, ◌+◌, ◌<◌, ◌≤◌, ◌∙◌, ℕ, List, ◌++◌, ap, arith, drop, length, subst, sym, take}
 use Rattle.std.proofs.lemmas.List.{get_or_append_left, length-append, length-drop, length-take, take_all, take_at}
-use Rattle.aegis_pages.specs.Bytes.{overwritten, part_at}
+use Rattle.aegis_storage.specs.Bytes.{overwritten, part_at}
 use Rattle.aegis_pages.specs.SealedPages.{IsByte, Stands}
 use Rattle.aegis_pages.proofs.Known.{known_map, refusal_within}
 use Rattle.aegis_pages.proofs.Standing.{read_so, stands_len, stands_use, written_none, written_read}
