@@ -297,15 +297,13 @@ impl<
 
     /// Cuts the text off at `len` bytes, or fills it up to `len` with zeros, as [`Pages::write_at`] fills a gap.
     ///
-    /// The errors are those of `write_at`. [`PagesError::Write`] is also returned if the text has the new length and
-    /// the storage could not be cut. The bytes past the new end that are in its page stay in the storage, sealed.
+    /// The errors, and what they leave, are those of `write_at`. A shorter text takes one header: the storage keeps its size,
+    /// and the bytes past the new end stay in it, sealed.
     pub fn set_len(&mut self, len: u64) -> Result<(), PagesError>
         ensures layout { self.new.layout ≡ self.old.layout }
-        ensures len { OnOk result (self.new.len ≡ len) }
+        ensures len { self.new.len ≡ (if is_ok result then len else self.old.len) }
         ensures resized { OnOk result ((text : List ℕ) → HasText self.old text
             → HasText self.new (resized text len)) }
-        ensures failed { OnErr result ((self.new.len ≡ self.old.len) ⊎ ((text : List ℕ)
-            → HasText self.old text → HasText self.new (resized text len))) }
         ensures others { OnKnown self.old.bytes self.new.bytes
             (KeepsFront self.old.layout (min len self.old.len)) }
         ensures header { OnKnown self.old.bytes self.new.bytes
@@ -326,11 +324,6 @@ impl<
         )?;
         self.counter = counter;
         self.len = len;
-        let page_bytes = self.layout.page_bytes() as u64;
-        let pages = (len + (page_bytes - 1)) / page_bytes;
-        if let Err(error) = self.storage.set_size(self.layout.page_place(pages)) {
-            return Err(PagesError::Write(error));
-        }
         Ok(())
     }
 

@@ -25,54 +25,16 @@ pub returns-in_err-write_header-clause-header : goal.returns-in_err-write_header
 returns-in_err-write_header-clause-header g c = rw (← c.self.view_is)
     (stays_torn _ _ _ _ _ _ _ c.in_ok-counter.ensures.counter (stays_same _ _ _ _) c.in_err-write_header.ensures.torn)
 
-pub returns-in-Err-clause-failed : goal.returns-in-Err-clause-failed
-returns-in-Err-clause-failed g c = rw (← c.self.view_is) (inr (λ text stands.
-    stands_kept c.self.inside.layout c.in_ok-counter.counter c.args.len _ _ _ c.in-Err.ensures.kept
-    (shrunk_next c.self.inside.layout c.self.inside.counter c.in_ok-counter.counter c.self.inside.len c.args.len _ _ text c.in_ok-counter.ensures.counter c.self.invariant.2
-    c.in_ok-write_header.ensures.written c.if-len-self.false stands)))
-
-pub returns-in-Err-clause-others : goal.returns-in-Err-clause-others
-returns-in-Err-clause-others g c = rw (← c.self.view_is)
-    (on_kept _ _ _ (KeepsFront c.self.inside.layout (min c.args.len c.self.inside.len))
-    (front_header c.self.inside.layout c.in_ok-counter.counter c.args.len (min c.args.len c.self.inside.len) _ _ c.in_ok-write_header.ensures.written) c.in-Err.ensures.kept)
-
-pub returns-in-Err-clause-header : goal.returns-in-Err-clause-header
-returns-in-Err-clause-header g c = rw (← c.self.view_is)
-    (on_kept _ _ _ (KeepsNewest c.self.inside.layout c.self.inside.counter c.self.inside.len)
-    (stays_written c.self.inside.layout c.self.inside.counter c.in_ok-counter.counter c.self.inside.len c.args.len _ _ _ c.in_ok-counter.ensures.counter (stays_same _ _ _ _)
-    c.in_ok-write_header.ensures.written) c.in-Err.ensures.kept)
-
--- how many pages are left of a shorter text
-left : (layout : Layout) (len p : ℕ) → 256 ≤ p → p ≡ layout.page_bytes → Left layout.page_bytes len ((len + (p - 1)) / p)
-left layout len p some value = record { some = omega (arith, some, value); pages_is = ap (λ (q : ℕ). (len + (q - 1)) / q) value }
-
--- the storage is cut off after them
-room : (layout : Layout) (len p size : ℕ) → 256 ≤ p → p ≡ layout.page_bytes → size ≡ page_place layout ((len + (p - 1)) / p) → (k : ℕ) → k * layout.page_bytes < len
-    → page_place layout k + box_bytes layout layout.page_bytes ≤ size
-room layout len p size some value is k low =
-    subst (λ (s : ℕ). page_place layout k + box_bytes layout layout.page_bytes ≤ s) (sym is) (left_room layout len ((len + (p - 1)) / p) (left layout len p some value) k low)
-
 pub returns-clause-resized : goal.returns-clause-resized
 returns-clause-resized g c = rw (← c.self.view_is) (λ text stands.
-    let head : 1024 ≤ c.page_place.result = omega (arith, c.page_place.ensures.place) in
-    cut_off c.self.inside.layout c.in_ok-counter.counter c.args.len c.page_place.result _ _ _ c.in_default.ensures.resized head
-    (room c.self.inside.layout c.args.len c.page_bytes-page_bytes.result c.page_place.result c.page_bytes-page_bytes.ensures.size.0 c.page_bytes-page_bytes.ensures.value c.page_place.ensures.place)
-    (shrunk_next c.self.inside.layout c.self.inside.counter c.in_ok-counter.counter c.self.inside.len c.args.len _ _ text c.in_ok-counter.ensures.counter c.self.invariant.2
-    c.in_ok-write_header.ensures.written c.if-len-self.false stands))
+    shrunk_next c.self.inside.layout c.self.inside.counter c.in_ok-counter.counter c.self.inside.len c.args.len _ _ text c.in_ok-counter.ensures.counter c.self.invariant.2
+    c.in_ok-write_header.ensures.written c.if-len-self.false stands)
 
 pub returns-clause-others : goal.returns-clause-others
-returns-clause-others g c =
-    let some = c.page_bytes-page_bytes.ensures.size.0 in
-    let value = c.page_bytes-page_bytes.ensures.value in
-    rw (← c.self.view_is)
-    (front_cut c.self.inside.layout (min c.args.len c.self.inside.len) c.page_place.result _ _ _
-    (front_header c.self.inside.layout c.in_ok-counter.counter c.args.len (min c.args.len c.self.inside.len) _ _ c.in_ok-write_header.ensures.written) c.in_default.ensures.resized
-    (λ k before. room c.self.inside.layout c.args.len c.page_bytes-page_bytes.result c.page_place.result some value c.page_place.ensures.place k (omega (arith, before, some, value))))
+returns-clause-others g c = rw (← c.self.view_is)
+    (front_header c.self.inside.layout c.in_ok-counter.counter c.args.len (min c.args.len c.self.inside.len) _ _ c.in_ok-write_header.ensures.written)
 
 pub returns-clause-header : goal.returns-clause-header
-returns-clause-header g c =
-    let head : 1024 ≤ c.page_place.result = omega (arith, c.page_place.ensures.place) in
-    rw (← c.self.view_is)
-    (stays_cut c.self.inside.layout c.self.inside.counter c.self.inside.len c.page_place.result _ _ _
+returns-clause-header g c = rw (← c.self.view_is)
     (stays_written c.self.inside.layout c.self.inside.counter c.in_ok-counter.counter c.self.inside.len c.args.len _ _ _ c.in_ok-counter.ensures.counter (stays_same _ _ _ _)
-    c.in_ok-write_header.ensures.written) c.in_default.ensures.resized head)
+    c.in_ok-write_header.ensures.written)
