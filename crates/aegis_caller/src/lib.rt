@@ -3,6 +3,7 @@
 #![tactic(auto)]
 
 pub mod any_variant;
+pub mod both_or_none;
 pub mod chunks;
 pub mod encrypted_file;
 pub mod headline;

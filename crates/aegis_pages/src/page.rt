@@ -73,9 +73,11 @@ pub fn read_page<S: Storage, L: LaneState, V: Names, const KEY_BYTES: usize>(
     requires within { number * layout.now.page_bytes ≤ MAX_TEXT_BYTES }
     ensures kept { Keeps (S.bytes storage.old) (S.bytes storage.new) }
     ensures opened { OnOk result (IfSome (S.bytes storage.old)
-        (λ file. OpensAt layout.now number (page_at layout.now file number) (inner layout.now page.new))) }
+        (λ file. OpensAt layout.now number (page_at layout.now file number)
+        (inner layout.now page.new))) }
     ensures only { OnOk result (IfSome (S.bytes storage.old) (λ file. (m : List ℕ)
-        → OpensAt layout.now number (page_at layout.now file number) m → inner layout.now page.new ≡ m)) }
+        → OpensAt layout.now number (page_at layout.now file number) m
+        → inner layout.now page.new ≡ m)) }
     ensures refused { IfErr result (λ e. IsReadError e ⊎ ((e ≡ PagesError.Damaged number)
         × IfSome (S.bytes storage.old) (λ file. (m : List ℕ)
         → OpensAt layout.now number (page_at layout.now file number) m → ⊥))) }

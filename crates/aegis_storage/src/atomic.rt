@@ -1,8 +1,8 @@
 //! Writes that are all there after a crash, or none of them.
 
 ghost use Rattle.std.specs.Prelude.{◌≤◌, List, OnOk, length, ℕ};
-ghost use Rattle.aegis_storage.specs.Disk.{WritesAll, written};
-ghost use Rattle.aegis_storage.specs.Journal.{IsAtRest, Recovers};
+ghost use Rattle.aegis_storage.specs.Disk.{WritesAll};
+ghost use Rattle.aegis_storage.specs.Journal.{IsAtRest, Recovers, RestsWritten};
 ghost use Rattle.aegis_storage.specs.Pending.{writes_of};
 
 use crate::calls::{empty, write_and_sync};
@@ -14,7 +14,18 @@ use aegis::record::MAX_CONTEXT_BYTES;
 use std::alloc::Allocator;
 use std::io;
 
-/// Makes the writes, the first of them first, so that after a crash [`recover`] leaves all of them or none.
+/// Makes the writes, the first of them first, so that after a crash [`crate::recover`] makes all of them or none.
+///
+/// The storage and the journal must be at rest: all that they hold is synced, and the journal is empty, as `commit` and
+/// `recover` leave them with `Ok`. The writes are sealed into the journal, which is synced, then made and synced, and then the
+/// journal is emptied and synced. With no writes nothing is called.
+///
+/// Under one key a prefix must be used for one journal only. The context names the storage; it has at most
+/// [`MAX_CONTEXT_BYTES`].
+///
+/// After an error, call `recover` before anything else. The error is that of a call, or `InvalidInput` if a write has more
+/// than [`aegis::record::MAX_MESSAGE_BYTES`] less 8 bytes or the journal would be longer than a record stream may be, or
+/// `OutOfMemory`. Memory is taken for a journal three times over.
 pub fn commit<S: Storage, J: Storage, A: Allocator + Copy>(
     alloc: A,
     storage: &mut S,
@@ -32,8 +43,7 @@ pub fn commit<S: Storage, J: Storage, A: Allocator + Copy>(
         (S.disk storage.new) (J.disk journal.new) }
     ensures at_rest { OnOk result ((xs : List ℕ)
         → IsAtRest (S.disk storage.old) (J.disk journal.old) xs
-        → IsAtRest (S.disk storage.new) (J.disk journal.new)
-        (written (writes_of writes.now) xs)) }
+        → RestsWritten (S.disk storage.new) (J.disk journal.new) xs (writes_of writes.now)) }
 {
     if writes.is_empty() {
         return Ok(());

@@ -29,7 +29,8 @@ fn message_of<A: Allocator + Copy>(
     alloc: A,
     write: &PendingWrite<A>,
 ) -> Result<Vec<u8, A>, AllocError>
-    ensures { IfOk result (λ made. made.items ≡ place_and_bytes (write.now.place, write.now.bytes.items)) }
+    ensures { IfOk result
+        (λ made. made.items ≡ place_and_bytes (write.now.place, write.now.bytes.items)) }
 {
     let mut message = Vec::new(alloc);
     message.extend_from_slice(&write.place.to_le_bytes())?;

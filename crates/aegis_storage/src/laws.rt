@@ -1,7 +1,7 @@
 //! Laws of storages that crash: functions that do nothing, and whose contracts are facts about the definitions that the other
 //! contracts cite.
 
-ghost use Rattle.std.specs.Prelude.{◌≡◌, [], List, Option, Some, ℕ};
+ghost use Rattle.std.specs.Prelude.{◌≡◌, List, Option, Some, ℕ};
 ghost use Rattle.aegis_storage.specs.Disk.{AreParts, Change, Crashed, Disk, Writes, applied, certain, changes, written};
 ghost use Rattle.aegis_storage.specs.Journal.{IsAtRest, Recovers};
 
@@ -19,8 +19,8 @@ pub fn certain_bytes()
 
 /// Of a storage and a journal at rest, recovery gives what the storage holds.
 pub fn recovers_at_rest()
-    ensures { (key context xs : List ℕ) (storage journal : Option Disk)
-        → IsAtRest storage journal xs → Recovers key context xs [] storage journal }
+    ensures { (key context xs : List ℕ) (writes : Writes) (storage journal : Option Disk)
+        → IsAtRest storage journal xs → Recovers key context xs writes storage journal }
 {}
 
 /// What recovers before a crash does so after it.

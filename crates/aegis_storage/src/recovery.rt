@@ -36,7 +36,14 @@ fn redo<S: Storage, A: Allocator + Copy>(
     }
 }
 
-/// Makes the writes of a commit again that a crash cut short, or none of them.
+/// Completes a commit that a crash or an error cut short, or leaves out all of it. To be called whenever the storage is
+/// opened, and after an error of [`crate::commit`] or of this function.
+///
+/// If the journal is a whole one under this key and context, its writes are made again and synced. Any other journal, torn or
+/// of another storage, changes nothing. Then the journal is emptied and synced.
+///
+/// With `Ok` both are at rest. After an error, which is that of a call or `OutOfMemory`, nothing is lost: call it again. Memory
+/// is taken for the journal, whatever it holds, and for its writes.
 pub fn recover<S: Storage, J: Storage, A: Allocator + Copy>(
     alloc: A,
     storage: &mut S,
@@ -56,7 +63,7 @@ pub fn recover<S: Storage, J: Storage, A: Allocator + Copy>(
         → Recovers key.now context.now xs writes (S.disk storage.old) (J.disk journal.old)
         → RestsAtEither (S.disk storage.new) (J.disk journal.new) xs writes) }
 {
-    // What was written before may not be certain yet, if no power was lost.
+    // If no power was lost, what can be read may not be synced yet.
     storage.sync()?;
     journal.sync()?;
     let content = read_all(alloc, journal)?;

@@ -22,7 +22,8 @@ pub struct TestDisk {
 
 /// Makes one change.
 pub fn change(bytes: &mut Vec<u8>, change: &PendingChange) -> io::Result<()>
-    ensures { OnOk result (bytes.new.items ≡ applied (changes_of (change.now ∷ [])) bytes.old.items) }
+    ensures { OnOk result
+        (bytes.new.items ≡ applied (changes_of (change.now ∷ [])) bytes.old.items) }
 {
     match change {
         PendingChange::Write(write) => bytes.write_at(write.place, &write.bytes),

@@ -41,5 +41,5 @@ returns-clause-at_rest g c =
     on_ok_map c.empty.result
     (λ certainly xs rest.
     let kept = whole_journal c.deref.result.now _ _ _ _ _ (g.met.J.Storage.possible c.args.journal.now) rest.journal_is c.in_ok-write_at.ensures.written c.in_ok-write_at.ensures.pending c.in_ok-sync.ensures.certain in
-    record { storage_is = c.in_ok-write_and_sync.ensures.certain xs rest.storage_is; journal_is = certainly c.deref.result.now kept })
+    record { rests = record { storage_is = c.in_ok-write_and_sync.ensures.certain xs rest.storage_is; journal_is = certainly c.deref.result.now kept } })
     c.empty.ensures.certain
