@@ -28,6 +28,7 @@ pub record BeginsSealing (key prefix context : List ℕ) (old new : RecordState)
 pub record BeginsOpening (key prefix context : List ℕ) (old new : RecordState) (bytes : List ℕ) (answer : ℤ) : Type 0 where
   pub answered : answer ≢ WRONG_VARIANT → answer ≡ context_answer (length context) DONE
   pub known : (v : Version) → bytes ≡ header v → answer ≢ WRONG_VARIANT
+  pub unknown : ((v : Version) → bytes ≢ header v) → answer ≡ WRONG_VARIANT
   pub found : answer ≡ DONE → bytes ≡ header (version_of new.version)
   pub one : answer ≡ DONE → (v : Version) → bytes ≡ header v → version_of new.version ≡ v
   pub first : answer ≡ DONE → new ≡ first_of OPENING new.version key prefix

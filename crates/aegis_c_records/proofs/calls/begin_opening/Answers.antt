@@ -7,6 +7,7 @@ pub returns : goal.returns
 returns c = record {
   answered = search rules;
   known = search rules;
+  unknown = λ none. absurd (none _ c.in-Some.ensures.some);
   found = λ _. rw c.first.ensures c.in-Some.ensures.some;
   one = λ _. rw c.first.ensures c.in-Some.ensures.one;
   first = λ _. rw c.first.ensures refl;
