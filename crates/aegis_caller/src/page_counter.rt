@@ -4,7 +4,7 @@ ghost use Rattle.std.specs.Prelude.{◌≡◌, ◌+◌, ◌^◌, ◌<◌, ◌≤
 ghost use Rattle.std.specs.Int.{to_le_bytes, w64};
 ghost use Rattle.aegis_pages.specs.OpenFile.{HasText};
 
-use aegis_pages::laws::whole_is_written;
+use aegis_pages::laws::{unchanged_has_its_text, whole_is_written};
 use aegis_pages::{Nonces, PagesError, SealedPages};
 use aegis_storage::Storage;
 use std::alloc::Allocator;
@@ -20,6 +20,7 @@ pub fn count<S: Storage + Drop, N: Nonces + Drop, A: Allocator>(
     ensures written { IfOk result (λ next. (n : ℕ) → HasText pages.old (to_le_bytes w64 n)
         → HasText pages.new (to_le_bytes w64 next)) }
 {
+    unchanged_has_its_text();
     whole_is_written();
     let mut bytes = [0; 8];
     pages.read_at(0, &mut bytes)?;

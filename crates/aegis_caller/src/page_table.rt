@@ -1,6 +1,6 @@
 //! A table of rows of 64 bytes in a sealed file.
 
-ghost use Rattle.std.specs.Prelude.{◌≡◌, ◌+◌, ◌*◌, ◌<◌, ◌≤◌, ◌⊎◌, List, OnOk, ℕ};
+ghost use Rattle.std.specs.Prelude.{◌≡◌, ◌+◌, ◌*◌, ◌<◌, ◌≤◌, List, OnOk, length, ℕ};
 ghost use Rattle.aegis_storage.specs.Bytes.{overwritten, part_at};
 ghost use Rattle.aegis_pages.specs.OpenFile.{HasText};
 
@@ -22,7 +22,8 @@ pub fn write_row<S: Storage + Drop, N: Nonces + Drop, A: Allocator>(
     row: &[u8; 64],
 ) -> Result<(), PagesError>
     requires { k < MAX_ROWS }
-    ensures { OnOk result ((table : List ℕ) → HasText pages.old table
+    ensures len { OnOk result (pages.old.len ≤ pages.new.len) }
+    ensures written { OnOk result ((table : List ℕ) → HasText pages.old table
         → HasText pages.new (overwritten table (ROW_BYTES * k) row.now)) }
 {
     pages.write_at(ROW_BYTES * k, row)
@@ -41,7 +42,13 @@ pub fn written_and_read_row<S: Storage + Drop, N: Nonces + Drop, A: Allocator>(
     requires within { ROW_BYTES * j + ROW_BYTES ≤ pages.old.len }
     ensures same { OnOk result ((table : List ℕ) → HasText pages.old table → j ≡ k
         → out.new ≡ row.now) }
-    ensures others { OnOk result ((table : List ℕ) → HasText pages.old table → (j < k) ⊎ (k < j)
+    ensures read { OnOk result ((table : List ℕ) → HasText pages.old table
+        → out.new ≡ part_at (overwritten table (ROW_BYTES * k) row.now) (ROW_BYTES * j) ROW_BYTES) }
+    ensures before { OnOk result ((table : List ℕ) → HasText pages.old table → j < k
+        → ROW_BYTES * j + ROW_BYTES ≤ length table
+        → out.new ≡ part_at table (ROW_BYTES * j) ROW_BYTES) }
+    ensures after { OnOk result ((table : List ℕ) → HasText pages.old table → k < j
+        → ROW_BYTES * j + ROW_BYTES ≤ length table
         → out.new ≡ part_at table (ROW_BYTES * j) ROW_BYTES) }
 {
     others_are_kept();

@@ -11,10 +11,6 @@ use Rattle.aegis_storage.specs.Bytes.{overwritten}
 use Rattle.aegis_pages.specs.Layouts.{Layout, OpensAt, associated_data, inner, nonce_bytes}
 use Rattle.aegis_storage.proofs.Overwriting.{filled_front}
 
-pub key_length_most : (family : Family) → key_length family ≤ 32
-key_length_most Family128 = omega arith
-key_length_most Family256 = omega arith
-
 -- a box opens to one text
 pub opens_one : (layout : Layout) (number : ℕ) (sealed m n : List ℕ) → IsLaneCount layout.variant.lanes → OpensAt layout number sealed m → OpensAt layout number sealed n → m ≡ n
 opens_one layout number sealed m n count first second =

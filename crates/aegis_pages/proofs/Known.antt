@@ -86,10 +86,6 @@ on_torn (Some xs) (Some ys) (Some zs) (Some vs) P Q at n p k (inl same) f g = su
 on_torn (Some xs) (Some ys) (Some zs) (Some vs) P Q at n p k (inr torn) f g =
     subst (Q xs) (sym torn.2) (subst (λ (v : List ℕ). Q xs (overwritten v at torn.0)) (sym k) (g xs ys torn.0 p torn.1))
 
-pub tears_none : (a : Option (List ℕ)) (at n : ℕ) → TearsAt a a at n
-tears_none None at n = tt
-tears_none (Some xs) at n = inl refl
-
 -- reading a page failed
 pub refusal : (layout : Layout) (number end : ℕ) (o p : Option (List ℕ)) (e : PagesError) → Keeps o p → number * layout.page_bytes < end
     → IsReadError e ⊎ ((e ≡ Damaged number) × IfSome p (λ file. (m : List ℕ) → OpensAt layout number (page_at layout file number) m → ⊥))
@@ -138,27 +134,6 @@ range_write_error layout len o (Damaged k) is = absurd is
 range_write_error layout len o TooLong is = absurd is
 range_write_error layout len o OutOfMemory is = absurd is
 range_write_error layout len o PageSize is = absurd is
-
--- the errors of a write, from those of its range
-pub write_refusal : (file : OpenFile) (end : ℕ) (e : PagesError) → IsRangeRefusal file.layout file.len file.bytes e → IsWriteRefusal file end e
-write_refusal file end (Read e) is = tt
-write_refusal file end (Write e) is = tt
-write_refusal file end (Nonce e) is = tt
-write_refusal file end Header is = absurd is
-write_refusal file end (Damaged k) is = is
-write_refusal file end TooLong is = absurd is
-write_refusal file end OutOfMemory is = absurd is
-write_refusal file end PageSize is = absurd is
-
-pub create_refusal : (page_bytes : ℕ) (e : PagesError) → IsPageSize page_bytes → IsWriteError e → IsCreateRefusal page_bytes e
-create_refusal page_bytes (Read e) size is = absurd is
-create_refusal page_bytes (Write e) size is = size
-create_refusal page_bytes (Nonce e) size is = size
-create_refusal page_bytes Header size is = absurd is
-create_refusal page_bytes (Damaged k) size is = absurd is
-create_refusal page_bytes TooLong size is = absurd is
-create_refusal page_bytes OutOfMemory size is = absurd is
-create_refusal page_bytes PageSize size is = absurd is
 
 -- the same error, for a range that ends later
 pub refusal_within : (layout : Layout) (end most : ℕ) (o : Option (List ℕ)) (e : PagesError) → end ≤ most → IsReadRefusal layout end o e → IsReadRefusal layout most o e

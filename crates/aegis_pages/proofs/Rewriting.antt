@@ -16,13 +16,6 @@ pub record Rewrites (layout : Layout) (len at : ℕ) (part : List ℕ) (first nu
   pub written : (k : ℕ) → first ≤ k → k < number → (text : List ℕ) → length text ≡ len → ArePages layout text old
       → IsPage layout k (page_at layout new k) (overwritten text at part)
 
-pub rewrites_none : (layout : Layout) (len at : ℕ) (part : List ℕ) (first : ℕ) (old : List ℕ) → Rewrites layout len at part first first old old
-rewrites_none layout len at part first old = record {
-  sectors = λ whole. refl;
-  others = λ k apart whole. refl;
-  written = λ k from below. absurd (omega arith);
-}
-
 -- two pages lie apart
 pub places_apart : (layout : Layout) (j k : ℕ) → j < k → page_place layout j + box_bytes layout layout.page_bytes ≤ page_place layout k
 places_apart layout j k below =

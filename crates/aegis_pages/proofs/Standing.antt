@@ -1,17 +1,17 @@
 -- Files that stand for a text, from call to call.
-use Rattle.std.proofs.Common.{◌≡◌, ℕ, ◌+◌, ◌-◌, ◌*◌, ◌/◌, ◌%◌, ◌<◌, ◌≤◌, inl, inr, List, [], ◌++◌, Option, None, Some, IfSome, OnOk, Result, Ok, Err, get_or, length, min, take, refl, sym, ap, subst, ◌∙◌, arith}
+use Rattle.std.proofs.Common.{◌≡◌, ℕ, ◌+◌, ◌-◌, ◌*◌, ◌<◌, ◌≤◌, inl, inr, List, [], ◌++◌, Option, None, Some, IfSome, OnOk, Result, Ok, Err, get_or, length, min, take, refl, sym, ap, subst, ◌∙◌, arith}
 use Rattle.std.proofs.lemmas.List.{append-nil, drop_all, ext_get_or, nil_from_length, take_all}
-use Rattle.std.proofs.lemmas.Nat.{div-add-mod', le-div}
 use Rattle.std.specs.Io.KnownBytes.{Keeps}
 use Rattle.aegis_storage.specs.Bytes.{ResizesTo, TearsAt, overwritten, part_at, resized}
 use Rattle.aegis_pages.specs.Layouts.{Layout, box_bytes, page_at, page_place}
 use Rattle.aegis_aes.specs.Lanes.{IsLaneCount}
 use Rattle.aegis_pages.specs.Headers.{IsHeader, IsNewest, KeepsNewest, WritesHeader, sector_place}
+use Rattle.aegis_pages.specs.OpenFile.{HasText, IsUnchanged, OpenFile}
 use Rattle.aegis_pages.specs.SealedPages.{ArePages, Holds, IsPage, IsSealed, KeepsFront, KeepsOthers, KeepsPage, KeepsPages, OnKnown, Stands, WritesText}
 use Rattle.aegis_pages.proofs.Heading.{first_headers, header_same, newest_same, next_header, old_header, one_newest, sector_within, sectors_long}
 use Rattle.aegis_pages.proofs.Known.{keeps_same, on_both, on_map, on_same, on_torn}
-use Rattle.aegis_storage.proofs.Overwriting.{cut_part, kept_part, length-overwritten, length-part, length-resized, part_byte, put_part, resized_byte}
-use Rattle.aegis_pages.proofs.Rewriting.{keeps_both, places_apart}
+use Rattle.aegis_storage.proofs.Overwriting.{kept_part, length-overwritten, length-part, length-resized, part_byte, put_part, resized_byte}
+use Rattle.aegis_pages.proofs.Rewriting.{keeps_both}
 
 pub stands_use : (layout : Layout) (counter len : ℕ) (o : Option (List ℕ)) (text : List ℕ) (P : List ℕ → Type 0) → IfSome o P → Stands layout counter len o text
     → (file : List ℕ) × P file × (length text ≡ len) × IsSealed layout counter text file
@@ -137,15 +137,6 @@ stays_written layout counter next len n a b c next_is o h =
     (λ xs ys zs p w is. subst (IsHeader layout counter len) (sym (w.put ∙ ap (λ (k : ℕ). overwritten ys (sector_place k) w.bytes) next_is))
     (old_header layout counter len ys w.bytes (omega (arith, w.long)) (p is)))
 
-pub stays_cut : (layout : Layout) (counter len size : ℕ) (a b c : Option (List ℕ)) → OnKnown a b (KeepsNewest layout counter len) → ResizesTo b c size → 1024 ≤ size
-    → OnKnown a c (KeepsNewest layout counter len)
-stays_cut layout counter len size None b c o r head = tt
-stays_cut layout counter len size (Some xs) None c o r head = absurd o
-stays_cut layout counter len size (Some xs) (Some ys) None o r head = absurd r
-stays_cut layout counter len size (Some xs) (Some ys) (Some zs) o r head = λ is.
-    let before = o is in
-    header_same layout counter len ys zs (ap (λ (l : List ℕ). part_at l 0 1024) r ∙ cut_part ys size 0 1024 head (sectors_long ys before.whole)) before
-
 -- ---- a text that is cut off or filled up
 
 pub grown : (text : List ℕ) (len : ℕ) → length text ≤ len → overwritten text len [] ≡ resized text len
@@ -187,31 +178,17 @@ shrunk_next layout counter next len new a b text is count =
     subst (λ (k : ℕ). OnKnown a b (WritesHeader layout k new) → new < len → Stands layout counter len a text → Stands layout k new b (resized text new)) (sym is)
     (shrunk layout counter len new a b text count)
 
--- a storage that is cut off after the pages of the text
-pub cut_off : (layout : Layout) (counter len size : ℕ) (a b : Option (List ℕ)) (text : List ℕ) → ResizesTo a b size → 1024 ≤ size
-    → ((k : ℕ) → k * layout.page_bytes < len → page_place layout k + box_bytes layout layout.page_bytes ≤ size) → Stands layout counter len a text → Stands layout counter len b text
-cut_off layout counter len size None b text r head room s = absurd s
-cut_off layout counter len size (Some xs) None text r head room s = absurd r
-cut_off layout counter len size (Some xs) (Some ys) text r head room s =
-    let cut : part_at ys 0 1024 ≡ part_at xs 0 1024 = ap (λ (l : List ℕ). part_at l 0 1024) r ∙ cut_part xs size 0 1024 head (sectors_long xs s.1.header.is.whole) in (
-      s.0,
-      record {
-        header = newest_same layout counter (length text) xs ys cut s.1.header;
-        pages = record {
-          page = λ k low.
-              let page = s.1.pages.page k low in
-              let same : page_at layout ys k ≡ page_at layout xs k =
-              ap (λ (l : List ℕ). page_at layout l k) r
-              ∙ cut_part xs size (page_place layout k) (box_bytes layout layout.page_bytes) (room k (subst (λ (n : ℕ). k * layout.page_bytes < n) s.0 low)) page.whole in
-              subst (λ (l : List ℕ). IsPage layout k l text) (sym same) page;
-        };
-      },
-    )
-
 pub stands_kept : (layout : Layout) (counter len : ℕ) (a b : Option (List ℕ)) (text : List ℕ) → Keeps a b → Stands layout counter len a text → Stands layout counter len b text
 stands_kept layout counter len None b text k s = absurd s
 stands_kept layout counter len (Some xs) None text k s = absurd k
 stands_kept layout counter len (Some xs) (Some ys) text k s = (s.0, subst (IsSealed layout counter text) (sym k) s.1)
+
+pub kept_text : (old new : OpenFile) (text : List ℕ) → IsUnchanged old new → HasText old text → HasText new text
+kept_text old new text u has =
+    subst (λ (l : Layout). Stands l new.counter new.len new.bytes text) (sym u.layout)
+    (subst (λ (k : ℕ). Stands old.layout k new.len new.bytes text) (sym u.counter)
+    (subst (λ (n : ℕ). Stands old.layout old.counter n new.bytes text) (sym u.len)
+    (stands_kept old.layout old.counter old.len old.bytes new.bytes text u.bytes has)))
 
 -- ---- the front that stays
 
@@ -228,16 +205,6 @@ front_torn layout counter from a b t =
     on_torn a a a b (KeepsFront layout from) (KeepsFront layout from) (sector_place counter) 512 (front_same layout from a) (keeps_same a) t
     (λ xs ys p. p) (λ xs ys torn p size k before. keeps_both layout k xs ys _ (p k before) (header_page layout k counter ys torn size))
 
-pub front_cut : (layout : Layout) (from size : ℕ) (a b c : Option (List ℕ)) → OnKnown a b (KeepsFront layout from) → ResizesTo b c size
-    → ((k : ℕ) → k * layout.page_bytes + layout.page_bytes ≤ from → page_place layout k + box_bytes layout layout.page_bytes ≤ size) → OnKnown a c (KeepsFront layout from)
-front_cut layout from size None b c o r room = tt
-front_cut layout from size (Some xs) None c o r room = absurd o
-front_cut layout from size (Some xs) (Some ys) None o r room = absurd r
-front_cut layout from size (Some xs) (Some ys) (Some zs) o r room = λ k before whole.
-    let kept = o k before whole in
-    ap (λ (l : List ℕ). page_at layout l k) r
-    ∙ cut_part ys size (page_place layout k) (box_bytes layout layout.page_bytes) (room k before) (ap length kept ∙ whole) ∙ kept
-
 -- the pages outside a range that begins at byte `from`
 pub front_others : (layout : Layout) (from end : ℕ) (a b : Option (List ℕ)) → OnKnown a b (KeepsPages layout from end) → OnKnown a b (KeepsFront layout from)
 front_others layout from end a b o = on_map a b (KeepsPages layout from end) (KeepsFront layout from) (λ xs ys p k before. p k (inl before)) o
@@ -249,27 +216,6 @@ read_so text out at within same =
     ext_get_or 0 out (part_at text at (length out)) (omega (arith, length-part text at (length out))) (λ i low. same i low ∙ sym (part_byte text at (length out) i low))
 
 -- ---- how many pages are left
-
-pub record Left (page_bytes new pages : ℕ) : Type 0 where
-  pub some : 0 < page_bytes
-  pub pages_is : pages ≡ (new + (page_bytes - 1)) / page_bytes
-
-pub left_most : (page_bytes new pages : ℕ) → Left page_bytes new pages → pages * page_bytes ≤ new + page_bytes
-left_most page_bytes new pages l =
-    let x : ℕ = new + (page_bytes - 1) in
-    let some = l.some in
-    let split : x / page_bytes * page_bytes + x % page_bytes ≡ x = div-add-mod' x page_bytes in
-    let is : pages * page_bytes ≡ x / page_bytes * page_bytes = ap (λ (y : ℕ). y * page_bytes) l.pages_is in
-    omega (arith, split, is, some)
-
--- each page with a byte of the text is among them
-pub left_room : (layout : Layout) (new pages : ℕ) → Left layout.page_bytes new pages → (k : ℕ) → k * layout.page_bytes < new
-    → page_place layout k + box_bytes layout layout.page_bytes ≤ page_place layout pages
-left_room layout new pages l k low =
-    let x : ℕ = new + (layout.page_bytes - 1) in
-    let some = l.some in
-    let below : k + 1 ≤ x / layout.page_bytes = le-div (k + 1) x layout.page_bytes some (omega (arith, low, some)) in
-    places_apart layout k pages (let h : k < pages = omega (arith, below, l.pages_is) in h)
 
 pub stands_len : (layout : Layout) (counter len : ℕ) (o : Option (List ℕ)) (text : List ℕ) → Stands layout counter len o text → length text ≡ len
 stands_len layout counter len None text s = absurd s

@@ -1,7 +1,8 @@
 //! Laws: functions that do nothing, and whose contracts are facts about the definitions that the other contracts cite.
 
-ghost use Rattle.std.specs.Prelude.{◌≡◌, ◌+◌, ◌≤◌, ◌⊎◌, List, length, ℕ};
+ghost use Rattle.std.specs.Prelude.{◌≡◌, ◌+◌, ◌≤◌, List, length, ℕ};
 ghost use Rattle.aegis_storage.specs.Bytes.{overwritten, part_at};
+ghost use Rattle.aegis_pages.specs.OpenFile.{HasText, IsUnchanged, OpenFile};
 
 /// A part that was written is what is read at its place.
 pub fn written_is_read()
@@ -11,12 +12,21 @@ pub fn written_is_read()
 
 /// Bytes that a part does not touch are read as before.
 pub fn others_are_kept()
-    ensures { (text : List ℕ) (at : ℕ) (part : List ℕ) (place count : ℕ)
-        → (place + count ≤ at) ⊎ (at + length part ≤ place) → place + count ≤ length text
+    ensures before { (text : List ℕ) (at : ℕ) (part : List ℕ) (place count : ℕ)
+        → place + count ≤ at → place + count ≤ length text
+        → part_at (overwritten text at part) place count ≡ part_at text place count }
+    ensures after { (text : List ℕ) (at : ℕ) (part : List ℕ) (place count : ℕ)
+        → at + length part ≤ place → place + count ≤ length text
         → part_at (overwritten text at part) place count ≡ part_at text place count }
 {}
 
 /// A part that is written over a whole text is the text.
 pub fn whole_is_written()
     ensures { (text part : List ℕ) → length text ≤ length part → overwritten text 0 part ≡ part }
+{}
+
+/// A file that is as it was has the same text.
+pub fn unchanged_has_its_text()
+    ensures { (old new : OpenFile) (text : List ℕ) → IsUnchanged old new → HasText old text
+        → HasText new text }
 {}

@@ -251,8 +251,8 @@ impl<
     /// Returns [`PagesError::TooLong`] before anything is changed, and otherwise [`PagesError::Read`],
     /// [`PagesError::Damaged`], [`PagesError::Nonce`] or [`PagesError::Write`]. The length is then as it was, and so
     /// are the pages that have no byte of the part or of a gap before it. Each of the others is as before, as it was to
-    /// be, or damaged. The header that the file had still stands, so if the new one is damaged, the file opens with the
-    /// old length.
+    /// be, or damaged. The header that the file had still stands, so the file opens with the old length, or with the new
+    /// one if its header was written although writing failed.
     pub fn write_at(&mut self, at: u64, part: &[u8]) -> Result<(), PagesError>
         ensures layout { self.new.layout ≡ self.old.layout }
         ensures len { self.new.len ≡ (if is_ok result

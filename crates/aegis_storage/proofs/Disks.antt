@@ -15,9 +15,6 @@ certain_only xs ys crashed = crashed.are ∙ none crashed.parts crashed.of_pendi
     none [] are = refl
     none (part ∷ parts) are = absurd are.0
 
-pub crashed_certain : (xs : List ℕ) → Crashed (certain xs) xs
-crashed_certain xs = record { parts = []; of_pending = tt; are = refl }
-
 -- ---- what can be read
 
 -- what can be read of a known disk
@@ -177,16 +174,9 @@ all_more_written writes at bs (Some xs) None c all one = absurd all
 all_more_written writes at bs (Some xs) (Some ys) None all one = absurd one
 all_more_written writes at bs (Some xs) (Some ys) (Some zs) all one = one ∙ ap (λ (l : List ℕ). overwritten l at bs) all ∙ sym (written_more writes at bs xs)
 
-pub none_written : (a : Option (List ℕ)) → WritesAll a a []
-none_written None = tt
-none_written (Some xs) = refl
-
 -- these writes are pending, too
 abbrev pub AddsAll : Option Disk → Option Disk → Writes → Type 0
 AddsAll old new writes = (disk : Disk) → old ≡ Some disk → new ≡ Some (record { synced = disk.synced; pending = disk.pending ++ changes writes })
-
-pub none_added : (a : Option Disk) → AddsAll a a []
-none_added a disk is = is ∙ ap (λ (l : List Change). Some (record { synced = disk.synced; pending = l })) (sym (append-nil disk.pending))
 
 pub one_added : (writes : Writes) (at : ℕ) (bs : List ℕ) (a b c : Option Disk) → AddsAll a b writes → Adds b c (Write at bs) → AddsAll a c (writes ++ (at, bs) ∷ [])
 one_added writes at bs a b c all one disk is =

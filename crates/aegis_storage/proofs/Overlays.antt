@@ -93,11 +93,6 @@ shows_all xs out at n size within shows =
 
 -- ---- what is known of it
 
-pub overlaid_kept : (writes : Writes) (a b : Option (List ℕ)) → Keeps a b → Keeps (overlaid writes a) (overlaid writes b)
-overlaid_kept writes None b keeps = tt
-overlaid_kept writes (Some xs) None keeps = absurd keeps
-overlaid_kept writes (Some xs) (Some ys) keeps = ap (written writes) keeps
-
 pub overlaid_some : (writes : Writes) (a : Option (List ℕ)) (P Q : List ℕ → Type 0) → ((xs : List ℕ) → P xs → Q (written writes xs)) → IfSome a P → IfSome (overlaid writes a) Q
 overlaid_some writes None P Q f p = tt
 overlaid_some writes (Some xs) P Q f p = f xs p

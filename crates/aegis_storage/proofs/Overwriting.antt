@@ -69,13 +69,6 @@ pub put_part : (xs : List ℕ) (at : ℕ) (bs : List ℕ) → part_at (overwritt
 put_part xs at bs =
     ap (take (length bs)) (drop_at (resized xs at) (bs ++ drop (at + length bs) xs) at (length-resized xs at)) ∙ take_at bs (drop (at + length bs) xs) (length bs) refl
 
--- a part of bytes that were cut off after it
-pub cut_part : (xs : List ℕ) (size a n : ℕ) → a + n ≤ size → length (part_at xs a n) ≡ n → part_at (resized xs size) a n ≡ part_at xs a n
-cut_part xs size a n below whole =
-    let long : length (part_at (resized xs size) a n) ≡ n = omega (arith, length-part (resized xs size) a n, length-resized xs size) in
-    ext_get_or 0 _ _ (long ∙ sym whole)
-    (λ i h. let low : i < n = omega (arith, h, long) in part_byte (resized xs size) a n i low ∙ resized_byte xs size (a + i) (omega arith) ∙ sym (part_byte xs a n i low))
-
 -- ---- a front that is filled
 
 pub filled_front : (xs : List ℕ) (done bs : List ℕ) (at : ℕ) → take at xs ≡ done → length done ≡ at → take (at + length bs) (overwritten xs at bs) ≡ done ++ bs

@@ -34,6 +34,8 @@ impl Failing {
 }
 
 impl Storage for Failing {
+    ghost possible = { λ _. tt };
+
     fn size(&mut self) -> io::Result<u64> {
         self.count()?;
         self.bytes.size()
@@ -156,7 +158,7 @@ fn fail_at(
     let alloc = rt.alloc();
     let storage = Failing {
         bytes: old_file(rt)?,
-        before: before + 2,
+        before: before.wrapping_add(2),
     };
     let (from, end, len) = what.bounds();
     let mut pages = SealedPages::open(alloc, storage, Counter(1 << 20), &KEY)?;

@@ -1,11 +1,7 @@
 //! Random calls on sealed pages and on a vector that holds the same text.
 
-ghost use Rattle.std.specs.Prelude.{◌≡◌};
-ghost use Rattle.aegis_base.specs.Variant.{key_length};
-
-use crate::random::{Counter, ID, Random, copy, part_mut};
-use aegis_base::{LaneState, Names};
-use aegis_pages::Pages;
+use crate::random::{Counter, ID, KEY, Random, copy, part_mut};
+use aegis_pages::SealedPages;
 use aegis_storage::Storage;
 use std::alloc::Global;
 
@@ -20,8 +16,8 @@ struct Counts {
 }
 
 // Reads at a random place and compares.
-fn read<L: LaneState, V: Names, const KEY_BYTES: usize, S: Storage + Drop>(
-    pages: &mut Pages<L, V, KEY_BYTES, S, Counter, Global>,
+fn read<S: Storage + Drop>(
+    pages: &mut SealedPages<S, Counter, Global>,
     text: &Vec<u8>,
     part: &mut Vec<u8>,
     random: &mut Random,
@@ -54,8 +50,8 @@ fn read<L: LaneState, V: Names, const KEY_BYTES: usize, S: Storage + Drop>(
 }
 
 // Writes random bytes at a random place, to both.
-fn write<L: LaneState, V: Names, const KEY_BYTES: usize, S: Storage + Drop>(
-    pages: &mut Pages<L, V, KEY_BYTES, S, Counter, Global>,
+fn write<S: Storage + Drop>(
+    pages: &mut SealedPages<S, Counter, Global>,
     text: &mut Vec<u8>,
     part: &mut Vec<u8>,
     random: &mut Random,
@@ -87,29 +83,19 @@ fn write<L: LaneState, V: Names, const KEY_BYTES: usize, S: Storage + Drop>(
 }
 
 /// Makes `turns` random calls, and prints how many there were of each kind, and how many answers were wrong.
-pub fn run<L: LaneState, V: Names, const KEY_BYTES: usize, S: Storage + Drop>(
+pub fn run<S: Storage + Drop>(
     rt: &HostRuntime,
     name: &str,
     storage: S,
-    key: &[u8; KEY_BYTES],
     random: &mut Random,
     page_bytes: u32,
     turns: u64,
-) -> anyhow::Result<()>
-    requires { KEY_BYTES ≡ key_length L.VARIANT.family }
-{
+) -> anyhow::Result<()> {
     let alloc = rt.alloc();
+    let mut pages = SealedPages::create(alloc, storage, Counter(0), &KEY, &ID, page_bytes)?;
     let most = u64::from(page_bytes) * 9 + 17;
     let mut text: Vec<u8> = Vec::new(alloc);
     let mut part: Vec<u8> = vec![in alloc; 0; most as usize]?;
-    let mut pages = Pages::<L, V, KEY_BYTES, S, Counter, Global>::create(
-        alloc,
-        storage,
-        Counter(0),
-        key,
-        &ID,
-        page_bytes,
-    )?;
     let mut counts = Counts {
         reads: 0,
         writes: 0,
@@ -132,7 +118,7 @@ pub fn run<L: LaneState, V: Names, const KEY_BYTES: usize, S: Storage + Drop>(
             text.resize(len as usize, 0)?;
             counts.lengths = counts.lengths.wrapping_add(1);
         } else {
-            pages = Pages::open(alloc, pages.into_storage(), Counter(turn << 20), key)?;
+            pages = SealedPages::open(alloc, pages.into_storage(), Counter(turn << 20), &KEY)?;
             counts.openings = counts.openings.wrapping_add(1);
         }
         if !is_right || pages.len() != text.len() as u64 {
@@ -140,13 +126,8 @@ pub fn run<L: LaneState, V: Names, const KEY_BYTES: usize, S: Storage + Drop>(
         }
     }
     println!(rt;
-        "{} on a {name}, pages of {page_bytes}: {} reads, {} writes, {} lengths, {} openings, {} wrong",
-        V::module_name(),
-        counts.reads,
-        counts.writes,
-        counts.lengths,
-        counts.openings,
-        counts.wrong
+        "{name}, pages of {page_bytes}: {} reads, {} writes, {} lengths, {} openings, {} wrong",
+        counts.reads, counts.writes, counts.lengths, counts.openings, counts.wrong
     )?;
     Ok(())
 }

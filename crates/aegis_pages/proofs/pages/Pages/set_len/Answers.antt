@@ -1,10 +1,6 @@
-use Rattle.std.proofs.Common.{◌≡◌, ℕ, ◌+◌, ◌-◌, ◌*◌, ◌/◌, ◌<◌, ◌≤◌, ap, arith, inr, length, min, subst, sym}
-use Rattle.aegis_pages.specs.Layouts.{Layout, box_bytes, page_place}
+use Rattle.std.proofs.Common.{◌≡◌, ◌≤◌, ap, arith, length, min, subst}
 use Rattle.aegis_pages.specs.OpenFile.{HasText, OpenFile}
-use Rattle.aegis_pages.specs.Headers.{KeepsNewest}
-use Rattle.aegis_pages.specs.SealedPages.{KeepsFront}
-use Rattle.aegis_pages.proofs.Known.{on_kept}
-use Rattle.aegis_pages.proofs.Standing.{Left, cut_off, front_cut, front_header, front_others, front_torn, grown, left_room, ok_map, shrunk_next, stands_kept, stands_len, stays_cut, stays_same, stays_torn, stays_written}
+use Rattle.aegis_pages.proofs.Standing.{front_header, front_others, front_torn, grown, ok_map, shrunk_next, stands_len, stays_same, stays_torn, stays_written}
 use Rattle.aegis_pages.proofs.pages.Pages.set_len.Goals as goal
 
 pub returns-then-len-self-clause-resized : goal.returns-then-len-self-clause-resized
