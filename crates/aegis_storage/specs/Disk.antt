@@ -35,7 +35,7 @@ WritesAll None new writes = ⊤
 WritesAll (Some xs) None writes = ⊥
 WritesAll (Some xs) (Some ys) writes = ys ≡ written writes xs
 
--- What a sync has made certain, and the changes since then, the first of them first. A change whose call returned an error is
+-- What a sync has made certain, and the changes since then, the first of them first. A change whose call returned an error may be
 -- among them.
 pub record Disk : Type 0 where
   pub synced : List ℕ
