@@ -11,8 +11,8 @@ use aegis_storage::{PendingWrite, Storage, commit, recover};
 use std::alloc::Allocator;
 use std::io;
 
-/// Writes `first` at one place and `second` at another. Whatever it returns, a crash leaves a storage and a journal from which
-/// recovery makes both writes or none.
+/// Writes `first` at one place and `second` at another. Whatever it returns, a crash leaves a storage and a journal
+/// from which recovery makes both writes or none.
 pub fn write_both<S: Storage, J: Storage, A: Allocator + Copy>(
     alloc: A,
     storage: &mut S,
