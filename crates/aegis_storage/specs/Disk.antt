@@ -35,8 +35,8 @@ WritesAll None new writes = ⊤
 WritesAll (Some xs) None writes = ⊥
 WritesAll (Some xs) (Some ys) writes = ys ≡ written writes xs
 
--- What a sync has made certain, and the changes since then, the first of them first. A change whose call returned an error is
--- among them.
+-- What a sync has made certain, and the changes since then, the first of them first. A change whose call returned an
+-- error may be among them.
 pub record Disk : Type 0 where
   pub synced : List ℕ
   pub pending : List Change
@@ -51,7 +51,8 @@ after disk change = record { synced = disk.synced; pending = disk.pending ++ cha
 
 -- ---- crashes
 
--- The first change is a part of the second: a run of its bytes at their place, whole or short or empty. A size is whole.
+-- The first change is a part of the second: a run of its bytes at their place, whole or short or empty. A size is
+-- whole.
 abbrev pub IsPart : Change → Change → Type 0
 IsPart (Write at bs) (Write place all) = (k : ℕ) × (k + length bs ≤ length all) × (at ≡ place + k) × (bs ≡ part_at all k (length bs))
 IsPart (Write at bs) (Size n) = ⊥
@@ -68,9 +69,9 @@ abbrev pub AreParts : List Change → List Change → Type 0
 AreParts changes [] = ⊤
 AreParts changes (part ∷ parts) = IsPartOfOne changes part × AreParts changes parts
 
--- What a crash may leave: the synced bytes after any parts of the pending changes, in any order. So of each pending write all,
--- any runs of bytes (a front, sectors) or none may be there, over or under those of other writes; a pending size is there or
--- not; and bytes that nothing wrote are as they were synced, or 0 past the end.
+-- What a crash may leave: the synced bytes after any parts of the pending changes, in any order. So of each pending
+-- write all, any runs of bytes (a front, sectors) or none may be there, over or under those of other writes; a pending
+-- size is there or not; and bytes that nothing wrote are as they were synced, or 0 past the end.
 pub record Crashed (disk : Disk) (bytes : List ℕ) : Type 0 where
   pub parts : List Change
   pub of_pending : AreParts disk.pending parts

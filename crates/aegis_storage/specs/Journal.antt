@@ -52,13 +52,13 @@ pub record GivesOneOf (key context a b journal old : List ℕ) : Type 0 where
   pub whole : (writes : Writes) → IsJournal key context writes journal → IsOneOf a b (written writes old)
   pub other : ((writes : Writes) → IsJournal key context writes journal → ⊥) → IsOneOf a b old
 
--- The premise on AEGIS: if the bytes are a journal under the key and the context, then of these writes. Bytes that are not are a
--- forgery, which nobody can find without the key but by chance.
+-- The premise on AEGIS: if the bytes are a journal under the key and the context, then of these writes. Bytes that are
+-- not are a forgery, which nobody can find without the key but by chance.
 abbrev pub IsNoForgery : (key context : List ℕ) → Writes → List ℕ → Type 0
 IsNoForgery key context writes bytes = (found : Writes) → IsJournal key context found bytes → found ≡ writes
 
--- Whatever a crash now leaves of the storage and of the journal, unless it leaves a forgery, recovery gives xs, or xs with all
--- the writes over it.
+-- Whatever a crash now leaves of the storage and of the journal, unless it leaves a forgery, recovery gives xs, or xs
+-- with all the writes over it.
 pub record Recovers (key context xs : List ℕ) (writes : Writes) (storage journal : Option Disk) : Type 0 where
   pub storage_disk : Disk
   pub journal_disk : Disk

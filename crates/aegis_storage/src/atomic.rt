@@ -17,15 +17,15 @@ use std::io;
 /// Makes the writes, the first of them first, so that after a crash [`crate::recover`] makes all of them or none.
 ///
 /// The storage and the journal must be at rest: all that they hold is synced, and the journal is empty, as `commit` and
-/// `recover` leave them with `Ok`. The writes are sealed into the journal, which is synced, then made and synced, and then the
-/// journal is emptied and synced. With no writes nothing is called.
+/// `recover` leave them with `Ok`. The writes are sealed into the journal, which is synced, then made and synced, and
+/// then the journal is emptied and synced. With no writes nothing is called.
 ///
 /// Under one key a prefix must be used for one journal only. The context names the storage; it has at most
 /// [`MAX_CONTEXT_BYTES`].
 ///
-/// After an error, call `recover` before anything else. The error is that of a call, or `InvalidInput` if a write has more
-/// than [`aegis::record::MAX_MESSAGE_BYTES`] less 8 bytes or the journal would be longer than a record stream may be, or
-/// `OutOfMemory`. Memory is taken for a journal three times over.
+/// After an error, call `recover` before anything else. The error is that of a call, or `InvalidInput` if a write has
+/// more than [`aegis::record::MAX_MESSAGE_BYTES`] less 8 bytes or the journal would be longer than a record stream may
+/// be, or `OutOfMemory`. Memory is taken for a journal three times over.
 pub fn commit<S: Storage, J: Storage, A: Allocator + Copy>(
     alloc: A,
     storage: &mut S,

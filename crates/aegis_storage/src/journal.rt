@@ -130,8 +130,8 @@ fn writes_in<A: Allocator + Copy>(
     Ok(Some(writes))
 }
 
-/// Returns the writes of a journal, or `None` if the bytes are no whole journal under this key and context. The only error is
-/// want of memory.
+/// Returns the writes of a journal, or `None` if the bytes are no whole journal under this key and context. The only
+/// error is want of memory.
 pub fn journaled_writes<A: Allocator + Copy>(
     alloc: A,
     key: &Key,

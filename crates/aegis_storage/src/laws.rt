@@ -1,5 +1,5 @@
-//! Laws of storages that crash: functions that do nothing, and whose contracts are facts about the definitions that the other
-//! contracts cite.
+//! Laws of storages that crash: functions that do nothing, and whose contracts are facts about the definitions that the
+//! other contracts cite.
 
 ghost use Rattle.std.specs.Prelude.{◌≡◌, List, Option, Some, ℕ};
 ghost use Rattle.aegis_storage.specs.Disk.{AreParts, Change, Crashed, Disk, Writes, applied, certain, changes, written};

@@ -88,8 +88,8 @@ fn read_through<S: Storage, A: Allocator>(
 
 /// A storage over another one, which it only reads: it collects writes in memory, and reads the other one through them.
 ///
-/// Its bytes are those of the other storage with the writes over them, the first of them first. A crash, or dropping it,
-/// loses the writes. [`Overlay::into_parts`] returns them for [`crate::commit`].
+/// Its bytes are those of the other storage with the writes over them, the first of them first. A crash, or dropping
+/// it, loses the writes. [`Overlay::into_parts`] returns them for [`crate::commit`].
 #[derive(Drop)]
 pub struct Overlay<S, A: Allocator> {
     storage: S,

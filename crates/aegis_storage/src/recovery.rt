@@ -39,11 +39,11 @@ fn redo<S: Storage, A: Allocator + Copy>(
 /// Completes a commit that a crash or an error cut short, or leaves out all of it. To be called whenever the storage is
 /// opened, and after an error of [`crate::commit`] or of this function.
 ///
-/// If the journal is a whole one under this key and context, its writes are made again and synced. Any other journal, torn or
-/// of another storage, changes nothing. Then the journal is emptied and synced.
+/// If the journal is a whole one under this key and context, its writes are made again and synced. Any other journal,
+/// torn or of another storage, changes nothing. Then the journal is emptied and synced.
 ///
-/// With `Ok` both are at rest. After an error, which is that of a call or `OutOfMemory`, nothing is lost: call it again. Memory
-/// is taken for the journal, whatever it holds, and for its writes.
+/// With `Ok` both are at rest. After an error, which is that of a call or `OutOfMemory`, nothing is lost: call it
+/// again. Memory is taken for the journal, whatever it holds, and for its writes.
 pub fn recover<S: Storage, J: Storage, A: Allocator + Copy>(
     alloc: A,
     storage: &mut S,

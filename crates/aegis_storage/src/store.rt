@@ -20,8 +20,8 @@ pub const MAX_STORAGE_BYTES: u64 = 9_223_372_036_854_775_807;
 /// Its ghost member `bytes` is what it holds, where that is known: for a vector its items, and for a file `None`, since
 /// others may write the file too. The contracts then say nothing but that each call is safe and returns.
 ///
-/// Its ghost member `disk` is what a crash may leave of the bytes, where that is known: what was synced, and the changes
-/// since. For vectors and files it is `None`.
+/// Its ghost member `disk` is what a crash may leave of the bytes, where that is known: what was synced, and the
+/// changes since. For vectors and files it is `None`.
 pub trait Storage {
     // All the bytes, where they are known.
     ghost bytes: { Self → Option (List ℕ) } = { λ _. None };
@@ -44,9 +44,9 @@ pub trait Storage {
         ensures read { OnOk result (IfSome (bytes self.old)
             (λ xs. out.new ≡ part_at xs at (length out.old))) };
 
-    /// Writes all of `part` over the bytes from `at` on. What lies past the end is added, and a gap is filled with zeros.
-    /// After an error the bytes from `at` on may be any, as many as `part` has at most, and the others are as they were.
-    /// Until a sync, a crash may leave any parts of the write, also after an error.
+    /// Writes all of `part` over the bytes from `at` on. What lies past the end is added, and a gap is filled with
+    /// zeros. After an error the bytes from `at` on may be any, as many as `part` has at most, and the others are as
+    /// they were. Until a sync, a crash may leave any parts of the write, also after an error.
     fn write_at(&mut self, at: u64, part: &[u8]) -> io::Result<()>
         requires { at + length part.now ≤ MAX_STORAGE_BYTES }
         ensures written { OnOk result (WritesAt (bytes self.old) (bytes self.new) at part.now) }
@@ -55,8 +55,8 @@ pub trait Storage {
         ensures pending { OnOk result (Adds (disk self.old) (disk self.new) (Write at part.now)) }
         ensures maybe { OnErr result (MayAdd (disk self.old) (disk self.new) (Write at part.now)) };
 
-    /// Cuts the bytes off at `size`, or fills them up to it with zeros. After an error they are as they were. Until a sync, a
-    /// crash may leave the one size or the other, also after an error.
+    /// Cuts the bytes off at `size`, or fills them up to it with zeros. After an error they are as they were. Until a
+    /// sync, a crash may leave the one size or the other, also after an error.
     fn set_size(&mut self, size: u64) -> io::Result<()>
         requires { size ≤ MAX_STORAGE_BYTES }
         ensures resized { OnOk result (ResizesTo (bytes self.old) (bytes self.new) size) }

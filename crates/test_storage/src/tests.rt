@@ -175,8 +175,8 @@ fn tear(bytes: &mut Vec<u8>, pending: &PendingChange, part: u32) -> io::Result<(
     }
 }
 
-/// What a crash leaves of a disk. Each digit of `parts`, in base 4, is the part of a pending change that is there; they come in
-/// order, from the last one, or from the middle on.
+/// What a crash leaves of a disk. Each digit of `parts`, in base 4, is the part of a pending change that is there; they
+/// come in order, from the last one, or from the middle on.
 fn left_of(disk: &TestDisk, parts: u32, order: usize) -> io::Result<Vec<u8>> {
     let mut bytes = disk.synced.to_vec(disk.alloc)?;
     let count = disk.pending.len();

@@ -55,7 +55,8 @@ fn recovers(
     )
 }
 
-// Whether recovery gives what is wanted after a recovery that was cut: some ways in which a crash may leave its changes.
+// Whether recovery gives what is wanted after a recovery that was cut: some ways in which a crash may leave its
+// changes.
 fn recovers_again(storage: &TestDisk, journal: &TestDisk, wanted: &Wanted) -> io::Result<bool> {
     for parts in [0, 0xaaa, 0x3cc] {
         for journal_parts in [0, 3] {
@@ -109,8 +110,8 @@ fn recovers_from_all(storage: &TestDisk, journal: &TestDisk, wanted: &Wanted) ->
     Ok(true)
 }
 
-// Commits a batch on disks that fail after these numbers of calls. Returns whether the commit succeeded, and whether recovery
-// gives what is wanted from all that a crash may leave.
+// Commits a batch on disks that fail after these numbers of calls. Returns whether the commit succeeded, and whether
+// recovery gives what is wanted from all that a crash may leave.
 fn committed(
     alloc: Global,
     batch: &[Fill],
