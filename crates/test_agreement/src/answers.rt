@@ -6,8 +6,8 @@ use crate::faults::first_fault;
 use crate::fields::{Kind, bytes_of, count_of, pieces_of, tag_length_of, variant_of};
 use crate::records::RecordKeys;
 use aegis_variants::{AnyCipher, TagLength};
-use test_reference::{SubstitutionTable, TwoBlocks, slow_mac, slow_open, slow_seal};
 use std::alloc::{AllocError, Global};
+use test_reference::{SubstitutionTable, TwoBlocks, slow_mac, slow_open, slow_seal};
 
 // No line has more bytes.
 const MOST_BYTES: usize = 1 << 20;

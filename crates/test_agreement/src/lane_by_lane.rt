@@ -6,8 +6,8 @@ mod library;
 
 use aegis_variants::{AnyCipher, AnyVariant, Keys, TAG_LENGTHS, TagLength, VARIANTS};
 use library::{library_mac, library_seal};
-use test_reference::{SubstitutionTable, slow_mac, slow_seal};
 use std::{fmt, io};
+use test_reference::{SubstitutionTable, slow_mac, slow_seal};
 
 // The longest message or associated data: one byte more than two rate blocks of 128 bytes.
 const LONGEST: usize = 257;

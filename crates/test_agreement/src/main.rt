@@ -19,9 +19,9 @@ mod stored;
 use aegis_lines::answer_line;
 use answers::expected_answer;
 use mutations::{Generator, mutated_line};
-use test_reference::SubstitutionTable;
 use std::io;
 use std::process::ExitCode;
+use test_reference::SubstitutionTable;
 
 const LINES: usize = 10_000;
 

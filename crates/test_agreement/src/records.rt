@@ -4,8 +4,8 @@ ghost use Rattle.std.specs.Prelude.{◌<◌, ◌^◌, IfOk, length};
 
 use crate::answers::shown;
 use aegis_variants::{AnyCipher, Keys, TagLength};
-use test_reference::{SubstitutionTable, halves, slow_open, slow_seal};
 use std::alloc::{AllocError, Global};
+use test_reference::{SubstitutionTable, halves, slow_open, slow_seal};
 
 // No stream or context of a line has more bytes.
 const MOST_BYTES: usize = 1 << 21;
