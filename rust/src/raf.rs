@@ -373,7 +373,7 @@ impl<A: Algorithm, I: RafIo> Raf<A, I> {
     }
 
     /// Writes `data` over the text from `offset` on, and returns its length. The text grows if need be, with zeros up to
-    /// `offset`. After an error the text outside of `data` and of that gap is as it was.
+    /// `offset`. After an error a page that has bytes of `data` or of that gap may be damaged.
     pub fn write(&mut self, data: &[u8], offset: u64) -> Result<usize> {
         let end = offset
             .checked_add(data.len() as u64)
