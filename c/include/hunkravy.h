@@ -23,8 +23,9 @@
  *
  * The library is proved, but nothing checks its C callers. In each call the caller must also ensure:
  *
- * - A pointer points to as many bytes as the length after it. They are initialised if the call reads them, and
- *   writable if the pointer is not const. If the length is 0 the pointer may be null.
+ * - A pointer points to as many bytes as its length, which comes after it or is in the call's comment. They are
+ *   initialised if the call reads them, and writable if the pointer is not const. If a length that is passed is 0 the
+ *   pointer may be null.
  * - No other thread reads or writes an output buffer or a state, or writes an input, until the call returns.
  *
  * PARAMETERS. `variant` is one of the six below. All lengths are in bytes. `m` is a message, `c` a ciphertext, `mc`

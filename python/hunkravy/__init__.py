@@ -1,6 +1,6 @@
 """The AEGIS ciphers and their MACs.
 
-A message is encrypted at once or in chunks, and nothing of a ciphertext can be read before its tag was verified:
+A message is encrypted at once or in chunks, and none of a decrypted message can be read before its tag was verified:
 
 >>> from hunkravy import Aegis256, InvalidTag
 >>> cipher = Aegis256(Aegis256.generate_key())

@@ -1,0 +1,6 @@
+//! Tests of sealed pages: random calls beside a vector that holds the same text, files of each variant, damaged files,
+//! and storages and memory that fail.
+#![tactic(auto)]
+
+#[cfg(test)]
+mod tests;

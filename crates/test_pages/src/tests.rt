@@ -1,0 +1,56 @@
+//! What the tests share.
+
+mod damage;
+mod failures;
+mod formats;
+mod model;
+mod variants;
+
+use aegis_pages::{Nonces, PagesError, SealedPages};
+use std::alloc::Global;
+use std::io;
+
+/// The key of files under AEGIS-256, AEGIS-256X2 and AEGIS-256X4.
+const KEY: [u8; 32] = [7; 32];
+
+/// The key of files under AEGIS-128L, AEGIS-128X2 and AEGIS-128X4.
+const SHORT_KEY: [u8; 16] = [7; 16];
+
+const ID: [u8; 24] = [9; 24];
+
+/// Nonces that count up.
+#[derive(Drop)]
+struct Counter(u64);
+
+impl Nonces for Counter {
+    fn draw(&mut self, nonce: &mut [u8]) -> io::Result<()> {
+        if nonce.len() >= 8 {
+            nonce[..8].copy_from_slice(&self.0.to_le_bytes());
+        }
+        self.0 = self.0.wrapping_add(1);
+        Ok(())
+    }
+}
+
+/// The bytes from `from` up to `to`, or none if there are fewer.
+fn part_mut(bytes: &mut [u8], from: usize, to: usize) -> &mut [u8] {
+    if from <= to && to <= bytes.len() {
+        &mut bytes[from..to]
+    } else {
+        &mut bytes[..0]
+    }
+}
+
+/// Copies `from` over `to`, if both are equally long.
+fn copy(to: &mut [u8], from: &[u8]) {
+    if to.len() == from.len() {
+        to.copy_from_slice(from);
+    }
+}
+
+/// The file of 1,000 bytes of 5, in pages of 256 bytes.
+fn small_file(alloc: Global) -> Result<Vec<u8>, PagesError> {
+    let mut pages = SealedPages::create(alloc, Vec::new(alloc), Counter(0), &KEY, &ID, 256)?;
+    pages.write_at(0, &[5; 1000])?;
+    Ok(pages.into_storage())
+}

@@ -1,0 +1,33 @@
+//! A file of each variant is written, closed, opened and read.
+
+use super::{Counter, ID, KEY, SHORT_KEY};
+use aegis_pages::{
+    SealedPages, SealedPages128L, SealedPages128X2, SealedPages128X4, SealedPages256X2,
+    SealedPages256X4,
+};
+use std::test::Fail;
+
+// The test of one variant.
+macro_rules! check {
+    ($rt:expr, $pages:ident, $key:expr) => {{
+        let alloc = $rt.alloc();
+        let mut pages = $pages::create(alloc, Vec::new(alloc), Counter(0), $key, &ID, 300)?;
+        pages.write_at(100, &[5; 900])?;
+        let file: Vec<u8> = pages.into_storage();
+        let mut pages = $pages::open(alloc, file, Counter(9), $key)?;
+        let mut out = [9; 900];
+        assert_eq!($rt; pages.read_at(100, &mut out)?, 900);
+        assert!($rt; out == [5; 900]);
+    }};
+}
+
+#[test]
+fn written_bytes_come_back(rt: HostRuntime) -> Result<(), Fail> {
+    check!(rt, SealedPages, &KEY);
+    check!(rt, SealedPages256X2, &KEY);
+    check!(rt, SealedPages256X4, &KEY);
+    check!(rt, SealedPages128L, &SHORT_KEY);
+    check!(rt, SealedPages128X2, &SHORT_KEY);
+    check!(rt, SealedPages128X4, &SHORT_KEY);
+    Ok(())
+}
