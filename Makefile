@@ -1,5 +1,5 @@
-.PHONY: run program test check-pages check-edits bench bench-peers bench-states bench-tool c-library check-c check-header check-c++ \
-	check-sodium check-rust check-python check-time check-install check-dist check-shared dist install install-tool check-tool tool-pages gcc-aarch64-linux-gnu qemu-user
+.PHONY: run program test check-pages check-edits bench bench-peers bench-states bench-tool bench-pages c-library check-c check-header check-c++ \
+	check-sodium check-rust check-python check-time check-batches check-install check-dist check-shared dist install install-tool check-tool tool-pages gcc-aarch64-linux-gnu qemu-user
 .SECONDARY:
 
 SHELL = /bin/bash
@@ -328,6 +328,17 @@ check-tool: $(OUT)/$(lastword $(TOOL_LEVELS))/hunkravy
 tool-pages: $(OUT)/$(lastword $(TOOL_LEVELS))/hunkravy
 	for form in man bash zsh fish; do $< manual $$form > $(TOOL_PAGES)/$$form; done
 
+# ---- Batches of writes
+
+# Kills a program that writes to sealed pages in batches, at 200 moments.
+BATCHES = crates/example_batches/out/example_batches
+
+check-batches: $(BATCHES)
+	tools/check_batches.sh $<
+
+$(BATCHES): $(call sources,aegis_aes aegis_base aegis_128 aegis_256 aegis_engine aegis aegis_storage aegis_pages example_batches)
+	cd crates/example_batches && rt run > /dev/null
+
 # ---- What is released
 
 # Writes the archives, the packages and their sums to out/dist. If the tools for ARM are there, its archive too.
@@ -354,14 +365,20 @@ $(OUT)/%/driver: $(wildcard bench/*.rs $(STORED_LINES)/*) rust/src/exports.rs $(
 	CPU=$* $(RUSTC) $(if $(filter x86-64%,$*),-C target-cpu=$*) -C no-vectorize-slp bench/driver.rs \
 		-L native=$(OUT)/$* -l static=hunkravy -o $@
 
-# Compares the library with look-up tables and AES instructions, with libsodium if it is installed, and the chunked
-# calls and record streams with the one-shot calls. Writes the tables of BENCH_FOLDER and of bench/.
-bench: $(OUT)/$(BENCH_CPU)/driver bench-peers bench-states bench-tool
+# Compares the library with look-up tables and AES instructions, with libsodium if it is installed, the chunked calls and
+# record streams with the one-shot calls, and sealed pages with a plain file. Writes the tables of BENCH_FOLDER and of
+# bench/.
+bench: $(OUT)/$(BENCH_CPU)/driver bench-peers bench-states bench-tool bench-pages
 	mkdir -p $(BENCH_FOLDER)
 	$< $(BENCH_FOLDER)
 	cd crates/bench_calls && rt run -- bench > ../../$(OUT)/speeds
 	(cat bench/calls.md.in; grep '^| aegis' $(OUT)/speeds) > bench/CALLS.md
 	(cat bench/records.md.in; grep '^| 16 MiB' $(OUT)/speeds) > bench/RECORDS.md
+
+bench-pages: | $(OUT)
+	cd crates/bench_pages && rt run --cpu=$(BENCH_CPU) -- /dev/shm/hunkravy-bench > ../../$(OUT)/pages
+	mkdir -p $(BENCH_FOLDER)
+	(cat bench/pages.md.in; grep '^|' $(OUT)/pages) > $(BENCH_FOLDER)/PAGES.md
 
 bench-states: $(OUT)/$(BENCH_CPU)/libhunkravy.a
 	mkdir -p $(BENCH_FOLDER)

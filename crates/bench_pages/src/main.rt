@@ -1,0 +1,129 @@
+//! Measures sealed pages in a file beside the same calls on a plain file, and beside AEGIS-256 in memory.
+//!
+//! With the path of a file as its argument it prints a table, which `make bench` writes to `bench/PAGES.md`, and removes
+//! the file. Without an argument it makes each call once, in memory.
+#![tactic(auto)]
+
+mod target;
+
+use aegis_pages::SealedPages;
+use std::alloc::Global;
+use std::fs::File;
+use std::rt::Runtime;
+use std::time::Duration;
+use std::{env, fs, io};
+use target::{Counter, ID, InMemory, KEY, PAGE_BYTES, Target, reading, writing};
+
+// How many bytes are written and read in a turn.
+const TEXT_BYTES: u64 = 1 << 26;
+
+const TURNS: u32 = 7;
+
+/// In which order pieces are written and read.
+#[derive(Clone, Copy)]
+pub enum Order {
+    Sequential,
+    Random,
+}
+
+impl Order {
+    /// The place of a piece, of so many in the text.
+    fn place(self, number: u64, pieces: u64, piece_bytes: u64) -> u64 {
+        let number = match self {
+            Order::Sequential => number,
+            // An odd factor gives each of a power of two of pieces once.
+            Order::Random => number.wrapping_mul(0x9E37_79B1) % pieces.max(1),
+        };
+        number.wrapping_mul(piece_bytes)
+    }
+}
+
+// The orders that are measured, and the bytes of a piece.
+const FORMS: [(Order, usize, &str); 2] = [
+    (Order::Sequential, 65_536, "in order, 64 KiB a call"),
+    (Order::Random, 4096, "at random places, 4 KiB a call"),
+];
+
+/// The shortest times of writing and reading the text.
+#[derive(Clone, Copy)]
+struct Times {
+    write: Duration,
+    read: Duration,
+}
+
+// Writes and reads the text in some turns.
+fn best<R: Runtime, T: Target>(
+    rt: &R,
+    target: &mut T,
+    order: Order,
+    piece: &mut [u8],
+) -> anyhow::Result<Times> {
+    let mut best = Times {
+        write: Duration::MAX,
+        read: Duration::MAX,
+    };
+    for _turn in 0..TURNS {
+        best.write = best
+            .write
+            .min(writing(rt, target, order, piece, TEXT_BYTES)?);
+        best.read = best
+            .read
+            .min(reading(rt, target, order, piece, TEXT_BYTES)?);
+    }
+    Ok(best)
+}
+
+// How many MB of the text pass in a second.
+fn speed(time: Duration) -> u64 {
+    let nanoseconds = (time.as_nanos() as u64).max(1);
+    TEXT_BYTES.wrapping_mul(1000) / nanoseconds
+}
+
+// Prints a line of the table.
+fn print_line<R: Runtime>(rt: &R, name: &str, form: &str, times: Times) -> io::Result<()> {
+    let (write, read) = (speed(times.write), speed(times.read));
+    println!(rt; "| {name} | {form} | {write} | {read} |")
+}
+
+// A new file at a path.
+fn new_file(rt: &HostRuntime, path: &str) -> io::Result<File> {
+    File::options()
+        .read(true)
+        .write(true)
+        .create(true)
+        .truncate(true)
+        .open(rt, path)
+}
+
+// Measures in a file at a path.
+fn measure(rt: &HostRuntime, alloc: Global, path: &str) -> anyhow::Result<()> {
+    let mut piece = vec![in alloc; 0x5a; 65_536]?;
+    for (order, bytes, form) in FORMS {
+        let count = bytes.min(piece.len());
+        let part = &mut piece[..count];
+        let file = new_file(rt, path)?;
+        let mut pages = SealedPages::create(alloc, file, Counter(0), &KEY, &ID, PAGE_BYTES as u32)?;
+        print_line(rt, "sealed pages", form, best(rt, &mut pages, order, part)?)?;
+        let mut file = new_file(rt, path)?;
+        print_line(rt, "a plain file", form, best(rt, &mut file, order, part)?)?;
+        let times = best(rt, &mut InMemory, order, part)?;
+        print_line(rt, "AEGIS-256 in memory", form, times)?;
+    }
+    fs::remove_file(rt, path)?;
+    Ok(())
+}
+
+fn main(rt: HostRuntime) -> anyhow::Result<()> {
+    if let Some(path) = env::args(&rt)?.nth(1) {
+        return measure(&rt, rt.alloc(), &path);
+    }
+    let alloc = rt.alloc();
+    let mut piece = [0x5a; 8192];
+    let mut pages = SealedPages::create(alloc, Vec::new(alloc), Counter(0), &KEY, &ID, 4096)?;
+    for order in [Order::Sequential, Order::Random] {
+        writing(&rt, &mut pages, order, &mut piece, 1 << 16)?;
+        reading(&rt, &mut pages, order, &mut piece, 1 << 16)?;
+    }
+    println!(rt; "{} bytes written and read", pages.len())?;
+    Ok(())
+}

@@ -1,0 +1,115 @@
+//! What is written and read: sealed pages, a plain file, and pages in memory.
+
+use crate::Order;
+use aegis::aegis256::Aegis256;
+use aegis_pages::{Nonces, SealedPages};
+use aegis_storage::Storage;
+use std::alloc::Global;
+use std::fs::File;
+use std::io;
+use std::rt::Runtime;
+use std::time::{Duration, Instant};
+
+pub const KEY: [u8; 32] = [7; 32];
+
+pub const ID: [u8; 24] = [9; 24];
+
+/// How many bytes of text a page has.
+pub const PAGE_BYTES: usize = 4096;
+
+/// Nonces that count up.
+#[derive(Drop)]
+pub struct Counter(pub u64);
+
+impl Nonces for Counter {
+    fn draw(&mut self, nonce: &mut [u8]) -> io::Result<()> {
+        if nonce.len() >= 8 {
+            nonce[..8].copy_from_slice(&self.0.to_le_bytes());
+        }
+        self.0 = self.0.wrapping_add(1);
+        Ok(())
+    }
+}
+
+/// What is measured. A piece may hold other bytes after it was written.
+pub trait Target {
+    fn write(&mut self, at: u64, piece: &mut [u8]) -> anyhow::Result<()>;
+
+    fn read(&mut self, at: u64, piece: &mut [u8]) -> anyhow::Result<()>;
+}
+
+impl<S: Storage + Drop> Target for SealedPages<S, Counter, Global> {
+    fn write(&mut self, at: u64, piece: &mut [u8]) -> anyhow::Result<()> {
+        self.write_at(at, piece)?;
+        Ok(())
+    }
+
+    fn read(&mut self, at: u64, piece: &mut [u8]) -> anyhow::Result<()> {
+        self.read_at(at, piece)?;
+        Ok(())
+    }
+}
+
+impl Target for File {
+    fn write(&mut self, at: u64, piece: &mut [u8]) -> anyhow::Result<()> {
+        Ok(Storage::write_at(self, at, piece)?)
+    }
+
+    fn read(&mut self, at: u64, piece: &mut [u8]) -> anyhow::Result<()> {
+        Ok(Storage::read_at(self, at, piece)?)
+    }
+}
+
+/// Pages that are sealed and refused in place.
+#[derive(Drop)]
+pub struct InMemory;
+
+impl Target for InMemory {
+    fn write(&mut self, _at: u64, piece: &mut [u8]) -> anyhow::Result<()> {
+        for page in piece.chunks_mut(PAGE_BYTES) {
+            let _ = Aegis256::<32>::new(&KEY, &KEY).encrypt_in_place(page, &ID);
+        }
+        Ok(())
+    }
+
+    fn read(&mut self, _at: u64, piece: &mut [u8]) -> anyhow::Result<()> {
+        for page in piece.chunks_mut(PAGE_BYTES) {
+            let _ = Aegis256::<32>::new(&KEY, &KEY).decrypt_in_place(page, &[0; 32], &ID);
+        }
+        Ok(())
+    }
+}
+
+/// Writes `text_bytes` in pieces, and returns how long it took.
+pub fn writing<R: Runtime, T: Target>(
+    rt: &R,
+    target: &mut T,
+    order: Order,
+    piece: &mut [u8],
+    text_bytes: u64,
+) -> anyhow::Result<Duration> {
+    let piece_bytes = piece.len() as u64;
+    let pieces = text_bytes / piece_bytes.max(1);
+    let start = Instant::now(rt)?;
+    for number in 0..pieces {
+        target.write(order.place(number, pieces, piece_bytes), piece)?;
+    }
+    Ok(start.elapsed(rt)?)
+}
+
+/// Reads `text_bytes` in pieces, and returns how long it took.
+pub fn reading<R: Runtime, T: Target>(
+    rt: &R,
+    target: &mut T,
+    order: Order,
+    piece: &mut [u8],
+    text_bytes: u64,
+) -> anyhow::Result<Duration> {
+    let piece_bytes = piece.len() as u64;
+    let pieces = text_bytes / piece_bytes.max(1);
+    let start = Instant::now(rt)?;
+    for number in 0..pieces {
+        target.read(order.place(number, pieces, piece_bytes), piece)?;
+    }
+    Ok(start.elapsed(rt)?)
+}

@@ -1,0 +1,134 @@
+//! Writes a number to several rows of an encrypted file at once, so that a crash leaves all of them or none.
+//!
+//! `example_batches FILE JOURNAL` recovers the file, and prints the number that its rows hold, or fails if they hold
+//! several. With `write` as a third argument it then writes the numbers after it, until it is stopped. With no
+//! argument it writes one number in memory.
+#![tactic(auto)]
+
+use aegis_pages::{DEFAULT_PAGE_BYTES, Nonces, SealedPages};
+use aegis_storage::{Overlay, Storage, commit, recover};
+use std::alloc::Global;
+use std::fs::File;
+use std::io::Read;
+use std::{env, io};
+
+// A real program reads its keys from where they are kept. The pages and the journal each have their own.
+const KEY: [u8; 32] = [7; 32];
+
+const JOURNAL_KEY: [u8; 32] = [8; 32];
+
+// Names the file, for its journal too.
+const ID: [u8; 24] = *b"example of several rows.";
+
+// Rows of 8 bytes lie so far apart that each is in a page of its own.
+const ROWS: u64 = 5;
+
+const ROW_DISTANCE: u64 = 10_000;
+
+/// The system's random bytes.
+#[derive(Drop)]
+struct SystemRandom(File);
+
+impl Nonces for SystemRandom {
+    fn draw(&mut self, nonce: &mut [u8]) -> io::Result<()> {
+        self.0.read_exact(nonce)
+    }
+}
+
+fn system_random(rt: &HostRuntime) -> io::Result<SystemRandom> {
+    Ok(SystemRandom(File::open(rt, "/dev/urandom")?))
+}
+
+// Makes a new file, whose rows hold 0.
+fn create<S: Storage + Drop>(rt: &HostRuntime, storage: S) -> anyhow::Result<S> {
+    let nonces = system_random(rt)?;
+    let created = SealedPages::create(rt.alloc(), storage, nonces, &KEY, &ID, DEFAULT_PAGE_BYTES);
+    let mut pages = created?;
+    pages.set_len(ROWS * ROW_DISTANCE)?;
+    pages.sync()?;
+    Ok(pages.into_storage())
+}
+
+// Reads the number that all rows hold.
+fn read_rows<S: Storage + Drop, N: Nonces + Drop>(
+    pages: &mut SealedPages<S, N, Global>,
+) -> anyhow::Result<u64> {
+    let mut first = [0; 8];
+    pages.read_at(0, &mut first)?;
+    for row in 1..ROWS {
+        let mut bytes = [0; 8];
+        pages.read_at(row * ROW_DISTANCE, &mut bytes)?;
+        if bytes != first {
+            return Err(anyhow::anyhow!("row {row} differs from row 0"));
+        }
+    }
+    Ok(u64::from_le_bytes(first))
+}
+
+// Writes the number after that of the rows to all of them, and returns it.
+fn write_next<S: Storage + Drop, J: Storage>(
+    rt: &HostRuntime,
+    storage: S,
+    journal: &mut J,
+) -> anyhow::Result<(S, u64)> {
+    let alloc = rt.alloc();
+    let overlay = Overlay::new(alloc, storage);
+    let mut pages = SealedPages::open(alloc, overlay, system_random(rt)?, &KEY)?;
+    let number = read_rows(&mut pages)?.wrapping_add(1);
+    for row in 0..ROWS {
+        pages.write_at(row * ROW_DISTANCE, &number.to_le_bytes())?;
+    }
+    let (mut storage, writes) = pages.into_storage().into_parts();
+    let mut prefix = [0; 24];
+    system_random(rt)?.draw(&mut prefix)?;
+    commit(
+        alloc,
+        &mut storage,
+        journal,
+        &JOURNAL_KEY,
+        &prefix,
+        &ID,
+        &writes,
+    )?;
+    Ok((storage, number))
+}
+
+// Opens a file for reading and writing, and makes it if there is none.
+fn open_file(rt: &HostRuntime, path: &str) -> io::Result<File> {
+    File::options()
+        .read(true)
+        .write(true)
+        .create(true)
+        .open(rt, path)
+}
+
+// Recovers the file, and makes it if it is empty. Returns the number of its rows.
+fn recovered(rt: &HostRuntime, path: &str, journal: &mut File) -> anyhow::Result<(File, u64)> {
+    let mut file = open_file(rt, path)?;
+    recover(rt.alloc(), &mut file, journal, &JOURNAL_KEY, &ID)?;
+    if file.size()? == 0 {
+        file = create(rt, file)?;
+    }
+    let mut pages = SealedPages::open(rt.alloc(), file, system_random(rt)?, &KEY)?;
+    let number = read_rows(&mut pages)?;
+    Ok((pages.into_storage(), number))
+}
+
+fn main(rt: HostRuntime) -> anyhow::Result<()> {
+    let mut arguments = env::args(&rt)?;
+    let (Some(path), Some(journal_path)) = (arguments.nth(1), arguments.nth(0)) else {
+        let file: Vec<u8> = create(&rt, Vec::new(rt.alloc()))?;
+        let (_, number) = write_next(&rt, file, &mut Vec::new(rt.alloc()))?;
+        println!(rt; "all rows hold {number}")?;
+        return Ok(());
+    };
+    let mut journal = open_file(&rt, &journal_path)?;
+    let (mut file, number) = recovered(&rt, &path, &mut journal)?;
+    println!(rt; "all rows hold {number}")?;
+    if arguments.next().is_some() {
+        for _ in 0..u64::MAX {
+            (file, _) = write_next(&rt, file, &mut journal)?;
+        }
+    }
+    Ok(())
+}
