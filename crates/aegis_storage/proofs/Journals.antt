@@ -202,15 +202,6 @@ journal_synced key context xs writes bytes storage old new possible recovers (in
   gives = recovers.gives;
 }
 
-pub journal_kept : (key context xs : List ℕ) (writes : Writes) (storage old new : Option Disk) → Recovers key context xs writes storage old → KeepsDisk old new → Recovers key context xs writes storage new
-journal_kept key context xs writes storage old new recovers keeps = record {
-  storage_disk = recovers.storage_disk;
-  journal_disk = recovers.journal_disk;
-  storage_is = recovers.storage_is;
-  journal_is = keeps recovers.journal_disk recovers.journal_is;
-  gives = recovers.gives;
-}
-
 -- Both are synced, and the journal was read.
 pub record Settled (key context : List ℕ) (storage journal : Option Disk) (a b js : List ℕ) : Type 0 where
   pub now : List ℕ
@@ -222,18 +213,18 @@ if_some_is : (P : List ℕ → Type 0) (js : List ℕ) (bytes : Option (List ℕ
 if_some_is P js bytes is found = subst (λ (o : Option (List ℕ)). IfSome o P) is found
 
 -- `a_bytes` are the storage's, and `b_bytes` and `c_bytes` the journal's before and after its sync
-pub settled : (key context xs : List ℕ) (writes : Writes) (a_bytes b_bytes c_bytes : Option (List ℕ)) (storage storage' journal journal' journal'' : Option Disk) (read js : List ℕ)
+pub settled : (key context xs : List ℕ) (writes : Writes) (a_bytes b_bytes c_bytes : Option (List ℕ)) (storage storage' journal journal' : Option Disk) (read js : List ℕ)
     → IsPossible a_bytes storage → IsPossible b_bytes journal → IsPossible c_bytes journal' → Recovers key context xs writes storage journal → IfSome b_bytes (IsNoForgery key context writes)
-    → MakesCertain a_bytes storage storage' → MakesCertain b_bytes journal journal' → IfSome c_bytes (λ ys. read ≡ ys) → js ≡ read → KeepsDisk journal' journal''
-    → Settled key context storage' journal'' xs (written writes xs) js
-settled key context xs writes a_bytes b_bytes c_bytes storage storage' journal journal' journal'' read js p q r recovers no_forgery s t found same keeps =
+    → MakesCertain a_bytes storage storage' → MakesCertain b_bytes journal journal' → IfSome c_bytes (λ ys. read ≡ ys) → js ≡ read
+    → Settled key context storage' journal' xs (written writes xs) js
+settled key context xs writes a_bytes b_bytes c_bytes storage storage' journal journal' read js p q r recovers no_forgery s t found same =
     let x = readable a_bytes storage recovers.storage_disk p recovers.storage_is in
     let y = readable b_bytes journal recovers.journal_disk q recovers.journal_is in
     let synced = t recovers.journal_disk y.xs recovers.journal_is y.is in
     let js_are : js ≡ y.xs = same ∙ if_some_is (λ ys. read ≡ ys) y.xs c_bytes (readable_certain c_bytes journal' y.xs r synced) found in record {
       now = x.xs;
       storage_is = s recovers.storage_disk x.xs recovers.storage_is x.is;
-      journal_is = keeps (certain y.xs) synced ∙ ap (λ (l : List ℕ). Some (certain l)) (sym js_are);
+      journal_is = synced ∙ ap (λ (l : List ℕ). Some (certain l)) (sym js_are);
       gives = gives_same key context xs (written writes xs) y.xs js x.xs x.xs js_are refl
           (recovers.gives x.xs y.xs x.possible y.possible (if_some_is (IsNoForgery key context writes) y.xs b_bytes y.is no_forgery));
     }

@@ -2,7 +2,6 @@
 use Rattle.std.proofs.Common.{◌≡◌, ℕ, ◌+◌, ◌-◌, ◌<◌, ◌≤◌, ◌⊎◌, inl, inr, IfSome, List, [], ◌∷◌, ◌++◌, None, Some, Option, drop, get_or, length, max, min, replicate, take, sym, ap, subst, ◌∙◌, arith}
 use Rattle.std.proofs.lemmas.Bool.{cases_lt}
 use Rattle.std.proofs.lemmas.List.{ext_get_or, get_or-append_right, get_or-drop, get_or-replicate, get_or-take, get_or_append_left, get_or_past, length-append, length-drop, length-replicate, length-take}
-use Rattle.std.specs.Io.KnownBytes.{Keeps}
 use Rattle.aegis_storage.specs.Bytes.{WritesAt, overwritten, part_at}
 use Rattle.aegis_storage.specs.Disk.{Writes, written}
 use Rattle.aegis_storage.specs.Overlay.{Shows, overlaid}
@@ -101,12 +100,6 @@ pub overlaid_more : (writes : Writes) (at : ℕ) (bs : List ℕ) (a : Option (Li
 overlaid_more writes at bs None = tt
 overlaid_more writes at bs (Some xs) = written_more writes at bs xs
 
-pub known_map : (a b : Option (List ℕ)) (P Q : List ℕ → Type 0) → Keeps a b → ((xs : List ℕ) → P xs → Q xs) → IfSome b P → IfSome a Q
-known_map None b P Q keeps f p = tt
-known_map (Some xs) None P Q keeps f p = absurd keeps
-known_map (Some xs) (Some ys) P Q keeps f p = f xs (subst P keeps p)
-
-pub known_both : (a b : Option (List ℕ)) (P Q R : List ℕ → Type 0) → Keeps a b → ((xs : List ℕ) → P xs → Q xs → R xs) → IfSome a P → IfSome b Q → IfSome a R
-known_both None b P Q R keeps f p q = tt
-known_both (Some xs) None P Q R keeps f p q = absurd keeps
-known_both (Some xs) (Some ys) P Q R keeps f p q = f xs p (subst Q keeps q)
+pub known_both : (a : Option (List ℕ)) (P Q R : List ℕ → Type 0) → ((xs : List ℕ) → P xs → Q xs → R xs) → IfSome a P → IfSome a Q → IfSome a R
+known_both None P Q R f p q = tt
+known_both (Some xs) P Q R f p q = f xs p q

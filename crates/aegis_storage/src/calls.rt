@@ -1,10 +1,9 @@
 //! Several calls of a storage in a row.
 
 ghost use Rattle.std.specs.Prelude.{◌≡◌, [], IfOk, IfSome, List, None, OnErr, OnOk, Option, Some, length, ℕ};
-ghost use Rattle.std.specs.Io.KnownBytes.{Keeps};
 ghost use Rattle.aegis_storage.specs.Bytes.{ResizesTo};
 ghost use Rattle.aegis_storage.specs.Calls.{AddsSome, IsWholeOrEmpty, IsWrittenOver};
-ghost use Rattle.aegis_storage.specs.Disk.{KeepsDisk, WritesAll, certain, written};
+ghost use Rattle.aegis_storage.specs.Disk.{WritesAll, certain, written};
 ghost use Rattle.aegis_storage.specs.Pending.{writes_of};
 
 use crate::pending::PendingWrite;
@@ -14,10 +13,8 @@ use std::io;
 use std::io::ErrorKind;
 
 /// Returns all the bytes.
-pub fn read_all<S: Storage, A: Allocator>(alloc: A, storage: &mut S) -> io::Result<Vec<u8, A>>
-    ensures kept { Keeps (S.bytes storage.old) (S.bytes storage.new) }
-    ensures kept_disk { KeepsDisk (S.disk storage.old) (S.disk storage.new) }
-    ensures read { IfOk result (λ found. IfSome (S.bytes storage.old) (λ xs. found.items ≡ xs)) }
+pub fn read_all<S: Storage, A: Allocator>(alloc: A, storage: &S) -> io::Result<Vec<u8, A>>
+    ensures { IfOk result (λ found. IfSome (S.bytes storage.now) (λ xs. found.items ≡ xs)) }
 {
     let size = storage.size()?;
     if size > MAX_STORAGE_BYTES {

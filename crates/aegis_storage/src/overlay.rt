@@ -1,7 +1,6 @@
 //! A storage that is read through writes which are not made yet.
 
 ghost use Rattle.std.specs.Prelude.{◌≡◌, ◌+◌, ◌≤◌, [], IfSome, List, OnOk, length, ℕ};
-ghost use Rattle.std.specs.Io.KnownBytes.{Keeps};
 ghost use Rattle.aegis_storage.specs.Bytes.{overwritten, part_at};
 ghost use Rattle.aegis_storage.specs.Disk.{written};
 ghost use Rattle.aegis_storage.specs.Overlay.{Shows, overlaid};
@@ -54,10 +53,9 @@ fn lay_all<A: Allocator>(out: &mut [u8], at: u64, writes: &[PendingWrite<A>])
 }
 
 // Reads the bytes from `at` on until `out` is full, with zeros past the end.
-fn read_or_zeros<S: Storage>(storage: &mut S, at: u64, out: &mut [u8]) -> io::Result<()>
+fn read_or_zeros<S: Storage>(storage: &S, at: u64, out: &mut [u8]) -> io::Result<()>
     requires { at + length out.old ≤ MAX_STORAGE_BYTES }
-    ensures kept { Keeps (S.bytes storage.old) (S.bytes storage.new) }
-    ensures read { OnOk result (IfSome (S.bytes storage.old) (λ xs. Shows xs at out.new)) }
+    ensures { OnOk result (IfSome (S.bytes storage.now) (λ xs. Shows xs at out.new)) }
 {
     let size = storage.size()?;
     let count = (size.max(at) - at).min(out.len() as u64) as usize;
@@ -67,14 +65,13 @@ fn read_or_zeros<S: Storage>(storage: &mut S, at: u64, out: &mut [u8]) -> io::Re
 
 // Reads the bytes as they are after the writes, from `at` on until `out` is full.
 fn read_through<S: Storage, A: Allocator>(
-    storage: &mut S,
+    storage: &S,
     writes: &[PendingWrite<A>],
     at: u64,
     out: &mut [u8],
 ) -> io::Result<()>
     requires { at + length out.old ≤ MAX_STORAGE_BYTES }
-    ensures kept { Keeps (S.bytes storage.old) (S.bytes storage.new) }
-    ensures read { OnOk result (IfSome (S.bytes storage.old)
+    ensures { OnOk result (IfSome (S.bytes storage.now)
         (λ xs. out.new ≡ part_at (written (writes_of writes.now) xs) at (length out.old))) }
 {
     let size = storage.size()?;
@@ -89,18 +86,18 @@ fn read_through<S: Storage, A: Allocator>(
 /// A storage over another one, which it only reads: it collects writes in memory, and reads the other one through them.
 ///
 /// Its bytes are those of the other storage with the writes over them, the first of them first. A crash, or dropping
-/// it, loses the writes. [`Overlay::into_parts`] returns them for [`crate::commit`].
+/// it, loses the writes. [`Overlay::into_writes`] returns them for [`crate::commit`].
 #[derive(Drop)]
-pub struct Overlay<S, A: Allocator> {
-    storage: S,
+pub struct Overlay<'a, S, A: Allocator> {
+    storage: &'a S,
     alloc: A,
     writes: Vec<PendingWrite<A>, A>,
 }
 
-impl<S: Storage + Drop, A: Allocator + Copy> Overlay<S, A> {
+impl<'a, S: Storage, A: Allocator + Copy> Overlay<'a, S, A> {
     /// An overlay with no writes.
-    pub fn new(alloc: A, storage: S) -> Overlay<S, A>
-        ensures storage { result.storage ≡ storage }
+    pub fn new(alloc: A, storage: &'a S) -> Overlay<'a, S, A>
+        ensures storage { result.storage.now ≡ storage.now }
         ensures writes { result.writes.items ≡ [] }
     {
         Overlay {
@@ -110,27 +107,29 @@ impl<S: Storage + Drop, A: Allocator + Copy> Overlay<S, A> {
         }
     }
 
-    /// Returns the storage below, and the writes, the first of them first.
-    pub fn into_parts(self) -> (S, Vec<PendingWrite<A>, A>)
-        ensures storage { result.0 ≡ self.storage }
-        ensures writes { result.1 ≡ self.writes }
+    /// Returns the writes, the first of them first.
+    pub fn into_writes(self) -> Vec<PendingWrite<A>, A>
+        ensures { result ≡ self.entry.writes }
     {
-        (self.storage, self.writes)
+        self.writes
     }
 }
 
-impl<S: Storage + Drop, A: Allocator + Copy> Storage for Overlay<S, A> {
-    ghost bytes = { λ overlay. overlaid (writes_of overlay.writes.items) (S.bytes overlay.storage) };
+impl<'a, S: Storage, A: Allocator + Copy> Storage for Overlay<'a, S, A> {
+    ghost bytes = { λ overlay. overlaid (writes_of overlay.writes.items)
+        (S.bytes overlay.storage.now) };
+
+    ghost below = { λ overlay. S.bytes overlay.storage.now };
 
     ghost possible = { λ _. tt };
 
-    fn size(&mut self) -> io::Result<u64> {
+    fn size(&self) -> io::Result<u64> {
         let size = self.storage.size()?;
         Ok(size_after(size, &self.writes))
     }
 
-    fn read_at(&mut self, at: u64, out: &mut [u8]) -> io::Result<()> {
-        read_through(&mut self.storage, &self.writes, at, out)
+    fn read_at(&self, at: u64, out: &mut [u8]) -> io::Result<()> {
+        read_through(self.storage, &self.writes, at, out)
     }
 
     /// Collects the write. The only error is want of memory.

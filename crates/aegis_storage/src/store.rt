@@ -22,6 +22,8 @@ pub const MAX_STORAGE_BYTES: u64 = 9_223_372_036_854_775_807;
 ///
 /// Its ghost member `disk` is what a crash may leave of the bytes, where that is known: what was synced, and the
 /// changes since. For vectors and files it is `None`.
+///
+/// Its ghost member `below` is what another storage holds that this one only reads, as that of an [`crate::Overlay`].
 pub trait Storage {
     // All the bytes, where they are known.
     ghost bytes: { Self → Option (List ℕ) } = { λ _. None };
@@ -29,19 +31,18 @@ pub trait Storage {
     // What a crash may leave of them, where that is known.
     ghost disk: { Self → Option Disk } = { λ _. None };
 
+    // The bytes of a storage below, where there is one and they are known. No call changes them.
+    ghost below: { Self → Option (List ℕ) } = { λ _. None };
+
     /// Returns the number of bytes.
-    fn size(&mut self) -> io::Result<u64>
-        ensures kept { Keeps (bytes self.old) (bytes self.new) }
-        ensures kept_disk { KeepsDisk (disk self.old) (disk self.new) }
-        ensures size { IfOk result (λ n. IfSome (bytes self.old) (λ xs. n ≡ length xs)) };
+    fn size(&self) -> io::Result<u64>
+        ensures { IfOk result (λ n. IfSome (bytes self.now) (λ xs. n ≡ length xs)) };
 
     /// Reads the bytes from `at` on until `out` is full. Returns an error if there are fewer, or if reading fails; the
     /// content of `out` is then any bytes.
-    fn read_at(&mut self, at: u64, out: &mut [u8]) -> io::Result<()>
+    fn read_at(&self, at: u64, out: &mut [u8]) -> io::Result<()>
         requires { at + length out.old ≤ MAX_STORAGE_BYTES }
-        ensures kept { Keeps (bytes self.old) (bytes self.new) }
-        ensures kept_disk { KeepsDisk (disk self.old) (disk self.new) }
-        ensures read { OnOk result (IfSome (bytes self.old)
+        ensures { OnOk result (IfSome (bytes self.now)
             (λ xs. out.new ≡ part_at xs at (length out.old))) };
 
     /// Writes all of `part` over the bytes from `at` on. What lies past the end is added, and a gap is filled with
@@ -53,7 +54,8 @@ pub trait Storage {
         ensures torn { OnErr result
             (TearsAt (bytes self.old) (bytes self.new) at (length part.now)) }
         ensures pending { OnOk result (Adds (disk self.old) (disk self.new) (Write at part.now)) }
-        ensures maybe { OnErr result (MayAdd (disk self.old) (disk self.new) (Write at part.now)) };
+        ensures maybe { OnErr result (MayAdd (disk self.old) (disk self.new) (Write at part.now)) }
+        ensures below { below self.new ≡ below self.old };
 
     /// Cuts the bytes off at `size`, or fills them up to it with zeros. After an error they are as they were. Until a
     /// sync, a crash may leave the one size or the other, also after an error.
@@ -62,14 +64,16 @@ pub trait Storage {
         ensures resized { OnOk result (ResizesTo (bytes self.old) (bytes self.new) size) }
         ensures kept { OnErr result (Keeps (bytes self.old) (bytes self.new)) }
         ensures pending { OnOk result (Adds (disk self.old) (disk self.new) (Size size)) }
-        ensures maybe { OnErr result (MayAdd (disk self.old) (disk self.new) (Size size)) };
+        ensures maybe { OnErr result (MayAdd (disk self.old) (disk self.new) (Size size)) }
+        ensures below { below self.new ≡ below self.old };
 
     /// Returns once all that was written is where it outlasts a loss of power. After an error none of it is certain to.
     fn sync(&mut self) -> io::Result<()>
         ensures kept { Keeps (bytes self.old) (bytes self.new) }
         ensures certain { OnOk result
             (MakesCertain (bytes self.old) (disk self.old) (disk self.new)) }
-        ensures uncertain { OnErr result (KeepsDisk (disk self.old) (disk self.new)) };
+        ensures uncertain { OnErr result (KeepsDisk (disk self.old) (disk self.new)) }
+        ensures below { below self.new ≡ below self.old };
 
     /// What can be read is one of the contents that a crash may leave.
     ghost possible: { (storage : Self) → IsPossible (bytes storage) (disk storage) };
@@ -80,11 +84,11 @@ impl<A: Allocator> Storage for Vec<u8, A> {
 
     ghost possible = { λ _. tt };
 
-    fn size(&mut self) -> io::Result<u64> {
+    fn size(&self) -> io::Result<u64> {
         Ok(self.as_slice().len() as u64)
     }
 
-    fn read_at(&mut self, at: u64, out: &mut [u8]) -> io::Result<()> {
+    fn read_at(&self, at: u64, out: &mut [u8]) -> io::Result<()> {
         let start = at as usize;
         let end = start + out.len();
         if end > self.as_slice().len() {
@@ -117,11 +121,11 @@ impl<A: Allocator> Storage for Vec<u8, A> {
 impl Storage for File {
     ghost possible = { λ _. tt };
 
-    fn size(&mut self) -> io::Result<u64> {
+    fn size(&self) -> io::Result<u64> {
         Ok(self.metadata()?.len())
     }
 
-    fn read_at(&mut self, at: u64, out: &mut [u8]) -> io::Result<()> {
+    fn read_at(&self, at: u64, out: &mut [u8]) -> io::Result<()> {
         self.read_exact_at(out, at)
     }
 

@@ -1,6 +1,6 @@
 use Rattle.aegis_storage.specs.Disk.{written}
 use Rattle.aegis_storage.proofs.Disks.{on_ok_map, sync_either}
-use Rattle.aegis_storage.proofs.Journals.{finish, journal_kept, journal_synced, middle, settled, storage_synced}
+use Rattle.aegis_storage.proofs.Journals.{finish, journal_synced, middle, settled, storage_synced}
 use Rattle.aegis_storage.proofs.recovery.recover.Goals as goal
 
 pub returns-in_err-sync-2-clause-recovers : goal.returns-in_err-sync-2-clause-recovers
@@ -11,24 +11,22 @@ returns-in_err-sync-2-clause-recovers g c xs writes no_forgery recovers =
 
 pub returns-in_err-content-clause-recovers : goal.returns-in_err-content-clause-recovers
 returns-in_err-content-clause-recovers g c xs writes no_forgery recovers =
-    journal_kept _ _ xs writes _ _ _
-    (journal_synced _ _ xs writes _ _ _ _ (g.met.J.Storage.possible c.args.journal.now)
+    journal_synced _ _ xs writes _ _ _ _ (g.met.J.Storage.possible c.args.journal.now)
     (storage_synced _ _ xs writes _ _ _ _ (g.met.S.Storage.possible c.args.storage.now) recovers (sync_either c.sync.result c.sync.ensures.certain c.sync.ensures.uncertain))
-    (sync_either c.sync-2.result c.sync-2.ensures.certain c.sync-2.ensures.uncertain))
-    c.read_all.ensures.kept_disk
+    (sync_either c.sync-2.result c.sync-2.ensures.certain c.sync-2.ensures.uncertain)
 
 pub returns-in_err-redo-clause-recovers : goal.returns-in_err-redo-clause-recovers
 returns-in_err-redo-clause-recovers g c xs writes no_forgery recovers =
-    let s = settled _ _ xs writes _ _ _ _ _ _ _ _ c.in_ok-content.content.items c.deref.result.now
+    let s = settled _ _ xs writes _ _ _ _ _ _ _ c.in_ok-content.content.items c.deref.result.now
     (g.met.S.Storage.possible c.args.storage.now) (g.met.J.Storage.possible c.args.journal.now) (g.met.J.Storage.possible c.sync-2.new.self) recovers no_forgery
-    c.in_ok-sync.ensures.certain c.in_ok-sync-2.ensures.certain c.in_ok-content.ensures.read c.deref.ensures.value c.read_all.ensures.kept_disk in
+    c.in_ok-sync.ensures.certain c.in_ok-sync-2.ensures.certain c.in_ok-content.ensures c.deref.ensures.value in
     middle _ _ xs writes c.deref.result.now _ _ (c.redo.ensures.torn xs (written writes xs) s.now s.storage_is s.gives) s.journal_is
 
 pub returns-clause-recovers : goal.returns-clause-recovers
 returns-clause-recovers g c xs writes no_forgery recovers =
-    let s = settled _ _ xs writes _ _ _ _ _ _ _ _ c.in_ok-content.content.items c.deref.result.now
+    let s = settled _ _ xs writes _ _ _ _ _ _ _ c.in_ok-content.content.items c.deref.result.now
     (g.met.S.Storage.possible c.args.storage.now) (g.met.J.Storage.possible c.args.journal.now) (g.met.J.Storage.possible c.sync-2.new.self) recovers no_forgery
-    c.in_ok-sync.ensures.certain c.in_ok-sync-2.ensures.certain c.in_ok-content.ensures.read c.deref.ensures.value c.read_all.ensures.kept_disk in
+    c.in_ok-sync.ensures.certain c.in_ok-sync-2.ensures.certain c.in_ok-content.ensures c.deref.ensures.value in
     let redone = c.in_ok-redo.ensures.certain s.now s.storage_is in
     finish _ _ xs writes c.deref.result.now redone.bytes _ _ (c.redo.ensures.torn xs (written writes xs) s.now s.storage_is s.gives) redone.is (redone.one xs (written writes xs) s.gives) (c.empty.ensures.torn c.deref.result.now s.journal_is)
 
@@ -36,9 +34,9 @@ pub returns-clause-at_rest : goal.returns-clause-at_rest
 returns-clause-at_rest g c =
     on_ok_map c.empty.result
     (λ certainly xs writes no_forgery recovers.
-    let s = settled _ _ xs writes _ _ _ _ _ _ _ _ c.in_ok-content.content.items c.deref.result.now
+    let s = settled _ _ xs writes _ _ _ _ _ _ _ c.in_ok-content.content.items c.deref.result.now
     (g.met.S.Storage.possible c.args.storage.now) (g.met.J.Storage.possible c.args.journal.now) (g.met.J.Storage.possible c.sync-2.new.self) recovers no_forgery
-    c.in_ok-sync.ensures.certain c.in_ok-sync-2.ensures.certain c.in_ok-content.ensures.read c.deref.ensures.value c.read_all.ensures.kept_disk in
+    c.in_ok-sync.ensures.certain c.in_ok-sync-2.ensures.certain c.in_ok-content.ensures c.deref.ensures.value in
     let redone = c.in_ok-redo.ensures.certain s.now s.storage_is in
     record { bytes = redone.bytes; one = redone.one xs (written writes xs) s.gives; rests = record { storage_is = redone.is; journal_is = certainly c.deref.result.now s.journal_is } })
     c.empty.ensures.certain
