@@ -21,18 +21,6 @@ pub known_all : (o : Option (List ℕ)) (P : List ℕ → Type 0) → ((xs : Lis
 known_all None P f = tt
 known_all (Some xs) P f = f xs
 
--- what is known of kept bytes
-pub kept_known : (a b : Option (List ℕ)) (P : List ℕ → Type 0) → Keeps a b → IfSome b P → IfSome a P
-kept_known None b P k p = tt
-kept_known (Some xs) None P k p = absurd k
-kept_known (Some xs) (Some ys) P k p = subst P k p
-
-pub keeps_trans : (a b c : Option (List ℕ)) → Keeps a b → Keeps b c → Keeps a c
-keeps_trans None b c k l = tt
-keeps_trans (Some xs) None c k l = absurd k
-keeps_trans (Some xs) (Some ys) None k l = absurd l
-keeps_trans (Some xs) (Some ys) (Some zs) k l = subst (λ (v : List ℕ). zs ≡ v) k l
-
 pub keeps_same : (a : Option (List ℕ)) → Keeps a a
 keeps_same None = tt
 keeps_same (Some xs) = refl
@@ -58,39 +46,29 @@ on_before None b P Q R p q f = tt
 on_before (Some xs) None P Q R p q f = absurd p
 on_before (Some xs) (Some ys) P Q R p q f = f xs ys p q
 
-pub on_kept : (a b c : Option (List ℕ)) (P : List ℕ → List ℕ → Type 0) → OnKnown a b P → Keeps b c → OnKnown a c P
-on_kept None b c P p k = tt
-on_kept (Some xs) None c P p k = absurd p
-on_kept (Some xs) (Some ys) None P p k = absurd k
-on_kept (Some xs) (Some ys) (Some zs) P p k = subst (P xs) (sym k) p
-
--- a write, after known bytes were changed, kept, and looked at
-pub on_written : (a b c d : Option (List ℕ)) (P Q : List ℕ → List ℕ → Type 0) (R : List ℕ → Type 0) (at : ℕ) (bs : List ℕ)
-    → OnKnown a b P → Keeps b c → IfSome b R → WritesAt c d at bs → ((xs ys : List ℕ) → P xs ys → R ys → Q xs (overwritten ys at bs)) → OnKnown a d Q
-on_written None b c d P Q R at bs p k r w f = tt
-on_written (Some xs) None c d P Q R at bs p k r w f = absurd p
-on_written (Some xs) (Some ys) None d P Q R at bs p k r w f = absurd k
-on_written (Some xs) (Some ys) (Some zs) None P Q R at bs p k r w f = absurd w
-on_written (Some xs) (Some ys) (Some zs) (Some vs) P Q R at bs p k r w f =
-    subst (Q xs) (sym w) (subst (λ (v : List ℕ). Q xs (overwritten v at bs)) (sym k) (f xs ys p r))
+-- a write, after known bytes were changed and looked at
+pub on_written : (a b c : Option (List ℕ)) (P Q : List ℕ → List ℕ → Type 0) (R : List ℕ → Type 0) (at : ℕ) (bs : List ℕ)
+    → OnKnown a b P → IfSome b R → WritesAt b c at bs → ((xs ys : List ℕ) → P xs ys → R ys → Q xs (overwritten ys at bs)) → OnKnown a c Q
+on_written None b c P Q R at bs p r w f = tt
+on_written (Some xs) None c P Q R at bs p r w f = absurd p
+on_written (Some xs) (Some ys) None P Q R at bs p r w f = absurd w
+on_written (Some xs) (Some ys) (Some zs) P Q R at bs p r w f = subst (Q xs) (sym w) (f xs ys p r)
 
 -- a write that failed
-pub on_torn : (a b c d : Option (List ℕ)) (P Q : List ℕ → List ℕ → Type 0) (at n : ℕ)
-    → OnKnown a b P → Keeps b c → TearsAt c d at n → ((xs ys : List ℕ) → P xs ys → Q xs ys)
-    → ((xs ys torn : List ℕ) → P xs ys → length torn ≤ n → Q xs (overwritten ys at torn)) → OnKnown a d Q
-on_torn None b c d P Q at n p k w f g = tt
-on_torn (Some xs) None c d P Q at n p k w f g = absurd p
-on_torn (Some xs) (Some ys) None d P Q at n p k w f g = absurd k
-on_torn (Some xs) (Some ys) (Some zs) None P Q at n p k w f g = absurd w
-on_torn (Some xs) (Some ys) (Some zs) (Some vs) P Q at n p k (inl same) f g = subst (Q xs) (sym (subst (λ (v : List ℕ). vs ≡ v) k same)) (f xs ys p)
-on_torn (Some xs) (Some ys) (Some zs) (Some vs) P Q at n p k (inr torn) f g =
-    subst (Q xs) (sym torn.2) (subst (λ (v : List ℕ). Q xs (overwritten v at torn.0)) (sym k) (g xs ys torn.0 p torn.1))
+pub on_torn : (a b c : Option (List ℕ)) (P Q : List ℕ → List ℕ → Type 0) (at n : ℕ)
+    → OnKnown a b P → TearsAt b c at n → ((xs ys : List ℕ) → P xs ys → Q xs ys)
+    → ((xs ys torn : List ℕ) → P xs ys → length torn ≤ n → Q xs (overwritten ys at torn)) → OnKnown a c Q
+on_torn None b c P Q at n p w f g = tt
+on_torn (Some xs) None c P Q at n p w f g = absurd p
+on_torn (Some xs) (Some ys) None P Q at n p w f g = absurd w
+on_torn (Some xs) (Some ys) (Some zs) P Q at n p (inl same) f g = subst (Q xs) (sym same) (f xs ys p)
+on_torn (Some xs) (Some ys) (Some zs) P Q at n p (inr torn) f g = subst (Q xs) (sym torn.2) (g xs ys torn.0 p torn.1)
 
 -- reading a page failed
-pub refusal : (layout : Layout) (number end : ℕ) (o p : Option (List ℕ)) (e : PagesError) → Keeps o p → number * layout.page_bytes < end
-    → IsReadError e ⊎ ((e ≡ Damaged number) × IfSome p (λ file. (m : List ℕ) → OpensAt layout number (page_at layout file number) m → ⊥))
+pub refusal : (layout : Layout) (number end : ℕ) (o : Option (List ℕ)) (e : PagesError) → number * layout.page_bytes < end
+    → IsReadError e ⊎ ((e ≡ Damaged number) × IfSome o (λ file. (m : List ℕ) → OpensAt layout number (page_at layout file number) m → ⊥))
     → IsReadRefusal layout end o e
-refusal layout number end o p e kept low (inl is) = read e is
+refusal layout number end o e low (inl is) = read e is
   where
     read : (e : PagesError) → IsReadError e → IsReadRefusal layout end o e
     read (Read e) is = tt
@@ -101,7 +79,7 @@ refusal layout number end o p e kept low (inl is) = read e is
     read TooLong is = absurd is
     read OutOfMemory is = absurd is
     read PageSize is = absurd is
-refusal layout number end o p e kept low (inr is) = subst (IsReadRefusal layout end o) (sym is.0) (low, kept_known o p _ kept is.1)
+refusal layout number end o e low (inr is) = subst (IsReadRefusal layout end o) (sym is.0) (low, is.1)
 
 -- a page of a range could not be composed
 pub range_refusal : (layout : Layout) (number len : ℕ) (o p : Option (List ℕ)) (e : PagesError) → OnKnown o p (KeepsPage layout number)

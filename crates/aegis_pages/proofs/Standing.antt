@@ -9,7 +9,7 @@ use Rattle.aegis_pages.specs.Headers.{IsHeader, IsNewest, KeepsNewest, WritesHea
 use Rattle.aegis_pages.specs.OpenFile.{HasText, IsUnchanged, OpenFile}
 use Rattle.aegis_pages.specs.SealedPages.{ArePages, Holds, IsPage, IsSealed, KeepsFront, KeepsOthers, KeepsPage, KeepsPages, OnKnown, Stands, WritesText}
 use Rattle.aegis_pages.proofs.Heading.{first_headers, header_same, newest_same, next_header, old_header, one_newest, sector_within, sectors_long}
-use Rattle.aegis_pages.proofs.Known.{keeps_same, on_both, on_map, on_same, on_torn}
+use Rattle.aegis_pages.proofs.Known.{on_both, on_map, on_same, on_torn}
 use Rattle.aegis_storage.proofs.Overwriting.{kept_part, length-overwritten, length-part, length-resized, part_byte, put_part, resized_byte}
 use Rattle.aegis_pages.proofs.Rewriting.{keeps_both}
 
@@ -105,7 +105,7 @@ more_others layout counter len from end (Some xs) (Some ys) (Some zs) o h = λ k
 pub torn_header : (layout : Layout) (counter from end : ℕ) (a b c : Option (List ℕ)) → OnKnown a b (KeepsOthers layout from end) → TearsAt b c (sector_place counter) 512
     → OnKnown a c (KeepsPages layout from end)
 torn_header layout counter from end a b c o t =
-    on_torn a b b c (KeepsOthers layout from end) (KeepsPages layout from end) (sector_place counter) 512 o (keeps_same b) t (λ xs ys p. p.pages)
+    on_torn a b c (KeepsOthers layout from end) (KeepsPages layout from end) (sector_place counter) 512 o t (λ xs ys p. p.pages)
     (λ xs ys torn p size k apart. keeps_both layout k xs ys _ (p.pages k apart) (header_page layout k counter ys torn size))
 
 -- the pages outside, of which no header was written
@@ -126,7 +126,7 @@ stays_kept layout counter len from end a b o = on_map a b (KeepsOthers layout fr
 pub stays_torn : (layout : Layout) (counter next len : ℕ) (a b c : Option (List ℕ)) → next ≡ counter + 1 → OnKnown a b (KeepsNewest layout counter len) → TearsAt b c (sector_place next) 512
     → OnKnown a c (KeepsNewest layout counter len)
 stays_torn layout counter next len a b c next_is o t =
-    on_torn a b b c (KeepsNewest layout counter len) (KeepsNewest layout counter len) (sector_place next) 512 o (keeps_same b) t
+    on_torn a b c (KeepsNewest layout counter len) (KeepsNewest layout counter len) (sector_place next) 512 o t
     (λ xs ys p. p)
     (λ xs ys torn p size is. subst (λ (k : ℕ). IsHeader layout counter len (overwritten ys (sector_place k) torn)) (sym next_is) (old_header layout counter len ys torn size (p is)))
 
@@ -202,7 +202,7 @@ front_same layout from a = on_same a (KeepsFront layout from) (λ xs k before wh
 
 pub front_torn : (layout : Layout) (counter from : ℕ) (a b : Option (List ℕ)) → TearsAt a b (sector_place counter) 512 → OnKnown a b (KeepsFront layout from)
 front_torn layout counter from a b t =
-    on_torn a a a b (KeepsFront layout from) (KeepsFront layout from) (sector_place counter) 512 (front_same layout from a) (keeps_same a) t
+    on_torn a a b (KeepsFront layout from) (KeepsFront layout from) (sector_place counter) 512 (front_same layout from a) t
     (λ xs ys p. p) (λ xs ys torn p size k before. keeps_both layout k xs ys _ (p k before) (header_page layout k counter ys torn size))
 
 -- the pages outside a range that begins at byte `from`
@@ -230,17 +230,16 @@ holds layout counter len None text s = absurd s
 holds layout counter len (Some file) text s = record { layout = layout; counter = counter; variant_is = refl; key_is = refl; is = s.1 }
 
 -- the text of a file whose newest header was read
-pub opens_text : (layout : Layout) (counter len : ℕ) (o p : Option (List ℕ)) → IsLaneCount layout.variant.lanes → Keeps o p → IfSome o (IsNewest layout counter len)
-    → IfSome o (λ file. (text : List ℕ) → Holds layout.variant layout.key text file → Stands layout counter len p text)
-opens_text layout counter len None p count k is = tt
-opens_text layout counter len (Some file) None count k is = absurd k
-opens_text layout counter len (Some file) (Some kept) count k is = λ text h.
+pub opens_text : (layout : Layout) (counter len : ℕ) (o : Option (List ℕ)) → IsLaneCount layout.variant.lanes → IfSome o (IsNewest layout counter len)
+    → IfSome o (λ file. (text : List ℕ) → Holds layout.variant layout.key text file → Stands layout counter len o text)
+opens_text layout counter len None count is = tt
+opens_text layout counter len (Some file) count is = λ text h.
     let same = one_newest layout h.layout counter h.counter len (length text) file count h.variant_is h.key_is is h.is.header in (
       same.2,
-      subst (IsSealed layout counter text) (sym k) (record {
+      record {
         header = subst (λ (n : ℕ). IsNewest layout counter n file) (sym same.2) is;
         pages = subst (λ (l : Layout). ArePages l text file) same.0 h.is.pages;
-      }),
+      },
     )
 
 -- what was written is read

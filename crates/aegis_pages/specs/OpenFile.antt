@@ -5,12 +5,13 @@ use Rattle.aegis_storage.specs.Bytes.{part_at}
 use Rattle.aegis_pages.specs.Layouts.{Layout}
 use Rattle.aegis_pages.specs.SealedPages.{IsByte, Stands}
 
--- what the file's boxes are sealed under, the counter and the length of its newest header, and its bytes where they are known
+-- what the file's boxes are sealed under, the counter and the length of its newest header, its bytes where they are known, and those of a storage below that it reads through to
 pub record OpenFile : Type 0 where
   pub layout : Layout
   pub counter : ℕ
   pub len : ℕ
   pub bytes : Option (List ℕ)
+  pub below : Option (List ℕ)
 
 -- the bytes are known, and the file is that of the text
 abbrev pub HasText : OpenFile → List ℕ → Type 0
@@ -22,6 +23,7 @@ pub record IsUnchanged (old new : OpenFile) : Type 0 where
   pub counter : new.counter ≡ old.counter
   pub len : new.len ≡ old.len
   pub bytes : Keeps old.bytes new.bytes
+  pub below : new.below ≡ old.below
 
 -- n bytes were read into `out`, which had room for `room`: as many as there are, each one a byte of a page that opens, and those of the text if the file has one
 pub record Reads (file : OpenFile) (at room : ℕ) (out : List ℕ) (n : ℕ) : Type 0 where

@@ -2,7 +2,6 @@
 
 ghost use Rattle.std.specs.Prelude.{◌≡◌, ◌+◌, ◌%◌, ◌<◌, ◌≤◌, ◌^◌, IfErr, IfOk, IfSome, IsSome, List, OnErr, OnOk, Some, length, ℕ};
 ghost use Rattle.std.specs.Int.{to_le_bytes, w64};
-ghost use Rattle.std.specs.Io.KnownBytes.{Keeps};
 ghost use Rattle.aegis_base.specs.Variant.{key_length};
 ghost use Rattle.aegis_storage.specs.Bytes.{TearsAt};
 ghost use Rattle.aegis_pages.specs.Errors.{IsOpenRefusal, IsWriteError};
@@ -68,6 +67,7 @@ pub fn write_header<S: Storage, N: Nonces, L: LaneState, V: Names, const KEY_BYT
         (WritesHeader layout.now counter len)) }
     ensures torn { OnErr result (TearsAt (S.bytes storage.old) (S.bytes storage.new)
         (sector_place counter) SECTOR_BYTES) }
+    ensures below { S.below storage.new ≡ S.below storage.old }
     ensures refused { IfErr result IsWriteError }
 {
     let mut nonce = [0; KEY_BYTES];
@@ -169,16 +169,15 @@ pub fn newest(even: Option<FileHeader>, odd: Option<FileHeader>) -> Option<FileH
 
 /// Reads both sectors, and returns the newest header of those that open.
 pub fn read_newest<S: Storage, L: LaneState, V: Names, const KEY_BYTES: usize>(
-    storage: &mut S,
+    storage: &S,
     key: &[u8; KEY_BYTES],
 ) -> Result<FileHeader, PagesError>
     requires { KEY_BYTES ≡ key_length L.VARIANT.family }
-    ensures kept { Keeps (S.bytes storage.old) (S.bytes storage.new) }
     ensures size { IfOk result (λ header. IsPageSize header.page_bytes) }
     ensures within { IfOk result (λ header. header.len ≤ MAX_TEXT_BYTES) }
-    ensures newest { IfOk result (λ header. IfSome (S.bytes storage.old)
+    ensures newest { IfOk result (λ header. IfSome (S.bytes storage.now)
         (IsNewest (layout_of L.VARIANT key.now header) header.counter header.len)) }
-    ensures refused { IfErr result (IsOpenRefusal L.VARIANT key.now (S.bytes storage.old)) }
+    ensures refused { IfErr result (IsOpenRefusal L.VARIANT key.now (S.bytes storage.now)) }
 {
     match storage.size() {
         Ok(size) => {

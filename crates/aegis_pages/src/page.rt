@@ -3,7 +3,6 @@
 //! A box is a nonce, a ciphertext and a tag.
 
 ghost use Rattle.std.specs.Prelude.{◌≡◌, ◌+◌, ◌*◌, ◌-◌, ◌≤◌, ◌⊎◌, ◌^◌, IfErr, IfSome, List, OnErr, OnOk, length, true, ℕ};
-ghost use Rattle.std.specs.Io.KnownBytes.{Keeps};
 ghost use Rattle.aegis_storage.specs.Bytes.{TearsAt, WritesAt};
 ghost use Rattle.aegis_pages.specs.Layouts.{OpensAt, box_bytes, inner, page_at, page_place};
 ghost use Rattle.aegis_pages.specs.Errors.{IsReadError, IsWriteError};
@@ -64,22 +63,21 @@ pub fn open_box<L: LaneState, V: Names, const KEY_BYTES: usize>(
 /// Reads a page and opens it: its text then stands in the page's box. Returns [`PagesError::Read`] or
 /// [`PagesError::Damaged`].
 pub fn read_page<S: Storage, L: LaneState, V: Names, const KEY_BYTES: usize>(
-    storage: &mut S,
+    storage: &S,
     layout: &FileLayout<L, V, KEY_BYTES>,
     number: u64,
     page: &mut [u8],
 ) -> Result<(), PagesError>
     requires room { length page.old ≡ box_bytes layout.now layout.now.page_bytes }
     requires within { number * layout.now.page_bytes ≤ MAX_TEXT_BYTES }
-    ensures kept { Keeps (S.bytes storage.old) (S.bytes storage.new) }
-    ensures opened { OnOk result (IfSome (S.bytes storage.old)
+    ensures opened { OnOk result (IfSome (S.bytes storage.now)
         (λ file. OpensAt layout.now number (page_at layout.now file number)
         (inner layout.now page.new))) }
-    ensures only { OnOk result (IfSome (S.bytes storage.old) (λ file. (m : List ℕ)
+    ensures only { OnOk result (IfSome (S.bytes storage.now) (λ file. (m : List ℕ)
         → OpensAt layout.now number (page_at layout.now file number) m
         → inner layout.now page.new ≡ m)) }
     ensures refused { IfErr result (λ e. IsReadError e ⊎ ((e ≡ PagesError.Damaged number)
-        × IfSome (S.bytes storage.old) (λ file. (m : List ℕ)
+        × IfSome (S.bytes storage.now) (λ file. (m : List ℕ)
         → OpensAt layout.now number (page_at layout.now file number) m → ⊥))) }
 {
     let place = layout.page_place(number);
@@ -111,6 +109,7 @@ pub fn write_page<S: Storage, N: Nonces, L: LaneState, V: Names, const KEY_BYTES
         (page_place layout.now number) sealed) }
     ensures torn { OnErr result (TearsAt (S.bytes storage.old) (S.bytes storage.new)
         (page_place layout.now number) (box_bytes layout.now layout.now.page_bytes)) }
+    ensures below { S.below storage.new ≡ S.below storage.old }
     ensures refused { IfErr result IsWriteError }
 {
     let place = layout.page_place(number);

@@ -1,7 +1,6 @@
 //! A text that is read and written at any place.
 
 ghost use Rattle.std.specs.Prelude.{◌≡◌, ◌+◌, ◌-◌, ◌<◌, ◌≤◌, ◌⊎◌, ◌^◌, ◌↔◌, [], Err, IfErr, IfOk, IfSome, IsTrue, List, OnErr, OnOk, if◌then◌else◌, is_ok, length, max, min, replicate, true, ℕ};
-ghost use Rattle.std.specs.Io.KnownBytes.{Keeps};
 ghost use Rattle.aegis_base.specs.Variant.{key_length};
 ghost use Rattle.aegis_storage.specs.Bytes.{overwritten, part_at, resized};
 ghost use Rattle.aegis_pages.specs.Errors.{IsCreateRefusal, IsOpenRefusal, IsReadRefusal, IsWriteRefusal};
@@ -51,6 +50,7 @@ impl<L: LaneState, V: Names, const KEY_BYTES: usize, S: Storage, N, A: Allocator
       counter = p.counter;
       len = p.len;
       bytes = S.bytes p.storage;
+      below = S.below p.storage;
     } };
 
     ghost invariant = { λ p. (length p.page.bytes.items ≡ box_bytes p.layout p.layout.page_bytes)
@@ -134,6 +134,7 @@ impl<
         }) }
         ensures empty { IfOk result (λ pages. pages.len ≡ 0) }
         ensures created { IfOk result (λ pages. IfSome (S.bytes storage) (λ _. HasText pages [])) }
+        ensures below { IfOk result (λ pages. pages.below ≡ S.below storage) }
         ensures size { OnOk result (IsPageSize page_bytes) }
         ensures refused { IfErr result (IsCreateRefusal page_bytes) }
     {
@@ -166,21 +167,22 @@ impl<
     /// and [`PagesError::Read`] or [`PagesError::OutOfMemory`].
     pub fn open(
         alloc: A,
-        mut storage: S,
+        storage: S,
         nonces: N,
         key: &[u8; KEY_BYTES],
     ) -> Result<Self, PagesError>
         requires { KEY_BYTES ≡ key_length L.VARIANT.family }
         ensures variant { IfOk result (λ pages. pages.layout.variant ≡ L.VARIANT) }
         ensures key { IfOk result (λ pages. pages.layout.key ≡ key.now) }
-        ensures kept { IfOk result (λ pages. Keeps (S.bytes storage) pages.bytes) }
+        ensures kept { IfOk result (λ pages. pages.bytes ≡ S.bytes storage) }
+        ensures below { IfOk result (λ pages. pages.below ≡ S.below storage) }
         ensures newest { IfOk result (λ pages. IfSome (S.bytes storage)
             (IsNewest pages.layout pages.counter pages.len)) }
         ensures holds { IfOk result (λ pages. IfSome (S.bytes storage) (λ file. (text : List ℕ)
             → Holds L.VARIANT key.now text file → HasText pages text)) }
         ensures refused { IfErr result (IsOpenRefusal L.VARIANT key.now (S.bytes storage)) }
     {
-        let header = read_newest::<S, L, V, KEY_BYTES>(&mut storage, key)?;
+        let header = read_newest::<S, L, V, KEY_BYTES>(&storage, key)?;
         let layout = FileLayout::new(key, header.page_bytes, &header.id);
         let Ok(page) = page_buffer(alloc, header.page_bytes as usize + (KEY_BYTES + TAG_BYTES))
         else {
@@ -232,7 +234,7 @@ impl<
         }
         let count = (self.len - at).min(out.len() as u64) as usize;
         let read = read_range(
-            &mut self.storage,
+            &self.storage,
             &self.layout,
             &mut self.page.bytes,
             at,
@@ -263,6 +265,7 @@ impl<
             (KeepsPages self.old.layout (min at self.old.len) (at + length part.now)) }
         ensures header { OnKnown self.old.bytes self.new.bytes
             (KeepsNewest self.old.layout self.old.counter self.old.len) }
+        ensures below { self.new.below ≡ self.old.below }
         ensures too_long { MAX_TEXT_BYTES < at + length part.now
             → result ≡ Err PagesError.TooLong }
         ensures refused { IfErr result (IsWriteRefusal self.old (at + length part.now)) }
@@ -308,6 +311,7 @@ impl<
             (KeepsFront self.old.layout (min len self.old.len)) }
         ensures header { OnKnown self.old.bytes self.new.bytes
             (KeepsNewest self.old.layout self.old.counter self.old.len) }
+        ensures below { self.new.below ≡ self.old.below }
         ensures too_long { MAX_TEXT_BYTES < len → result ≡ Err PagesError.TooLong }
         ensures refused { IfErr result (IsWriteRefusal self.old len) }
     {
@@ -340,6 +344,7 @@ impl<
     /// Gives the storage back.
     pub fn into_storage(self) -> S
         ensures bytes { S.bytes result ≡ self.bytes }
+        ensures below { S.below result ≡ self.below }
         ensures holds { (text : List ℕ) → HasText self text
             → IfSome (S.bytes result) (Holds self.layout.variant self.layout.key text) }
     {

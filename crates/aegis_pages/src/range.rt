@@ -1,7 +1,6 @@
 //! Reading and writing the bytes of a text across pages.
 
 ghost use Rattle.std.specs.Prelude.{◌≡◌, ◌+◌, ◌*◌, ◌-◌, ◌<◌, ◌≤◌, ◌⊎◌, ◌^◌, min, IfErr, IfSome, List, OnOk, length, slice_index, ℕ};
-ghost use Rattle.std.specs.Io.KnownBytes.{Keeps};
 ghost use Rattle.aegis_storage.specs.Bytes.{overwritten};
 ghost use Rattle.aegis_pages.specs.Errors.{IsRangeRefusal, IsReadError, IsReadRefusal};
 ghost use Rattle.aegis_pages.specs.Layouts.{OpensAt, box_bytes, inner, page_at};
@@ -17,7 +16,7 @@ use aegis_storage::bytes::{clear_from, put};
 
 /// Reads the bytes of the text from `at` on until `out` is full.
 pub fn read_range<S: Storage, L: LaneState, V: Names, const KEY_BYTES: usize>(
-    storage: &mut S,
+    storage: &S,
     layout: &FileLayout<L, V, KEY_BYTES>,
     page: &mut [u8],
     at: u64,
@@ -25,14 +24,13 @@ pub fn read_range<S: Storage, L: LaneState, V: Names, const KEY_BYTES: usize>(
 ) -> Result<(), PagesError>
     requires room { length page.old ≡ box_bytes layout.now layout.now.page_bytes }
     requires within { at + length out.old ≤ MAX_TEXT_BYTES }
-    ensures kept { Keeps (S.bytes storage.old) (S.bytes storage.new) }
-    ensures opened { OnOk result (IfSome (S.bytes storage.old) (λ file. (i : ℕ)
+    ensures opened { OnOk result (IfSome (S.bytes storage.now) (λ file. (i : ℕ)
         → i < length out.new → IsByte layout.now file (at + i) (slice_index out.new i))) }
-    ensures read { OnOk result (IfSome (S.bytes storage.old) (λ file. (text : List ℕ)
+    ensures read { OnOk result (IfSome (S.bytes storage.now) (λ file. (text : List ℕ)
         → ArePages layout.now text file → at + length out.new ≤ length text → (i : ℕ)
         → i < length out.new → slice_index out.new i ≡ slice_index text (at + i))) }
     ensures refused { IfErr result
-        (IsReadRefusal layout.now (at + length out.old) (S.bytes storage.old)) }
+        (IsReadRefusal layout.now (at + length out.old) (S.bytes storage.now)) }
 {
     let page_bytes = layout.page_bytes() as u64;
     let nonce_bytes = layout.nonce_bytes();
@@ -98,7 +96,7 @@ pub fn live_bytes(page_bytes: u64, len: u64, start: u64, at: u64, end: u64) -> u
 /// Puts into the page's box its text as it is after `part` was written over the text from `at` on. The text had `len`
 /// bytes before. The page is read only if some of its bytes are kept.
 pub fn compose<S: Storage, L: LaneState, V: Names, const KEY_BYTES: usize>(
-    storage: &mut S,
+    storage: &S,
     layout: &FileLayout<L, V, KEY_BYTES>,
     len: u64,
     number: u64,
@@ -110,8 +108,7 @@ pub fn compose<S: Storage, L: LaneState, V: Names, const KEY_BYTES: usize>(
     requires number { number * layout.now.page_bytes ≤ MAX_TEXT_BYTES }
     requires len { len ≤ MAX_TEXT_BYTES }
     requires end { at + length part.now ≤ MAX_TEXT_BYTES }
-    ensures kept { Keeps (S.bytes storage.old) (S.bytes storage.new) }
-    ensures composed { OnOk result (IfSome (S.bytes storage.old) (λ file. (text : List ℕ)
+    ensures composed { OnOk result (IfSome (S.bytes storage.now) (λ file. (text : List ℕ)
         → length text ≡ len
         → (number * layout.now.page_bytes < len
         → IsPage layout.now number (page_at layout.now file number) text)
@@ -119,7 +116,7 @@ pub fn compose<S: Storage, L: LaneState, V: Names, const KEY_BYTES: usize>(
         ≡ slice_index (overwritten text at part.now) (number * layout.now.page_bytes + i))) }
     ensures refused { IfErr result (λ e. IsReadError e ⊎ ((e ≡ PagesError.Damaged number)
         × (number * layout.now.page_bytes < len)
-        × IfSome (S.bytes storage.old) (λ file. (m : List ℕ)
+        × IfSome (S.bytes storage.now) (λ file. (m : List ℕ)
         → OpensAt layout.now number (page_at layout.now file number) m → ⊥))) }
 {
     let page_bytes = layout.page_bytes() as u64;
@@ -152,6 +149,7 @@ pub fn write_range<S: Storage, N: Nonces, L: LaneState, V: Names, const KEY_BYTE
         (WritesText layout.now len at part.now)) }
     ensures others { OnKnown (S.bytes storage.old) (S.bytes storage.new)
         (KeepsOthers layout.now (min at len) (at + length part.now)) }
+    ensures below { S.below storage.new ≡ S.below storage.old }
     ensures refused { IfErr result (IsRangeRefusal layout.now len (S.bytes storage.old)) }
 {
     let page_bytes = layout.page_bytes() as u64;

@@ -1,6 +1,6 @@
 use Rattle.std.proofs.Common.{◌≡◌, Some, arith, length}
 use Rattle.aegis_storage.specs.Bytes.{part_at}
-use Rattle.aegis_pages.proofs.Known.{kept_known, known_map}
+use Rattle.aegis_pages.proofs.Known.{known_map}
 use Rattle.aegis_pages.proofs.Newest.{newest_read, none_read, reads_both}
 use Rattle.aegis_pages.proofs.header.read_newest.Goals as goal
 
@@ -14,7 +14,7 @@ returns-in-Some-clause-newest g c =
     (reads_both g.L.LaneState.VARIANT c.args.key.now c.open_sector-even.result c.open_sector-odd.result file c.read_at.new.out c.split_at_mut-even.result.0.now c.split_at_mut-even.result.1.now
     g.met.L.LaneState.one_two_or_four long c.split_at_mut-even.ensures.front c.split_at_mut-even.ensures.back
     (record { opened = even.opened; turn_is = even.turn; all = even.found }) (record { opened = odd.opened; turn_is = odd.turn; all = odd.found }) is) c.in-Some.ensures)
-    (kept_known _ _ _ c.in-Ok.ensures.kept c.in-Ok-read_at.ensures.read)
+    c.in-Ok-read_at.ensures
 
 pub returns-in-None-clause-refused : goal.returns-in-None-clause-refused
 returns-in-None-clause-refused g c =
@@ -26,4 +26,4 @@ returns-in-None-clause-refused g c =
     (reads_both g.L.LaneState.VARIANT c.args.key.now c.open_sector-even.result c.open_sector-odd.result file c.read_at.new.out c.split_at_mut-even.result.0.now c.split_at_mut-even.result.1.now
     g.met.L.LaneState.one_two_or_four long c.split_at_mut-even.ensures.front c.split_at_mut-even.ensures.back
     (record { opened = even.opened; turn_is = even.turn; all = even.found }) (record { opened = odd.opened; turn_is = odd.turn; all = odd.found }) is) c.in-None.ensures)
-    (kept_known _ _ _ c.in-Ok.ensures.kept c.in-Ok-read_at.ensures.read)
+    c.in-Ok-read_at.ensures

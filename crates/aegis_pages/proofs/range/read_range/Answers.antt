@@ -1,7 +1,7 @@
 use Rattle.std.proofs.Common.{◌≡◌, ◌+◌, ◌-◌, ◌%◌, ◌<◌, ◌≤◌, ◌∙◌, ℕ, ap, arith, drop, length, refl, take}
 use Rattle.std.proofs.lemmas.Nat.{mod_below}
 use Rattle.aegis_storage.specs.Bytes.{overwritten}
-use Rattle.aegis_pages.proofs.Known.{keeps_trans, kept_known, known_map2}
+use Rattle.aegis_pages.proofs.Known.{known_map2}
 use Rattle.aegis_pages.proofs.Ranging.{Puts, bytes_more, text_more}
 use Rattle.aegis_pages.proofs.range.read_range.Given.{Over}
 use Rattle.aegis_pages.proofs.range.read_range.Goals as goal
@@ -39,15 +39,14 @@ loop-done-preserved g c =
     record {
       within = omega (arith, out, longer, count, within);
       room = c.read_page.auto.page ∙ c.loop-done.invariant.room;
-      kept = keeps_trans _ _ _ c.loop-done.invariant.kept c.in_ok-read_page.ensures.kept;
       opened = known_map2 (g.S.Storage.bytes c.args.storage.now) _ _ _
           (λ file before opens. bytes_more c.args.layout.now file c.read_page.new.page c.loop-done.out _ c.put.new.bytes c.args.at c.loop-done.done c.min-count.result (puts g c) before
           (rw value at opens))
-          c.loop-done.invariant.opened (kept_known _ _ _ c.loop-done.invariant.kept c.in_ok-read_page.ensures.opened);
+          c.loop-done.invariant.opened c.in_ok-read_page.ensures.opened;
       read = known_map2 (g.S.Storage.bytes c.args.storage.now) _ _ _
           (λ file before only text are fits.
           text_more c.args.layout.now file c.read_page.new.page c.loop-done.out _ c.put.new.bytes text c.args.at c.loop-done.done c.min-count.result (puts g c) are
           (before text are (let h : c.args.at + length c.loop-done.out ≤ length text = omega (arith, longer, fits) in h)) (rw value at only)
           (let h : c.args.at + (c.loop-done.done + c.min-count.result) ≤ length text = omega (arith, longer, fits, count, within) in h))
-          c.loop-done.invariant.read (kept_known _ _ _ c.loop-done.invariant.kept c.in_ok-read_page.ensures.only);
+          c.loop-done.invariant.read c.in_ok-read_page.ensures.only;
     }

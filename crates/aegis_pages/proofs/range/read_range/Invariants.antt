@@ -1,5 +1,4 @@
 use Rattle.std.proofs.Common.{◌≡◌, ℕ, ◌+◌, ◌-◌, ◌<◌, ◌≤◌, IfSome, List, get_or, length}
-use Rattle.std.specs.Io.KnownBytes.{Keeps}
 use Rattle.aegis_pages.specs.SealedPages.{ArePages, IsByte}
 use Rattle.aegis_pages.proofs.range.read_range.Given as goal
 
@@ -7,7 +6,6 @@ abbrev pub invariant-loop-done : goal.invariant-loop-done
 invariant-loop-done g l = record {
   within : l.done ≤ length l.out;
   room : length l.page ≡ length l.fn.page;
-  kept : Keeps (g.S.Storage.bytes l.fn.storage) (g.S.Storage.bytes l.storage);
   opened : IfSome (g.S.Storage.bytes l.fn.storage)
       (λ file. (i : ℕ) → i < l.done → IsByte l.fn.layout file (l.at + i) (get_or l.out i 0));
   read : IfSome (g.S.Storage.bytes l.fn.storage)

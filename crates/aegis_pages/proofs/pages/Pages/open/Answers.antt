@@ -14,6 +14,5 @@ pub returns-clause-holds : goal.returns-clause-holds
 returns-clause-holds g c =
     let header = c.in_ok-header.header in
     subst (λ (l : Layout). IfSome (g.S.Storage.bytes c.args.storage) (λ file. (text : List ℕ) → Holds g.L.LaneState.VARIANT c.args.key.now text file
-    → Stands l c.in_ok-header.header.counter c.in_ok-header.header.len (g.S.Storage.bytes c.read_newest.new.storage) text)) (sym c.new-layout.ensures)
-    (opens_text (layout_of g.L.LaneState.VARIANT c.args.key.now c.in_ok-header.header) header.counter header.len _ _ g.met.L.LaneState.one_two_or_four
-    c.in_ok-header.ensures.kept c.in_ok-header.ensures.newest)
+    → Stands l c.in_ok-header.header.counter c.in_ok-header.header.len (g.S.Storage.bytes c.args.storage) text)) (sym c.new-layout.ensures)
+    (opens_text (layout_of g.L.LaneState.VARIANT c.args.key.now c.in_ok-header.header) header.counter header.len _ g.met.L.LaneState.one_two_or_four c.in_ok-header.ensures.newest)

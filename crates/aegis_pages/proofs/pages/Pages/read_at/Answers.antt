@@ -1,8 +1,8 @@
-use Rattle.std.proofs.Common.{◌≡◌, ◌+◌, ◌<◌, ◌≤◌, ◌∙◌, ℕ, List, ◌++◌, ap, arith, drop, length, subst, sym, take}
+use Rattle.std.proofs.Common.{◌≡◌, ◌+◌, ◌<◌, ◌≤◌, ◌∙◌, ℕ, List, ◌++◌, ap, arith, drop, length, refl, subst, sym, take}
 use Rattle.std.proofs.lemmas.List.{get_or_append_left, length-append, length-drop, length-take, take_all, take_at}
 use Rattle.aegis_storage.specs.Bytes.{overwritten, part_at}
 use Rattle.aegis_pages.specs.SealedPages.{IsByte, Stands}
-use Rattle.aegis_pages.proofs.Known.{known_map, refusal_within}
+use Rattle.aegis_pages.proofs.Known.{keeps_same, known_map, refusal_within}
 use Rattle.aegis_pages.proofs.Standing.{read_so, stands_len, stands_use, written_none, written_read}
 use Rattle.aegis_pages.proofs.pages.Pages.read_at.Given.{Over}
 use Rattle.aegis_pages.proofs.pages.Pages.read_at.Goals as goal
@@ -21,6 +21,10 @@ invariant_of-self g c =
     ≡ length c.self.inside.page.bytes.items =
     omega (arith, same, all, length-take c.self.inside.page.bytes.len (new ++ drop (length new) items), length-append new (drop (length new) items), length-drop (length new) items) in
     (long ∙ c.self.invariant.0, c.self.invariant.1, c.self.invariant.2)
+
+pub returns-in-Err-clause-unchanged : goal.returns-in-Err-clause-unchanged
+returns-in-Err-clause-unchanged g c = rw (← c.self.view_is)
+    (record { layout = refl; counter = refl; len = refl; bytes = keeps_same (g.S.Storage.bytes c.self.inside.storage); below = refl })
 
 pub returns-in-Err-clause-refused : goal.returns-in-Err-clause-refused
 returns-in-Err-clause-refused g c =
@@ -93,3 +97,7 @@ returns-clause-written g c = rw (← c.self.view_is) (λ text part same stands.
     let size = all_long g c in
     written_read text part (c.read_range-read.new.out ++ drop c.min-count.result c.args.out.now) c.args.at c.self.inside.len c.min-count.result
     (stands_len _ _ _ _ _ stands) (same ∙ sym size) (omega (arith, count, size)) (reads g c (overwritten text c.args.at part) stands))
+
+pub returns-clause-unchanged : goal.returns-clause-unchanged
+returns-clause-unchanged g c = rw (← c.self.view_is)
+    (record { layout = refl; counter = refl; len = refl; bytes = keeps_same (g.S.Storage.bytes c.self.inside.storage); below = refl })
