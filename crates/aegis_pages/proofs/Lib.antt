@@ -1,3 +1,4 @@
+pub mod Batching
 pub mod Boxes
 pub mod Composing
 pub mod Heading

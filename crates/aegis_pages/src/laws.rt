@@ -1,8 +1,13 @@
 //! Laws: functions that do nothing, and whose contracts are facts about the definitions that the other contracts cite.
 
-ghost use Rattle.std.specs.Prelude.{◌≡◌, ◌+◌, ◌≤◌, List, length, ℕ};
+ghost use Rattle.std.specs.Prelude.{◌≡◌, ◌+◌, ◌≤◌, List, Option, length, ℕ};
+ghost use Rattle.aegis_base.specs.Variant.{Variant};
 ghost use Rattle.aegis_storage.specs.Bytes.{overwritten, part_at};
+ghost use Rattle.aegis_storage.specs.Disk.{Disk, Writes, written};
+ghost use Rattle.aegis_storage.specs.Journal.{IsAtRest, Recovers, RestsAtEither};
+ghost use Rattle.aegis_pages.specs.Batches.{RecoversText, RestsAtText};
 ghost use Rattle.aegis_pages.specs.OpenFile.{HasText, IsUnchanged, OpenFile};
+ghost use Rattle.aegis_pages.specs.SealedPages.{Holds};
 
 /// A part that was written is what is read at its place.
 pub fn written_is_read()
@@ -29,4 +34,30 @@ pub fn whole_is_written()
 pub fn unchanged_has_its_text()
     ensures { (old new : OpenFile) (text : List ℕ) → IsUnchanged old new → HasText old text
         → HasText new text }
+{}
+
+/// Writes that make a file of one text a file of another recover to one of the two texts.
+pub fn batch_recovers_text()
+    ensures { (variant : Variant) (key before after journal_key context file : List ℕ)
+        (writes : Writes) (storage journal : Option Disk)
+        → Recovers journal_key context file writes storage journal
+        → Holds variant key before file → Holds variant key after (written writes file)
+        → RecoversText variant key before after journal_key context storage journal }
+{}
+
+/// A file at rest recovers to its text.
+pub fn text_at_rest_recovers()
+    ensures { (variant : Variant) (key before after journal_key context file : List ℕ)
+        (storage journal : Option Disk)
+        → IsAtRest storage journal file → Holds variant key before file
+        → RecoversText variant key before after journal_key context storage journal }
+{}
+
+/// What was recovered is at rest, and holds one of the two texts.
+pub fn recovered_text_is_at_rest()
+    ensures { (variant : Variant) (key before after journal_key context : List ℕ)
+        (storage journal new_storage new_journal : Option Disk)
+        → (batch : RecoversText variant key before after journal_key context storage journal)
+        → RestsAtEither new_storage new_journal batch.file batch.writes
+        → RestsAtText variant key before after new_storage new_journal }
 {}

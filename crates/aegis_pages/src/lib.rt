@@ -12,6 +12,7 @@
 //! aliases of it.
 #![tactic(auto)]
 
+mod batch;
 mod draws;
 mod error;
 mod header;
@@ -22,6 +23,7 @@ mod pages;
 mod range;
 mod variants;
 
+pub use batch::open_recovered;
 pub use draws::Nonces;
 pub use error::PagesError;
 pub use layout::{DEFAULT_PAGE_BYTES, MAX_PAGE_BYTES, MAX_TEXT_BYTES, MIN_PAGE_BYTES};

@@ -66,31 +66,31 @@ fn read_rows<S: Storage + Drop, N: Nonces + Drop>(
 }
 
 // Writes the number after that of the rows to all of them, and returns it.
-fn write_next<S: Storage + Drop, J: Storage>(
+fn write_next<S: Storage, J: Storage>(
     rt: &HostRuntime,
-    storage: S,
+    storage: &mut S,
     journal: &mut J,
-) -> anyhow::Result<(S, u64)> {
+) -> anyhow::Result<u64> {
     let alloc = rt.alloc();
-    let overlay = Overlay::new(alloc, storage);
+    let overlay = Overlay::new(alloc, &*storage);
     let mut pages = SealedPages::open(alloc, overlay, system_random(rt)?, &KEY)?;
     let number = read_rows(&mut pages)?.wrapping_add(1);
     for row in 0..ROWS {
         pages.write_at(row * ROW_DISTANCE, &number.to_le_bytes())?;
     }
-    let (mut storage, writes) = pages.into_storage().into_parts();
+    let writes = pages.into_writes();
     let mut prefix = [0; 24];
     system_random(rt)?.draw(&mut prefix)?;
     commit(
         alloc,
-        &mut storage,
+        storage,
         journal,
         &JOURNAL_KEY,
         &prefix,
         &ID,
         &writes,
     )?;
-    Ok((storage, number))
+    Ok(number)
 }
 
 // Opens a file for reading and writing, and makes it if there is none.
@@ -117,8 +117,8 @@ fn recovered(rt: &HostRuntime, path: &str, journal: &mut File) -> anyhow::Result
 fn main(rt: HostRuntime) -> anyhow::Result<()> {
     let mut arguments = env::args(&rt)?;
     let (Some(path), Some(journal_path)) = (arguments.nth(1), arguments.nth(0)) else {
-        let file: Vec<u8> = create(&rt, Vec::new(rt.alloc()))?;
-        let (_, number) = write_next(&rt, file, &mut Vec::new(rt.alloc()))?;
+        let mut file: Vec<u8> = create(&rt, Vec::new(rt.alloc()))?;
+        let number = write_next(&rt, &mut file, &mut Vec::new(rt.alloc()))?;
         println!(rt; "all rows hold {number}")?;
         return Ok(());
     };
@@ -127,7 +127,7 @@ fn main(rt: HostRuntime) -> anyhow::Result<()> {
     println!(rt; "all rows hold {number}")?;
     if arguments.next().is_some() {
         for _ in 0..u64::MAX {
-            (file, _) = write_next(&rt, file, &mut journal)?;
+            write_next(&rt, &mut file, &mut journal)?;
         }
     }
     Ok(())

@@ -7,6 +7,7 @@ ghost use Rattle.test_storage.specs.Pending.{all_there, bytes_of, changes_of, di
 use crate::pending::{NewSize, PendingChange};
 use aegis_storage::{PendingWrite, Storage};
 use std::alloc::Global;
+use std::cell::Cell;
 use std::io;
 use std::io::ErrorKind;
 
@@ -17,7 +18,7 @@ pub struct TestDisk {
     pub synced: Vec<u8>,
     pub pending: Vec<PendingChange>,
     /// How many calls still succeed.
-    pub calls: u64,
+    pub calls: Cell<u64>,
 }
 
 /// Makes one change.
@@ -41,7 +42,7 @@ impl TestDisk {
             alloc,
             synced,
             pending: Vec::new(alloc),
-            calls,
+            calls: Cell::new(calls),
         }
     }
 
@@ -57,14 +58,12 @@ impl TestDisk {
     }
 
     // Counts a call. Returns an error if it fails.
-    fn count(&mut self) -> io::Result<()>
-        ensures synced { self.new.synced ≡ self.old.synced }
-        ensures pending { self.new.pending ≡ self.old.pending }
-    {
-        if self.calls == 0 {
+    fn count(&self) -> io::Result<()> {
+        let calls = self.calls.get();
+        self.calls.set(calls.saturating_sub(1));
+        if calls == 0 {
             return Err(io::Error::from(ErrorKind::Other));
         }
-        self.calls -= 1;
         Ok(())
     }
 }
@@ -76,15 +75,14 @@ impl Storage for TestDisk {
 
     ghost possible = { λ disk. all_there disk };
 
-    fn size(&mut self) -> io::Result<u64> {
+    fn size(&self) -> io::Result<u64> {
         self.count()?;
         Ok(self.current()?.len() as u64)
     }
 
-    fn read_at(&mut self, at: u64, out: &mut [u8]) -> io::Result<()> {
+    fn read_at(&self, at: u64, out: &mut [u8]) -> io::Result<()> {
         self.count()?;
-        let mut bytes = self.current()?;
-        bytes.read_at(at, out)
+        Storage::read_at(&self.current()?, at, out)
     }
 
     fn write_at(&mut self, at: u64, part: &[u8]) -> io::Result<()> {

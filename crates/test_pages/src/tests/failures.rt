@@ -4,6 +4,7 @@ use super::{Counter, ID, KEY, small_file};
 use aegis_pages::{PagesError, SealedPages};
 use aegis_storage::Storage;
 use std::alloc::Global;
+use std::cell::Cell;
 use std::io;
 use std::io::ErrorKind;
 use std::process::Abort;
@@ -20,14 +21,14 @@ const OPENING_CALLS: u64 = 2;
 #[derive(Drop)]
 struct Failing {
     bytes: Vec<u8>,
-    before: u64,
+    before: Cell<u64>,
 }
 
 impl Failing {
     // Counts a call, and returns an error if it is the one that fails.
-    fn count(&mut self) -> io::Result<()> {
-        let before = self.before;
-        self.before = before.wrapping_sub(1);
+    fn count(&self) -> io::Result<()> {
+        let before = self.before.get();
+        self.before.set(before.wrapping_sub(1));
         if before == 0 {
             return Err(io::Error::from(ErrorKind::Other));
         }
@@ -38,14 +39,14 @@ impl Failing {
 impl Storage for Failing {
     ghost possible = { λ _. tt };
 
-    fn size(&mut self) -> io::Result<u64> {
+    fn size(&self) -> io::Result<u64> {
         self.count()?;
         self.bytes.size()
     }
 
-    fn read_at(&mut self, at: u64, out: &mut [u8]) -> io::Result<()> {
+    fn read_at(&self, at: u64, out: &mut [u8]) -> io::Result<()> {
         self.count()?;
-        Storage::read_at(&mut self.bytes, at, out)
+        Storage::read_at(&self.bytes, at, out)
     }
 
     fn write_at(&mut self, at: u64, part: &[u8]) -> io::Result<()> {
@@ -134,7 +135,7 @@ fn fail_at<R: Abort + AllocGlobal>(rt: &R, change: Change, call: u64) -> Result<
     let alloc = rt.alloc();
     let storage = Failing {
         bytes: small_file(alloc)?,
-        before: call.wrapping_add(OPENING_CALLS),
+        before: Cell::new(call.wrapping_add(OPENING_CALLS)),
     };
     let mut pages = SealedPages::open(alloc, storage, Counter(1 << 20), &KEY)?;
     let is_made = change.make(&mut pages).is_ok();

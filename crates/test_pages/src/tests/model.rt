@@ -27,14 +27,14 @@ enum Place {
 impl Storage for Place {
     ghost possible = { λ _. tt };
 
-    fn size(&mut self) -> io::Result<u64> {
+    fn size(&self) -> io::Result<u64> {
         match self {
             Place::Memory(bytes) => bytes.size(),
             Place::Disk(file) => file.size(),
         }
     }
 
-    fn read_at(&mut self, at: u64, out: &mut [u8]) -> io::Result<()> {
+    fn read_at(&self, at: u64, out: &mut [u8]) -> io::Result<()> {
         match self {
             Place::Memory(bytes) => Storage::read_at(bytes, at, out),
             Place::Disk(file) => Storage::read_at(file, at, out),

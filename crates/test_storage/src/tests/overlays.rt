@@ -9,7 +9,7 @@ use std::io::ErrorKind;
 use std::test::Fail;
 
 // Reads `size` bytes from `at` on.
-fn read<S: Storage>(alloc: Global, storage: &mut S, at: u8, size: u64) -> io::Result<Vec<u8>> {
+fn read<S: Storage>(alloc: Global, storage: &S, at: u8, size: u64) -> io::Result<Vec<u8>> {
     if size > MAX_STORAGE_BYTES - u64::from(at) {
         return Err(io::Error::from(ErrorKind::InvalidInput));
     }
@@ -19,22 +19,22 @@ fn read<S: Storage>(alloc: Global, storage: &mut S, at: u8, size: u64) -> io::Re
 }
 
 #[test]
-fn an_overlay_reads_its_writes_and_leaves_the_storage(rt: HostRuntime) -> Result<(), Fail> {
+fn an_overlay_reads_its_writes(rt: HostRuntime) -> Result<(), Fail> {
     let alloc = rt.alloc();
     for batch in BATCHES {
         let writes = writes_of(alloc, batch)?;
-        let mut overlay = Overlay::new(alloc, before(alloc)?);
+        let mut storage = TestDisk::new(alloc, before(alloc)?, ALL_CALLS);
+        let mut overlay = Overlay::new(alloc, &storage);
         for write in &writes {
             overlay.write_at(write.place, &write.bytes)?;
         }
         let wanted = after(alloc, &writes)?;
         let size = overlay.size()?;
         assert_eq!(rt; size, wanted.len() as u64);
-        assert_eq!(rt; read(alloc, &mut overlay, 0, size)?, wanted);
-        assert!(rt; read(alloc, &mut overlay, 1, size).is_err());
-        let (below, collected) = overlay.into_parts();
-        assert_eq!(rt; below, before(alloc)?);
-        let mut storage = TestDisk::new(alloc, below, ALL_CALLS);
+        assert_eq!(rt; read(alloc, &overlay, 0, size)?, wanted);
+        assert!(rt; read(alloc, &overlay, 1, size).is_err());
+        let collected = overlay.into_writes();
+        assert_eq!(rt; storage.current()?, before(alloc)?);
         let mut journal = TestDisk::new(alloc, Vec::new(alloc), ALL_CALLS);
         commit(
             alloc,

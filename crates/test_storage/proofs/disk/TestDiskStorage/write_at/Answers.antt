@@ -13,11 +13,9 @@ all_err : {T E P : Type 0} (r : Result T E) → P → OnErr r P
 all_err (Ok x) p = tt
 all_err (Err e) p = p
 
-is_written : (c : goal.After-count) → bytes_of c.count.new.self ≡ overwritten (bytes_of c.args.self.now) c.args.at c.args.part.now
+is_written : (c : goal.After-count) → applied (changes_of c.push.new.self.items) c.args.self.now.synced.items ≡ overwritten (bytes_of c.args.self.now) c.args.at c.args.part.now
 is_written c =
-    ap (λ v. applied (changes_of v.items) c.count.new.self.synced.items) c.count.ensures.pending
-    ∙ ap (λ v. applied (changes_of c.push.new.self.items) v.items) c.count.ensures.synced
-    ∙ applied_pushed c.args.self.now.pending.items c.push.new.self.items _ c.args.self.now.synced.items c.in_ok-push.ensures.items
+    applied_pushed c.args.self.now.pending.items c.push.new.self.items _ c.args.self.now.synced.items c.in_ok-push.ensures.items
     ∙ ap (λ (n : ℕ). overwritten (bytes_of c.args.self.now) n c.in_ok-write.write.bytes.items) c.in_ok-write.ensures.place
     ∙ ap (λ (l : List ℕ). overwritten (bytes_of c.args.self.now) c.args.at l) c.in_ok-write.ensures.bytes
 

@@ -1,0 +1,37 @@
+-- The text of a file after a batch, whole or left out.
+use Rattle.std.proofs.Common.{◌≡◌, ◌⊎◌, inl, inr, Err, IfOk, IfSome, List, Ok, Option, Result, Some, subst, sym, ℕ}
+use Rattle.aegis_base.specs.Variant.{Variant}
+use Rattle.aegis_storage.specs.Disk.{Disk, IsPossible, written}
+use Rattle.aegis_storage.specs.Journal.{IsOneOf, RestsAtEither}
+use Rattle.aegis_storage.proofs.Disks.{readable_certain}
+use Rattle.aegis_pages.specs.Batches.{HoldsOneOf, RecoversText, RestsAtText}
+use Rattle.aegis_pages.specs.SealedPages.{Holds}
+
+pub if_ok_map : {T E : Type 0} (r : Result T E) (P Q : T → Type 0) → ((x : T) → P x → Q x) → IfOk r P → IfOk r Q
+if_ok_map (Ok x) P Q f p = f x p
+if_ok_map (Err e) P Q f p = tt
+
+pub rests_at_text : (variant : Variant) (key before after journal_key context : List ℕ) (storage journal storage' journal' : Option Disk)
+    → (batch : RecoversText variant key before after journal_key context storage journal) → RestsAtEither storage' journal' batch.file batch.writes → RestsAtText variant key before after storage' journal'
+rests_at_text variant key before after journal_key context storage journal storage' journal' batch rests = record { file = rests.bytes; rests = rests.rests; holds = cases rests.one }
+  where
+    cases : IsOneOf batch.file (written batch.writes batch.file) rests.bytes → HoldsOneOf variant key before after rests.bytes
+    cases (inl same) = inl (subst (Holds variant key before) (sym same) batch.without)
+    cases (inr same) = subst (HoldsOneOf variant key before after) (sym same) batch.with_writes
+
+-- what holds of each text of the file holds of one of the two
+pub recovered_text : (variant : Variant) (key before after journal_key context : List ℕ) (bytes : Option (List ℕ)) (storage journal storage' journal' : Option Disk) (P : List ℕ → Type 0)
+    → (batch : RecoversText variant key before after journal_key context storage journal) → RestsAtEither storage' journal' batch.file batch.writes → IsPossible bytes storage'
+    → IfSome bytes (λ file. (text : List ℕ) → Holds variant key text file → P text) → P before ⊎ P after
+recovered_text variant key before after journal_key context bytes storage journal storage' journal' P batch rests possible found = one at.holds
+  where
+    at : RestsAtText variant key before after storage' journal'
+    at = rests_at_text variant key before after journal_key context storage journal storage' journal' batch rests
+
+    all : (text : List ℕ) → Holds variant key text at.file → P text
+    all = subst (λ (o : Option (List ℕ)). IfSome o (λ file. (text : List ℕ) → Holds variant key text file → P text))
+        (readable_certain bytes storage' at.file possible at.rests.storage_is) found
+
+    one : HoldsOneOf variant key before after at.file → P before ⊎ P after
+    one (inl holds) = inl (all before holds)
+    one (inr holds) = inr (all after holds)

@@ -1,0 +1,74 @@
+//! Several changes of a text that are all there after a crash, or none of them.
+
+ghost use Rattle.std.specs.Prelude.{◌≡◌, ◌≤◌, ◌⊎◌, IfOk, IfSome, List, Some, length, ℕ};
+ghost use Rattle.aegis_base.specs.Variant.{key_length};
+ghost use Rattle.aegis_storage.specs.Disk.{written};
+ghost use Rattle.aegis_storage.specs.Journal.{IsNoForgery};
+ghost use Rattle.aegis_storage.specs.Pending.{writes_of};
+ghost use Rattle.aegis_pages.specs.Batches.{RecoversText};
+ghost use Rattle.aegis_pages.specs.OpenFile.{HasText};
+ghost use Rattle.aegis_pages.specs.SealedPages.{Holds};
+
+use crate::draws::Nonces;
+use crate::error::PagesError;
+use crate::pages::Pages;
+use aegis::aegis256::Key;
+use aegis::record::MAX_CONTEXT_BYTES;
+use aegis_base::{LaneState, Names};
+use aegis_storage::{Overlay, PendingWrite, Storage, recover};
+use std::alloc::Allocator;
+
+impl<
+    'a,
+    L: LaneState,
+    V: Names,
+    const KEY_BYTES: usize,
+    S: Storage,
+    N: Nonces + Drop,
+    A: Allocator + Copy,
+> Pages<L, V, KEY_BYTES, Overlay<'a, S, A>, N, A> {
+    /// Closes the file, and returns the writes that its storage lacks, for [`aegis_storage::commit`].
+    pub fn into_writes(self) -> Vec<PendingWrite<A>, A>
+        ensures { (text file : List ℕ) → HasText self.entry text → self.entry.below ≡ Some file
+            → Holds self.entry.layout.variant self.entry.layout.key text
+            (written (writes_of result.items) file) }
+    {
+        self.into_storage().into_writes()
+    }
+}
+
+/// Opens a file after a crash, or at any other time: completes a batch that was cut short, or leaves all of it out.
+///
+/// The key and the context of the journal are those that [`aegis_storage::commit`] was called with. Returns
+/// [`PagesError::Write`] with an error of [`aegis_storage::recover`], and otherwise the errors of [`Pages::open`].
+pub fn open_recovered<
+    L: LaneState,
+    V: Names,
+    const KEY_BYTES: usize,
+    S: Storage + Drop,
+    J: Storage,
+    N: Nonces + Drop,
+    A: Allocator + Copy,
+>(
+    alloc: A,
+    mut storage: S,
+    journal: &mut J,
+    nonces: N,
+    key: &[u8; KEY_BYTES],
+    journal_key: &Key,
+    context: &[u8],
+) -> Result<Pages<L, V, KEY_BYTES, S, N, A>, PagesError>
+    requires key_bytes { KEY_BYTES ≡ key_length L.VARIANT.family }
+    requires context { length context.now ≤ MAX_CONTEXT_BYTES }
+    ensures { IfOk result (λ pages. (before after : List ℕ)
+        → (batch : RecoversText L.VARIANT key.now before after journal_key.now context.now
+        (S.disk storage) (J.disk journal.old))
+        → IfSome (J.bytes journal.old) (IsNoForgery journal_key.now context.now batch.writes)
+        → HasText pages before ⊎ HasText pages after) }
+{
+    match recover(alloc, &mut storage, journal, journal_key, context) {
+        Ok(()) => {}
+        Err(error) => return Err(PagesError::Write(error)),
+    }
+    Pages::open(alloc, storage, nonces, key)
+}
