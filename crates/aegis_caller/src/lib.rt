@@ -9,6 +9,7 @@ pub mod encrypted_file;
 pub mod headline;
 pub mod in_place;
 pub mod opening;
+pub mod page_batch;
 pub mod page_counter;
 pub mod page_table;
 pub mod record_in_place;

@@ -1,8 +1,9 @@
 -- The text of a file after a batch, whole or left out.
-use Rattle.std.proofs.Common.{◌≡◌, ◌⊎◌, inl, inr, Err, IfOk, IfSome, List, Ok, Option, Result, Some, subst, sym, ℕ}
+use Rattle.std.proofs.Common.{◌≡◌, ◌⊎◌, inl, inr, [], Err, IfOk, IfSome, List, None, Ok, Option, Result, Some, subst, sym, ℕ}
 use Rattle.aegis_base.specs.Variant.{Variant}
-use Rattle.aegis_storage.specs.Disk.{Disk, IsPossible, written}
+use Rattle.aegis_storage.specs.Disk.{Disk, IsPossible, Writes, written}
 use Rattle.aegis_storage.specs.Journal.{IsOneOf, RestsAtEither}
+use Rattle.aegis_storage.specs.Overlay.{overlaid}
 use Rattle.aegis_storage.proofs.Disks.{readable_certain}
 use Rattle.aegis_pages.specs.Batches.{HoldsOneOf, RecoversText, RestsAtText}
 use Rattle.aegis_pages.specs.SealedPages.{Holds}
@@ -10,6 +11,14 @@ use Rattle.aegis_pages.specs.SealedPages.{Holds}
 pub if_ok_map : {T E : Type 0} (r : Result T E) (P Q : T → Type 0) → ((x : T) → P x → Q x) → IfOk r P → IfOk r Q
 if_ok_map (Ok x) P Q f p = f x p
 if_ok_map (Err e) P Q f p = tt
+
+-- what is seen through no writes is what lies below
+pub read_through_none : (writes : Writes) (a b : Option (List ℕ)) (P : List ℕ → Type 0) → writes ≡ [] → a ≡ b → IfSome (overlaid writes a) P → IfSome b P
+read_through_none writes a b P none same found = subst (λ (o : Option (List ℕ)). IfSome o P) same (seen a (subst (λ (w : Writes). IfSome (overlaid w a) P) none found))
+  where
+    seen : (o : Option (List ℕ)) → IfSome (overlaid [] o) P → IfSome o P
+    seen None found = tt
+    seen (Some xs) found = found
 
 pub rests_at_text : (variant : Variant) (key before after journal_key context : List ℕ) (storage journal storage' journal' : Option Disk)
     → (batch : RecoversText variant key before after journal_key context storage journal) → RestsAtEither storage' journal' batch.file batch.writes → RestsAtText variant key before after storage' journal'

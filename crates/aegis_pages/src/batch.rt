@@ -27,7 +27,8 @@ impl<
     N: Nonces + Drop,
     A: Allocator + Copy,
 > Pages<L, V, KEY_BYTES, Overlay<'a, S, A>, N, A> {
-    /// Closes the file, and returns the writes that its storage lacks, for [`aegis_storage::commit`].
+    /// Closes a file that [`open_batch`] opened, and returns the writes that its storage lacks, for
+    /// [`aegis_storage::commit`].
     pub fn into_writes(self) -> Vec<PendingWrite<A>, A>
         ensures { (text file : List ℕ) → HasText self.entry text → self.entry.below ≡ Some file
             → Holds self.entry.layout.variant self.entry.layout.key text
@@ -35,6 +36,33 @@ impl<
     {
         self.into_storage().into_writes()
     }
+}
+
+/// Opens a file to collect a batch of changes: its storage is only read. [`Pages::into_writes`] returns the batch.
+///
+/// The errors are those of [`Pages::open`].
+pub fn open_batch<
+    'a,
+    L: LaneState,
+    V: Names,
+    const KEY_BYTES: usize,
+    S: Storage,
+    N: Nonces + Drop,
+    A: Allocator + Copy,
+>(
+    alloc: A,
+    storage: &'a S,
+    nonces: N,
+    key: &[u8; KEY_BYTES],
+) -> Result<Pages<L, V, KEY_BYTES, Overlay<'a, S, A>, N, A>, PagesError>
+    requires { KEY_BYTES ≡ key_length L.VARIANT.family }
+    ensures variant { IfOk result (λ pages. pages.layout.variant ≡ L.VARIANT) }
+    ensures key { IfOk result (λ pages. pages.layout.key ≡ key.now) }
+    ensures below { IfOk result (λ pages. pages.below ≡ S.bytes storage.now) }
+    ensures holds { IfOk result (λ pages. IfSome (S.bytes storage.now) (λ file. (text : List ℕ)
+        → Holds L.VARIANT key.now text file → HasText pages text)) }
+{
+    Pages::open(alloc, Overlay::new(alloc, storage), nonces, key)
 }
 
 /// Opens a file after a crash, or at any other time: completes a batch that was cut short, or leaves all of it out.

@@ -165,12 +165,7 @@ impl<
     ///
     /// Returns [`PagesError::Header`] if the storage has no header that was sealed with this variant and under the key,
     /// and [`PagesError::Read`] or [`PagesError::OutOfMemory`].
-    pub fn open(
-        alloc: A,
-        storage: S,
-        nonces: N,
-        key: &[u8; KEY_BYTES],
-    ) -> Result<Self, PagesError>
+    pub fn open(alloc: A, storage: S, nonces: N, key: &[u8; KEY_BYTES]) -> Result<Self, PagesError>
         requires { KEY_BYTES ≡ key_length L.VARIANT.family }
         ensures variant { IfOk result (λ pages. pages.layout.variant ≡ L.VARIANT) }
         ensures key { IfOk result (λ pages. pages.layout.key ≡ key.now) }
