@@ -1,60 +1,70 @@
 //! Two places of a text in sealed pages that are changed together.
 
-ghost use Rattle.std.specs.Prelude.{◌≡◌, ◌⊎◌, [], IfOk, IfSome, List, Some, ℕ};
-ghost use Rattle.aegis_base.specs.Variant.{Aegis256};
+ghost use Rattle.std.specs.Prelude.{◌⊎◌, [], IfOk, IfSome, List, OnOk, ℕ};
+ghost use Rattle.aegis_base.specs.Variant.{Aegis256, Variant};
 ghost use Rattle.aegis_storage.specs.Bytes.{overwritten};
 ghost use Rattle.aegis_storage.specs.Disk.{written};
 ghost use Rattle.aegis_storage.specs.Journal.{IsAtRest, IsNoForgery};
 ghost use Rattle.aegis_storage.specs.Pending.{writes_of};
 ghost use Rattle.aegis_pages.specs.Batches.{RecoversText};
-ghost use Rattle.aegis_pages.specs.OpenFile.{HasText};
+ghost use Rattle.aegis_pages.specs.OpenFile.{HasText, IsBatch};
 ghost use Rattle.aegis_pages.specs.SealedPages.{Holds};
 
 use aegis::aegis256::Key;
-use aegis_pages::laws::batch_recovers_text;
-use aegis_pages::{Nonces, PagesError, SealedPages, open_recovered};
-use aegis_storage::{Overlay, PendingWrite, Storage, commit};
+use aegis_pages::{Nonces, PagesError, SealedPages, commit_batch, open_recovered};
+use aegis_storage::{Overlay, PendingWrite, Storage};
 use std::alloc::Allocator;
 use std::io;
 
-/// Returns the writes that put `first` at one place of the text and `second` at another. `pages` is of
-/// [`aegis_pages::open_batch`].
+/// Writes `first` at one place of the text and `second` at another.
+pub fn write_parts<'a, S: Storage, N: Nonces + Drop, A: Allocator + Copy>(
+    pages: &mut SealedPages<Overlay<'a, S, A>, N, A>,
+    places: (u64, u64),
+    first: &[u8],
+    second: &[u8],
+) -> Result<(), PagesError>
+    ensures { OnOk result ((variant : Variant) (key text file : List ℕ)
+        → IsBatch pages.old variant key text file → IsBatch pages.new variant key
+        (overwritten (overwritten text places.0 first.now) places.1 second.now) file) }
+{
+    pages.write_at(places.0, first)?;
+    pages.write_at(places.1, second)
+}
+
+/// Returns the writes of both parts. `pages` is of [`aegis_pages::open_batch`].
 pub fn both_parts<'a, S: Storage, N: Nonces + Drop, A: Allocator + Copy>(
     mut pages: SealedPages<Overlay<'a, S, A>, N, A>,
     places: (u64, u64),
     first: &[u8],
     second: &[u8],
 ) -> Result<Vec<PendingWrite<A>, A>, PagesError>
-    ensures { IfOk result (λ writes. (text file : List ℕ) → HasText pages.entry text
-        → pages.entry.below ≡ Some file
-        → Holds pages.entry.layout.variant pages.entry.layout.key
+    ensures { IfOk result (λ writes. (variant : Variant) (key text file : List ℕ)
+        → IsBatch pages.entry variant key text file → Holds variant key
         (overwritten (overwritten text places.0 first.now) places.1 second.now)
         (written (writes_of writes.items) file)) }
 {
-    pages.write_at(places.0, first)?;
-    pages.write_at(places.1, second)?;
+    write_parts(&mut pages, places, first, second)?;
     Ok(pages.into_writes())
 }
 
 /// Makes such writes. Whatever it returns, a crash leaves a storage and a journal from which [`open_text`] opens the
-/// text with both parts or with none.
-pub fn commit_parts<S: Storage, J: Storage, A: Allocator + Copy>(
+/// text as it was before, or with both parts.
+pub fn write_both_parts<S: Storage, J: Storage, A: Allocator + Copy>(
     alloc: A,
     storage: &mut S,
     journal: &mut J,
-    key: &Key,
     journal_key: &Key,
     prefix: &[u8; 24],
     writes: &[PendingWrite<A>],
 ) -> io::Result<()>
-    ensures { (before after file : List ℕ) → IsAtRest (S.disk storage.old) (J.disk journal.old) file
-        → Holds Aegis256 key.now before file
-        → Holds Aegis256 key.now after (written (writes_of writes.now) file)
-        → RecoversText Aegis256 key.now before after journal_key.now []
+    ensures { (variant : Variant) (key before after file : List ℕ)
+        → IsAtRest (S.disk storage.old) (J.disk journal.old) file
+        → Holds variant key before file
+        → Holds variant key after (written (writes_of writes.now) file)
+        → RecoversText variant key before after journal_key.now []
         (S.disk storage.new) (J.disk journal.new) }
 {
-    batch_recovers_text();
-    commit(alloc, storage, journal, journal_key, prefix, &[], writes)
+    commit_batch(alloc, storage, journal, journal_key, prefix, &[], writes)
 }
 
 /// Opens the text after a crash: it is as before the batch, or as after it.

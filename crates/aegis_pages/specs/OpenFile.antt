@@ -1,6 +1,7 @@
 -- A file that is open.
-use Rattle.std.specs.Prelude.{◌≡◌, ℕ, ◌+◌, ◌-◌, ◌<◌, List, Option, min, slice_index, take, IfSome}
+use Rattle.std.specs.Prelude.{◌≡◌, ℕ, ◌+◌, ◌-◌, ◌<◌, List, Option, Some, min, slice_index, take, IfSome}
 use Rattle.std.specs.Io.KnownBytes.{Keeps}
+use Rattle.aegis_base.specs.Variant.{Variant}
 use Rattle.aegis_storage.specs.Bytes.{part_at}
 use Rattle.aegis_pages.specs.Layouts.{Layout}
 use Rattle.aegis_pages.specs.SealedPages.{IsByte, Stands}
@@ -16,6 +17,13 @@ pub record OpenFile : Type 0 where
 -- the bytes are known, and the file is that of the text
 abbrev pub HasText : OpenFile → List ℕ → Type 0
 HasText file text = Stands file.layout file.counter file.len file.bytes text
+
+-- The file is open under a variant and a key, has the text, and reads through to a storage below that holds `below`: it collects a batch.
+pub record IsBatch (file : OpenFile) (variant : Variant) (key text below : List ℕ) : Type 0 where
+  pub variant_is : file.layout.variant ≡ variant
+  pub key_is : file.layout.key ≡ key
+  pub text_is : HasText file text
+  pub below_is : file.below ≡ Some below
 
 -- the file is as it was
 pub record IsUnchanged (old new : OpenFile) : Type 0 where

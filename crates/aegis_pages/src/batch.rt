@@ -1,12 +1,12 @@
 //! Several changes of a text that are all there after a crash, or none of them.
 
-ghost use Rattle.std.specs.Prelude.{◌≡◌, ◌≤◌, ◌⊎◌, IfOk, IfSome, List, Some, length, ℕ};
-ghost use Rattle.aegis_base.specs.Variant.{key_length};
+ghost use Rattle.std.specs.Prelude.{◌≡◌, ◌≤◌, ◌⊎◌, IfOk, IfSome, List, OnOk, length, ℕ};
+ghost use Rattle.aegis_base.specs.Variant.{Variant, key_length};
 ghost use Rattle.aegis_storage.specs.Disk.{written};
-ghost use Rattle.aegis_storage.specs.Journal.{IsNoForgery};
+ghost use Rattle.aegis_storage.specs.Journal.{IsAtRest, IsNoForgery};
 ghost use Rattle.aegis_storage.specs.Pending.{writes_of};
-ghost use Rattle.aegis_pages.specs.Batches.{RecoversText};
-ghost use Rattle.aegis_pages.specs.OpenFile.{HasText};
+ghost use Rattle.aegis_pages.specs.Batches.{RecoversText, RestsAtText};
+ghost use Rattle.aegis_pages.specs.OpenFile.{HasText, IsBatch};
 ghost use Rattle.aegis_pages.specs.SealedPages.{Holds};
 
 use crate::draws::Nonces;
@@ -15,8 +15,9 @@ use crate::pages::Pages;
 use aegis::aegis256::Key;
 use aegis::record::MAX_CONTEXT_BYTES;
 use aegis_base::{LaneState, Names};
-use aegis_storage::{Overlay, PendingWrite, Storage, recover};
+use aegis_storage::{Overlay, PendingWrite, Storage, commit, recover};
 use std::alloc::Allocator;
+use std::io;
 
 impl<
     'a,
@@ -30,9 +31,9 @@ impl<
     /// Closes a file that [`open_batch`] opened, and returns the writes that its storage lacks, for
     /// [`aegis_storage::commit`].
     pub fn into_writes(self) -> Vec<PendingWrite<A>, A>
-        ensures { (text file : List ℕ) → HasText self.entry text → self.entry.below ≡ Some file
-            → Holds self.entry.layout.variant self.entry.layout.key text
-            (written (writes_of result.items) file) }
+        ensures { (variant : Variant) (key text file : List ℕ)
+            → IsBatch self.entry variant key text file
+            → Holds variant key text (written (writes_of result.items) file) }
     {
         self.into_storage().into_writes()
     }
@@ -56,13 +57,47 @@ pub fn open_batch<
     key: &[u8; KEY_BYTES],
 ) -> Result<Pages<L, V, KEY_BYTES, Overlay<'a, S, A>, N, A>, PagesError>
     requires { KEY_BYTES ≡ key_length L.VARIANT.family }
-    ensures variant { IfOk result (λ pages. pages.layout.variant ≡ L.VARIANT) }
-    ensures key { IfOk result (λ pages. pages.layout.key ≡ key.now) }
-    ensures below { IfOk result (λ pages. pages.below ≡ S.bytes storage.now) }
-    ensures holds { IfOk result (λ pages. IfSome (S.bytes storage.now) (λ file. (text : List ℕ)
-        → Holds L.VARIANT key.now text file → HasText pages text)) }
+    ensures { IfOk result (λ pages. IfSome (S.bytes storage.now) (λ file. (text : List ℕ)
+        → Holds L.VARIANT key.now text file
+        → IsBatch pages L.VARIANT key.now text file)) }
 {
     Pages::open(alloc, Overlay::new(alloc, storage), nonces, key)
+}
+
+/// Makes the writes of a batch, by [`aegis_storage::commit`]: after a crash all of them are there, or none.
+///
+/// The file and the journal must be at rest, and the prefix must be a new one under the journal's key. The context names
+/// the file. After an error call [`open_recovered`] before anything else.
+pub fn commit_batch<S: Storage, J: Storage, A: Allocator + Copy>(
+    alloc: A,
+    storage: &mut S,
+    journal: &mut J,
+    journal_key: &Key,
+    prefix: &[u8; 24],
+    context: &[u8],
+    writes: &[PendingWrite<A>],
+) -> io::Result<()>
+    requires { length context.now ≤ MAX_CONTEXT_BYTES }
+    ensures recovers { (variant : Variant) (key before after file : List ℕ)
+        → IsAtRest (S.disk storage.old) (J.disk journal.old) file
+        → Holds variant key before file
+        → Holds variant key after (written (writes_of writes.now) file)
+        → RecoversText variant key before after journal_key.now context.now
+        (S.disk storage.new) (J.disk journal.new) }
+    ensures committed { OnOk result ((variant : Variant) (key after file : List ℕ)
+        → IsAtRest (S.disk storage.old) (J.disk journal.old) file
+        → Holds variant key after (written (writes_of writes.now) file)
+        → RestsAtText variant key after after (S.disk storage.new) (J.disk journal.new)) }
+{
+    commit(
+        alloc,
+        storage,
+        journal,
+        journal_key,
+        prefix,
+        context,
+        writes,
+    )
 }
 
 /// Opens a file after a crash, or at any other time: completes a batch that was cut short, or leaves all of it out.

@@ -3,8 +3,8 @@
 ghost use Rattle.std.specs.Prelude.{◌≡◌, ◌+◌, ◌≤◌, List, Option, length, ℕ};
 ghost use Rattle.aegis_base.specs.Variant.{Variant};
 ghost use Rattle.aegis_storage.specs.Bytes.{overwritten, part_at};
-ghost use Rattle.aegis_storage.specs.Disk.{Disk, Writes, written};
-ghost use Rattle.aegis_storage.specs.Journal.{IsAtRest, Recovers, RestsAtEither};
+ghost use Rattle.aegis_storage.specs.Disk.{Disk};
+ghost use Rattle.aegis_storage.specs.Journal.{IsAtRest, RestsAtEither};
 ghost use Rattle.aegis_pages.specs.Batches.{RecoversText, RestsAtText};
 ghost use Rattle.aegis_pages.specs.OpenFile.{HasText, IsUnchanged, OpenFile};
 ghost use Rattle.aegis_pages.specs.SealedPages.{Holds};
@@ -34,15 +34,6 @@ pub fn whole_is_written()
 pub fn unchanged_has_its_text()
     ensures { (old new : OpenFile) (text : List ℕ) → IsUnchanged old new → HasText old text
         → HasText new text }
-{}
-
-/// Writes that make a file of one text a file of another recover to one of the two texts.
-pub fn batch_recovers_text()
-    ensures { (variant : Variant) (key before after journal_key context file : List ℕ)
-        (writes : Writes) (storage journal : Option Disk)
-        → Recovers journal_key context file writes storage journal
-        → Holds variant key before file → Holds variant key after (written writes file)
-        → RecoversText variant key before after journal_key context storage journal }
 {}
 
 /// A file at rest recovers to its text.

@@ -23,7 +23,7 @@ mod pages;
 mod range;
 mod variants;
 
-pub use batch::{open_batch, open_recovered};
+pub use batch::{commit_batch, open_batch, open_recovered};
 pub use draws::Nonces;
 pub use error::PagesError;
 pub use layout::{DEFAULT_PAGE_BYTES, MAX_PAGE_BYTES, MAX_TEXT_BYTES, MIN_PAGE_BYTES};

@@ -1,12 +1,12 @@
 //! A text that is read and written at any place.
 
 ghost use Rattle.std.specs.Prelude.{◌≡◌, ◌+◌, ◌-◌, ◌<◌, ◌≤◌, ◌⊎◌, ◌^◌, ◌↔◌, [], Err, IfErr, IfOk, IfSome, IsTrue, List, OnErr, OnOk, if◌then◌else◌, is_ok, length, max, min, replicate, true, ℕ};
-ghost use Rattle.aegis_base.specs.Variant.{key_length};
+ghost use Rattle.aegis_base.specs.Variant.{Variant, key_length};
 ghost use Rattle.aegis_storage.specs.Bytes.{overwritten, part_at, resized};
 ghost use Rattle.aegis_pages.specs.Errors.{IsCreateRefusal, IsOpenRefusal, IsReadRefusal, IsWriteRefusal};
 ghost use Rattle.aegis_pages.specs.Headers.{IsNewest, KeepsNewest};
 ghost use Rattle.aegis_pages.specs.Layouts.{IsPageSize};
-ghost use Rattle.aegis_pages.specs.OpenFile.{HasText, IsUnchanged, Reads};
+ghost use Rattle.aegis_pages.specs.OpenFile.{HasText, IsBatch, IsUnchanged, Reads};
 ghost use Rattle.aegis_pages.specs.SealedPages.{Holds, KeepsFront, KeepsPages, OnKnown};
 
 use crate::draws::Nonces;
@@ -260,7 +260,9 @@ impl<
             (KeepsPages self.old.layout (min at self.old.len) (at + length part.now)) }
         ensures header { OnKnown self.old.bytes self.new.bytes
             (KeepsNewest self.old.layout self.old.counter self.old.len) }
-        ensures below { self.new.below ≡ self.old.below }
+        ensures batch { OnOk result ((variant : Variant) (key text file : List ℕ)
+            → IsBatch self.old variant key text file
+            → IsBatch self.new variant key (overwritten text at part.now) file) }
         ensures too_long { MAX_TEXT_BYTES < at + length part.now
             → result ≡ Err PagesError.TooLong }
         ensures refused { IfErr result (IsWriteRefusal self.old (at + length part.now)) }
@@ -306,7 +308,9 @@ impl<
             (KeepsFront self.old.layout (min len self.old.len)) }
         ensures header { OnKnown self.old.bytes self.new.bytes
             (KeepsNewest self.old.layout self.old.counter self.old.len) }
-        ensures below { self.new.below ≡ self.old.below }
+        ensures batch { OnOk result ((variant : Variant) (key text file : List ℕ)
+            → IsBatch self.old variant key text file
+            → IsBatch self.new variant key (resized text len) file) }
         ensures too_long { MAX_TEXT_BYTES < len → result ≡ Err PagesError.TooLong }
         ensures refused { IfErr result (IsWriteRefusal self.old len) }
     {

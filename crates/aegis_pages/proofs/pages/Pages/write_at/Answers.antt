@@ -1,3 +1,4 @@
+use Rattle.std.proofs.Common.{◌∙◌}
 use Rattle.aegis_pages.proofs.Standing.{more_others, only_others, stays_kept, stays_torn, stays_written, torn_header, wrote_next, wrote_within}
 use Rattle.aegis_pages.proofs.pages.Pages.write_at.Goals as goal
 
@@ -32,3 +33,20 @@ returns-else-end-self-clause-others g c = rw (← c.self.view_is) (only_others _
 
 pub returns-else-end-self-clause-header : goal.returns-else-end-self-clause-header
 returns-else-end-self-clause-header g c = rw (← c.self.view_is) (stays_kept _ _ _ _ _ _ _ c.in_ok-write_range.ensures.others)
+
+pub returns-in_ok-write_header-clause-batch : goal.returns-in_ok-write_header-clause-batch
+returns-in_ok-write_header-clause-batch g c = rw (← c.self.view_is) (λ variant key text file is. record {
+  variant_is = is.variant_is;
+  key_is = is.key_is;
+  text_is = wrote_next _ _ _ _ _ _ _ _ _ _ _ text (c.in_ok-counter.ensures.counter c.if-end-self.true) c.self.invariant.2 c.in_ok-write_range.ensures.written c.in_ok-write_range.ensures.others
+      c.in_ok-write_header.ensures.written c.if-end-self.true is.text_is;
+  below_is = c.in_ok-write_header.ensures.below ∙ c.in_ok-write_range.ensures.below ∙ is.below_is;
+})
+
+pub returns-else-end-self-clause-batch : goal.returns-else-end-self-clause-batch
+returns-else-end-self-clause-batch g c = rw (← c.self.view_is) (λ variant key text file is. record {
+  variant_is = is.variant_is;
+  key_is = is.key_is;
+  text_is = wrote_within _ _ _ _ _ _ _ _ _ text c.in_ok-write_range.ensures.written c.in_ok-write_range.ensures.others c.if-end-self.false is.text_is;
+  below_is = c.in_ok-write_range.ensures.below ∙ is.below_is;
+})
