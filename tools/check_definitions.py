@@ -20,7 +20,7 @@ PUBLIC = [
     *(f"aegis_pages/src/{name}.rt" for name in ("draws", "laws", "pages")),
     *(f"aegis_variants/src/{name}.rt" for name in ("cipher", "variant")),
     *(f"aegis_lines/src/{name}.rt" for name in ("answer", "session")),
-    *(f"aegis_c/src/{name}.rt" for name in ("message", "record", "state")),
+    *(f"aegis_c/src/{name}.rt" for name in ("message", "page", "record", "state")),
 ]
 
 # The contracts of a public function, and the views and laws of a type.
