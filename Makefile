@@ -112,12 +112,13 @@ LIBRARY = $(OUT)/$(FOLDER)/libhunkravy.a
 
 STORED_LINES = crates/test_agreement/data
 HEADERS = hunkravy.h aegis_compat.h sodium_compat.h
-C_EXAMPLES = seal chunks records libaegis libaegis_chunks libsodium
+C_EXAMPLES = seal chunks records pages libaegis libaegis_chunks libsodium
 
 # The names that the library exports, as the header declares them.
 EXPORTS = sed -nE 's/^(HUNKRAVY_MUST_USE )?(int|size_t) (hunkravy_[a-z0-9_]*).*/\3/p' c/include/hunkravy.h
 
-C_SOURCES = $(call sources,aegis_aes aegis_base aegis_128 aegis_256 aegis_engine aegis aegis_c_calls aegis_c_records aegis_c)
+C_SOURCES = $(call sources,aegis_aes aegis_base aegis_128 aegis_256 aegis_engine aegis aegis_storage aegis_pages aegis_c_calls aegis_c_records \
+	aegis_c_pages aegis_c)
 
 c-library: $(LIBRARY)
 
@@ -172,7 +173,7 @@ check-header:
 	done; done
 
 # The C programs: the examples, and the tests, which read the stored lines.
-C_TESTS = check_calls check_states check_records check_libaegis check_libsodium
+C_TESTS = check_calls check_states check_records check_pages check_libaegis check_libsodium
 C_PROGRAMS = $(C_EXAMPLES) $(C_TESTS) check_libaegis_written
 CLANG = $(shell command -v clang)
 

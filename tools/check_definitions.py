@@ -17,10 +17,10 @@ PUBLIC = [
     *(f"aegis/src/record/record_{name}.rt" for name in ("opener", "opener/in_place", "sealer", "sealer/in_place")),
     *(f"aegis_files/src/{name}.rt" for name in ("open", "range", "reading", "rekey", "seal")),
     *(f"aegis_storage/src/{name}.rt" for name in ("atomic", "laws", "overlay", "recovery", "store")),
-    *(f"aegis_pages/src/{name}.rt" for name in ("draws", "laws", "pages")),
+    *(f"aegis_pages/src/{name}.rt" for name in ("draws", "header", "laws", "layout", "page", "pages")),
     *(f"aegis_variants/src/{name}.rt" for name in ("cipher", "variant")),
     *(f"aegis_lines/src/{name}.rt" for name in ("answer", "session")),
-    *(f"aegis_c/src/{name}.rt" for name in ("message", "record", "state")),
+    *(f"aegis_c/src/{name}.rt" for name in ("message", "page", "record", "state")),
 ]
 
 # The contracts of a public function, and the views and laws of a type.

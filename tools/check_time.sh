@@ -23,4 +23,4 @@ echo "$said"
 openings=${said##* }
 awk -v most="$openings" '
     / used_suppression: / && $4 ~ /^accepted-or-refused-/ { found++; many += $3 > most; print $4 ": " $3 " jumps" }
-    END { exit found != 3 || many }' "$log"
+    END { exit found != 5 || many }' "$log"

@@ -1,6 +1,6 @@
 /*
- * Hunkravy: the six AEGIS ciphers, their MACs, and record streams, for Linux on x86-64 and on ARM (aarch64). No call
- * allocates memory.
+ * Hunkravy: the six AEGIS ciphers, their MACs, record streams, and the pages of sealed files, for Linux on x86-64 and
+ * on ARM (aarch64). No call allocates memory.
  *
  * To build a program: `cc program.c $(pkg-config --cflags --libs hunkravy)`. If the library was installed by `make
  * install PREFIX=/some/where`, set PKG_CONFIG_PATH to /some/where/lib/pkgconfig first.
@@ -11,7 +11,7 @@
  *   keystream. Whoever sees both ciphertexts learns about both messages, and may forge others. Nonces of 32
  *   bytes may be drawn at random; those of 16 bytes too, for up to 2^48 messages under one key.
  * - Never continue two copies of a state with different messages: that uses its nonce twice. Never seal two record
- *   streams with the same key and prefix.
+ *   streams with the same key and prefix, and never a page or a header with a nonce that was used before.
  * - Never let an output buffer overlap another argument, unless the call's comment says that they may be the
  *   same pointer.
  * - Never use decrypted bytes before their tag is verified: do not show, parse or store them, or act on them.
@@ -34,7 +34,7 @@
  *
  * CODES. A call checks the variant or the state first, then the lengths of the nonce, the key, the message, the
  * associated data and the tag. It returns the code of the first that is wrong, and writes nothing, except that an init
- * then leaves a state of zeros. The calls on record streams have their own codes for a record.
+ * then leaves a state of zeros. The calls on record streams and on pages have their own codes for a record and a page.
  */
 #ifndef HUNKRAVY_H
 #define HUNKRAVY_H
@@ -72,11 +72,14 @@ extern "C" {
 #define HUNKRAVY_WRONG_NONCE_LENGTH (-2)
 /* The key's length is not that of the variant. */
 #define HUNKRAVY_WRONG_KEY_LENGTH (-3)
-/* The message, or the input of a MAC, has more than HUNKRAVY_MAX_BYTES; or a record's message too many for it. */
+/*
+ * The message, or the input of a MAC, has more than HUNKRAVY_MAX_BYTES; or a record's message too many for it; or a
+ * page has too many, or is too far in the text.
+ */
 #define HUNKRAVY_MESSAGE_TOO_LONG (-4)
 /* The associated data have more than HUNKRAVY_MAX_BYTES, or the context more than HUNKRAVY_RECORD_MAX_CONTEXT_BYTES. */
 #define HUNKRAVY_DATA_TOO_LONG (-5)
-/* The tag, or the MAC, has neither 16 nor 32 bytes. */
+/* The tag, or the MAC, has neither 16 nor 32 bytes; or a page has too few for its nonce, its text and its tag. */
 #define HUNKRAVY_WRONG_TAG_LENGTH (-6)
 /* The state is zeros (it has ended, or was not begun), or has another role: the other direction, a MAC, no MAC. */
 #define HUNKRAVY_WRONG_STATE (-7)
@@ -151,7 +154,8 @@ typedef struct hunkravy_record_stream {
  * parameters of the call of the same name and returns the same, but its pointers must not be null, even if the length
  * is 0, and what `st` points to must be initialised, even for an init. Those on a record stream are given its context
  * each time; and to seal a message the length of its record, or they return HUNKRAVY_WRONG_TAG_LENGTH if that is less
- * than HUNKRAVY_RECORD_BYTES.
+ * than HUNKRAVY_RECORD_BYTES. What the last four parameters of hunkravy_page_header_open_nonnull point to must be
+ * initialised.
  */
 
 HUNKRAVY_MUST_USE int hunkravy_encrypt_in_place_nonnull(uint32_t variant, uint8_t *mc, size_t mclen,
@@ -198,6 +202,14 @@ HUNKRAVY_MUST_USE int hunkravy_record_len_nonnull(const hunkravy_record_state *s
     size_t *recordlen);
 HUNKRAVY_MUST_USE int hunkravy_record_open_nonnull(hunkravy_record_state *st, const uint8_t *context,
     size_t contextlen, uint8_t *record, size_t recordlen, uint8_t *is_last);
+HUNKRAVY_MUST_USE int hunkravy_page_seal_nonnull(uint8_t *page, size_t pagelen, const uint8_t *id, uint64_t number,
+    const uint8_t *npub, const uint8_t *k);
+HUNKRAVY_MUST_USE int hunkravy_page_open_nonnull(uint8_t *page, size_t pagelen, const uint8_t *id, uint64_t number,
+    const uint8_t *k);
+HUNKRAVY_MUST_USE int hunkravy_page_header_seal_nonnull(uint8_t *sector, uint32_t page_size, const uint8_t *id,
+    uint64_t counter, uint64_t textlen, const uint8_t *npub, const uint8_t *k);
+HUNKRAVY_MUST_USE int hunkravy_page_header_open_nonnull(const uint8_t *sector, uint64_t turn, const uint8_t *k,
+    uint32_t *page_size, uint8_t *id, uint64_t *counter, uint64_t *textlen);
 
 /* ---- What the calls below share. None of it is for callers. */
 
@@ -717,6 +729,116 @@ HUNKRAVY_MUST_USE static inline int hunkravy_record_open(hunkravy_record_stream 
         *is_last = flag;
     }
     return flag == 0 ? code : hunkravy_record_keep(st, NULL, 0, code);
+}
+
+/*
+ * ---- Sealed pages: a text in a file that is read and written at any place. The text is cut into pages of one size,
+ * each of which is encrypted on its own, by AEGIS-256 with a tag of 32 bytes. These calls seal and open a page or a
+ * header, and you read and write the file. A page opens only under its number and the id of its file, but an older page
+ * of the same number opens too. The files are those of the Rattle library's `aegis_pages`, of the format in
+ * docs/PAGES.md.
+ *
+ * A file begins with two sectors of HUNKRAVY_PAGE_SECTOR_BYTES. Each has a header, with the page size, the file's id,
+ * a counter, and the length of the text. Headers are written in turn: that of an even counter to the first sector, and
+ * that of an odd one to the second; the one with the greater counter counts. So if writing a header fails, the one
+ * before it still stands. The pages come after both sectors, each whole, the last one too: a nonce, the encrypted text,
+ * and the tag.
+ *
+ * To change some bytes of a page: read the page, open it, change its text, seal it with a fresh nonce, and write it. To
+ * change the length: write the pages that are new, and then a header with the next counter.
+ *
+ * `k` is a key of 32 bytes. `id` is 24 bytes that are the file's own: they may be drawn at random, and need not be
+ * secret. `npub` is a nonce of 32 bytes, A FRESH ONE EACH TIME that a page or a header is sealed, drawn at random.
+ */
+
+#define HUNKRAVY_PAGE_KEY_BYTES 32
+#define HUNKRAVY_PAGE_ID_BYTES 24
+/* A page's nonce: its text begins so far from its first byte. */
+#define HUNKRAVY_PAGE_NONCE_BYTES 32
+/* How many bytes a page has more than its text. */
+#define HUNKRAVY_PAGE_BYTES 64
+/* How many bytes of text a page has: at least, at most, and for most uses. */
+#define HUNKRAVY_PAGE_MIN_SIZE 256
+#define HUNKRAVY_PAGE_MAX_SIZE 65536
+#define HUNKRAVY_PAGE_DEFAULT_SIZE 4096
+/* A sector, which has a header. */
+#define HUNKRAVY_PAGE_SECTOR_BYTES 512
+/* Where page 0 begins in the file. */
+#define HUNKRAVY_PAGE_FIRST 1024
+/* How many bytes a text may have. */
+#define HUNKRAVY_PAGE_MAX_TEXT_BYTES (UINT64_C(1) << 60)
+
+/* Where a page begins in a file of this page size. */
+static inline uint64_t hunkravy_page_place(uint32_t page_size, uint64_t number)
+{
+    return HUNKRAVY_PAGE_FIRST + number * ((uint64_t)page_size + HUNKRAVY_PAGE_BYTES);
+}
+
+/*
+ * Seals page `number` in place: its text is at `page + HUNKRAVY_PAGE_NONCE_BYTES`, and the `pagelen` bytes at `page`,
+ * which are the page size and HUNKRAVY_PAGE_BYTES, become the page.
+ *
+ * Returns HUNKRAVY_OK; HUNKRAVY_WRONG_TAG_LENGTH if the page size is less than HUNKRAVY_PAGE_MIN_SIZE; or
+ * HUNKRAVY_MESSAGE_TOO_LONG if it is more than HUNKRAVY_PAGE_MAX_SIZE, or if the page would begin after
+ * HUNKRAVY_PAGE_MAX_TEXT_BYTES of the text. After any code but HUNKRAVY_OK nothing is written, and `page` still holds
+ * the text, unencrypted.
+ */
+HUNKRAVY_MUST_USE static inline int hunkravy_page_seal(uint8_t *page, size_t pagelen, const uint8_t *id,
+    uint64_t number, const uint8_t *npub, const uint8_t *k)
+{
+    return hunkravy_page_seal_nonnull(HUNKRAVY_OUT(page, pagelen), id, number, npub, k);
+}
+
+/*
+ * Opens page `number`, which is the `pagelen` bytes at `page`, in place: its text is then at
+ * `page + HUNKRAVY_PAGE_NONCE_BYTES`.
+ *
+ * Returns what hunkravy_page_seal returns, or HUNKRAVY_INVALID_TAG if the bytes are not a page of this number, id and
+ * key. After HUNKRAVY_INVALID_TAG each of the `pagelen` bytes is 0xaa; after any other error nothing is written.
+ */
+HUNKRAVY_MUST_USE static inline int hunkravy_page_open(uint8_t *page, size_t pagelen, const uint8_t *id,
+    uint64_t number, const uint8_t *k)
+{
+    return hunkravy_page_open_nonnull(HUNKRAVY_OUT(page, pagelen), id, number, k);
+}
+
+/*
+ * Writes the header of this counter, for a text of `textlen` bytes, to the HUNKRAVY_PAGE_SECTOR_BYTES at `sector`. It
+ * belongs at byte `counter % 2 * HUNKRAVY_PAGE_SECTOR_BYTES` of the file. A new file has the headers of the counters 0
+ * and 1, and no text.
+ *
+ * Returns HUNKRAVY_OK; HUNKRAVY_WRONG_TAG_LENGTH if the page size is less than HUNKRAVY_PAGE_MIN_SIZE; or
+ * HUNKRAVY_MESSAGE_TOO_LONG if it is more than HUNKRAVY_PAGE_MAX_SIZE, or the text has more than
+ * HUNKRAVY_PAGE_MAX_TEXT_BYTES. After any code but HUNKRAVY_OK nothing is written.
+ */
+HUNKRAVY_MUST_USE static inline int hunkravy_page_header_seal(uint8_t *sector, uint32_t page_size, const uint8_t *id,
+    uint64_t counter, uint64_t textlen, const uint8_t *npub, const uint8_t *k)
+{
+    return hunkravy_page_header_seal_nonnull(sector, page_size, id, counter, textlen, npub, k);
+}
+
+/*
+ * Opens the header in the HUNKRAVY_PAGE_SECTOR_BYTES at `sector`, which are those of the first sector if `turn` is 0,
+ * and of the second if it is 1, and writes what the header has to the four parameters after `k`. If both headers open,
+ * use the one with the greater counter.
+ *
+ * Returns HUNKRAVY_OK, or HUNKRAVY_INVALID_TAG if the sector has no header of this turn and key. After
+ * HUNKRAVY_INVALID_TAG nothing is written.
+ */
+HUNKRAVY_MUST_USE static inline int hunkravy_page_header_open(const uint8_t *sector, uint64_t turn, const uint8_t *k,
+    uint32_t *page_size, uint8_t *id, uint64_t *counter, uint64_t *textlen)
+{
+    uint32_t size = 0;
+    uint64_t count = 0, length = 0;
+    uint8_t name[HUNKRAVY_PAGE_ID_BYTES] = {0};
+    int code = hunkravy_page_header_open_nonnull(sector, turn, k, &size, name, &count, &length);
+    if (code == HUNKRAVY_OK) {
+        *page_size = size;
+        memcpy(id, name, sizeof name);
+        *counter = count;
+        *textlen = length;
+    }
+    return code;
 }
 
 #ifdef __cplusplus

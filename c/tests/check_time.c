@@ -5,8 +5,8 @@
  * public. tools/check_time.sh runs it.
  *
  * The last word of its output is the number of openings at once, which is that of openings on a
- * state, and of records too. With the parameter `jump` or `address` it only does what memcheck has
- * to report.
+ * state, of records, and of pages too. With the parameter `jump` or `address` it only does what
+ * memcheck has to report.
  */
 #include "check.h"
 
@@ -162,7 +162,33 @@ static void check_records(const struct message *this)
     HOLDS(mlen == length && is_last == 1);
 }
 
-/* Returns the number of messages. Each is opened three times at once, on a state and in records. */
+/*
+ * A page whatever the variant, of as many bytes more than the least, which is opened three times,
+ * and a header, which is only sealed: whoever opens it compares what it has. The file's id is public.
+ */
+static void check_pages(const struct message *this)
+{
+    static const uint8_t id[HUNKRAVY_PAGE_ID_BYTES] = "an id";
+    size_t size = HUNKRAVY_PAGE_MIN_SIZE + this->length, pagelen = size + HUNKRAVY_PAGE_BYTES;
+    uint8_t pages[3][HUNKRAVY_PAGE_MIN_SIZE + LONGEST + HUNKRAVY_PAGE_BYTES];
+    uint8_t *text = pages[0] + HUNKRAVY_PAGE_NONCE_BYTES, sector[HUNKRAVY_PAGE_SECTOR_BYTES];
+
+    memcpy(text, this->secret.text, HUNKRAVY_PAGE_MIN_SIZE);
+    memcpy(text + HUNKRAVY_PAGE_MIN_SIZE, this->secret.text, this->length);
+    RETURNS(HUNKRAVY_OK, hunkravy_page_seal(pages[0], pagelen, id, 7, this->secret.npub,
+                                            this->secret.k));
+    memcpy(pages[1], pages[0], pagelen);
+    memcpy(pages[2], pages[0], pagelen);
+    pages[2][pagelen - 1] ^= 1;
+    RETURNS(HUNKRAVY_OK, hunkravy_page_open(pages[0], pagelen, id, 7, this->secret.k));
+    RETURNS(HUNKRAVY_INVALID_TAG, hunkravy_page_open(pages[1], pagelen, id, 8, this->secret.k));
+    RETURNS(HUNKRAVY_INVALID_TAG, hunkravy_page_open(pages[2], pagelen, id, 7, this->secret.k));
+    RETURNS(HUNKRAVY_OK,
+            hunkravy_page_header_seal(sector, (uint32_t)size, id, 1, this->length,
+                                      this->secret.npub, this->secret.k));
+}
+
+/* Returns the number of messages. Each is opened three times in each way. */
 static unsigned check_variant(const struct variant *calls)
 {
     struct message message;
@@ -179,6 +205,7 @@ static unsigned check_variant(const struct variant *calls)
                 check_messages(&message);
                 check_macs(&message);
                 check_records(&message);
+                check_pages(&message);
                 count++;
             }
         }

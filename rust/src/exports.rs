@@ -18,11 +18,11 @@ pub enum Refusal {
     WrongNonceLength,
     /// The key's length is not that of the variant.
     WrongKeyLength,
-    /// The message, or the input of a MAC, has more than 2^61 - 1 bytes.
+    /// The message, or the input of a MAC, has more than 2^61 - 1 bytes; or a page has too many, or is too far in its text.
     MessageTooLong,
     /// The associated data have more than 2^61 - 1 bytes.
     DataTooLong,
-    /// The tag, or the MAC, has neither 16 nor 32 bytes.
+    /// The tag, or the MAC, has neither 16 nor 32 bytes; or a page has too few.
     WrongTagLength,
     /// The state was not begun, or has ended; or it is of a message in the other direction, or a MAC and no message.
     WrongState,
@@ -197,6 +197,39 @@ unsafe extern "C" {
     fn hunkravy_mac_update_nonnull(st: &mut State, input: In, inputlen: usize) -> i32;
     fn hunkravy_mac_final_nonnull(st: &State, mac: Out, maclen: usize) -> i32;
     fn hunkravy_mac_final_verify_nonnull(st: &State, mac: In, maclen: usize) -> i32;
+    fn hunkravy_page_seal_nonnull(
+        page: Out,
+        pagelen: usize,
+        id: &[u8; 24],
+        number: u64,
+        npub: &[u8; 32],
+        k: &[u8; 32],
+    ) -> i32;
+    fn hunkravy_page_open_nonnull(
+        page: Out,
+        pagelen: usize,
+        id: &[u8; 24],
+        number: u64,
+        k: &[u8; 32],
+    ) -> i32;
+    fn hunkravy_page_header_seal_nonnull(
+        sector: &mut [u8; 512],
+        page_size: u32,
+        id: &[u8; 24],
+        counter: u64,
+        textlen: u64,
+        npub: &[u8; 32],
+        k: &[u8; 32],
+    ) -> i32;
+    fn hunkravy_page_header_open_nonnull(
+        sector: &[u8; 512],
+        turn: u64,
+        k: &[u8; 32],
+        page_size: &mut u32,
+        id: &mut [u8; 24],
+        counter: &mut u64,
+        textlen: &mut u64,
+    ) -> i32;
 }
 
 /// Calls an export: on a number or a state, if it has one, and on the pointer and the length of each slice.
@@ -365,6 +398,76 @@ impl State {
     pub fn mac_final_verify(&self, mac: &[u8]) -> Answer {
         call!(hunkravy_mac_final_verify_nonnull(self), mac.as_ptr)
     }
+}
+
+/// What a header of a file of sealed pages has.
+#[derive(Clone, Copy, Debug, Default, PartialEq, Eq)]
+pub struct PageHeader {
+    /// How many bytes of text a page has, from 256 to 65,536.
+    pub page_size: u32,
+    /// The file's id.
+    pub id: [u8; 24],
+    /// How many headers were written before it.
+    pub counter: u64,
+    /// The length of the text, of at most 2^60 bytes.
+    pub text_len: u64,
+}
+
+/// Seals page `number` of a file in place. Its text has 32 bytes in front of it for the nonce, and 32 after it for the tag.
+pub fn page_seal(
+    page: &mut [u8],
+    id: &[u8; 24],
+    number: u64,
+    npub: &[u8; 32],
+    k: &[u8; 32],
+) -> Answer {
+    // SAFETY: the pointer is that of a slice of this length, which is borrowed exclusively.
+    read(unsafe { hunkravy_page_seal_nonnull(page.as_mut_ptr(), page.len(), id, number, npub, k) })
+}
+
+/// Opens page `number` of a file in place. If it is not that page, each of its bytes is [`ERASED`].
+pub fn page_open(page: &mut [u8], id: &[u8; 24], number: u64, k: &[u8; 32]) -> Answer {
+    // SAFETY: the pointer is that of a slice of this length, which is borrowed exclusively.
+    read(unsafe { hunkravy_page_open_nonnull(page.as_mut_ptr(), page.len(), id, number, k) })
+}
+
+/// Writes the sector of a header.
+pub fn page_header_seal(
+    sector: &mut [u8; 512],
+    header: &PageHeader,
+    npub: &[u8; 32],
+    k: &[u8; 32],
+) -> Answer {
+    let PageHeader {
+        page_size,
+        ref id,
+        counter,
+        text_len,
+    } = *header;
+    // SAFETY: each pointer is that of a borrowed array of the length that the library reads or writes.
+    read(unsafe {
+        hunkravy_page_header_seal_nonnull(sector, page_size, id, counter, text_len, npub, k)
+    })
+}
+
+/// Returns the header in a sector: the first of its file if `turn` is 0, and the second if it is 1.
+pub fn page_header_open(
+    sector: &[u8; 512],
+    turn: u64,
+    k: &[u8; 32],
+) -> Result<PageHeader, Refusal> {
+    let mut header = PageHeader::default();
+    let PageHeader {
+        page_size,
+        id,
+        counter,
+        text_len,
+    } = &mut header;
+    // SAFETY: each pointer is that of a borrowed value of the length that the library reads or writes.
+    read(unsafe {
+        hunkravy_page_header_open_nonnull(sector, turn, k, page_size, id, counter, text_len)
+    })?;
+    Ok(header)
 }
 
 const fn variant(name: &'static str, key_bytes: usize, number: u32) -> Variant {

@@ -25,17 +25,18 @@
 //! The names are those of the module `raf` of the crate `aegis`. What differs: the format of the files is another, which
 //! `docs/PAGES.md` in the repository of Hunkravy has and which its proved crate `aegis_pages` reads and writes too; AEGIS-256
 //! is the only algorithm; and there is no Merkle tree. Each page and each header is sealed and opened by a proved call of the
-//! library. What is written here around those calls, and how a file is read and written, is tested and not proved.
+//! library, as it lies in the file. How a file is read and written around those calls is tested and not proved.
 
 mod layout;
 
+use crate::exports::PageHeader;
 use crate::wipe::wipe;
 use alloc::boxed::Box;
 use alloc::vec;
 use alloc::vec::Vec;
 use core::fmt;
 use core::marker::PhantomData;
-use layout::{BOX_BYTES, CLEAR_BYTES, FIRST_PAGE, Header, Layout, NONCE_BYTES, SECTOR_BYTES};
+use layout::{ADDED_BYTES, CLEAR_BYTES, FIRST_PAGE, Layout, NONCE_BYTES, SECTOR_BYTES};
 use std::fs::File;
 use std::io::{self, Read, Seek, SeekFrom, Write};
 use std::os::unix::fs::FileExt;
@@ -228,8 +229,9 @@ impl<A: Algorithm> RafBuilder<A> {
         self
     }
 
-    /// Creates a file at a path.
+    /// Creates a file at a path. If the chunk size is refused, a file that is there is kept.
     pub fn create_file(self, path: impl AsRef<Path>, key: &[u8; 32]) -> Result<Raf<A>> {
+        self.check_chunk_size()?;
         let mut options = File::options();
         options.read(true).write(true);
         if self.truncate {
@@ -250,9 +252,7 @@ impl<A: Algorithm> RafBuilder<A> {
 
     /// Makes the bytes of `io` a file with no text.
     pub fn create<I: RafIo>(mut self, mut io: I, key: &[u8; 32]) -> Result<Raf<A, I>> {
-        if !(256..=65_536).contains(&self.chunk_size) {
-            return Err(RafError::ChunkSize);
-        }
+        self.check_chunk_size()?;
         let mut rng = self.take_rng()?;
         let mut id = [0; 24];
         rng.fill(&mut id)?;
@@ -267,7 +267,7 @@ impl<A: Algorithm> RafBuilder<A> {
             },
             counter: 0,
             size: 0,
-            page: vec![0; self.chunk_size as usize + BOX_BYTES],
+            page: vec![0; self.chunk_size as usize + ADDED_BYTES],
             algorithm: PhantomData,
         };
         file.write_header(0, 0)?;
@@ -291,13 +291,21 @@ impl<A: Algorithm> RafBuilder<A> {
             layout: Layout {
                 key: *key,
                 id: header.id,
-                chunk_size: header.chunk_size,
+                chunk_size: header.page_size,
             },
             counter: header.counter,
-            size: header.size,
-            page: vec![0; header.chunk_size as usize + BOX_BYTES],
+            size: header.text_len,
+            page: vec![0; header.page_size as usize + ADDED_BYTES],
             algorithm: PhantomData,
         })
+    }
+
+    fn check_chunk_size(&self) -> Result<()> {
+        if layout::is_chunk_size(self.chunk_size) {
+            Ok(())
+        } else {
+            Err(RafError::ChunkSize)
+        }
     }
 
     fn take_rng(&mut self) -> Result<Box<dyn RafRng>> {
@@ -309,10 +317,10 @@ impl<A: Algorithm> RafBuilder<A> {
 }
 
 /// Reads the header of a sector, 0 or 1, or returns `None` if it has none that opens.
-fn read_header(io: &mut impl RafIo, key: &[u8; 32], number: u64) -> Result<Option<Header>> {
+fn read_header(io: &mut impl RafIo, key: &[u8; 32], number: u64) -> Result<Option<PageHeader>> {
     let mut sector = [0; SECTOR_BYTES];
     match io.read_at(&mut sector, number * SECTOR_BYTES as u64) {
-        Ok(()) => Ok(layout::open_header(key, number, &mut sector)),
+        Ok(()) => Ok(layout::open_header(key, number, &sector)),
         Err(error) if error.kind() == io::ErrorKind::UnexpectedEof => Ok(None),
         Err(error) => Err(error.into()),
     }
@@ -458,8 +466,9 @@ impl<A: Algorithm, I: RafIo> Raf<A, I> {
 
     /// Seals the page by a new nonce, and writes it.
     fn seal_page(&mut self, number: u64) -> Result<()> {
-        self.rng.fill(&mut self.page[..NONCE_BYTES])?;
-        self.layout.seal(number, &mut self.page);
+        let mut nonce = [0; NONCE_BYTES];
+        self.rng.fill(&mut nonce)?;
+        self.layout.seal(number, &nonce, &mut self.page);
         let place = self.page_place(number);
         Ok(self.io.write_at(&self.page, place)?)
     }

@@ -215,5 +215,12 @@ fn cursors() {
     assert!(Raf::<Aegis256>::create_file(&path, &KEY).is_err());
     let info = hunkravy::raf::probe(&path).unwrap().unwrap();
     assert_eq!(info.chunk_size, 4096);
+    // A chunk size that is refused keeps the file.
+    let refused = RafBuilder::<Aegis256>::new()
+        .truncate(true)
+        .chunk_size(65_537)
+        .create_file(&path, &KEY);
+    assert!(matches!(refused, Err(RafError::ChunkSize)));
+    assert_eq!(Raf::<Aegis256>::open_file(&path, &KEY).unwrap().size(), 13);
     std::fs::remove_file(&path).unwrap();
 }

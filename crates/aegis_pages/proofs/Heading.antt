@@ -1,6 +1,6 @@
 -- The headers of a file.
 use Rattle.std.proofs.Common.{◌≡◌, ℕ, ◌+◌, ◌-◌, ◌*◌, ◌/◌, ◌%◌, ◌^◌, ◌<◌, ◌≤◌, ◌⊎◌, inl, inr, List, [], ◌∷◌, ◌++◌, Option, None, Some, drop, length, take, refl, sym, ap, subst, ◌∙◌, arith}
-use Rattle.std.proofs.lemmas.List.{drop-drop, drop-take, drop_at, length-drop, length-take, take-take, take_all, take_at}
+use Rattle.std.proofs.lemmas.List.{drop-drop, drop-take, drop_at, length-drop, length-take, take-append-le, take-take, take_all, take_at}
 use Rattle.std.proofs.lemmas.Bool.{cases_lt}
 use Rattle.std.proofs.Math.Seq.{take-add}
 use Rattle.std.proofs.lemmas.Nat.{div-add-mod', from_le_bytes-to_le_bytes_4, from_le_bytes-to_le_bytes_8, mod_below}
@@ -312,6 +312,16 @@ made_sector layout counter len x y w v a b sealed n e m =
           (sym (ap (take (box_bytes layout 16)) (drop_at (take 33 v) (sealed ++ drop (e - 33) (drop 33 v)) 33 head) ∙ take_at sealed (drop (e - 33) (drop 33 v)) (box_bytes layout 16) sized))
           (subst (OpensAt layout HEADER_NUMBER sealed) text m.opens);
     }
+
+-- its nonce
+pub made_nonce : (layout : Layout) (v sealed nonce : List ℕ) (n e : ℕ) → n ≡ nonce_bytes layout → n ≤ 32 → length v ≡ 512 → e ≡ 33 + n + 16 + 32
+    → length sealed ≡ length (take (e - 33) (drop 33 v)) → take (nonce_bytes layout) sealed ≡ nonce
+    → part_at (take 33 v ++ (sealed ++ drop (e - 33) (drop 33 v))) 33 (nonce_bytes layout) ≡ nonce
+made_nonce layout v sealed nonce n e same most long end sized is =
+    let head : length (take 33 v) ≡ 33 = omega (arith, long, length-take 33 v) in
+    let within : nonce_bytes layout ≤ length sealed = omega (arith, same, most, long, end, sized, length-take (e - 33) (drop 33 v), length-drop 33 v) in
+    ap (take (nonce_bytes layout)) (drop_at (take 33 v) (sealed ++ drop (e - 33) (drop 33 v)) 33 head)
+    ∙ take-append-le (nonce_bytes layout) sealed (drop (e - 33) (drop 33 v)) within ∙ is
 
 pub writes_header : (layout : Layout) (counter len : ℕ) (a b : Option (List ℕ)) (bytes : List ℕ) → length bytes ≡ 512 → IsSector layout counter len bytes
     → WritesAt a b (sector_place counter) bytes → OnKnown a b (WritesHeader layout counter len)

@@ -3,7 +3,7 @@
 ghost use Rattle.std.specs.Prelude.{◌≡◌, ◌+◌, ◌%◌, ◌<◌, ◌≤◌, ◌^◌, IfErr, IfOk, IfSome, IsSome, List, OnErr, OnOk, Some, length, ℕ};
 ghost use Rattle.std.specs.Int.{to_le_bytes, w64};
 ghost use Rattle.aegis_base.specs.Variant.{key_length};
-ghost use Rattle.aegis_storage.specs.Bytes.{TearsAt};
+ghost use Rattle.aegis_storage.specs.Bytes.{TearsAt, part_at};
 ghost use Rattle.aegis_pages.specs.Errors.{IsOpenRefusal, IsWriteError};
 ghost use Rattle.aegis_pages.specs.Headers.{IsNewest, IsSector, WritesHeader, header_text, sector_place};
 ghost use Rattle.aegis_pages.specs.Layouts.{IsPageSize, Layout, OpensAt, box_bytes, nonce_bytes};
@@ -42,7 +42,8 @@ pub fn header_sector<L: LaneState, V: Names, const KEY_BYTES: usize>(
     len: u64,
 ) -> [u8; SECTOR_BYTES]
     requires { len ≤ MAX_TEXT_BYTES }
-    ensures { IsSector layout.now counter len result }
+    ensures header { IsSector layout.now counter len result }
+    ensures nonce { part_at result CLEAR_BYTES (nonce_bytes layout.now) ≡ nonce.now }
 {
     let mut sector = [0; SECTOR_BYTES];
     put(&mut sector, 0, &layout.clear());

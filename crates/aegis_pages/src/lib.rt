@@ -10,6 +10,9 @@
 //!
 //! [`Pages`] is generic in the variant of AEGIS, and [`SealedPages`], for AEGIS-256, and the five other names are
 //! aliases of it.
+//!
+//! A caller that reads and writes by itself seals and opens single pages by [`seal_box`] and [`open_box`], and headers
+//! by [`header_sector`] and [`open_sector`], under a [`FileLayout`].
 #![tactic(auto)]
 
 mod batch;
@@ -26,7 +29,11 @@ mod variants;
 pub use batch::{commit_batch, open_batch, open_recovered};
 pub use draws::Nonces;
 pub use error::PagesError;
-pub use layout::{DEFAULT_PAGE_BYTES, MAX_PAGE_BYTES, MAX_TEXT_BYTES, MIN_PAGE_BYTES};
+pub use header::{FileHeader, header_sector, open_sector};
+pub use layout::{
+    DEFAULT_PAGE_BYTES, FileLayout, MAX_PAGE_BYTES, MAX_TEXT_BYTES, MIN_PAGE_BYTES, SECTOR_BYTES,
+};
+pub use page::{open_box, seal_box};
 pub use pages::Pages;
 pub use variants::{
     SealedPages, SealedPages128L, SealedPages128X2, SealedPages128X4, SealedPages256X2,

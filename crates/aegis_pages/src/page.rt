@@ -2,9 +2,9 @@
 //!
 //! A box is a nonce, a ciphertext and a tag.
 
-ghost use Rattle.std.specs.Prelude.{◌≡◌, ◌+◌, ◌*◌, ◌-◌, ◌≤◌, ◌⊎◌, ◌^◌, IfErr, IfSome, List, OnErr, OnOk, length, true, ℕ};
+ghost use Rattle.std.specs.Prelude.{◌≡◌, ◌+◌, ◌*◌, ◌-◌, ◌≤◌, ◌⊎◌, ◌^◌, IfErr, IfSome, List, OnErr, OnOk, length, take, true, ℕ};
 ghost use Rattle.aegis_storage.specs.Bytes.{TearsAt, WritesAt};
-ghost use Rattle.aegis_pages.specs.Layouts.{OpensAt, box_bytes, inner, page_at, page_place};
+ghost use Rattle.aegis_pages.specs.Layouts.{OpensAt, box_bytes, inner, nonce_bytes, page_at, page_place};
 ghost use Rattle.aegis_pages.specs.Errors.{IsReadError, IsWriteError};
 
 use crate::draws::Nonces;
@@ -22,7 +22,8 @@ pub fn seal_box<L: LaneState, V: Names, const KEY_BYTES: usize>(
 )
     requires long { box_bytes layout.now 0 ≤ length sealed.old }
     requires within { length sealed.old ≤ 2 ^ 32 }
-    ensures { OpensAt layout.now number sealed.new (inner layout.now sealed.old) }
+    ensures opens { OpensAt layout.now number sealed.new (inner layout.now sealed.old) }
+    ensures nonce { take (nonce_bytes layout.now) sealed.new ≡ nonce.now }
 {
     let nonce_bytes = layout.nonce_bytes();
     let text_bytes = sealed.len() - (nonce_bytes + TAG_BYTES);

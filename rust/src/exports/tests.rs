@@ -1,6 +1,9 @@
-//! The calls on a state, in orders and with lengths that the crate does not make.
+//! The calls on a state, in orders and with lengths that the crate does not make, and those on pages and headers.
 
-use super::{Answer, ERASED, Refusal, State, VARIANTS, Variant};
+use super::{
+    Answer, ERASED, PageHeader, Refusal, State, VARIANTS, Variant, page_header_open,
+    page_header_seal, page_open, page_seal,
+};
 use crate::MAX_AEAD_BYTES;
 
 const AD: &[u8] = b"associated data";
@@ -248,4 +251,77 @@ fn a_wiped_state_is_zeros() {
     let mut st = begun(&VARIANTS[0], AD);
     st.wipe();
     assert_eq!(contents(&st), contents(&State::ENDED));
+}
+
+/// A page of 256 bytes of text.
+fn sealed_page(number: u64) -> [u8; 320] {
+    let mut page = [0x5a; 320];
+    assert_eq!(
+        page_seal(&mut page, &[1; 24], number, &[2; 32], &[3; 32]),
+        Ok(())
+    );
+    page
+}
+
+#[test]
+fn a_page_opens_at_its_number() {
+    let mut page = sealed_page(7);
+    assert_eq!(page_open(&mut page, &[1; 24], 7, &[3; 32]), Ok(()));
+    assert_eq!(page[32..288], [0x5a; 256]);
+    for (id, number, key) in [(1, 8, 3), (2, 7, 3), (1, 7, 4)] {
+        let mut page = sealed_page(7);
+        let answer = page_open(&mut page, &[id; 24], number, &[key; 32]);
+        assert_eq!(answer, Err(Refusal::InvalidTag));
+        assert_eq!(page, [ERASED; 320]);
+    }
+}
+
+#[test]
+fn a_page_of_another_length_is_refused() {
+    let mut page = [0x77; 70_000];
+    for (length, number, refusal) in [
+        (0, 0, Refusal::WrongTagLength),
+        (319, 0, Refusal::WrongTagLength),
+        (65_601, 0, Refusal::MessageTooLong),
+        (320, (1 << 52) + 1, Refusal::MessageTooLong),
+        (320, u64::MAX, Refusal::MessageTooLong),
+    ] {
+        let bytes = &mut page[..length];
+        let answer = page_seal(bytes, &[1; 24], number, &[2; 32], &[3; 32]);
+        assert_eq!(answer, Err(refusal));
+        let answer = page_open(bytes, &[1; 24], number, &[3; 32]);
+        assert_eq!(answer, Err(refusal));
+    }
+    assert_eq!(page, [0x77; 70_000]);
+}
+
+#[test]
+fn a_header_opens_in_its_turn() {
+    let header = PageHeader {
+        page_size: 256,
+        id: [1; 24],
+        counter: 5,
+        text_len: 1 << 60,
+    };
+    let mut sector = [0x77; 512];
+    for wrong in [
+        PageHeader {
+            page_size: 255,
+            ..header
+        },
+        PageHeader {
+            text_len: (1 << 60) + 1,
+            ..header
+        },
+    ] {
+        assert!(page_header_seal(&mut sector, &wrong, &[2; 32], &[3; 32]).is_err());
+        assert_eq!(sector, [0x77; 512]);
+    }
+    let answer = page_header_seal(&mut sector, &header, &[2; 32], &[3; 32]);
+    assert_eq!(answer, Ok(()));
+    assert_eq!(page_header_open(&sector, 1, &[3; 32]), Ok(header));
+    for (turn, key) in [(0, 3), (2, 3), (1, 4)] {
+        let found = page_header_open(&sector, turn, &[key; 32]);
+        assert_eq!(found, Err(Refusal::InvalidTag));
+    }
 }

@@ -1,10 +1,10 @@
 use Rattle.std.proofs.Common.{◌≡◌, ◌+◌, ◌<◌, ◌^◌, ◌∙◌, ap, arith, length, refl, replicate, sym}
 use Rattle.aegis_storage.specs.Bytes.{overwritten}
-use Rattle.aegis_pages.proofs.Heading.{made_sector}
+use Rattle.aegis_pages.proofs.Heading.{made_nonce, made_sector}
 use Rattle.aegis_pages.proofs.header.header_sector.Goals as goal
 
-pub returns : goal.returns
-returns g c =
+pub returns-clause-header : goal.returns-clause-header
+returns-clause-header g c =
     let n = c.nonce_bytes-text.result in
     let most = c.nonce_bytes-text.ensures.most in
     let front : length c.clear.result ≡ 33 = omega arith in
@@ -31,5 +31,16 @@ returns g c =
       most = most;
       end_is = refl;
       sealed_long = c.seal_box.auto.sealed;
-      opens = c.seal_box.ensures;
+      opens = c.seal_box.ensures.opens;
     })
+
+pub returns-clause-nonce : goal.returns-clause-nonce
+returns-clause-nonce g c =
+    let n = c.nonce_bytes-text.result in
+    let most = c.nonce_bytes-text.ensures.most in
+    let front : length c.clear.result ≡ 33 = omega arith in
+    let first : length c.put.new.bytes ≡ 512 = omega (arith, c.put.auto.bytes) in
+    let second : length c.put-2.new.bytes ≡ 512 = omega (arith, first, c.put-2.auto.bytes) in
+    let third : length c.put-3.new.bytes ≡ 512 = omega (arith, second, c.put-3.auto.bytes) in
+    made_nonce c.args.layout.now c.put-3.new.bytes c.seal_box.new.sealed c.args.nonce.now n (33 + n + 16 + 32) c.nonce_bytes-text.ensures.value most third refl c.seal_box.auto.sealed
+    c.seal_box.ensures.nonce

@@ -1,10 +1,11 @@
-use Rattle.std.proofs.Common.{◌+◌, ◌-◌, ◌≤◌, ◌∙◌, ℕ, ap, arith, drop, length, refl, sym, take}
-use Rattle.aegis_pages.specs.Layouts.{associated_data, inner}
+use Rattle.std.proofs.Common.{◌+◌, ◌-◌, ◌≤◌, ◌++◌, ◌∙◌, ℕ, ap, arith, drop, length, refl, sym, take}
+use Rattle.std.proofs.lemmas.List.{take_at}
+use Rattle.aegis_pages.specs.Layouts.{associated_data, inner, nonce_bytes}
 use Rattle.aegis_pages.proofs.Boxes.{length-end, moved, opens_parts}
 use Rattle.aegis_pages.proofs.page.seal_box.Goals as goal
 
-pub returns : goal.returns
-returns g c =
+pub returns-clause-opens : goal.returns-clause-opens
+returns-clause-opens g c =
     let layout = c.args.layout.now in
     let number = c.args.number in
     let old = c.args.sealed.now in
@@ -23,3 +24,8 @@ returns g c =
     c.associated_data-ad.result (associated_data layout number) t t c.encrypt_in_place-tag.result e
     (sym c.cipher.ensures.variant) text c.cipher.ensures.key (c.cipher.ensures.nonce ∙ sym c.copy_from_slice.ensures.after) c.associated_data-ad.ensures refl (sym c.copy_from_slice-2.ensures.after)
     (sym c.encrypt_in_place-tag.ensures))
+
+pub returns-clause-nonce : goal.returns-clause-nonce
+returns-clause-nonce g c =
+    let first = c.copy_from_slice.ensures.len ∙ c.split_at_mut-head.ensures.front_len ∙ c.nonce_bytes-nonce_bytes.ensures.value in
+    take_at c.copy_from_slice.new.self (c.encrypt_in_place-tag.new.mc ++ c.copy_from_slice-2.new.self) (nonce_bytes c.args.layout.now) first ∙ c.copy_from_slice.ensures.after

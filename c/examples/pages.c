@@ -1,0 +1,198 @@
+/*
+ * Keeps a text in a file of sealed pages, and reads and writes it at any place:
+ *
+ *     pages KEYFILE FILE PLACE [TEXT]
+ *
+ * A key file has 32 bytes. The first call makes the file. TEXT is written at PLACE, which is not
+ * past the text's end; without TEXT it prints what is there, at most 4,096 bytes. Without arguments
+ * it tries itself on a temporary file.
+ *
+ * cc pages.c $(pkg-config --cflags --libs hunkravy)
+ */
+#define _POSIX_C_SOURCE 200809L
+
+#include "hunkravy.h"
+
+#include <fcntl.h>
+#include <stdio.h>
+#include <stdlib.h>
+#include <string.h>
+#include <sys/random.h>
+#include <unistd.h>
+
+/* A file that is open, and what its newest header has. */
+struct file {
+    int fd;
+    uint8_t key[HUNKRAVY_PAGE_KEY_BYTES], id[HUNKRAVY_PAGE_ID_BYTES];
+    uint32_t page_size;
+    uint64_t counter, length;
+};
+
+/* A page, and its text. */
+static uint8_t page[HUNKRAVY_PAGE_MAX_SIZE + HUNKRAVY_PAGE_BYTES];
+static uint8_t *const text = page + HUNKRAVY_PAGE_NONCE_BYTES;
+
+/* Each function returns 1, or 0 if it failed, unless its comment says otherwise. */
+
+static int read_all(int fd, uint8_t *bytes, size_t length, uint64_t place)
+{
+    return pread(fd, bytes, length, (off_t)place) == (ssize_t)length;
+}
+
+static int write_all(int fd, const uint8_t *bytes, size_t length, uint64_t place)
+{
+    return pwrite(fd, bytes, length, (off_t)place) == (ssize_t)length;
+}
+
+/* Writes the header of this counter to its sector. */
+static int write_header(struct file *file, uint64_t counter, uint64_t length)
+{
+    uint8_t sector[HUNKRAVY_PAGE_SECTOR_BYTES], nonce[HUNKRAVY_PAGE_NONCE_BYTES];
+
+    if (getentropy(nonce, sizeof nonce) != 0 ||
+        hunkravy_page_header_seal(sector, file->page_size, file->id, counter, length, nonce,
+                                  file->key) != HUNKRAVY_OK ||
+        !write_all(file->fd, sector, sizeof sector, counter % 2 * sizeof sector)) {
+        return 0;
+    }
+    file->counter = counter;
+    file->length = length;
+    return 1;
+}
+
+static int create(struct file *file)
+{
+    file->page_size = HUNKRAVY_PAGE_DEFAULT_SIZE;
+    return getentropy(file->id, sizeof file->id) == 0 && write_header(file, 0, 0) &&
+           write_header(file, 1, 0);
+}
+
+static int read_newest(struct file *file)
+{
+    uint8_t sector[HUNKRAVY_PAGE_SECTOR_BYTES];
+    struct file found = *file;
+    int result = 0;
+
+    for (uint64_t turn = 0; turn < 2; turn++) {
+        if (read_all(file->fd, sector, sizeof sector, turn * sizeof sector) &&
+            hunkravy_page_header_open(sector, turn, file->key, &found.page_size, found.id,
+                                      &found.counter, &found.length) == HUNKRAVY_OK &&
+            (!result || found.counter > file->counter)) {
+            *file = found;
+            result = 1;
+        }
+    }
+    hunkravy_wipe(&found, sizeof found);
+    return result;
+}
+
+static int read_page(const struct file *file, uint64_t number)
+{
+    size_t length = file->page_size + HUNKRAVY_PAGE_BYTES;
+
+    return read_all(file->fd, page, length, hunkravy_page_place(file->page_size, number)) &&
+           hunkravy_page_open(page, length, file->id, number, file->key) == HUNKRAVY_OK;
+}
+
+/* Seals the page by a nonce that is drawn for it, and writes it. */
+static int write_page(const struct file *file, uint64_t number)
+{
+    uint8_t nonce[HUNKRAVY_PAGE_NONCE_BYTES];
+    size_t length = file->page_size + HUNKRAVY_PAGE_BYTES;
+
+    return getentropy(nonce, sizeof nonce) == 0 &&
+           hunkravy_page_seal(page, length, file->id, number, nonce, file->key) == HUNKRAVY_OK &&
+           write_all(file->fd, page, length, hunkravy_page_place(file->page_size, number));
+}
+
+/* Reads `length` bytes of the text, or those up to its end. Returns how many, or -1. */
+static long read_text(const struct file *file, uint8_t *bytes, size_t length, uint64_t place)
+{
+    size_t done = 0, count, at;
+
+    if (place > file->length) {
+        return -1;
+    }
+    length = length < file->length - place ? length : (size_t)(file->length - place);
+    for (; done < length; done += count) {
+        at = (place + done) % file->page_size;
+        count = file->page_size - at < length - done ? file->page_size - at : length - done;
+        if (!read_page(file, (place + done) / file->page_size)) {
+            return -1;
+        }
+        memcpy(bytes + done, text + at, count);
+    }
+    return (long)length;
+}
+
+/* Writes over the text. A page that has some keeps what is not written over. */
+static int write_text(struct file *file, const uint8_t *bytes, size_t length, uint64_t place)
+{
+    size_t done = 0, count, at;
+
+    for (; place <= file->length && done < length; done += count) {
+        uint64_t number = (place + done) / file->page_size;
+        at = (place + done) % file->page_size;
+        count = file->page_size - at < length - done ? file->page_size - at : length - done;
+        memset(page, 0, sizeof page);
+        if (number * file->page_size < file->length && !read_page(file, number)) {
+            return 0;
+        }
+        memcpy(text + at, bytes + done, count);
+        if (!write_page(file, number)) {
+            return 0;
+        }
+    }
+    return done == length &&
+           (place + done <= file->length || write_header(file, file->counter + 1, place + done));
+}
+
+/* Writes a text of three pages in two parts, and reads a part of it. */
+static int try_all(struct file *file)
+{
+    static uint8_t bytes[12000], part[5000];
+
+    for (size_t i = 0; i < sizeof bytes; i++) {
+        bytes[i] = (uint8_t)(i % 251);
+    }
+    return create(file) && write_text(file, bytes, 9000, 0) &&
+           write_text(file, bytes + 6000, 6000, 6000) && read_newest(file) &&
+           file->length == 12000 && read_text(file, part, sizeof part, 4000) == 5000 &&
+           memcmp(part, bytes + 4000, sizeof part) == 0;
+}
+
+static int run(struct file *file, char **arguments, const char *written)
+{
+    static uint8_t bytes[4096];
+    uint64_t place = strtoull(arguments[3], NULL, 10);
+    long count;
+
+    file->fd = open(arguments[2], O_RDWR | O_CREAT, 0600);
+    if (!read_all(open(arguments[1], O_RDONLY), file->key, sizeof file->key, 0) ||
+        !(lseek(file->fd, 0, SEEK_END) == 0 ? create(file) : read_newest(file))) {
+        return 0;
+    }
+    if (written != NULL) {
+        return write_text(file, (const uint8_t *)written, strlen(written), place);
+    }
+    count = read_text(file, bytes, sizeof bytes, place);
+    return count >= 0 && fwrite(bytes, 1, (size_t)count, stdout) == (size_t)count;
+}
+
+int main(int count, char **arguments)
+{
+    struct file file = {-1, {0}, {0}, 0, 0, 0};
+    FILE *temporary = tmpfile();
+    int result = 0;
+
+    if (count >= 4) {
+        result = run(&file, arguments, arguments[4]);
+    } else if (temporary != NULL && getentropy(file.key, sizeof file.key) == 0) {
+        file.fd = fileno(temporary);
+        result = try_all(&file) &&
+                 puts("hunkravy: a part of a text was read from its sealed pages") >= 0;
+    }
+    hunkravy_wipe(page, sizeof page);
+    hunkravy_wipe(&file, sizeof file);
+    return result ? EXIT_SUCCESS : EXIT_FAILURE;
+}

@@ -1,0 +1,25 @@
+-- A sector has one header of a key.
+use Rattle.std.proofs.Common.{◌≡◌, ℕ, List, inl, refl, take, ap, subst, ◌∙◌}
+use Rattle.aegis_pages.specs.Headers.{header_text}
+use Rattle.aegis_pages.specs.Layouts.{Layout, OpensAt, box_bytes}
+use Rattle.aegis_pages.specs.declared.header.FileHeader.{FileHeader}
+use Rattle.aegis_pages.specs.declared.layout.TheConstants.{HEADER_NUMBER}
+use Rattle.aegis_pages.proofs.Boxes.{opens_one}
+use Rattle.aegis_pages.proofs.Heading.{one_layout, one_text}
+use Rattle.aegis_storage.specs.Bytes.{part_at}
+use Rattle.aegis_c_pages.specs.Calls.{HasHeader, file_of, header_of}
+
+same_header : (a b : FileHeader) → a.page_bytes ≡ b.page_bytes → a.id ≡ b.id → a.counter ≡ b.counter → a.len ≡ b.len → a ≡ b
+same_header a b size id counter len =
+    ap (λ (p : ℕ). header_of p a.id a.counter a.len) size ∙ ap (λ (i : List ℕ). header_of b.page_bytes i a.counter a.len) id
+    ∙ ap (λ (c : ℕ). header_of b.page_bytes b.id c a.len) counter ∙ ap (λ (n : ℕ). header_of b.page_bytes b.id b.counter n) len
+
+pub one_header : (key sector : List ℕ) (a b : FileHeader) → HasHeader key sector a → HasHeader key sector b → a ≡ b
+one_header key sector a b first second =
+    let first_file : Layout = file_of key a.id a.page_bytes in
+    let file : Layout = file_of key b.id b.page_bytes in
+    let same : first_file ≡ file = one_layout first_file file (take 33 sector) first.clear second.clear refl refl first.size second.size in
+    let opens : OpensAt file HEADER_NUMBER (part_at sector 33 (box_bytes file 16)) (header_text a.counter a.len) =
+    subst (λ (o : Layout). OpensAt o HEADER_NUMBER (part_at sector 33 (box_bytes o 16)) (header_text a.counter a.len)) same first.opens in
+    let text = one_text a.counter a.len b.counter b.len (opens_one file HEADER_NUMBER _ _ _ (inl refl) opens second.opens) first.countable second.countable first.within second.within in
+    same_header a b (ap (λ (l : Layout). l.page_bytes) same) (ap (λ (l : Layout). l.id) same) text.0 text.1
