@@ -1,4 +1,5 @@
 pub mod Boxes
+pub mod Committing
 pub mod Composing
 pub mod Heading
 pub mod Known

@@ -1,3 +1,4 @@
+pub mod Commitments
 pub mod Errors
 pub mod Headers
 pub mod Layouts

@@ -4,12 +4,14 @@ ghost use Rattle.std.specs.Prelude.{◌≡◌, ◌+◌, ◌-◌, ◌<◌, ◌≤
 ghost use Rattle.std.specs.Io.KnownBytes.{Keeps};
 ghost use Rattle.aegis_base.specs.Variant.{key_length};
 ghost use Rattle.aegis_storage.specs.Bytes.{overwritten, part_at, resized};
-ghost use Rattle.aegis_pages.specs.Errors.{IsCreateRefusal, IsOpenRefusal, IsReadRefusal, IsWriteRefusal};
+ghost use Rattle.aegis_pages.specs.Commitments.{commitment};
+ghost use Rattle.aegis_pages.specs.Errors.{IsCreateRefusal, IsOpenRefusal, IsReadError, IsReadRefusal, IsVerifyRefusal, IsWriteRefusal};
 ghost use Rattle.aegis_pages.specs.Headers.{IsNewest, KeepsNewest};
 ghost use Rattle.aegis_pages.specs.Layouts.{IsPageSize};
 ghost use Rattle.aegis_pages.specs.OpenFile.{HasText, IsUnchanged, Reads};
 ghost use Rattle.aegis_pages.specs.SealedPages.{Holds, KeepsFront, KeepsPages, OnKnown};
 
+use crate::commitment::{file_commitment, verify_commitment};
 use crate::draws::Nonces;
 use crate::error::PagesError;
 use crate::header::{read_newest, write_header};
@@ -335,6 +337,40 @@ impl<
             Ok(()) => Ok(()),
             Err(error) => Err(PagesError::Write(error)),
         }
+    }
+
+    /// Returns the file's commitment: a MAC of 32 bytes over the counter and the length of the newest header, and the tag
+    /// of each page of the text. It is taken under the file's key and the nonce of all bytes 255, which `N` must never
+    /// draw. A file whose header or page is an older one has another commitment, unless two MACs are equal by chance.
+    ///
+    /// Returns [`PagesError::Read`] if the storage could not be read, or ends before the last page does.
+    pub fn commitment(&mut self) -> Result<[u8; 32], PagesError>
+        ensures unchanged { IsUnchanged self.old self.new }
+        ensures is { IfOk result (λ mac. IfSome self.old.bytes
+            (λ file. mac ≡ commitment self.old.layout self.old.counter self.old.len file)) }
+        ensures refused { IfErr result IsReadError }
+    {
+        file_commitment(&mut self.storage, &self.layout, self.counter, self.len)
+    }
+
+    /// Returns `Ok` if the file's commitment is `expected`, which a call of [`Pages::commitment`] returned. All bytes are
+    /// compared, whether they are equal or not.
+    ///
+    /// Returns [`PagesError::Commitment`] if it is another, and [`PagesError::Read`] as `commitment` does.
+    pub fn verify(&mut self, expected: &[u8; 32]) -> Result<(), PagesError>
+        ensures unchanged { IsUnchanged self.old self.new }
+        ensures is { OnOk result (IfSome self.old.bytes
+            (λ file. expected.now ≡ commitment self.old.layout self.old.counter self.old.len file)) }
+        ensures refused { IfErr result (IsVerifyRefusal self.old.layout
+            self.old.counter self.old.len self.old.bytes expected.now) }
+    {
+        verify_commitment(
+            &mut self.storage,
+            &self.layout,
+            self.counter,
+            self.len,
+            expected,
+        )
     }
 
     /// Gives the storage back.
