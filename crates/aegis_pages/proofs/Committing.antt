@@ -1,10 +1,14 @@
--- Commitments: the tag of a page as it is read, and the input of the MAC as it grows.
-use Rattle.std.proofs.Common.{◌≡◌, ℕ, ◌+◌, ◌-◌, List, [], ◌++◌, drop, length, refl, take, sym, ap, subst, ◌∙◌, add-one, append_assoc, append-nil, arith}
+-- Commitments: the tag of a page as it is read, the input of the MAC as it grows, and the commitment of a file that was opened.
+use Rattle.std.proofs.Common.{◌≡◌, ℕ, ◌+◌, ◌-◌, List, [], ◌++◌, Option, None, Some, IfSome, drop, length, refl, take, sym, ap, subst, ◌∙◌, add-one, append_assoc, append-nil, arith}
 use Rattle.std.proofs.lemmas.List.{drop-drop, drop-take, length-drop, length-take}
+use Rattle.std.specs.Io.KnownBytes.{Keeps}
+use Rattle.aegis_aes.specs.Lanes.{IsLaneCount}
 use Rattle.aegis_base.specs.Run.{Held, Stands}
 use Rattle.aegis_base.specs.Variant.{Variant}
-use Rattle.aegis_pages.specs.Commitments.{page_tag, page_tags}
+use Rattle.aegis_pages.specs.Commitments.{HasOneCommitment, commitment, page_tag, page_tags}
+use Rattle.aegis_pages.specs.Headers.{IsNewest}
 use Rattle.aegis_pages.specs.Layouts.{Layout}
+use Rattle.aegis_pages.proofs.Heading.{one_newest}
 
 -- the last 32 bytes of a box of m + 32 bytes, if they are all there
 pub tag_end : (file tag : List ℕ) (at m n : ℕ) → n ≡ m + 32 → length tag ≡ 32 → tag ≡ take 32 (drop (at + m) file)
@@ -30,3 +34,20 @@ pub one_more : (a b c : List ℕ) (layout : Layout) (file tag : List ℕ) (k : �
 one_more a b c layout file tag k is =
     let more : page_tags layout file (k + 1) ≡ page_tags layout file k ++ page_tag layout file k = rw add-one refl in
     rw (is, more) (simp append_assoc)
+
+-- ---- the commitment of a file that was opened
+
+pub has_commitment : (layout : Layout) (counter len : ℕ) (variant : Variant) (key c : List ℕ) (o p : Option (List ℕ)) → IsLaneCount variant.lanes → layout.variant ≡ variant → layout.key ≡ key
+    → Keeps o p → IfSome o (IsNewest layout counter len) → IfSome p (λ file. c ≡ commitment layout counter len file) → IfSome o (HasOneCommitment variant key c)
+has_commitment layout counter len variant key c None p count v k kept newest is = tt
+has_commitment layout counter len variant key c (Some file) None count v k kept newest is = absurd kept
+has_commitment layout counter len variant key c (Some file) (Some new) count v k kept newest is =
+    let same_bytes : c ≡ commitment layout counter len file = is ∙ ap (commitment layout counter len) kept in
+    record {
+      has = record { layout = layout; counter = counter; len = len; variant_is = v; key_is = k; header = newest; is = same_bytes };
+      one = λ other has.
+          let same = one_newest layout has.layout counter has.counter len has.len file (subst (λ (w : Variant). IsLaneCount w.lanes) (sym v) count) (has.variant_is ∙ sym v) (has.key_is ∙ sym k)
+          newest has.header in
+          has.is ∙ ap (λ (l : Layout). commitment l has.counter has.len file) same.0 ∙ ap (λ (n : ℕ). commitment layout n has.len file) same.1
+          ∙ ap (λ (n : ℕ). commitment layout counter n file) same.2 ∙ sym same_bytes;
+    }

@@ -5,9 +5,8 @@ use Rattle.aegis_storage.specs.Bytes.{TearsAt, WritesAt, overwritten}
 use Rattle.aegis_pages.specs.SealedPages.{KeepsPage, OnKnown}
 use Rattle.aegis_pages.specs.declared.error.PagesError.{PagesError}
 use Rattle.aegis_pages.specs.declared.error.PagesError.TheVariants.{Read, Write, Nonce, Header, Damaged, TooLong, OutOfMemory, PageSize, Commitment}
-use Rattle.aegis_pages.specs.Errors.{IsCreateRefusal, IsRangeRefusal, IsReadError, IsReadRefusal, IsWriteError, IsWriteRefusal}
-use Rattle.aegis_pages.specs.OpenFile.{OpenFile}
-use Rattle.aegis_pages.specs.Layouts.{IsPageSize, Layout, OpensAt, page_at}
+use Rattle.aegis_pages.specs.Errors.{IsRangeRefusal, IsReadError, IsReadRefusal, IsWriteError}
+use Rattle.aegis_pages.specs.Layouts.{Layout, OpensAt, page_at}
 
 pub known_map : (o : Option (List ℕ)) (P Q : List ℕ → Type 0) → ((xs : List ℕ) → P xs → Q xs) → IfSome o P → IfSome o Q
 known_map None P Q f p = tt

@@ -1,7 +1,9 @@
 -- The commitment of a file: a MAC over its newest header's counter and length, and the tag of each page of its text.
-use Rattle.std.specs.Prelude.{ℕ, zero, suc, ◌+◌, ◌-◌, ◌/◌, List, [], ◌++◌, drop, length, replicate}
+use Rattle.std.specs.Prelude.{◌≡◌, ℕ, zero, suc, ◌+◌, ◌-◌, ◌/◌, List, [], ◌++◌, drop, length, replicate}
 use Rattle.std.specs.Int.{to_le_bytes, w64}
 use Rattle.aegis_base.specs.Mac.{mac}
+use Rattle.aegis_base.specs.Variant.{Variant}
+use Rattle.aegis_pages.specs.Headers.{IsNewest}
 use Rattle.aegis_pages.specs.Layouts.{Layout, clear_part, nonce_bytes, page_at}
 
 -- how many pages a text of so many bytes has: those that begin before its end
@@ -25,3 +27,18 @@ committed layout counter len file =
 -- the commitment: the MAC of 32 bytes, under the file's key and the nonce of all bytes 255
 abbrev pub commitment : (layout : Layout) (counter len : ℕ) (file : List ℕ) → List ℕ
 commitment layout counter len file = mac layout.variant 32 layout.key (replicate (nonce_bytes layout) 255) (committed layout counter len file)
+
+-- the commitment of a file is c: that of its newest header under the variant and the key
+pub record HasCommitment (variant : Variant) (key c file : List ℕ) : Type 0 where
+  pub layout : Layout
+  pub counter : ℕ
+  pub len : ℕ
+  pub variant_is : layout.variant ≡ variant
+  pub key_is : layout.key ≡ key
+  pub header : IsNewest layout counter len file
+  pub is : c ≡ commitment layout counter len file
+
+-- the file has this commitment, and no other
+pub record HasOneCommitment (variant : Variant) (key c file : List ℕ) : Type 0 where
+  pub has : HasCommitment variant key c file
+  pub one : (other : List ℕ) → HasCommitment variant key other file → other ≡ c

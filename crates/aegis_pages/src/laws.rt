@@ -1,7 +1,12 @@
 //! Laws: functions that do nothing, and whose contracts are facts about the definitions that the other contracts cite.
 
-ghost use Rattle.std.specs.Prelude.{◌≡◌, ◌+◌, ◌≤◌, List, length, ℕ};
+ghost use Rattle.std.specs.Prelude.{◌≡◌, ◌+◌, ◌≤◌, IfSome, List, Option, length, ℕ};
+ghost use Rattle.std.specs.Io.KnownBytes.{Keeps};
+ghost use Rattle.aegis_aes.specs.Lanes.{IsLaneCount};
+ghost use Rattle.aegis_base.specs.Variant.{Variant};
 ghost use Rattle.aegis_storage.specs.Bytes.{overwritten, part_at};
+ghost use Rattle.aegis_pages.specs.Commitments.{HasOneCommitment, commitment};
+ghost use Rattle.aegis_pages.specs.Headers.{IsNewest};
 ghost use Rattle.aegis_pages.specs.OpenFile.{HasText, IsUnchanged, OpenFile};
 
 /// A part that was written is what is read at its place.
@@ -29,4 +34,14 @@ pub fn whole_is_written()
 pub fn unchanged_has_its_text()
     ensures { (old new : OpenFile) (text : List ℕ) → IsUnchanged old new → HasText old text
         → HasText new text }
+{}
+
+/// A file has one commitment under a variant and a key: that of the file that was opened.
+pub fn opened_has_its_commitment()
+    ensures { (variant : Variant) (key c : List ℕ) (bytes : Option (List ℕ)) (file : OpenFile)
+        → IsLaneCount variant.lanes
+        → file.layout.variant ≡ variant → file.layout.key ≡ key → Keeps bytes file.bytes
+        → IfSome bytes (IsNewest file.layout file.counter file.len)
+        → IfSome file.bytes (λ now. c ≡ commitment file.layout file.counter file.len now)
+        → IfSome bytes (HasOneCommitment variant key c) }
 {}

@@ -1,4 +1,4 @@
-use Rattle.std.proofs.Common.{◌+◌, ◌*◌, ◌++◌, [], List, ℕ, ◌∙◌, ap, arith, length, replicate, subst}
+use Rattle.std.proofs.Common.{[], List, ℕ, ap, arith, replicate, subst}
 use Rattle.std.specs.Int.{to_le_bytes, w64}
 use Rattle.aegis_base.specs.Run.{Stands}
 use Rattle.aegis_pages.specs.Layouts.{clear_part, nonce_bytes}

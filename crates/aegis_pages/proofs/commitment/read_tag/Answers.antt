@@ -1,4 +1,4 @@
-use Rattle.std.proofs.Common.{◌≡◌, ◌+◌, ℕ, ◌∙◌, List, ap, arith, drop, length, take}
+use Rattle.std.proofs.Common.{◌≡◌, ◌+◌, ℕ, ◌∙◌, ap, arith, drop, length, take}
 use Rattle.aegis_pages.specs.Layouts.{box_bytes, page_place}
 use Rattle.aegis_pages.proofs.Committing.{tag_end}
 use Rattle.aegis_pages.proofs.Known.{known_map}
