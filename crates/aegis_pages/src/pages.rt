@@ -359,8 +359,8 @@ impl<
     /// Returns [`PagesError::Commitment`] if it is another, and [`PagesError::Read`] as `commitment` does.
     pub fn verify(&mut self, expected: &[u8; 32]) -> Result<(), PagesError>
         ensures unchanged { IsUnchanged self.old self.new }
-        ensures is { OnOk result (IfSome self.old.bytes
-            (λ file. expected.now ≡ commitment self.old.layout self.old.counter self.old.len file)) }
+        ensures is { OnOk result (IfSome self.old.bytes (λ file. expected.now
+            ≡ commitment self.old.layout self.old.counter self.old.len file)) }
         ensures refused { IfErr result (IsVerifyRefusal self.old.layout
             self.old.counter self.old.len self.old.bytes expected.now) }
     {
