@@ -19,14 +19,17 @@ abbrev pub page_tags : (layout : Layout) (file : List ℕ) (n : ℕ) → List �
 page_tags layout file zero = []
 page_tags layout file (suc k) = page_tags layout file k ++ page_tag layout file k
 
--- the input of the MAC: magic number, variant, page size and id; the counter and the length; and the tags of all pages of the text
+-- the input of the MAC: magic number, variant, page size and id; the counter and the length of the newest header; and
+-- the tags of all pages of the text
 abbrev pub committed : (layout : Layout) (counter len : ℕ) (file : List ℕ) → List ℕ
 committed layout counter len file =
-    clear_part layout ++ (to_le_bytes w64 counter ++ (to_le_bytes w64 len ++ page_tags layout file (page_count layout len)))
+    clear_part layout
+    ++ (to_le_bytes w64 counter ++ (to_le_bytes w64 len ++ page_tags layout file (page_count layout len)))
 
 -- the commitment: the MAC of 32 bytes, under the file's key and the nonce of all bytes 255
 abbrev pub commitment : (layout : Layout) (counter len : ℕ) (file : List ℕ) → List ℕ
-commitment layout counter len file = mac layout.variant 32 layout.key (replicate (nonce_bytes layout) 255) (committed layout counter len file)
+commitment layout counter len file =
+    mac layout.variant 32 layout.key (replicate (nonce_bytes layout) 255) (committed layout counter len file)
 
 -- the commitment of a file is c: that of its newest header under the variant and the key
 pub record HasCommitment (variant : Variant) (key c file : List ℕ) : Type 0 where

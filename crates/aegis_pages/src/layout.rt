@@ -186,6 +186,7 @@ impl<L: LaneState, V: Names, const KEY_BYTES: usize> FileLayout<L, V, KEY_BYTES>
         requires { len ≤ MAX_TEXT_BYTES }
         ensures count { result ≡ page_count self.now len }
         ensures within { (k : ℕ) → k < result → k * self.now.page_bytes < len }
+        ensures all { (k : ℕ) → k * self.now.page_bytes < len → k < result }
         ensures few { MIN_PAGE_BYTES * result ≤ MAX_TEXT_BYTES + MAX_PAGE_BYTES }
     {
         let page_bytes = self.page_bytes as u64;
