@@ -21,6 +21,5 @@ pub use cipher::{Cipher, ERASED};
 pub use decryptor::Decryptor;
 pub use encryptor::Encryptor;
 pub use mac::{Mac, mac_at_once};
-pub use run::Run;
 pub use saved::{BEGUN, ENDED, SavedRun};
 pub use tag::same_bytes;

@@ -1,13 +1,17 @@
 -- Commitments: the tag of a page as it is read, the input of the MAC as it grows, and the commitment of a file that was opened.
-use Rattle.std.proofs.Common.{◌≡◌, ℕ, ◌+◌, ◌-◌, List, [], ◌++◌, Option, None, Some, IfSome, drop, length, refl, take, sym, ap, subst, ◌∙◌, add-one, append_assoc, append-nil, arith}
-use Rattle.std.proofs.lemmas.List.{drop-drop, drop-take, length-drop, length-take}
+use Rattle.std.proofs.Common.{◌≡◌, ℕ, ◌+◌, ◌-◌, List, [], ◌++◌, Option, None, Some, IfSome, drop, length, refl, replicate, take, sym, ap, subst, ◌∙◌, add-one, append_assoc, append-nil, arith}
+use Rattle.std.proofs.lemmas.List.{drop-drop, drop-take, length-append, length-drop, length-take}
+use Rattle.std.specs.Int.{to_le_bytes, w64}
 use Rattle.std.specs.Io.KnownBytes.{Keeps}
 use Rattle.aegis_aes.specs.Lanes.{IsLaneCount}
-use Rattle.aegis_base.specs.Run.{Held, Stands}
+use Rattle.aegis_base.specs.Mac.{mac}
+use Rattle.aegis_base.specs.Run.{Stands}
 use Rattle.aegis_base.specs.Variant.{Variant}
-use Rattle.aegis_pages.specs.Commitments.{HasOneCommitment, commitment, page_tag, page_tags}
+use Rattle.aegis_engine.specs.Saved.{IsSaved}
+use Rattle.aegis_engine.specs.declared.saved.SavedRun.{SavedRun}
+use Rattle.aegis_pages.specs.Commitments.{HasOneCommitment, commitment, committed, page_count, page_tag, page_tags}
 use Rattle.aegis_pages.specs.Headers.{IsNewest}
-use Rattle.aegis_pages.specs.Layouts.{Layout}
+use Rattle.aegis_pages.specs.Layouts.{Layout, clear_part, nonce_bytes}
 use Rattle.aegis_pages.proofs.Heading.{one_newest}
 
 -- the last 32 bytes of a box of m + 32 bytes, if they are all there
@@ -21,10 +25,32 @@ tag_end file tag at m n is long read =
 
 -- ---- the input, with the tags at its end
 
--- the same key, nonce and input by other names
-pub stands_so : (v : Variant) (h : Held) (key key' nonce nonce' x x' : List ℕ) → key ≡ key' → nonce ≡ nonce' → x ≡ x' → Stands v h key nonce [] x → Stands v h key' nonce' [] x'
-stands_so v h key key' nonce nonce' x x' p q r stands =
-    subst (Stands v h key' nonce' []) r (subst (λ (n : List ℕ). Stands v h key' n [] x) q (subst (λ (k : List ℕ). Stands v h k nonce [] x) p stands))
+-- what a saved run counts
+pub saved_data : (v : Variant) (run : SavedRun) (key nonce x : List ℕ) → IsSaved v run key nonce [] x → run.data_bytes ≡ 0
+unfolding IsSaved Stands
+saved_data v run key nonce x is = is.1.0
+
+pub saved_message : (v : Variant) (run : SavedRun) (key nonce x : List ℕ) → IsSaved v run key nonce [] x → run.message_bytes ≡ length x
+unfolding IsSaved Stands
+saved_message v run key nonce x is = is.1.1
+
+-- the same key and nonce by other names
+pub saved_so : (v : Variant) (run : SavedRun) (key key' nonce nonce' x : List ℕ) → key ≡ key' → nonce ≡ nonce' → IsSaved v run key nonce [] x → IsSaved v run key' nonce' [] x
+saved_so v run key key' nonce nonce' x p q saved = subst (λ (n : List ℕ). IsSaved v run key' n [] x) q (subst (λ (k : List ℕ). IsSaved v run k nonce [] x) p saved)
+
+-- the length of what was taken in before the tags
+pub length-begun : (a b c : List ℕ) → length a ≡ 33 → length b ≡ 8 → length c ≡ 8 → length ((a ++ b) ++ c) ≡ 49
+length-begun a b c p q r = omega (arith, p, q, r, length-append (a ++ b) c, length-append a b)
+
+-- the MAC of all that was taken in
+pub committed_mac : (layout : Layout) (v : Variant) (counter len n : ℕ) (file x result : List ℕ) → layout.variant ≡ v → n ≡ page_count layout len
+    → x ≡ clear_part layout ++ (to_le_bytes w64 counter ++ (to_le_bytes w64 len ++ page_tags layout file n))
+    → result ≡ mac v 32 layout.key (replicate (nonce_bytes layout) 255) x → result ≡ commitment layout counter len file
+committed_mac layout v counter len n file x result variant all is tagged =
+    let input : x ≡ committed layout counter len file =
+    is ∙ ap (λ (k : ℕ). clear_part layout ++ (to_le_bytes w64 counter ++ (to_le_bytes w64 len ++ page_tags layout file k))) all in
+    tagged ∙ ap (λ (w : Variant). mac w 32 layout.key (replicate (nonce_bytes layout) 255) x) (sym variant)
+    ∙ ap (mac layout.variant 32 layout.key (replicate (nonce_bytes layout) 255)) input
 
 pub begun : (a a' b b' c c' : List ℕ) → a ≡ a' → b ≡ b' → c ≡ c' → (a ++ b) ++ c ≡ a' ++ (b' ++ (c' ++ []))
 begun a a' b b' c c' p q r = rw (p, q, r) (append_assoc a' b' c' ∙ ap (λ (x : List ℕ). a' ++ (b' ++ x)) (sym (append-nil c')))

@@ -10,8 +10,8 @@ ghost use Rattle.aegis_pages.specs.Errors.{IsReadError, IsVerifyRefusal};
 
 use crate::error::PagesError;
 use crate::layout::{FileLayout, MAX_TEXT_BYTES, TAG_BYTES};
-use aegis_base::{LaneState, Names};
-use aegis_engine::{Run, same_bytes};
+use aegis_base::{LaneState, Names, SavedLanes};
+use aegis_engine::{ENDED, same_bytes};
 use aegis_storage::Storage;
 
 /// Reads the tag of a page, its last bytes. Returns [`PagesError::Read`].
@@ -36,7 +36,7 @@ pub fn read_tag<S: Storage, L: LaneState, V: Names, const KEY_BYTES: usize>(
 }
 
 /// Returns the commitment of a file. Returns [`PagesError::Read`].
-pub fn file_commitment<S: Storage, L: LaneState, V: Names, const KEY_BYTES: usize>(
+pub fn file_commitment<S: Storage, L: SavedLanes, V: Names, const KEY_BYTES: usize>(
     storage: &mut S,
     layout: &FileLayout<L, V, KEY_BYTES>,
     counter: u64,
@@ -48,20 +48,24 @@ pub fn file_commitment<S: Storage, L: LaneState, V: Names, const KEY_BYTES: usiz
         (λ file. mac ≡ commitment layout.now counter len file)) }
     ensures refused { IfErr result IsReadError }
 {
-    // A run and no `Mac`: a function that is generic in the key's length would owe a proof that a `Mac` fits in memory.
-    let mut run = Run::<L>::begin(layout.key(), &[255; KEY_BYTES], &[]);
-    run.absorb(&layout.clear());
-    run.absorb(&counter.to_le_bytes());
-    run.absorb(&len.to_le_bytes());
+    // A saved run and no `Mac`: a function that is generic in the key's length would owe a proof that a `Mac` fits in
+    // memory.
+    let mut run = ENDED;
+    run.begin::<L>(layout.key(), &[255; KEY_BYTES], &[]);
+    run.absorb::<L>(&layout.clear());
+    run.absorb::<L>(&counter.to_le_bytes());
+    run.absorb::<L>(&len.to_le_bytes());
     for number in 0..layout.page_count(len) {
         let tag = read_tag(storage, layout, number)?;
-        run.absorb(&tag);
+        run.absorb::<L>(&tag);
     }
-    Ok(run.mac())
+    let mac = run.mac::<L, TAG_BYTES>();
+    run.end();
+    Ok(mac)
 }
 
 /// Compares the commitment of a file with `expected`. Returns [`PagesError::Read`] or [`PagesError::Commitment`].
-pub fn verify_commitment<S: Storage, L: LaneState, V: Names, const KEY_BYTES: usize>(
+pub fn verify_commitment<S: Storage, L: SavedLanes, V: Names, const KEY_BYTES: usize>(
     storage: &mut S,
     layout: &FileLayout<L, V, KEY_BYTES>,
     counter: u64,

@@ -17,7 +17,7 @@ use crate::error::PagesError;
 use crate::header::{read_newest, write_header};
 use crate::layout::{FileLayout, MAX_TEXT_BYTES, TAG_BYTES, is_page_size};
 use crate::range::{read_range, write_range};
-use aegis_base::{LaneState, Names};
+use aegis_base::{LaneState, Names, SavedLanes};
 use aegis_storage::Storage;
 use std::alloc::{AllocError, Allocator};
 use std::marker::Model;
@@ -339,6 +339,32 @@ impl<
         }
     }
 
+    /// Gives the storage back.
+    pub fn into_storage(self) -> S
+        ensures bytes { S.bytes result ≡ self.bytes }
+        ensures holds { (text : List ℕ) → HasText self text
+            → IfSome (S.bytes result) (Holds self.layout.variant self.layout.key text) }
+    {
+        let Pages {
+            storage,
+            nonces: _,
+            layout: _,
+            counter: _,
+            len: _,
+            page: _,
+        } = self;
+        storage
+    }
+}
+
+impl<
+    L: SavedLanes,
+    V: Names,
+    const KEY_BYTES: usize,
+    S: Storage + Drop,
+    N: Nonces + Drop,
+    A: Allocator,
+> Pages<L, V, KEY_BYTES, S, N, A> {
     /// Returns the file's commitment: a MAC of 32 bytes over the counter and the length of the newest header, and the tag
     /// of each page of the text. It is taken under the file's key and the nonce of all bytes 255, which `N` must never
     /// draw. A file whose header or page is an older one has another commitment, unless two MACs are equal by chance.
@@ -371,22 +397,5 @@ impl<
             self.len,
             expected,
         )
-    }
-
-    /// Gives the storage back.
-    pub fn into_storage(self) -> S
-        ensures bytes { S.bytes result ≡ self.bytes }
-        ensures holds { (text : List ℕ) → HasText self text
-            → IfSome (S.bytes result) (Holds self.layout.variant self.layout.key text) }
-    {
-        let Pages {
-            storage,
-            nonces: _,
-            layout: _,
-            counter: _,
-            len: _,
-            page: _,
-        } = self;
-        storage
     }
 }
