@@ -56,7 +56,13 @@ pub fn file_commitment<S: Storage, L: SavedLanes, V: Names, const KEY_BYTES: usi
     run.absorb::<L>(&counter.to_le_bytes());
     run.absorb::<L>(&len.to_le_bytes());
     for number in 0..layout.page_count(len) {
-        let tag = read_tag(storage, layout, number)?;
+        let tag = match read_tag(storage, layout, number) {
+            Ok(tag) => tag,
+            Err(error) => {
+                run.end();
+                return Err(error);
+            }
+        };
         run.absorb::<L>(&tag);
     }
     let mac = run.mac::<L, TAG_BYTES>();

@@ -1,4 +1,4 @@
-use Rattle.std.proofs.Common.{◌≡◌, ◌+◌, ◌*◌, ◌≤◌, ◌++◌, [], List, ℕ, ap, arith, length, refl, replicate, rules, ◌∙◌}
+use Rattle.std.proofs.Common.{◌≡◌, ◌+◌, ◌*◌, ◌++◌, [], List, ℕ, ap, arith, length, replicate, rules, ◌∙◌}
 use Rattle.std.proofs.lemmas.List.{length-append}
 use Rattle.std.specs.Int.{to_le_bytes, w64}
 use Rattle.aegis_pages.specs.Commitments.{page_count}
@@ -56,15 +56,15 @@ loop-number-preserved g c =
     let x : List ℕ = c.loop-number.invariant.saved.0 in
     let long : length c.loop-number.invariant.saved.0 ≡ 49 + 32 * c.loop-number.number = c.loop-number.invariant.saved.2 in
     record {
-      kept = keeps_trans _ _ _ c.loop-number.invariant.kept c.in_ok-tag.ensures.kept;
+      kept = keeps_trans _ _ _ c.loop-number.invariant.kept c.in-Ok.ensures.kept;
       saved = (
-        x ++ c.in_ok-tag.tag,
+        x ++ c.in-Ok.tag,
         c.absorb-in-loop-number.ensures _ _ [] _ c.loop-number.invariant.saved.1,
-        omega (arith, long, length-append c.loop-number.invariant.saved.0 c.in_ok-tag.tag),
+        omega (arith, long, length-append c.loop-number.invariant.saved.0 c.in-Ok.tag),
         known_map2 (g.S.Storage.bytes c.args.storage.now) _ _ _ (λ file before is.
-            ap (λ (l : List ℕ). l ++ c.in_ok-tag.tag) before
-            ∙ one_more (clear_part layout) (to_le_bytes w64 c.args.counter) (to_le_bytes w64 c.args.len) layout file c.in_ok-tag.tag c.loop-number.number is)
-            c.loop-number.invariant.saved.3 (kept_known _ _ _ c.loop-number.invariant.kept c.in_ok-tag.ensures.tag),
+            ap (λ (l : List ℕ). l ++ c.in-Ok.tag) before
+            ∙ one_more (clear_part layout) (to_le_bytes w64 c.args.counter) (to_le_bytes w64 c.args.len) layout file c.in-Ok.tag c.loop-number.number is)
+            c.loop-number.invariant.saved.3 (kept_known _ _ _ c.loop-number.invariant.kept c.in-Ok.ensures.tag),
       );
     }
 
