@@ -8,6 +8,7 @@ pub mod chunks;
 pub mod encrypted_file;
 pub mod headline;
 pub mod in_place;
+pub mod kept_commitment;
 pub mod opening;
 pub mod page_batch;
 pub mod page_counter;

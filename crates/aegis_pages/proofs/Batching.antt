@@ -26,6 +26,7 @@ pub collects : {E : Type 0} (r : Result OpenFile E) (writes : Writes) (a b : Opt
     → IfOk r (λ pages. pages.layout.variant ≡ variant) → IfOk r (λ pages. pages.layout.key ≡ key) → IfOk r (λ pages. pages.below ≡ a)
     → IfOk r (λ pages. IfSome (overlaid writes a) (λ file. (text : List ℕ) → Holds variant key text file → HasText pages text))
     → IfOk r (λ pages. IfSome b (λ file. (text : List ℕ) → Holds variant key text file → IsBatch pages variant key text file))
+unfolding IsBatch
 collects (Err e) writes a b variant key none same variant_is key_is below_is holds = tt
 collects (Ok pages) writes a b variant key none same variant_is key_is below_is holds = known b (below_is ∙ same) (read_through_none writes a b _ none same holds)
   where

@@ -4,10 +4,9 @@ use Rattle.std.specs.Io.KnownBytes.{Keeps}
 use Rattle.aegis_storage.specs.Bytes.{TearsAt, WritesAt, overwritten}
 use Rattle.aegis_pages.specs.SealedPages.{KeepsPage, OnKnown}
 use Rattle.aegis_pages.specs.declared.error.PagesError.{PagesError}
-use Rattle.aegis_pages.specs.declared.error.PagesError.TheVariants.{Read, Write, Nonce, Header, Damaged, TooLong, OutOfMemory, PageSize}
-use Rattle.aegis_pages.specs.Errors.{IsCreateRefusal, IsRangeRefusal, IsReadError, IsReadRefusal, IsWriteError, IsWriteRefusal}
-use Rattle.aegis_pages.specs.OpenFile.{OpenFile}
-use Rattle.aegis_pages.specs.Layouts.{IsPageSize, Layout, OpensAt, page_at}
+use Rattle.aegis_pages.specs.declared.error.PagesError.TheVariants.{Read, Write, Nonce, Header, Damaged, TooLong, OutOfMemory, PageSize, Commitment}
+use Rattle.aegis_pages.specs.Errors.{IsRangeRefusal, IsReadError, IsReadRefusal, IsWriteError}
+use Rattle.aegis_pages.specs.Layouts.{Layout, OpensAt, page_at}
 
 pub known_map : (o : Option (List ℕ)) (P Q : List ℕ → Type 0) → ((xs : List ℕ) → P xs → Q xs) → IfSome o P → IfSome o Q
 known_map None P Q f p = tt
@@ -79,6 +78,7 @@ refusal layout number end o e low (inl is) = read e is
     read TooLong is = absurd is
     read OutOfMemory is = absurd is
     read PageSize is = absurd is
+    read Commitment is = absurd is
 refusal layout number end o e low (inr is) = subst (IsReadRefusal layout end o) (sym is.0) (low, is.1)
 
 -- a page of a range could not be composed
@@ -96,6 +96,7 @@ range_refusal layout number len o p e kept (inl is) = read e is
     read TooLong is = absurd is
     read OutOfMemory is = absurd is
     read PageSize is = absurd is
+    read Commitment is = absurd is
 range_refusal layout number len o p e kept (inr is) =
     subst (IsRangeRefusal layout len o) (sym is.0) (
       is.1,
@@ -112,6 +113,7 @@ range_write_error layout len o (Damaged k) is = absurd is
 range_write_error layout len o TooLong is = absurd is
 range_write_error layout len o OutOfMemory is = absurd is
 range_write_error layout len o PageSize is = absurd is
+range_write_error layout len o Commitment is = absurd is
 
 -- the same error, for a range that ends later
 pub refusal_within : (layout : Layout) (end most : ℕ) (o : Option (List ℕ)) (e : PagesError) → end ≤ most → IsReadRefusal layout end o e → IsReadRefusal layout most o e
@@ -123,3 +125,4 @@ refusal_within layout end most o (Damaged k) within is = (omega (arith, within, 
 refusal_within layout end most o TooLong within is = absurd is
 refusal_within layout end most o OutOfMemory within is = absurd is
 refusal_within layout end most o PageSize within is = absurd is
+refusal_within layout end most o Commitment within is = absurd is

@@ -1,5 +1,6 @@
 pub mod Batching
 pub mod Boxes
+pub mod Committing
 pub mod Composing
 pub mod Heading
 pub mod Known

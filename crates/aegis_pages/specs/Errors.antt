@@ -2,8 +2,9 @@
 use Rattle.std.specs.Prelude.{◌≡◌, ℕ, ◌-◌, ◌*◌, ◌^◌, ◌<◌, ◌⊎◌, IfSome, List, Option, ⊤, length}
 use Rattle.aegis_base.specs.Variant.{Variant}
 use Rattle.aegis_pages.specs.declared.error.PagesError.{PagesError}
-use Rattle.aegis_pages.specs.declared.error.PagesError.TheVariants.{Read, Write, Nonce, Header, Damaged, TooLong, OutOfMemory, PageSize}
+use Rattle.aegis_pages.specs.declared.error.PagesError.TheVariants.{Read, Write, Nonce, Header, Damaged, TooLong, OutOfMemory, PageSize, Commitment}
 use Rattle.aegis_pages.specs.declared.layout.TheConstants.{MAX_TEXT_BYTES}
+use Rattle.aegis_pages.specs.Commitments.{commitment}
 use Rattle.aegis_pages.specs.Headers.{IsHeader}
 use Rattle.aegis_pages.specs.Layouts.{IsPageSize, Layout, OpensAt, box_bytes, page_at}
 use Rattle.aegis_pages.specs.OpenFile.{OpenFile}
@@ -17,6 +18,7 @@ IsReadError (Damaged k) = ⊥
 IsReadError TooLong = ⊥
 IsReadError OutOfMemory = ⊥
 IsReadError PageSize = ⊥
+IsReadError Commitment = ⊥
 
 -- no nonce was drawn, or the storage could not be written
 abbrev pub IsWriteError : PagesError → Type 0
@@ -28,6 +30,7 @@ IsWriteError (Damaged k) = ⊥
 IsWriteError TooLong = ⊥
 IsWriteError OutOfMemory = ⊥
 IsWriteError PageSize = ⊥
+IsWriteError Commitment = ⊥
 
 -- Reading failed, or a page that begins before byte `end` of the text opens to nothing.
 abbrev pub IsReadRefusal : Layout → ℕ → Option (List ℕ) → PagesError → Type 0
@@ -40,6 +43,7 @@ IsReadRefusal layout end bytes (Damaged k) =
 IsReadRefusal layout end bytes TooLong = ⊥
 IsReadRefusal layout end bytes OutOfMemory = ⊥
 IsReadRefusal layout end bytes PageSize = ⊥
+IsReadRefusal layout end bytes Commitment = ⊥
 
 -- the file's page k is whole and opens to nothing
 abbrev pub IsDamaged : Layout → ℕ → List ℕ → Type 0
@@ -55,6 +59,7 @@ IsRangeRefusal layout len bytes (Damaged k) = (k * layout.page_bytes < len) × I
 IsRangeRefusal layout len bytes TooLong = ⊥
 IsRangeRefusal layout len bytes OutOfMemory = ⊥
 IsRangeRefusal layout len bytes PageSize = ⊥
+IsRangeRefusal layout len bytes Commitment = ⊥
 
 -- As for a range, or the text would end past its limit, or no greater counter is left for a header.
 abbrev pub IsWriteRefusal : OpenFile → ℕ → PagesError → Type 0
@@ -66,6 +71,7 @@ IsWriteRefusal file end (Damaged k) = (k * file.layout.page_bytes < file.len) ×
 IsWriteRefusal file end TooLong = (MAX_TEXT_BYTES < end) ⊎ (file.counter ≡ 2 ^ 64 - 1)
 IsWriteRefusal file end OutOfMemory = ⊥
 IsWriteRefusal file end PageSize = ⊥
+IsWriteRefusal file end Commitment = ⊥
 
 -- The page size is wrong exactly if that is the error. Otherwise no memory was left for a page, no nonce was drawn, or writing failed.
 abbrev pub IsCreateRefusal : ℕ → PagesError → Type 0
@@ -77,6 +83,7 @@ IsCreateRefusal page_bytes (Damaged k) = ⊥
 IsCreateRefusal page_bytes TooLong = ⊥
 IsCreateRefusal page_bytes OutOfMemory = IsPageSize page_bytes
 IsCreateRefusal page_bytes PageSize = IsPageSize page_bytes → ⊥
+IsCreateRefusal page_bytes Commitment = ⊥
 
 -- the file has no header that was sealed with the variant and under the key
 abbrev pub HasNoHeader : Variant → List ℕ → List ℕ → Type 0
@@ -92,3 +99,16 @@ IsOpenRefusal variant key bytes (Damaged k) = ⊥
 IsOpenRefusal variant key bytes TooLong = ⊥
 IsOpenRefusal variant key bytes OutOfMemory = ⊤
 IsOpenRefusal variant key bytes PageSize = ⊥
+IsOpenRefusal variant key bytes Commitment = ⊥
+
+-- Reading failed, or `expected` is not the commitment.
+abbrev pub IsVerifyRefusal : Layout → ℕ → ℕ → Option (List ℕ) → List ℕ → PagesError → Type 0
+IsVerifyRefusal layout counter len bytes expected (Read e) = ⊤
+IsVerifyRefusal layout counter len bytes expected (Write e) = ⊥
+IsVerifyRefusal layout counter len bytes expected (Nonce e) = ⊥
+IsVerifyRefusal layout counter len bytes expected Header = ⊥
+IsVerifyRefusal layout counter len bytes expected (Damaged k) = ⊥
+IsVerifyRefusal layout counter len bytes expected TooLong = ⊥
+IsVerifyRefusal layout counter len bytes expected OutOfMemory = ⊥
+IsVerifyRefusal layout counter len bytes expected PageSize = ⊥
+IsVerifyRefusal layout counter len bytes expected Commitment = IfSome bytes (λ file. expected ≡ commitment layout counter len file → ⊥)

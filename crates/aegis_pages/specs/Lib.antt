@@ -1,4 +1,5 @@
 pub mod Batches
+pub mod Commitments
 pub mod Errors
 pub mod Headers
 pub mod Layouts

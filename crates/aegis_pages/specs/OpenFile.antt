@@ -18,12 +18,15 @@ pub record OpenFile : Type 0 where
 abbrev pub HasText : OpenFile → List ℕ → Type 0
 HasText file text = Stands file.layout file.counter file.len file.bytes text
 
--- The file is open under a variant and a key, has the text, and reads through to a storage below that holds `below`: it collects a batch.
-pub record IsBatch (file : OpenFile) (variant : Variant) (key text below : List ℕ) : Type 0 where
+pub record CollectsBatch (file : OpenFile) (variant : Variant) (key text below : List ℕ) : Type 0 where
   pub variant_is : file.layout.variant ≡ variant
   pub key_is : file.layout.key ≡ key
   pub text_is : HasText file text
   pub below_is : file.below ≡ Some below
+
+-- The file is open under a variant and a key, has the text, and reads through to a storage below that holds `below`: it collects a batch.
+unfoldable pub IsBatch : OpenFile → Variant → (key text below : List ℕ) → Type 0
+IsBatch file variant key text below = CollectsBatch file variant key text below
 
 -- the file is as it was
 pub record IsUnchanged (old new : OpenFile) : Type 0 where

@@ -30,6 +30,7 @@ impl<
 > Pages<L, V, KEY_BYTES, Overlay<'a, S, A>, N, A> {
     /// Closes a file that [`open_batch`] opened, and returns the writes that its storage lacks, for
     /// [`aegis_storage::commit`].
+    #[tactic(auto, unfolding(crate::specs::OpenFile::IsBatch))]
     pub fn into_writes(self) -> Vec<PendingWrite<A>, A>
         ensures { (variant : Variant) (key text file : List ℕ)
             → IsBatch self.entry variant key text file

@@ -30,4 +30,7 @@ pub enum PagesError {
     /// The page size is not from [`crate::MIN_PAGE_BYTES`] to [`crate::MAX_PAGE_BYTES`].
     #[error("page size")]
     PageSize,
+    /// The file's commitment is another than the one that was expected.
+    #[error("not the file that was committed to")]
+    Commitment,
 }

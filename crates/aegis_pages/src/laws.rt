@@ -1,11 +1,14 @@
 //! Laws: functions that do nothing, and whose contracts are facts about the definitions that the other contracts cite.
 
-ghost use Rattle.std.specs.Prelude.{◌≡◌, ◌+◌, ◌≤◌, List, Option, length, ℕ};
+ghost use Rattle.std.specs.Prelude.{◌≡◌, ◌+◌, ◌≤◌, IfSome, List, Option, length, ℕ};
+ghost use Rattle.aegis_aes.specs.Lanes.{IsLaneCount};
 ghost use Rattle.aegis_base.specs.Variant.{Variant};
 ghost use Rattle.aegis_storage.specs.Bytes.{overwritten, part_at};
 ghost use Rattle.aegis_storage.specs.Disk.{Disk};
 ghost use Rattle.aegis_storage.specs.Journal.{IsAtRest, RestsAtEither};
 ghost use Rattle.aegis_pages.specs.Batches.{RecoversText, RestsAtText};
+ghost use Rattle.aegis_pages.specs.Commitments.{HasOneCommitment, commitment};
+ghost use Rattle.aegis_pages.specs.Headers.{IsNewest};
 ghost use Rattle.aegis_pages.specs.OpenFile.{HasText, IsUnchanged, OpenFile};
 ghost use Rattle.aegis_pages.specs.SealedPages.{Holds};
 
@@ -51,4 +54,14 @@ pub fn recovered_text_is_at_rest()
         → (batch : RecoversText variant key before after journal_key context storage journal)
         → RestsAtEither new_storage new_journal batch.file batch.writes
         → RestsAtText variant key before after new_storage new_journal }
+{}
+
+/// A file has one commitment under a variant and a key: that of the file that was opened.
+pub fn opened_has_its_commitment()
+    ensures { (variant : Variant) (key c : List ℕ) (bytes : Option (List ℕ)) (file : OpenFile)
+        → IsLaneCount variant.lanes
+        → file.layout.variant ≡ variant → file.layout.key ≡ key → file.bytes ≡ bytes
+        → IfSome bytes (IsNewest file.layout file.counter file.len)
+        → IfSome file.bytes (λ now. c ≡ commitment file.layout file.counter file.len now)
+        → IfSome bytes (HasOneCommitment variant key c) }
 {}

@@ -1,7 +1,8 @@
 //! How a file of sealed pages is laid out.
 
-ghost use Rattle.std.specs.Prelude.{◌≡◌, ◌+◌, ◌*◌, ◌≤◌, ◌↔◌, IfSome, IsSome, IsTrue, length, ℕ};
+ghost use Rattle.std.specs.Prelude.{◌≡◌, ◌+◌, ◌*◌, ◌<◌, ◌≤◌, ◌↔◌, IfSome, IsSome, IsTrue, length, ℕ};
 ghost use Rattle.aegis_base.specs.Variant.{key_length};
+ghost use Rattle.aegis_pages.specs.Commitments.{page_count};
 ghost use Rattle.aegis_pages.specs.Layouts.{IsPageSize, Layout, associated_data, box_bytes, clear_part, nonce_bytes, page_place, variant_byte};
 
 use aegis_aes::Row;
@@ -169,6 +170,27 @@ impl<L: LaneState, V: Names, const KEY_BYTES: usize> FileLayout<L, V, KEY_BYTES>
         ensures nonce { result.nonce ≡ nonce.now }
     {
         Cipher::new(&self.key, nonce)
+    }
+
+    /// Returns the key.
+    pub fn key(&self) -> &[u8; KEY_BYTES]
+        ensures key { result.now ≡ self.now.key }
+        ensures variant { self.now.variant ≡ L.VARIANT }
+        ensures long { KEY_BYTES ≡ nonce_bytes self.now }
+    {
+        &self.key
+    }
+
+    /// Returns how many pages a text of `len` bytes has.
+    pub fn page_count(&self, len: u64) -> u64
+        requires { len ≤ MAX_TEXT_BYTES }
+        ensures count { result ≡ page_count self.now len }
+        ensures within { (k : ℕ) → k < result → k * self.now.page_bytes < len }
+        ensures all { (k : ℕ) → k * self.now.page_bytes < len → k < result }
+        ensures few { MIN_PAGE_BYTES * result ≤ MAX_TEXT_BYTES + MAX_PAGE_BYTES }
+    {
+        let page_bytes = self.page_bytes as u64;
+        (len + (page_bytes - 1)) / page_bytes
     }
 
     /// Returns the place of a page in the file.

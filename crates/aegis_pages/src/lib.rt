@@ -3,7 +3,8 @@
 //! [`SealedPages`] stands over any [`Storage`], as a vector or a file, and draws a fresh nonce for each page and header
 //! that it writes from a [`Nonces`] of the caller's. Each page is sealed to its number and its file, so a page that was
 //! changed, moved or brought from another file is refused. An older page of the same number and file is not detected,
-//! nor is an older copy of the whole file.
+//! nor is an older copy of the whole file, unless the caller keeps the file's commitment elsewhere: one MAC over the tags
+//! of all pages ([`Pages::commitment`], [`Pages::verify`]).
 //!
 //! The first two sectors of 512 bytes have a header each, which are written in turn: the newest one that opens counts.
 //! If writing a header fails in the middle, the one before it still stands.
@@ -16,6 +17,7 @@
 #![tactic(auto)]
 
 mod batch;
+mod commitment;
 mod draws;
 mod error;
 mod header;

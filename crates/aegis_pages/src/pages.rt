@@ -3,18 +3,20 @@
 ghost use Rattle.std.specs.Prelude.{◌≡◌, ◌+◌, ◌-◌, ◌<◌, ◌≤◌, ◌⊎◌, ◌^◌, ◌↔◌, [], Err, IfErr, IfOk, IfSome, IsTrue, List, OnErr, OnOk, if◌then◌else◌, is_ok, length, max, min, replicate, true, ℕ};
 ghost use Rattle.aegis_base.specs.Variant.{Variant, key_length};
 ghost use Rattle.aegis_storage.specs.Bytes.{overwritten, part_at, resized};
-ghost use Rattle.aegis_pages.specs.Errors.{IsCreateRefusal, IsOpenRefusal, IsReadRefusal, IsWriteRefusal};
+ghost use Rattle.aegis_pages.specs.Commitments.{commitment};
+ghost use Rattle.aegis_pages.specs.Errors.{IsCreateRefusal, IsOpenRefusal, IsReadError, IsReadRefusal, IsVerifyRefusal, IsWriteRefusal};
 ghost use Rattle.aegis_pages.specs.Headers.{IsNewest, KeepsNewest};
 ghost use Rattle.aegis_pages.specs.Layouts.{IsPageSize};
 ghost use Rattle.aegis_pages.specs.OpenFile.{HasText, IsBatch, IsUnchanged, Reads};
 ghost use Rattle.aegis_pages.specs.SealedPages.{Holds, KeepsFront, KeepsPages, OnKnown};
 
+use crate::commitment::{file_commitment, verify_commitment};
 use crate::draws::Nonces;
 use crate::error::PagesError;
 use crate::header::{read_newest, write_header};
 use crate::layout::{FileLayout, MAX_TEXT_BYTES, TAG_BYTES, is_page_size};
 use crate::range::{read_range, write_range};
-use aegis_base::{LaneState, Names};
+use aegis_base::{LaneState, Names, SavedLanes};
 use aegis_storage::Storage;
 use std::alloc::{AllocError, Allocator};
 use std::marker::Model;
@@ -356,5 +358,46 @@ impl<
             page: _,
         } = self;
         storage
+    }
+}
+
+impl<
+    L: SavedLanes,
+    V: Names,
+    const KEY_BYTES: usize,
+    S: Storage + Drop,
+    N: Nonces + Drop,
+    A: Allocator,
+> Pages<L, V, KEY_BYTES, S, N, A> {
+    /// Returns the file's commitment: a MAC of 32 bytes over the counter and the length of the newest header, and the tag
+    /// of each page of the text. It is taken under the file's key and the nonce of all bytes 255, which `N` must never
+    /// draw. A file whose header or page is an older one has another commitment, unless two MACs are equal by chance.
+    ///
+    /// Returns [`PagesError::Read`] if the storage could not be read, or ends before the last page does.
+    pub fn commitment(&self) -> Result<[u8; 32], PagesError>
+        ensures is { IfOk result (λ mac. IfSome self.now.bytes
+            (λ file. mac ≡ commitment self.now.layout self.now.counter self.now.len file)) }
+        ensures refused { IfErr result IsReadError }
+    {
+        file_commitment(&self.storage, &self.layout, self.counter, self.len)
+    }
+
+    /// Returns `Ok` if the file's commitment is `expected`, which a call of [`Pages::commitment`] returned. All bytes are
+    /// compared, whether they are equal or not.
+    ///
+    /// Returns [`PagesError::Commitment`] if it is another, and [`PagesError::Read`] as `commitment` does.
+    pub fn verify(&self, expected: &[u8; 32]) -> Result<(), PagesError>
+        ensures is { OnOk result (IfSome self.now.bytes (λ file. expected.now
+            ≡ commitment self.now.layout self.now.counter self.now.len file)) }
+        ensures refused { IfErr result (IsVerifyRefusal self.now.layout
+            self.now.counter self.now.len self.now.bytes expected.now) }
+    {
+        verify_commitment(
+            &self.storage,
+            &self.layout,
+            self.counter,
+            self.len,
+            expected,
+        )
     }
 }

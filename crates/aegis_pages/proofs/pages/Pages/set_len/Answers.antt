@@ -36,6 +36,7 @@ returns-clause-header g c = rw (← c.self.view_is)
     c.in_ok-write_header.ensures.written)
 
 pub returns-then-len-self-clause-batch : goal.returns-then-len-self-clause-batch
+unfolding IsBatch
 returns-then-len-self-clause-batch g c =
     let told : c.self.inside.len ≡ c.args.self.now.len = ap (λ (f : OpenFile). f.len) c.self.view_is in
     ok_map c.write_at.result (λ written variant key text file is.
@@ -43,6 +44,7 @@ returns-then-len-self-clause-batch g c =
     (grown text c.args.len (let h : length text ≤ c.args.len = omega (arith, c.if-len-self.true, told, stands_len _ _ _ _ text is.text_is) in h)) (written variant key text file is)) c.write_at.ensures.batch
 
 pub returns-clause-batch : goal.returns-clause-batch
+unfolding IsBatch
 returns-clause-batch g c = rw (← c.self.view_is) (λ variant key text file is. record {
   variant_is = is.variant_is;
   key_is = is.key_is;

@@ -1,4 +1,5 @@
 use Rattle.std.proofs.Common.{◌∙◌}
+use Rattle.aegis_pages.specs.OpenFile.{IsBatch}
 use Rattle.aegis_pages.proofs.Standing.{more_others, only_others, stays_kept, stays_torn, stays_written, torn_header, wrote_next, wrote_within}
 use Rattle.aegis_pages.proofs.pages.Pages.write_at.Goals as goal
 
@@ -35,6 +36,7 @@ pub returns-else-end-self-clause-header : goal.returns-else-end-self-clause-head
 returns-else-end-self-clause-header g c = rw (← c.self.view_is) (stays_kept _ _ _ _ _ _ _ c.in_ok-write_range.ensures.others)
 
 pub returns-in_ok-write_header-clause-batch : goal.returns-in_ok-write_header-clause-batch
+unfolding IsBatch
 returns-in_ok-write_header-clause-batch g c = rw (← c.self.view_is) (λ variant key text file is. record {
   variant_is = is.variant_is;
   key_is = is.key_is;
@@ -44,6 +46,7 @@ returns-in_ok-write_header-clause-batch g c = rw (← c.self.view_is) (λ varian
 })
 
 pub returns-else-end-self-clause-batch : goal.returns-else-end-self-clause-batch
+unfolding IsBatch
 returns-else-end-self-clause-batch g c = rw (← c.self.view_is) (λ variant key text file is. record {
   variant_is = is.variant_is;
   key_is = is.key_is;

@@ -1,0 +1,28 @@
+//! A sealed file whose commitment is kept elsewhere.
+
+ghost use Rattle.std.specs.Prelude.{IfSome, OnOk};
+ghost use Rattle.aegis_base.specs.Variant.{Aegis256};
+ghost use Rattle.aegis_pages.specs.Commitments.{HasOneCommitment};
+
+use aegis_pages::laws::opened_has_its_commitment;
+use aegis_pages::{Nonces, PagesError, SealedPages};
+use aegis_storage::Storage;
+use std::alloc::Allocator;
+
+/// Opens a file if its commitment is `kept`, and no other file: it is then no older one, and has no older page, unless
+/// two MACs are equal by chance.
+pub fn open_unchanged<S: Storage + Drop, N: Nonces + Drop, A: Allocator>(
+    alloc: A,
+    storage: S,
+    nonces: N,
+    key: &[u8; 32],
+    kept: &[u8; 32],
+) -> Result<SealedPages<S, N, A>, PagesError>
+    ensures { OnOk result (IfSome (S.bytes storage)
+        (HasOneCommitment Aegis256 key.now kept.now)) }
+{
+    opened_has_its_commitment();
+    let pages = SealedPages::open(alloc, storage, nonces, key)?;
+    pages.verify(kept)?;
+    Ok(pages)
+}

@@ -1,0 +1,90 @@
+//! The commitment of a file: one MAC over the tags of all pages.
+//!
+//! A page's tag stands for its nonce, its ciphertext and its number in this file. So a MAC over the tags in order, and
+//! over the newest header's counter and length, stands for the whole file.
+
+ghost use Rattle.std.specs.Prelude.{◌≡◌, ◌*◌, ◌≤◌, IfErr, IfOk, IfSome, OnOk};
+ghost use Rattle.aegis_pages.specs.Commitments.{commitment, page_tag};
+ghost use Rattle.aegis_pages.specs.Errors.{IsReadError, IsVerifyRefusal};
+
+use crate::error::PagesError;
+use crate::layout::{FileLayout, MAX_TEXT_BYTES, TAG_BYTES};
+use aegis_base::{LaneState, Names, SavedLanes};
+use aegis_engine::{ENDED, same_bytes};
+use aegis_storage::Storage;
+
+/// Reads the tag of a page, its last bytes. Returns [`PagesError::Read`].
+pub fn read_tag<S: Storage, L: LaneState, V: Names, const KEY_BYTES: usize>(
+    storage: &S,
+    layout: &FileLayout<L, V, KEY_BYTES>,
+    number: u64,
+) -> Result<[u8; TAG_BYTES], PagesError>
+    requires { number * layout.now.page_bytes ≤ MAX_TEXT_BYTES }
+    ensures tag { IfOk result (λ tag. IfSome (S.bytes storage.now)
+        (λ file. tag ≡ page_tag layout.now file number)) }
+    ensures refused { IfErr result IsReadError }
+{
+    let before_tag = layout.nonce_bytes() as u64 + layout.page_bytes() as u64;
+    let place = layout.page_place(number) + before_tag;
+    let mut tag = [0; TAG_BYTES];
+    match storage.read_at(place, &mut tag) {
+        Ok(()) => Ok(tag),
+        Err(error) => Err(PagesError::Read(error)),
+    }
+}
+
+/// Returns the commitment of a file. Returns [`PagesError::Read`].
+pub fn file_commitment<S: Storage, L: SavedLanes, V: Names, const KEY_BYTES: usize>(
+    storage: &S,
+    layout: &FileLayout<L, V, KEY_BYTES>,
+    counter: u64,
+    len: u64,
+) -> Result<[u8; TAG_BYTES], PagesError>
+    requires { len ≤ MAX_TEXT_BYTES }
+    ensures is { IfOk result (λ mac. IfSome (S.bytes storage.now)
+        (λ file. mac ≡ commitment layout.now counter len file)) }
+    ensures refused { IfErr result IsReadError }
+{
+    // A saved run and no `Mac`: a function that is generic in the key's length would owe a proof that a `Mac` fits in
+    // memory.
+    let mut run = ENDED;
+    run.begin::<L>(layout.key(), &[255; KEY_BYTES], &[]);
+    run.absorb::<L>(&layout.clear());
+    run.absorb::<L>(&counter.to_le_bytes());
+    run.absorb::<L>(&len.to_le_bytes());
+    for number in 0..layout.page_count(len) {
+        let tag = match read_tag(storage, layout, number) {
+            Ok(tag) => tag,
+            Err(error) => {
+                run.end();
+                return Err(error);
+            }
+        };
+        run.absorb::<L>(&tag);
+    }
+    let mac = run.mac::<L, TAG_BYTES>();
+    run.end();
+    Ok(mac)
+}
+
+/// Compares the commitment of a file with `expected`. Returns [`PagesError::Read`] or [`PagesError::Commitment`].
+pub fn verify_commitment<S: Storage, L: SavedLanes, V: Names, const KEY_BYTES: usize>(
+    storage: &S,
+    layout: &FileLayout<L, V, KEY_BYTES>,
+    counter: u64,
+    len: u64,
+    expected: &[u8; TAG_BYTES],
+) -> Result<(), PagesError>
+    requires { len ≤ MAX_TEXT_BYTES }
+    ensures is { OnOk result (IfSome (S.bytes storage.now)
+        (λ file. expected.now ≡ commitment layout.now counter len file)) }
+    ensures refused { IfErr result
+        (IsVerifyRefusal layout.now counter len (S.bytes storage.now) expected.now) }
+{
+    let mac = file_commitment(storage, layout, counter, len)?;
+    if same_bytes(&mac, expected) {
+        Ok(())
+    } else {
+        Err(PagesError::Commitment)
+    }
+}
