@@ -16,7 +16,8 @@ use aegis_storage::{Overlay, PendingWrite, Storage};
 use std::alloc::Allocator;
 use std::io;
 
-/// Writes `first` at one place of the text and `second` at another.
+/// Writes `first` at one place of the text and `second` at another. `pages` are of [`aegis_pages::open_batch`], so they
+/// collect the writes in memory.
 pub fn write_parts<'a, S: Storage, N: Nonces + Drop, A: Allocator + Copy>(
     pages: &mut SealedPages<Overlay<'a, S, A>, N, A>,
     places: (u64, u64),
@@ -28,28 +29,24 @@ pub fn write_parts<'a, S: Storage, N: Nonces + Drop, A: Allocator + Copy>(
         (overwritten (overwritten text places.0 first.now) places.1 second.now) file) }
 {
     pages.write_at(places.0, first)?;
-    pages.write_at(places.1, second)
+    pages.write_at(places.1, second)?;
+    Ok(())
 }
 
-/// Returns the writes of both parts. `pages` is of [`aegis_pages::open_batch`].
-pub fn both_parts<'a, S: Storage, N: Nonces + Drop, A: Allocator + Copy>(
-    mut pages: SealedPages<Overlay<'a, S, A>, N, A>,
-    places: (u64, u64),
-    first: &[u8],
-    second: &[u8],
-) -> Result<Vec<PendingWrite<A>, A>, PagesError>
-    ensures { IfOk result (λ writes. (variant : Variant) (key text file : List ℕ)
+/// Returns the writes that make the storage's file one of the text with both parts.
+pub fn collected<'a, S: Storage, N: Nonces + Drop, A: Allocator + Copy>(
+    pages: SealedPages<Overlay<'a, S, A>, N, A>,
+) -> Vec<PendingWrite<A>, A>
+    ensures { (variant : Variant) (key text file : List ℕ)
         → IsBatch pages.entry variant key text file → Holds variant key
-        (overwritten (overwritten text places.0 first.now) places.1 second.now)
-        (written (writes_of writes.items) file)) }
+        text (written (writes_of result.items) file) }
 {
-    write_parts(&mut pages, places, first, second)?;
-    Ok(pages.into_writes())
+    pages.into_writes()
 }
 
-/// Makes such writes. Whatever it returns, a crash leaves a storage and a journal from which [`open_text`] opens the
-/// text as it was before, or with both parts.
-pub fn write_both_parts<S: Storage, J: Storage, A: Allocator + Copy>(
+/// Makes these writes in the storage. Whatever it returns, a crash leaves a storage and a journal from which
+/// [`open_text`] opens the text as it was before, or with both parts.
+pub fn commit_parts<S: Storage, J: Storage, A: Allocator + Copy>(
     alloc: A,
     storage: &mut S,
     journal: &mut J,
