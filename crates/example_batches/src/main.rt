@@ -81,15 +81,7 @@ fn write_next<S: Storage, J: Storage>(
     let writes = pages.into_writes();
     let mut prefix = [0; 24];
     system_random(rt)?.draw(&mut prefix)?;
-    commit(
-        alloc,
-        storage,
-        journal,
-        &JOURNAL_KEY,
-        &prefix,
-        &ID,
-        &writes,
-    )?;
+    commit(alloc, storage, journal, &JOURNAL_KEY, &prefix, &ID, &writes)?;
     Ok(number)
 }
 
