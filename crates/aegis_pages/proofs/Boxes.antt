@@ -4,7 +4,7 @@ use Rattle.std.proofs.lemmas.Bool.{true≢false}
 use Rattle.std.specs.Result.{is_ok}
 use Rattle.std.proofs.lemmas.List.{drop-drop, drop_at, length-append, length-drop, take_all, take_at}
 use Rattle.aegis_aes.specs.Lanes.{IsLaneCount}
-use Rattle.aegis_base.specs.Variant.{Family, Family128, Family256, Variant, key_length}
+use Rattle.aegis_base.specs.Variant.{Variant}
 use Rattle.aegis_base.specs.Message.{Opens, lane_before}
 use Rattle.aegis_base.proofs.Bijection.{ciphertext-injective}
 use Rattle.aegis_storage.specs.Bytes.{overwritten}

@@ -5,7 +5,7 @@ ghost use Rattle.aegis_aes.specs.Lanes.{IsLaneCount};
 ghost use Rattle.aegis_base.specs.Variant.{Variant};
 ghost use Rattle.aegis_storage.specs.Bytes.{overwritten, part_at};
 ghost use Rattle.aegis_storage.specs.Disk.{Disk};
-ghost use Rattle.aegis_storage.specs.Journal.{IsAtRest, RestsAtEither};
+ghost use Rattle.aegis_storage.specs.Journal.{IsAtRest, Recovers, RestsAtEither};
 ghost use Rattle.aegis_pages.specs.Batches.{RecoversText, RestsAtText};
 ghost use Rattle.aegis_pages.specs.Commitments.{HasOneCommitment, commitment};
 ghost use Rattle.aegis_pages.specs.Headers.{IsNewest};
@@ -45,6 +45,15 @@ pub fn text_at_rest_recovers()
         (storage journal : Option Disk)
         → IsAtRest storage journal file → Holds variant key before file
         → RecoversText variant key before after journal_key context storage journal }
+{}
+
+/// What recovery left, also when it failed, recovers to one of the same texts.
+pub fn recovers_text_again()
+    ensures { (variant : Variant) (key before after journal_key context : List ℕ)
+        (storage journal new_storage new_journal : Option Disk)
+        → (batch : RecoversText variant key before after journal_key context storage journal)
+        → Recovers journal_key context batch.file batch.writes new_storage new_journal
+        → RecoversText variant key before after journal_key context new_storage new_journal }
 {}
 
 /// What was recovered is at rest, and holds one of the two texts.

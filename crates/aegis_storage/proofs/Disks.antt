@@ -1,5 +1,5 @@
 -- What calls do to what a crash may leave.
-use Rattle.std.proofs.lemmas.List.{append-nil, append_assoc}
+use Rattle.std.proofs.lemmas.List.{append_assoc}
 use Rattle.std.proofs.Common.{◌≡◌, ℕ, ◌-◌, ◌⊎◌, inl, inr, List, [], ◌∷◌, ◌++◌, None, Some, OnErr, OnOk, Option, Result, Ok, Err, length, replicate, refl, sym, ap, subst, ◌∙◌, arith}
 use Rattle.aegis_storage.specs.Bytes.{ResizesTo, WritesAt, overwritten, resized}
 use Rattle.aegis_storage.specs.Calls.{AddsSome, IsWholeOrEmpty, IsWrittenOver}

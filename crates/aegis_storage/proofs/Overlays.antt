@@ -1,5 +1,5 @@
 -- Writes that are laid over what was read.
-use Rattle.std.proofs.Common.{◌≡◌, ℕ, ◌+◌, ◌-◌, ◌<◌, ◌≤◌, ◌⊎◌, inl, inr, IfSome, List, [], ◌∷◌, ◌++◌, None, Some, Option, drop, get_or, length, max, min, replicate, take, sym, ap, subst, ◌∙◌, arith}
+use Rattle.std.proofs.Common.{◌≡◌, ℕ, ◌+◌, ◌-◌, ◌<◌, ◌≤◌, ◌⊎◌, inl, inr, IfSome, List, [], ◌∷◌, ◌++◌, None, Some, Option, drop, get_or, length, max, min, replicate, take, sym, ap, ◌∙◌, arith}
 use Rattle.std.proofs.lemmas.Bool.{cases_lt}
 use Rattle.std.proofs.lemmas.List.{ext_get_or, get_or-append_right, get_or-drop, get_or-replicate, get_or-take, get_or_append_left, get_or_past, length-append, length-drop, length-replicate, length-take}
 use Rattle.aegis_storage.specs.Bytes.{WritesAt, overwritten, part_at}
