@@ -1,5 +1,6 @@
 //! Files that are read and written at any place, beside a vector that holds the same text.
 
+use hunkravy::aegis256::Aegis256Mac;
 use hunkravy::raf::{Aegis256, Raf, RafBuilder, RafError, RafIo, RafRng};
 use std::cell::RefCell;
 use std::io::{self, Read, Seek, SeekFrom, Write};
@@ -197,6 +198,42 @@ fn each_failed_write() {
         assert_eq!(buf[..300], text[..300]);
         assert!((300..600).all(|at| buf[at] == text[at] || buf[at] == 1));
     }
+}
+
+/// The file's id, and nonces that count up.
+struct Counter(u64);
+
+impl RafRng for Counter {
+    fn fill(&mut self, bytes: &mut [u8]) -> io::Result<()> {
+        if bytes.len() == 24 {
+            bytes.fill(9);
+        } else {
+            bytes.fill(0);
+            bytes[..8].copy_from_slice(&self.0.to_le_bytes());
+            self.0 += 1;
+        }
+        Ok(())
+    }
+}
+
+/// The proved crate `aegis_pages` writes the same file by the same nonces: its test `the_small_file` compares with this MAC too.
+#[test]
+fn the_small_file() {
+    let memory = Memory::new(Vec::new());
+    let mut file = RafBuilder::<Aegis256>::new()
+        .chunk_size(256)
+        .rng(Counter(0))
+        .create(memory.clone(), &KEY)
+        .unwrap();
+    file.write(&[5; 1000], 0).unwrap();
+    let mut mac = Aegis256Mac::<16>::new(&KEY);
+    mac.update(&memory.bytes.borrow());
+    assert_eq!(
+        mac.finalize(),
+        [
+            176, 157, 141, 168, 243, 53, 171, 227, 215, 201, 215, 193, 204, 54, 131, 55
+        ]
+    );
 }
 
 #[test]
