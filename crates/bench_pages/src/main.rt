@@ -75,8 +75,9 @@ fn best<R: Runtime, T: Target>(
 
 // How many MB of the text pass in a second.
 fn speed(time: Duration) -> u64 {
-    let nanoseconds = (time.as_nanos() as u64).max(1);
-    TEXT_BYTES.wrapping_mul(1000) / nanoseconds
+    let seconds = time.as_secs().wrapping_mul(1_000_000_000);
+    let nanoseconds = seconds.wrapping_add(u64::from(time.subsec_nanos()));
+    TEXT_BYTES.wrapping_mul(1000) / nanoseconds.max(1)
 }
 
 // Prints a line of the table.

@@ -7,6 +7,7 @@ use aegis_storage::Storage;
 use std::alloc::Global;
 use std::fs::File;
 use std::io;
+use std::os::unix::fs::FileExt;
 use std::rt::Runtime;
 use std::time::{Duration, Instant};
 
@@ -52,11 +53,11 @@ impl<S: Storage + Drop> Target for SealedPages<S, Counter, Global> {
 
 impl Target for File {
     fn write(&mut self, at: u64, piece: &mut [u8]) -> anyhow::Result<()> {
-        Ok(Storage::write_at(self, at, piece)?)
+        Ok(self.write_all_at(piece, at)?)
     }
 
     fn read(&mut self, at: u64, piece: &mut [u8]) -> anyhow::Result<()> {
-        Ok(Storage::read_at(self, at, piece)?)
+        Ok(self.read_exact_at(piece, at)?)
     }
 }
 
