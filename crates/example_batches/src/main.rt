@@ -5,8 +5,10 @@
 //! argument it writes one number in memory.
 #![tactic(auto)]
 
-use aegis_pages::{DEFAULT_PAGE_BYTES, Nonces, SealedPages};
-use aegis_storage::{Overlay, Storage, commit, recover};
+use aegis_pages::{
+    DEFAULT_PAGE_BYTES, Nonces, SealedPages, commit_batch, open_batch, open_recovered,
+};
+use aegis_storage::Storage;
 use std::alloc::Global;
 use std::fs::File;
 use std::io::Read;
@@ -39,11 +41,10 @@ fn system_random(rt: &HostRuntime) -> io::Result<SystemRandom> {
     Ok(SystemRandom(File::open(rt, "/dev/urandom")?))
 }
 
-// Makes a new file, whose rows hold 0.
-fn create<S: Storage + Drop>(rt: &HostRuntime, storage: S) -> anyhow::Result<S> {
-    let nonces = system_random(rt)?;
-    let created = SealedPages::create(rt.alloc(), storage, nonces, &KEY, &ID, DEFAULT_PAGE_BYTES);
-    let mut pages = created?;
+// Gives a new file its rows, which hold 0, and closes it.
+fn with_rows<S: Storage + Drop>(
+    mut pages: SealedPages<S, SystemRandom, Global>,
+) -> anyhow::Result<S> {
     pages.set_len(ROWS * ROW_DISTANCE)?;
     pages.sync()?;
     Ok(pages.into_storage())
@@ -72,8 +73,8 @@ fn write_next<S: Storage, J: Storage>(
     journal: &mut J,
 ) -> anyhow::Result<u64> {
     let alloc = rt.alloc();
-    let overlay = Overlay::new(alloc, &*storage);
-    let mut pages = SealedPages::open(alloc, overlay, system_random(rt)?, &KEY)?;
+    let nonces = system_random(rt)?;
+    let mut pages: SealedPages<_, _, _> = open_batch(alloc, &*storage, nonces, &KEY)?;
     let number = read_rows(&mut pages)?.wrapping_add(1);
     for row in 0..ROWS {
         pages.write_at(row * ROW_DISTANCE, &number.to_le_bytes())?;
@@ -81,7 +82,7 @@ fn write_next<S: Storage, J: Storage>(
     let writes = pages.into_writes();
     let mut prefix = [0; 24];
     system_random(rt)?.draw(&mut prefix)?;
-    commit(alloc, storage, journal, &JOURNAL_KEY, &prefix, &ID, &writes)?;
+    commit_batch(alloc, storage, journal, &JOURNAL_KEY, &prefix, &ID, &writes)?;
     Ok(number)
 }
 
@@ -94,14 +95,25 @@ fn open_file(rt: &HostRuntime, path: &str) -> io::Result<File> {
         .open(rt, path)
 }
 
-// Recovers the file, and makes it if it is empty. Returns the number of its rows.
+// Opens the file, with what its journal has of a batch, and makes it if it is empty. Returns the number of its rows.
 fn recovered(rt: &HostRuntime, path: &str, journal: &mut File) -> anyhow::Result<(File, u64)> {
+    let alloc = rt.alloc();
     let mut file = open_file(rt, path)?;
-    recover(rt.alloc(), &mut file, journal, &JOURNAL_KEY, &ID)?;
     if file.size()? == 0 {
-        file = create(rt, file)?;
+        let nonces = system_random(rt)?;
+        let pages = SealedPages::create(alloc, file, nonces, &KEY, &ID, DEFAULT_PAGE_BYTES)?;
+        file = with_rows(pages)?;
     }
-    let mut pages = SealedPages::open(rt.alloc(), file, system_random(rt)?, &KEY)?;
+    let nonces = system_random(rt)?;
+    let mut pages: SealedPages<_, _, _> = open_recovered(
+        alloc,
+        file,
+        journal,
+        nonces,
+        &KEY,
+        &JOURNAL_KEY,
+        &ID,
+    )?;
     let number = read_rows(&mut pages)?;
     Ok((pages.into_storage(), number))
 }
@@ -109,7 +121,16 @@ fn recovered(rt: &HostRuntime, path: &str, journal: &mut File) -> anyhow::Result
 fn main(rt: HostRuntime) -> anyhow::Result<()> {
     let mut arguments = env::args(&rt)?;
     let (Some(path), Some(journal_path)) = (arguments.nth(1), arguments.nth(0)) else {
-        let mut file: Vec<u8> = create(&rt, Vec::new(rt.alloc()))?;
+        let (alloc, nonces) = (rt.alloc(), system_random(&rt)?);
+        let pages = SealedPages::create(
+            alloc,
+            Vec::new(alloc),
+            nonces,
+            &KEY,
+            &ID,
+            DEFAULT_PAGE_BYTES,
+        )?;
+        let mut file: Vec<u8> = with_rows(pages)?;
         let number = write_next(&rt, &mut file, &mut Vec::new(rt.alloc()))?;
         println!(rt; "all rows hold {number}")?;
         return Ok(());
