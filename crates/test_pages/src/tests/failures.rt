@@ -153,11 +153,14 @@ fn fail_at<R: Abort + AllocGlobal>(rt: &R, change: Change, call: u64) -> Result<
 #[test]
 fn a_storage_fails(rt: HostRuntime) -> Result<(), Fail> {
     for change in CHANGES {
-        let mut call = 0;
-        while call < CALLS && !fail_at(&rt, change, call)? {
-            call = call.wrapping_add(1);
+        let mut failures = CALLS;
+        for call in 0..CALLS {
+            if fail_at(&rt, change, call)? {
+                failures = call;
+                break;
+            }
         }
-        assert!(rt; call > 0 && call < CALLS, "{change:?}");
+        assert!(rt; failures > 0 && failures < CALLS, "{change:?}");
     }
     Ok(())
 }
