@@ -31,3 +31,10 @@ for package in "$dist"/*.deb; do
     dpkg-deb -x "$package" "$work/system"
 done
 use "$work/system/usr" lib/x86_64-linux-gnu
+
+# What Debian wants of packages, where its program is installed.
+if command -v lintian > /dev/null; then
+    lintian --allow-root --fail-on error "$dist"/*.deb
+else
+    echo 'lintian is not installed, so the packages are not checked'
+fi

@@ -93,15 +93,19 @@ fi
 
 if command -v dpkg-deb > /dev/null; then
     install_to "$work/hunkravy" install-tool PREFIX=/usr CPU=both
+    strip "$work"/hunkravy/usr/lib/hunkravy/*/hunkravy
     package hunkravy 'libc6 (>= 2.34)' 'seals and opens files by AEGIS-256' \
-        'Each file gets a prefix of its own, and nothing of a file that was changed comes out.'
+        'Nothing of a file that was changed comes out.'
     library=usr/lib/x86_64-linux-gnu
     install_to "$work/libhunkravy-dev" install PREFIX=/usr LIBRARIES=/$library
     mkdir -p "$work/libhunkravy0/$library"
     mv "$work/libhunkravy-dev/$library"/libhunkravy.so.0 "$work/libhunkravy0/$library"
-    package libhunkravy0 'libc6 (>= 2.17)' 'the AEGIS ciphers and their MACs, proved' \
+    mkdir "$work/libhunkravy0/DEBIAN"
+    echo "libhunkravy 0 libhunkravy0 (>= $version)" > "$work/libhunkravy0/DEBIAN/shlibs"
+    echo 'activate-noawait ldconfig' > "$work/libhunkravy0/DEBIAN/triggers"
+    package libhunkravy0 'libc6 (>= 2.17)' 'AEGIS ciphers and their MACs, proved' \
         'The shared library. It uses no AES instructions and no look-up tables.' libs
-    package libhunkravy-dev "libhunkravy0 (= $version)" 'the AEGIS ciphers and their MACs, for development' \
+    package libhunkravy-dev "libhunkravy0 (= $version)" 'AEGIS ciphers and their MACs, for development' \
         'Headers, the static library, and examples.' libdevel
 fi
 
