@@ -10,7 +10,7 @@ use aegis_pages::SealedPages;
 use std::alloc::Global;
 use std::fs::File;
 use std::rt::Runtime;
-use std::time::Duration;
+use std::time::{Duration, Instant};
 use std::{env, fs, io};
 use target::{Counter, ID, InMemory, KEY, PAGE_BYTES, Target, reading, writing};
 
@@ -18,6 +18,9 @@ use target::{Counter, ID, InMemory, KEY, PAGE_BYTES, Target, reading, writing};
 const TEXT_BYTES: u64 = 1 << 26;
 
 const TURNS: u32 = 7;
+
+// The text whose commitment is measured.
+const COMMITTED_BYTES: u64 = 1 << 30;
 
 /// In which order pieces are written and read.
 #[derive(Clone, Copy)]
@@ -73,16 +76,19 @@ fn best<R: Runtime, T: Target>(
     Ok(best)
 }
 
-// How many MB of the text pass in a second.
-fn speed(time: Duration) -> u64 {
+// How many MB of a text pass in a second.
+fn speed(text_bytes: u64, time: Duration) -> u64 {
     let seconds = time.as_secs().wrapping_mul(1_000_000_000);
     let nanoseconds = seconds.wrapping_add(u64::from(time.subsec_nanos()));
-    TEXT_BYTES.wrapping_mul(1000) / nanoseconds.max(1)
+    text_bytes.wrapping_mul(1000) / nanoseconds.max(1)
 }
 
 // Prints a line of the table.
 fn print_line<R: Runtime>(rt: &R, name: &str, form: &str, times: Times) -> io::Result<()> {
-    let (write, read) = (speed(times.write), speed(times.read));
+    let (write, read) = (
+        speed(TEXT_BYTES, times.write),
+        speed(TEXT_BYTES, times.read),
+    );
     println!(rt; "| {name} | {form} | {write} | {read} |")
 }
 
@@ -94,6 +100,19 @@ fn new_file(rt: &HostRuntime, path: &str) -> io::Result<File> {
         .create(true)
         .truncate(true)
         .open(rt, path)
+}
+
+// Prints a line for the commitment of a longer text.
+fn print_commitment(rt: &HostRuntime, alloc: Global, path: &str) -> anyhow::Result<()> {
+    let file = new_file(rt, path)?;
+    let mut pages = SealedPages::create(alloc, file, Counter(0), &KEY, &ID, PAGE_BYTES as u32)?;
+    pages.set_len(COMMITTED_BYTES)?;
+    let start = Instant::now(rt)?;
+    let commitment = pages.commitment()?;
+    let read = speed(COMMITTED_BYTES, start.elapsed(rt)?);
+    pages.verify(&commitment)?;
+    println!(rt; "| the commitment | of 1 GiB | | {read} |")?;
+    Ok(())
 }
 
 // Measures in a file at a path.
@@ -110,6 +129,7 @@ fn measure(rt: &HostRuntime, alloc: Global, path: &str) -> anyhow::Result<()> {
         let times = best(rt, &mut InMemory, order, part)?;
         print_line(rt, "AEGIS-256 in memory", form, times)?;
     }
+    print_commitment(rt, alloc, path)?;
     fs::remove_file(rt, path)?;
     Ok(())
 }
