@@ -52,7 +52,9 @@ class Cipher(variants.Variant):
         associated_data: Optional[ReadableBuffer] = None,
     ) -> bytes:
         """Encrypts a message. Returns the ciphertext, with its tag after it."""
-        sealed = bytearray(library.readable(data) + bytes(self._tag_length))
+        message = memoryview(data).cast("B")
+        sealed = bytearray(len(message) + self._tag_length)
+        sealed[: len(message)] = message
         self._in_place(library.encrypt_in_place, nonce, sealed, associated_data)
         return bytes(sealed)
 
@@ -78,7 +80,7 @@ class Cipher(variants.Variant):
         associated_data: Optional[ReadableBuffer] = None,
     ) -> bytes:
         """Decrypts a ciphertext that has its tag after it. Raises `InvalidTag` if it is another's, or if there is none."""
-        sealed = bytearray(library.readable(data))
+        sealed = bytearray(memoryview(data).cast("B"))
         length = self._in_place(library.decrypt_in_place, nonce, sealed, associated_data)
         return bytes(memoryview(sealed)[:length])
 
