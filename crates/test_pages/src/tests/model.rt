@@ -208,7 +208,7 @@ fn check<R: Abort + AllocGlobal>(
 fn calls_on_a_vector(rt: HostRuntime) -> Result<(), Fail> {
     for page_bytes in PAGE_SIZES {
         let place = Place::Memory(Vec::new(rt.alloc()));
-        check(&rt, place, page_bytes, 100)?;
+        check(&rt, place, page_bytes, 40)?;
     }
     Ok(())
 }
@@ -222,7 +222,7 @@ fn calls_on_a_file_of_the_system(rt: HostRuntime) -> Result<(), Fail> {
             .create(true)
             .truncate(true)
             .open(&rt, FILE)?;
-        check(&rt, Place::Disk(file), page_bytes, 25)?;
+        check(&rt, Place::Disk(file), page_bytes, 10)?;
     }
     std::fs::remove_file(&rt, FILE)?;
     Ok(())
