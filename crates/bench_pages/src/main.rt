@@ -12,7 +12,7 @@ use std::fs::File;
 use std::rt::Runtime;
 use std::time::{Duration, Instant};
 use std::{env, fs, io};
-use target::{Counter, ID, InMemory, KEY, PAGE_BYTES, Target, reading, writing};
+use target::{Access, Counter, ID, InMemory, KEY, PAGE_BYTES, Target, timed};
 
 // How many bytes are written and read in a turn.
 const TEXT_BYTES: u64 = 1 << 26;
@@ -66,12 +66,10 @@ fn best<R: Runtime, T: Target>(
         read: Duration::MAX,
     };
     for _turn in 0..TURNS {
-        best.write = best
-            .write
-            .min(writing(rt, target, order, piece, TEXT_BYTES)?);
-        best.read = best
-            .read
-            .min(reading(rt, target, order, piece, TEXT_BYTES)?);
+        let write = timed(rt, target, Access::Write, order, piece, TEXT_BYTES)?;
+        let read = timed(rt, target, Access::Read, order, piece, TEXT_BYTES)?;
+        best.write = best.write.min(write);
+        best.read = best.read.min(read);
     }
     Ok(best)
 }
@@ -142,8 +140,9 @@ fn main(rt: HostRuntime) -> anyhow::Result<()> {
     let mut piece = [0x5a; 8192];
     let mut pages = SealedPages::create(alloc, Vec::new(alloc), Counter(0), &KEY, &ID, 4096)?;
     for order in [Order::Sequential, Order::Random] {
-        writing(&rt, &mut pages, order, &mut piece, 1 << 16)?;
-        reading(&rt, &mut pages, order, &mut piece, 1 << 16)?;
+        for access in [Access::Write, Access::Read] {
+            timed(&rt, &mut pages, access, order, &mut piece, 1 << 16)?;
+        }
     }
     println!(rt; "{} bytes written and read", pages.len())?;
     Ok(())

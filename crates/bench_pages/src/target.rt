@@ -81,27 +81,18 @@ impl Target for InMemory {
     }
 }
 
-/// Writes `text_bytes` in pieces, and returns how long it took.
-pub fn writing<R: Runtime, T: Target>(
-    rt: &R,
-    target: &mut T,
-    order: Order,
-    piece: &mut [u8],
-    text_bytes: u64,
-) -> anyhow::Result<Duration> {
-    let piece_bytes = piece.len() as u64;
-    let pieces = text_bytes / piece_bytes.max(1);
-    let start = Instant::now(rt)?;
-    for number in 0..pieces {
-        target.write(order.place(number, pieces, piece_bytes), piece)?;
-    }
-    Ok(start.elapsed(rt)?)
+/// What is done with a piece.
+#[derive(Clone, Copy)]
+pub enum Access {
+    Write,
+    Read,
 }
 
-/// Reads `text_bytes` in pieces, and returns how long it took.
-pub fn reading<R: Runtime, T: Target>(
+/// Writes or reads `text_bytes` in pieces, and returns how long it took.
+pub fn timed<R: Runtime, T: Target>(
     rt: &R,
     target: &mut T,
+    access: Access,
     order: Order,
     piece: &mut [u8],
     text_bytes: u64,
@@ -110,7 +101,11 @@ pub fn reading<R: Runtime, T: Target>(
     let pieces = text_bytes / piece_bytes.max(1);
     let start = Instant::now(rt)?;
     for number in 0..pieces {
-        target.read(order.place(number, pieces, piece_bytes), piece)?;
+        let at = order.place(number, pieces, piece_bytes);
+        match access {
+            Access::Write => target.write(at, piece)?,
+            Access::Read => target.read(at, piece)?,
+        }
     }
     Ok(start.elapsed(rt)?)
 }
