@@ -5,7 +5,7 @@
  *
  * A key file has 32 bytes. The first call makes the file. TEXT is written at PLACE, which is not
  * past the text's end; without TEXT it prints what is there, at most 4,096 bytes. Without arguments
- * it tries itself on a temporary file.
+ * it tries itself on a temporary file. It never syncs, so a crash may damage what it wrote.
  *
  * cc pages.c $(pkg-config --cflags --libs hunkravy)
  */

@@ -736,13 +736,14 @@ HUNKRAVY_MUST_USE static inline int hunkravy_record_open(hunkravy_record_stream 
  * each of which is encrypted on its own, by AEGIS-256 with a tag of 32 bytes. These calls seal and open a page or a
  * header, and you read and write the file. A page opens only under its number and the id of its file, but an older page
  * of the same number opens too. The files are those of the Rattle library's `aegis_pages`, of the format in
- * docs/PAGES.md.
+ * docs/PAGES.md of its repository.
  *
  * A file begins with two sectors of HUNKRAVY_PAGE_SECTOR_BYTES. Each has a header, with the page size, the file's id,
  * a counter, and the length of the text. Headers are written in turn: that of an even counter to the first sector, and
  * that of an odd one to the second; the one with the greater counter counts. So if writing a header fails, the one
- * before it still stands. The pages come after both sectors, each whole, the last one too: a nonce, the encrypted text,
- * and the tag.
+ * before it still stands. Sync the pages before a header, and a header before the next one: a crash may tear whatever
+ * was not synced. The pages come after both sectors, each whole, the last one too: a nonce, the encrypted text, and the
+ * tag.
  *
  * To change some bytes of a page: read the page, open it, change its text, seal it with a fresh nonce, and write it. To
  * change the length: write the pages that are new, and then a header with the next counter.

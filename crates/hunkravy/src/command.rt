@@ -220,7 +220,7 @@ Examples:
   hunkravy keygen backup.key
   hunkravy seal -k backup.key backup.tar backup.sealed
   hunkravy check -k backup.key backup.sealed
-  hunkravy open -k backup.key backup.sealed backup.tar
+  hunkravy open -k backup.key backup.sealed restored.tar
   hunkravy open -k backup.key --from 1000000 --length 512 backup.sealed part
   hunkravy rekey -k backup.key -n new.key backup.sealed backup.new
 
