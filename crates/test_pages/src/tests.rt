@@ -10,10 +10,10 @@ use aegis_pages::{Nonces, PagesError, SealedPages};
 use std::alloc::Global;
 use std::io;
 
-/// The key of files under AEGIS-256, AEGIS-256X2 and AEGIS-256X4.
+/// The key of files under AEGIS-256 and AEGIS-256X4.
 const KEY: [u8; 32] = [7; 32];
 
-/// The key of files under AEGIS-128L, AEGIS-128X2 and AEGIS-128X4.
+/// The key of files under AEGIS-128L.
 const SHORT_KEY: [u8; 16] = [7; 16];
 
 const ID: [u8; 24] = [9; 24];

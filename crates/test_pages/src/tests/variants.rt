@@ -1,10 +1,8 @@
-//! A file of each variant is written, closed, opened and read.
+//! A file of a variant with short keys, and one of four lanes, are written, closed, opened and read. The code is one for
+//! all six, and the other tests have AEGIS-256.
 
 use super::{Counter, ID, KEY, SHORT_KEY};
-use aegis_pages::{
-    SealedPages, SealedPages128L, SealedPages128X2, SealedPages128X4, SealedPages256X2,
-    SealedPages256X4,
-};
+use aegis_pages::{SealedPages128L, SealedPages256X4};
 use std::test::Fail;
 
 // The test of one variant.
@@ -23,11 +21,7 @@ macro_rules! check {
 
 #[test]
 fn written_bytes_come_back(rt: HostRuntime) -> Result<(), Fail> {
-    check!(rt, SealedPages, &KEY);
-    check!(rt, SealedPages256X2, &KEY);
-    check!(rt, SealedPages256X4, &KEY);
     check!(rt, SealedPages128L, &SHORT_KEY);
-    check!(rt, SealedPages128X2, &SHORT_KEY);
-    check!(rt, SealedPages128X4, &SHORT_KEY);
+    check!(rt, SealedPages256X4, &KEY);
     Ok(())
 }
