@@ -23,6 +23,7 @@ proved() {
     echo
     echo "- Commit: ${COMMIT:-$(git rev-parse HEAD)}"
     echo "- Proved by: $(rt version)"
+    echo "- The last whole run of the gate: $(sed -n 's/.*\*\*\([0-9]* passed[^*]*\)\.\*\*.*/\1/p' docs/GATE.md | head -n 1)"
 }
 
 # Gives all files of a folder the time of the commit.
