@@ -1,5 +1,5 @@
 -- The text of a file after a batch, whole or left out.
-use Rattle.std.proofs.Common.{◌≡◌, ◌⊎◌, ◌∙◌, inl, inr, [], Err, IfOk, IfSome, List, None, Ok, Option, Result, Some, subst, sym, ℕ}
+use Rattle.std.proofs.Common.{◌≡◌, ◌⊎◌, ◌∙◌, inl, inr, [], Err, IfOk, IfSome, List, None, Ok, Option, Result, Some, ap, refl, subst, sym, ℕ}
 use Rattle.aegis_base.specs.Variant.{Variant}
 use Rattle.aegis_storage.specs.Disk.{Disk, IsPossible, Writes, written}
 use Rattle.aegis_storage.specs.Journal.{IsOneOf, RestsAtEither, RestsWritten}
@@ -14,12 +14,12 @@ if_ok_map (Ok x) P Q f p = f x p
 if_ok_map (Err e) P Q f p = tt
 
 -- what is seen through no writes is what lies below
-pub read_through_none : (writes : Writes) (a b : Option (List ℕ)) (P : List ℕ → Type 0) → writes ≡ [] → a ≡ b → IfSome (overlaid writes a) P → IfSome b P
-read_through_none writes a b P none same found = subst (λ (o : Option (List ℕ)). IfSome o P) same (seen a (subst (λ (w : Writes). IfSome (overlaid w a) P) none found))
+pub seen_through_none : (writes : Writes) (a b : Option (List ℕ)) → writes ≡ [] → a ≡ b → overlaid writes a ≡ b
+seen_through_none writes a b none same = ap (λ (w : Writes). overlaid w a) none ∙ seen a ∙ same
   where
-    seen : (o : Option (List ℕ)) → IfSome (overlaid [] o) P → IfSome o P
-    seen None found = tt
-    seen (Some xs) found = found
+    seen : (o : Option (List ℕ)) → overlaid [] o ≡ o
+    seen None = refl
+    seen (Some xs) = refl
 
 -- a file that was opened over a storage that is only read
 pub collects : {E : Type 0} (r : Result OpenFile E) (writes : Writes) (a b : Option (List ℕ)) (variant : Variant) (key : List ℕ) → writes ≡ [] → a ≡ b
@@ -28,7 +28,7 @@ pub collects : {E : Type 0} (r : Result OpenFile E) (writes : Writes) (a b : Opt
     → IfOk r (λ pages. IfSome b (λ file. (text : List ℕ) → Holds variant key text file → IsBatch pages variant key text file))
 unfolding IsBatch
 collects (Err e) writes a b variant key none same variant_is key_is below_is holds = tt
-collects (Ok pages) writes a b variant key none same variant_is key_is below_is holds = known b (below_is ∙ same) (read_through_none writes a b _ none same holds)
+collects (Ok pages) writes a b variant key none same variant_is key_is below_is holds = known b (below_is ∙ same) (subst (λ (o : Option (List ℕ)). IfSome o (λ file. (text : List ℕ) → Holds variant key text file → HasText pages text)) (seen_through_none writes a b none same) holds)
   where
     known : (o : Option (List ℕ)) → pages.below ≡ o → IfSome o (λ file. (text : List ℕ) → Holds variant key text file → HasText pages text)
         → IfSome o (λ file. (text : List ℕ) → Holds variant key text file → IsBatch pages variant key text file)

@@ -1,11 +1,12 @@
 //! Several changes of a text that are all there after a crash, or none of them.
 
-ghost use Rattle.std.specs.Prelude.{◌≡◌, ◌≤◌, ◌⊎◌, IfOk, IfSome, List, OnOk, length, ℕ};
+ghost use Rattle.std.specs.Prelude.{◌≡◌, ◌≤◌, ◌⊎◌, IfErr, IfOk, IfSome, List, OnOk, length, ℕ};
 ghost use Rattle.aegis_base.specs.Variant.{Variant, key_length};
-ghost use Rattle.aegis_storage.specs.Disk.{written};
+ghost use Rattle.aegis_storage.specs.Disk.{WritesAll, written};
 ghost use Rattle.aegis_storage.specs.Journal.{IsAtRest, IsNoForgery};
 ghost use Rattle.aegis_storage.specs.Pending.{writes_of};
 ghost use Rattle.aegis_pages.specs.Batches.{RecoversText, RestsAtText};
+ghost use Rattle.aegis_pages.specs.Errors.{IsOpenRefusal};
 ghost use Rattle.aegis_pages.specs.OpenFile.{HasText, IsBatch};
 ghost use Rattle.aegis_pages.specs.SealedPages.{Holds};
 
@@ -58,9 +59,10 @@ pub fn open_batch<
     key: &[u8; KEY_BYTES],
 ) -> Result<Pages<L, V, KEY_BYTES, Overlay<'a, S, A>, N, A>, PagesError>
     requires { KEY_BYTES ≡ key_length L.VARIANT.family }
-    ensures { IfOk result (λ pages. IfSome (S.bytes storage.now) (λ file. (text : List ℕ)
+    ensures batch { IfOk result (λ pages. IfSome (S.bytes storage.now) (λ file. (text : List ℕ)
         → Holds L.VARIANT key.now text file
         → IsBatch pages L.VARIANT key.now text file)) }
+    ensures refused { IfErr result (IsOpenRefusal L.VARIANT key.now (S.bytes storage.now)) }
 {
     Pages::open(alloc, Overlay::new(alloc, storage), nonces, key)
 }
@@ -79,6 +81,8 @@ pub fn commit_batch<S: Storage, J: Storage, A: Allocator + Copy>(
     writes: &[PendingWrite<A>],
 ) -> io::Result<()>
     requires { length context.now ≤ MAX_CONTEXT_BYTES }
+    ensures written { OnOk result
+        (WritesAll (S.bytes storage.old) (S.bytes storage.new) (writes_of writes.now)) }
     ensures recovers { (variant : Variant) (key before after file : List ℕ)
         → IsAtRest (S.disk storage.old) (J.disk journal.old) file
         → Holds variant key before file
@@ -124,7 +128,9 @@ pub fn open_recovered<
 ) -> Result<Pages<L, V, KEY_BYTES, S, N, A>, PagesError>
     requires key_bytes { KEY_BYTES ≡ key_length L.VARIANT.family }
     requires context { length context.now ≤ MAX_CONTEXT_BYTES }
-    ensures { IfOk result (λ pages. (before after : List ℕ)
+    ensures variant { IfOk result (λ pages. pages.layout.variant ≡ L.VARIANT) }
+    ensures key { IfOk result (λ pages. pages.layout.key ≡ key.now) }
+    ensures text { IfOk result (λ pages. (before after : List ℕ)
         → (batch : RecoversText L.VARIANT key.now before after journal_key.now context.now
         (S.disk storage) (J.disk journal.old))
         → IfSome (J.bytes journal.old) (IsNoForgery journal_key.now context.now batch.writes)

@@ -10,10 +10,10 @@
 //! names the one premise on AEGIS: that the journal which the crash leaves is no forgery (`IsNoForgery`).
 //!
 //! ```
-//! let mut overlay = Overlay::new(alloc, storage);
+//! let mut overlay = Overlay::new(alloc, &storage);
 //! overlay.write_at(0, b"both of these")?;
 //! overlay.write_at(100, b"or none")?;
-//! let (mut storage, writes) = overlay.into_parts();
+//! let writes = overlay.into_writes();
 //! commit(alloc, &mut storage, &mut journal, &key, &prefix, b"accounts", &writes)?;
 //! ```
 #![tactic(auto)]
