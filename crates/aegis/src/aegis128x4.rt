@@ -11,13 +11,9 @@
 //! }
 //! ```
 
-ghost use Rattle.std.specs.Prelude.{codes};
-
-use aegis_128::State128;
-use aegis_aes::{AesBlock4, Rows2};
-use aegis_base::Names;
+use aegis_128::State128X4 as State;
 pub use aegis_base::{Error, Tag};
-use aegis_engine::Cipher;
+use aegis_engine::{Cipher, Reusable};
 
 /// A key of 16 bytes.
 pub type Key = [u8; 16];
@@ -25,53 +21,16 @@ pub type Key = [u8; 16];
 /// A nonce of 16 bytes. It must be used only once under a key.
 pub type Nonce = [u8; 16];
 
-/// A marker type with the names of the types of AEGIS-128X4.
-#[derive(Clone, Copy)]
-pub struct Marker;
-
-impl Names for Marker {
-    ghost module_name = { codes "aegis128x4" };
-
-    ghost cipher_name = { codes "Aegis128X4" };
-
-    fn module_name() -> &'static str {
-        "aegis128x4"
-    }
-
-    fn cipher_name() -> &'static str {
-        "Aegis128X4"
-    }
-}
-
 /// AEGIS-128X4 with tags of `TAG_BYTES` bytes, 16 or 32, under a key and a nonce. Its calls are those of [`Cipher`].
-pub type Aegis128X4<const TAG_BYTES: usize> = Cipher<
-    State128<Rows2<AesBlock4>>,
-    Marker,
-    16,
-    TAG_BYTES,
->;
+pub type Aegis128X4<const TAG_BYTES: usize> = Cipher<State, Reusable, 16, TAG_BYTES>;
 
 /// Seals a message in chunks with AEGIS-128X4; [`Cipher::encryptor`] creates one. Its calls are those of
 /// [`aegis_engine::Encryptor`].
-pub type Encryptor<const TAG_BYTES: usize> = aegis_engine::Encryptor<
-    State128<Rows2<AesBlock4>>,
-    Marker,
-    TAG_BYTES,
->;
+pub type Encryptor<const TAG_BYTES: usize> = aegis_engine::Encryptor<State, TAG_BYTES>;
 
 /// Opens a ciphertext in chunks with AEGIS-128X4; [`Cipher::decryptor`] creates one. Its calls are those of
 /// [`aegis_engine::Decryptor`].
-pub type Decryptor<'a, const TAG_BYTES: usize> = aegis_engine::Decryptor<
-    'a,
-    State128<Rows2<AesBlock4>>,
-    Marker,
-    TAG_BYTES,
->;
+pub type Decryptor<'a, const TAG_BYTES: usize> = aegis_engine::Decryptor<'a, State, TAG_BYTES>;
 
 /// A MAC of `TAG_BYTES` bytes, 16 or 32, with AEGIS-128X4. Its calls are those of [`aegis_engine::Mac`].
-pub type Aegis128X4Mac<const TAG_BYTES: usize> = aegis_engine::Mac<
-    State128<Rows2<AesBlock4>>,
-    Marker,
-    16,
-    TAG_BYTES,
->;
+pub type Aegis128X4Mac<const TAG_BYTES: usize> = aegis_engine::Mac<State, 16, TAG_BYTES>;

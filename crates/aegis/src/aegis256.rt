@@ -29,13 +29,9 @@
 //! }
 //! ```
 
-ghost use Rattle.std.specs.Prelude.{codes};
-
-use aegis_256::State256;
-use aegis_aes::AesBlock2;
-use aegis_base::Names;
+use aegis_256::State256X1 as State;
 pub use aegis_base::{Error, Tag};
-use aegis_engine::Cipher;
+use aegis_engine::{Cipher, Once};
 
 /// A key of 32 bytes.
 pub type Key = [u8; 32];
@@ -43,47 +39,16 @@ pub type Key = [u8; 32];
 /// A nonce of 32 bytes. It must be used only once under a key.
 pub type Nonce = [u8; 32];
 
-/// A marker type with the names of the types of AEGIS-256.
-pub struct Marker;
-
-impl Names for Marker {
-    ghost module_name = { codes "aegis256" };
-
-    ghost cipher_name = { codes "Aegis256" };
-
-    fn module_name() -> &'static str {
-        "aegis256"
-    }
-
-    fn cipher_name() -> &'static str {
-        "Aegis256"
-    }
-}
-
 /// AEGIS-256 with tags of `TAG_BYTES` bytes, 16 or 32, under a key and a nonce. Its calls are those of [`Cipher`].
-pub type Aegis256<const TAG_BYTES: usize> = Cipher<State256<AesBlock2>, Marker, 32, TAG_BYTES>;
+pub type Aegis256<const TAG_BYTES: usize> = Cipher<State, Once, 32, TAG_BYTES>;
 
 /// Seals a message in chunks with AEGIS-256; [`Cipher::encryptor`] creates one. Its calls are those of
 /// [`aegis_engine::Encryptor`].
-pub type Encryptor<const TAG_BYTES: usize> = aegis_engine::Encryptor<
-    State256<AesBlock2>,
-    Marker,
-    TAG_BYTES,
->;
+pub type Encryptor<const TAG_BYTES: usize> = aegis_engine::Encryptor<State, TAG_BYTES>;
 
 /// Opens a ciphertext in chunks with AEGIS-256; [`Cipher::decryptor`] creates one. Its calls are those of
 /// [`aegis_engine::Decryptor`].
-pub type Decryptor<'a, const TAG_BYTES: usize> = aegis_engine::Decryptor<
-    'a,
-    State256<AesBlock2>,
-    Marker,
-    TAG_BYTES,
->;
+pub type Decryptor<'a, const TAG_BYTES: usize> = aegis_engine::Decryptor<'a, State, TAG_BYTES>;
 
 /// A MAC of `TAG_BYTES` bytes, 16 or 32, with AEGIS-256. Its calls are those of [`aegis_engine::Mac`].
-pub type Aegis256Mac<const TAG_BYTES: usize> = aegis_engine::Mac<
-    State256<AesBlock2>,
-    Marker,
-    32,
-    TAG_BYTES,
->;
+pub type Aegis256Mac<const TAG_BYTES: usize> = aegis_engine::Mac<State, 32, TAG_BYTES>;

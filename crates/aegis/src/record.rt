@@ -37,6 +37,7 @@ pub mod laws;
 mod length;
 mod migration;
 mod open;
+pub mod placed;
 mod position;
 mod record_cipher;
 mod record_opener;

@@ -9,7 +9,7 @@ ghost use Rattle.aegis_aes.specs.Lanes.{context};
 ghost use Rattle.aegis_base.specs.Variant.{Family128};
 ghost use Rattle.aegis_base.specs.Lane.{add_context, first_blocks, high_tag, keystream_blocks, last_block, low_tag, block_in, short_tag, start, start_turn, step};
 
-use aegis_aes::{AesBlock, Pair, Row};
+use aegis_aes::{AesBlock, AesBlock2, AesBlock4, Pair, Row, Rows2};
 use aegis_base::{C0, C1, LaneState, SavedLanes, SavedRows, bit_lengths, block_in_all_lanes};
 
 /// The lanes of AEGIS-128L, 128X2 or 128X4: their rows, each with one block of every lane, and the number of updates
@@ -25,6 +25,15 @@ pub struct State128<P> {
     s37: P,
     updates: u64,
 }
+
+/// The lanes of AEGIS-128L.
+pub type State128X1 = State128<AesBlock2>;
+
+/// The lanes of AEGIS-128X2.
+pub type State128X2 = State128<Rows2<AesBlock2>>;
+
+/// The lanes of AEGIS-128X4.
+pub type State128X4 = State128<Rows2<AesBlock4>>;
 
 impl<P: Pair> State128<P> {
     ghost use Rattle.aegis_128.specs.Rows.{lane};
@@ -107,6 +116,22 @@ impl<P: Pair> LaneState for State128<P> {
     ghost lane = { λ s j. lane P.block s j };
 
     ghost updates = { λ s. s.updates };
+
+    fn cipher_name() -> &'static str {
+        match P::Row::LANES {
+            1 => "Aegis128L",
+            2 => "Aegis128X2",
+            _ => "Aegis128X4",
+        }
+    }
+
+    fn module_name() -> &'static str {
+        match P::Row::LANES {
+            1 => "aegis128l",
+            2 => "aegis128x2",
+            _ => "aegis128x4",
+        }
+    }
 
     fn first_blocks(key: &[u8], nonce: &[u8]) -> Self {
         let key = AesBlock::from_bytes(key);

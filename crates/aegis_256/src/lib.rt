@@ -9,7 +9,7 @@ ghost use Rattle.aegis_aes.specs.Lanes.{context};
 ghost use Rattle.aegis_base.specs.Variant.{Family256};
 ghost use Rattle.aegis_base.specs.Lane.{add_context, first_blocks, high_half, high_tag, keystream_blocks, last_block, low_half, low_tag, block_in, short_tag, start, start_turn, step};
 
-use aegis_aes::{AesBlock, Pair, Row};
+use aegis_aes::{AesBlock, AesBlock2, AesBlock4, Pair, Row, Rows2};
 use aegis_base::{C0, C1, LaneState, SavedLanes, SavedRows, bit_lengths, block_in_all_lanes};
 
 // The first block of a key or nonce.
@@ -41,6 +41,15 @@ pub struct State256<P> {
     s25: P,
     updates: u64,
 }
+
+/// The lanes of AEGIS-256.
+pub type State256X1 = State256<AesBlock2>;
+
+/// The lanes of AEGIS-256X2.
+pub type State256X2 = State256<Rows2<AesBlock2>>;
+
+/// The lanes of AEGIS-256X4.
+pub type State256X4 = State256<Rows2<AesBlock4>>;
 
 impl<P: Pair> State256<P> {
     ghost use Rattle.aegis_256.specs.Rows.{lane};
@@ -135,6 +144,22 @@ impl<P: Pair> LaneState for State256<P> {
     ghost lane = { λ s j. lane P.block s j };
 
     ghost updates = { λ s. s.updates };
+
+    fn cipher_name() -> &'static str {
+        match P::Row::LANES {
+            1 => "Aegis256",
+            2 => "Aegis256X2",
+            _ => "Aegis256X4",
+        }
+    }
+
+    fn module_name() -> &'static str {
+        match P::Row::LANES {
+            1 => "aegis256",
+            2 => "aegis256x2",
+            _ => "aegis256x4",
+        }
+    }
 
     fn first_blocks(key: &[u8], nonce: &[u8]) -> Self {
         let c0 = AesBlock::from_bytes(&C0);

@@ -3,6 +3,9 @@ use Rattle.std.specs.Prelude.{ℕ, ◌+◌, ◌++◌, ◌&&◌, List, [], ◌∷
 use Rattle.std.specs.Borrow.{Bor}
 use Rattle.std.specs.List.{concat}
 use Rattle.aegis_base.specs.declared.error.TheConstants.{MAX_AEAD_BYTES}
+use Rattle.aegis_base.specs.Message.{Opens}
+use Rattle.aegis_base.specs.Run.{KeyAndNonce}
+use Rattle.aegis_base.specs.Variant.{Variant}
 
 -- the bytes of each slice, without where it lies in memory
 abbrev pub texts : List (Bor (List ℕ)) → List (List ℕ)
@@ -25,6 +28,12 @@ accepted_after room kept (chunk ∷ chunks) = accepted_after room (keep_chunk ro
 -- what a destination of `room` bytes keeps of chunks, in order: a chunk that does not fit is left out whole
 abbrev pub accepted : ℕ → List (Bor (List ℕ)) → List ℕ
 accepted room chunks = accepted_after room [] chunks
+
+-- sealing m, under a cipher's key and nonce, gives what a destination of `room` bytes keeps of these chunks, and this tag
+abbrev pub OpensChunks : (variant : Variant) (tag_bytes : ℕ) (cipher : KeyAndNonce) (ad : List ℕ) (room : ℕ) (chunks : List (Bor (List ℕ)))
+    (tag m : List ℕ) → Type 0
+OpensChunks variant tag_bytes cipher ad room chunks tag m =
+    Opens variant tag_bytes cipher.key cipher.nonce ad (accepted room chunks) tag m
 
 -- a destination that was `old`, after the n bytes written to its front were refused: n zeros, and then the old bytes
 abbrev pub erased : (n : ℕ) (old : List ℕ) → List ℕ

@@ -1,5 +1,5 @@
--- The six variants of AEGIS: a family, named after the number of bits of its keys, and a number of lanes.
-use Rattle.std.specs.Prelude.{ℕ, ◌*◌}
+-- The six variants of AEGIS: a family, named after the number of bits of its keys, and a number of lanes. Their names.
+use Rattle.std.specs.Prelude.{ℕ, ◌*◌, ◌==◌, List, codes, if◌then◌else◌}
 
 pub data Family : Type 0 where
   Family128 : Family
@@ -40,3 +40,16 @@ rate variant = 16 * (width variant.family * variant.lanes)
 abbrev pub key_length : Family → ℕ
 key_length Family128 = 16
 key_length Family256 = 32
+
+-- the one of three names that belongs to a number of lanes
+abbrev pub by_lanes : ℕ → List ℕ → List ℕ → List ℕ → List ℕ
+by_lanes lanes one two four = if lanes == 1 then one else if lanes == 2 then two else four
+
+-- the names that the variant of a family and a number of lanes prints: its cipher's and its module's
+abbrev pub cipher_name : Family → ℕ → List ℕ
+cipher_name Family128 lanes = by_lanes lanes (codes "Aegis128L") (codes "Aegis128X2") (codes "Aegis128X4")
+cipher_name Family256 lanes = by_lanes lanes (codes "Aegis256") (codes "Aegis256X2") (codes "Aegis256X4")
+
+abbrev pub module_name : Family → ℕ → List ℕ
+module_name Family128 lanes = by_lanes lanes (codes "aegis128l") (codes "aegis128x2") (codes "aegis128x4")
+module_name Family256 lanes = by_lanes lanes (codes "aegis256") (codes "aegis256x2") (codes "aegis256x4")

@@ -1,10 +1,13 @@
-//! The errors of all calls, and the limit on lengths.
+//! Tags, the limit on lengths, and the errors of all calls.
 
 use thiserror::Error;
 
 /// The maximum length of associated data, and of a message, in bytes: 2^61 - 1 (AEGIS), so that a length in bits fits
 /// in 64 bits.
 pub const MAX_AEAD_BYTES: u64 = (1 << 61) - 1;
+
+/// A tag of 16 or 32 bytes.
+pub type Tag<const TAG_BYTES: usize> = [u8; TAG_BYTES];
 
 /// The error of a call that did not succeed. Each call's documentation has the state after each error.
 #[derive(Clone, Copy, Debug, PartialEq, Eq, Error)]

@@ -7,16 +7,14 @@ mod constants;
 mod error;
 mod lane_block;
 pub mod laws;
-mod names;
 mod saved;
 mod state;
 mod vectors;
 
 pub use chunks::chunks_len;
 pub use constants::{C0, C1, bit_lengths};
-pub use error::{Error, MAX_AEAD_BYTES};
+pub use error::{Error, MAX_AEAD_BYTES, Tag};
 pub use lane_block::block_in_all_lanes;
-pub use names::{Names, Tag};
 pub use saved::{SavedLanes, SavedRows};
 pub use state::LaneState;
 pub use vectors::slices;

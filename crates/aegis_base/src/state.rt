@@ -3,7 +3,7 @@
 ghost use Rattle.std.specs.Prelude.{◌≡◌, ℕ, ◌+◌, ◌-◌, ◌*◌, ◌^◌, ◌<◌, ◌≤◌, ◌++◌, List, length, slice_index};
 ghost use Rattle.aegis_aes.specs.Block.{IsSameBefore, IsSameFrom, block_at, xor};
 ghost use Rattle.aegis_aes.specs.Lanes.{IsLaneCount, context, xor_lanes};
-ghost use Rattle.aegis_base.specs.Variant.{Variant, key_length, rate, width};
+ghost use Rattle.aegis_base.specs.Variant.{Variant, cipher_name, key_length, module_name, rate, width};
 ghost use Rattle.aegis_base.specs.Lane.{finish, first_blocks, high_tag, keystream_blocks, lane_tag, last_block, last_input, low_tag, block_in, short_tag, start, start_turn, start_turns, step, times};
 ghost use Rattle.aegis_base.specs.Mac.{fold_long, fold_short, mac_tag, short_fold_turn, short_fold_turns, step_by_two};
 ghost use Rattle.aegis_base.specs.Message.{share_at};
@@ -17,8 +17,8 @@ use aegis_aes::{AesBlock, Row};
 /// as if it ran alone. A state also counts its updates since the start.
 ///
 /// A family implements the steps of the AEGIS specification, and the start, the end and the tags are composed of them
-/// here. The engine uses only `RATE`, `FIT_REGISTERS`, `new`, `absorb`, `xor_keystream`, `finish`, `zeros`, the two tags
-/// and the two MAC tags.
+/// here. The engine uses only `RATE`, `FIT_REGISTERS`, the names, `new`, `absorb`, `xor_keystream`, `finish`, `zeros`, the
+/// two tags and the two MAC tags.
 pub trait LaneState: Copy {
     /// The type of a row: one block of each lane.
     type Row: Row;
@@ -44,6 +44,14 @@ pub trait LaneState: Copy {
 
     // the number of updates since the start
     ghost updates: { Self → ℕ };
+
+    /// Returns the name of the variant's cipher.
+    fn cipher_name() -> &'static str
+        ensures { result.now ≡ cipher_name VARIANT.family VARIANT.lanes };
+
+    /// Returns the name of the variant's module.
+    fn module_name() -> &'static str
+        ensures { result.now ≡ module_name VARIANT.family VARIANT.lanes };
 
     /// Returns the lanes before the updates of their start (AEGIS, Init).
     fn first_blocks(key: &[u8], nonce: &[u8]) -> Self

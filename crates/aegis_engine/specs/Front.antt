@@ -3,15 +3,14 @@ use Rattle.std.specs.Prelude.{ℕ, List, take}
 use Rattle.aegis_aes.specs.declared.row.Row as row
 use Rattle.aegis_base.specs.Run.{Held}
 use Rattle.aegis_base.specs.declared.state.LaneState as lane_state
-use Rattle.aegis_base.specs.declared.names.Names as names
 use Rattle.aegis_engine.specs.declared.decryptor.Decryptor.{Decryptor}
 
-module _ {S V R : Type 0} {n : ℕ} {L : lane_state.Ghosts S R} {r : row.Ghosts R} {v : names.Ghosts V} where
-  abbrev pub holds : Decryptor S V n R L r v → Held
+module _ {S R : Type 0} {n : ℕ} {L : lane_state.Ghosts S R} {r : row.Ghosts R} where
+  abbrev pub holds : Decryptor S n R L r → Held
   holds d = d.run
 
-  abbrev pub written : Decryptor S V n R L r v → ℕ
+  abbrev pub written : Decryptor S n R L r → ℕ
   written d = d.run.message_bytes
 
-  abbrev pub front : Decryptor S V n R L r v → List ℕ
+  abbrev pub front : Decryptor S n R L r → List ℕ
   front d = take d.run.message_bytes d.dst.now

@@ -1,23 +1,23 @@
 //! Ciphers: a key and a nonce, for one message or one keystream.
 //!
-//! [`Cipher`] is generic in a state and a marker with names, and the six variants are aliases of it. Nothing here
-//! depends on a family or a number of lanes.
+//! [`Cipher`] is generic in a state, and the six variants are aliases of it. Nothing here depends on a family or a
+//! number of lanes.
 
 ghost use Rattle.std.specs.Prelude.{◌≡◌, ⊤, ◌≤◌, ◌⊎◌, ◌++◌, IfErr, IfOk, IsOk, List, MatchResult, OnErr, OnOk, Some, codes, drop, false, length, replicate, take, true, ℕ, []};
 ghost use Rattle.aegis_base.specs.Lane.{IsTagLength};
 ghost use Rattle.std.specs.Borrow.{Array, LendsIfOk, sem, u8};
-ghost use Rattle.aegis_base.specs.Chunks.{accepted, erased, joined};
+ghost use Rattle.aegis_base.specs.Chunks.{OpensChunks, accepted, erased, joined};
 ghost use Rattle.aegis_base.specs.Message.{Opens, ciphertext, seal, keystream, tag, xor_keystream};
 ghost use Rattle.aegis_base.specs.Run.{Stands};
 ghost use Rattle.aegis_engine.specs.Front.{front, holds, written};
-ghost use Rattle.aegis_base.specs.Variant.{key_length};
+ghost use Rattle.aegis_base.specs.Variant.{cipher_name, key_length};
 
 use crate::decryptor::Decryptor;
 use crate::destination::{Checked, accepted_len, accepted_message, erase_unless};
 use crate::encryptor::Encryptor;
 use crate::pass::Pass;
 use crate::run::Run;
-use aegis_base::{Error, LaneState, MAX_AEAD_BYTES, Names};
+use aegis_base::{Error, LaneState, MAX_AEAD_BYTES};
 use std::alloc::{AllocError, Allocator};
 use std::fmt;
 use std::marker::{Model, PhantomData};
@@ -25,23 +25,31 @@ use std::marker::{Model, PhantomData};
 /// The value of each byte of the buffer after `decrypt_in_place` has refused a tag.
 pub const ERASED: u8 = 0xaa;
 
+/// Marks a cipher that is used once: it is not `Copy`.
+pub struct Once;
+
+/// Marks a cipher that is `Copy`.
+#[derive(Clone, Copy)]
+pub struct Reusable;
+
 /// A cipher with tags of `TAG_BYTES` bytes, 16 or 32. In contracts it is a key and a nonce, of `KEY_BYTES` bytes each.
 ///
 /// Under one key, a nonce must be used for one message or one keystream only. The one-shot calls consume the cipher,
-/// and the chunked calls borrow it. The ciphers of more than one lane are `Copy`.
+/// and the chunked calls borrow it. A cipher is `Copy` if its marker `U`, [`Once`] or [`Reusable`], is: the ciphers of
+/// more than one lane are.
 ///
 /// Lengths are in bytes. Associated data and messages must each have at most [`MAX_AEAD_BYTES`]; keystreams have no
 /// limit. Only `encrypt`, `decrypt` and `stream_xor` allocate memory: the message's length, in one reservation before
 /// any byte is processed.
 #[derive(Copy, Drop)]
-pub struct Cipher<S: LaneState, V: Names, const KEY_BYTES: usize, const TAG_BYTES: usize> {
+pub struct Cipher<S: LaneState, U, const KEY_BYTES: usize, const TAG_BYTES: usize> {
     key: [u8; KEY_BYTES],
     nonce: [u8; KEY_BYTES],
-    variant: PhantomData<(S, V)>,
+    variant: PhantomData<(S, U)>,
 }
 
-impl<S: LaneState, V: Names, const KEY_BYTES: usize, const TAG_BYTES: usize> Model
-    for Cipher<S, V, KEY_BYTES, TAG_BYTES> {
+impl<S: LaneState, U, const KEY_BYTES: usize, const TAG_BYTES: usize> Model
+    for Cipher<S, U, KEY_BYTES, TAG_BYTES> {
     ghost use Rattle.std.specs.Prelude.{◌≡◌};
     ghost use Rattle.aegis_base.specs.Lane.{IsTagLength};
     ghost use Rattle.aegis_base.specs.Run.{KeyAndNonce};
@@ -57,8 +65,8 @@ impl<S: LaneState, V: Names, const KEY_BYTES: usize, const TAG_BYTES: usize> Mod
     ghost inverse = { λ keys. record { key = keys.key; nonce = keys.nonce; variant = record {} } };
 }
 
-impl<S: LaneState, V: Names + Copy, const KEY_BYTES: usize, const TAG_BYTES: usize> Clone
-    for Cipher<S, V, KEY_BYTES, TAG_BYTES> {
+impl<S: LaneState, U: Copy, const KEY_BYTES: usize, const TAG_BYTES: usize> Clone
+    for Cipher<S, U, KEY_BYTES, TAG_BYTES> {
     ghost is_clone = { λ x y. y ≡ x };
 
     ghost is_infallible = { λ _. ⊤ };
@@ -68,19 +76,19 @@ impl<S: LaneState, V: Names + Copy, const KEY_BYTES: usize, const TAG_BYTES: usi
     }
 }
 
-impl<S: LaneState, V: Names, const KEY_BYTES: usize, const TAG_BYTES: usize> fmt::Debug
-    for Cipher<S, V, KEY_BYTES, TAG_BYTES> {
-    ghost debug_output = { λ _. Some (V.cipher_name ++ codes " { .. }") };
+impl<S: LaneState, U, const KEY_BYTES: usize, const TAG_BYTES: usize> fmt::Debug
+    for Cipher<S, U, KEY_BYTES, TAG_BYTES> {
+    ghost debug_output = { λ _. Some (cipher_name S.VARIANT.family S.VARIANT.lanes ++ codes " { .. }") };
 
     fn fmt<W: fmt::Write>(&self, f: &mut fmt::Formatter<W>) -> fmt::Result {
-        f.write_str(V::cipher_name())?;
+        f.write_str(S::cipher_name())?;
         f.write_str(" { .. }")
     }
 }
 
-impl<S: LaneState, V: Names, const KEY_BYTES: usize, const TAG_BYTES: usize> Cipher<
+impl<S: LaneState, U, const KEY_BYTES: usize, const TAG_BYTES: usize> Cipher<
     S,
-    V,
+    U,
     KEY_BYTES,
     TAG_BYTES,
 > {
@@ -105,9 +113,7 @@ impl<S: LaneState, V: Names, const KEY_BYTES: usize, const TAG_BYTES: usize> Cip
         requires associated_data_within { length ad.now ≤ MAX_AEAD_BYTES }
         ensures { (mc.new, result) ≡ seal S.VARIANT TAG_BYTES self.key self.nonce ad.now mc.old }
     {
-        let mut run = Run::<S>::begin(&self.key, &self.nonce, ad);
-        run.pass(Pass::Seal, mc);
-        run.tag()
+        self.encrypt_in_place_with(mc, &[ad])
     }
 
     /// Opens a ciphertext in place (AEGIS, Decrypt): `mc` is the ciphertext before the call and the message after it.
@@ -134,7 +140,44 @@ impl<S: LaneState, V: Names, const KEY_BYTES: usize, const TAG_BYTES: usize> Cip
         ensures erased { OnErr result (mc.new ≡ replicate (length mc.old) ERASED) }
         ensures error { IfErr result (λ e. e ≡ Error.InvalidTag) }
     {
-        let mut run = Run::<S>::begin(&self.key, &self.nonce, ad);
+        self.decrypt_in_place_with(mc, tag, &[ad])
+    }
+
+    /// Seals a message in place, as `encrypt_in_place` does, with associated data that comes in pieces: they are one
+    /// text. Together they must have at most [`MAX_AEAD_BYTES`] (see `chunks_len`).
+    pub fn encrypt_in_place_with(self, mc: &mut [u8], ad: &[&[u8]]) -> [u8; TAG_BYTES]
+        requires message_within { length mc.old ≤ MAX_AEAD_BYTES }
+        requires associated_data_within { length (joined ad.now) ≤ MAX_AEAD_BYTES }
+        ensures { (mc.new, result)
+            ≡ seal S.VARIANT TAG_BYTES self.key self.nonce (joined ad.now) mc.old }
+    {
+        let mut run = Run::<S>::begin_with(&self.key, &self.nonce, ad);
+        run.pass(Pass::Seal, mc);
+        run.tag()
+    }
+
+    /// Opens a ciphertext in place, as `decrypt_in_place` does, with associated data that comes in pieces: they are one
+    /// text. Together they must have at most [`MAX_AEAD_BYTES`] (see `chunks_len`).
+    pub fn decrypt_in_place_with(
+        self,
+        mc: &mut [u8],
+        tag: &[u8; TAG_BYTES],
+        ad: &[&[u8]],
+    ) -> Result<(), Error>
+        requires message_within { length mc.old ≤ MAX_AEAD_BYTES }
+        requires associated_data_within { length (joined ad.now) ≤ MAX_AEAD_BYTES }
+        ensures opened { OnOk result (Opens S.VARIANT TAG_BYTES self.key self.nonce
+            (joined ad.now) mc.old tag.now mc.new) }
+        ensures accepted { (m : List ℕ)
+            → Opens S.VARIANT TAG_BYTES self.key self.nonce (joined ad.now) mc.old tag.now m
+            → IsOk result }
+        ensures only { (m : List ℕ)
+            → Opens S.VARIANT TAG_BYTES self.key self.nonce (joined ad.now) mc.old tag.now m
+            → mc.new ≡ m }
+        ensures erased { OnErr result (mc.new ≡ replicate (length mc.old) ERASED) }
+        ensures error { IfErr result (λ e. e ≡ Error.InvalidTag) }
+    {
+        let mut run = Run::<S>::begin_with(&self.key, &self.nonce, ad);
         run.pass(Pass::Open, mc);
         if run.has_tag(tag) {
             Ok(())
@@ -194,8 +237,34 @@ impl<S: LaneState, V: Names, const KEY_BYTES: usize, const TAG_BYTES: usize> Cip
         ensures error { IfErr result (λ e. (e ≡ Error.InvalidTag)
             ⊎ (e ≡ Error.OutOfMemory)) }
     {
+        self.decrypt_with(alloc, c, tag, &[ad])
+    }
+
+    /// Opens a ciphertext into a new vector, as `decrypt` does, with associated data that comes in pieces: they are one
+    /// text. Together they must have at most [`MAX_AEAD_BYTES`] (see `chunks_len`).
+    pub fn decrypt_with<A: Allocator>(
+        self,
+        alloc: A,
+        c: &[u8],
+        tag: &[u8; TAG_BYTES],
+        ad: &[&[u8]],
+    ) -> Result<Vec<u8, A>, Error>
+        requires message_within { length c.now ≤ MAX_AEAD_BYTES }
+        requires associated_data_within { length (joined ad.now) ≤ MAX_AEAD_BYTES }
+        ensures opened { IfOk result (λ m. Opens S.VARIANT TAG_BYTES self.key self.nonce
+            (joined ad.now) c.now tag.now m.items) }
+        ensures accepted { (m : List ℕ)
+            → Opens S.VARIANT TAG_BYTES self.key self.nonce (joined ad.now) c.now tag.now m
+            → result ≡ Err Error.InvalidTag → ⊥ }
+        ensures only { (m : List ℕ)
+            → Opens S.VARIANT TAG_BYTES self.key self.nonce (joined ad.now) c.now tag.now m
+            → IfOk result (λ opened. opened.items ≡ m) }
+        ensures length { IfOk result (λ m. length m.items ≡ length c.now) }
+        ensures error { IfErr result (λ e. (e ≡ Error.InvalidTag)
+            ⊎ (e ≡ Error.OutOfMemory)) }
+    {
         let mut m = Vec::with_capacity(alloc, c.len()).map_err(|_| Error::OutOfMemory)?;
-        let mut run = Run::<S>::begin(&self.key, &self.nonce, ad);
+        let mut run = Run::<S>::begin_with(&self.key, &self.nonce, ad);
         run.pass_appended(Pass::Open, c, &mut m)
             .map_err(|_| Error::OutOfMemory)?;
         if run.has_tag(tag) {
@@ -240,15 +309,25 @@ impl<S: LaneState, V: Names, const KEY_BYTES: usize, const TAG_BYTES: usize> Cip
     }
 
     /// Returns an encryptor, which seals a message in chunks, with the associated data `ad`.
-    pub fn encryptor(&self, ad: &[u8]) -> Encryptor<S, V, TAG_BYTES>
+    pub fn encryptor(&self, ad: &[u8]) -> Encryptor<S, TAG_BYTES>
         requires { length ad.now ≤ MAX_AEAD_BYTES }
         ensures stands { Stands S.VARIANT result self.now.key self.now.nonce ad.now [] }
         ensures empty { ciphertext S.VARIANT self.now.key self.now.nonce ad.now [] ≡ [] }
         ensures length { result.message_bytes ≡ 0 }
     {
+        self.encryptor_with(&[ad])
+    }
+
+    /// Returns an encryptor, as `encryptor` does, with associated data that comes in pieces: they are one text. Together
+    /// they must have at most [`MAX_AEAD_BYTES`] (see `chunks_len`).
+    pub fn encryptor_with(&self, ad: &[&[u8]]) -> Encryptor<S, TAG_BYTES>
+        requires { length (joined ad.now) ≤ MAX_AEAD_BYTES }
+        ensures stands { Stands S.VARIANT result self.now.key self.now.nonce (joined ad.now) [] }
+        ensures empty { ciphertext S.VARIANT self.now.key self.now.nonce (joined ad.now) [] ≡ [] }
+        ensures length { result.message_bytes ≡ 0 }
+    {
         Encryptor {
-            run: Run::begin(&self.key, &self.nonce, ad),
-            variant: PhantomData,
+            run: Run::begin_with(&self.key, &self.nonce, ad),
         }
     }
 
@@ -268,11 +347,7 @@ impl<S: LaneState, V: Names, const KEY_BYTES: usize, const TAG_BYTES: usize> Cip
 
     /// Returns a decryptor, which opens a ciphertext in chunks, with the associated data `ad`, and writes the message
     /// into `plaintext`.
-    pub fn decryptor<'a>(
-        &self,
-        ad: &[u8],
-        plaintext: &'a mut [u8],
-    ) -> Decryptor<'a, S, V, TAG_BYTES>
+    pub fn decryptor<'a>(&self, ad: &[u8], plaintext: &'a mut [u8]) -> Decryptor<'a, S, TAG_BYTES>
         requires { length ad.now ≤ MAX_AEAD_BYTES }
         ensures same_reference { result.dst.ghost_name ≡ plaintext.entry.ghost_name }
         ensures same_place { result.dst.ref_ptr ≡ plaintext.entry.ref_ptr }
@@ -286,7 +361,6 @@ impl<S: LaneState, V: Names, const KEY_BYTES: usize, const TAG_BYTES: usize> Cip
         Decryptor {
             dst: plaintext,
             run: Run::begin(&self.key, &self.nonce, ad),
-            variant: PhantomData,
         }
     }
 
@@ -304,15 +378,15 @@ impl<S: LaneState, V: Names, const KEY_BYTES: usize, const TAG_BYTES: usize> Cip
         ensures within { result.0 ≤ length dst.new }
         ensures rest { drop result.0 dst.new ≡ drop result.0 dst.old }
         ensures opened { result.1 ≡ true
-            → Opens S.VARIANT TAG_BYTES self.now.key self.now.nonce ad.now
-            (accepted (length dst.old) chunks.now) tag.now (take result.0 dst.new) }
+            → OpensChunks S.VARIANT TAG_BYTES self.now ad.now (length dst.old) chunks.now
+            tag.now (take result.0 dst.new) }
         ensures accepted { (m : List ℕ)
-            → Opens S.VARIANT TAG_BYTES self.now.key self.now.nonce ad.now
-            (accepted (length dst.old) chunks.now) tag.now m
+            → OpensChunks S.VARIANT TAG_BYTES self.now ad.now (length dst.old) chunks.now
+            tag.now m
             → result.1 ≡ true }
         ensures only { (m : List ℕ)
-            → Opens S.VARIANT TAG_BYTES self.now.key self.now.nonce ad.now
-            (accepted (length dst.old) chunks.now) tag.now m
+            → OpensChunks S.VARIANT TAG_BYTES self.now ad.now (length dst.old) chunks.now
+            tag.now m
             → take result.0 dst.new ≡ m }
     {
         let mut run = Run::<S>::begin(&self.key, &self.nonce, ad);
@@ -337,15 +411,15 @@ impl<S: LaneState, V: Names, const KEY_BYTES: usize, const TAG_BYTES: usize> Cip
             → result.dst.now ≡ erased result.written result.dst.now }
         ensures rest { drop result.written result.dst.now ≡ drop result.written dst.old }
         ensures opened { result.accepted ≡ true
-            → Opens S.VARIANT TAG_BYTES self.now.key self.now.nonce ad.now
-            (accepted (length dst.old) chunks.now) tag.now (take result.written result.dst.now) }
+            → OpensChunks S.VARIANT TAG_BYTES self.now ad.now (length dst.old) chunks.now
+            tag.now (take result.written result.dst.now) }
         ensures accepted { (m : List ℕ)
-            → Opens S.VARIANT TAG_BYTES self.now.key self.now.nonce ad.now
-            (accepted (length dst.old) chunks.now) tag.now m
+            → OpensChunks S.VARIANT TAG_BYTES self.now ad.now (length dst.old) chunks.now
+            tag.now m
             → result.accepted ≡ true }
         ensures only { (m : List ℕ)
-            → Opens S.VARIANT TAG_BYTES self.now.key self.now.nonce ad.now
-            (accepted (length dst.old) chunks.now) tag.now m
+            → OpensChunks S.VARIANT TAG_BYTES self.now ad.now (length dst.old) chunks.now
+            tag.now m
             → take result.written result.dst.now ≡ m }
     {
         let (written, is_right) = self.open_chunks_unchecked(ad, chunks, tag, dst);
@@ -375,17 +449,17 @@ impl<S: LaneState, V: Names, const KEY_BYTES: usize, const TAG_BYTES: usize> Cip
             (λ w. w ++ drop (length (accepted (length dst.old) chunks.now)) dst.old)
             (erased (length (accepted (length dst.old) chunks.now)) dst.old)) }
         ensures cases { MatchResult result
-            (λ m. Opens S.VARIANT TAG_BYTES self.now.key self.now.nonce ad.now
-            (accepted (length dst.old) chunks.now) tag.now m.now)
+            (λ m. OpensChunks S.VARIANT TAG_BYTES self.now ad.now (length dst.old) chunks.now
+            tag.now m.now)
             (λ e. e ≡ Error.InvalidTag) }
         ensures place { IfOk result (λ m. m.ref_ptr ≡ dst.entry.ref_ptr) }
         ensures accepted { (m : List ℕ)
-            → Opens S.VARIANT TAG_BYTES self.now.key self.now.nonce ad.now
-            (accepted (length dst.old) chunks.now) tag.now m
+            → OpensChunks S.VARIANT TAG_BYTES self.now ad.now (length dst.old) chunks.now
+            tag.now m
             → IsOk result }
         ensures only { (m : List ℕ)
-            → Opens S.VARIANT TAG_BYTES self.now.key self.now.nonce ad.now
-            (accepted (length dst.old) chunks.now) tag.now m
+            → OpensChunks S.VARIANT TAG_BYTES self.now ad.now (length dst.old) chunks.now
+            tag.now m
             → IfOk result (λ opened. opened.now ≡ m) }
     {
         accepted_message(self.check_chunks(ad, chunks, tag, dst))
@@ -407,16 +481,16 @@ impl<S: LaneState, V: Names, const KEY_BYTES: usize, const TAG_BYTES: usize> Cip
         ensures length { OnOk result
             (result ≡ Ok (length (accepted (length dst.old) chunks.now))) }
         ensures opened { OnOk result
-            (Opens S.VARIANT TAG_BYTES self.now.key self.now.nonce ad.now
-            (accepted (length dst.old) chunks.now) tag.now
+            (OpensChunks S.VARIANT TAG_BYTES self.now ad.now (length dst.old) chunks.now
+            tag.now
             (take (length (accepted (length dst.old) chunks.now)) dst.new)) }
         ensures accepted { (m : List ℕ)
-            → Opens S.VARIANT TAG_BYTES self.now.key self.now.nonce ad.now
-            (accepted (length dst.old) chunks.now) tag.now m
+            → OpensChunks S.VARIANT TAG_BYTES self.now ad.now (length dst.old) chunks.now
+            tag.now m
             → IsOk result }
         ensures only { (m : List ℕ)
-            → Opens S.VARIANT TAG_BYTES self.now.key self.now.nonce ad.now
-            (accepted (length dst.old) chunks.now) tag.now m
+            → OpensChunks S.VARIANT TAG_BYTES self.now ad.now (length dst.old) chunks.now
+            tag.now m
             → take (length (accepted (length dst.old) chunks.now)) dst.new ≡ m }
         ensures rest { drop (length (accepted (length dst.old) chunks.now)) dst.new
             ≡ drop (length (accepted (length dst.old) chunks.now)) dst.old }

@@ -5,13 +5,13 @@ ghost use Rattle.aegis_base.specs.Chunks.{erased};
 ghost use Rattle.std.specs.Borrow.{Array, LendsIfOk, sem, u8};
 ghost use Rattle.aegis_base.specs.declared.error.TheConstants.{MAX_AEAD_BYTES};
 ghost use Rattle.aegis_base.specs.Message.{Opens, ciphertext, tag as tag_of};
+ghost use Rattle.aegis_base.specs.Variant.{module_name};
 ghost use Rattle.aegis_base.specs.Run.{Continues, Decrypts, IsAccepted, IsTagged, Stands};
 
 use crate::destination::{Checked, accepted_len, accepted_message, erase, erase_unless};
 use crate::run::Run;
-use aegis_base::{Error, LaneState, MAX_AEAD_BYTES, Names};
+use aegis_base::{Error, LaneState, MAX_AEAD_BYTES};
 use std::fmt;
-use std::marker::PhantomData;
 
 /// Opens a ciphertext in chunks of any lengths, into a destination that it borrows until the end of the message.
 ///
@@ -20,40 +20,35 @@ use std::marker::PhantomData;
 ///
 /// Contracts state the key, nonce, associated data and message so far that a decryptor stands for: the message is the
 /// front of the destination.
-pub struct Decryptor<'a, S: LaneState, V: Names, const TAG_BYTES: usize> {
+pub struct Decryptor<'a, S: LaneState, const TAG_BYTES: usize> {
     pub(crate) dst: &'a mut [u8],
     pub(crate) run: Run<S>,
-    pub(crate) variant: PhantomData<V>,
     ghost tag_bytes: { IsTrue (nat_eq TAG_BYTES 16 || nat_eq TAG_BYTES 32) },
     ghost within: { run.message_bytes ≤ length dst.now },
     ghost message_within: { run.message_bytes ≤ MAX_AEAD_BYTES },
 }
 
-impl<S: LaneState, V: Names, const TAG_BYTES: usize> Drop for Decryptor<'_, S, V, TAG_BYTES> {
+impl<S: LaneState, const TAG_BYTES: usize> Drop for Decryptor<'_, S, TAG_BYTES> {
     ghost use Rattle.aegis_engine.specs.Front.{written};
 
     fn drop(self)
         ensures { self.exit.0.now ≡ erased (written self.entry) self.entry.dst.now }
     {
-        let Decryptor {
-            dst,
-            run,
-            variant: _,
-        } = self;
+        let Decryptor { dst, run } = self;
         erase(dst, run.message_bytes() as usize);
     }
 }
 
-impl<S: LaneState, V: Names, const TAG_BYTES: usize> fmt::Debug for Decryptor<'_, S, V, TAG_BYTES> {
-    ghost debug_output = { λ _. Some (V.module_name ++ codes "::Decryptor { .. }") };
+impl<S: LaneState, const TAG_BYTES: usize> fmt::Debug for Decryptor<'_, S, TAG_BYTES> {
+    ghost debug_output = { λ _. Some (module_name S.VARIANT.family S.VARIANT.lanes ++ codes "::Decryptor { .. }") };
 
     fn fmt<W: fmt::Write>(&self, f: &mut fmt::Formatter<W>) -> fmt::Result {
-        f.write_str(V::module_name())?;
+        f.write_str(S::module_name())?;
         f.write_str("::Decryptor { .. }")
     }
 }
 
-impl<'a, S: LaneState, V: Names, const TAG_BYTES: usize> Decryptor<'a, S, V, TAG_BYTES> {
+impl<'a, S: LaneState, const TAG_BYTES: usize> Decryptor<'a, S, TAG_BYTES> {
     ghost use Rattle.aegis_engine.specs.Front.{front, holds, written};
 
     /// Opens the next chunk of the ciphertext, and writes it to the destination after the previous chunks.
@@ -104,11 +99,7 @@ impl<'a, S: LaneState, V: Names, const TAG_BYTES: usize> Decryptor<'a, S, V, TAG
         ensures accepted { IsAccepted S.VARIANT TAG_BYTES
             (holds self.entry) (front self.entry) tag.now (result.accepted ≡ true) }
     {
-        let Decryptor {
-            dst,
-            run,
-            variant: _,
-        } = self;
+        let Decryptor { dst, run } = self;
         let accepted = run.has_tag(tag);
         let written = run.message_bytes() as usize;
         erase_unless(dst, written, accepted);
@@ -155,11 +146,7 @@ impl<'a, S: LaneState, V: Names, const TAG_BYTES: usize> Decryptor<'a, S, V, TAG
             ≡ ciphertext S.VARIANT key nonce ad (front self.entry)
             → m ≡ front self.entry }
     {
-        let Decryptor {
-            dst,
-            run,
-            variant: _,
-        } = self;
+        let Decryptor { dst, run } = self;
         accepted_len(dst, run.message_bytes() as usize, run.has_tag(tag))
     }
 }

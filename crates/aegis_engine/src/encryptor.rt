@@ -2,25 +2,25 @@
 
 ghost use Rattle.std.specs.Prelude.{◌≡◌, ℕ, ◌+◌, ◌-◌, ◌<◌, ◌≤◌, ◌⊎◌, ◌++◌, List, [], Some, codes, length};
 ghost use Rattle.aegis_base.specs.Message.{tag};
+ghost use Rattle.aegis_base.specs.Variant.{module_name};
 ghost use Rattle.aegis_base.specs.Run.{Encrypts, Stands, Takes};
 
 use crate::pass::Pass;
 use crate::run::Run;
-use aegis_base::{LaneState, MAX_AEAD_BYTES, Names};
+use aegis_base::{LaneState, MAX_AEAD_BYTES};
 use std::fmt;
-use std::marker::{Model, PhantomData};
+use std::marker::Model;
 
 /// Seals a message in chunks of any lengths: one byte of ciphertext for each byte, and a tag at the end.
 ///
 /// `Cipher::encryptor` creates one. Contracts state the key, nonce, associated data and message so far that an
 /// encryptor stands for.
 #[derive(Drop)]
-pub struct Encryptor<S: LaneState, V: Names, const TAG_BYTES: usize> {
+pub struct Encryptor<S: LaneState, const TAG_BYTES: usize> {
     pub(crate) run: Run<S>,
-    pub(crate) variant: PhantomData<V>,
 }
 
-impl<S: LaneState, V: Names, const TAG_BYTES: usize> Model for Encryptor<S, V, TAG_BYTES> {
+impl<S: LaneState, const TAG_BYTES: usize> Model for Encryptor<S, TAG_BYTES> {
     ghost use Rattle.std.specs.Prelude.{◌≤◌};
     ghost use Rattle.aegis_base.specs.Lane.{IsTagLength};
     ghost use Rattle.aegis_base.specs.declared.error.TheConstants.{MAX_AEAD_BYTES};
@@ -34,18 +34,20 @@ impl<S: LaneState, V: Names, const TAG_BYTES: usize> Model for Encryptor<S, V, T
         × (e.run.message_bytes ≤ MAX_AEAD_BYTES) };
 }
 
-impl<S: LaneState, V: Names, const TAG_BYTES: usize> fmt::Debug for Encryptor<S, V, TAG_BYTES> {
-    ghost debug_output = { λ _. Some (V.module_name ++ codes "::Encryptor { .. }") };
+impl<S: LaneState, const TAG_BYTES: usize> fmt::Debug for Encryptor<S, TAG_BYTES> {
+    ghost debug_output = { λ _. Some (module_name S.VARIANT.family S.VARIANT.lanes ++ codes "::Encryptor { .. }") };
 
     fn fmt<W: fmt::Write>(&self, f: &mut fmt::Formatter<W>) -> fmt::Result {
-        f.write_str(V::module_name())?;
+        f.write_str(S::module_name())?;
         f.write_str("::Encryptor { .. }")
     }
 }
 
-impl<S: LaneState, V: Names, const TAG_BYTES: usize> Encryptor<S, V, TAG_BYTES> {
+impl<S: LaneState, const TAG_BYTES: usize> Encryptor<S, TAG_BYTES> {
     /// Seals the next chunk in place: `buffer` is the chunk before the call and its ciphertext after it. The chunk must
     /// have at most `remaining` bytes.
+    // Inlined into the loop of the caller: out of line, sealing by AEGIS-256 was 8 per cent slower.
+    #[inline(always)]
     pub fn update_in_place(&mut self, buffer: &mut [u8])
         requires { self.old.message_bytes + length buffer.old ≤ MAX_AEAD_BYTES }
         ensures taken { Takes S.VARIANT self.old self.new buffer.old }

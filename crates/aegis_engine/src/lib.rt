@@ -17,7 +17,7 @@ mod run;
 mod saved;
 mod tag;
 
-pub use cipher::{Cipher, ERASED};
+pub use cipher::{Cipher, ERASED, Once, Reusable};
 pub use decryptor::Decryptor;
 pub use encryptor::Encryptor;
 pub use mac::{Mac, mac_at_once};

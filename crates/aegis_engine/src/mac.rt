@@ -2,7 +2,7 @@
 
 ghost use Rattle.std.specs.Prelude.{◌≡◌, ⊤, ℕ, ◌+◌, ◌-◌, ◌^◌, ◌<◌, ◌≤◌, ◌++◌, IfErr, IsOk, List, OnOk, Some, [], codes, length, replicate};
 ghost use Rattle.aegis_base.specs.Chunks.{joined};
-ghost use Rattle.aegis_base.specs.Variant.{key_length};
+ghost use Rattle.aegis_base.specs.Variant.{cipher_name, key_length};
 ghost use Rattle.aegis_base.specs.Lane.{IsTagLength, start};
 ghost use Rattle.aegis_base.specs.Mac.{mac, mac_input, mac_tag};
 ghost use Rattle.aegis_base.specs.Message.{after_all};
@@ -11,23 +11,22 @@ ghost use Rattle.aegis_base.specs.Run.{Stands, Takes};
 use crate::pass::ZEROS;
 use crate::run::Run;
 use crate::tag::{folded_tag, same_bytes};
-use aegis_base::{Error, LaneState, MAX_AEAD_BYTES, Names};
+use aegis_base::{Error, LaneState, MAX_AEAD_BYTES};
 use std::alloc::AllocError;
 use std::fmt;
-use std::marker::{Model, PhantomData};
+use std::marker::Model;
 
 /// A MAC of `TAG_BYTES` bytes, 16 or 32, of an input that is taken in by pieces of any lengths.
 ///
 /// The input must have at most [`MAX_AEAD_BYTES`]. Contracts state the key, nonce and input so far that a MAC stands
 /// for. No call allocates memory.
 #[derive(Drop)]
-pub struct Mac<S: LaneState, V: Names, const KEY_BYTES: usize, const TAG_BYTES: usize> {
+pub struct Mac<S: LaneState, const KEY_BYTES: usize, const TAG_BYTES: usize> {
     run: Run<S>,
-    variant: PhantomData<V>,
 }
 
-impl<S: LaneState, V: Names, const KEY_BYTES: usize, const TAG_BYTES: usize> Model
-    for Mac<S, V, KEY_BYTES, TAG_BYTES> {
+impl<S: LaneState, const KEY_BYTES: usize, const TAG_BYTES: usize> Model
+    for Mac<S, KEY_BYTES, TAG_BYTES> {
     ghost use Rattle.std.specs.Prelude.{◌≤◌};
     ghost use Rattle.aegis_base.specs.Lane.{IsTagLength};
     ghost use Rattle.aegis_base.specs.declared.error.TheConstants.{MAX_AEAD_BYTES};
@@ -41,8 +40,8 @@ impl<S: LaneState, V: Names, const KEY_BYTES: usize, const TAG_BYTES: usize> Mod
         × (m.run.message_bytes ≤ MAX_AEAD_BYTES) };
 }
 
-impl<S: LaneState, V: Names, const KEY_BYTES: usize, const TAG_BYTES: usize> Clone
-    for Mac<S, V, KEY_BYTES, TAG_BYTES> {
+impl<S: LaneState, const KEY_BYTES: usize, const TAG_BYTES: usize> Clone
+    for Mac<S, KEY_BYTES, TAG_BYTES> {
     ghost is_clone = { λ x y. y ≡ x };
 
     ghost is_infallible = { λ _. ⊤ };
@@ -50,17 +49,16 @@ impl<S: LaneState, V: Names, const KEY_BYTES: usize, const TAG_BYTES: usize> Clo
     fn clone(&self) -> Result<Self, AllocError> {
         Ok(Mac {
             run: self.run.copied(),
-            variant: PhantomData,
         })
     }
 }
 
-impl<S: LaneState, V: Names, const KEY_BYTES: usize, const TAG_BYTES: usize> fmt::Debug
-    for Mac<S, V, KEY_BYTES, TAG_BYTES> {
-    ghost debug_output = { λ _. Some (V.cipher_name ++ codes "Mac { .. }") };
+impl<S: LaneState, const KEY_BYTES: usize, const TAG_BYTES: usize> fmt::Debug
+    for Mac<S, KEY_BYTES, TAG_BYTES> {
+    ghost debug_output = { λ _. Some (cipher_name S.VARIANT.family S.VARIANT.lanes ++ codes "Mac { .. }") };
 
     fn fmt<W: fmt::Write>(&self, f: &mut fmt::Formatter<W>) -> fmt::Result {
-        f.write_str(V::cipher_name())?;
+        f.write_str(S::cipher_name())?;
         f.write_str("Mac { .. }")
     }
 }
@@ -117,12 +115,7 @@ pub fn mac_at_once<S: LaneState, const TAG_BYTES: usize>(
     run.mac()
 }
 
-impl<S: LaneState, V: Names, const KEY_BYTES: usize, const TAG_BYTES: usize> Mac<
-    S,
-    V,
-    KEY_BYTES,
-    TAG_BYTES,
-> {
+impl<S: LaneState, const KEY_BYTES: usize, const TAG_BYTES: usize> Mac<S, KEY_BYTES, TAG_BYTES> {
     /// Creates a MAC under a key, with a nonce of zeros. `TAG_BYTES` must be 16 or 32.
     pub fn new(key: &[u8; KEY_BYTES]) -> Self
         requires key_bytes { KEY_BYTES ≡ key_length S.VARIANT.family }
@@ -142,7 +135,6 @@ impl<S: LaneState, V: Names, const KEY_BYTES: usize, const TAG_BYTES: usize> Mac
     {
         Mac {
             run: Run::begin(key, nonce, &[]),
-            variant: PhantomData,
         }
     }
 

@@ -5,6 +5,7 @@
 //! state the key, nonce, associated data and message so far that it stands for.
 
 ghost use Rattle.std.specs.Prelude.{◌≡◌, ℕ, ◌+◌, ◌-◌, ◌*◌, ◌%◌, ◌/◌, ◌^◌, ◌<◌, ◌≤◌, ◌⊎◌, ◌++◌, ◌↔◌, [], bit_xor, length, List, slice_index, true};
+ghost use Rattle.aegis_base.specs.Chunks.{joined};
 ghost use Rattle.aegis_base.specs.Lane.{IsTagLength};
 ghost use Rattle.aegis_base.specs.Message.{Opens, after_all, block_count, ciphertext, keystream_byte_along, lane_before, lane_end, tag as tag_of};
 ghost use Rattle.aegis_base.specs.Run.{Encrypts, HasFrom, IsAccepted, IsAlong, IsTagged, Stands, Takes, held_by};
@@ -135,26 +136,28 @@ pub fn pass_bytes<S: LaneState>(
     state
 }
 
-// The lanes after their start and associated data. Out of line, it is there once for all calls; a run that begins in its
-// caller has a count that is known to be 0 there.
+// The lanes after their start and the pieces of the associated data, and how many bytes these have. Out of line, it is
+// there once for all calls; a run that begins in its caller has a count that is known to be 0 there.
 #[inline(never)]
-fn begun<S: LaneState>(key: &[u8], nonce: &[u8], ad: &[u8]) -> S
+fn begun<S: LaneState>(key: &[u8], nonce: &[u8], ad: &[&[u8]]) -> (S, u64)
     requires key_length { length key.now ≡ key_length S.VARIANT.family }
     requires nonce_length { length nonce.now ≡ key_length S.VARIANT.family }
-    requires associated_data_within { length ad.now ≤ MAX_AEAD_BYTES }
+    requires associated_data_within { length (joined ad.now) ≤ MAX_AEAD_BYTES }
     ensures lanes { (j : ℕ) → j < S.VARIANT.lanes
-        → S.lane result j ≡ lane_before S.VARIANT key.now nonce.now ad.now j }
-    ensures updates { S.updates result ≡ block_count S.VARIANT (length ad.now) }
+        → S.lane result.0 j ≡ lane_before S.VARIANT key.now nonce.now (joined ad.now) j }
+    ensures updates { S.updates result.0 ≡ block_count S.VARIANT (length (joined ad.now)) }
+    ensures data_bytes { result.1 ≡ length (joined ad.now) }
 {
-    let mut block = ZEROS;
-    let state = absorb_bytes(S::new(key, nonce), &mut block, 0, ad);
-    let run = Run {
-        state,
-        block,
+    let mut run = Run {
+        state: S::new(key, nonce),
+        block: ZEROS,
         data_bytes: 0,
-        message_bytes: ad.len() as u64,
+        message_bytes: 0,
     };
-    run.padded()
+    for piece in ad {
+        run.absorb(piece);
+    }
+    (run.padded(), run.message_bytes)
 }
 
 impl<S: LaneState> Run<S> {
@@ -169,10 +172,25 @@ impl<S: LaneState> Run<S> {
         ensures data_bytes { result.data_bytes ≡ length ad.now }
         ensures message_bytes { result.message_bytes ≡ 0 }
     {
+        Run::begin_with(key, nonce, &[ad])
+    }
+
+    /// Begins a run whose associated data comes in pieces.
+    #[inline(always)]
+    pub fn begin_with(key: &[u8], nonce: &[u8], ad: &[&[u8]]) -> Self
+        requires key_length { length key.now ≡ key_length S.VARIANT.family }
+        requires nonce_length { length nonce.now ≡ key_length S.VARIANT.family }
+        requires associated_data_within { length (joined ad.now) ≤ MAX_AEAD_BYTES }
+        ensures stands { Stands S.VARIANT result key.now nonce.now (joined ad.now) [] }
+        ensures empty { ciphertext S.VARIANT key.now nonce.now (joined ad.now) [] ≡ [] }
+        ensures data_bytes { result.data_bytes ≡ length (joined ad.now) }
+        ensures message_bytes { result.message_bytes ≡ 0 }
+    {
+        let (state, data_bytes) = begun(key, nonce, ad);
         Run {
-            state: begun(key, nonce, ad),
+            state,
             block: ZEROS,
-            data_bytes: ad.len() as u64,
+            data_bytes,
             message_bytes: 0,
         }
     }

@@ -139,9 +139,9 @@ impl SavedRun {
         self.keep(state);
     }
 
-    /// Seals the next bytes of the message in place. Together with those before, there must be at most
+    /// Encrypts the next bytes of the message in place. Together with those before, there must be at most
     /// [`MAX_AEAD_BYTES`].
-    pub fn seal<S: SavedLanes>(&mut self, mc: &mut [u8])
+    pub fn encrypt_in_place<S: SavedLanes>(&mut self, mc: &mut [u8])
         requires associated_data_within { self.old.data_bytes ≤ MAX_AEAD_BYTES }
         requires message_within { self.old.message_bytes + length mc.old ≤ MAX_AEAD_BYTES }
         ensures taken { HasTaken S.VARIANT self.old self.new mc.old }
@@ -150,8 +150,9 @@ impl SavedRun {
         self.pass::<S>(Pass::Seal, mc);
     }
 
-    /// Opens the next bytes of the ciphertext in place, before the tag is known. The limit is that of `seal`.
-    pub fn open<S: SavedLanes>(&mut self, mc: &mut [u8])
+    /// Decrypts the next bytes of the ciphertext in place, before the tag is known. The limit is that of
+    /// `encrypt_in_place`.
+    pub fn decrypt_in_place_unverified<S: SavedLanes>(&mut self, mc: &mut [u8])
         requires associated_data_within { self.old.data_bytes ≤ MAX_AEAD_BYTES }
         requires message_within { self.old.message_bytes + length mc.old ≤ MAX_AEAD_BYTES }
         ensures taken { HasTaken S.VARIANT self.old self.new mc.new }
@@ -162,7 +163,7 @@ impl SavedRun {
         self.pass::<S>(Pass::Open, mc);
     }
 
-    // Takes in a piece of the ciphertext, which is opened in a copy.
+    // Takes in a piece of the ciphertext, which is decrypted in a copy.
     fn check_piece<S: SavedLanes>(&mut self, piece: &[u8])
         requires short { length piece.now ≤ COPY_BYTES }
         requires associated_data_within { self.old.data_bytes ≤ MAX_AEAD_BYTES }
@@ -174,11 +175,12 @@ impl SavedRun {
         let mut copy = [0; COPY_BYTES];
         let part = &mut copy[..piece.len()];
         part.copy_from_slice(piece);
-        self.open::<S>(part);
+        self.decrypt_in_place_unverified::<S>(part);
     }
 
-    /// Takes in the next bytes of the ciphertext, without writing the message. The limit is that of `seal`.
-    pub fn check<S: SavedLanes>(&mut self, c: &[u8])
+    /// Takes in the next bytes of the ciphertext, without writing the message. The limit is that of
+    /// `encrypt_in_place`.
+    pub fn decrypt_check<S: SavedLanes>(&mut self, c: &[u8])
         requires associated_data_within { self.old.data_bytes ≤ MAX_AEAD_BYTES }
         requires message_within { self.old.message_bytes + length c.now ≤ MAX_AEAD_BYTES }
         ensures { HasChecked S.VARIANT self.old self.new c.now }
@@ -188,7 +190,7 @@ impl SavedRun {
         }
     }
 
-    /// Takes in the next bytes of the input of a MAC. The limit is that of `seal`.
+    /// Takes in the next bytes of the input of a MAC. The limit is that of `encrypt_in_place`.
     pub fn absorb<S: SavedLanes>(&mut self, input: &[u8])
         requires associated_data_within { self.old.data_bytes ≤ MAX_AEAD_BYTES }
         requires message_within { self.old.message_bytes + length input.now ≤ MAX_AEAD_BYTES }

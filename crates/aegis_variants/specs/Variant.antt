@@ -1,5 +1,5 @@
 -- The names of variants, and the lengths of keys, rate blocks and tags.
-use Rattle.std.specs.Prelude.{ℕ, List, codes}
+use Rattle.std.specs.Prelude.{ℕ, List}
 use Rattle.aegis_base.specs.Variant as base
 use Rattle.aegis_variants.specs.declared.variant.AnyVariant.{AnyVariant}
 use Rattle.aegis_variants.specs.declared.variant.AnyVariant.TheVariants as variants
@@ -15,18 +15,13 @@ standard_of variants.Aegis256 = base.Aegis256
 standard_of variants.Aegis256X2 = base.Aegis256X2
 standard_of variants.Aegis256X4 = base.Aegis256X4
 
--- the name of a variant's module
-abbrev pub name_of : AnyVariant → List ℕ
-name_of variants.Aegis128L = codes "aegis128l"
-name_of variants.Aegis128X2 = codes "aegis128x2"
-name_of variants.Aegis128X4 = codes "aegis128x4"
-name_of variants.Aegis256 = codes "aegis256"
-name_of variants.Aegis256X2 = codes "aegis256x2"
-name_of variants.Aegis256X4 = codes "aegis256x4"
-
 -- the family of a variant
 abbrev pub family_of : AnyVariant → base.Family
 family_of variant = (standard_of variant).family
+
+-- the name of a variant's module
+abbrev pub name_of : AnyVariant → List ℕ
+name_of variant = base.module_name (family_of variant) (standard_of variant).lanes
 
 -- the length of a variant's key and of its nonce, in bytes
 abbrev pub key_length_of : AnyVariant → ℕ

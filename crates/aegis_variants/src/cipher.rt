@@ -117,8 +117,8 @@ macro_rules! with_mac {
 }
 
 // Opens chunks into a destination that is as long as all of them together.
-fn open_whole<S: LaneState, V: aegis_base::Names, const KEY_BYTES: usize, const TAG_BYTES: usize>(
-    cipher: &aegis::Cipher<S, V, KEY_BYTES, TAG_BYTES>,
+fn open_whole<S: LaneState, U, const KEY_BYTES: usize, const TAG_BYTES: usize>(
+    cipher: &aegis::Cipher<S, U, KEY_BYTES, TAG_BYTES>,
     associated_data: &[u8],
     chunks: &[&[u8]],
     tag: &[u8; TAG_BYTES],

@@ -3,7 +3,7 @@
 ghost use Rattle.std.specs.Prelude.{◌≡◌, ◌≤◌, length};
 
 use aegis::{Decryptor, Encryptor, Error};
-use aegis_base::{LaneState, Names};
+use aegis_base::LaneState;
 use aegis_variants::{AnyCipher, with_cipher};
 use std::alloc::Allocator;
 use test_tools::calls;
@@ -61,8 +61,8 @@ fn seal_in_chunks(cipher: &AnyCipher, message: &[u8], out: &mut [u8]) -> [u8; 16
     with_cipher!(cipher, 16, cipher => seal_each(cipher.encryptor(&[]), message, out))
 }
 
-fn seal_each<S: LaneState, V: Names, const TAG_BYTES: usize>(
-    encryptor: Encryptor<S, V, TAG_BYTES>,
+fn seal_each<S: LaneState, const TAG_BYTES: usize>(
+    encryptor: Encryptor<S, TAG_BYTES>,
     message: &[u8],
     out: &mut [u8],
 ) -> [u8; TAG_BYTES] {
@@ -101,8 +101,8 @@ fn open_in_chunks(cipher: &AnyCipher, ciphertext: &[u8], tag: &[u8; 16], out: &m
     })
 }
 
-fn open_each<'a, S: LaneState, V: Names, const TAG_BYTES: usize>(
-    decryptor: Decryptor<'a, S, V, TAG_BYTES>,
+fn open_each<'a, S: LaneState, const TAG_BYTES: usize>(
+    decryptor: Decryptor<'a, S, TAG_BYTES>,
     ciphertext: &[u8],
     tag: &[u8; TAG_BYTES],
 ) -> Result<&'a mut [u8], Error> {

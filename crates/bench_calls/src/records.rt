@@ -130,7 +130,7 @@ fn turn_at_once<R: Runtime, A: Allocator + Copy>(
 
 // Seals the pieces of a message as records, each in place of the one before. Returns `None` if memory runs out.
 fn seal_pieces<A: Allocator + Copy>(
-    sealer: &mut RecordSealer<A>,
+    sealer: &mut RecordSealer,
     record: &mut Vec<u8, A>,
     message: &[u8],
 ) -> Option<()> {
@@ -148,7 +148,7 @@ fn seal_pieces<A: Allocator + Copy>(
 // Seals a message a record at a time, in a vector that holds one record. Returns `None` if memory runs out.
 fn seal_by_steps<A: Allocator + Copy>(alloc: A, message: &[u8]) -> Option<()> {
     let mut record = Vec::with_capacity(alloc, PIECE_BYTES + RECORD_BYTES as usize).ok()?;
-    let mut sealer = RecordSealer::new(alloc, &KEY, &PREFIX, &[], &mut record).ok()?;
+    let mut sealer = RecordSealer::new(&KEY, &PREFIX, &[], &mut record).ok()?;
     seal_pieces(&mut sealer, &mut record, message)?;
     if sealer.remaining() < RECORD_BYTES {
         return None;
@@ -162,13 +162,13 @@ fn open_by_steps<A: Allocator + Copy>(alloc: A, stream: &[u8]) -> Option<usize> 
         return None;
     }
     let (header, mut rest) = stream.split_at(4);
-    let mut opener = RecordOpener::new(alloc, &KEY, &PREFIX, &[], header).ok()?;
+    let mut opener = RecordOpener::new(&KEY, &PREFIX, &[], header).ok()?;
     let mut bytes: usize = 0;
     for _ in 0..stream.len() {
         if opener.remaining() < rest.len() as u64 {
             return None;
         }
-        let opened = opener.open_next(rest).ok()?;
+        let opened = opener.open_next(alloc, rest).ok()?;
         bytes = bytes.saturating_add(opened.message.len());
         rest = opened.rest;
         if opened.is_last {

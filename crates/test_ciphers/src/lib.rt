@@ -1,5 +1,4 @@
-//! Tests of the crate `aegis`, and of the round. They are one crate, so that each call of a variant is compiled and
-//! linked only once.
+//! Tests of the ciphers. They are one crate, so that each call of a variant is compiled and linked only once.
 #![tactic(auto)]
 
 #[cfg(test)]

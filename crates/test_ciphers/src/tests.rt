@@ -3,9 +3,6 @@
 mod chunks;
 mod hostile;
 mod one_shot;
-mod records;
-mod rounds;
-mod rows;
 
 use aegis::Error;
 use std::fmt::Debug;

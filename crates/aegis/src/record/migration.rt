@@ -52,11 +52,11 @@ pub fn migrate<A: Allocator + Copy>(
         number: 0,
         before: 0,
     };
-    let mut opener = RecordOpener::begin_at(alloc, key, old_prefix, context, first)?;
+    let mut opener = RecordOpener::begin_at(key, old_prefix, context, first);
     let mut stream = Vec::with_capacity(alloc, bytes.len())?;
-    let mut sealer = RecordSealer::new(alloc, key, new_prefix, context, &mut stream)?;
+    let mut sealer = RecordSealer::new(key, new_prefix, context, &mut stream)?;
     'records: loop {
-        let opened = opener.open_next(rest)?;
+        let opened = opener.open_next(alloc, rest)?;
         if opened.is_last {
             if !opened.rest.is_empty() {
                 return Err(RecordError::Trailing);

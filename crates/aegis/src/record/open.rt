@@ -1,6 +1,6 @@
 //! Opening a stream.
 
-ghost use Rattle.std.specs.Prelude.{◌≡◌, ◌≢◌, ◌≤◌, ◌⊎◌, ◌++◌, IfErr, IfNone, IfOk, IfSome, List, length, take, vec_capacity, ℕ};
+ghost use Rattle.std.specs.Prelude.{◌≡◌, ◌≢◌, ◌≤◌, ◌⊎◌, ◌++◌, IfErr, IfNone, IfOk, IfSome, List, length, take, ℕ};
 ghost use Rattle.aegis.specs.Calls.{IsRecord, IsRefused, OpensTo, messages, sealing_of};
 ghost use Rattle.aegis.specs.Fault.{HasFault, parts};
 ghost use Rattle.aegis.specs.Records.{AreRecords, IsFault};
@@ -9,7 +9,7 @@ ghost use Rattle.aegis.specs.RecordStream.{header};
 use crate::aegis256::Key;
 use crate::record::error::RecordError;
 use crate::record::frame::Frame;
-use crate::record::record_cipher::{DATA_BYTES, MAX_CONTEXT_BYTES, RecordCipher, RecordPlace};
+use crate::record::record_cipher::{MAX_CONTEXT_BYTES, RecordCipher, RecordPlace};
 use crate::record::version::Version;
 use std::alloc::Allocator;
 
@@ -34,7 +34,6 @@ pub(crate) fn version_of(bytes: &[u8]) -> Option<(Version, &[u8])>
 // Opens the record that the bytes begin with. Returns its parts and its message.
 pub(crate) fn open_record<'a, A: Allocator>(
     alloc: A,
-    ad: &mut Vec<u8, A>,
     cipher: &RecordCipher<'_>,
     version: Version,
     number: u64,
@@ -47,7 +46,6 @@ pub(crate) fn open_record<'a, A: Allocator>(
         found.0.rest.now bytes.now) }
     ensures refused { IfErr result (λ e. (e ≡ RecordError.OutOfMemory)
         ⊎ HasFault (sealing_of cipher.now) version number before (parts version bytes.now) e) }
-    ensures capacity { vec_capacity ad.old ≤ vec_capacity ad.new }
 {
     let frame = Frame::read(version, bytes)?;
     let place = RecordPlace {
@@ -56,7 +54,7 @@ pub(crate) fn open_record<'a, A: Allocator>(
         before,
         flag: frame.flag,
     };
-    let message = cipher.open(alloc, ad, place, frame.sealed)?;
+    let message = cipher.open(alloc, place, frame.sealed)?;
     Ok((frame, message))
 }
 
@@ -77,13 +75,11 @@ fn open_each<A: Allocator + Copy>(
     let Some((version, mut rest)) = version_of(bytes) else {
         return Err(RecordError::Header);
     };
-    let mut ad = Vec::with_capacity(alloc, DATA_BYTES + cipher.context.len())?;
     let mut found = Vec::new(alloc);
     let mut before: u64 = 0;
     'records: loop {
         let (frame, message) = open_record(
             alloc,
-            &mut ad,
             cipher,
             version,
             found.len() as u64,
@@ -108,8 +104,7 @@ fn open_each<A: Allocator + Copy>(
 /// bytes, read from the front; [`RecordError::Damaged`] has the number of a record that no message is sealed to. After an error
 /// no message is returned, not even those of the records before the fault.
 ///
-/// The context has at most [`MAX_CONTEXT_BYTES`]. Memory is taken for the messages, a vector each, for the list of them, and
-/// once for the associated data.
+/// The context has at most [`MAX_CONTEXT_BYTES`]. Memory is taken for the messages, a vector each, and for the list of them.
 pub fn open_records<A: Allocator + Copy>(
     alloc: A,
     key: &Key,

@@ -1,11 +1,13 @@
 //! The cipher of a stream's records.
 
-ghost use Rattle.std.specs.Prelude.{◌≡◌, ◌≢◌, ◌-◌, ◌≤◌, ◌⊎◌, ◌+◌, ◌++◌, ◌∷◌, IfErr, IfOk, IsOk, List, OnErr, OnOk, drop, length, replicate, take, vec_capacity, ℕ};
-ghost use Rattle.std.specs.Int.{to_le_bytes, w32};
+ghost use Rattle.std.specs.Prelude.{◌≡◌, ◌≢◌, ◌-◌, ◌≤◌, ◌⊎◌, ◌+◌, ◌++◌, ◌∷◌, [], IfErr, IfOk, List, OnErr, OnOk, drop, length, replicate, take, ℕ};
+ghost use Rattle.std.specs.Int.{to_le_bytes, w32, w64};
+ghost use Rattle.aegis_base.specs.Chunks.{joined};
 ghost use Rattle.aegis_engine.specs.declared.cipher.TheConstants.{ERASED};
 ghost use Rattle.aegis.specs.Calls.{sealed_at};
 ghost use Rattle.aegis.specs.Records.{associated_data, nonce};
-ghost use Rattle.aegis.specs.RecordStream.{limit};
+ghost use Rattle.aegis.specs.RecordStream.{header, limit};
+ghost use Rattle.aegis.specs.declared.record.version.Version.TheVariants.{First, Second};
 
 use crate::aegis256::{Aegis256, Error, Key, Nonce};
 use crate::record::error::RecordError;
@@ -16,9 +18,6 @@ use std::alloc::Allocator;
 
 /// How many bytes the context of a stream may have.
 pub const MAX_CONTEXT_BYTES: usize = 65_535;
-
-/// How many bytes the associated data has at most, but for the context: a header, a number, a sum of lengths and a flag.
-pub const DATA_BYTES: usize = 4 + 8 + 8 + 1;
 
 // A message is copied and sealed in updates of this many bytes: so few that a copy waits for memory while rounds run. Of the
 // lengths from 128 to 65536 it is the fastest for AEGIS-256.
@@ -63,37 +62,78 @@ impl RecordPlace {
         let [a, b, c, d] = (message_len as u32).to_le_bytes();
         [self.flag, a, b, c, d]
     }
+}
 
-    // Replaces the bytes of `ad` by the associated data of the record. Memory is taken only if `ad` has too little room.
-    fn write_data<A: Allocator>(
-        self,
-        ad: &mut Vec<u8, A>,
-        context: &[u8],
-    ) -> Result<(), RecordError>
-        ensures ok { OnOk result (ad.new.items
-            ≡ associated_data self.version self.number self.before self.flag context.now) }
-        ensures err { IfErr result (λ e. e ≡ RecordError.OutOfMemory) }
-        ensures capacity { vec_capacity ad.old ≤ vec_capacity ad.new }
-        ensures succeeds { DATA_BYTES + length context.now ≤ vec_capacity ad.old → IsOk result }
+// The numbers of a record as the bytes of its associated data.
+#[derive(Drop)]
+struct PlaceBytes {
+    place: RecordPlace,
+    number: [u8; 8],
+    before: [u8; 8],
+    flag: [u8; 1],
+    ghost number_is: { number ≡ to_le_bytes w64 place.number },
+    ghost before_is: { before ≡ to_le_bytes w64 place.before },
+    ghost flag_is: { flag ≡ place.flag ∷ [] },
+}
+
+impl PlaceBytes {
+    fn new(place: RecordPlace) -> PlaceBytes
+        ensures { result.place ≡ place }
     {
-        ad.clear();
-        ad.extend_from_slice(self.version.header())?;
-        ad.extend_from_slice(&self.number.to_le_bytes())?;
-        if let Version::Second = self.version {
-            ad.extend_from_slice(&self.before.to_le_bytes())?;
+        PlaceBytes {
+            place,
+            number: place.number.to_le_bytes(),
+            before: place.before.to_le_bytes(),
+            flag: [place.flag],
         }
-        ad.push(self.flag)?;
-        ad.extend_from_slice(context)?;
-        Ok(())
+    }
+
+    // What the stream begins with.
+    fn header(&self) -> &[u8]
+        ensures { result.now ≡ header self.now.place.version }
+    {
+        self.place.version.header()
+    }
+
+    // How many bytes the messages before it have, which the second version authenticates.
+    fn before(&self) -> &[u8]
+        ensures first { self.now.place.version ≡ First → result.now ≡ [] }
+        ensures second { self.now.place.version ≡ Second
+            → result.now ≡ to_le_bytes w64 self.now.place.before }
+    {
+        match self.place.version {
+            Version::First => &self.before[..0],
+            Version::Second => self.before.as_slice(),
+        }
+    }
+
+    // The associated data of the record, in pieces.
+    fn pieces<'b>(&'b self, context: &'b [u8]) -> [&'b [u8]; 5]
+        ensures are { joined result ≡ associated_data self.now.place.version
+            self.now.place.number self.now.place.before self.now.place.flag context.now }
+        ensures short { length (joined result) ≤ 21 + length context.now }
+    {
+        let header = self.header();
+        let number = self.number.as_slice();
+        let before = self.before();
+        let flag = self.flag.as_slice();
+        [header, number, before, flag, context]
     }
 }
 
 impl RecordCipher<'_> {
-    /// Appends the ciphertext and the tag of a record to a stream. `ad` is overwritten, and keeps its room.
+    // The cipher of a record.
+    fn cipher(&self, place: RecordPlace) -> Aegis256<TAG_BYTES>
+        ensures key { result.key ≡ self.now.key.now }
+        ensures nonce { result.nonce ≡ nonce self.now.prefix.now place.number }
+    {
+        Aegis256::new(self.key, &nonce(self.prefix, place.number))
+    }
+
+    /// Appends the ciphertext and the tag of a record to a stream.
     pub fn seal<A: Allocator>(
         &self,
         out: &mut Vec<u8, A>,
-        ad: &mut Vec<u8, A>,
         place: RecordPlace,
         message: &[u8],
     ) -> Result<(), RecordError>
@@ -104,11 +144,10 @@ impl RecordCipher<'_> {
         ensures err { IfErr result (λ e. e ≡ RecordError.OutOfMemory) }
         ensures kept { OnErr result
             ((part : List ℕ) × (out.new.items ≡ out.old.items ++ part)) }
-        ensures capacity { vec_capacity ad.old ≤ vec_capacity ad.new }
     {
-        place.write_data(ad, self.context)?;
-        let cipher = Aegis256::<TAG_BYTES>::new(self.key, &nonce(self.prefix, place.number));
-        let mut encryptor = cipher.encryptor(ad);
+        let bytes = PlaceBytes::new(place);
+        let pieces = bytes.pieces(self.context);
+        let mut encryptor = self.cipher(place).encryptor_with(&pieces);
         for piece in message.chunks(UPDATE_BYTES) {
             let start = out.len();
             out.extend_from_slice(piece)?;
@@ -119,32 +158,23 @@ impl RecordCipher<'_> {
     }
 
     /// Seals a message in place: `sealed` has the message and then 32 bytes, over which its ciphertext and its tag are written.
-    /// `ad` is overwritten, and has room for the associated data.
-    pub fn seal_in_place<A: Allocator>(
-        &self,
-        ad: &mut Vec<u8, A>,
-        place: RecordPlace,
-        sealed: &mut [u8],
-    )
+    pub fn seal_in_place(&self, place: RecordPlace, sealed: &mut [u8])
         requires context { length self.now.context.now ≤ MAX_CONTEXT_BYTES }
-        requires room { DATA_BYTES + length self.now.context.now ≤ vec_capacity ad.old }
         requires long { 32 ≤ length sealed.old }
         requires within { length sealed.old ≤ limit place.version + 32 }
-        ensures sealed { sealed.new
+        ensures { sealed.new
             ≡ sealed_at self.now place (take (length sealed.old - 32) sealed.old) }
-        ensures capacity { vec_capacity ad.old ≤ vec_capacity ad.new }
     {
-        place.write_data(ad, self.context).unwrap();
-        let cipher = Aegis256::<TAG_BYTES>::new(self.key, &nonce(self.prefix, place.number));
+        let bytes = PlaceBytes::new(place);
+        let pieces = bytes.pieces(self.context);
         let (message, tag) = sealed.split_last_chunk_mut::<TAG_BYTES>().unwrap();
-        *tag = cipher.encrypt_in_place(message, ad);
+        *tag = self.cipher(place).encrypt_in_place_with(message, &pieces);
     }
 
-    /// Returns the message that is sealed to the bytes of a record, ciphertext and tag, in a fresh vector. `ad` is overwritten.
+    /// Returns the message that is sealed to the bytes of a record, ciphertext and tag, in a fresh vector.
     pub fn open<A: Allocator>(
         &self,
         alloc: A,
-        ad: &mut Vec<u8, A>,
         place: RecordPlace,
         sealed: &[u8],
     ) -> Result<Vec<u8, A>, RecordError>
@@ -155,12 +185,14 @@ impl RecordCipher<'_> {
         ensures refused { IfErr result (λ e. (e ≡ RecordError.OutOfMemory)
             ⊎ (((m : List ℕ) → sealed_at self.now place m ≢ sealed.now)
             × (e ≡ RecordError.Damaged place.number))) }
-        ensures capacity { vec_capacity ad.old ≤ vec_capacity ad.new }
     {
+        let bytes = PlaceBytes::new(place);
+        let pieces = bytes.pieces(self.context);
         let (ciphertext, tag) = sealed.split_last_chunk::<TAG_BYTES>().unwrap();
-        place.write_data(ad, self.context)?;
-        let cipher = Aegis256::<TAG_BYTES>::new(self.key, &nonce(self.prefix, place.number));
-        match cipher.decrypt(alloc, ciphertext, tag, ad) {
+        match self
+            .cipher(place)
+            .decrypt_with(alloc, ciphertext, tag, &pieces)
+        {
             Ok(message) => Ok(message),
             Err(Error::InvalidTag) => Err(RecordError::Damaged(place.number)),
             Err(_) => Err(RecordError::OutOfMemory),
@@ -168,15 +200,9 @@ impl RecordCipher<'_> {
     }
 
     /// Opens the bytes of a record, ciphertext and tag, in place: the message is written over the ciphertext, or
-    /// [`ERASED`](crate::ERASED) bytes if no message is sealed to these. `ad` is overwritten, and has room for the associated data.
-    pub fn open_in_place<A: Allocator>(
-        &self,
-        ad: &mut Vec<u8, A>,
-        place: RecordPlace,
-        sealed: &mut [u8],
-    ) -> Result<(), RecordError>
+    /// [`ERASED`](crate::ERASED) bytes if no message is sealed to these.
+    pub fn open_in_place(&self, place: RecordPlace, sealed: &mut [u8]) -> Result<(), RecordError>
         requires context { length self.now.context.now ≤ MAX_CONTEXT_BYTES }
-        requires room { DATA_BYTES + length self.now.context.now ≤ vec_capacity ad.old }
         requires long { 32 ≤ length sealed.old }
         requires within { length sealed.old ≤ limit place.version + 32 }
         ensures opened { OnOk result
@@ -188,12 +214,14 @@ impl RecordCipher<'_> {
             ≡ replicate (length sealed.old - 32) ERASED) }
         ensures tag { drop (length sealed.old - 32) sealed.new
             ≡ drop (length sealed.old - 32) sealed.old }
-        ensures capacity { vec_capacity ad.old ≤ vec_capacity ad.new }
     {
-        place.write_data(ad, self.context)?;
-        let cipher = Aegis256::<TAG_BYTES>::new(self.key, &nonce(self.prefix, place.number));
+        let bytes = PlaceBytes::new(place);
+        let pieces = bytes.pieces(self.context);
         let (ciphertext, tag) = sealed.split_last_chunk_mut::<TAG_BYTES>().unwrap();
-        match cipher.decrypt_in_place(ciphertext, tag, ad) {
+        match self
+            .cipher(place)
+            .decrypt_in_place_with(ciphertext, tag, &pieces)
+        {
             Ok(()) => Ok(()),
             Err(_) => Err(RecordError::Damaged(place.number)),
         }

@@ -16,10 +16,10 @@ use crate::record::frame::TAG_BYTES;
 use crate::record::length::{HEADER_BYTES, RECORD_BYTES};
 use crate::record::open::{open_record, version_of};
 use crate::record::position::RecordPosition;
-use crate::record::record_cipher::{DATA_BYTES, MAX_CONTEXT_BYTES, RecordCipher, RecordPlace};
+use crate::record::record_cipher::{MAX_CONTEXT_BYTES, RecordCipher, RecordPlace};
 use crate::record::version::{MAX_MESSAGE_BYTES, Version};
 use aegis_base::MAX_AEAD_BYTES;
-pub use in_place::OpenedInPlace;
+pub use in_place::{OpenedInPlace, open_record_in_place};
 use std::alloc::Allocator;
 use std::marker::Model;
 
@@ -44,21 +44,19 @@ pub struct Opened<'b, A: Allocator> {
 /// many bytes the messages before it have, and whether the last record was opened. `Begun` says of which messages and bytes
 /// that is the progress.
 #[derive(Drop)]
-pub struct RecordOpener<'a, A: Allocator> {
-    alloc: A,
+pub struct RecordOpener<'a> {
     cipher: RecordCipher<'a>,
-    ad: Vec<u8, A>,
     version: Version,
     number: u64,
     before: u64,
     ended: bool,
 }
 
-impl<'a, A: Allocator> Model for RecordOpener<'a, A> {
-    ghost use Rattle.std.specs.Prelude.{◌+◌, ◌*◌, ◌≤◌, length, vec_capacity};
+impl<'a> Model for RecordOpener<'a> {
+    ghost use Rattle.std.specs.Prelude.{◌+◌, ◌*◌, ◌≤◌, length};
     ghost use Rattle.aegis_base.specs.declared.error.TheConstants.{MAX_AEAD_BYTES};
     ghost use Rattle.aegis.specs.Progress.{Progress, start_at};
-    ghost use Rattle.aegis.specs.declared.record.record_cipher.TheConstants.{DATA_BYTES, MAX_CONTEXT_BYTES};
+    ghost use Rattle.aegis.specs.declared.record.record_cipher.TheConstants.{MAX_CONTEXT_BYTES};
 
     ghost Value = { Progress };
 
@@ -73,17 +71,14 @@ impl<'a, A: Allocator> Model for RecordOpener<'a, A> {
     } };
 
     ghost invariant = { λ s. (length s.cipher.context.now ≤ MAX_CONTEXT_BYTES)
-        × (start_at s.number s.before ≤ MAX_AEAD_BYTES)
-        × (DATA_BYTES + length s.cipher.context.now ≤ vec_capacity s.ad) };
+        × (start_at s.number s.before ≤ MAX_AEAD_BYTES) };
 }
 
-impl<'a, A: Allocator + Copy> RecordOpener<'a, A> {
+impl<'a> RecordOpener<'a> {
     /// Begins to open a stream. `header` is its first 4 bytes, or all of its bytes if it has fewer.
     ///
-    /// The context has at most [`MAX_CONTEXT_BYTES`]. The error is [`RecordError::Header`] if no version has this header, or
-    /// [`RecordError::OutOfMemory`].
+    /// The context has at most [`MAX_CONTEXT_BYTES`]. The only error is [`RecordError::Header`], if no version has this header.
     pub fn new(
-        alloc: A,
         key: &'a Key,
         prefix: &'a [u8; 24],
         context: &'a [u8],
@@ -96,22 +91,19 @@ impl<'a, A: Allocator + Copy> RecordOpener<'a, A> {
         ensures progress { IfOk result (λ opener. opener
             ≡ progress_at key.now prefix.now context.now (first_position opener.version)) }
         ensures taken { IfOk result (λ opener. start_of opener ≡ HEADER_BYTES) }
-        ensures refused { IfErr result (λ e. (e ≡ RecordError.OutOfMemory)
-            ⊎ ((more : List ℕ) → (length header.now < 4 → more ≡ [])
-            → IsFault key.now prefix.now context.now (header.now ++ more) e)) }
+        ensures refused { IfErr result
+            (λ e. (more : List ℕ) → (length header.now < 4 → more ≡ [])
+            → IsFault key.now prefix.now context.now (header.now ++ more) e) }
     {
         let Some((version, _)) = version_of(header) else {
             return Err(RecordError::Header);
         };
-        let ad = Vec::with_capacity(alloc, DATA_BYTES + context.len())?;
         Ok(RecordOpener {
-            alloc,
             cipher: RecordCipher {
                 key,
                 prefix,
                 context,
             },
-            ad,
             version,
             number: 0,
             before: 0,
@@ -126,34 +118,27 @@ impl<'a, A: Allocator + Copy> RecordOpener<'a, A> {
     /// secret. At a wrong one `Ok` still means that the message is sealed to the bytes at just this position.
     ///
     /// The context has at most [`MAX_CONTEXT_BYTES`], and the record starts at byte [`MAX_AEAD_BYTES`] of the stream at most.
-    /// [`RecordError::OutOfMemory`] is the only error.
     pub fn begin_at(
-        alloc: A,
         key: &'a Key,
         prefix: &'a [u8; 24],
         context: &'a [u8],
         position: RecordPosition,
-    ) -> Result<Self, RecordError>
+    ) -> Self
         requires context_within { length context.now ≤ MAX_CONTEXT_BYTES }
         requires position_within { start_at position.number position.before ≤ MAX_AEAD_BYTES }
-        ensures progress { IfOk result (λ opener. opener
-            ≡ progress_at key.now prefix.now context.now position) }
-        ensures err { IfErr result (λ e. e ≡ RecordError.OutOfMemory) }
+        ensures { result ≡ progress_at key.now prefix.now context.now position }
     {
-        let ad = Vec::with_capacity(alloc, DATA_BYTES + context.len())?;
-        Ok(RecordOpener {
-            alloc,
+        RecordOpener {
             cipher: RecordCipher {
                 key,
                 prefix,
                 context,
             },
-            ad,
             version: position.version,
             number: position.number,
             before: position.before,
             ended: false,
-        })
+        }
     }
 
     /// Returns the position of the next record, for [`RecordOpener::begin_at`] and [`RecordOpener::open_at`].
@@ -169,7 +154,7 @@ impl<'a, A: Allocator + Copy> RecordOpener<'a, A> {
 
     /// Returns how many more bytes of the stream may be opened.
     pub fn remaining(&self) -> u64
-        ensures { result ≡ MAX_AEAD_BYTES - start_of self.now }
+        ensures { start_of self.now + result ≡ MAX_AEAD_BYTES }
     {
         MAX_AEAD_BYTES - (HEADER_BYTES + RECORD_BYTES * self.number + self.before)
     }
@@ -204,7 +189,11 @@ impl<'a, A: Allocator + Copy> RecordOpener<'a, A> {
     ///
     /// The error is the first fault of the stream, or [`RecordError::OutOfMemory`], and leaves the opener as it was. After the
     /// last record it is always [`RecordError::Trailing`].
-    pub fn open_next<'b>(&mut self, bytes: &'b [u8]) -> Result<Opened<'b, A>, RecordError>
+    pub fn open_next<'b, A: Allocator>(
+        &mut self,
+        alloc: A,
+        bytes: &'b [u8],
+    ) -> Result<Opened<'b, A>, RecordError>
         requires { start_of self.old + length bytes.now ≤ MAX_AEAD_BYTES }
         ensures opened { IfOk result (λ opened. OpensNext self.old self.new bytes.now
             opened.is_last opened.message.items opened.rest.now) }
@@ -217,8 +206,7 @@ impl<'a, A: Allocator + Copy> RecordOpener<'a, A> {
             return Err(RecordError::Trailing);
         }
         let (frame, message) = open_record(
-            self.alloc,
-            &mut self.ad,
+            alloc,
             &self.cipher,
             self.version,
             self.number,
@@ -235,39 +223,38 @@ impl<'a, A: Allocator + Copy> RecordOpener<'a, A> {
         })
     }
 
-    /// Opens the record at a position, which `bytes` begin with. The opener is as it was.
+    /// Opens the record at a position, which `bytes` begin with.
     ///
     /// The message is the one whose record at this position, under this key, prefix and context, `bytes` begin with. Nothing is
     /// known of the other records, nor that the stream is whole. The error is the fault of the record, as
     /// [`RecordError::Damaged`] if no message is sealed to it at this position, or [`RecordError::OutOfMemory`].
-    pub fn open_at<'b>(
-        &mut self,
+    pub fn open_at<'b, A: Allocator>(
+        &self,
+        alloc: A,
         position: RecordPosition,
         bytes: &'b [u8],
     ) -> Result<Opened<'b, A>, RecordError>
         ensures opened { IfOk result (λ opened. bytes.now
-            ≡ record_of (progress_at self.old.key self.old.prefix self.old.context position)
+            ≡ record_of (progress_at self.now.key self.now.prefix self.now.context position)
             (last_flag opened.is_last) opened.message.items ++ opened.rest.now) }
         ensures within { IfOk result
             (λ opened. length opened.message.items ≤ limit position.version) }
         ensures accepted { (m rest : List ℕ) → length m ≤ limit position.version
             → bytes.now
-            ≡ record_of (progress_at self.old.key self.old.prefix self.old.context position)
+            ≡ record_of (progress_at self.now.key self.now.prefix self.now.context position)
             0 m ++ rest
             → OpensRecordTo false m rest result }
         ensures accepted_last { (m rest : List ℕ) → length m ≤ limit position.version
             → bytes.now
-            ≡ record_of (progress_at self.old.key self.old.prefix self.old.context position)
+            ≡ record_of (progress_at self.now.key self.now.prefix self.now.context position)
             1 m ++ rest
             → OpensRecordTo true m rest result }
         ensures refused { IfErr result (λ e. (e ≡ RecordError.OutOfMemory)
-            ⊎ IsRecordFault (progress_at self.old.key self.old.prefix self.old.context position)
+            ⊎ IsRecordFault (progress_at self.now.key self.now.prefix self.now.context position)
             bytes.now e) }
-        ensures unchanged { self.new ≡ self.old }
     {
         let (frame, message) = open_record(
-            self.alloc,
-            &mut self.ad,
+            alloc,
             &self.cipher,
             position.version,
             position.number,

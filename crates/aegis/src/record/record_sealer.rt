@@ -1,7 +1,7 @@
 //! Sealing a stream a record at a time.
 mod in_place;
 
-ghost use Rattle.std.specs.Prelude.{◌≡◌, ◌+◌, ◌-◌, ◌≤◌, ◌++◌, ◌∷◌, [], IfErr, IfOk, List, OnErr, OnOk, false, length, vec_capacity, ℕ};
+ghost use Rattle.std.specs.Prelude.{◌≡◌, ◌+◌, ◌-◌, ◌≤◌, ◌++◌, ◌∷◌, [], IfErr, IfOk, List, OnErr, OnOk, false, length, ℕ};
 ghost use Rattle.aegis_base.specs.declared.error.TheConstants.{MAX_AEAD_BYTES};
 ghost use Rattle.aegis.specs.Calls.{frame_at};
 ghost use Rattle.aegis.specs.Progress.{Begun, after, first_position, position_of, progress_at, record_of, start_of};
@@ -13,9 +13,10 @@ use crate::aegis256::Key;
 use crate::record::error::RecordError;
 use crate::record::length::{HEADER_BYTES, RECORD_BYTES};
 use crate::record::position::RecordPosition;
-use crate::record::record_cipher::{DATA_BYTES, MAX_CONTEXT_BYTES, RecordCipher, RecordPlace};
+use crate::record::record_cipher::{MAX_CONTEXT_BYTES, RecordCipher, RecordPlace};
 use crate::record::version::{MAX_MESSAGE_BYTES, Version};
 use aegis_base::MAX_AEAD_BYTES;
+pub use in_place::seal_record_in_place;
 use std::alloc::Allocator;
 use std::marker::Model;
 
@@ -25,7 +26,6 @@ const WRITTEN: Version = Version::Second;
 // Appends a record to `out`. After an error `out` may have a part of it.
 fn append_record<A: Allocator>(
     out: &mut Vec<u8, A>,
-    ad: &mut Vec<u8, A>,
     cipher: &RecordCipher<'_>,
     place: RecordPlace,
     message: &[u8],
@@ -36,16 +36,14 @@ fn append_record<A: Allocator>(
         (out.new.items ≡ out.old.items ++ frame_at cipher.now place message.now) }
     ensures err { IfErr result (λ e. e ≡ RecordError.OutOfMemory) }
     ensures kept { OnErr result ((part : List ℕ) × (out.new.items ≡ out.old.items ++ part)) }
-    ensures capacity { vec_capacity ad.old ≤ vec_capacity ad.new }
 {
     out.extend_from_slice(&place.head(message.len()))?;
-    cipher.seal(out, ad, place, message)
+    cipher.seal(out, place, message)
 }
 
 // Appends a record to `out`, which is as it was after an error.
 fn seal_record<A: Allocator>(
     out: &mut Vec<u8, A>,
-    ad: &mut Vec<u8, A>,
     cipher: &RecordCipher<'_>,
     place: RecordPlace,
     message: &[u8],
@@ -56,10 +54,9 @@ fn seal_record<A: Allocator>(
         (out.new.items ≡ out.old.items ++ frame_at cipher.now place message.now) }
     ensures err { IfErr result (λ e. e ≡ RecordError.OutOfMemory) }
     ensures kept { OnErr result (out.new.items ≡ out.old.items) }
-    ensures capacity { vec_capacity ad.old ≤ vec_capacity ad.new }
 {
     let start = out.len();
-    let appended = append_record(out, ad, cipher, place, message);
+    let appended = append_record(out, cipher, place, message);
     if appended.is_err() {
         out.truncate(start);
     }
@@ -78,18 +75,17 @@ fn seal_record<A: Allocator>(
 /// In a contract a sealer stands for a `Progress`: the key, prefix and context, the next record's number, and how many bytes
 /// the messages before it have. `Begun` says of which messages and bytes that is the progress.
 #[derive(Drop)]
-pub struct RecordSealer<'a, A: Allocator> {
+pub struct RecordSealer<'a> {
     cipher: RecordCipher<'a>,
-    ad: Vec<u8, A>,
     number: u64,
     before: u64,
 }
 
-impl<'a, A: Allocator> Model for RecordSealer<'a, A> {
-    ghost use Rattle.std.specs.Prelude.{◌+◌, ◌*◌, ◌≤◌, false, length, vec_capacity};
+impl<'a> Model for RecordSealer<'a> {
+    ghost use Rattle.std.specs.Prelude.{◌+◌, ◌*◌, ◌≤◌, false, length};
     ghost use Rattle.aegis_base.specs.declared.error.TheConstants.{MAX_AEAD_BYTES};
     ghost use Rattle.aegis.specs.Progress.{Progress, start_at};
-    ghost use Rattle.aegis.specs.declared.record.record_cipher.TheConstants.{DATA_BYTES, MAX_CONTEXT_BYTES};
+    ghost use Rattle.aegis.specs.declared.record.record_cipher.TheConstants.{MAX_CONTEXT_BYTES};
     ghost use Rattle.aegis.specs.declared.record.version.Version.TheVariants.{Second};
 
     ghost Value = { Progress };
@@ -105,17 +101,15 @@ impl<'a, A: Allocator> Model for RecordSealer<'a, A> {
     } };
 
     ghost invariant = { λ s. (length s.cipher.context.now ≤ MAX_CONTEXT_BYTES)
-        × (start_at s.number s.before ≤ MAX_AEAD_BYTES)
-        × (DATA_BYTES + length s.cipher.context.now ≤ vec_capacity s.ad) };
+        × (start_at s.number s.before ≤ MAX_AEAD_BYTES) };
 }
 
-impl<'a, A: Allocator + Copy> RecordSealer<'a, A> {
+impl<'a> RecordSealer<'a> {
     /// Begins a stream under a key, a prefix and a context, and appends its header, of 4 bytes, to `out`.
     ///
     /// A prefix must be used for one stream only under its key. The context has at most [`MAX_CONTEXT_BYTES`].
     /// [`RecordError::OutOfMemory`] is the only error; `out` is then as it was.
-    pub fn new(
-        alloc: A,
+    pub fn new<A: Allocator>(
         key: &'a Key,
         prefix: &'a [u8; 24],
         context: &'a [u8],
@@ -131,7 +125,6 @@ impl<'a, A: Allocator + Copy> RecordSealer<'a, A> {
         ensures err { IfErr result (λ e. e ≡ RecordError.OutOfMemory) }
         ensures unchanged { OnErr result (out.new.items ≡ out.old.items) }
     {
-        let ad = Vec::with_capacity(alloc, DATA_BYTES + context.len())?;
         out.extend_from_slice(WRITTEN.header())?;
         Ok(RecordSealer {
             cipher: RecordCipher {
@@ -139,7 +132,6 @@ impl<'a, A: Allocator + Copy> RecordSealer<'a, A> {
                 prefix,
                 context,
             },
-            ad,
             number: 0,
             before: 0,
         })
@@ -147,7 +139,7 @@ impl<'a, A: Allocator + Copy> RecordSealer<'a, A> {
 
     /// Returns how many more bytes the stream may have. A record takes [`RECORD_BYTES`] and the length of its message.
     pub fn remaining(&self) -> u64
-        ensures { result ≡ MAX_AEAD_BYTES - start_of self.now }
+        ensures { start_of self.now + result ≡ MAX_AEAD_BYTES }
     {
         MAX_AEAD_BYTES - (HEADER_BYTES + RECORD_BYTES * self.number + self.before)
     }
@@ -170,7 +162,11 @@ impl<'a, A: Allocator + Copy> RecordSealer<'a, A> {
     /// [`RecordSealer::remaining`] are left. [`RecordError::OutOfMemory`] is the only error; the sealer and `out` are then as
     /// they were. The next call uses the same record number, so `out`'s spare memory must not be given to anyone if the next
     /// message differs from that of the failed call.
-    pub fn seal_next(&mut self, message: &[u8], out: &mut Vec<u8, A>) -> Result<(), RecordError>
+    pub fn seal_next<A: Allocator>(
+        &mut self,
+        message: &[u8],
+        out: &mut Vec<u8, A>,
+    ) -> Result<(), RecordError>
         requires within { length message.now ≤ MAX_MESSAGE_BYTES }
         requires fits { start_of self.old + (RECORD_BYTES + length message.now) ≤ MAX_AEAD_BYTES }
         ensures appended { OnOk result
@@ -195,7 +191,7 @@ impl<'a, A: Allocator + Copy> RecordSealer<'a, A> {
             before: self.before,
             flag: 0,
         };
-        seal_record(out, &mut self.ad, &self.cipher, place, message)?;
+        seal_record(out, &self.cipher, place, message)?;
         self.number += 1;
         self.before += message.len() as u64;
         Ok(())
@@ -206,7 +202,11 @@ impl<'a, A: Allocator + Copy> RecordSealer<'a, A> {
     ///
     /// The limits are those of [`RecordSealer::seal_next`], so what was sealed can be opened. [`RecordError::OutOfMemory`] is the
     /// only error; `out` is then as it was, and the stream has no end.
-    pub fn seal_last(self, message: &[u8], out: &mut Vec<u8, A>) -> Result<(), RecordError>
+    pub fn seal_last<A: Allocator>(
+        self,
+        message: &[u8],
+        out: &mut Vec<u8, A>,
+    ) -> Result<(), RecordError>
         requires within { length message.now ≤ MAX_MESSAGE_BYTES }
         requires fits { start_of self + (RECORD_BYTES + length message.now) ≤ MAX_AEAD_BYTES }
         ensures appended { OnOk result
@@ -223,7 +223,6 @@ impl<'a, A: Allocator + Copy> RecordSealer<'a, A> {
     {
         let RecordSealer {
             cipher,
-            mut ad,
             number,
             before,
         } = self;
@@ -233,7 +232,7 @@ impl<'a, A: Allocator + Copy> RecordSealer<'a, A> {
             before,
             flag: 1,
         };
-        seal_record(out, &mut ad, &cipher, place, message)?;
+        seal_record(out, &cipher, place, message)?;
         Ok(())
     }
 }

@@ -17,8 +17,8 @@ use std::alloc::Allocator;
 /// Returns the stream of the messages, in version 2, under a key, a prefix and a context. There is at least one message.
 ///
 /// A message has at most [`MAX_MESSAGE_BYTES`] and the context [`MAX_CONTEXT_BYTES`], and [`records_len`] must return a number,
-/// which is the length of the stream. [`RecordError::OutOfMemory`] is the only error. Memory is taken twice: for the whole
-/// stream, in which the messages are sealed piece by piece, and for the associated data.
+/// which is the length of the stream. [`RecordError::OutOfMemory`] is the only error. Memory is taken once, for the
+/// whole stream, in which the messages are sealed piece by piece.
 pub fn seal_records<A: Allocator + Copy>(
     alloc: A,
     key: &Key,
@@ -39,7 +39,7 @@ pub fn seal_records<A: Allocator + Copy>(
 {
     let length = records_len(messages).unwrap();
     let mut stream = Vec::with_capacity(alloc, length as usize)?;
-    let mut sealer = RecordSealer::new(alloc, key, prefix, context, &mut stream)?;
+    let mut sealer = RecordSealer::new(key, prefix, context, &mut stream)?;
     let last = messages.len() - 1;
     'records: for number in 0..last {
         sealer.seal_next(messages[number], &mut stream)?;

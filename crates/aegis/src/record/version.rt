@@ -20,7 +20,7 @@ pub enum Version {
 
 impl Version {
     /// The four bytes that a stream begins with.
-    pub(crate) fn header(self) -> &'static [u8]
+    pub fn header(self) -> &'static [u8]
         ensures { result.now ≡ header self }
     {
         match self {
@@ -30,7 +30,7 @@ impl Version {
     }
 
     /// How many bytes a record's message may have.
-    pub(crate) fn limit(self) -> u32
+    pub fn limit(self) -> u32
         ensures { result ≡ limit self }
     {
         match self {

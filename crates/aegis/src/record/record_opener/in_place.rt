@@ -1,6 +1,6 @@
 //! Opening a record in the buffer that holds it.
 
-ghost use Rattle.std.specs.Prelude.{◌≡◌, ◌≢◌, ◌+◌, ◌≤◌, Err, IfErr, IfOk, IsTrue, length, vec_capacity};
+ghost use Rattle.std.specs.Prelude.{◌≡◌, ◌≢◌, ◌+◌, ◌≤◌, Err, IfErr, IfOk, IsTrue, length};
 ghost use Rattle.aegis_base.specs.declared.error.TheConstants.{MAX_AEAD_BYTES};
 ghost use Rattle.aegis.specs.Calls.{IsRecord, OpensInPlaceTo, message_at, message_of, rest_at, rest_of, sealing_of, with_erased, with_message};
 ghost use Rattle.aegis.specs.Fault.{HasFault, parts};
@@ -10,11 +10,10 @@ ghost use Rattle.aegis.specs.Progress.{start_of};
 use crate::record::error::RecordError;
 use crate::record::frame::{Frame, TAG_BYTES};
 use crate::record::length::RECORD_HEAD_BYTES;
-use crate::record::record_cipher::{DATA_BYTES, MAX_CONTEXT_BYTES, RecordCipher, RecordPlace};
+use crate::record::record_cipher::{MAX_CONTEXT_BYTES, RecordCipher, RecordPlace};
 use crate::record::record_opener::RecordOpener;
 use crate::record::version::Version;
 use aegis_base::MAX_AEAD_BYTES;
-use std::alloc::Allocator;
 
 /// A record that was opened in the buffer that holds it.
 ///
@@ -28,17 +27,19 @@ pub struct OpenedInPlace {
     pub is_last: bool,
 }
 
-// Opens the record that the bytes begin with, in place. Returns its flag, and how many bytes its message has.
-fn open_record_in_place<A: Allocator>(
-    ad: &mut Vec<u8, A>,
+/// Opens the record at its place that the bytes begin with, where it lies. Returns its flag, and how many bytes its message
+/// has.
+///
+/// The error is the fault of the record. If it is [`RecordError::Damaged`], every byte of the ciphertext is
+/// [`ERASED`](crate::ERASED), and after any other error the bytes are as they were.
+pub fn open_record_in_place(
     cipher: &RecordCipher<'_>,
     version: Version,
     number: u64,
     before: u64,
     bytes: &mut [u8],
 ) -> Result<(u8, usize), RecordError>
-    requires context { length cipher.now.context.now ≤ MAX_CONTEXT_BYTES }
-    requires room { DATA_BYTES + length cipher.now.context.now ≤ vec_capacity ad.old }
+    requires { length cipher.now.context.now ≤ MAX_CONTEXT_BYTES }
     ensures opened { IfOk result
         (λ found. IsRecord (sealing_of cipher.now) version number before found.0
         (message_at found.1 bytes.new) (rest_at found.1 bytes.new) bytes.old) }
@@ -52,7 +53,6 @@ fn open_record_in_place<A: Allocator>(
         (λ e. e ≡ RecordError.Damaged number → bytes.new ≡ with_erased bytes.old) }
     ensures kept { IfErr result
         (λ e. e ≢ RecordError.Damaged number → bytes.new ≡ bytes.old) }
-    ensures capacity { vec_capacity ad.old ≤ vec_capacity ad.new }
 {
     let frame = Frame::read(version, bytes)?;
     let flag = frame.flag;
@@ -65,13 +65,13 @@ fn open_record_in_place<A: Allocator>(
     };
     let (_, body) = bytes.split_at_mut(RECORD_HEAD_BYTES);
     let (sealed, _) = body.split_at_mut(sealed_len);
-    match cipher.open_in_place(ad, place, sealed) {
+    match cipher.open_in_place(place, sealed) {
         Ok(()) => Ok((flag, sealed_len - TAG_BYTES)),
         Err(error) => Err(error),
     }
 }
 
-impl<'a, A: Allocator + Copy> RecordOpener<'a, A> {
+impl RecordOpener<'_> {
     /// Opens the next record, which `bytes` begin with, in place: its message is written over its ciphertext. `bytes` have at
     /// least that record, or all that is left of the stream.
     ///
@@ -94,7 +94,6 @@ impl<'a, A: Allocator + Copy> RecordOpener<'a, A> {
             return Err(RecordError::Trailing);
         }
         let (flag, message_len) = open_record_in_place(
-            &mut self.ad,
             &self.cipher,
             self.version,
             self.number,

@@ -1,6 +1,6 @@
 //! Sealing a record in the buffer that holds its message.
 
-ghost use Rattle.std.specs.Prelude.{◌≡◌, ◌+◌, ◌≤◌, ◌++◌, ◌∷◌, [], List, false, length, vec_capacity, ℕ};
+ghost use Rattle.std.specs.Prelude.{◌≡◌, ◌+◌, ◌≤◌, ◌++◌, ◌∷◌, [], List, false, length, ℕ};
 ghost use Rattle.aegis_base.specs.declared.error.TheConstants.{MAX_AEAD_BYTES};
 ghost use Rattle.aegis.specs.Calls.{frame_at, message_in};
 ghost use Rattle.aegis.specs.Progress.{Begun, after, record_of, start_of};
@@ -8,32 +8,25 @@ ghost use Rattle.aegis.specs.RecordStream.{limit};
 
 use crate::record::frame::TAG_BYTES;
 use crate::record::length::{RECORD_BYTES, RECORD_HEAD_BYTES};
-use crate::record::record_cipher::{DATA_BYTES, MAX_CONTEXT_BYTES, RecordCipher, RecordPlace};
+use crate::record::record_cipher::{MAX_CONTEXT_BYTES, RecordCipher, RecordPlace};
 use crate::record::record_sealer::{RecordSealer, WRITTEN};
 use crate::record::version::MAX_MESSAGE_BYTES;
 use aegis_base::MAX_AEAD_BYTES;
-use std::alloc::Allocator;
 
-// Seals a record where its message lies, between the bytes of its head and those of its tag.
-fn seal_record_in_place<A: Allocator>(
-    ad: &mut Vec<u8, A>,
-    cipher: &RecordCipher<'_>,
-    place: RecordPlace,
-    buffer: &mut [u8],
-)
+/// Seals a record at its place where its message lies: `buffer` has [`RECORD_HEAD_BYTES`] for the head, the message, and 32
+/// bytes for the tag, and becomes the record.
+pub fn seal_record_in_place(cipher: &RecordCipher<'_>, place: RecordPlace, buffer: &mut [u8])
     requires context { length cipher.now.context.now ≤ MAX_CONTEXT_BYTES }
-    requires ad_room { DATA_BYTES + length cipher.now.context.now ≤ vec_capacity ad.old }
     requires room { RECORD_BYTES ≤ length buffer.old }
     requires within { length buffer.old ≤ RECORD_BYTES + limit place.version }
-    ensures written { buffer.new ≡ frame_at cipher.now place (message_in buffer.old) }
-    ensures capacity { vec_capacity ad.old ≤ vec_capacity ad.new }
+    ensures { buffer.new ≡ frame_at cipher.now place (message_in buffer.old) }
 {
     let (head, sealed) = buffer.split_at_mut(RECORD_HEAD_BYTES);
     head.copy_from_slice(&place.head(sealed.len() - TAG_BYTES));
-    cipher.seal_in_place(ad, place, sealed);
+    cipher.seal_in_place(place, sealed);
 }
 
-impl<'a, A: Allocator + Copy> RecordSealer<'a, A> {
+impl RecordSealer<'_> {
     /// Seals the next message, which is not the last one, where it lies: `buffer` has [`RECORD_HEAD_BYTES`] for the head, the
     /// message, and 32 bytes for the tag, and becomes its record.
     ///
@@ -56,7 +49,7 @@ impl<'a, A: Allocator + Copy> RecordSealer<'a, A> {
             before: self.before,
             flag: 0,
         };
-        seal_record_in_place(&mut self.ad, &self.cipher, place, buffer);
+        seal_record_in_place(&self.cipher, place, buffer);
         self.number += 1;
         self.before += buffer.len() as u64 - RECORD_BYTES;
     }

@@ -4,7 +4,7 @@ ghost use Rattle.std.specs.Prelude.{◌≡◌, ◌⊎◌, ◌≤◌, length};
 ghost use Rattle.aegis_base.specs.Lane.{IsTagLength};
 
 use aegis::{Decryptor, Encryptor, Error, MAX_AEAD_BYTES, chunks_len};
-use aegis_base::{LaneState, Names};
+use aegis_base::LaneState;
 use aegis_variants::{AnyCipher, with_cipher};
 use std::alloc::{AllocError, Global};
 use std::process::Abort;
@@ -39,8 +39,8 @@ pub enum Update {
 pub const UPDATES: [Update; 2] = [Update::InPlace, Update::Copied];
 
 // Passes chunks to an encryptor. Returns the tag, and what `remaining` returns.
-fn seal_each<S: LaneState, V: Names, const TAG_BYTES: usize>(
-    encryptor: Encryptor<S, V, TAG_BYTES>,
+fn seal_each<S: LaneState, const TAG_BYTES: usize>(
+    encryptor: Encryptor<S, TAG_BYTES>,
     update: Update,
     chunks: &[&[u8]],
     buffer: &mut [u8],
@@ -112,9 +112,9 @@ fn assert_answer<R: Abort>(rt: &R, answer: Result<(), Error>, expected: Result<(
 }
 
 // Takes these steps, and then finalizes the decryptor, or drops it if there is no tag.
-fn take_steps<'a, R: Abort, S: LaneState, V: Names, const TAG_BYTES: usize>(
+fn take_steps<'a, R: Abort, S: LaneState, const TAG_BYTES: usize>(
     rt: &R,
-    decryptor: Decryptor<'a, S, V, TAG_BYTES>,
+    decryptor: Decryptor<'a, S, TAG_BYTES>,
     steps: &[Step],
     tag: Option<&[u8; TAG_BYTES]>,
 ) -> Option<Result<&'a mut [u8], Error>> {

@@ -8,7 +8,7 @@ use crate::tests::chunks::chunked::pieces;
 use aegis::aegis128l::Aegis128LMac;
 use aegis::aegis256x4::Aegis256X4Mac;
 use aegis::{Error, MAX_AEAD_BYTES, Mac, chunks_len};
-use aegis_base::{LaneState, Names};
+use aegis_base::LaneState;
 use aegis_variants::{AnyCipher, VARIANTS, with_mac};
 use hex::FromHex;
 use std::process::Abort;
@@ -35,8 +35,8 @@ fn aegis128l_of_one_byte(rt: HostRuntime) -> Result<(), Fail> {
     Ok(())
 }
 
-fn finalize_all<S: LaneState, V: Names, const KEY_BYTES: usize, const TAG_BYTES: usize>(
-    mac: Mac<S, V, KEY_BYTES, TAG_BYTES>,
+fn finalize_all<S: LaneState, const KEY_BYTES: usize, const TAG_BYTES: usize>(
+    mac: Mac<S, KEY_BYTES, TAG_BYTES>,
     pieces: &[&[u8]],
 ) -> ([u8; TAG_BYTES], u64) {
     let mut mac = mac;
@@ -150,8 +150,8 @@ fn clones_go_their_own_way(rt: HostRuntime) -> Result<(), Fail> {
     Ok(())
 }
 
-fn verify_message<S: LaneState, V: Names, const KEY_BYTES: usize, const TAG_BYTES: usize>(
-    mac: Mac<S, V, KEY_BYTES, TAG_BYTES>,
+fn verify_message<S: LaneState, const KEY_BYTES: usize, const TAG_BYTES: usize>(
+    mac: Mac<S, KEY_BYTES, TAG_BYTES>,
     expected: &[u8; TAG_BYTES],
 ) -> Result<(), Error>
     requires { mac.message_bytes ≡ 0 }

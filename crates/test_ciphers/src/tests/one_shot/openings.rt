@@ -4,7 +4,8 @@ ghost use Rattle.std.specs.Prelude.{◌≡◌, ◌⊎◌, ◌≤◌, length};
 ghost use Rattle.aegis_base.specs.Lane.{IsTagLength};
 
 use crate::tests::assert_bytes;
-use aegis_variants::{AnyVariant, VARIANTS};
+use aegis::chunks_len;
+use aegis_variants::{AnyVariant, VARIANTS, with_cipher};
 use std::process::Abort;
 use std::test::Fail;
 use test_tools::calls;
@@ -53,6 +54,29 @@ fn what_is_sealed_is_opened(rt: HostRuntime) -> Result<(), Fail> {
                 opens::<_, 16>(&rt, variant, &message[..message_bytes], &ad[..ad_bytes])?;
                 opens::<_, 32>(&rt, variant, &message[..message_bytes], &ad[..ad_bytes])?;
             }
+        }
+    }
+    Ok(())
+}
+
+// Associated data that comes in pieces is one text, wherever it is cut.
+#[test]
+fn associated_data_in_pieces(rt: HostRuntime) -> Result<(), Fail> {
+    let ad = calls::counting::<40>(101);
+    for variant in VARIANTS {
+        let cipher = calls::keyed(variant);
+        let mut whole = [7; 33];
+        let tag = calls::encrypt_in_place::<16>(&cipher, &mut whole, &ad);
+        for cut in [0, 1, 16, 40] {
+            let (first, second) = ad.split_at(cut);
+            let pieces: [&[u8]; 3] = [first, &[], second];
+            chunks_len(&pieces).ok_or("too long")?;
+            let mut sealed = [7; 33];
+            let tag_of_pieces = with_cipher!(cipher, 16, cipher => {
+                cipher.encrypt_in_place_with(&mut sealed, &pieces)
+            });
+            assert_bytes(&rt, &sealed, &whole, &variant);
+            assert_bytes(&rt, &tag_of_pieces, &tag, &variant);
         }
     }
     Ok(())

@@ -18,7 +18,7 @@ records-init g c =
     let a = c.args in
     let v = c.in-Some.version in
     let is : a.bytes.now ≡ header v ++ c.in-Some.rest.now = c.in-Some.ensures.some in
-    let progress = c.in_ok-opener.ensures.progress in
+    let progress = c.begin_at-opener.ensures in
     let made : c.new.new.out.items ≡ header Second =
     c.in_ok-sealer.ensures.appended ∙ ap (λ (l : List ℕ). l ++ header Second) c.in_ok-stream.ensures.items in
     let counted = ap start_of progress in

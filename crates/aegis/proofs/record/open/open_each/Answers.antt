@@ -19,7 +19,7 @@ records-init g c =
 
 pub returns-in_err-frame-clause-refused : goal.returns-in_err-frame-clause-refused
 returns-in_err-frame-clause-refused g c =
-    let p = err_from_is_err_and c.from_residual-in_err-frame.result c.from_residual-in_err-frame.ensures.1 in
+    let p = err_from_is_err_and c.from_residual.result c.from_residual.ensures.1 in
     let count = c.len.ensures in
     rw (p.1, p.2) (or_fault (sealing_of c.args.cipher.now) c.in-Some.version c.len.result c.records.before (messages c.records.found.items)
     c.records.rest.now c.args.bytes.now c.in_err-frame.field-0.0 c.records.invariant.front (omega (arith, length-map c.records.found.items (λ m. m.items)))

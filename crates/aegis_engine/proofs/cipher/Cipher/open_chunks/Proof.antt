@@ -47,20 +47,20 @@ use Rattle.aegis_engine.proofs.cipher.Cipher.open_chunks.Statement.{statement}
 use Rattle.aegis_engine.proofs.cipher.Cipher.open_chunks.Code as code
 
 pub open_chunks_spec : {M : Type 1} → statement M
-open_chunks_spec 𝓤 𝓛 𝓜 𝓡 wired S V k n Rw LS LV key_fits fits LR CS CR gS dS gC dC gR dR gRC dRC gV dV mS mC mR mRC mV =
+open_chunks_spec 𝓤 𝓛 𝓜 𝓡 wired S U k n Rw LS LU key_fits fits LR CS CR gS dS gC dC gR dR gRC dRC mS mC mR mRC =
     let K = number k in let N = number n in
-    let En = f.ended S V K N Rw gS dS gC dC gR dR gRC dRC gV dV in
-    let c = f.clauses S V K N Rw gS dS gC dC gR dR gRC dRC gV dV 𝓛 𝓜.mem 𝓡.returns in
-    let G = triple_of 𝓛 (g.signature S V K N Rw gS dS gC dC gR dR gRC dRC gV dV) (g.spec S V K N Rw gS dS gC dC gR dR gRC dRC gV dV 𝓛 𝓜.mem 𝓡.returns) in
-    let Gn = g.ended S V K N Rw gS dS gC dC gR dR gRC dRC gV dV in
-    let args : Args = bounded (a_type ∷ a_type ∷ a_number ∷ a_number ∷ a_type ∷ []) (S, (V, (K, (N, (Rw, tt))))) (dcons dS (dcons dC (dcons dR (dcons dRC (dcons dV dnil))))) in
+    let En = f.ended S U K N Rw gS dS gC dC gR dR gRC dRC in
+    let c = f.clauses S U K N Rw gS dS gC dC gR dR gRC dRC 𝓛 𝓜.mem 𝓡.returns in
+    let G = triple_of 𝓛 (g.signature S U K N Rw gS dS gC dC gR dR gRC dRC) (g.spec S U K N Rw gS dS gC dC gR dR gRC dRC 𝓛 𝓜.mem 𝓡.returns) in
+    let Gn = g.ended S U K N Rw gS dS gC dC gR dR gRC dRC in
+    let args : Args = bounded (a_type ∷ a_type ∷ a_number ∷ a_number ∷ a_type ∷ []) (S, (U, (K, (N, (Rw, tt))))) (dcons dS (dcons dC (dcons dR (dcons dRC dnil)))) in
     let fn : Fn = inst_fn args code.function in
     let 𝓣 = tables 𝓤 𝓛.H 𝓜 𝓡 𝓡.env in
     let hs : Stays En.signature.params En.kept = (stay_dropped _ yes, (stay_dropped _ yes, (stay_dropped _ yes, (stay_dropped _ yes, (stay_dropped _ no, tt))))) in
     let W = walk_of 𝓛 En hs c in
-    let Row : RattleType = CT.the_row (copied 0 S) (param 1 V) (param 2 K) (param 3 N) (copied 4 Rw) gS gR gV in
+    let Row : RattleType = CT.the_row (copied 0 S) (param 1 U) (param 2 K) (param 3 N) (copied 4 Rw) gS gR in
     proved 𝓛 En hs c 𝓜 𝓡 ((λ κs x w vs ok. 𝓛.laws.⇛_intro (emp 𝓤)), ((λ κs x w vs ok. 𝓛.laws.⇛_intro (emp 𝓤)), ((λ κs x w vs ok. 𝓛.laws.⇛_intro (emp 𝓤)), ((λ κs x w vs ok. 𝓛.laws.⇛_intro (emp 𝓤)), ((λ κs x w vs ok. 𝓛.laws.⇛_intro (emp 𝓤)), tt)))))
-    (f.Key.name args) fn (code.unfolded 𝓤 𝓛.H 𝓜 𝓡 wired (S, (V, (K, (N, (Rw, tt))))) dS dC dR dRC dV)
+    (f.Key.name args) fn (code.unfolded 𝓤 𝓛.H 𝓜 𝓡 wired (S, (U, (K, (N, (Rw, tt))))) dS dC dR dRC)
     (λ κs. (shr_vals, (shr_slice_vals, (shr_slice_vals, (shr_vals, (mut_slice_vals, tt))))))
     (λ κs. (shr_Tells (named 0) κs.0 Row, (shr_slice_Tells (named 1) κs.1.0 u8, (shr_slice_Tells (named 2) κs.1.1.0 (ShrSlice (named 3) κs.1.1.1.0 u8), (shr_Tells (named 4) κs.1.1.1.1.0 (ArrayAt u8 (param 3 N)), (mut_slice_Tells (named 5) κs.1.1.1.1.1.0 u8, tt)))))) (λ κs qs bounds a _ are.
     let κ = κs.1.1.1.1.1.0 in let q = qs.1.1.1.1.1.0 in let ad = a.1.0 in let chunks = a.1.1.0 in let tag = a.1.1.1.0 in let d = a.1.1.1.1.0 in
@@ -74,7 +74,7 @@ open_chunks_spec 𝓤 𝓛 𝓜 𝓡 wired S V k n Rw LS LV key_fits fits LR CS 
     qed 𝓛 (raw (G.pre y) ∷ []) ∵ enter ! _ _ _ _ _ $ alloc_all ! (λ l. pass_all ! refl ((tt, tt), ((tt, (tt, (record { fits = are.1.0.0.1.0 }, tt))), ((tt, (tt, (record { fits = are.1.1.0.0.1.0 }, tt))), ((tt, tt), ((tt, (tt, (record { fits = room.0 }, tt))), tt))))) $
     sets ! (addr ! (from ! (fld ! refl (hop ! (look_in_at ! 5 (sub ! 0 refl (whole !))) (stop !))))) refl (tt, tt) $
     sets ! (agg ! (and_then ! (get ! refl) (and_then ! (get_in ! (fld ! refl (stop !)) (sub ! 1 refl (whole !))) (no_more !)))) refl (tt, (tt, (record { fits = room.0 }, tt))) $
-    calls_at ! (framed 𝓤 𝓛.H 𝓜 𝓣) G (check_tag_met 𝓤 𝓛 𝓜 𝓡 (code.calls-aegis_engine::cipher::Cipher::check_chunks 𝓡.env wired) S V k n Rw LS LV key_fits fits LR CS CR gS dS gC dC gR dR gRC dRC gV dV mS mC mR mRC mV) y
+    calls_at ! (framed 𝓤 𝓛.H 𝓜 𝓣) G (check_tag_met 𝓤 𝓛 𝓜 𝓡 (code.calls-aegis_engine::cipher::Cipher::check_chunks 𝓡.env wired) S U k n Rw LS LU key_fits fits LR CS CR gS dS gC dC gR dR gRC dRC mS mC mR mRC) y
     (and_then ! (get ! refl) (and_then ! (get ! refl) (and_then ! (get ! refl) (and_then ! (get ! refl) (and_then ! (get ! refl) (no_more !)))))) (λ v.
     use1 𝓛 (later (some (λ (r : SRow.Denot). ((t0 ⊛ t1 ⊛ t2 ⊛ t3 ⊛ t4 ⊛ ‵ (flft κ q) ⊛ others) ⊛ ‵ (SRow.own_val r (v ∷ []))) ⊛ some (λ (ws : Lasts Gn κs a). ‵ (lasts Gn κs a ws)
     ⊛ (raw (fact 𝓤 (r.dst.ghost_name ≡ d.ghost_name)) ⊛ raw (fact 𝓤 (r.dst.ref_ptr ≡ d.ref_ptr)) ⊛ raw (fact 𝓤 (r.written ≤ length r.dst.now)) ⊛ raw (fact 𝓤 (r.written ≡ count'))

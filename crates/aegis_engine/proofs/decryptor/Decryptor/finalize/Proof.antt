@@ -21,7 +21,7 @@ use denote.Exit.{no, yes}
 use denote.Laws.{Typed, shows}
 use prog.Wp.{WpFn}
 use denote.Param.{ArrayAt, param, copied, number, bounded}
-use denote.Param.Laws.{param_laws, copied_laws, Laws}
+use denote.Param.Laws.{copied_laws, Laws}
 use denote.RattleType.{RattleType}
 use denote.Memory.{lone}
 use denote.Ref.{NamedLft, ShrRef, shr_Lawful}
@@ -55,30 +55,30 @@ one τ P k (v ∷ []) t = k v t
 one τ P k (v ∷ w ∷ vs) t = absurd t.1
 
 pub finalize_spec : {M : Type 1} → statement M
-finalize_spec 𝓤 𝓛 𝓜 𝓡 wired S V n Rw LS LV fits LR CS CR gS dS gC dC gR dR gRC dRC gV dV mS mC mR mRC mV =
+finalize_spec 𝓤 𝓛 𝓜 𝓡 wired S n Rw LS fits LR CS CR gS dS gC dC gR dR gRC dRC mS mC mR mRC =
     let N = number n in
-    let En = f.ended S V N Rw gS dS gC dC gR dR gRC dRC gV dV in
-    let c = f.clauses S V N Rw gS dS gC dC gR dR gRC dRC gV dV 𝓛 𝓜.mem 𝓡.returns in
-    let G = triple_of 𝓛 (g.signature S V N Rw gS dS gC dC gR dR gRC dRC gV dV) (g.spec S V N Rw gS dS gC dC gR dR gRC dRC gV dV 𝓛 𝓜.mem 𝓡.returns) in
-    let Gn = g.ended S V N Rw gS dS gC dC gR dR gRC dRC gV dV in
-    let args : Args = bounded (a_type ∷ a_type ∷ a_number ∷ a_type ∷ []) (S, (V, (N, (Rw, tt)))) (dcons dS (dcons dC (dcons dR (dcons dRC (dcons dV dnil))))) in
+    let En = f.ended S N Rw gS dS gC dC gR dR gRC dRC in
+    let c = f.clauses S N Rw gS dS gC dC gR dR gRC dRC 𝓛 𝓜.mem 𝓡.returns in
+    let G = triple_of 𝓛 (g.signature S N Rw gS dS gC dC gR dR gRC dRC) (g.spec S N Rw gS dS gC dC gR dR gRC dRC 𝓛 𝓜.mem 𝓡.returns) in
+    let Gn = g.ended S N Rw gS dS gC dC gR dR gRC dRC in
+    let args : Args = bounded (a_type ∷ a_number ∷ a_type ∷ []) (S, (N, (Rw, tt))) (dcons dS (dcons dC (dcons dR (dcons dRC dnil)))) in
     let fn : Fn = inst_fn args code.function in
     let 𝓣 = tables 𝓤 𝓛.H 𝓜 𝓡 𝓡.env in
     let hs : Stays En.signature.params En.kept = (stay_dropped _ no, (stay_dropped _ yes, tt)) in
     let W = walk_of 𝓛 En hs c in
-    let Row : NamedLft → RattleType = λ a. DT.the_row a (copied 0 S) (param 1 V) (param 2 N) (copied 3 Rw) gS gR gV in
-    let LS' = copied_laws 0 S LS in let LV' = param_laws 1 V LV in let LR' = copied_laws 3 Rw LR in
-    let laws : (a : NamedLft) → Laws (Row a) = λ a. DL.the_row_laws a (copied 0 S) (param 1 V) (param 2 N) (copied 3 Rw) gS gR gV LS' LV' refl LR' in
+    let Row : NamedLft → RattleType = λ a. DT.the_row a (copied 0 S) (param 1 N) (copied 2 Rw) gS gR in
+    let LS' = copied_laws 0 S LS in let LR' = copied_laws 2 Rw LR in
+    let laws : (a : NamedLft) → Laws (Row a) = λ a. DL.the_row_laws a (copied 0 S) (param 1 N) (copied 2 Rw) gS gR LS' refl LR' in
     proved_at 𝓛 En hs c 𝓜 𝓡 ((λ κs x w vs ok. qed 𝓛 (‵ ftrue ∷ []) ∵ updating ! $ at_once ! $ nothing ! $ fjoin ! $ nothing ! $ fjoin ! $ done !), ((λ κs x w vs ok. 𝓛.laws.⇛_intro (emp 𝓤)), tt))
-    (f.Key.name args) fn (code.unfolded 𝓤 𝓛.H 𝓜 𝓡 wired (S, (V, (N, (Rw, tt)))) dS dC dR dRC dV)
+    (f.Key.name args) fn (code.unfolded 𝓤 𝓛.H 𝓜 𝓡 wired (S, (N, (Rw, tt))) dS dC dR dRC)
     (λ z are.
     let κs = z.0.0 in let qs = z.0.1 in let a = z.0.3 in
     let Goes : W.Ghost → Type 1 = λ y. ent 𝓤 (W.pre y) (WpFn 𝓤 𝓛.H 𝓣.C 𝓣.Λ fn (W.args y) (W.post y)) in
-    one (lone (Row (named_lft 6 0 tt κs)).mir) (λ vs. Goes ((κs, qs, z.0.2, a, (vs, z.0.4.1)), z.1)) (λ vd td. one (lone (ShrRef (named 1) κs.1.0 (ArrayAt u8 (param 2 N))).mir) (λ vs. Goes ((κs, qs, z.0.2, a, (vd ∷ [], (vs, tt))), z.1)) (λ vt tt'.
+    one (lone (Row (named_lft 5 0 tt κs)).mir) (λ vs. Goes ((κs, qs, z.0.2, a, (vs, z.0.4.1)), z.1)) (λ vd td. one (lone (ShrRef (named 1) κs.1.0 (ArrayAt u8 (param 1 N))).mir) (λ vs. Goes ((κs, qs, z.0.2, a, (vd ∷ [], (vs, tt))), z.1)) (λ vt tt'.
     let κ = κs.0 in let q = qs.0 in let d = a.0 in
     let y : W.Ghost = ((κs, qs, z.0.2, a, (vd ∷ [], (vt ∷ [], tt))), z.1) in
     let typed = td.0 in
-    let others = ‵ (flft κs.1.0 qs.1.0) ⊛ ‵ (flft κs.1.1.0 qs.1.1.0) ⊛ ‵ (flft κs.1.1.1.0 qs.1.1.1.0) ⊛ ‵ (flft κs.1.1.1.1.0 qs.1.1.1.1.0) ⊛ ‵ (flft κs.1.1.1.1.1.0 qs.1.1.1.1.1.0) ⊛ ‵ ftrue in
+    let others = ‵ (flft κs.1.0 qs.1.0) ⊛ ‵ (flft κs.1.1.0 qs.1.1.0) ⊛ ‵ (flft κs.1.1.1.0 qs.1.1.1.0) ⊛ ‵ (flft κs.1.1.1.1.0 qs.1.1.1.1.0) ⊛ ‵ ftrue in
     let SRow : RattleType = ST.the_row (record { mir = named 0; lft = κ }) in
     let L = gS in
     let front = take d.run.message_bytes d.dst.now in
@@ -87,7 +87,7 @@ finalize_spec 𝓤 𝓛 𝓜 𝓡 wired S V n Rw LS LV fits LR CS CR gS dS gC dC
     let Found : Type 0 → Type 0 = λ P. IsAccepted L.VARIANT n holds front a.1.0.now P in
     qed 𝓛 (raw (G.pre y) ∷ []) ∵ enter ! _ _ _ _ _ $ alloc_all ! (λ l. pass_all ! refl (typed, (tt'.0, tt)) $
     sets ! (of_opd ! (get ! refl)) refl typed $
-    calls_at ! (framed 𝓤 𝓛.H 𝓜 𝓣) G (check_tag_met 𝓤 𝓛 𝓜 𝓡 (code.calls-aegis_engine::decryptor::Decryptor::check_tag 𝓡.env wired) S V n Rw LS LV fits LR CS CR gS dS gC dC gR dR gRC dRC gV dV mS mC mR mRC mV) y
+    calls_at ! (framed 𝓤 𝓛.H 𝓜 𝓣) G (check_tag_met 𝓤 𝓛 𝓜 𝓡 (code.calls-aegis_engine::decryptor::Decryptor::check_tag 𝓡.env wired) S n Rw LS fits LR CS CR gS dS gC dC gR dR gRC dRC mS mC mR mRC) y
     (and_then ! (get ! refl) (and_then ! (get ! refl) (no_more !))) (λ v.
     use1 𝓛 (later (some (λ (r : SRow.Denot). ((‵ (flft κ q) ⊛ others) ⊛ ‵ (SRow.own_val r (v ∷ []))) ⊛ some (λ (ws : Lasts Gn κs a). ‵ (lasts Gn κs a ws)
     ⊛ (raw (fact 𝓤 (r.dst.ghost_name ≡ d.dst.ghost_name)) ⊛ raw (fact 𝓤 (r.dst.ref_ptr ≡ d.dst.ref_ptr)) ⊛ raw (fact 𝓤 (r.written ≡ d.run.message_bytes)) ⊛ raw (fact 𝓤 (r.written ≤ length r.dst.now)) ⊛ raw (fact 𝓤 (r.accepted ≡ true → r.dst.now ≡ d.dst.now))
@@ -111,4 +111,4 @@ finalize_spec 𝓤 𝓛 𝓜 𝓡 wired S V n Rw LS LV fits LR CS CR gS dS gC dC
       (λ key nonce ad stands. let same = tagged key nonce ad stands in ((λ ok. same.0 (ok_accepted o by_cases ok)), (λ is. accepted_ok o by_cases (same.1 is)))),
       (λ key nonce ad m stands opens. accepted_ok o by_cases (found key nonce ad m stands opens)),
     ) $ done !)))))))))))))))))
-    z.0.4.1.0 ((shr_Lawful 𝓛 (named 1) κs.1.0 (ArrayAt u8 (param 2 N))).typed a.1.0 z.0.4.1.0 are.1.0)) z.0.4.0 (((laws (named_lft 6 0 tt κs)).lawful 𝓛).typed a.0 z.0.4.0 are.0))
+    z.0.4.1.0 ((shr_Lawful 𝓛 (named 1) κs.1.0 (ArrayAt u8 (param 1 N))).typed a.1.0 z.0.4.1.0 are.1.0)) z.0.4.0 (((laws (named_lft 5 0 tt κs)).lawful 𝓛).typed a.0 z.0.4.0 are.0))

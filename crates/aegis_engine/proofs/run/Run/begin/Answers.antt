@@ -1,18 +1,17 @@
-use Rattle.std.proofs.Common.{length, refl, arith}
+-- One piece is all of the associated data.
+use Rattle.std.proofs.Common.{ap, length}
+use Rattle.std.proofs.lemmas.List.{append-nil}
 use Rattle.aegis_base.proofs.AppendFacts.{ciphertext-none}
-use Rattle.aegis_base.proofs.HeldFacts.{stands-begun}
-use Rattle.aegis_base.proofs.MessageFacts.{block_count-below}
 use Rattle.aegis_engine.proofs.run.Run.begin.Goals as goal
 
-pub invariant_of-result : goal.invariant_of-result
-invariant_of-result g c =
-    let some = block_count-below g.S.LaneState.VARIANT (length c.args.ad.now) g.met.S.LaneState.one_two_or_four in
-    (omega (arith, c.begun.ensures.updates), c.requires.associated_data_within)
+pub begin_with-requires-clause-associated_data_within : goal.begin_with-requires-clause-associated_data_within
+begin_with-requires-clause-associated_data_within g c = rw (append-nil c.args.ad.now) c.requires.associated_data_within
 
 pub returns-clause-stands : goal.returns-clause-stands
-returns-clause-stands g c =
-    let L = g.S.LaneState in
-    stands-begun L.VARIANT (L.lane c.begun.result) (L.updates c.begun.result) _ _ c.args.key.now c.args.nonce.now c.args.ad.now refl c.begun.ensures.updates c.begun.ensures.lanes
+returns-clause-stands g c = rw (append-nil c.args.ad.now) at c.begin_with.ensures.stands
 
 pub returns-clause-empty : goal.returns-clause-empty
 returns-clause-empty g c = ciphertext-none g.S.LaneState.VARIANT _
+
+pub returns-clause-data_bytes : goal.returns-clause-data_bytes
+returns-clause-data_bytes g c = rw (append-nil c.args.ad.now) at c.begin_with.ensures.data_bytes

@@ -1,4 +1,4 @@
-use Rattle.std.proofs.Common.{refl, ◌∙◌, inr}
+use Rattle.std.proofs.Common.{refl, inr}
 use Rattle.aegis.proofs.Sealed.{opened, opens}
 use Rattle.aegis.proofs.record.record_cipher.RecordCipher.open.Goals as goal
 
@@ -7,9 +7,9 @@ returns-in-Ok-clause-opened g c =
     let s = c.args.self.now in
     let p = c.args.place in
     let parts = rw c.unwrap.ensures at c.split_last_chunk.ensures.cases in
-    let ad = c.deref.ensures.value ∙ c.in_ok-write_data.ensures.ok in
-    let key = c.new-cipher.ensures.key in
-    let number = c.new-cipher.ensures.nonce ∙ c.nonce.ensures in
+    let ad = rw c.new-bytes.ensures at c.pieces-pieces.ensures.are in
+    let key = c.cipher.ensures.key in
+    let number = c.cipher.ensures.nonce in
     opened s.key.now s.prefix.now s.context.now p.version p.number p.before p.flag c.in-Ok.message.items c.args.sealed.now c.unwrap.result.0.now c.unwrap.result.1.now
     (rw (ad, key, number) at c.in-Ok.ensures.opened) parts.0 parts.1
 
@@ -18,9 +18,9 @@ returns-in-Err-InvalidTag-clause-refused g c =
     let s = c.args.self.now in
     let p = c.args.place in
     let parts = rw c.unwrap.ensures at c.split_last_chunk.ensures.cases in
-    let ad = c.deref.ensures.value ∙ c.in_ok-write_data.ensures.ok in
-    let key = c.new-cipher.ensures.key in
-    let number = c.new-cipher.ensures.nonce ∙ c.nonce.ensures in
+    let ad = rw c.new-bytes.ensures at c.pieces-pieces.ensures.are in
+    let key = c.cipher.ensures.key in
+    let number = c.cipher.ensures.nonce in
     inr (
       λ m e. rw (ad, key, number) at c.in-Err-InvalidTag.ensures.accepted m
           (opens s.key.now s.prefix.now s.context.now p.version p.number p.before p.flag m c.args.sealed.now c.unwrap.result.0.now c.unwrap.result.1.now e parts.0 parts.1)

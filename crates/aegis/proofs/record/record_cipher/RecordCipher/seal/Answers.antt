@@ -9,9 +9,9 @@ use Rattle.aegis.proofs.record.record_cipher.RecordCipher.seal.Goals as goal
 
 pub loop-piece-init : goal.loop-piece-init
 loop-piece-init g c =
-    let ad = c.deref.ensures.value ∙ c.in_ok-write_data.ensures.ok in
-    let key = c.new-cipher.ensures.key in
-    let number = c.new-cipher.ensures.nonce ∙ c.nonce.ensures in
+    let ad = rw c.new-bytes.ensures at c.pieces-pieces.ensures.are in
+    let key = c.cipher.ensures.key in
+    let number = c.cipher.ensures.nonce in
     let out = c.args.out.now.items in
     record {
       can_next = search rules;
@@ -19,8 +19,8 @@ loop-piece-init g c =
       sealed = record {
         done = [];
         parts = search rules;
-        stands = rw (ad, key, number) at c.encryptor-encryptor.ensures.stands;
-        bytes = c.encryptor-encryptor.ensures.length;
+        stands = rw (ad, key, number) at c.encryptor_with-encryptor.ensures.stands;
+        bytes = c.encryptor_with-encryptor.ensures.length;
         items = sym (append-nil out) ∙ ap (λ (l : List ℕ). out ++ l) (sym (ciphertext-none Aegis256 _));
       };
     }

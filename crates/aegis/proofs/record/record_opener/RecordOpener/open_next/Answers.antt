@@ -35,12 +35,12 @@ returns-in_err-frame-clause-accepted g c =
       last = λ going. only_memory _ c.args.bytes.now _ c.in_err-frame.ensures.refused true;
     })
 
-pub invariant_of-self-2 : goal.invariant_of-self-2
-invariant_of-self-2 g c =
+pub invariant_of-self : goal.invariant_of-self
+invariant_of-self g c =
     let long = record_long _ _ _ _ _ _ _ _ _ _ c.in_ok-frame.ensures.opened in
     let fits = rw (← c.self.view_is) at c.requires in
     let size = c.len.ensures ∙ c.in_ok-frame.message.ok.0 in
-    (c.self.invariant.0, omega (arith, long, fits, size), omega (arith, c.self.invariant.2, c.open_record.ensures.capacity))
+    (c.self.invariant.0, omega (arith, long, fits, size))
 
 pub returns-clause-opened : goal.returns-clause-opened
 returns-clause-opened g c =

@@ -6,7 +6,7 @@ use Rattle.aegis.proofs.Stepwise.{begun_ends, begun_fault, begun_next, begun_ope
 use Rattle.aegis.proofs.record.record_opener.RecordOpener.open_next_in_place.Goals as goal
 
 pub returns-then-self-clause-refused : goal.returns-then-self-clause-refused
-returns-then-self-clause-refused g c = record {
+returns-then-self-clause-refused c = record {
   fault = λ going. absurd (true≢false (rw (← c.self.view_is, c.if-self.true) at going));
   first = λ key prefix context ms before more b cut. absurd (true≢false (rw (← c.self.view_is, c.if-self.true) at (begun_open _ key prefix context ms before b)));
   cut = search rules;
@@ -16,7 +16,7 @@ returns-then-self-clause-refused g c = record {
 }
 
 pub returns-in_err-flag-clause-refused : goal.returns-in_err-flag-clause-refused
-returns-in_err-flag-clause-refused g c =
+returns-in_err-flag-clause-refused c =
     let p = err_from_is_err_and c.from_residual.result c.from_residual.ensures.1 in
     rw (p.1, p.2, ← c.self.view_is) (record {
       fault = λ going. c.in_err-flag.ensures.refused;
@@ -28,22 +28,22 @@ returns-in_err-flag-clause-refused g c =
     })
 
 pub returns-in_err-flag-clause-accepted : goal.returns-in_err-flag-clause-accepted
-returns-in_err-flag-clause-accepted g c =
+returns-in_err-flag-clause-accepted c =
     let p = err_from_is_err_and c.from_residual.result c.from_residual.ensures.1 in
     rw (p.1, ← c.self.view_is) (record {
       next = λ going. no_fault _ c.args.bytes.now _ c.in_err-flag.ensures.refused false;
       last = λ going. no_fault _ c.args.bytes.now _ c.in_err-flag.ensures.refused true;
     })
 
-pub invariant_of-self-2 : goal.invariant_of-self-2
-invariant_of-self-2 g c =
+pub invariant_of-self : goal.invariant_of-self
+invariant_of-self c =
     let long = record_long _ _ _ _ _ _ _ _ _ _ c.in_ok-flag.ensures.opened in
     let fits = rw (← c.self.view_is) at c.requires in
     let size = c.in_ok-flag.ensures.message_len in
-    (c.self.invariant.0, omega (arith, long, fits, size), omega (arith, c.self.invariant.2, c.open_record_in_place.ensures.capacity))
+    (c.self.invariant.0, omega (arith, long, fits, size))
 
 pub returns-clause-opened : goal.returns-clause-opened
-returns-clause-opened g c =
+returns-clause-opened c =
     let read = read_of _ _ _ _ _ c.in_ok-flag.ensures.opened in
     let size = c.in_ok-flag.ensures.message_len in
     let long = record_long _ _ _ _ _ _ _ _ _ _ c.in_ok-flag.ensures.opened in
@@ -59,14 +59,14 @@ returns-clause-opened g c =
     })
 
 pub returns-clause-written : goal.returns-clause-written
-returns-clause-written g c = record {
+returns-clause-written c = record {
   message_len = c.in_ok-flag.ensures.message_len;
   written = c.in_ok-flag.ensures.written;
   size = omega (arith, record_long _ _ _ _ _ _ _ _ _ _ c.in_ok-flag.ensures.opened, c.in_ok-flag.ensures.message_len);
 }
 
 pub returns-clause-accepted : goal.returns-clause-accepted
-returns-clause-accepted g c =
+returns-clause-accepted c =
     let size = sym c.in_ok-flag.ensures.message_len in
     let one = read_one _ _ _ _ _ (read_of _ _ _ _ _ c.in_ok-flag.ensures.opened) in
     rw (← c.self.view_is) (record {

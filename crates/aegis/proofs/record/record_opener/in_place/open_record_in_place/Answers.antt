@@ -11,40 +11,40 @@ use Rattle.aegis.proofs.Sealed.{sealed-is}
 use Rattle.aegis.proofs.record.record_opener.in_place.open_record_in_place.Goals as goal
 
 pub returns-in_err-frame-clause-erased : goal.returns-in_err-frame-clause-erased
-returns-in_err-frame-clause-erased g c =
+returns-in_err-frame-clause-erased c =
     let p = err_from_is_err_and c.from_residual.result c.from_residual.ensures.1 in
     rw (p.1, p.2) (λ e. absurd (parts_known c.args.version c.args.bytes.now c.args.number (rw e at c.in_err-frame.ensures)))
 
 pub split_at_mut-body-requires : goal.split_at_mut-body-requires
-split_at_mut-body-requires g c =
+split_at_mut-body-requires c =
     let f = c.in_ok-frame.frame in
     (parts_cut c.args.version c.args.bytes.now (f.flag, f.sealed.now, f.rest.now) c.in_ok-frame.ensures).five
 
 pub split_at_mut-sealed-requires : goal.split_at_mut-sealed-requires
-split_at_mut-sealed-requires g c =
+split_at_mut-sealed-requires c =
     let f = c.in_ok-frame.frame in
     let cut = parts_cut c.args.version c.args.bytes.now (f.flag, f.sealed.now, f.rest.now) c.in_ok-frame.ensures in
     omega (arith, ap length (c.split_at_mut-body.ensures.back ∙ cut.body), length-append f.sealed.now f.rest.now)
 
 pub open_in_place-requires-clause-long : goal.open_in_place-requires-clause-long
-open_in_place-requires-clause-long g c =
+open_in_place-requires-clause-long c =
     let f = c.in_ok-frame.frame in
     let cut = parts_cut c.args.version c.args.bytes.now (f.flag, f.sealed.now, f.rest.now) c.in_ok-frame.ensures in
     omega (arith, c.split_at_mut-sealed.ensures.front_len, cut.long)
 
 pub open_in_place-requires-clause-within : goal.open_in_place-requires-clause-within
-open_in_place-requires-clause-within g c =
+open_in_place-requires-clause-within c =
     let f = c.in_ok-frame.frame in
     let cut = parts_cut c.args.version c.args.bytes.now (f.flag, f.sealed.now, f.rest.now) c.in_ok-frame.ensures in
     omega (arith, c.split_at_mut-sealed.ensures.front_len, cut.within)
 
 pub overflow_sub-result : goal.overflow_sub-result
-overflow_sub-result g c =
+overflow_sub-result c =
     let f = c.in_ok-frame.frame in
     (parts_cut c.args.version c.args.bytes.now (f.flag, f.sealed.now, f.rest.now) c.in_ok-frame.ensures).long
 
 pub returns-in-Ok-clause-opened : goal.returns-in-Ok-clause-opened
-returns-in-Ok-clause-opened g c =
+returns-in-Ok-clause-opened c =
     let f = c.in_ok-frame.frame in
     let s = c.args.cipher.now in
     let a = c.split_at_mut-body in
@@ -63,7 +63,7 @@ returns-in-Ok-clause-opened g c =
     rw (now.message, now.others, is.rest_is) sound
 
 pub returns-in-Ok-clause-written : goal.returns-in-Ok-clause-written
-returns-in-Ok-clause-written g c =
+returns-in-Ok-clause-written c =
     let f = c.in_ok-frame.frame in
     let a = c.split_at_mut-body in
     let b = c.split_at_mut-sealed in
@@ -75,7 +75,7 @@ returns-in-Ok-clause-written g c =
     now.is ∙ ap (with_message c.args.bytes.now) (sym now.message)
 
 pub returns-in-Err-clause-refused : goal.returns-in-Err-clause-refused
-returns-in-Err-clause-refused g c =
+returns-in-Err-clause-refused c =
     let f = c.in_ok-frame.frame in
     let a = c.split_at_mut-body in
     let b = c.split_at_mut-sealed in
@@ -86,7 +86,7 @@ returns-in-Err-clause-refused g c =
     rw c.in_ok-frame.ensures ((λ m e. c.in-Err.ensures.refused.0 m (e ∙ sym is.cut_is)), c.in-Err.ensures.refused.1)
 
 pub returns-in-Err-clause-erased : goal.returns-in-Err-clause-erased
-returns-in-Err-clause-erased g c damaged =
+returns-in-Err-clause-erased c damaged =
     let f = c.in_ok-frame.frame in
     let a = c.split_at_mut-body in
     let b = c.split_at_mut-sealed in

@@ -6,10 +6,10 @@ use Rattle.aegis.proofs.record.record_sealer.RecordSealer.seal_next_in_place.Goa
 
 pub returns-clause-written : goal.returns-clause-written
 unfolding record_of
-returns-clause-written g c = rw (← c.self.view_is) c.seal_record_in_place.ensures.written
+returns-clause-written c = rw (← c.self.view_is) c.seal_record_in_place.ensures
 
 pub returns-clause-begun : goal.returns-clause-begun
-returns-clause-begun g c =
-    rw (returns-clause-written g c, ← c.self.view_is) (begun_more _ _ _
+returns-clause-begun c =
+    rw (returns-clause-written c, ← c.self.view_is) (begun_more _ _ _
     (record { key = refl; prefix = refl; context = refl; version = refl; number = refl; before = omega (arith, length-record_of); unended = refl })
     (omega (arith, c.requires.within, length-take (length c.args.buffer.now - 37) (drop 5 c.args.buffer.now))))

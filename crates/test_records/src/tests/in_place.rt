@@ -2,7 +2,7 @@
 
 ghost use Rattle.std.specs.Prelude.{◌<◌, ◌≤◌};
 
-use crate::tests::records::streams::{CONTEXT, FIRST, KEY, MESSAGES, PREFIX, SECOND};
+use crate::tests::streams::{CONTEXT, FIRST, KEY, MESSAGES, PREFIX, SECOND};
 use aegis::ERASED;
 use aegis::record::{
     MAX_MESSAGE_BYTES, OpenedInPlace, RECORD_BYTES, RECORD_HEAD_BYTES, RecordError, RecordOpener,
@@ -10,7 +10,6 @@ use aegis::record::{
 };
 use std::alloc::Allocator;
 use std::test::Fail;
-use test_tools::memory::Rationed;
 
 // What opening the two stored records returns.
 const OPENED: [OpenedInPlace; 2] = [
@@ -25,10 +24,7 @@ const OPENED: [OpenedInPlace; 2] = [
 ];
 
 // Opens the next record of a stream that is not too long for the opener.
-fn opened<A: Allocator + Copy>(
-    opener: &mut RecordOpener<'_, A>,
-    bytes: &mut [u8],
-) -> Result<OpenedInPlace, RecordError> {
+fn opened(opener: &mut RecordOpener<'_>, bytes: &mut [u8]) -> Result<OpenedInPlace, RecordError> {
     if bytes.len() as u64 >= opener.remaining() {
         return Err(RecordError::TooLong);
     }
@@ -39,7 +35,7 @@ fn opened<A: Allocator + Copy>(
 fn records_are_opened_in_their_buffer(rt: HostRuntime) -> Result<(), Fail> {
     for stream in [FIRST, SECOND] {
         let mut buffer = stream;
-        let mut opener = RecordOpener::new(rt.alloc(), &KEY, &PREFIX, &CONTEXT, &stream[..4])?;
+        let mut opener = RecordOpener::new(&KEY, &PREFIX, &CONTEXT, &stream[..4])?;
         assert_eq!(rt; opened(&mut opener, &mut buffer[4..]), Ok(OPENED[0]));
         assert_eq!(rt; opened(&mut opener, &mut buffer[41..]), Ok(OPENED[1]));
         let mut expected = stream;
@@ -51,25 +47,14 @@ fn records_are_opened_in_their_buffer(rt: HostRuntime) -> Result<(), Fail> {
 
 #[test]
 fn what_opens_in_place_opens_into_a_vector(rt: HostRuntime) -> Result<(), Fail> {
-    let mut opener = RecordOpener::new(rt.alloc(), &KEY, &PREFIX, &CONTEXT, &SECOND[..4])?;
+    let mut opener = RecordOpener::new(&KEY, &PREFIX, &CONTEXT, &SECOND[..4])?;
     let mut buffer = SECOND;
     assert_eq!(rt; opened(&mut opener, &mut buffer[4..]), Ok(OPENED[0]));
     if opener.remaining() > 40 {
-        let second = opener.open_next(&buffer[41..])?;
+        let second = opener.open_next(rt.alloc(), &buffer[41..])?;
         assert_eq!(rt; second.message.as_slice(), MESSAGES[1]);
         assert!(rt; second.is_last);
     }
-    Ok(())
-}
-
-#[test]
-fn no_memory_is_taken_in_place(rt: HostRuntime) -> Result<(), Fail> {
-    let heap = Rationed::new(rt.alloc(), 1);
-    let mut opener = RecordOpener::new(&heap, &KEY, &PREFIX, &CONTEXT, &SECOND[..4])?;
-    assert_eq!(rt; heap.left(), 0);
-    let mut buffer = SECOND;
-    assert_eq!(rt; opened(&mut opener, &mut buffer[4..]), Ok(OPENED[0]));
-    assert_eq!(rt; opened(&mut opener, &mut buffer[41..]), Ok(OPENED[1]));
     Ok(())
 }
 
@@ -83,11 +68,11 @@ fn changed(place: usize, byte: u8) -> [u8; 81]
 }
 
 // Why the second record of a stream is refused, once the first one is opened.
-fn refusal(rt: &HostRuntime, stream: &mut [u8; 81], end: usize) -> Option<RecordError>
+fn refusal(stream: &mut [u8; 81], end: usize) -> Option<RecordError>
     requires start { 41 ≤ end }
     requires end { end ≤ 81 }
 {
-    match RecordOpener::new(rt.alloc(), &KEY, &PREFIX, &CONTEXT, &SECOND[..4]) {
+    match RecordOpener::new(&KEY, &PREFIX, &CONTEXT, &SECOND[..4]) {
         Ok(mut opener) => {
             let first = opened(&mut opener, &mut stream[4..]);
             first
@@ -105,7 +90,7 @@ fn a_wrong_tag_erases_the_ciphertext(rt: HostRuntime) {
         let mut expected = stream;
         expected[46..49].fill(ERASED);
         assert_eq!(rt;
-            refusal(&rt, &mut stream, 81),
+            refusal(&mut stream, 81),
             Some(RecordError::Damaged(1)),
             "{place}"
         );
@@ -123,13 +108,13 @@ fn no_other_refusal_changes_the_buffer(rt: HostRuntime) {
     for (place, byte, error) in faults {
         let mut stream = changed(place, byte);
         let expected = stream;
-        assert_eq!(rt; refusal(&rt, &mut stream, 81), Some(error), "{place}");
+        assert_eq!(rt; refusal(&mut stream, 81), Some(error), "{place}");
         assert_eq!(rt; stream, expected, "{place}");
     }
     for end in 41..81usize {
         let mut stream = SECOND;
         assert_eq!(rt;
-            refusal(&rt, &mut stream, end),
+            refusal(&mut stream, end),
             Some(RecordError::Truncated),
             "{end}"
         );
@@ -139,7 +124,7 @@ fn no_other_refusal_changes_the_buffer(rt: HostRuntime) {
 
 #[test]
 fn after_the_last_record_the_buffer_is_left(rt: HostRuntime) -> Result<(), Fail> {
-    let mut opener = RecordOpener::new(rt.alloc(), &KEY, &PREFIX, &CONTEXT, &SECOND[..4])?;
+    let mut opener = RecordOpener::new(&KEY, &PREFIX, &CONTEXT, &SECOND[..4])?;
     let mut stream = SECOND;
     opened(&mut opener, &mut stream[4..])?;
     opened(&mut opener, &mut stream[41..])?;
@@ -154,10 +139,7 @@ fn after_the_last_record_the_buffer_is_left(rt: HostRuntime) -> Result<(), Fail>
 }
 
 // Seals a message behind these bytes, where it lies, if it is not too long for the sealer.
-fn seal_in_place<A: Allocator + Copy>(
-    sealer: &mut RecordSealer<'_, A>,
-    record: &mut [u8],
-) -> Result<(), RecordError> {
+fn seal_in_place(sealer: &mut RecordSealer<'_>, record: &mut [u8]) -> Result<(), RecordError> {
     let len = record.len() as u64;
     if len < RECORD_BYTES || len > MAX_MESSAGE_BYTES as u64 || sealer.remaining() < len {
         return Err(RecordError::TooLong);
@@ -167,8 +149,8 @@ fn seal_in_place<A: Allocator + Copy>(
 }
 
 // Appends the record of the next message, if it is not too long for the sealer.
-fn seal<A: Allocator + Copy>(
-    sealer: &mut RecordSealer<'_, A>,
+fn seal<A: Allocator>(
+    sealer: &mut RecordSealer<'_>,
     message: &[u8],
     out: &mut Vec<u8, A>,
 ) -> Result<(), RecordError> {
@@ -183,8 +165,8 @@ fn seal<A: Allocator + Copy>(
 fn records_sealed_in_place_are_those_of_a_vector(rt: HostRuntime) -> Result<(), Fail> {
     let text = [0x5a; 1000];
     let mut header = Vec::new(rt.alloc());
-    let mut in_place = RecordSealer::new(rt.alloc(), &KEY, &PREFIX, &CONTEXT, &mut header)?;
-    let mut appending = RecordSealer::new(rt.alloc(), &KEY, &PREFIX, &CONTEXT, &mut header)?;
+    let mut in_place = RecordSealer::new(&KEY, &PREFIX, &CONTEXT, &mut header)?;
+    let mut appending = RecordSealer::new(&KEY, &PREFIX, &CONTEXT, &mut header)?;
     for len in [0, 1, 15, 16, 17, 255, 256, 1000usize] {
         let mut record = [0xff; 1037];
         record[RECORD_HEAD_BYTES..][..len].copy_from_slice(&text[..len]);
@@ -195,17 +177,5 @@ fn records_sealed_in_place_are_those_of_a_vector(rt: HostRuntime) -> Result<(), 
         assert_eq!(rt; &*record, expected.as_slice(), "{len}");
     }
     assert!(rt; in_place.position() == appending.position());
-    Ok(())
-}
-
-#[test]
-fn no_memory_is_taken_to_seal_in_place(rt: HostRuntime) -> Result<(), Fail> {
-    let heap = Rationed::new(rt.alloc(), 2);
-    let mut header = Vec::new(&heap);
-    let mut sealer = RecordSealer::new(&heap, &KEY, &PREFIX, &CONTEXT, &mut header)?;
-    assert_eq!(rt; heap.left(), 0);
-    let mut stream = [0; 41];
-    seal_in_place(&mut sealer, &mut stream[4..])?;
-    assert_eq!(rt; stream[4..], SECOND[4..41]);
     Ok(())
 }

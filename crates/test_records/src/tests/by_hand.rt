@@ -3,7 +3,7 @@
 
 ghost use Rattle.std.specs.Prelude.{◌≤◌};
 
-use crate::tests::records::streams::{CONTEXT, KEY, PREFIX};
+use crate::tests::streams::{CONTEXT, KEY, PREFIX};
 use aegis::aegis256::Aegis256;
 use aegis::record::{open_records, seal_records};
 use std::alloc::{AllocError, Global};

@@ -2,7 +2,7 @@ use Rattle.std.proofs.Common.{◌≡◌, ℕ, ◌+◌, ◌≤◌, List, ◌++◌
 use Rattle.std.specs.Slice.Iter.{chunks_rest}
 use Rattle.aegis_base.specs.declared.error.TheConstants.{MAX_AEAD_BYTES}
 use Rattle.aegis_engine.specs.Saved.{HasChecked}
-use Rattle.aegis_engine.proofs.saved.SavedRun.check.Given as goal
+use Rattle.aegis_engine.proofs.saved.SavedRun.decrypt_check.Given as goal
 
 abbrev pub invariant-loop-piece : goal.invariant-loop-piece
 invariant-loop-piece g l =

@@ -2,8 +2,8 @@
 
 ghost use Rattle.std.specs.Prelude.{◌≡◌};
 
-use crate::tests::records::steps::opened;
-use crate::tests::records::streams::{CONTEXT, FIRST, KEY, NEW_PREFIX, PREFIX, SECOND};
+use crate::tests::steps::opened;
+use crate::tests::streams::{CONTEXT, FIRST, KEY, NEW_PREFIX, PREFIX, SECOND};
 use aegis::record::{RecordError, RecordOpener, RecordPosition, RecordSealer, Version};
 use std::test::Fail;
 
@@ -22,7 +22,7 @@ fn second(version: Version) -> RecordPosition
 #[test]
 fn positions_count_records_and_bytes(rt: HostRuntime) -> Result<(), Fail> {
     let mut stream = Vec::new(rt.alloc());
-    let mut sealer = RecordSealer::new(rt.alloc(), &KEY, &PREFIX, &CONTEXT, &mut stream)?;
+    let mut sealer = RecordSealer::new(&KEY, &PREFIX, &CONTEXT, &mut stream)?;
     let first = sealer.position();
     sealer.seal_next(b"three", &mut stream)?;
     let next = sealer.position();
@@ -43,7 +43,7 @@ fn positions_count_records_and_bytes(rt: HostRuntime) -> Result<(), Fail> {
             before: 5
         }
     );
-    let opener = RecordOpener::begin_at(rt.alloc(), &KEY, &PREFIX, &CONTEXT, next)?;
+    let opener = RecordOpener::begin_at(&KEY, &PREFIX, &CONTEXT, next);
     assert_eq!(rt; opener.position(), next);
     Ok(())
 }
@@ -52,8 +52,8 @@ fn positions_count_records_and_bytes(rt: HostRuntime) -> Result<(), Fail> {
 fn a_record_is_opened_at_its_position(rt: HostRuntime) -> Result<(), Fail> {
     for (version, stream) in [(Version::First, &FIRST), (Version::Second, &SECOND)] {
         let position = second(version);
-        let mut opener = RecordOpener::begin_at(rt.alloc(), &KEY, &PREFIX, &CONTEXT, position)?;
-        let opened = opener.open_at(position, &stream[41..])?;
+        let opener = RecordOpener::begin_at(&KEY, &PREFIX, &CONTEXT, position);
+        let opened = opener.open_at(rt.alloc(), position, &stream[41..])?;
         assert_eq!(rt; opened.message.as_slice(), b"abc".as_slice());
         assert!(rt; opened.is_last);
         assert!(rt; opened.rest.is_empty());
@@ -61,7 +61,7 @@ fn a_record_is_opened_at_its_position(rt: HostRuntime) -> Result<(), Fail> {
             number: 0,
             ..position
         };
-        let opened = opener.open_at(first, &stream[4..])?;
+        let opened = opener.open_at(rt.alloc(), first, &stream[4..])?;
         assert!(rt; opened.message.is_empty());
         assert!(rt; !opened.is_last);
         assert_eq!(rt; opened.rest, &stream[41..]);
@@ -73,8 +73,8 @@ fn a_record_is_opened_at_its_position(rt: HostRuntime) -> Result<(), Fail> {
 #[test]
 fn an_opener_goes_on_from_a_position(rt: HostRuntime) -> Result<(), Fail> {
     let position = second(Version::Second);
-    let mut opener = RecordOpener::begin_at(rt.alloc(), &KEY, &PREFIX, &CONTEXT, position)?;
-    let opened = opened(&mut opener, &SECOND[41..])?;
+    let mut opener = RecordOpener::begin_at(&KEY, &PREFIX, &CONTEXT, position);
+    let opened = opened(rt.alloc(), &mut opener, &SECOND[41..])?;
     assert_eq!(rt; opened.message.as_slice(), b"abc".as_slice());
     assert!(rt; opened.is_last);
     Ok(())
@@ -84,8 +84,9 @@ fn an_opener_goes_on_from_a_position(rt: HostRuntime) -> Result<(), Fail> {
 fn no_other_position_opens_a_record(rt: HostRuntime) -> Result<(), Fail> {
     let position = second(Version::Second);
     let record = &SECOND[41..];
-    let mut opener = RecordOpener::begin_at(rt.alloc(), &KEY, &PREFIX, &CONTEXT, position)?;
+    let opener = RecordOpener::begin_at(&KEY, &PREFIX, &CONTEXT, position);
     let number = opener.open_at(
+        rt.alloc(),
         RecordPosition {
             number: 2,
             ..position
@@ -94,6 +95,7 @@ fn no_other_position_opens_a_record(rt: HostRuntime) -> Result<(), Fail> {
     );
     assert_eq!(rt; number.err(), Some(RecordError::Damaged(2)));
     let before = opener.open_at(
+        rt.alloc(),
         RecordPosition {
             before: 1,
             ..position
@@ -101,19 +103,19 @@ fn no_other_position_opens_a_record(rt: HostRuntime) -> Result<(), Fail> {
         record,
     );
     assert_eq!(rt; before.err(), Some(RecordError::Damaged(1)));
-    let version = opener.open_at(second(Version::First), record);
+    let version = opener.open_at(rt.alloc(), second(Version::First), record);
     assert_eq!(rt; version.err(), Some(RecordError::Damaged(1)));
     assert_eq!(rt;
-        opener.open_at(position, &[]).err(),
+        opener.open_at(rt.alloc(), position, &[]).err(),
         Some(RecordError::Truncated)
     );
     assert_eq!(rt;
-        opener.open_at(position, &[2]).err(),
+        opener.open_at(rt.alloc(), position, &[2]).err(),
         Some(RecordError::Flag)
     );
-    let mut other = RecordOpener::begin_at(rt.alloc(), &KEY, &NEW_PREFIX, &CONTEXT, position)?;
+    let other = RecordOpener::begin_at(&KEY, &NEW_PREFIX, &CONTEXT, position);
     assert_eq!(rt;
-        other.open_at(position, record).err(),
+        other.open_at(rt.alloc(), position, record).err(),
         Some(RecordError::Damaged(1))
     );
     Ok(())

@@ -2,7 +2,7 @@
 
 ghost use Rattle.std.specs.Prelude.{◌≤◌, length};
 
-use crate::tests::records::streams::{CONTEXT, KEY, PREFIX, migrated};
+use crate::tests::streams::{CONTEXT, KEY, PREFIX, migrated};
 use aegis::record::{MAX_MESSAGE_BYTES, RecordError, open_records, seal_records};
 use aegis_lines::answer_line;
 use std::alloc::Allocator;

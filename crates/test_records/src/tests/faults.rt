@@ -1,6 +1,6 @@
 //! The first fault of bytes that are no stream.
 
-use crate::tests::records::streams::{CONTEXT, FIRST, KEY, PREFIX, SECOND};
+use crate::tests::streams::{CONTEXT, FIRST, KEY, PREFIX, SECOND};
 use aegis::record::{RecordError, open_records};
 use std::test::Fail;
 

@@ -3,7 +3,7 @@ use Rattle.std.proofs.lemmas.Grind.{common_steps}
 use Rattle.std.proofs.lemmas.List.{append_assoc, length-append}
 use Rattle.std.specs.Slice.Iter.{chunks_rest}
 use Rattle.aegis_engine.proofs.SavedFacts.{checked-more, checked-none}
-use Rattle.aegis_engine.proofs.saved.SavedRun.check.Goals as goal
+use Rattle.aegis_engine.proofs.saved.SavedRun.decrypt_check.Goals as goal
 
 pub loop-piece-init : goal.loop-piece-init
 loop-piece-init g c =

@@ -1,6 +1,6 @@
 //! No memory: each request refused in turn.
 
-use crate::tests::records::streams::{
+use crate::tests::streams::{
     CONTEXT, FIRST, KEY, MESSAGES, MIGRATED, PREFIX, SECOND, migrated, opens_to_messages,
 };
 use aegis::record::{RecordError, seal_records};
@@ -11,15 +11,13 @@ use test_tools::memory::Rationed;
 // More requests than the calls below make.
 const REQUESTS: u64 = 20;
 
-// The stream is reserved whole, and so is the associated data.
+// The stream is reserved whole.
 #[test]
-fn sealing_makes_two_requests(rt: HostRuntime) -> Result<(), Fail> {
-    for requests in 0..2 {
-        let heap = Rationed::new(rt.alloc(), requests);
-        let refused = seal_records(&heap, &KEY, &PREFIX, &CONTEXT, &MESSAGES);
-        assert_eq!(rt; refused.err(), Some(RecordError::OutOfMemory), "{requests}");
-    }
-    let heap = Rationed::new(rt.alloc(), 2);
+fn sealing_makes_one_request(rt: HostRuntime) -> Result<(), Fail> {
+    let heap = Rationed::new(rt.alloc(), 0);
+    let refused = seal_records(&heap, &KEY, &PREFIX, &CONTEXT, &MESSAGES);
+    assert_eq!(rt; refused.err(), Some(RecordError::OutOfMemory));
+    let heap = Rationed::new(rt.alloc(), 1);
     let stream = seal_records(&heap, &KEY, &PREFIX, &CONTEXT, &MESSAGES)?;
     assert_eq!(rt; stream.as_slice(), SECOND.as_slice());
     assert_eq!(rt; heap.left(), 0);

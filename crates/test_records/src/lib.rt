@@ -1,0 +1,5 @@
+//! Tests of record streams.
+#![tactic(auto)]
+
+#[cfg(test)]
+mod tests;

@@ -1,0 +1,12 @@
+//! The tests, and the comparison that they share.
+
+mod rounds;
+mod rows;
+
+use std::fmt::Debug;
+use std::process::Abort;
+
+// Asserts that bytes are the expected ones, and names the case otherwise.
+fn assert_bytes<R: Abort, C: Debug>(rt: &R, bytes: &[u8], expected: &[u8], case: &C) {
+    assert_eq!(rt; bytes, expected, "{case:?}");
+}
