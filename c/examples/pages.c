@@ -1,17 +1,19 @@
 /*
- * Keeps a text in a file of sealed pages, and reads and writes it at any place:
+ * Keeps a text in a file of sealed pages, which A CRASH WHILE IT WRITES MAY LOSE, and reads and
+ * writes it at any place:
  *
  *     pages KEYFILE FILE PLACE [TEXT]
  *
  * A key file has 32 bytes. The first call makes the file. TEXT is written at PLACE, which is not
  * past the text's end; without TEXT it prints what is there, at most 4,096 bytes. Without arguments
- * it tries itself on a temporary file. It never syncs, so a crash may damage what it wrote.
+ * it tries itself on a temporary file. For safety from crashes, write by way of a journal, as the
+ * Cargo package's `raf` does; docs/PAGES.md of the repository has the format.
  *
  * cc pages.c $(pkg-config --cflags --libs hunkravy)
  */
 #define _POSIX_C_SOURCE 200809L
 
-#include "hunkravy.h"
+#include "hunkravy_pages.h"
 
 #include <fcntl.h>
 #include <stdio.h>
@@ -20,17 +22,22 @@
 #include <sys/random.h>
 #include <unistd.h>
 
-/* A file that is open, and what its newest header has. */
+#define VARIANT HUNKRAVY_AEGIS256
+#define KEY_BYTES HUNKRAVY_AEGIS256_KEY_BYTES
+#define NONCE_BYTES HUNKRAVY_AEGIS256_NONCE_BYTES
+#define ADDED_BYTES (NONCE_BYTES + HUNKRAVY_PAGE_TAG_BYTES)
+
+/* A file that is open, and what its header has. */
 struct file {
     int fd;
-    uint8_t key[HUNKRAVY_PAGE_KEY_BYTES], id[HUNKRAVY_PAGE_ID_BYTES];
+    uint8_t key[KEY_BYTES], id[HUNKRAVY_PAGE_ID_BYTES];
     uint32_t page_size;
     uint64_t counter, length;
 };
 
 /* A page, and its text. */
-static uint8_t page[HUNKRAVY_PAGE_MAX_SIZE + HUNKRAVY_PAGE_BYTES];
-static uint8_t *const text = page + HUNKRAVY_PAGE_NONCE_BYTES;
+static uint8_t page[HUNKRAVY_PAGE_MAX_SIZE + ADDED_BYTES];
+static uint8_t *const text = page + NONCE_BYTES;
 
 /* Each function returns 1, or 0 if it failed, unless its comment says otherwise. */
 
@@ -44,15 +51,15 @@ static int write_all(int fd, const uint8_t *bytes, size_t length, uint64_t place
     return pwrite(fd, bytes, length, (off_t)place) == (ssize_t)length;
 }
 
-/* Writes the header of this counter to its sector. */
+/* Writes the header of this counter. */
 static int write_header(struct file *file, uint64_t counter, uint64_t length)
 {
-    uint8_t sector[HUNKRAVY_PAGE_SECTOR_BYTES], nonce[HUNKRAVY_PAGE_NONCE_BYTES];
+    uint8_t sector[HUNKRAVY_PAGE_SECTOR_BYTES], nonce[NONCE_BYTES];
 
     if (getentropy(nonce, sizeof nonce) != 0 ||
-        hunkravy_page_header_seal(sector, file->page_size, file->id, counter, length, nonce,
-                                  file->key) != HUNKRAVY_OK ||
-        !write_all(file->fd, sector, sizeof sector, counter % 2 * sizeof sector)) {
+        hunkravy_page_header_seal(VARIANT, sector, file->page_size, file->id, counter, length,
+                                  nonce, NONCE_BYTES, file->key, KEY_BYTES) != HUNKRAVY_OK ||
+        !write_all(file->fd, sector, sizeof sector, 0)) {
         return 0;
     }
     file->counter = counter;
@@ -63,46 +70,38 @@ static int write_header(struct file *file, uint64_t counter, uint64_t length)
 static int create(struct file *file)
 {
     file->page_size = HUNKRAVY_PAGE_DEFAULT_SIZE;
-    return getentropy(file->id, sizeof file->id) == 0 && write_header(file, 0, 0) &&
-           write_header(file, 1, 0);
+    return getentropy(file->id, sizeof file->id) == 0 && write_header(file, 0, 0);
 }
 
-static int read_newest(struct file *file)
+static int read_header(struct file *file)
 {
     uint8_t sector[HUNKRAVY_PAGE_SECTOR_BYTES];
-    struct file found = *file;
-    int result = 0;
 
-    for (uint64_t turn = 0; turn < 2; turn++) {
-        if (read_all(file->fd, sector, sizeof sector, turn * sizeof sector) &&
-            hunkravy_page_header_open(sector, turn, file->key, &found.page_size, found.id,
-                                      &found.counter, &found.length) == HUNKRAVY_OK &&
-            (!result || found.counter > file->counter)) {
-            *file = found;
-            result = 1;
-        }
-    }
-    hunkravy_wipe(&found, sizeof found);
-    return result;
+    return read_all(file->fd, sector, sizeof sector, 0) &&
+           hunkravy_page_header_open(VARIANT, sector, file->key, KEY_BYTES, &file->page_size,
+                                     file->id, &file->counter, &file->length) == HUNKRAVY_OK;
 }
 
 static int read_page(const struct file *file, uint64_t number)
 {
-    size_t length = file->page_size + HUNKRAVY_PAGE_BYTES;
+    size_t length = file->page_size + ADDED_BYTES;
 
-    return read_all(file->fd, page, length, hunkravy_page_place(file->page_size, number)) &&
-           hunkravy_page_open(page, length, file->id, number, file->key) == HUNKRAVY_OK;
+    return read_all(file->fd, page, length,
+                    hunkravy_page_place(VARIANT, file->page_size, number)) &&
+           hunkravy_page_open(VARIANT, page, length, file->id, number, file->key, KEY_BYTES) ==
+               HUNKRAVY_OK;
 }
 
 /* Seals the page by a nonce that is drawn for it, and writes it. */
 static int write_page(const struct file *file, uint64_t number)
 {
-    uint8_t nonce[HUNKRAVY_PAGE_NONCE_BYTES];
-    size_t length = file->page_size + HUNKRAVY_PAGE_BYTES;
+    uint8_t nonce[NONCE_BYTES];
+    size_t length = file->page_size + ADDED_BYTES;
 
     return getentropy(nonce, sizeof nonce) == 0 &&
-           hunkravy_page_seal(page, length, file->id, number, nonce, file->key) == HUNKRAVY_OK &&
-           write_all(file->fd, page, length, hunkravy_page_place(file->page_size, number));
+           hunkravy_page_seal(VARIANT, page, length, file->id, number, nonce, NONCE_BYTES,
+                              file->key, KEY_BYTES) == HUNKRAVY_OK &&
+           write_all(file->fd, page, length, hunkravy_page_place(VARIANT, file->page_size, number));
 }
 
 /* Reads `length` bytes of the text, or those up to its end. Returns how many, or -1. */
@@ -156,7 +155,7 @@ static int try_all(struct file *file)
         bytes[i] = (uint8_t)(i % 251);
     }
     return create(file) && write_text(file, bytes, 9000, 0) &&
-           write_text(file, bytes + 6000, 6000, 6000) && read_newest(file) &&
+           write_text(file, bytes + 6000, 6000, 6000) && read_header(file) &&
            file->length == 12000 && read_text(file, part, sizeof part, 4000) == 5000 &&
            memcmp(part, bytes + 4000, sizeof part) == 0;
 }
@@ -169,7 +168,7 @@ static int run(struct file *file, char **arguments, const char *written)
 
     file->fd = open(arguments[2], O_RDWR | O_CREAT, 0600);
     if (!read_all(open(arguments[1], O_RDONLY), file->key, sizeof file->key, 0) ||
-        !(lseek(file->fd, 0, SEEK_END) == 0 ? create(file) : read_newest(file))) {
+        !(lseek(file->fd, 0, SEEK_END) == 0 ? create(file) : read_header(file))) {
         return 0;
     }
     if (written != NULL) {

@@ -12,7 +12,7 @@
  */
 #define _POSIX_C_SOURCE 200809L
 
-#include "hunkravy.h"
+#include "hunkravy_records.h"
 
 #include <stdio.h>
 #include <stdlib.h>

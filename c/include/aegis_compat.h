@@ -166,7 +166,7 @@ HUNKRAVY_MUST_USE static inline int hunkravy_compat_decrypt(uint32_t variant, ui
         return -1;
     }
     return hunkravy_compat_decrypt_detached(variant, m, c, clen - maclen,
-        hunkravy_readable(c, clen) + (clen - maclen), maclen, ad, adlen, npub, k);
+        clen == maclen ? c : c + (clen - maclen), maclen, ad, adlen, npub, k);
 }
 
 /* Writes `len` bytes of keystream to `out`. A null nonce stands for one of zeros. */

@@ -1,9 +1,9 @@
 /*
- * The names of the library's exports, over its builds for two processor levels.
+ * The names of the library's calls, over its builds for two processor levels.
  *
  * Each name is bound once, when a program is loaded: to the build for x86-64-v3 if the processor and the system have
  * AVX2, BMI2 and FMA, and otherwise to that for x86-64-v2. join.sh compiles this file and writes exports.h, a line
- * EXPORT(NAME) for each export. With HUNKRAVY_LEVEL the library is one build alone, and nothing is chosen.
+ * EXPORT(NAME) for each call. With HUNKRAVY_LEVEL the library is one build alone, and nothing is chosen.
  */
 int hunkravy_level(void);
 

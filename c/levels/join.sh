@@ -2,8 +2,9 @@
 # join.sh OUT.a V2.a V3.a: one static library of the builds for x86-64-v2 and x86-64-v3.
 # join.sh OUT.a ONE.a: one of a single build, whose level is LEVEL (0, as for ARM, if it is no level of x86-64).
 #
-# A build is one object, whose only global names are its exports. For two builds each export hunkravy_NAME becomes
-# hunkravy_v2_NAME or hunkravy_v3_NAME, and choose.c has the exports' own names.
+# A build is one object, whose only global names are its proved exports. The calls of c/library are joined with it, and
+# then its exports are local, so that only the calls have names. For two builds each call hunkravy_NAME becomes
+# hunkravy_v2_NAME or hunkravy_v3_NAME, and choose.c has the calls' own names.
 #
 # Each function begins at a multiple of 64 bytes, so that where its loops begin does not depend on the program: a loop of
 # a thousand instructions fits the processor's store of decoded instructions or not by that.
@@ -13,17 +14,31 @@ out=$1
 work=$(mktemp -d)
 trap 'rm -r "$work"' EXIT
 
+# Compiles a file.
+compile() {
+    "${CC:-gcc}" -std=gnu99 -O2 -fPIC -fno-semantic-interposition -ffunction-sections -Wall -Wextra -Wpedantic -Werror "-I$here/../include" "$@"
+}
+
 # The names of the functions that an object exports.
 exports() {
     "${NM:-nm}" --defined-only -g "$1" | awk '$2 == "T" { print $3 }'
 }
 
-# Takes the object of a build out of its archive.
+# Takes the object of a build out of its archive, and joins the calls with it.
 object() {
     archive=$(cd "$(dirname "$1")" && pwd)/$(basename "$1")
-    (cd "$work" && "${AR:-ar}" x "$archive" aegis_c.o && mv aegis_c.o "$2.o")
+    (cd "$work" && "${AR:-ar}" x "$archive" aegis_c.o)
+    "${CC:-gcc}" -r -nostdlib "$work/aegis_c.o" "$work"/calls/*.o -o "$work/$2.o"
+    rm "$work/aegis_c.o"
+    "${OBJCOPY:-objcopy}" --wildcard --localize-symbol='hunkravy_proved_*' --set-section-alignment '.text.*=64' \
+        "$work/$2.o"
 }
 
+mkdir "$work/calls"
+for file in calls records pages; do
+    compile -c "$here/../library/$file.c" -o "$work/calls/$file.o"
+done
+compile -c "$here/../library/common.c" -o "$work/common.o"
 if [ $# = 2 ]; then
     object "$2" library
     set -- "-DHUNKRAVY_LEVEL=${LEVEL:-0}"
@@ -37,9 +52,6 @@ else
     done
     set -- "-I$work"
 fi
-for object in "$work"/*.o; do
-    "${OBJCOPY:-objcopy}" --set-section-alignment ".text.*=64" "$object"
-done
-"${CC:-gcc}" -O2 -fPIC -Wall -Wextra -Wpedantic -Werror "$@" -c "$here/choose.c" -o "$work/choose.o"
+compile "$@" -c "$here/choose.c" -o "$work/choose.o"
 rm -f "$out"
 "${AR:-ar}" rcs "$out" "$work"/*.o

@@ -6,6 +6,8 @@
 #define CHECK_H
 
 #include "hunkravy.h"
+#include "hunkravy_pages.h"
+#include "hunkravy_records.h"
 
 #include <stdio.h>
 #include <stdlib.h>
@@ -82,6 +84,22 @@ static const struct variant VARIANTS[6] = {
     {"aegis128x4", HUNKRAVY_AEGIS128X4, 16}, {"aegis256", HUNKRAVY_AEGIS256, 32},
     {"aegis256x2", HUNKRAVY_AEGIS256X2, 32}, {"aegis256x4", HUNKRAVY_AEGIS256X4, 32},
 };
+
+/* ---- The words of a state, and of a record stream, which no program but a test reads or writes */
+
+enum {
+    MARK = 0,
+    DATA_BYTES = 81,
+    MESSAGE_BYTES = 82,
+    VARIANT_AND_ROLE = 83,
+    NUMBER = 1,
+    BEFORE = 2
+};
+
+static inline uint64_t variant_and_role(uint32_t variant, uint32_t role)
+{
+    return (uint64_t)role << 32 | variant;
+}
 
 /* ---- The stored lines */
 

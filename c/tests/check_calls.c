@@ -274,14 +274,27 @@ static void check_wrong_variants(void)
     }
 }
 
+/* Each code has a text of its own, and another number has none of them. */
+static void check_texts(void)
+{
+    const char *unknown = hunkravy_error_text(1);
+
+    HOLDS(strcmp(hunkravy_version(), HUNKRAVY_VERSION) == 0);
+    HOLDS(strcmp(hunkravy_error_text(HUNKRAVY_TEXT_TOO_LONG - 1), unknown) == 0);
+    for (int code = HUNKRAVY_OK; code >= HUNKRAVY_TEXT_TOO_LONG; code--) {
+        HOLDS(strcmp(hunkravy_error_text(code), unknown) != 0);
+        for (int other = HUNKRAVY_OK; other > code; other--) {
+            HOLDS(strcmp(hunkravy_error_text(code), hunkravy_error_text(other)) != 0);
+        }
+    }
+}
+
 /* No bytes may be a null pointer. */
 static void check_nothing(const struct variant *calls)
 {
     uint8_t k[32] = {0}, tag[16], mac[16], c[16];
     size_t right = calls->key_bytes;
 
-    /* An export never gets a null pointer. */
-    HOLDS(hunkravy_readable(NULL, 0) != NULL && hunkravy_writable(NULL, 0) != NULL);
     HOLDS(hunkravy_encrypt_in_place(calls->number, NULL, 0, NULL, 0, k, right, k, right, tag, 16) ==
           HUNKRAVY_OK);
     HOLDS(hunkravy_decrypt_in_place(calls->number, NULL, 0, NULL, 0, k, right, k, right, tag, 16) ==
@@ -332,6 +345,7 @@ int main(int count, char **arguments)
         HOLDS(hunkravy_key_bytes(VARIANTS[i].number) == VARIANTS[i].key_bytes);
     }
     check_wrong_variants();
+    check_texts();
     printf("hunkravy.h: %lu stored lines, %lu checks, all right\n", (unsigned long)lines, checks);
     return EXIT_SUCCESS;
 }

@@ -1,35 +1,60 @@
 /*
  * The calls on sealed pages and their headers: pages of several sizes against the call at once on
- * the bytes of the format, each changed byte, pages and headers of another number, file, key or
- * turn, wrong lengths, and the limits. It ends with status 0 only if every result is right.
+ * the bytes of the format, each changed byte, pages and headers of another number, file or key,
+ * wrong lengths, and the limits. It ends with status 0 only if every result is right.
  */
 #include "check.h"
 
-#define NONCE HUNKRAVY_PAGE_NONCE_BYTES
-#define MORE HUNKRAVY_PAGE_BYTES
+#define TAG HUNKRAVY_PAGE_TAG_BYTES
+#define MOST_MORE HUNKRAVY_PAGE_MAX_ADDED_BYTES
 #define SECTOR HUNKRAVY_PAGE_SECTOR_BYTES
 #define CLEAR 33
-#define HEADER (CLEAR + MORE + 16)
 #define MOST_TEXT HUNKRAVY_PAGE_MAX_TEXT_BYTES
 
 static const uint32_t SIZES[] = {256, 257, 271, 272, 511, 512, 4096, 65535, 65536};
 
 #define COUNT(values) (sizeof(values) / sizeof(values)[0])
 
-/* What the boxes of a file are sealed under. */
+/* What the boxes of a file are sealed under. The keys and nonces of the variant have n bytes. */
 struct layout {
-    uint8_t k[HUNKRAVY_PAGE_KEY_BYTES], id[HUNKRAVY_PAGE_ID_BYTES];
+    const struct variant *variant;
+    size_t n;
+    uint8_t k[32], id[HUNKRAVY_PAGE_ID_BYTES];
     uint32_t size;
 };
 
-static struct layout layout_of(uint32_t size)
+static struct layout layout_of(const struct variant *variant, uint32_t size)
 {
     struct layout layout;
 
+    layout.variant = variant;
+    layout.n = variant->key_bytes;
     fill(layout.k, sizeof layout.k);
     fill(layout.id, sizeof layout.id);
     layout.size = size;
     return layout;
+}
+
+/* The calls under a layout. */
+
+static int seal_page(const struct layout *layout, uint8_t *page, size_t length, uint64_t number,
+                     const uint8_t *npub)
+{
+    return hunkravy_page_seal(layout->variant->number, page, length, layout->id, number, npub,
+                              layout->n, layout->k, layout->n);
+}
+
+static int open_page(const struct layout *layout, uint8_t *page, size_t length, uint64_t number)
+{
+    return hunkravy_page_open(layout->variant->number, page, length, layout->id, number, layout->k,
+                              layout->n);
+}
+
+static int seal_header(const struct layout *layout, uint8_t *sector, uint64_t counter,
+                       uint64_t textlen, const uint8_t *npub)
+{
+    return hunkravy_page_header_seal(layout->variant->number, sector, layout->size, layout->id,
+                                     counter, textlen, npub, layout->n, layout->k, layout->n);
 }
 
 static uint8_t *write_number(uint8_t *at, uint64_t number, size_t bytes)
@@ -40,32 +65,37 @@ static uint8_t *write_number(uint8_t *at, uint64_t number, size_t bytes)
     return at;
 }
 
+/* The byte that stands for each variant. */
+static const uint8_t BYTES[] = {17, 18, 20, 33, 34, 36};
+
 /* The first bytes of a header, as the format is defined. */
 static void write_clear(uint8_t *clear, const struct layout *layout)
 {
     memcpy(clear, "AGP1", 4);
-    clear[4] = 33;
+    clear[4] = BYTES[layout->variant->number];
     memcpy(write_number(clear + 5, layout->size, 4), layout->id, sizeof layout->id);
 }
 
 /* Seals a box whose text is in its place, as the format is defined. */
-static void seal_box(uint8_t *box, size_t length, const uint8_t *clear, uint64_t number,
-                     const uint8_t *npub, const uint8_t *k)
+static void seal_box(const struct layout *layout, uint8_t *box, size_t length,
+                     const uint8_t *clear, uint64_t number, const uint8_t *npub)
 {
+    size_t n = layout->n;
     uint8_t ad[CLEAR + 8];
 
     memcpy(ad, clear, CLEAR);
     write_number(ad + CLEAR, number, 8);
-    memcpy(box, npub, NONCE);
-    HOLDS(hunkravy_encrypt_in_place(HUNKRAVY_AEGIS256, box + NONCE, length - MORE, ad, sizeof ad,
-                                    npub, NONCE, k, 32, box + length - 32, 32) == HUNKRAVY_OK);
+    memcpy(box, npub, n);
+    HOLDS(hunkravy_encrypt_in_place(layout->variant->number, box + n, length - n - TAG, ad,
+                                    sizeof ad, npub, n, layout->k, n, box + length - TAG, TAG) ==
+          HUNKRAVY_OK);
 }
 
 /* ---- Pages */
 
 static size_t length_of(const struct layout *layout)
 {
-    return (size_t)layout->size + MORE;
+    return layout->size + layout->n + TAG;
 }
 
 /* Memory of just a page's length, with its text in its place. */
@@ -75,7 +105,7 @@ static uint8_t *with_text(const struct layout *layout, const uint8_t *text)
 
     HOLDS(page != NULL);
     memset(page, 0x55, length_of(layout));
-    memcpy(page + NONCE, text, layout->size);
+    memcpy(page + layout->n, text, layout->size);
     return page;
 }
 
@@ -85,7 +115,7 @@ static void check_is_damaged(const struct layout *layout, uint64_t number, const
 {
     uint8_t *page = copied(bytes, length);
 
-    HOLDS(hunkravy_page_open(page, length, layout->id, number, layout->k) == HUNKRAVY_INVALID_TAG);
+    HOLDS(open_page(layout, page, length, number) == HUNKRAVY_INVALID_TAG);
     HOLDS(all_are(page, length, 0xaa));
     free(page);
 }
@@ -96,9 +126,10 @@ static void check_opens(const struct layout *layout, uint64_t number, const uint
     size_t length = length_of(layout);
     uint8_t *page = copied(bytes, length);
 
-    HOLDS(hunkravy_page_open(page, length, layout->id, number, layout->k) == HUNKRAVY_OK);
-    HOLDS(memcmp(page, bytes, NONCE) == 0 && memcmp(page + NONCE, text, layout->size) == 0);
-    HOLDS(memcmp(page + length - 32, bytes + length - 32, 32) == 0);
+    HOLDS(open_page(layout, page, length, number) == HUNKRAVY_OK);
+    HOLDS(memcmp(page, bytes, layout->n) == 0);
+    HOLDS(memcmp(page + layout->n, text, layout->size) == 0);
+    HOLDS(memcmp(page + length - TAG, bytes + length - TAG, TAG) == 0);
     free(page);
 }
 
@@ -119,7 +150,7 @@ static void check_changed(const struct layout *layout, uint64_t number, const ui
     free(other);
 }
 
-/* The page of another number, file or key. */
+/* The page of another number, file, key or variant. */
 static void check_elsewhere(const struct layout *layout, uint64_t number, const uint8_t *page)
 {
     struct layout other = *layout;
@@ -129,15 +160,23 @@ static void check_elsewhere(const struct layout *layout, uint64_t number, const 
     other.id[next_number() % sizeof other.id] ^= 1;
     check_is_damaged(&other, number, page, length_of(layout));
     other = *layout;
-    other.k[next_number() % sizeof other.k] ^= 128;
+    other.k[next_number() % other.n] ^= 128;
     check_is_damaged(&other, number, page, length_of(layout));
+    other = *layout;
+    for (size_t i = 0; i < COUNT(VARIANTS); i++) {
+        other.variant = &VARIANTS[i];
+        other.n = VARIANTS[i].key_bytes;
+        if (other.variant != layout->variant && other.n == layout->n) {
+            check_is_damaged(&other, number, page, length_of(layout));
+        }
+    }
 }
 
-static void check_page(uint32_t size, uint64_t number)
+static void check_page(const struct variant *variant, uint32_t size, uint64_t number)
 {
     static uint8_t text[HUNKRAVY_PAGE_MAX_SIZE];
-    const struct layout layout = layout_of(size);
-    uint8_t npub[NONCE], clear[CLEAR], *page, *expected;
+    const struct layout layout = layout_of(variant, size);
+    uint8_t npub[32], clear[CLEAR], *page, *expected;
     size_t length = length_of(&layout);
 
     fill(npub, sizeof npub);
@@ -145,8 +184,8 @@ static void check_page(uint32_t size, uint64_t number)
     page = with_text(&layout, text);
     expected = with_text(&layout, text);
     write_clear(clear, &layout);
-    seal_box(expected, length, clear, number, npub, layout.k);
-    HOLDS(hunkravy_page_seal(page, length, layout.id, number, npub, layout.k) == HUNKRAVY_OK);
+    seal_box(&layout, expected, length, clear, number, npub);
+    HOLDS(seal_page(&layout, page, length, number, npub) == HUNKRAVY_OK);
     HOLDS(memcmp(page, expected, length) == 0);
     check_opens(&layout, number, page, text);
     check_changed(&layout, number, page);
@@ -164,58 +203,105 @@ static void check_page_refused(const struct layout *layout, size_t length, uint6
 
     HOLDS(page != NULL);
     memset(page, 0x55, length + 1);
-    HOLDS(hunkravy_page_seal(page, length, layout->id, number, layout->k, layout->k) == code);
-    HOLDS(hunkravy_page_open(page, length, layout->id, number, layout->k) == code);
+    HOLDS(seal_page(layout, page, length, number, layout->k) == code);
+    HOLDS(open_page(layout, page, length, number) == code);
     HOLDS(all_are(page, length + 1, 0x55));
     free(page);
 }
 
-static void check_page_limits(void)
+/*
+ * A wrong number of a variant, or a wrong length of a nonce or a key, which is refused before a
+ * wrong length of the page.
+ */
+static void check_lengths_refused(const struct layout *layout, size_t length)
 {
-    const struct layout layout = layout_of(256);
+    static const size_t wrong[] = {0, 1, 15, 17, 31, 33};
+    uint32_t variant = layout->variant->number;
+    const uint8_t *k = layout->k, *id = layout->id;
+    uint8_t page[HUNKRAVY_PAGE_MIN_SIZE + MOST_MORE], sector[SECTOR], found[24];
+    uint32_t size;
+    uint64_t counter, textlen;
+    size_t n = layout->n;
 
-    HOLDS(hunkravy_page_seal(NULL, 0, layout.id, 0, layout.k, layout.k) ==
-          HUNKRAVY_WRONG_TAG_LENGTH);
-    HOLDS(hunkravy_page_open(NULL, 0, layout.id, 0, layout.k) == HUNKRAVY_WRONG_TAG_LENGTH);
-    for (size_t length = 1; length < 256 + MORE; length++) {
-        check_page_refused(&layout, length, 0, HUNKRAVY_WRONG_TAG_LENGTH);
+    memset(page, 0x55, sizeof page);
+    memset(sector, 0x55, sizeof sector);
+    for (size_t i = 0; i <= COUNT(wrong); i++) {
+        size_t m = i < COUNT(wrong) ? wrong[i] : 48 - n;
+        HOLDS(hunkravy_page_seal(variant, page, length, id, 0, k, m, k, n) ==
+              HUNKRAVY_WRONG_NONCE_LENGTH);
+        HOLDS(hunkravy_page_seal(variant, page, length, id, 0, k, n, k, m) ==
+              HUNKRAVY_WRONG_KEY_LENGTH);
+        HOLDS(hunkravy_page_open(variant, page, length, id, 0, k, m) == HUNKRAVY_WRONG_KEY_LENGTH);
+        HOLDS(hunkravy_page_header_seal(variant, sector, 256, id, 0, 0, k, m, k, n) ==
+              HUNKRAVY_WRONG_NONCE_LENGTH);
+        HOLDS(hunkravy_page_header_seal(variant, sector, 256, id, 0, 0, k, n, k, m) ==
+              HUNKRAVY_WRONG_KEY_LENGTH);
+        HOLDS(hunkravy_page_header_open(variant, sector, k, m, &size, found, &counter, &textlen) ==
+              HUNKRAVY_WRONG_KEY_LENGTH);
     }
-    check_page_refused(&layout, 65537 + MORE, 0, HUNKRAVY_MESSAGE_TOO_LONG);
-    check_page_refused(&layout, 100000, UINT64_MAX, HUNKRAVY_MESSAGE_TOO_LONG);
+    for (uint32_t none = 6; none != 5; none = none == 6 ? UINT32_MAX : 5) {
+        HOLDS(hunkravy_page_seal(none, page, length, id, 0, k, n, k, n) == HUNKRAVY_WRONG_VARIANT);
+        HOLDS(hunkravy_page_open(none, page, length, id, 0, k, n) == HUNKRAVY_WRONG_VARIANT);
+        HOLDS(hunkravy_page_header_seal(none, sector, 256, id, 0, 0, k, n, k, n) ==
+              HUNKRAVY_WRONG_VARIANT);
+        HOLDS(hunkravy_page_header_open(none, sector, k, n, &size, found, &counter, &textlen) ==
+              HUNKRAVY_WRONG_VARIANT);
+    }
+    HOLDS(all_are(page, sizeof page, 0x55) && all_are(sector, sizeof sector, 0x55));
+}
+
+static void check_page_limits(const struct variant *variant)
+{
+    const struct layout layout = layout_of(variant, 256);
+    size_t more = layout.n + TAG;
+
+    HOLDS(seal_page(&layout, NULL, 0, 0, layout.k) == HUNKRAVY_WRONG_PAGE_SIZE);
+    HOLDS(open_page(&layout, NULL, 0, 0) == HUNKRAVY_WRONG_PAGE_SIZE);
+    for (size_t length = 1; length < 256 + more; length++) {
+        check_page_refused(&layout, length, 0, HUNKRAVY_WRONG_PAGE_SIZE);
+    }
+    check_lengths_refused(&layout, 256 + more);
+    check_lengths_refused(&layout, 10);
+    check_page_refused(&layout, 65537 + more, 0, HUNKRAVY_WRONG_PAGE_SIZE);
+    check_page_refused(&layout, 100000, UINT64_MAX, HUNKRAVY_WRONG_PAGE_SIZE);
     for (size_t i = 0; i < COUNT(SIZES); i++) {
-        check_page(SIZES[i], MOST_TEXT / SIZES[i]);
-        check_page_refused(&layout, SIZES[i] + MORE, MOST_TEXT / SIZES[i] + 1,
-                           HUNKRAVY_MESSAGE_TOO_LONG);
-        check_page_refused(&layout, SIZES[i] + MORE, UINT64_MAX / SIZES[i] + 1,
-                           HUNKRAVY_MESSAGE_TOO_LONG);
-        check_page_refused(&layout, SIZES[i] + MORE, UINT64_MAX, HUNKRAVY_MESSAGE_TOO_LONG);
+        check_page(variant, SIZES[i], MOST_TEXT / SIZES[i]);
+        check_page_refused(&layout, SIZES[i] + more, MOST_TEXT / SIZES[i] + 1,
+                           HUNKRAVY_TEXT_TOO_LONG);
+        check_page_refused(&layout, SIZES[i] + more, UINT64_MAX / SIZES[i] + 1,
+                           HUNKRAVY_TEXT_TOO_LONG);
+        check_page_refused(&layout, SIZES[i] + more, UINT64_MAX, HUNKRAVY_TEXT_TOO_LONG);
     }
 }
 
 /* ---- Headers */
 
+/* The bytes of a header, up to the zeros after it. */
+static size_t header_bytes(const struct layout *layout)
+{
+    return CLEAR + layout->n + 16 + TAG;
+}
+
 /* A sector, as the format is defined. */
-static void write_sector(uint8_t *sector, const uint8_t *clear, uint64_t counter, uint64_t textlen,
-                         const uint8_t *npub, const uint8_t *k)
+static void write_sector(const struct layout *layout, uint8_t *sector, const uint8_t *clear,
+                         uint64_t counter, uint64_t textlen, const uint8_t *npub)
 {
     memset(sector, 0, SECTOR);
     memcpy(sector, clear, CLEAR);
-    write_number(write_number(sector + CLEAR + NONCE, counter, 8), textlen, 8);
-    seal_box(sector + CLEAR, HEADER - CLEAR, clear, UINT64_MAX, npub, k);
+    write_number(write_number(sector + CLEAR + layout->n, counter, 8), textlen, 8);
+    seal_box(layout, sector + CLEAR, header_bytes(layout) - CLEAR, clear, UINT64_MAX, npub);
 }
 
 /* The sector is refused, and nothing is written. */
-static void check_no_header(const uint8_t *bytes, uint64_t turn, const uint8_t *k)
+static void check_no_header(const struct variant *variant, const uint8_t *bytes, const uint8_t *k)
 {
     uint8_t *sector = copied(bytes, SECTOR), id[24];
     uint32_t size = 0x55555555;
     uint64_t counter = 7, textlen = 8;
 
     memset(id, 0x55, sizeof id);
-    HOLDS(hunkravy_page_header_open(sector, turn, k, &size, id, &counter, &textlen) ==
-          HUNKRAVY_INVALID_TAG);
-    HOLDS(hunkravy_page_header_open_nonnull(sector, turn, k, &size, id, &counter, &textlen) ==
-          HUNKRAVY_INVALID_TAG);
+    HOLDS(hunkravy_page_header_open(variant->number, sector, k, variant->key_bytes, &size, id,
+                                    &counter, &textlen) == HUNKRAVY_INVALID_TAG);
     HOLDS(memcmp(sector, bytes, SECTOR) == 0);
     HOLDS(size == 0x55555555 && all_are(id, sizeof id, 0x55) && counter == 7 && textlen == 8);
     free(sector);
@@ -228,103 +314,117 @@ static void check_has_header(const uint8_t *bytes, const struct layout *layout, 
     uint32_t size;
     uint64_t count, length;
 
-    HOLDS(hunkravy_page_header_open(sector, counter % 2, layout->k, &size, id, &count, &length) ==
-          HUNKRAVY_OK);
+    HOLDS(hunkravy_page_header_open(layout->variant->number, sector, layout->k, layout->n, &size,
+                                    id, &count, &length) == HUNKRAVY_OK);
     HOLDS(memcmp(sector, bytes, SECTOR) == 0);
     HOLDS(size == layout->size && memcmp(id, layout->id, sizeof id) == 0);
     HOLDS(count == counter && length == textlen);
     free(sector);
 }
 
-static void check_header_refused(uint32_t size, uint64_t textlen, int code)
+static void check_header_refused(const struct variant *variant, uint32_t size, uint64_t textlen,
+                                 int code)
 {
-    const struct layout layout = layout_of(size);
+    const struct layout layout = layout_of(variant, size);
     uint8_t sector[SECTOR];
 
     memset(sector, 0x55, sizeof sector);
-    HOLDS(hunkravy_page_header_seal(sector, size, layout.id, 3, textlen, layout.k, layout.k) ==
-          code);
+    HOLDS(seal_header(&layout, sector, 3, textlen, layout.k) == code);
     HOLDS(all_are(sector, sizeof sector, 0x55));
 }
 
 /* A header that was sealed, but that no call seals. */
-static void check_wrong_header(const struct layout *layout, uint8_t variant, uint64_t textlen)
+static void check_wrong_header(const struct layout *layout, uint8_t byte, uint64_t textlen)
 {
     uint8_t sector[SECTOR], clear[CLEAR];
 
     write_clear(clear, layout);
-    clear[4] = variant;
-    write_sector(sector, clear, 4, textlen, layout->k, layout->k);
-    check_no_header(sector, 0, layout->k);
+    clear[4] = byte;
+    write_sector(layout, sector, clear, 4, textlen, layout->k);
+    check_no_header(layout->variant, sector, layout->k);
 }
 
-static void check_header(uint32_t size, uint64_t counter, uint64_t textlen)
+static void check_header(const struct variant *variant, uint32_t size, uint64_t counter,
+                         uint64_t textlen)
 {
-    const struct layout layout = layout_of(size);
-    uint8_t sector[SECTOR], expected[SECTOR], clear[CLEAR], npub[NONCE], other[32];
-    uint64_t turn = counter % 2;
+    const struct layout layout = layout_of(variant, size);
+    uint8_t sector[SECTOR], expected[SECTOR], clear[CLEAR], npub[32], other[32];
 
     fill(npub, sizeof npub);
     write_clear(clear, &layout);
-    write_sector(expected, clear, counter, textlen, npub, layout.k);
+    write_sector(&layout, expected, clear, counter, textlen, npub);
     memset(sector, 0x55, sizeof sector);
-    HOLDS(hunkravy_page_header_seal(sector, size, layout.id, counter, textlen, npub, layout.k) ==
-          HUNKRAVY_OK);
+    HOLDS(seal_header(&layout, sector, counter, textlen, npub) == HUNKRAVY_OK);
     HOLDS(memcmp(sector, expected, SECTOR) == 0);
     check_has_header(sector, &layout, counter, textlen);
-    check_no_header(sector, 1 - turn, layout.k);
-    check_no_header(sector, turn + 2, layout.k);
-    check_no_header(sector, UINT64_MAX - 1 + turn, layout.k);
     memcpy(other, layout.k, sizeof other);
-    other[next_number() % sizeof other] ^= 1;
-    check_no_header(sector, turn, other);
+    other[next_number() % layout.n] ^= 1;
+    check_no_header(variant, sector, other);
+    for (size_t i = 0; i < COUNT(VARIANTS); i++) {
+        if (&VARIANTS[i] != variant) {
+            check_no_header(&VARIANTS[i], sector, layout.k);
+        }
+    }
     /* The zeros at the end are not read. */
     for (size_t at = 0; at < SECTOR; at++) {
         sector[at] ^= (uint8_t)(1 << next_number() % 8);
-        if (at < HEADER) {
-            check_no_header(sector, turn, layout.k);
+        if (at < header_bytes(&layout)) {
+            check_no_header(variant, sector, layout.k);
             sector[at] = expected[at];
         }
     }
     check_has_header(sector, &layout, counter, textlen);
 }
 
-static void check_headers(void)
+static void check_headers(const struct variant *variant)
 {
     static const uint64_t lengths[] = {0, 1, 255, 1000000, MOST_TEXT - 1, MOST_TEXT};
-    const struct layout layout = layout_of(4096), small = layout_of(255), large = layout_of(65537);
+    const struct layout layout = layout_of(variant, 4096), small = layout_of(variant, 255),
+                        large = layout_of(variant, 65537);
+    uint8_t byte = BYTES[variant->number];
 
     for (size_t i = 0; i < COUNT(SIZES); i++) {
         for (size_t j = 0; j < COUNT(lengths); j++) {
-            check_header(SIZES[i], i + j, lengths[j]);
-            check_header(SIZES[i], UINT64_MAX - i - j, lengths[j]);
+            check_header(variant, SIZES[i], i + j, lengths[j]);
+            check_header(variant, SIZES[i], UINT64_MAX - i - j, lengths[j]);
         }
-        check_header_refused(SIZES[i], MOST_TEXT + 1, HUNKRAVY_MESSAGE_TOO_LONG);
-        check_header_refused(SIZES[i], UINT64_MAX, HUNKRAVY_MESSAGE_TOO_LONG);
+        check_header_refused(variant, SIZES[i], MOST_TEXT + 1, HUNKRAVY_TEXT_TOO_LONG);
+        check_header_refused(variant, SIZES[i], UINT64_MAX, HUNKRAVY_TEXT_TOO_LONG);
     }
-    check_header_refused(0, 0, HUNKRAVY_WRONG_TAG_LENGTH);
-    check_header_refused(255, UINT64_MAX, HUNKRAVY_WRONG_TAG_LENGTH);
-    check_header_refused(65537, 0, HUNKRAVY_MESSAGE_TOO_LONG);
-    check_header_refused(UINT32_MAX, 0, HUNKRAVY_MESSAGE_TOO_LONG);
-    check_wrong_header(&layout, 33, MOST_TEXT + 1);
-    check_wrong_header(&layout, 33, UINT64_MAX);
-    check_wrong_header(&layout, 17, 0);
-    check_wrong_header(&layout, 34, 0);
-    check_wrong_header(&small, 33, 0);
-    check_wrong_header(&large, 33, 0);
+    check_header_refused(variant, 0, 0, HUNKRAVY_WRONG_PAGE_SIZE);
+    check_header_refused(variant, 255, UINT64_MAX, HUNKRAVY_WRONG_PAGE_SIZE);
+    check_header_refused(variant, 65537, 0, HUNKRAVY_WRONG_PAGE_SIZE);
+    check_header_refused(variant, UINT32_MAX, UINT64_MAX, HUNKRAVY_WRONG_PAGE_SIZE);
+    check_wrong_header(&layout, byte, MOST_TEXT + 1);
+    check_wrong_header(&layout, byte, UINT64_MAX);
+    for (size_t i = 0; i < COUNT(BYTES); i++) {
+        if (BYTES[i] != byte) {
+            check_wrong_header(&layout, BYTES[i], 0);
+        }
+    }
+    check_wrong_header(&small, byte, 0);
+    check_wrong_header(&large, byte, 0);
+}
+
+static void check_variant(const struct variant *variant)
+{
+    for (size_t i = 0; i < COUNT(SIZES); i++) {
+        uint64_t length = SIZES[i] + variant->key_bytes + TAG;
+        check_page(variant, SIZES[i], 0);
+        check_page(variant, SIZES[i], i + 1);
+        check_page(variant, SIZES[i], next_number() % (MOST_TEXT / SIZES[i]));
+        HOLDS(hunkravy_page_place(variant->number, SIZES[i], 0) == HUNKRAVY_PAGE_FIRST);
+        HOLDS(hunkravy_page_place(variant->number, SIZES[i], 3) == 4096 + 3 * length);
+    }
+    check_page_limits(variant);
+    check_headers(variant);
 }
 
 int main(void)
 {
-    for (size_t i = 0; i < COUNT(SIZES); i++) {
-        check_page(SIZES[i], 0);
-        check_page(SIZES[i], i + 1);
-        check_page(SIZES[i], next_number() % (MOST_TEXT / SIZES[i]));
-        HOLDS(hunkravy_page_place(SIZES[i], 0) == HUNKRAVY_PAGE_FIRST);
-        HOLDS(hunkravy_page_place(SIZES[i], 3) == 1024 + 3 * (SIZES[i] + UINT64_C(64)));
+    for (size_t i = 0; i < COUNT(VARIANTS); i++) {
+        check_variant(&VARIANTS[i]);
     }
-    check_page_limits();
-    check_headers();
     printf("hunkravy.h on sealed pages: %lu checks, all right\n", checks);
     return EXIT_SUCCESS;
 }

@@ -162,7 +162,7 @@ static void open_all(const struct keys *keys, const struct bytes *stream, char *
     code = hunkravy_record_begin_open(&st, keys->k, keys->prefix, keys->context, keys->contextlen,
                                       stream->at);
     if (code != HUNKRAVY_OK) {
-        HOLDS(code == HUNKRAVY_WRONG_VARIANT && is_zeros(&st));
+        HOLDS(code == HUNKRAVY_UNKNOWN_HEADER && is_zeros(&st));
         return;
     }
     strcpy(answer, "ok ");
@@ -265,17 +265,25 @@ static uint8_t *expected_record(const struct keys *keys, int version, uint64_t n
     return record;
 }
 
-/* These bytes are refused as the next record, and the stream goes on. */
+/*
+ * These bytes are refused as the next record, and the stream goes on. They are erased, unless they are
+ * too few for any record.
+ */
 static void check_is_damaged(hunkravy_record_stream *st, const uint8_t *bytes, size_t length)
 {
     const hunkravy_record_stream old = *st;
     uint8_t *record = copied(bytes, length);
     size_t mlen = 7;
     int is_last = 7;
+    int code = hunkravy_record_open(st, record, length, &mlen, &is_last);
 
-    HOLDS(hunkravy_record_open(st, record, length, &mlen, &is_last) == HUNKRAVY_INVALID_TAG);
-    HOLDS(all_are(record, length, 0xaa) && mlen == 7 && is_last == 7);
-    HOLDS(memcmp(st, &old, sizeof old) == 0);
+    if (length < MORE) {
+        HOLDS(code == HUNKRAVY_WRONG_RECORD_LENGTH);
+        HOLDS(length == 0 || memcmp(record, bytes, length) == 0);
+    } else {
+        HOLDS(code == HUNKRAVY_INVALID_TAG && all_are(record, length, 0xaa));
+    }
+    HOLDS(mlen == 7 && is_last == 7 && memcmp(st, &old, sizeof old) == 0);
     free(record);
 }
 
@@ -400,9 +408,9 @@ static void check_places(void)
     check_is_damaged(&opener, records[2], sizeof message + MORE);
     check_opens(&opener, records[0], message, sizeof message);
     /* After messages of another length. */
-    opener.state.before++;
+    opener.opaque[BEFORE]++;
     check_is_damaged(&opener, records[1], sizeof message + MORE);
-    opener.state.before--;
+    opener.opaque[BEFORE]--;
     check_opens(&opener, records[1], message, sizeof message);
     /* A stream may be moved. */
     moved = copied((const uint8_t *)&opener, sizeof opener);
@@ -459,25 +467,25 @@ static void check_wrong_states(const struct keys *keys)
     /* A begin that fails, over a stream that was begun. */
     st = begun(keys);
     HOLDS(hunkravy_record_begin(&st, keys->k, keys->prefix, bytes, 65536, header) ==
-          HUNKRAVY_DATA_TOO_LONG);
+          HUNKRAVY_CONTEXT_TOO_LONG);
     HOLDS(is_zeros(&st) && all_are(header, 4, 0x55));
     st = begun(keys);
     HOLDS(hunkravy_record_begin_open(&st, keys->k, keys->prefix, NULL, 0,
-                                     (const uint8_t *)"AGR3") == HUNKRAVY_WRONG_VARIANT);
+                                     (const uint8_t *)"AGR3") == HUNKRAVY_UNKNOWN_HEADER);
     HOLDS(is_zeros(&st));
     HOLDS(hunkravy_record_begin_open(&st, keys->k, keys->prefix, bytes, 65536,
-                                     (const uint8_t *)"AGR2") == HUNKRAVY_DATA_TOO_LONG);
+                                     (const uint8_t *)"AGR2") == HUNKRAVY_CONTEXT_TOO_LONG);
     HOLDS(is_zeros(&st));
     /* Counts that no call leaves. */
     st = begun(keys);
-    st.state.before = HUNKRAVY_MAX_BYTES;
+    st.opaque[BEFORE] = HUNKRAVY_MAX_BYTES;
     check_is_not_sealing(st);
-    st.state.before = UINT64_MAX;
+    st.opaque[BEFORE] = UINT64_MAX;
     check_is_not_sealing(st);
     st = begun_to_open(keys, "AGR2");
-    st.state.number = HUNKRAVY_MAX_BYTES / 37 + 1;
+    st.opaque[NUMBER] = HUNKRAVY_MAX_BYTES / 37 + 1;
     check_is_not_opening(st);
-    st.state.number = UINT64_MAX;
+    st.opaque[NUMBER] = UINT64_MAX;
     check_is_not_opening(st);
 }
 
@@ -494,24 +502,24 @@ static void check_limits(const struct keys *keys)
     HOLDS(hunkravy_record_seal(&st, bytes, SIZE_MAX) == HUNKRAVY_MESSAGE_TOO_LONG);
     HOLDS(hunkravy_record_seal_last(&st, bytes, SIZE_MAX - 36) == HUNKRAVY_MESSAGE_TOO_LONG);
     HOLDS(memcmp(&st, &old, sizeof st) == 0);
-    /* The export is given a record's length, which may be too short for any. */
-    HOLDS(hunkravy_record_seal_nonnull(&st.state, bytes, 0, bytes, 36) ==
-          HUNKRAVY_WRONG_TAG_LENGTH);
-    HOLDS(hunkravy_record_seal_last_nonnull(&st.state, bytes, 0, bytes, 0) ==
-          HUNKRAVY_WRONG_TAG_LENGTH);
     st.contextlen = 65536;
-    HOLDS(hunkravy_record_seal(&st, bytes, 20) == HUNKRAVY_DATA_TOO_LONG);
+    HOLDS(hunkravy_record_seal(&st, bytes, 20) == HUNKRAVY_CONTEXT_TOO_LONG);
     HOLDS(hunkravy_record_seal(&st, bytes, MOST + 1) == HUNKRAVY_MESSAGE_TOO_LONG);
     st = old;
     /* The whole stream. */
-    st.state.before = HUNKRAVY_MAX_BYTES - 4 - 37 - 7;
+    st.opaque[BEFORE] = HUNKRAVY_MAX_BYTES - 4 - 37 - 7;
     HOLDS(hunkravy_record_seal(&st, bytes, 8) == HUNKRAVY_MESSAGE_TOO_LONG);
     HOLDS(all_are(bytes, sizeof bytes, 0x55));
     HOLDS(hunkravy_record_seal(&st, bytes, 7) == HUNKRAVY_OK);
     HOLDS(hunkravy_record_seal(&st, bytes, 0) == HUNKRAVY_MESSAGE_TOO_LONG);
     st = begun_to_open(keys, "AGR2");
-    st.state.before = HUNKRAVY_MAX_BYTES - 4 - 37 - 7;
+    st.opaque[BEFORE] = HUNKRAVY_MAX_BYTES - 4 - 37 - 7;
     HOLDS(hunkravy_record_open(&st, bytes, 45, &length, &is_last) == HUNKRAVY_MESSAGE_TOO_LONG);
+    /* A record that is too short for any. */
+    old = st;
+    HOLDS(hunkravy_record_open(&st, bytes, 36, &length, &is_last) == HUNKRAVY_WRONG_RECORD_LENGTH);
+    HOLDS(hunkravy_record_open(&st, NULL, 0, &length, &is_last) == HUNKRAVY_WRONG_RECORD_LENGTH);
+    HOLDS(length == 7 && is_last == 7 && memcmp(&st, &old, sizeof st) == 0);
     check_opens(&st, bytes, fives, sizeof fives);
     /* The length in a head. */
     st = begun_to_open(keys, "AGR2");
@@ -528,7 +536,7 @@ static void check_limits(const struct keys *keys)
     HOLDS(hunkravy_record_open(&st, most, 65537 + MORE, &length, &is_last) ==
           HUNKRAVY_MESSAGE_TOO_LONG);
     st = begun(keys);
-    HOLDS(hunkravy_record_seal(&st, most, MOST) == HUNKRAVY_OK && st.state.before == MOST);
+    HOLDS(hunkravy_record_seal(&st, most, MOST) == HUNKRAVY_OK && st.opaque[BEFORE] == MOST);
     st = begun_to_open(keys, "AGR2");
     HOLDS(hunkravy_record_open(&st, most, MOST + MORE, &length, &is_last) == HUNKRAVY_OK);
     HOLDS(length == MOST && is_last == 0 && all_are(most + HEAD, MOST, 0));
@@ -539,26 +547,26 @@ static void check_limits(const struct keys *keys)
 static void check_random_state(const struct keys *keys)
 {
     hunkravy_record_stream st = begun(keys), open = begun_to_open(keys, "AGR2");
-    uint64_t mark = st.state.mark, opening = open.state.mark;
+    uint64_t mark = st.opaque[MARK], opening = open.opaque[MARK];
     size_t length = next_number() % 600, mlen;
     uint8_t *bytes = (uint8_t *)malloc(length + MORE);
     int is_last;
 
     HOLDS(bytes != NULL);
     fill(bytes, length + MORE);
-    fill((uint8_t *)&st.state, sizeof st.state);
+    fill((uint8_t *)st.opaque, sizeof st.opaque);
     check_is_not_sealing(st);
     check_is_not_opening(st);
-    st.state.mark = mark;
-    st.state.number = next_number() % (HUNKRAVY_MAX_BYTES / 74);
-    st.state.before = next_number() % (HUNKRAVY_MAX_BYTES / 4);
+    st.opaque[MARK] = mark;
+    st.opaque[NUMBER] = next_number() % (HUNKRAVY_MAX_BYTES / 74);
+    st.opaque[BEFORE] = next_number() % (HUNKRAVY_MAX_BYTES / 4);
     HOLDS(hunkravy_record_seal(&st, bytes, length) == HUNKRAVY_OK);
     HOLDS(hunkravy_record_seal_last(&st, bytes, length) == HUNKRAVY_OK);
     HOLDS(is_zeros(&st));
-    fill((uint8_t *)&open.state, sizeof open.state);
-    open.state.mark = opening;
-    open.state.number = next_number() % (HUNKRAVY_MAX_BYTES / 74);
-    open.state.before = next_number() % (HUNKRAVY_MAX_BYTES / 4);
+    fill((uint8_t *)open.opaque, sizeof open.opaque);
+    open.opaque[MARK] = opening;
+    open.opaque[NUMBER] = next_number() % (HUNKRAVY_MAX_BYTES / 74);
+    open.opaque[BEFORE] = next_number() % (HUNKRAVY_MAX_BYTES / 4);
     HOLDS(hunkravy_record_open(&open, bytes, length + MORE, &mlen, &is_last) ==
           HUNKRAVY_INVALID_TAG);
     HOLDS(all_are(bytes, length + MORE, 0xaa));

@@ -320,21 +320,21 @@ static void check_wrong_states(const struct variant *calls)
     check_is_refused(st);
     /* Counts that no call leaves. */
     begin(&message, &st);
-    st.data_bytes = HUNKRAVY_MAX_BYTES + 1;
+    st.opaque[DATA_BYTES] = HUNKRAVY_MAX_BYTES + 1;
     check_is_refused(st);
     begin(&message, &st);
-    st.message_bytes = UINT64_MAX;
+    st.opaque[MESSAGE_BYTES] = UINT64_MAX;
     check_is_refused(st);
     /* A variant and a role that no call leaves. */
     begin(&message, &st);
-    st.variant = HUNKRAVY_AEGIS256X4 + 1;
+    st.opaque[VARIANT_AND_ROLE] = variant_and_role(HUNKRAVY_AEGIS256X4 + 1, 1);
     check_is_refused(st);
-    st.variant = UINT32_MAX;
+    st.opaque[VARIANT_AND_ROLE] = variant_and_role(UINT32_MAX, 1);
     check_is_refused(st);
     begin(&message, &st);
-    st.role = 0;
+    st.opaque[VARIANT_AND_ROLE] = variant_and_role(calls->number, 0);
     check_is_refused(st);
-    st.role = 5;
+    st.opaque[VARIANT_AND_ROLE] = variant_and_role(calls->number, 5);
     check_is_refused(st);
     /* An init of a wrong variant, over a state that was begun. */
     begin(&message, &st);
@@ -405,7 +405,7 @@ static void check_roles(const struct variant *calls)
 
     HOLDS(hunkravy_state_init(calls->number, &fresh, NULL, 0, bytes, right, bytes, right) ==
           HUNKRAVY_OK);
-    HOLDS(fresh.variant == calls->number);
+    HOLDS(fresh.opaque[VARIANT_AND_ROLE] == variant_and_role(calls->number, 1));
     check_is_no_mac(fresh);
     st = fresh;
     HOLDS(hunkravy_state_encrypt_in_place(&st, NULL, 0) == HUNKRAVY_OK);
@@ -423,7 +423,7 @@ static void check_roles(const struct variant *calls)
     check_is_no_mac(st);
     memset(bytes, 0, sizeof bytes);
     HOLDS(hunkravy_mac_init(calls->number, &st, bytes, right, bytes, right) == HUNKRAVY_OK);
-    HOLDS(st.variant == calls->number);
+    HOLDS(st.opaque[VARIANT_AND_ROLE] == variant_and_role(calls->number, 4));
     check_is_not_encrypting(st);
     check_is_not_decrypting(st);
     HOLDS(hunkravy_mac_update(&st, bytes, 20) == HUNKRAVY_OK);
@@ -439,7 +439,7 @@ static void check_limit(const struct variant *calls)
     uint8_t bytes[8] = {0}, out[8] = {0};
 
     begin(&message, &st);
-    st.message_bytes = HUNKRAVY_MAX_BYTES - 7;
+    st.opaque[MESSAGE_BYTES] = HUNKRAVY_MAX_BYTES - 7;
     HOLDS(hunkravy_state_encrypt_in_place(&st, bytes, 8) == HUNKRAVY_MESSAGE_TOO_LONG);
     HOLDS(hunkravy_state_encrypt(&st, out, bytes, 8) == HUNKRAVY_MESSAGE_TOO_LONG);
     HOLDS(hunkravy_state_decrypt_check(&st, bytes, 8) == HUNKRAVY_MESSAGE_TOO_LONG);
@@ -450,7 +450,7 @@ static void check_limit(const struct variant *calls)
     HOLDS(hunkravy_state_encrypt_in_place(&st, bytes, 1) == HUNKRAVY_MESSAGE_TOO_LONG);
     HOLDS(hunkravy_mac_init(calls->number, &st, message.npub, message.bytes, message.k,
                             message.bytes) == HUNKRAVY_OK);
-    st.message_bytes = HUNKRAVY_MAX_BYTES - 7;
+    st.opaque[MESSAGE_BYTES] = HUNKRAVY_MAX_BYTES - 7;
     HOLDS(hunkravy_mac_update(&st, bytes, 8) == HUNKRAVY_MESSAGE_TOO_LONG);
     HOLDS(hunkravy_mac_update(&st, bytes, 7) == HUNKRAVY_OK);
 }
@@ -461,26 +461,30 @@ static void check_limit(const struct variant *calls)
  */
 static void check_random_state(const struct variant *calls)
 {
+    struct message message = random_message(calls, 0, 16);
     hunkravy_state *st = (hunkravy_state *)malloc(sizeof *st);
     uint8_t *bytes, tag[TAG_BYTES];
     size_t length = next_number() % 600;
+    uint32_t role = 2 + (uint32_t)(next_number() % 3);
+    uint64_t mark;
     int code;
 
     HOLDS(st != NULL);
+    begin(&message, st);
+    mark = st->opaque[MARK];
     fill((uint8_t *)st, sizeof *st);
     check_is_refused(*st);
-    st->mark = HUNKRAVY_STATE_MARK;
-    st->variant = calls->number;
-    st->role = 2 + (uint32_t)(next_number() % 3);
-    st->data_bytes = next_number() % 4 == 0 ? 0 : next_number() & HUNKRAVY_MAX_BYTES;
-    st->message_bytes = next_number() & (HUNKRAVY_MAX_BYTES >> 1);
+    st->opaque[MARK] = mark;
+    st->opaque[VARIANT_AND_ROLE] = variant_and_role(calls->number, role);
+    st->opaque[DATA_BYTES] = next_number() % 4 == 0 ? 0 : next_number() & HUNKRAVY_MAX_BYTES;
+    st->opaque[MESSAGE_BYTES] = next_number() & (HUNKRAVY_MAX_BYTES >> 1);
     bytes = (uint8_t *)malloc(length + 1);
     HOLDS(bytes != NULL);
     fill(bytes, length);
-    if (st->role == 2) {
+    if (role == 2) {
         HOLDS(hunkravy_state_encrypt_in_place(st, bytes, length) == HUNKRAVY_OK);
         HOLDS(hunkravy_state_encrypt_final(st, tag, 16) == HUNKRAVY_OK);
-    } else if (st->role == 3) {
+    } else if (role == 3) {
         HOLDS(hunkravy_state_decrypt_in_place_unverified(st, bytes, length) == HUNKRAVY_OK);
         HOLDS(hunkravy_state_decrypt_check(st, bytes, length) == HUNKRAVY_OK);
         fill(tag, sizeof tag);
@@ -489,7 +493,7 @@ static void check_random_state(const struct variant *calls)
     } else {
         HOLDS(hunkravy_mac_update(st, bytes, length) == HUNKRAVY_OK);
         code = hunkravy_mac_final(st, tag, 32);
-        HOLDS(code == (st->data_bytes == 0 ? HUNKRAVY_OK : HUNKRAVY_WRONG_STATE));
+        HOLDS(code == (st->opaque[DATA_BYTES] == 0 ? HUNKRAVY_OK : HUNKRAVY_WRONG_STATE));
         memset(st, 0, sizeof *st);
     }
     HOLDS(all_are((const uint8_t *)st, sizeof *st, 0));

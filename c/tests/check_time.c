@@ -1,8 +1,8 @@
 /*
- * Whether a jump or an address depends on a secret, for valgrind's memcheck. Each call of hunkravy.h
- * runs on keys, nonces, associated data and messages that are marked as undefined: memcheck reports
- * each conditional jump and each address that depends on such bytes. Lengths and returned codes are
- * public. tools/check_time.sh runs it.
+ * Whether a jump or an address depends on a secret, for valgrind's memcheck. Each call of hunkravy.h,
+ * hunkravy_records.h and hunkravy_pages.h runs on keys, nonces, associated data and messages that are
+ * marked as undefined: memcheck reports each conditional jump and each address that depends on such
+ * bytes. Lengths and returned codes are public. tools/check_time.sh runs it.
  *
  * The last word of its output is the number of openings at once, which is that of openings on a
  * state, of records, and of pages too. With the parameter `jump` or `address` it only does what
@@ -71,12 +71,15 @@ static void check_at_once(const struct message *this)
             hunkravy_decrypt_in_place(variant, mc, length, CONTEXT(this), mac, maclen));
     RETURNS(HUNKRAVY_INVALID_TAG,
             hunkravy_decrypt(variant, mc, c, length, CONTEXT(this), wrong, maclen));
+    RETURNS(HUNKRAVY_OK, hunkravy_encrypt(variant, c, this->secret.text, length, CONTEXT(this), mac,
+                                          maclen));
     RETURNS(HUNKRAVY_OK, hunkravy_encrypt_combined(variant, c, this->secret.text, length,
                                                    CONTEXT(this), maclen));
     RETURNS(HUNKRAVY_OK,
             hunkravy_decrypt_combined(variant, c, c, length + maclen, CONTEXT(this), maclen));
     RETURNS(HUNKRAVY_OK, hunkravy_stream(variant, mc, length, KEYS(this)));
     RETURNS(HUNKRAVY_OK, hunkravy_stream_xor(variant, mc, this->secret.text, length, KEYS(this)));
+    RETURNS(HUNKRAVY_OK, hunkravy_stream_xor_in_place(variant, mc, length, KEYS(this)));
     RETURNS(HUNKRAVY_OK, hunkravy_mac(variant, c, length, KEYS(this), mac, maclen));
     RETURNS(HUNKRAVY_OK, hunkravy_mac_verify(variant, c, length, KEYS(this), mac, maclen));
     mac[0] ^= 1;
@@ -98,14 +101,15 @@ static void check_messages(const struct message *this)
 
     begin(this, &st);
     RETURNS(HUNKRAVY_OK, hunkravy_state_encrypt(&st, c, this->secret.text, first));
-    RETURNS(HUNKRAVY_OK,
-            hunkravy_state_encrypt(&st, c + first, this->secret.text + first, rest));
+    memcpy(c + first, this->secret.text + first, rest);
+    RETURNS(HUNKRAVY_OK, hunkravy_state_encrypt_in_place(&st, c + first, rest));
     RETURNS(HUNKRAVY_OK, hunkravy_state_encrypt_final(&st, mac, this->maclen));
 
     begin(this, &st);
     RETURNS(HUNKRAVY_OK, hunkravy_state_decrypt_check(&st, c, first));
     RETURNS(HUNKRAVY_OK,
             hunkravy_state_decrypt_unverified(&st, mc + first, c + first, rest));
+    RETURNS(HUNKRAVY_OK, hunkravy_state_decrypt_in_place_unverified(&st, mc, 0));
     copy = st;
     RETURNS(HUNKRAVY_OK, hunkravy_state_decrypt_final(&st, mc + first, rest, mac, this->maclen));
     mac[0] ^= 1;
@@ -163,29 +167,39 @@ static void check_records(const struct message *this)
 }
 
 /*
- * A page whatever the variant, of as many bytes more than the least, which is opened three times,
- * and a header, which is only sealed: whoever opens it compares what it has. The file's id is public.
+ * A page of as many bytes more than the least, which is opened three times, and a header, which is
+ * opened twice. The file's id is public. So are the counter and the length in a header, which whoever
+ * opens it compares; but memcheck counts what is decrypted as secret.
  */
 static void check_pages(const struct message *this)
 {
     static const uint8_t id[HUNKRAVY_PAGE_ID_BYTES] = "an id";
-    size_t size = HUNKRAVY_PAGE_MIN_SIZE + this->length, pagelen = size + HUNKRAVY_PAGE_BYTES;
-    uint8_t pages[3][HUNKRAVY_PAGE_MIN_SIZE + LONGEST + HUNKRAVY_PAGE_BYTES];
-    uint8_t *text = pages[0] + HUNKRAVY_PAGE_NONCE_BYTES, sector[HUNKRAVY_PAGE_SECTOR_BYTES];
+    uint32_t variant = this->calls->number;
+    size_t n = this->calls->key_bytes, size = HUNKRAVY_PAGE_MIN_SIZE + this->length;
+    size_t pagelen = n + size + HUNKRAVY_PAGE_TAG_BYTES;
+    uint8_t pages[3][HUNKRAVY_PAGE_MIN_SIZE + LONGEST + HUNKRAVY_PAGE_MAX_ADDED_BYTES];
+    uint8_t *text = pages[0] + n, sector[HUNKRAVY_PAGE_SECTOR_BYTES], name[HUNKRAVY_PAGE_ID_BYTES];
+    const uint8_t *k = this->secret.k;
+    uint32_t found;
+    uint64_t counter, textlen;
 
     memcpy(text, this->secret.text, HUNKRAVY_PAGE_MIN_SIZE);
     memcpy(text + HUNKRAVY_PAGE_MIN_SIZE, this->secret.text, this->length);
-    RETURNS(HUNKRAVY_OK, hunkravy_page_seal(pages[0], pagelen, id, 7, this->secret.npub,
-                                            this->secret.k));
+    RETURNS(HUNKRAVY_OK, hunkravy_page_seal(variant, pages[0], pagelen, id, 7, KEYS(this)));
     memcpy(pages[1], pages[0], pagelen);
     memcpy(pages[2], pages[0], pagelen);
     pages[2][pagelen - 1] ^= 1;
-    RETURNS(HUNKRAVY_OK, hunkravy_page_open(pages[0], pagelen, id, 7, this->secret.k));
-    RETURNS(HUNKRAVY_INVALID_TAG, hunkravy_page_open(pages[1], pagelen, id, 8, this->secret.k));
-    RETURNS(HUNKRAVY_INVALID_TAG, hunkravy_page_open(pages[2], pagelen, id, 7, this->secret.k));
-    RETURNS(HUNKRAVY_OK,
-            hunkravy_page_header_seal(sector, (uint32_t)size, id, 1, this->length,
-                                      this->secret.npub, this->secret.k));
+    RETURNS(HUNKRAVY_OK, hunkravy_page_open(variant, pages[0], pagelen, id, 7, k, n));
+    RETURNS(HUNKRAVY_INVALID_TAG, hunkravy_page_open(variant, pages[1], pagelen, id, 8, k, n));
+    RETURNS(HUNKRAVY_INVALID_TAG, hunkravy_page_open(variant, pages[2], pagelen, id, 7, k, n));
+    RETURNS(HUNKRAVY_OK, hunkravy_page_header_seal(variant, sector, (uint32_t)size, id, 1,
+                                                   this->length, KEYS(this)));
+    RETURNS(HUNKRAVY_OK, hunkravy_page_header_open(variant, sector, k, n, &found, name, &counter,
+                                                   &textlen));
+    HOLDS(found == size && memcmp(name, id, sizeof id) == 0);
+    sector[n + 40] ^= 1;
+    RETURNS(HUNKRAVY_INVALID_TAG, hunkravy_page_header_open(variant, sector, k, n, &found, name,
+                                                            &counter, &textlen));
 }
 
 /* Returns the number of messages. Each is opened three times in each way. */

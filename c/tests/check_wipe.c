@@ -2,8 +2,7 @@
  * What is left of a key and of a state that were wiped and dropped, compiled with -O3. They lie on
  * the stack of a function that runs on an array of this program, so the array has their bytes after
  * the function has returned. A memset in the place of hunkravy_wipe leaves them there: the compiler
- * drops it, since nothing reads what it writes. With -DOTHER_COMPILER the header is read as by a
- * compiler that is neither gcc nor clang. It ends with status 0 only if every result is right.
+ * drops it, since nothing reads what it writes. It ends with status 0 only if every result is right.
  */
 #include <errno.h>
 #include <stdint.h>
@@ -12,10 +11,6 @@
 #include <string.h>
 #include <ucontext.h>
 
-#ifdef OTHER_COMPILER
-#undef __GNUC__
-#undef __clang__
-#endif
 #include "check.h"
 
 static uint8_t stack[1 << 18];

@@ -1,4 +1,4 @@
-"""The C library: its exports, and how buffers and codes become those of Python. Nothing else of the package calls it."""
+"""The C library: its calls, and how buffers and codes become those of Python. Nothing else of the package calls it."""
 
 from __future__ import annotations
 
@@ -14,7 +14,7 @@ class InvalidTag(Exception):
     """The tag is not that of the message, or the MAC is not that of the input."""
 
 
-# What the exports return if nothing is wrong, and if a tag or a MAC is.
+# What the calls return if nothing is wrong, and if a tag or a MAC is.
 OK = 0
 INVALID_TAG = -1
 
@@ -38,27 +38,28 @@ _loaded = _load()
 _part = [ctypes.c_void_p, ctypes.c_size_t]
 
 
-def _export(name: str, *parameters: Any) -> Any:
-    call = _loaded[f"hunkravy_{name}_nonnull"]
+def _call(name: str, *parameters: Any, result: Any = ctypes.c_int) -> Any:
+    call = _loaded[f"hunkravy_{name}"]
     call.argtypes = parameters
-    call.restype = ctypes.c_int
+    call.restype = result
     return call
 
 
-encrypt_in_place = _export("encrypt_in_place", ctypes.c_uint32, *_part * 5)
-decrypt_in_place = _export("decrypt_in_place", ctypes.c_uint32, *_part * 5)
-stream = _export("stream", ctypes.c_uint32, *_part * 3)
-state_init = _export("state_init", ctypes.c_uint32, ctypes.c_void_p, *_part * 3)
-state_encrypt = _export("state_encrypt_in_place", ctypes.c_void_p, *_part)
-state_encrypt_final = _export("state_encrypt_final", ctypes.c_void_p, *_part)
-state_decrypt_unverified = _export(
+encrypt_in_place = _call("encrypt_in_place", ctypes.c_uint32, *_part * 5)
+decrypt_in_place = _call("decrypt_in_place", ctypes.c_uint32, *_part * 5)
+stream = _call("stream", ctypes.c_uint32, *_part * 3)
+state_init = _call("state_init", ctypes.c_uint32, ctypes.c_void_p, *_part * 3)
+state_encrypt_in_place = _call("state_encrypt_in_place", ctypes.c_void_p, *_part)
+state_encrypt_final = _call("state_encrypt_final", ctypes.c_void_p, *_part)
+state_decrypt_in_place_unverified = _call(
     "state_decrypt_in_place_unverified", ctypes.c_void_p, *_part
 )
-state_decrypt_final = _export("state_decrypt_final", ctypes.c_void_p, *_part * 2)
-mac_init = _export("mac_init", ctypes.c_uint32, ctypes.c_void_p, *_part * 2)
-mac_update = _export("mac_update", ctypes.c_void_p, *_part)
-mac_final = _export("mac_final", ctypes.c_void_p, *_part)
-mac_final_verify = _export("mac_final_verify", ctypes.c_void_p, *_part)
+state_decrypt_final = _call("state_decrypt_final", ctypes.c_void_p, *_part * 2)
+mac_init = _call("mac_init", ctypes.c_uint32, ctypes.c_void_p, *_part * 2)
+mac_update = _call("mac_update", ctypes.c_void_p, *_part)
+mac_final = _call("mac_final", ctypes.c_void_p, *_part)
+mac_final_verify = _call("mac_final_verify", ctypes.c_void_p, *_part)
+_error_text = _call("error_text", ctypes.c_int, result=ctypes.c_char_p)
 
 
 def level() -> int:
@@ -75,7 +76,7 @@ def check(code: int) -> None:
     if code == INVALID_TAG:
         raise InvalidTag
     if code != OK:
-        raise RuntimeError(f"the library returned {code}")
+        raise RuntimeError(_error_text(code).decode())
 
 
 def readable(data: ReadableBuffer) -> bytes:
@@ -118,5 +119,5 @@ first_byte = ctypes.c_char.from_buffer
 
 
 def pointer(buffer: Any) -> Any:
-    """A pointer to the first byte of a writable buffer, or to an address where nothing is read or written if it is empty."""
-    return ctypes.byref(first_byte(buffer)) if len(buffer) else b""
+    """A pointer to the first byte of a writable buffer, or a null pointer if it is empty."""
+    return ctypes.byref(first_byte(buffer)) if len(buffer) else None

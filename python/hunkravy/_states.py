@@ -51,7 +51,7 @@ class Encryptor(Chunks):
         chunk = bytearray(memoryview(data))
         with self._lock:
             library.check(
-                library.state_encrypt(self._running(), library.pointer(chunk), len(chunk))
+                library.state_encrypt_in_place(self._running(), library.pointer(chunk), len(chunk))
             )
         return bytes(chunk)
 
@@ -99,7 +99,9 @@ class Decryptor(Chunks):
             self._message += memoryview(data)
             with memoryview(self._message)[start:] as chunk:
                 library.check(
-                    library.state_decrypt_unverified(state, library.pointer(chunk), len(chunk))
+                    library.state_decrypt_in_place_unverified(
+                        state, library.pointer(chunk), len(chunk)
+                    )
                 )
 
     def finalize(self, tag: ReadableBuffer) -> bytes:
@@ -108,7 +110,7 @@ class Decryptor(Chunks):
         with self._lock:
             state = self._running()
             self._state = None
-            code = library.state_decrypt_final(state, b"", 0, expected, len(expected))
+            code = library.state_decrypt_final(state, None, 0, expected, len(expected))
             message = bytes(self._message) if code == library.OK else b""
             self._erase()
         library.check(code)

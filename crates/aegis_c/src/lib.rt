@@ -1,14 +1,13 @@
-//! The AEGIS ciphers for C, as `c/include/hunkravy.h` declares them.
+//! The proved part of the C library.
 //!
-//! An export is one call of `aegis_c_calls`, for the variant that its first parameter or its state names, and has the
-//! contract of that call. `by_variant` is the only place that matches the numbers with the types. `message` has the
-//! exports for a whole message or input, `state` has those on a state, and `sequence` proves what several of those do
-//! together. `record` has those on a record stream, calls of `aegis_c_records`, and `record_sequence` proves as much of
-//! them. `page` has those on a page and a header of a file of sealed pages, calls of `aegis_c_pages`, and
-//! `page_sequence` proves that what they seal they open.
+//! An export is one call of `aegis_c_calls`, for the variant that its first parameter or its state names, and returns the
+//! code of that call. `by_variant` is the only place that matches the numbers with the types. `message` has the exports
+//! for a whole message or input, `state` those on a state, `record` those on a record stream, and `page` those on a page
+//! and a header of a file of sealed pages. `sequence`, `record_sequence` and `page_sequence` prove what several of them
+//! do together.
 //!
-//! A slice comes as a pointer and a length. The pointer must not be null even if the length is 0, hence the `_nonnull`
-//! in each name; the header has calls without that word, which accept null for a length of 0.
+//! C programs do not see these exports. They are local to the library, whose calls (`c/library`) are C over them: a slice
+//! comes as a pointer and a length, and the pointer is never null, even if the length is 0.
 #![tactic(auto)]
 
 mod by_variant;

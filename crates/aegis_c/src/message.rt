@@ -1,31 +1,49 @@
 //! The exports for a whole message or input. `variant` is a number of `aegis_c_calls::variant`.
 //!
-//! Each returns a code of `answer`. After a code for a variant or a length, nothing has changed.
+//! Each returns a code of `aegis_c_calls::refusal`. After a code for a variant or a length, nothing has changed.
 
-ghost use Rattle.std.specs.Prelude.{◌≡◌, length};
-ghost use Rattle.aegis_base.specs.Message.{keystream, xor_keystream};
-ghost use Rattle.aegis_c_calls.specs.Calls.{MakesMac, OpensOrErases, Seals, VerifiesMac, WritesKeystream};
-ghost use Rattle.aegis_c_calls.specs.Numbers.{key_bytes_of, the, variant_of};
+ghost use Rattle.std.specs.Prelude.{◌≡◌};
+ghost use Rattle.aegis_c_calls.specs.Calls.{DecryptInPlace, EncryptInPlace, Mac, MacVerify, Stream, StreamXorInPlace};
+ghost use Rattle.aegis_c_calls.specs.Codes.{lengths_code};
+ghost use Rattle.aegis_c_calls.specs.Numbers.{key_bytes_of, variant_of};
 
 use crate::by_variant::by_variant;
-use aegis_128::State128;
-use aegis_256::State256;
-use aegis_aes::{AesBlock2, AesBlock4, Rows2};
-use aegis_c_calls::answer::WRONG_VARIANT;
+use aegis_128::{State128X1, State128X2, State128X4};
+use aegis_256::{State256X1, State256X2, State256X4};
 use aegis_c_calls::message::*;
+use aegis_c_calls::refusal::{Refusal, code};
 use aegis_c_calls::variant::*;
 
 /// Returns the length of the variant's keys, and of its nonces, in bytes. Returns 0 if no variant has this number.
 #[unsafe(no_mangle)]
-pub extern "C" fn hunkravy_key_bytes(variant: u32) -> usize
+pub extern "C" fn hunkravy_proved_key_bytes(variant: u32) -> usize
     ensures { result ≡ key_bytes_of (variant_of variant) }
 {
     key_bytes(variant)
 }
 
+/// Returns the code of a call on a message for its variant and these lengths, unless a tag is wrong.
+#[unsafe(no_mangle)]
+pub extern "C" fn hunkravy_proved_check_lengths(
+    variant: u32,
+    npublen: usize,
+    klen: usize,
+    mlen: usize,
+    adlen: usize,
+    maclen: usize,
+) -> i32
+    ensures { result ≡ lengths_code (variant_of variant) klen npublen mlen adlen maclen }
+{
+    by_variant!(
+        variant,
+        Refusal::WrongVariant,
+        check_lengths::<N>(npublen, klen, mlen, adlen, maclen)
+    )
+}
+
 /// Encrypts `mc` in place, and writes the tag, of 16 or 32 bytes, to `mac`.
 #[unsafe(no_mangle)]
-pub extern "C" fn hunkravy_encrypt_in_place_nonnull(
+pub extern "C" fn hunkravy_proved_encrypt_in_place(
     variant: u32,
     mc: &mut [u8],
     ad: &[u8],
@@ -33,19 +51,19 @@ pub extern "C" fn hunkravy_encrypt_in_place_nonnull(
     k: &[u8],
     mac: &mut [u8],
 ) -> i32
-    ensures { Seals (variant_of variant) k.now npub.now ad.now
+    ensures { EncryptInPlace (variant_of variant) k.now npub.now ad.now
         mc.old mc.new mac.old mac.new result }
 {
     by_variant!(
         variant,
-        WRONG_VARIANT,
+        Refusal::WrongVariant,
         encrypt_in_place::<N>(mc, ad, npub, k, mac)
     )
 }
 
-/// Decrypts `mc` in place. If `mac` is not its tag, each byte of `mc` is 0xaa, and the result is `INVALID_TAG`.
+/// Decrypts `mc` in place. If `mac` is not its tag, each byte of `mc` is 0xaa, and the code is `INVALID_TAG`.
 #[unsafe(no_mangle)]
-pub extern "C" fn hunkravy_decrypt_in_place_nonnull(
+pub extern "C" fn hunkravy_proved_decrypt_in_place(
     variant: u32,
     mc: &mut [u8],
     ad: &[u8],
@@ -53,72 +71,73 @@ pub extern "C" fn hunkravy_decrypt_in_place_nonnull(
     k: &[u8],
     mac: &[u8],
 ) -> i32
-    ensures { OpensOrErases (variant_of variant) k.now npub.now ad.now
+    ensures { DecryptInPlace (variant_of variant) k.now npub.now ad.now
         mc.old mc.new mac.now result }
 {
     by_variant!(
         variant,
-        WRONG_VARIANT,
+        Refusal::WrongVariant,
         decrypt_in_place::<N>(mc, ad, npub, k, mac)
     )
 }
 
 /// Overwrites `out` with keystream.
 #[unsafe(no_mangle)]
-pub extern "C" fn hunkravy_stream_nonnull(
-    variant: u32,
-    out: &mut [u8],
-    npub: &[u8],
-    k: &[u8],
-) -> i32
-    ensures { WritesKeystream (variant_of variant) k.now npub.now out.old out.new
-        (keystream (the (variant_of variant)) k.now npub.now (length out.old)) result }
+pub extern "C" fn hunkravy_proved_stream(variant: u32, out: &mut [u8], npub: &[u8], k: &[u8]) -> i32
+    ensures { Stream (variant_of variant) k.now npub.now out.old out.new result }
 {
-    by_variant!(variant, WRONG_VARIANT, stream::<N>(out, npub, k))
+    by_variant!(variant, Refusal::WrongVariant, stream::<N>(out, npub, k))
 }
 
 /// Xors `mc` with keystream, in place.
 #[unsafe(no_mangle)]
-pub extern "C" fn hunkravy_stream_xor_in_place_nonnull(
+pub extern "C" fn hunkravy_proved_stream_xor_in_place(
     variant: u32,
     mc: &mut [u8],
     npub: &[u8],
     k: &[u8],
 ) -> i32
-    ensures { WritesKeystream (variant_of variant) k.now npub.now mc.old mc.new
-        (xor_keystream (the (variant_of variant)) k.now npub.now mc.old) result }
+    ensures { StreamXorInPlace (variant_of variant) k.now npub.now mc.old mc.new result }
 {
     by_variant!(
         variant,
-        WRONG_VARIANT,
+        Refusal::WrongVariant,
         stream_xor_in_place::<N>(mc, npub, k)
     )
 }
 
-/// Writes the MAC of `input`, of 16 or 32 bytes, to `mac`.
+/// Writes the MAC of `input`, of 16 or 32 bytes, to `out`.
 #[unsafe(no_mangle)]
-pub extern "C" fn hunkravy_mac_nonnull(
+pub extern "C" fn hunkravy_proved_mac(
     variant: u32,
     input: &[u8],
     npub: &[u8],
     k: &[u8],
-    mac: &mut [u8],
+    out: &mut [u8],
 ) -> i32
-    ensures { MakesMac (variant_of variant) k.now npub.now input.now mac.old mac.new result }
+    ensures { Mac (variant_of variant) k.now npub.now input.now out.old out.new result }
 {
-    by_variant!(variant, WRONG_VARIANT, write_mac::<N>(input, npub, k, mac))
+    by_variant!(
+        variant,
+        Refusal::WrongVariant,
+        mac::<N>(input, npub, k, out)
+    )
 }
 
 /// Returns `DONE` if `mac` is the MAC of `input`, and `INVALID_TAG` if it is not.
 #[unsafe(no_mangle)]
-pub extern "C" fn hunkravy_mac_verify_nonnull(
+pub extern "C" fn hunkravy_proved_mac_verify(
     variant: u32,
     input: &[u8],
     npub: &[u8],
     k: &[u8],
     mac: &[u8],
 ) -> i32
-    ensures { VerifiesMac (variant_of variant) k.now npub.now input.now mac.now result }
+    ensures { MacVerify (variant_of variant) k.now npub.now input.now mac.now result }
 {
-    by_variant!(variant, WRONG_VARIANT, verify_mac::<N>(input, npub, k, mac))
+    by_variant!(
+        variant,
+        Refusal::WrongVariant,
+        mac_verify::<N>(input, npub, k, mac)
+    )
 }

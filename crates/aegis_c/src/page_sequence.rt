@@ -2,45 +2,52 @@
 //! from the contracts of the exports alone.
 
 ghost use Rattle.std.specs.Prelude.{◌≡◌, length, true};
-ghost use Rattle.aegis_c_calls.specs.declared.answer.TheConstants.{DONE};
-ghost use Rattle.aegis_c_pages.specs.Answers.{header_answer, page_answer};
-ghost use Rattle.aegis_c_pages.specs.Calls.{text_in};
+ghost use Rattle.aegis_c_calls.specs.declared.refusal.TheConstants.{DONE};
+ghost use Rattle.aegis_c_calls.specs.Numbers.{the, variant_of};
+ghost use Rattle.aegis_c_calls.specs.PageCodes.{header_seal_code, page_seal_code};
+ghost use Rattle.aegis_c_calls.specs.PageCalls.{text_in};
 
 use crate::page::*;
-use aegis_c_calls::answer::*;
+use aegis_c_calls::refusal::DONE;
 use aegis_pages::FileHeader;
 
-/// Seals a page and opens it, and returns whether both calls have succeeded, which they do if the length and the number
-/// are right. The text is then what it was.
+/// Seals a page and opens it, and returns whether both calls have succeeded, which they do if the variant, the lengths
+/// and the number are right. The text is then what it was.
 pub fn page_sealed_and_opened(
+    variant: u32,
     page: &mut [u8],
     id: &[u8; 24],
     number: u64,
-    npub: &[u8; 32],
-    k: &[u8; 32],
+    npub: &[u8],
+    k: &[u8],
 ) -> bool
-    ensures done { page_answer (length page.old) number ≡ DONE → result ≡ true }
-    ensures text { result ≡ true → text_in page.new ≡ text_in page.old }
+    ensures done { page_seal_code (variant_of variant) (length k.now) (length npub.now)
+        (length page.old) number ≡ DONE → result ≡ true }
+    ensures text { result ≡ true → text_in (the (variant_of variant)) page.new
+        ≡ text_in (the (variant_of variant)) page.old }
 {
-    if hunkravy_page_seal_nonnull(page, id, number, npub, k) != DONE {
+    if hunkravy_proved_page_seal(variant, page, id, number, npub, k) != DONE {
         return false;
     }
-    hunkravy_page_open_nonnull(page, id, number, k) == DONE
+    hunkravy_proved_page_open(variant, page, id, number, k) == DONE
 }
 
-/// Seals a header and opens it in its turn, and returns whether both calls have succeeded, which they do if the page
-/// size and the length are right. What was found is then what was sealed.
+/// Seals a header and opens it, and returns whether both calls have succeeded, which they do if the variant, the page
+/// size and the lengths are right. What was found is then what was sealed.
 pub fn header_sealed_and_opened(
+    variant: u32,
     header: &FileHeader,
-    npub: &[u8; 32],
-    k: &[u8; 32],
+    npub: &[u8],
+    k: &[u8],
     found: &mut FileHeader,
 ) -> bool
-    ensures done { header_answer header.now.page_bytes header.now.len ≡ DONE → result ≡ true }
+    ensures done { header_seal_code (variant_of variant) (length k.now) (length npub.now)
+        header.now.page_bytes header.now.len ≡ DONE → result ≡ true }
     ensures found { result ≡ true → found.new ≡ header.now }
 {
     let mut sector = [0; 512];
-    let code = hunkravy_page_header_seal_nonnull(
+    let code = hunkravy_proved_page_header_seal(
+        variant,
         &mut sector,
         header.page_bytes,
         &header.id,
@@ -52,9 +59,9 @@ pub fn header_sealed_and_opened(
     if code != DONE {
         return false;
     }
-    hunkravy_page_header_open_nonnull(
+    hunkravy_proved_page_header_open(
+        variant,
         &sector,
-        header.counter % 2,
         k,
         &mut found.page_bytes,
         &mut found.id,

@@ -8,8 +8,8 @@ ghost use Rattle.aegis.specs.Records.{AreRecords};
 ghost use Rattle.aegis.specs.declared.record.version.Version.TheVariants.{Second};
 
 use crate::record::*;
-use aegis_c_calls::answer::*;
-use aegis_c_records::state::RecordState;
+use aegis_c_calls::record::state::RecordState;
+use aegis_c_calls::refusal::{DONE, WRONG_STATE};
 
 /// Seals a stream of two messages, and returns whether all calls have succeeded.
 pub fn two_records_sealed(
@@ -25,13 +25,13 @@ pub fn two_records_sealed(
         (message_in first.old ∷ message_in second.old ∷ [])
         ((header.new ++ first.new) ++ second.new) }
 {
-    if hunkravy_record_begin_nonnull(st, k, prefix, context, header) != DONE {
+    if hunkravy_proved_record_begin(st, k, prefix, context, header) != DONE {
         return false;
     }
-    if hunkravy_record_seal_nonnull(st, context, first) != DONE {
+    if hunkravy_proved_record_seal(st, context, first) != DONE {
         return false;
     }
-    hunkravy_record_seal_last_nonnull(st, context, second) == DONE
+    hunkravy_proved_record_seal_last(st, context, second) == DONE
 }
 
 /// Opens a stream of two records, and returns whether all calls have succeeded.
@@ -49,13 +49,13 @@ pub fn two_records_opened(
         ((header.now ++ first.old) ++ second.old) }
 {
     let mut is_last = 0;
-    if hunkravy_record_begin_open_nonnull(st, k, prefix, context, header) != DONE {
+    if hunkravy_proved_record_begin_open(st, k, prefix, context, header) != DONE {
         return false;
     }
-    if hunkravy_record_open_nonnull(st, context, first, &mut is_last) != DONE || is_last == 1 {
+    if hunkravy_proved_record_open(st, context, first, &mut is_last) != DONE || is_last == 1 {
         return false;
     }
-    hunkravy_record_open_nonnull(st, context, second, &mut is_last) == DONE && is_last == 1
+    hunkravy_proved_record_open(st, context, second, &mut is_last) == DONE && is_last == 1
 }
 
 /// Seals two messages and opens their records in the same order, and returns whether all calls have succeeded. The
@@ -73,21 +73,21 @@ pub fn two_records_sealed_and_opened(
     ensures second { result ≡ true → message_in second.new ≡ message_in second.old }
 {
     let mut header = [0; 4];
-    if hunkravy_record_begin_nonnull(sealer, k, prefix, context, &mut header) != DONE
-        || hunkravy_record_begin_open_nonnull(opener, k, prefix, context, &header) != DONE
+    if hunkravy_proved_record_begin(sealer, k, prefix, context, &mut header) != DONE
+        || hunkravy_proved_record_begin_open(opener, k, prefix, context, &header) != DONE
     {
         return false;
     }
     let mut is_last = 0;
-    if hunkravy_record_seal_nonnull(sealer, context, first) != DONE
-        || hunkravy_record_open_nonnull(opener, context, first, &mut is_last) != DONE
+    if hunkravy_proved_record_seal(sealer, context, first) != DONE
+        || hunkravy_proved_record_open(opener, context, first, &mut is_last) != DONE
     {
         return false;
     }
-    if hunkravy_record_seal_last_nonnull(sealer, context, second) != DONE {
+    if hunkravy_proved_record_seal_last(sealer, context, second) != DONE {
         return false;
     }
-    hunkravy_record_open_nonnull(opener, context, second, &mut is_last) == DONE
+    hunkravy_proved_record_open(opener, context, second, &mut is_last) == DONE
 }
 
 /// Seals with a stream after its last record, which is refused.
@@ -100,10 +100,10 @@ pub fn refused_after_the_last_record(
     ensures refused { result ≡ true }
     ensures kept { bytes.new ≡ bytes.old }
 {
-    if hunkravy_record_seal_last_nonnull(st, context, last) != DONE {
+    if hunkravy_proved_record_seal_last(st, context, last) != DONE {
         return true;
     }
-    hunkravy_record_seal_nonnull(st, context, bytes) == WRONG_STATE
+    hunkravy_proved_record_seal(st, context, bytes) == WRONG_STATE
 }
 
 /// Opens with a stream that is sealed, which is refused.
@@ -117,8 +117,8 @@ pub fn refused_in_the_other_direction(
     ensures kept { bytes.new ≡ bytes.old }
 {
     let mut is_last = 0;
-    if hunkravy_record_seal_nonnull(st, context, message) != DONE {
+    if hunkravy_proved_record_seal(st, context, message) != DONE {
         return true;
     }
-    hunkravy_record_open_nonnull(st, context, bytes, &mut is_last) == WRONG_STATE
+    hunkravy_proved_record_open(st, context, bytes, &mut is_last) == WRONG_STATE
 }

@@ -1,125 +1,174 @@
 //! The exports on a state. The state itself says of which variant it is, and whether it is a message that is encrypted,
 //! one that is decrypted, or a MAC; a call of another role is refused.
 //!
-//! Each returns a code of `answer`. After a code for a variant, a length or a state, nothing has changed.
+//! Each returns a code of `aegis_c_calls::refusal`. After a code for a variant, a length or a state, nothing has changed.
 
-ghost use Rattle.std.specs.Prelude.{[]};
-ghost use Rattle.aegis_c_calls.specs.Calls.{Begins, ChecksMac, ChecksMore, EndsOpening, EndsSealing, GivesMac, OpensMore, SealsMore, TakesMore};
+ghost use Rattle.std.specs.Prelude.{◌≡◌};
+ghost use Rattle.aegis_c_calls.specs.Calls.{MacFinal, MacFinalVerify, MacInit, MacUpdate, StateDecryptCheck, StateDecryptFinal, StateDecryptInPlaceUnverified, StateEncryptFinal, StateEncryptInPlace, StateInit};
+ghost use Rattle.aegis_c_calls.specs.Codes.{chunk_code};
 ghost use Rattle.aegis_c_calls.specs.Numbers.{variant_of};
 
 use crate::by_variant::by_variant;
-use aegis_128::State128;
-use aegis_256::State256;
-use aegis_aes::{AesBlock2, AesBlock4, Rows2};
-use aegis_c_calls::answer::{WRONG_STATE, WRONG_VARIANT};
+use aegis_128::{State128X1, State128X2, State128X4};
+use aegis_256::{State256X1, State256X2, State256X4};
+use aegis_base::SavedLanes;
+use aegis_c_calls::refusal::{Refusal, code};
 use aegis_c_calls::state::*;
 use aegis_c_calls::variant::*;
+
+// The calls on a chunk for one variant, each with its code, so that its export jumps to it and does nothing after it: a chunk
+// of 64 bytes then takes a twentieth less time.
+
+#[inline(never)]
+fn encrypted<S: SavedLanes>(st: &mut State, mc: &mut [u8]) -> i32
+    ensures { StateEncryptInPlace (Some S.VARIANT) st.old st.new mc.old mc.new result }
+{
+    code(encrypt_in_place::<S>(st, mc))
+}
+
+#[inline(never)]
+fn decrypted<S: SavedLanes>(st: &mut State, mc: &mut [u8]) -> i32
+    ensures { StateDecryptInPlaceUnverified (Some S.VARIANT) st.old st.new mc.old mc.new result }
+{
+    code(decrypt_in_place_unverified::<S>(st, mc))
+}
+
+#[inline(never)]
+fn checked<S: SavedLanes>(st: &mut State, c: &[u8]) -> i32
+    ensures { StateDecryptCheck (Some S.VARIANT) st.old st.new c.now result }
+{
+    code(decrypt_check::<S>(st, c))
+}
+
+#[inline(never)]
+fn updated<S: SavedLanes>(st: &mut State, input: &[u8]) -> i32
+    ensures { MacUpdate (Some S.VARIANT) st.old st.new input.now result }
+{
+    code(mac_update::<S>(st, input))
+}
 
 /// Begins a message of the variant with the associated data `ad` at `st`. Its next call decides whether it is encrypted
 /// or decrypted.
 #[unsafe(no_mangle)]
-pub extern "C" fn hunkravy_state_init_nonnull(
+pub extern "C" fn hunkravy_proved_state_init(
     variant: u32,
     st: &mut State,
     ad: &[u8],
     npub: &[u8],
     k: &[u8],
 ) -> i32
-    ensures { Begins (variant_of variant) variant MESSAGE k.now npub.now ad.now
-        st.old st.new result }
+    ensures { StateInit (variant_of variant) variant k.now npub.now ad.now st.old st.new result }
 {
     by_variant!(
         variant,
-        WRONG_VARIANT,
+        Refusal::WrongVariant,
         begin::<N>(st, variant, MESSAGE, ad, npub, k)
     )
 }
 
+/// Returns the code of [`hunkravy_proved_state_encrypt_in_place`] for so many bytes.
+#[unsafe(no_mangle)]
+pub extern "C" fn hunkravy_proved_state_may_encrypt(st: &State, mlen: usize) -> i32
+    ensures { result ≡ chunk_code (variant_of st.now.variant) st.now MESSAGE ENCRYPTING mlen }
+{
+    by_variant!(st.variant, Refusal::WrongState, may_encrypt(st, mlen))
+}
+
+/// Returns the code of [`hunkravy_proved_state_decrypt_in_place_unverified`] for so many bytes.
+#[unsafe(no_mangle)]
+pub extern "C" fn hunkravy_proved_state_may_decrypt(st: &State, clen: usize) -> i32
+    ensures { result ≡ chunk_code (variant_of st.now.variant) st.now MESSAGE DECRYPTING clen }
+{
+    by_variant!(st.variant, Refusal::WrongState, may_decrypt(st, clen))
+}
+
 /// Encrypts the next bytes of the message in place.
 #[unsafe(no_mangle)]
-pub extern "C" fn hunkravy_state_encrypt_in_place_nonnull(st: &mut State, mc: &mut [u8]) -> i32
-    ensures { SealsMore (variant_of st.old.variant) st.old st.new mc.old mc.new result }
+pub extern "C" fn hunkravy_proved_state_encrypt_in_place(st: &mut State, mc: &mut [u8]) -> i32
+    ensures { StateEncryptInPlace (variant_of st.old.variant) st.old st.new mc.old mc.new result }
 {
-    by_variant!(st.variant, WRONG_STATE, seal_more(st, mc))
+    by_variant!(st.variant, Refusal::WrongState, chunk encrypted(st, mc))
 }
 
 /// Writes the tag of the message, of 16 or 32 bytes, to `mac`, and ends the state.
 #[unsafe(no_mangle)]
-pub extern "C" fn hunkravy_state_encrypt_final_nonnull(st: &mut State, mac: &mut [u8]) -> i32
-    ensures { EndsSealing (variant_of st.old.variant) st.old st.new mac.old mac.new result }
+pub extern "C" fn hunkravy_proved_state_encrypt_final(st: &mut State, mac: &mut [u8]) -> i32
+    ensures { StateEncryptFinal (variant_of st.old.variant) st.old st.new mac.old mac.new result }
 {
-    by_variant!(st.variant, WRONG_STATE, end_sealing(st, mac))
+    by_variant!(st.variant, Refusal::WrongState, encrypt_final(st, mac))
 }
 
 /// Decrypts the next bytes of the ciphertext in place, before the tag is verified.
 #[unsafe(no_mangle)]
-pub extern "C" fn hunkravy_state_decrypt_in_place_unverified_nonnull(
+pub extern "C" fn hunkravy_proved_state_decrypt_in_place_unverified(
     st: &mut State,
     mc: &mut [u8],
 ) -> i32
-    ensures { OpensMore (variant_of st.old.variant) st.old st.new mc.old mc.new result }
+    ensures { StateDecryptInPlaceUnverified (variant_of st.old.variant) st.old st.new
+        mc.old mc.new result }
 {
-    by_variant!(st.variant, WRONG_STATE, open_more(st, mc))
+    by_variant!(st.variant, Refusal::WrongState, chunk decrypted(st, mc))
 }
 
 /// Takes in the next bytes of the ciphertext, without writing the message.
 #[unsafe(no_mangle)]
-pub extern "C" fn hunkravy_state_decrypt_check_nonnull(st: &mut State, c: &[u8]) -> i32
-    ensures { ChecksMore (variant_of st.old.variant) st.old st.new c.now result }
+pub extern "C" fn hunkravy_proved_state_decrypt_check(st: &mut State, c: &[u8]) -> i32
+    ensures { StateDecryptCheck (variant_of st.old.variant) st.old st.new c.now result }
 {
-    by_variant!(st.variant, WRONG_STATE, check_more(st, c))
+    by_variant!(st.variant, Refusal::WrongState, chunk checked(st, c))
 }
 
-/// Returns `DONE` if `mac` is the tag of the message. If it is not, each byte of `m` is 0xaa, and the result is
+/// Returns `DONE` if `mac` is the tag of the message. If it is not, each byte of `m` is 0xaa, and the code is
 /// `INVALID_TAG`. Both end the state.
 #[unsafe(no_mangle)]
-pub extern "C" fn hunkravy_state_decrypt_final_nonnull(
+pub extern "C" fn hunkravy_proved_state_decrypt_final(
     st: &mut State,
     m: &mut [u8],
     mac: &[u8],
 ) -> i32
-    ensures { EndsOpening (variant_of st.old.variant) st.old st.new m.old m.new mac.now result }
+    ensures { StateDecryptFinal (variant_of st.old.variant) st.old st.new
+        m.old m.new mac.now result }
 {
-    by_variant!(st.variant, WRONG_STATE, end_opening(st, m, mac))
+    by_variant!(st.variant, Refusal::WrongState, decrypt_final(st, m, mac))
 }
 
 /// Begins a MAC of the variant at `st`.
 #[unsafe(no_mangle)]
-pub extern "C" fn hunkravy_mac_init_nonnull(
+pub extern "C" fn hunkravy_proved_mac_init(
     variant: u32,
     st: &mut State,
     npub: &[u8],
     k: &[u8],
 ) -> i32
-    ensures { Begins (variant_of variant) variant MAC k.now npub.now [] st.old st.new result }
+    ensures { MacInit (variant_of variant) variant k.now npub.now st.old st.new result }
 {
     by_variant!(
         variant,
-        WRONG_VARIANT,
+        Refusal::WrongVariant,
         begin::<N>(st, variant, MAC, &[], npub, k)
     )
 }
 
 /// Takes in the next bytes of the input of a MAC.
 #[unsafe(no_mangle)]
-pub extern "C" fn hunkravy_mac_update_nonnull(st: &mut State, input: &[u8]) -> i32
-    ensures { TakesMore (variant_of st.old.variant) st.old st.new input.now result }
+pub extern "C" fn hunkravy_proved_mac_update(st: &mut State, input: &[u8]) -> i32
+    ensures { MacUpdate (variant_of st.old.variant) st.old st.new input.now result }
 {
-    by_variant!(st.variant, WRONG_STATE, take_more(st, input))
+    by_variant!(st.variant, Refusal::WrongState, chunk updated(st, input))
 }
 
 /// Writes the MAC of the input so far, of 16 or 32 bytes, to `mac`. The state is unchanged.
 #[unsafe(no_mangle)]
-pub extern "C" fn hunkravy_mac_final_nonnull(st: &State, mac: &mut [u8]) -> i32
-    ensures { GivesMac (variant_of st.now.variant) st.now mac.old mac.new result }
+pub extern "C" fn hunkravy_proved_mac_final(st: &State, mac: &mut [u8]) -> i32
+    ensures { MacFinal (variant_of st.now.variant) st.now mac.old mac.new result }
 {
-    by_variant!(st.variant, WRONG_STATE, give_mac(st, mac))
+    by_variant!(st.variant, Refusal::WrongState, mac_final(st, mac))
 }
 
 /// Returns `DONE` if `mac` is the MAC of the input so far, and `INVALID_TAG` if it is not. The state is unchanged.
 #[unsafe(no_mangle)]
-pub extern "C" fn hunkravy_mac_final_verify_nonnull(st: &State, mac: &[u8]) -> i32
-    ensures { ChecksMac (variant_of st.now.variant) st.now mac.now result }
+pub extern "C" fn hunkravy_proved_mac_final_verify(st: &State, mac: &[u8]) -> i32
+    ensures { MacFinalVerify (variant_of st.now.variant) st.now mac.now result }
 {
-    by_variant!(st.variant, WRONG_STATE, check_mac(st, mac))
+    by_variant!(st.variant, Refusal::WrongState, mac_final_verify(st, mac))
 }

@@ -1,14 +1,14 @@
-//! The bodies of the calls on a state that C owns between them, each written once for all variants. C may pass a state
-//! that no call has begun, or one that it has changed. So the mark, the role and the two numbers of bytes are checked,
-//! and each body is safe for any other bytes.
+//! The calls on a state that C owns between them. C may pass a state that no call has begun, or one that it has changed.
+//! So the mark, the role and the two numbers of bytes are checked, and each body is safe for any other bytes.
 
-ghost use Rattle.std.specs.Prelude.{◌≡◌, ◌≤◌, ℤ, IfErr, OnOk};
+ghost use Rattle.std.specs.Prelude.{◌≡◌, ◌≢◌, ◌+◌, ◌≤◌, ℤ, IfErr, OnOk};
 ghost use Rattle.aegis_base.specs.Variant.{key_length};
-ghost use Rattle.aegis_c_calls.specs.Answers.{role_answer};
-ghost use Rattle.aegis_c_calls.specs.Calls.{Begins, ChecksMac, ChecksMore, EndsOpening, EndsSealing, GivesMac, OpensMore, SealsMore, TakesMore};
+ghost use Rattle.aegis_c_calls.specs.Calls.{Begins, MacFinal, MacFinalVerify, MacUpdate, StateDecryptCheck, StateDecryptFinal, StateDecryptInPlaceUnverified, StateEncryptFinal, StateEncryptInPlace};
+ghost use Rattle.aegis_c_calls.specs.Codes.{chunk_code, code_of, more_code, number_of, role_code};
+ghost use Rattle.aegis_c_calls.specs.declared.refusal.TheConstants.{DONE, WRONG_STATE};
 
-use crate::answer::*;
 use crate::keys::message_keys;
+use crate::refusal::Refusal;
 use aegis_base::{MAX_AEAD_BYTES, SavedLanes};
 use aegis_engine::{BEGUN, ERASED, SavedRun};
 
@@ -43,23 +43,55 @@ pub const ENDED: State = State {
 // The size of a state in the header.
 const _: () = prove!(size_of::<State>() == 672);
 
-// Returns an error with the code of the call if a state lacks the mark, was begun as neither `begun` nor has gone on as
-// `role`, or has a number past the limit.
-fn check_state(st: &State, begun: u32, role: u32) -> Result<(), i32>
+// Refuses a state that lacks the mark, was begun as neither `begun` nor has gone on as `role`, or has a number past the
+// limit.
+fn check_state(st: &State, begun: u32, role: u32) -> Result<(), Refusal>
     ensures associated_data { OnOk result (st.now.run.data_bytes ≤ MAX_AEAD_BYTES) }
     ensures message { OnOk result (st.now.run.message_bytes ≤ MAX_AEAD_BYTES) }
-    ensures right { OnOk result ((rest : ℤ) → role_answer st.now begun role rest ≡ rest) }
-    ensures wrong { IfErr result (λ answer. (rest : ℤ)
-        → role_answer st.now begun role rest ≡ answer) }
-    ensures error { IfErr result (λ answer. answer ≡ WRONG_STATE) }
+    ensures right { OnOk result ((rest : ℤ) → role_code st.now begun role rest ≡ rest) }
+    ensures wrong { IfErr result (λ refusal. (rest : ℤ)
+        → role_code st.now begun role rest ≡ number_of refusal) }
+    ensures refusal { IfErr result (λ refusal. number_of refusal ≡ WRONG_STATE) }
 {
     if st.role != begun && st.role != role {
-        return Err(WRONG_STATE);
+        return Err(Refusal::WrongState);
     }
     let run = &st.run;
     if run.mark != BEGUN || run.data_bytes > MAX_AEAD_BYTES || run.message_bytes > MAX_AEAD_BYTES {
-        return Err(WRONG_STATE);
+        return Err(Refusal::WrongState);
     }
+    Ok(())
+}
+
+// The same for a state and the number of the next bytes, which is refused too if the message would be too long.
+fn check_chunk(st: &State, begun: u32, role: u32, more: usize) -> Result<(), Refusal>
+    ensures associated_data { OnOk result (st.now.run.data_bytes ≤ MAX_AEAD_BYTES) }
+    ensures message { OnOk result (st.now.run.message_bytes + more ≤ MAX_AEAD_BYTES) }
+    ensures right { OnOk result (role_code st.now begun role (more_code st.now more) ≡ DONE) }
+    ensures wrong { IfErr result (λ refusal.
+        role_code st.now begun role (more_code st.now more) ≡ number_of refusal) }
+    ensures not_done { IfErr result (λ refusal. number_of refusal ≢ DONE) }
+{
+    check_state(st, begun, role)?;
+    if more as u64 > MAX_AEAD_BYTES - st.run.message_bytes {
+        return Err(Refusal::MessageTooLong);
+    }
+    Ok(())
+}
+
+/// Returns why [`encrypt_in_place`] of so many bytes would be refused, if it would be.
+pub fn may_encrypt<S: SavedLanes>(st: &State, more: usize) -> Result<(), Refusal>
+    ensures { code_of result ≡ chunk_code (Some S.VARIANT) st.now MESSAGE ENCRYPTING more }
+{
+    check_chunk(st, MESSAGE, ENCRYPTING, more)?;
+    Ok(())
+}
+
+/// Returns why [`decrypt_in_place_unverified`] of so many bytes would be refused, if it would be.
+pub fn may_decrypt<S: SavedLanes>(st: &State, more: usize) -> Result<(), Refusal>
+    ensures { code_of result ≡ chunk_code (Some S.VARIANT) st.now MESSAGE DECRYPTING more }
+{
+    check_chunk(st, MESSAGE, DECRYPTING, more)?;
     Ok(())
 }
 
@@ -72,167 +104,144 @@ pub fn begin<S: SavedLanes, const N: usize>(
     ad: &[u8],
     npub: &[u8],
     k: &[u8],
-) -> i32
+) -> Result<(), Refusal>
     requires { N ≡ key_length S.VARIANT.family }
-    ensures { Begins (Some S.VARIANT) variant role k.now npub.now ad.now st.old st.new result }
+    ensures { Begins (Some S.VARIANT) variant role k.now npub.now ad.now st.old st.new
+        (code_of result) }
 {
-    match message_keys::<N>(npub, k, 0, ad.len()) {
-        Ok((nonce, key)) => {
-            st.run.begin::<S>(key, nonce, ad);
-            st.variant = variant;
-            st.role = role;
-            DONE
-        }
-        Err(answer) => answer,
-    }
+    let (nonce, key) = message_keys::<N>(npub, k, 0, ad.len())?;
+    st.run.begin::<S>(key, nonce, ad);
+    st.variant = variant;
+    st.role = role;
+    Ok(())
 }
 
-/// Seals the next bytes of a message in place.
-#[inline(never)]
-pub fn seal_more<S: SavedLanes>(st: &mut State, mc: &mut [u8]) -> i32
-    ensures { SealsMore (Some S.VARIANT) st.old st.new mc.old mc.new result }
+/// Encrypts the next bytes of a message in place.
+#[inline(always)]
+pub fn encrypt_in_place<S: SavedLanes>(st: &mut State, mc: &mut [u8]) -> Result<(), Refusal>
+    ensures { StateEncryptInPlace (Some S.VARIANT) st.old st.new mc.old mc.new (code_of result) }
 {
-    if let Err(answer) = check_state(st, MESSAGE, ENCRYPTING) {
-        return answer;
-    }
-    if mc.len() as u64 > MAX_AEAD_BYTES - st.run.message_bytes {
-        return MESSAGE_TOO_LONG;
-    }
-    st.run.seal::<S>(mc);
+    check_chunk(st, MESSAGE, ENCRYPTING, mc.len())?;
+    st.run.encrypt_in_place::<S>(mc);
     st.role = ENCRYPTING;
-    DONE
+    Ok(())
 }
 
-/// Opens the next bytes of a ciphertext in place, before the tag is known.
-#[inline(never)]
-pub fn open_more<S: SavedLanes>(st: &mut State, mc: &mut [u8]) -> i32
-    ensures { OpensMore (Some S.VARIANT) st.old st.new mc.old mc.new result }
+/// Decrypts the next bytes of a ciphertext in place, before the tag is known.
+#[inline(always)]
+pub fn decrypt_in_place_unverified<S: SavedLanes>(
+    st: &mut State,
+    mc: &mut [u8],
+) -> Result<(), Refusal>
+    ensures { StateDecryptInPlaceUnverified (Some S.VARIANT) st.old st.new mc.old mc.new
+        (code_of result) }
 {
-    if let Err(answer) = check_state(st, MESSAGE, DECRYPTING) {
-        return answer;
-    }
-    if mc.len() as u64 > MAX_AEAD_BYTES - st.run.message_bytes {
-        return MESSAGE_TOO_LONG;
-    }
-    st.run.open::<S>(mc);
+    check_chunk(st, MESSAGE, DECRYPTING, mc.len())?;
+    st.run.decrypt_in_place_unverified::<S>(mc);
     st.role = DECRYPTING;
-    DONE
+    Ok(())
 }
 
 /// Takes in the next bytes of a ciphertext, without writing the message.
-#[inline(never)]
-pub fn check_more<S: SavedLanes>(st: &mut State, c: &[u8]) -> i32
-    ensures { ChecksMore (Some S.VARIANT) st.old st.new c.now result }
+#[inline(always)]
+pub fn decrypt_check<S: SavedLanes>(st: &mut State, c: &[u8]) -> Result<(), Refusal>
+    ensures { StateDecryptCheck (Some S.VARIANT) st.old st.new c.now (code_of result) }
 {
-    if let Err(answer) = check_state(st, MESSAGE, DECRYPTING) {
-        return answer;
-    }
-    if c.len() as u64 > MAX_AEAD_BYTES - st.run.message_bytes {
-        return MESSAGE_TOO_LONG;
-    }
-    st.run.check::<S>(c);
+    check_chunk(st, MESSAGE, DECRYPTING, c.len())?;
+    st.run.decrypt_check::<S>(c);
     st.role = DECRYPTING;
-    DONE
+    Ok(())
 }
 
-/// Writes the tag of a message that was sealed, and ends the state.
+/// Writes the tag of a message that was encrypted, and ends the state.
 #[inline(never)]
-pub fn end_sealing<S: SavedLanes>(st: &mut State, mac: &mut [u8]) -> i32
-    ensures { EndsSealing (Some S.VARIANT) st.old st.new mac.old mac.new result }
+pub fn encrypt_final<S: SavedLanes>(st: &mut State, mac: &mut [u8]) -> Result<(), Refusal>
+    ensures { StateEncryptFinal (Some S.VARIANT) st.old st.new mac.old mac.new (code_of result) }
 {
-    if let Err(answer) = check_state(st, MESSAGE, ENCRYPTING) {
-        return answer;
-    }
+    check_state(st, MESSAGE, ENCRYPTING)?;
     if mac.len() == 16 {
         mac.copy_from_slice(&st.run.tag::<S, 16>());
     } else if mac.len() == 32 {
         mac.copy_from_slice(&st.run.tag::<S, 32>());
     } else {
-        return WRONG_TAG_LENGTH;
+        return Err(Refusal::WrongTagLength);
     }
     *st = ENDED;
-    DONE
+    Ok(())
 }
 
-/// Returns `DONE` if `mac` is the tag of a message that was opened. If it is not, returns `INVALID_TAG`, and every byte
-/// of `m` is `ERASED`. Both end the state.
+/// Refuses `mac` exactly if it is not the tag of a message that was decrypted; then every byte of `m` is `ERASED`. Both
+/// end the state.
 #[inline(never)]
-pub fn end_opening<S: SavedLanes>(st: &mut State, m: &mut [u8], mac: &[u8]) -> i32
-    ensures { EndsOpening (Some S.VARIANT) st.old st.new m.old m.new mac.now result }
+pub fn decrypt_final<S: SavedLanes>(st: &mut State, m: &mut [u8], mac: &[u8]) -> Result<(), Refusal>
+    ensures { StateDecryptFinal (Some S.VARIANT) st.old st.new m.old m.new mac.now
+        (code_of result) }
 {
-    if let Err(answer) = check_state(st, MESSAGE, DECRYPTING) {
-        return answer;
-    }
+    check_state(st, MESSAGE, DECRYPTING)?;
     let is_right = if let Some(tag) = mac.as_array() {
         st.run.has_tag::<S, 16>(tag)
     } else if let Some(tag) = mac.as_array() {
         st.run.has_tag::<S, 32>(tag)
     } else {
-        return WRONG_TAG_LENGTH;
+        return Err(Refusal::WrongTagLength);
     };
     *st = ENDED;
     if is_right {
-        DONE
+        Ok(())
     } else {
         m.fill(ERASED);
-        INVALID_TAG
+        Err(Refusal::InvalidTag)
     }
 }
 
 /// Takes in the next bytes of the input of a MAC.
-#[inline(never)]
-pub fn take_more<S: SavedLanes>(st: &mut State, input: &[u8]) -> i32
-    ensures { TakesMore (Some S.VARIANT) st.old st.new input.now result }
+#[inline(always)]
+pub fn mac_update<S: SavedLanes>(st: &mut State, input: &[u8]) -> Result<(), Refusal>
+    ensures { MacUpdate (Some S.VARIANT) st.old st.new input.now (code_of result) }
 {
-    if let Err(answer) = check_state(st, MAC, MAC) {
-        return answer;
-    }
-    if input.len() as u64 > MAX_AEAD_BYTES - st.run.message_bytes {
-        return MESSAGE_TOO_LONG;
-    }
+    check_chunk(st, MAC, MAC, input.len())?;
     st.run.absorb::<S>(input);
-    DONE
+    Ok(())
 }
 
 /// Writes the MAC of the input so far. The state is unchanged.
 #[inline(never)]
-pub fn give_mac<S: SavedLanes>(st: &State, mac: &mut [u8]) -> i32
-    ensures { GivesMac (Some S.VARIANT) st.now mac.old mac.new result }
+pub fn mac_final<S: SavedLanes>(st: &State, mac: &mut [u8]) -> Result<(), Refusal>
+    ensures { MacFinal (Some S.VARIANT) st.now mac.old mac.new (code_of result) }
 {
     if st.run.data_bytes != 0 {
-        return WRONG_STATE;
+        return Err(Refusal::WrongState);
     }
-    if let Err(answer) = check_state(st, MAC, MAC) {
-        return answer;
-    }
+    check_state(st, MAC, MAC)?;
     if mac.len() == 16 {
         mac.copy_from_slice(&st.run.mac::<S, 16>());
-        DONE
     } else if mac.len() == 32 {
         mac.copy_from_slice(&st.run.mac::<S, 32>());
-        DONE
     } else {
-        WRONG_TAG_LENGTH
+        return Err(Refusal::WrongTagLength);
     }
+    Ok(())
 }
 
-/// Returns `DONE` if `mac` is the MAC of the input so far, and `INVALID_TAG` if it is not. The state is unchanged.
+/// Refuses `mac` exactly if it is not the MAC of the input so far. The state is unchanged.
 #[inline(never)]
-pub fn check_mac<S: SavedLanes>(st: &State, mac: &[u8]) -> i32
-    ensures { ChecksMac (Some S.VARIANT) st.now mac.now result }
+pub fn mac_final_verify<S: SavedLanes>(st: &State, mac: &[u8]) -> Result<(), Refusal>
+    ensures { MacFinalVerify (Some S.VARIANT) st.now mac.now (code_of result) }
 {
     if st.run.data_bytes != 0 {
-        return WRONG_STATE;
+        return Err(Refusal::WrongState);
     }
-    if let Err(answer) = check_state(st, MAC, MAC) {
-        return answer;
-    }
+    check_state(st, MAC, MAC)?;
     let is_right = if let Some(expected) = mac.as_array() {
         st.run.has_mac::<S, 16>(expected)
     } else if let Some(expected) = mac.as_array() {
         st.run.has_mac::<S, 32>(expected)
     } else {
-        return WRONG_TAG_LENGTH;
+        return Err(Refusal::WrongTagLength);
     };
-    if is_right { DONE } else { INVALID_TAG }
+    if is_right {
+        Ok(())
+    } else {
+        Err(Refusal::InvalidTag)
+    }
 }

@@ -1,20 +1,27 @@
-use Rattle.std.proofs.Common.{◌≡◌, ℕ, ◌∙◌, ap, rules}
-use Rattle.aegis_c_calls.specs.declared.answer.TheConstants.{DONE}
-use Rattle.aegis_c_pages.specs.Answers.{page_answer}
-use Rattle.aegis_c_pages.specs.Calls.{text_in}
+use Rattle.std.proofs.Common.{◌≡◌, ◌∙◌, ap, length, rules}
+use Rattle.aegis_c_calls.specs.declared.refusal.TheConstants.{DONE}
+use Rattle.aegis_c_calls.specs.Numbers.{the, variant_of}
+use Rattle.aegis_c_calls.specs.PageCodes.{page_open_code}
+use Rattle.aegis_c_calls.specs.PageCalls.{text_in}
+use Rattle.aegis_c.proofs.OpenedToo.{opened_too}
 use Rattle.aegis_c.proofs.page_sequence.page_sealed_and_opened.Goals as goal
 
 pub returns-clause-done : goal.returns-clause-done
 returns-clause-done c right =
-    let d1 : c.hunkravy_page_seal_nonnull.result ≡ DONE = search rules in
-    let sealed = c.hunkravy_page_seal_nonnull.ensures.sealed d1 in
-    let accepted = c.hunkravy_page_open_nonnull.ensures.accepted (text_in c.args.page.now) sealed in
-    let d2 : c.hunkravy_page_open_nonnull.result ≡ DONE =
-    c.hunkravy_page_open_nonnull.ensures.answered accepted ∙ ap (λ (n : ℕ). page_answer n c.args.number) c.hunkravy_page_seal_nonnull.auto.page ∙ right in
+    let variant = variant_of c.args.variant in
+    let key = length c.args.k.now in
+    let d1 : c.hunkravy_proved_page_seal.result ≡ DONE = search rules in
+    let sealed = c.hunkravy_proved_page_seal.ensures.sealed d1 in
+    let accepted = c.hunkravy_proved_page_open.ensures.accepted (text_in (the variant) c.args.page.now) sealed in
+    let d2 : c.hunkravy_proved_page_open.result ≡ DONE =
+    c.hunkravy_proved_page_open.ensures.answered accepted
+    ∙ ap (λ n. page_open_code variant key n c.args.number) c.hunkravy_proved_page_seal.auto.page
+    ∙ opened_too variant key (length c.args.npub.now) (length c.args.page.now) c.args.number right in
     search (rules, d2)
 
 pub returns-clause-text : goal.returns-clause-text
 returns-clause-text c done =
-    let d1 : c.hunkravy_page_seal_nonnull.result ≡ DONE = search rules in
-    let d2 : c.hunkravy_page_open_nonnull.result ≡ DONE = search (rules, done) in
-    c.hunkravy_page_open_nonnull.ensures.one d2 (text_in c.args.page.now) (c.hunkravy_page_seal_nonnull.ensures.sealed d1)
+    let variant = variant_of c.args.variant in
+    let d1 : c.hunkravy_proved_page_seal.result ≡ DONE = search rules in
+    let d2 : c.hunkravy_proved_page_open.result ≡ DONE = search (rules, done) in
+    c.hunkravy_proved_page_open.ensures.one d2 (text_in (the variant) c.args.page.now) (c.hunkravy_proved_page_seal.ensures.sealed d1)

@@ -3,10 +3,10 @@ use Rattle.std.proofs.Common.{◌≡◌, ℕ, ◌+◌, ◌-◌, false, List, ◌
 use Rattle.aegis.specs.Calls.{message_in}
 use Rattle.aegis.specs.Progress.{Progress, record_of}
 use Rattle.aegis.specs.declared.record.version.Version.TheVariants.{Second}
-use Rattle.aegis_c_calls.specs.declared.answer.TheConstants.{DONE}
-use Rattle.aegis_c_records.specs.Stream.{after_record, first_of, progress_of, version_of}
-use Rattle.aegis_c_records.specs.declared.state.RecordState.{RecordState}
-use Rattle.aegis_c_records.specs.declared.state.TheConstants.{OPENING, SEALING, SECOND}
+use Rattle.aegis_c_calls.specs.declared.refusal.TheConstants.{DONE}
+use Rattle.aegis_c_calls.specs.RecordStates.{after_record, first_of, progress_of, version_of}
+use Rattle.aegis_c_calls.specs.declared.record.state.RecordState.{RecordState}
+use Rattle.aegis_c_calls.specs.declared.record.state.TheConstants.{OPENING, SEALING, SECOND}
 use Rattle.aegis_c.proofs.record_sequence.two_records_sealed_and_opened.Goals as goal
 
 abbrev same : RecordState → RecordState → List ℕ → Type 0
@@ -29,32 +29,32 @@ same_after opener sealer opener' sealer' context m n is o s e =
 
 pub returns-clause-first : goal.returns-clause-first
 returns-clause-first c done =
-    let d1 : c.hunkravy_record_begin_nonnull.result ≡ DONE = search rules in
-    let d2 : c.hunkravy_record_begin_open_nonnull.result ≡ DONE = search rules in
-    let d3 : c.hunkravy_record_seal_nonnull.result ≡ DONE = search rules in
-    let d4 : c.hunkravy_record_open_nonnull.result ≡ DONE = search rules in
-    let opening = c.hunkravy_record_begin_open_nonnull.ensures in
-    let before = same_at_first c.hunkravy_record_begin_open_nonnull.new.st c.hunkravy_record_begin_nonnull.new.st c.args.k.now c.args.prefix.now c.args.context.now
-    (c.hunkravy_record_begin_nonnull.ensures.first d1) (opening.first d2) (opening.one d2 Second (c.hunkravy_record_begin_nonnull.ensures.written d1)) in
+    let d1 : c.hunkravy_proved_record_begin.result ≡ DONE = search rules in
+    let d2 : c.hunkravy_proved_record_begin_open.result ≡ DONE = search rules in
+    let d3 : c.hunkravy_proved_record_seal.result ≡ DONE = search rules in
+    let d4 : c.hunkravy_proved_record_open.result ≡ DONE = search rules in
+    let opening = c.hunkravy_proved_record_begin_open.ensures in
+    let before = same_at_first c.hunkravy_proved_record_begin_open.new.st c.hunkravy_proved_record_begin.new.st c.args.k.now c.args.prefix.now c.args.context.now
+    (c.hunkravy_proved_record_begin.ensures.first d1) (opening.first d2) (opening.one d2 Second (c.hunkravy_proved_record_begin.ensures.written d1)) in
     let m = message_in c.args.first.now in
-    let one = c.hunkravy_record_open_nonnull.ensures.one d4 0 m (c.hunkravy_record_seal_nonnull.ensures.sealed d3 ∙ ap (λ (p : Progress). record_of p 0 m) (sym before)) in
+    let one = c.hunkravy_proved_record_open.ensures.one d4 0 m (c.hunkravy_proved_record_seal.ensures.sealed d3 ∙ ap (λ (p : Progress). record_of p 0 m) (sym before)) in
     one.1
 
 pub returns-clause-second : goal.returns-clause-second
 returns-clause-second c done =
-    let d1 : c.hunkravy_record_begin_nonnull.result ≡ DONE = search rules in
-    let d2 : c.hunkravy_record_begin_open_nonnull.result ≡ DONE = search rules in
-    let d3 : c.hunkravy_record_seal_nonnull.result ≡ DONE = search rules in
-    let d4 : c.hunkravy_record_open_nonnull.result ≡ DONE = search rules in
-    let d5 : c.hunkravy_record_seal_last_nonnull.result ≡ DONE = search rules in
-    let d6 : c.hunkravy_record_open_nonnull-2.result ≡ DONE = search (rules, done) in
-    let opening = c.hunkravy_record_begin_open_nonnull.ensures in
-    let before = same_at_first c.hunkravy_record_begin_open_nonnull.new.st c.hunkravy_record_begin_nonnull.new.st c.args.k.now c.args.prefix.now c.args.context.now
-    (c.hunkravy_record_begin_nonnull.ensures.first d1) (opening.first d2) (opening.one d2 Second (c.hunkravy_record_begin_nonnull.ensures.written d1)) in
+    let d1 : c.hunkravy_proved_record_begin.result ≡ DONE = search rules in
+    let d2 : c.hunkravy_proved_record_begin_open.result ≡ DONE = search rules in
+    let d3 : c.hunkravy_proved_record_seal.result ≡ DONE = search rules in
+    let d4 : c.hunkravy_proved_record_open.result ≡ DONE = search rules in
+    let d5 : c.hunkravy_proved_record_seal_last.result ≡ DONE = search rules in
+    let d6 : c.hunkravy_proved_record_open-2.result ≡ DONE = search (rules, done) in
+    let opening = c.hunkravy_proved_record_begin_open.ensures in
+    let before = same_at_first c.hunkravy_proved_record_begin_open.new.st c.hunkravy_proved_record_begin.new.st c.args.k.now c.args.prefix.now c.args.context.now
+    (c.hunkravy_proved_record_begin.ensures.first d1) (opening.first d2) (opening.one d2 Second (c.hunkravy_proved_record_begin.ensures.written d1)) in
     let m = message_in c.args.first.now in
-    let one = c.hunkravy_record_open_nonnull.ensures.one d4 0 m (c.hunkravy_record_seal_nonnull.ensures.sealed d3 ∙ ap (λ (p : Progress). record_of p 0 m) (sym before)) in
-    let after = same_after c.hunkravy_record_begin_open_nonnull.new.st c.hunkravy_record_begin_nonnull.new.st c.hunkravy_record_open_nonnull.new.st c.hunkravy_record_seal_nonnull.new.st
-    c.args.context.now _ _ before (c.hunkravy_record_open_nonnull.ensures.after d4 one.0) (c.hunkravy_record_seal_nonnull.ensures.after d3) c.hunkravy_record_seal_nonnull.auto.bytes in
+    let one = c.hunkravy_proved_record_open.ensures.one d4 0 m (c.hunkravy_proved_record_seal.ensures.sealed d3 ∙ ap (λ (p : Progress). record_of p 0 m) (sym before)) in
+    let after = same_after c.hunkravy_proved_record_begin_open.new.st c.hunkravy_proved_record_begin.new.st c.hunkravy_proved_record_open.new.st c.hunkravy_proved_record_seal.new.st
+    c.args.context.now _ _ before (c.hunkravy_proved_record_open.ensures.after d4 one.0) (c.hunkravy_proved_record_seal.ensures.after d3) c.hunkravy_proved_record_seal.auto.bytes in
     let n = message_in c.args.second.now in
-    let two = c.hunkravy_record_open_nonnull-2.ensures.one d6 1 n (c.hunkravy_record_seal_last_nonnull.ensures.sealed d5 ∙ ap (λ (p : Progress). record_of p 1 n) (sym after)) in
+    let two = c.hunkravy_proved_record_open-2.ensures.one d6 1 n (c.hunkravy_proved_record_seal_last.ensures.sealed d5 ∙ ap (λ (p : Progress). record_of p 1 n) (sym after)) in
     two.1

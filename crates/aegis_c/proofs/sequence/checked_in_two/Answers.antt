@@ -2,22 +2,22 @@
 use Rattle.std.proofs.Common.{◌≡◌, ◌∙◌, [], ◌++◌, ap, length, rules, subst}
 use Rattle.aegis_base.specs.Message.{Opens}
 use Rattle.aegis_c_calls.specs.Numbers.{the, variant_of}
-use Rattle.aegis_c_calls.specs.declared.answer.TheConstants.{DONE}
+use Rattle.aegis_c_calls.specs.declared.refusal.TheConstants.{DONE}
 use Rattle.aegis_c.proofs.sequence.checked_in_two.Goals as goal
 
 pub returns : goal.returns
 returns c done =
-    let e1 : c.hunkravy_state_init_nonnull.new.st.variant ≡ c.args.variant = search rules in
-    let e2 : c.hunkravy_state_decrypt_check_nonnull.new.st.variant ≡ c.args.variant = search (rules, e1) in
-    let e3 : c.hunkravy_state_decrypt_check_nonnull-2.new.st.variant ≡ c.args.variant = search (rules, e2) in
-    let first = rw e1 at c.hunkravy_state_decrypt_check_nonnull.ensures in
-    let second = rw e2 at c.hunkravy_state_decrypt_check_nonnull-2.ensures in
-    let third = rw e3 at c.hunkravy_state_decrypt_final_nonnull.ensures in
-    let d0 : c.hunkravy_state_init_nonnull.result ≡ DONE = search rules in
-    let d1 : c.hunkravy_state_decrypt_check_nonnull.result ≡ DONE = search rules in
-    let d2 : c.hunkravy_state_decrypt_check_nonnull-2.result ≡ DONE = search rules in
-    let d3 : c.hunkravy_state_decrypt_final_nonnull.result ≡ DONE = search (rules, done) in
-    let begun = c.hunkravy_state_init_nonnull.ensures in
+    let e1 : c.hunkravy_proved_state_init.new.st.variant ≡ c.args.variant = search rules in
+    let e2 : c.hunkravy_proved_state_decrypt_check.new.st.variant ≡ c.args.variant = search (rules, e1) in
+    let e3 : c.hunkravy_proved_state_decrypt_check-2.new.st.variant ≡ c.args.variant = search (rules, e2) in
+    let first = rw e1 at c.hunkravy_proved_state_decrypt_check.ensures in
+    let second = rw e2 at c.hunkravy_proved_state_decrypt_check-2.ensures in
+    let third = rw e3 at c.hunkravy_proved_state_decrypt_final.ensures in
+    let d0 : c.hunkravy_proved_state_init.result ≡ DONE = search rules in
+    let d1 : c.hunkravy_proved_state_decrypt_check.result ≡ DONE = search rules in
+    let d2 : c.hunkravy_proved_state_decrypt_check-2.result ≡ DONE = search rules in
+    let d3 : c.hunkravy_proved_state_decrypt_final.result ≡ DONE = search (rules, done) in
+    let begun = c.hunkravy_proved_state_init.ensures in
     let k = c.args.k.now in
     let n = c.args.npub.now in
     let ad = c.args.ad.now in

@@ -4,10 +4,10 @@ use Rattle.aegis_c.proofs.sequence.opened_in_two.Goals as goal
 
 pub returns : goal.returns
 returns c =
-    let e1 : c.hunkravy_state_init_nonnull.new.st.variant ≡ c.args.variant = search rules in
-    let e2 : c.hunkravy_state_decrypt_in_place_unverified_nonnull.new.st.variant ≡ c.args.variant = search (rules, e1) in
-    let e3 : c.hunkravy_state_decrypt_in_place_unverified_nonnull-2.new.st.variant ≡ c.args.variant = search (rules, e2) in
-    let first = rw e1 at c.hunkravy_state_decrypt_in_place_unverified_nonnull.ensures in
-    let second = rw e2 at c.hunkravy_state_decrypt_in_place_unverified_nonnull-2.ensures in
-    let third = rw e3 at c.hunkravy_state_decrypt_final_nonnull.ensures in
+    let e1 : c.hunkravy_proved_state_init.new.st.variant ≡ c.args.variant = search rules in
+    let e2 : c.hunkravy_proved_state_decrypt_in_place_unverified.new.st.variant ≡ c.args.variant = search (rules, e1) in
+    let e3 : c.hunkravy_proved_state_decrypt_in_place_unverified-2.new.st.variant ≡ c.args.variant = search (rules, e2) in
+    let first = rw e1 at c.hunkravy_proved_state_decrypt_in_place_unverified.ensures in
+    let second = rw e2 at c.hunkravy_proved_state_decrypt_in_place_unverified-2.ensures in
+    let third = rw e3 at c.hunkravy_proved_state_decrypt_final.ensures in
     search rules

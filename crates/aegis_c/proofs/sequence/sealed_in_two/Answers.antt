@@ -4,10 +4,10 @@ use Rattle.aegis_c.proofs.sequence.sealed_in_two.Goals as goal
 
 pub returns : goal.returns
 returns c =
-    let e1 : c.hunkravy_state_init_nonnull.new.st.variant ≡ c.args.variant = search rules in
-    let e2 : c.hunkravy_state_encrypt_in_place_nonnull.new.st.variant ≡ c.args.variant = search (rules, e1) in
-    let e3 : c.hunkravy_state_encrypt_in_place_nonnull-2.new.st.variant ≡ c.args.variant = search (rules, e2) in
-    let first = rw e1 at c.hunkravy_state_encrypt_in_place_nonnull.ensures in
-    let second = rw e2 at c.hunkravy_state_encrypt_in_place_nonnull-2.ensures in
-    let third = rw e3 at c.hunkravy_state_encrypt_final_nonnull.ensures in
+    let e1 : c.hunkravy_proved_state_init.new.st.variant ≡ c.args.variant = search rules in
+    let e2 : c.hunkravy_proved_state_encrypt_in_place.new.st.variant ≡ c.args.variant = search (rules, e1) in
+    let e3 : c.hunkravy_proved_state_encrypt_in_place-2.new.st.variant ≡ c.args.variant = search (rules, e2) in
+    let first = rw e1 at c.hunkravy_proved_state_encrypt_in_place.ensures in
+    let second = rw e2 at c.hunkravy_proved_state_encrypt_in_place-2.ensures in
+    let third = rw e3 at c.hunkravy_proved_state_encrypt_final.ensures in
     search rules

@@ -1,0 +1,99 @@
+/*
+ * Sealed pages: a text in a file that is read and written at any place. The text is cut into pages of one size, each of
+ * which is encrypted on its own, by any variant with a tag of 32 bytes. These calls seal and open a page or a header, and
+ * you read and write the file. A page opens only under its number and the id of its file, but an older page of the same
+ * number opens too. The files are those of the Rattle library's `aegis_pages` and of the Cargo package's `raf`, of the
+ * format in docs/PAGES.md of their repository.
+ *
+ * A file begins with a sector of HUNKRAVY_PAGE_SECTOR_BYTES that has its header: the variant, the page size, the file's
+ * id, a counter, and the length of the text. The pages begin at byte HUNKRAVY_PAGE_FIRST, each whole, the last one too: a
+ * nonce of hunkravy_key_bytes(variant) bytes, the encrypted text, and the tag.
+ *
+ * A crash may tear whatever was not synced, and a file whose header is torn is lost: so it is with the example pages.c,
+ * which has no journal. For safety from crashes, write pages and header by way of a journal, which docs/PAGES.md
+ * defines, and which the calls of hunkravy_records.h seal and open. If a journal that is not empty lies beside a file,
+ * complete it before you open the file: the Rattle library and the Cargo package do.
+ *
+ * To change some bytes of a page: read the page, open it, change its text, seal it with a fresh nonce, and write it. To
+ * change the length: write the pages that are new, and then the header with the next counter.
+ *
+ * `k` is a key and `npub` a nonce, of hunkravy_key_bytes(variant) bytes each: A FRESH NONCE EACH TIME that a page or a
+ * header is sealed, drawn at random. With nonces of 16 bytes seal at most 2^48 pages and headers under one key. `id` is 24
+ * bytes that are the file's own: they may be drawn at random, and need not be secret.
+ *
+ * What hunkravy.h says of pointers and codes holds here too. The pointers without a length are never null.
+ */
+#ifndef HUNKRAVY_PAGES_H
+#define HUNKRAVY_PAGES_H
+
+#include "hunkravy.h"
+
+#ifdef __cplusplus
+extern "C" {
+#endif
+
+#define HUNKRAVY_PAGE_ID_BYTES 24
+#define HUNKRAVY_PAGE_TAG_BYTES 32
+/* How many bytes a page has at most more than its text: its nonce and its tag. */
+#define HUNKRAVY_PAGE_MAX_ADDED_BYTES 64
+/* How many bytes of text a page has: at least, at most, and for most uses. */
+#define HUNKRAVY_PAGE_MIN_SIZE 256
+#define HUNKRAVY_PAGE_MAX_SIZE 65536
+#define HUNKRAVY_PAGE_DEFAULT_SIZE 4032
+/* The sector of the header. */
+#define HUNKRAVY_PAGE_SECTOR_BYTES 512
+/* Where page 0 begins in the file. */
+#define HUNKRAVY_PAGE_FIRST 4096
+/* How many bytes a text may have. */
+#define HUNKRAVY_PAGE_MAX_TEXT_BYTES (UINT64_C(1) << 60)
+
+/* Returns where a page begins in a file of this variant and page size. */
+uint64_t hunkravy_page_place(uint32_t variant, uint32_t page_size, uint64_t number);
+
+/*
+ * Seals page `number` in place: its text is at `page + hunkravy_key_bytes(variant)`, and the `pagelen` bytes at `page`,
+ * which are those of a nonce, the page size and HUNKRAVY_PAGE_TAG_BYTES, become the page.
+ *
+ * Returns HUNKRAVY_OK, a code for a wrong variant or a wrong length of `npub` or `k`, HUNKRAVY_WRONG_PAGE_SIZE, or
+ * HUNKRAVY_TEXT_TOO_LONG if the page would begin after HUNKRAVY_PAGE_MAX_TEXT_BYTES of the text. After any code but
+ * HUNKRAVY_OK nothing is written, and `page` still holds the text, unencrypted.
+ */
+HUNKRAVY_MUST_USE int hunkravy_page_seal(uint32_t variant, uint8_t *page, size_t pagelen, const uint8_t *id,
+    uint64_t number, const uint8_t *npub, size_t npublen, const uint8_t *k, size_t klen);
+
+/*
+ * Opens page `number`, which is the `pagelen` bytes at `page`, in place: its text is then at
+ * `page + hunkravy_key_bytes(variant)`.
+ *
+ * Returns what hunkravy_page_seal returns, or HUNKRAVY_INVALID_TAG if the bytes are not a page of this variant, number,
+ * id and key. After HUNKRAVY_INVALID_TAG each of the `pagelen` bytes is 0xaa; after any other error nothing is written.
+ */
+HUNKRAVY_MUST_USE int hunkravy_page_open(uint32_t variant, uint8_t *page, size_t pagelen, const uint8_t *id,
+    uint64_t number, const uint8_t *k, size_t klen);
+
+/*
+ * Writes the header of this counter, for a text of `textlen` bytes, to the HUNKRAVY_PAGE_SECTOR_BYTES at `sector`,
+ * which are the first of the file. A new file has the header of the counter 0, and no text.
+ *
+ * Returns HUNKRAVY_OK, a code for a wrong variant or a wrong length of `npub` or `k`, HUNKRAVY_WRONG_PAGE_SIZE or
+ * HUNKRAVY_TEXT_TOO_LONG. After any code but HUNKRAVY_OK nothing is written.
+ */
+HUNKRAVY_MUST_USE int hunkravy_page_header_seal(uint32_t variant, uint8_t *sector, uint32_t page_size,
+    const uint8_t *id, uint64_t counter, uint64_t textlen, const uint8_t *npub, size_t npublen, const uint8_t *k,
+    size_t klen);
+
+/*
+ * Opens the header in the HUNKRAVY_PAGE_SECTOR_BYTES at `sector`, and writes what it has to the four parameters after
+ * `klen`.
+ *
+ * Returns HUNKRAVY_OK, a code for a wrong variant or a wrong length of `k`, or HUNKRAVY_INVALID_TAG if the sector has no
+ * header of this variant and key. After any code but HUNKRAVY_OK nothing is written.
+ */
+HUNKRAVY_MUST_USE int hunkravy_page_header_open(uint32_t variant, const uint8_t *sector, const uint8_t *k, size_t klen,
+    uint32_t *page_size, uint8_t *id, uint64_t *counter, uint64_t *textlen);
+
+#ifdef __cplusplus
+}
+#endif
+
+#endif

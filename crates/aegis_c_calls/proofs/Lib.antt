@@ -1,0 +1,3 @@
+mod Begun
+mod OneHeader
+mod OneRecord

@@ -1,0 +1,92 @@
+-- What each call on a record stream does: the code that it returns, and the state and the bytes at its pointers before and
+-- after it. A state stands for a stream of a context, which C passes to each call again. A record has the name of its call.
+use Rattle.std.specs.Prelude.{◌≡◌, ◌≢◌, ℕ, ℤ, ◌+◌, ◌≤◌, List, [], ◌∷◌, ◌++◌, drop, length, replicate}
+use Rattle.aegis_engine.specs.declared.cipher.TheConstants.{ERASED}
+use Rattle.aegis.specs.Calls.{message_in, with_message}
+use Rattle.aegis.specs.Fault.{length_at}
+use Rattle.aegis.specs.Progress.{Begun, record_of}
+use Rattle.aegis.specs.Records.{AreRecords}
+use Rattle.aegis.specs.RecordStream.{header, limit}
+use Rattle.aegis.specs.declared.record.version.Version.{Version}
+use Rattle.aegis.specs.declared.record.version.Version.TheVariants.{Second}
+use Rattle.aegis_c_calls.specs.declared.refusal.TheConstants.{DONE, INVALID_TAG, UNKNOWN_HEADER}
+use Rattle.aegis_c_calls.specs.RecordCodes.{context_code, head_code, record_code}
+use Rattle.aegis_c_calls.specs.RecordStates.{after_record, first_of, progress_of, version_of}
+use Rattle.aegis_c_calls.specs.declared.record.state.RecordState.{RecordState}
+use Rattle.aegis_c_calls.specs.declared.record.state.TheConstants.{ENDED, OPENING, SEALING, SECOND}
+
+-- The call begins to seal a stream, and writes its header; or it changes nothing.
+pub record RecordBegin (key prefix context : List ℕ) (old new : RecordState) (bytes bytes' : List ℕ) (code : ℤ) : Type 0 where
+  pub answered : code ≡ context_code (length context) DONE
+  pub written : code ≡ DONE → bytes' ≡ header Second
+  pub first : code ≡ DONE → new ≡ first_of SEALING SECOND key prefix
+  pub begun : code ≡ DONE → Begun (progress_of new context) key prefix context [] bytes'
+  pub state_kept : code ≢ DONE → new ≡ old
+  pub kept : code ≢ DONE → bytes' ≡ bytes
+
+-- The call begins to open a stream with this header, if a version has it; or it changes nothing.
+pub record RecordBeginOpen (key prefix context : List ℕ) (old new : RecordState) (bytes : List ℕ) (code : ℤ) : Type 0 where
+  pub answered : code ≢ UNKNOWN_HEADER → code ≡ context_code (length context) DONE
+  pub known : (v : Version) → bytes ≡ header v → code ≢ UNKNOWN_HEADER
+  pub unknown : ((v : Version) → bytes ≢ header v) → code ≡ UNKNOWN_HEADER
+  pub found : code ≡ DONE → bytes ≡ header (version_of new.version)
+  pub one : code ≡ DONE → (v : Version) → bytes ≡ header v → version_of new.version ≡ v
+  pub first : code ≡ DONE → new ≡ first_of OPENING new.version key prefix
+  pub begun : code ≡ DONE → Begun (progress_of new context) key prefix context [] bytes
+  pub state_kept : code ≢ DONE → new ≡ old
+
+-- The call seals the next message where it lies, and the bytes become its record; or it changes nothing.
+pub record RecordSeal (context : List ℕ) (old new : RecordState) (bytes bytes' : List ℕ) (code : ℤ) : Type 0 where
+  pub answered : code ≡ record_code old SEALING (length context) (length bytes)
+  pub sealed : code ≡ DONE → bytes' ≡ record_of (progress_of old context) 0 (message_in bytes)
+  pub after : code ≡ DONE → new ≡ after_record old (length bytes)
+  pub begun : code ≡ DONE → (key prefix : List ℕ) (ms : List (List ℕ)) (before : List ℕ)
+      → Begun (progress_of old context) key prefix context ms before
+      → Begun (progress_of new context) key prefix context (ms ++ message_in bytes ∷ []) (before ++ bytes')
+  pub state_kept : code ≢ DONE → new ≡ old
+  pub kept : code ≢ DONE → bytes' ≡ bytes
+
+-- The call seals the last message where it lies, and ends the state; or it changes nothing.
+pub record RecordSealLast (context : List ℕ) (old new : RecordState) (bytes bytes' : List ℕ) (code : ℤ) : Type 0 where
+  pub answered : code ≡ record_code old SEALING (length context) (length bytes)
+  pub sealed : code ≡ DONE → bytes' ≡ record_of (progress_of old context) 1 (message_in bytes)
+  pub ended : code ≡ DONE → new ≡ ENDED
+  pub whole : code ≡ DONE → (key prefix : List ℕ) (ms : List (List ℕ)) (before : List ℕ)
+      → Begun (progress_of old context) key prefix context ms before
+      → AreRecords (version_of old.version) key prefix context (ms ++ message_in bytes ∷ []) (before ++ bytes')
+  pub state_kept : code ≢ DONE → new ≡ old
+  pub kept : code ≢ DONE → bytes' ≡ bytes
+
+-- The call overwrites `old` with how many bytes the record has that begins with `head`; or it changes nothing.
+pub record RecordLen (st : RecordState) (head : List ℕ) (old new : ℕ) (code : ℤ) : Type 0 where
+  pub answered : code ≡ head_code st head
+  pub found : code ≡ DONE → new ≡ 37 + length_at (drop 1 head)
+  pub is_length : code ≡ DONE → (context : List ℕ) (flag : ℕ) (m body : List ℕ) → length m ≤ limit (version_of st.version)
+      → head ++ body ≡ record_of (progress_of st context) flag m → new ≡ length (head ++ body)
+  pub kept : code ≢ DONE → new ≡ old
+
+-- The call opens the next record, which `bytes` are: its message is written over its ciphertext, and `flag` becomes 1
+-- for the last record and 0 for another. After the last one it ends the state. If `bytes` are no next record it erases
+-- them all, and keeps the state; and if the state or a length is wrong, it changes nothing.
+pub record RecordOpen (context : List ℕ) (old new : RecordState) (bytes bytes' : List ℕ) (flag flag' : ℕ) (code : ℤ) : Type 0 where
+  pub answered : code ≢ INVALID_TAG → code ≡ record_code old OPENING (length context) (length bytes)
+  pub lengths : code ≡ INVALID_TAG → record_code old OPENING (length context) (length bytes) ≡ DONE
+  pub known : code ≡ DONE → flag' ≤ 1
+  -- the bytes are the record of this message, of no other, and of no other flag
+  pub opened : code ≡ DONE → bytes ≡ record_of (progress_of old context) flag' (message_in bytes')
+  pub one : code ≡ DONE → (f : ℕ) (m : List ℕ) → bytes ≡ record_of (progress_of old context) f m → (flag' ≡ f) × (message_in bytes' ≡ m)
+  pub written : code ≡ DONE → bytes' ≡ with_message bytes (message_in bytes')
+  pub accepted : (f : ℕ) (m : List ℕ) → f ≤ 1 → bytes ≡ record_of (progress_of old context) f m → code ≢ INVALID_TAG
+  -- whatever messages the stream began with, this is the next one, or the last one
+  pub after : code ≡ DONE → flag' ≡ 0 → new ≡ after_record old (length bytes)
+  pub begun : code ≡ DONE → flag' ≡ 0 → (key prefix : List ℕ) (ms : List (List ℕ)) (before : List ℕ)
+      → Begun (progress_of old context) key prefix context ms before
+      → Begun (progress_of new context) key prefix context (ms ++ message_in bytes' ∷ []) (before ++ bytes)
+  pub ended : code ≡ DONE → flag' ≡ 1 → new ≡ ENDED
+  pub whole : code ≡ DONE → flag' ≡ 1 → (key prefix : List ℕ) (ms : List (List ℕ)) (before : List ℕ)
+      → Begun (progress_of old context) key prefix context ms before
+      → AreRecords (version_of old.version) key prefix context (ms ++ message_in bytes' ∷ []) (before ++ bytes)
+  pub erased : code ≡ INVALID_TAG → bytes' ≡ replicate (length bytes) ERASED
+  pub kept : code ≢ DONE → code ≢ INVALID_TAG → bytes' ≡ bytes
+  pub state_kept : code ≢ DONE → new ≡ old
+  pub flag_kept : code ≢ DONE → flag' ≡ flag

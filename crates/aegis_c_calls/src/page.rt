@@ -1,0 +1,109 @@
+//! The calls on a page and on a header of a file of sealed pages, which C reads and writes. `N` is the length of the
+//! variant's keys and nonces, in bytes.
+
+ghost use Rattle.std.specs.Prelude.{◌≡◌, Some};
+ghost use Rattle.aegis_base.specs.Variant.{key_length};
+ghost use Rattle.aegis_c_calls.specs.Codes.{code_of};
+ghost use Rattle.aegis_c_calls.specs.PageCalls.{PageHeaderOpen, PageOpen, PageHeaderSeal, PageSeal, header_of};
+
+use crate::keys::{key_alone, nonce_and_key};
+use crate::refusal::Refusal;
+use aegis_base::LaneState;
+use aegis_engine::ERASED;
+use aegis_pages::{FileLayout, SECTOR_BYTES, header_sector, open_box, open_sector, seal_box};
+use check::{check_header, check_page};
+
+mod check;
+
+/// Seals a page where it lies: `page` has `N` bytes for the nonce, the text, and 32 bytes for the tag.
+#[inline(never)]
+pub fn page_seal<S: LaneState, const N: usize>(
+    page: &mut [u8],
+    id: &[u8; 24],
+    number: u64,
+    npub: &[u8],
+    k: &[u8],
+) -> Result<(), Refusal>
+    requires { N ≡ key_length S.VARIANT.family }
+    ensures { PageSeal (Some S.VARIANT) k.now id.now npub.now number page.old page.new
+        (code_of result) }
+{
+    let (nonce, key) = nonce_and_key::<N>(npub, k)?;
+    let page_bytes = check_page::<N>(page.len(), number)?;
+    let layout = FileLayout::<S, N>::new(key, page_bytes, id);
+    seal_box(&layout, number, nonce, page);
+    Ok(())
+}
+
+/// Opens a page in place: its text is written over its ciphertext. If no text is sealed to `page` at this number, each
+/// of its bytes is [`ERASED`].
+#[inline(never)]
+pub fn page_open<S: LaneState, const N: usize>(
+    page: &mut [u8],
+    id: &[u8; 24],
+    number: u64,
+    k: &[u8],
+) -> Result<(), Refusal>
+    requires { N ≡ key_length S.VARIANT.family }
+    ensures { PageOpen (Some S.VARIANT) k.now id.now number page.old page.new (code_of result) }
+{
+    let key = key_alone::<N>(k)?;
+    let page_bytes = check_page::<N>(page.len(), number)?;
+    let layout = FileLayout::<S, N>::new(key, page_bytes, id);
+    if open_box(&layout, number, page) {
+        Ok(())
+    } else {
+        page.fill(ERASED);
+        Err(Refusal::InvalidTag)
+    }
+}
+
+/// Writes the sector of a header to `sector`.
+#[inline(never)]
+pub fn page_header_seal<S: LaneState, const N: usize>(
+    sector: &mut [u8; SECTOR_BYTES],
+    page_bytes: u32,
+    id: &[u8; 24],
+    counter: u64,
+    len: u64,
+    npub: &[u8],
+    k: &[u8],
+) -> Result<(), Refusal>
+    requires { N ≡ key_length S.VARIANT.family }
+    ensures { PageHeaderSeal (Some S.VARIANT) k.now id.now npub.now page_bytes counter len
+        sector.old sector.new (code_of result) }
+{
+    let (nonce, key) = nonce_and_key::<N>(npub, k)?;
+    check_header(page_bytes, len)?;
+    let layout = FileLayout::<S, N>::new(key, page_bytes, id);
+    *sector = header_sector(&layout, nonce, counter, len);
+    Ok(())
+}
+
+/// Opens the header in `sector`, and writes what it names to the last four parameters.
+#[inline(never)]
+pub fn page_header_open<S: LaneState, const N: usize>(
+    sector: &[u8; SECTOR_BYTES],
+    k: &[u8],
+    page_bytes: &mut u32,
+    id: &mut [u8; 24],
+    counter: &mut u64,
+    len: &mut u64,
+) -> Result<(), Refusal>
+    requires { N ≡ key_length S.VARIANT.family }
+    ensures { PageHeaderOpen (Some S.VARIANT) k.now sector.now
+        (header_of page_bytes.old id.old counter.old len.old)
+        (header_of page_bytes.new id.new counter.new len.new) (code_of result) }
+{
+    let key = key_alone::<N>(k)?;
+    let mut copy = *sector;
+    let Some(header) = open_sector::<S, N>(key, &mut copy) else {
+        return Err(Refusal::InvalidTag);
+    };
+    let found = header.id;
+    *page_bytes = header.page_bytes;
+    *id = found;
+    *counter = header.counter;
+    *len = header.len;
+    Ok(())
+}

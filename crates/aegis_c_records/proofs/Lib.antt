@@ -1,2 +1,0 @@
-mod Begun
-mod OneRecord
