@@ -1,8 +1,10 @@
 //! A table of rows of 64 bytes in a sealed file.
 
-ghost use Rattle.std.specs.Prelude.{◌≡◌, ◌+◌, ◌*◌, ◌<◌, ◌≤◌, List, OnOk, length, ℕ};
+ghost use Rattle.std.specs.Prelude.{◌≡◌, ◌+◌, ◌*◌, ◌<◌, ◌≤◌, IfOk, IfSome, List, OnOk, length, ℕ};
 ghost use Rattle.aegis_storage.specs.Bytes.{overwritten, part_at};
-ghost use Rattle.aegis_pages.specs.OpenFile.{HasText};
+ghost use Rattle.aegis_base.specs.Variant.{Aegis256};
+ghost use Rattle.aegis_pages.specs.Commits.{IsHonest, RecoversText};
+ghost use Rattle.aegis_pages.specs.OpenFile.{HasCommitted, HasText, OpensAtOne};
 
 use aegis_pages::laws::others_are_kept;
 use aegis_pages::{Nonces, PagesError, SealedPages};
@@ -16,8 +18,8 @@ pub const ROW_BYTES: u64 = 64;
 pub const MAX_ROWS: u64 = 1_000_000;
 
 /// Writes row `k`.
-pub fn write_row<S: Storage + Drop, N: Nonces + Drop, A: Allocator>(
-    pages: &mut SealedPages<S, N, A>,
+pub fn write_row<S: Storage + Drop, J: Storage + Drop, N: Nonces + Drop, A: Allocator + Copy>(
+    pages: &mut SealedPages<S, J, N, A>,
     k: u64,
     row: &[u8; 64],
 ) -> Result<(), PagesError>
@@ -30,8 +32,13 @@ pub fn write_row<S: Storage + Drop, N: Nonces + Drop, A: Allocator>(
 }
 
 /// Writes row `k`, and reads row `j`.
-pub fn written_and_read_row<S: Storage + Drop, N: Nonces + Drop, A: Allocator>(
-    pages: &mut SealedPages<S, N, A>,
+pub fn written_and_read_row<
+    S: Storage + Drop,
+    J: Storage + Drop,
+    N: Nonces + Drop,
+    A: Allocator + Copy,
+>(
+    pages: &mut SealedPages<S, J, N, A>,
     k: u64,
     row: &[u8; 64],
     j: u64,
@@ -55,4 +62,33 @@ pub fn written_and_read_row<S: Storage + Drop, N: Nonces + Drop, A: Allocator>(
     write_row(pages, k, row)?;
     pages.read_at(ROW_BYTES * j, out)?;
     Ok(())
+}
+
+/// Commits the rows that were written. Whatever it returns, a crash leaves a storage and a journal from which
+/// [`open_table`] opens the table as it was at the last commit, or as it is now.
+pub fn commit_rows<S: Storage + Drop, J: Storage + Drop, N: Nonces + Drop, A: Allocator + Copy>(
+    pages: &mut SealedPages<S, J, N, A>,
+) -> Result<(), PagesError>
+    ensures crash { (before now : List ℕ) → HasCommitted pages.old before
+        → HasText pages.old now → RecoversText pages.old.layout.variant pages.old.layout.key
+        before now pages.new.disk pages.new.journal }
+    ensures next { OnOk result ((before now : List ℕ) → HasCommitted pages.old before
+        → HasText pages.old now → HasCommitted pages.new now) }
+{
+    pages.commit()
+}
+
+/// Opens the table after a crash. It is that of the last commit, or of the one that was cut short, and ready for more.
+pub fn open_table<S: Storage + Drop, J: Storage + Drop, N: Nonces + Drop, A: Allocator + Copy>(
+    alloc: A,
+    storage: S,
+    journal: J,
+    nonces: N,
+    key: &[u8; 32],
+) -> Result<SealedPages<S, J, N, A>, PagesError>
+    ensures { IfOk result (λ pages. (before now : List ℕ)
+        → (batch : RecoversText Aegis256 key.now before now (S.disk storage) (J.disk journal))
+        → IfSome (J.bytes journal) (IsHonest batch) → OpensAtOne pages before now) }
+{
+    SealedPages::open(alloc, storage, journal, nonces, key)
 }

@@ -21,8 +21,8 @@ pub struct Entry<'b> {
 
 /// Reads the next entry of a log in its place, from a buffer that begins with its record. No memory is taken: the only errors
 /// are faults of the buffer.
-pub fn next_entry<'b, A: Allocator + Copy>(
-    opener: &mut RecordOpener<'_, A>,
+pub fn next_entry<'b>(
+    opener: &mut RecordOpener<'_>,
     buffer: &'b mut [u8],
 ) -> Result<Entry<'b>, RecordError>
     requires { start_of opener.old + length buffer.old ≤ MAX_AEAD_BYTES }
@@ -54,8 +54,8 @@ pub const READING_BYTES: usize = 16;
 pub const PACKET_BYTES: usize = READING_BYTES + RECORD_BYTES as usize;
 
 /// Seals a reading in a packet of its own. No memory is taken, and there is no error.
-pub fn seal_reading<A: Allocator + Copy>(
-    sealer: &mut RecordSealer<'_, A>,
+pub fn seal_reading(
+    sealer: &mut RecordSealer<'_>,
     reading: &[u8; READING_BYTES],
 ) -> [u8; PACKET_BYTES]
     requires { start_of sealer.old + PACKET_BYTES ≤ MAX_AEAD_BYTES }
@@ -72,8 +72,8 @@ pub fn seal_reading<A: Allocator + Copy>(
 
 /// Seals an entry in the buffer that holds it, and appends its record to a log. Room is made first: after an error nothing was
 /// sealed.
-pub fn append_entry<A: Allocator + Copy>(
-    sealer: &mut RecordSealer<'_, A>,
+pub fn append_entry<A: Allocator>(
+    sealer: &mut RecordSealer<'_>,
     buffer: &mut [u8],
     log: &mut Vec<u8, A>,
 ) -> Result<(), AllocError>

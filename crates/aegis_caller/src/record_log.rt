@@ -28,14 +28,14 @@ pub fn appended_and_read<A: Allocator + Copy>(
     ensures { IfOk result (λ read. read.items ≡ second.now) }
 {
     let mut log = Vec::new(alloc);
-    let mut sealer = RecordSealer::new(alloc, key, prefix, context, &mut log)?;
+    let mut sealer = RecordSealer::new(key, prefix, context, &mut log)?;
     sealer.seal_next(first, &mut log)?;
     let position = sealer.position();
     let mut tail = Vec::new(alloc);
     sealer.seal_next(second, &mut tail)?;
     sealer.seal_next(third, &mut tail)?;
-    let mut opener = RecordOpener::begin_at(alloc, key, prefix, context, position)?;
-    let opened = opener.open_at(position, &tail)?;
+    let opener = RecordOpener::begin_at(key, prefix, context, position);
+    let opened = opener.open_at(alloc, position, &tail)?;
     Ok(opened.message)
 }
 
@@ -57,8 +57,8 @@ pub fn read_at<'b, A: Allocator + Copy>(
     ensures refused { IfErr result (λ e. (e ≡ RecordError.OutOfMemory)
         ⊎ IsRecordFault (progress_at key.now prefix.now context.now position) bytes.now e) }
 {
-    let mut opener = RecordOpener::begin_at(alloc, key, prefix, context, position)?;
-    opener.open_at(position, bytes)
+    let opener = RecordOpener::begin_at(key, prefix, context, position);
+    opener.open_at(alloc, position, bytes)
 }
 
 /// Reads two records of a log from a position on: the first message, and what [`RecordOpener::open_next`] returns after it. It
@@ -85,12 +85,12 @@ pub fn read_on<'b, A: Allocator + Copy>(
         ++ (record_of (after (progress_at key.now prefix.now context.now position)
         false read.0.items) 1 read.1.message.items ++ read.1.rest.now)))) }
 {
-    let mut opener = RecordOpener::begin_at(alloc, key, prefix, context, position)?;
-    let first = opener.open_next(bytes)?;
+    let mut opener = RecordOpener::begin_at(key, prefix, context, position);
+    let first = opener.open_next(alloc, bytes)?;
     if first.is_last {
         return Ok(None);
     }
-    let second = opener.open_next(first.rest)?;
+    let second = opener.open_next(alloc, first.rest)?;
     Ok(Some((first.message, second)))
 }
 
@@ -110,14 +110,14 @@ pub fn stopped_and_read_on<A: Allocator + Copy>(
         AreRecordsOfSomeVersion key.now prefix.now context.now
         (pair.0.items ∷ pair.1.items ∷ []) (header.now ++ records.now))) }
 {
-    let mut opener = RecordOpener::new(alloc, key, prefix, context, header)?;
-    let first = opener.open_next(records)?;
+    let mut opener = RecordOpener::new(key, prefix, context, header)?;
+    let first = opener.open_next(alloc, records)?;
     if first.is_last {
         return Ok(None);
     }
     let position = opener.position();
-    let mut later = RecordOpener::begin_at(alloc, key, prefix, context, position)?;
-    let second = later.open_next(first.rest)?;
+    let mut later = RecordOpener::begin_at(key, prefix, context, position);
+    let second = later.open_next(alloc, first.rest)?;
     if second.is_last && second.rest.is_empty() {
         Ok(Some((first.message, second.message)))
     } else {

@@ -30,7 +30,7 @@ pub fn seal_three<A: Allocator + Copy>(
         (first.now ∷ second.now ∷ third.now ∷ []) stream.items) }
 {
     let mut stream = Vec::new(alloc);
-    let mut sealer = RecordSealer::new(alloc, key, prefix, context, &mut stream)?;
+    let mut sealer = RecordSealer::new(key, prefix, context, &mut stream)?;
     sealer.seal_next(first, &mut stream)?;
     sealer.seal_next(second, &mut stream)?;
     sealer.seal_last(third, &mut stream)?;
@@ -52,12 +52,12 @@ pub fn open_two<A: Allocator + Copy>(
         AreRecordsOfSomeVersion key.now prefix.now context.now
         (pair.0.items ∷ pair.1.items ∷ []) (header.now ++ records.now))) }
 {
-    let mut opener = RecordOpener::new(alloc, key, prefix, context, header)?;
-    let first = opener.open_next(records)?;
+    let mut opener = RecordOpener::new(key, prefix, context, header)?;
+    let first = opener.open_next(alloc, records)?;
     if first.is_last {
         return Ok(None);
     }
-    let second = opener.open_next(first.rest)?;
+    let second = opener.open_next(alloc, first.rest)?;
     if second.is_last && second.rest.is_empty() {
         Ok(Some((first.message, second.message)))
     } else {
@@ -81,20 +81,20 @@ pub fn sealed_and_opened<A: Allocator + Copy>(
     ensures refused { IfErr result (λ e. e ≡ RecordError.OutOfMemory) }
 {
     let mut header = Vec::new(alloc);
-    let sealer = RecordSealer::new(alloc, key, prefix, context, &mut header)?;
+    let sealer = RecordSealer::new(key, prefix, context, &mut header)?;
     let position = sealer.position();
     let mut records = Vec::new(alloc);
     sealer.seal_last(message, &mut records)?;
     records.extend_from_slice(after)?;
-    let mut opener = RecordOpener::begin_at(alloc, key, prefix, context, position)?;
-    let opened = opener.open_next(&records)?;
+    let mut opener = RecordOpener::begin_at(key, prefix, context, position);
+    let opened = opener.open_next(alloc, &records)?;
     Ok(opened.message)
 }
 
 /// A stream that grows by a record for each message, in a loop of its user: what its calls say holds of any list of messages.
 #[derive(Drop)]
 pub struct GrowingStream<'a, A: Allocator> {
-    pub sealer: RecordSealer<'a, A>,
+    pub sealer: RecordSealer<'a>,
     pub bytes: Vec<u8, A>,
 }
 
@@ -112,7 +112,7 @@ impl<'a, A: Allocator + Copy> GrowingStream<'a, A> {
         ensures taken { IfOk result (λ stream. start_of stream.sealer ≡ HEADER_BYTES) }
     {
         let mut bytes = Vec::new(alloc);
-        let sealer = RecordSealer::new(alloc, key, prefix, context, &mut bytes)?;
+        let sealer = RecordSealer::new(key, prefix, context, &mut bytes)?;
         Ok(GrowingStream { sealer, bytes })
     }
 

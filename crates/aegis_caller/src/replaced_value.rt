@@ -29,7 +29,7 @@ pub fn store<A: Allocator + Copy>(
         (value.now ∷ []) stored.stream.items) }
 {
     let mut stream = Vec::new(alloc);
-    let sealer = RecordSealer::new(alloc, key, prefix, name, &mut stream)?;
+    let sealer = RecordSealer::new(key, prefix, name, &mut stream)?;
     sealer.seal_last(value, &mut stream)?;
     Ok(StoredRecord {
         prefix: *prefix,

@@ -1,9 +1,9 @@
 //! Sealed files in memory.
 
-ghost use Rattle.std.specs.Prelude.{◌≡◌, ◌≤◌, IfErr, IfOk, List, length, ℕ};
+ghost use Rattle.std.specs.Prelude.{◌≡◌, ◌<◌, ◌≤◌, IfErr, IfOk, List, length, take, ℕ};
 ghost use Rattle.aegis_base.specs.declared.error.TheConstants.{MAX_AEAD_BYTES};
 ghost use Rattle.aegis.specs.Progress.{start_at};
-ghost use Rattle.aegis_files.specs.Range.{IsTextFrom, part_of_text};
+ghost use Rattle.aegis_files.specs.Range.{AreFrom, IsTextFrom, part_of};
 ghost use Rattle.aegis_files.specs.SealedFile.{IfRefused, IsFileOf, IsSealedFile};
 
 use aegis::aegis256::Key;
@@ -50,7 +50,8 @@ pub fn open_text<A: Allocator + Copy>(
 }
 
 /// Opens a part of a text, and returns it: `records` are the bytes of the file from the record at the part's position on.
-/// If they are those of a text, they are refused only if memory runs out.
+/// They begin with at least one record that is sealed at that position, and the part is that of these records' messages.
+/// If they are those of a text, it is the part of that text, and they are refused only if memory runs out.
 pub fn open_part<A: Allocator + Copy>(
     alloc: A,
     key: &Key,
@@ -61,11 +62,16 @@ pub fn open_part<A: Allocator + Copy>(
 ) -> Result<Vec<u8, A>, FileError>
     requires context_within { length context.now ≤ MAX_CONTEXT_BYTES }
     requires start_within { start_at range.position.number range.position.before ≤ MAX_AEAD_BYTES }
-    ensures opened { IfOk result (λ part. (text : List ℕ)
-        → IsTextFrom key.now prefix.now context.now range.position text records.now
-        → part.items ≡ part_of_text range text) }
-    ensures accepted { IfErr result (λ e. (text : List ℕ)
-        → IsTextFrom key.now prefix.now context.now range.position text records.now
+    requires some_records { 0 < range.records }
+    ensures opened { IfOk result (λ part. (flag : ℕ) × (messages : List (List ℕ))
+        × (rest : List ℕ) × (0 < length messages)
+        × AreFrom key.now prefix.now context.now range.position flag messages rest records.now
+        × (part.items ≡ part_of range messages)
+        × ((following : List (List ℕ)) (text : List ℕ)
+        → IsTextFrom key.now prefix.now context.now range.position following text records.now
+        → part_of range messages ≡ part_of range (take range.records following))) }
+    ensures accepted { IfErr result (λ e. (following : List (List ℕ)) (text : List ℕ)
+        → IsTextFrom key.now prefix.now context.now range.position following text records.now
         → IfRefused e (λ why. why ≡ RecordError.OutOfMemory)) }
 {
     let mut part = Vec::new(alloc);

@@ -2,16 +2,16 @@
 use Rattle.std.proofs.Common.{◌≡◌, ℕ, ◌+◌, ◌-◌, List, [], ◌++◌, Option, None, Some, IfSome, drop, length, refl, replicate, take, sym, ap, subst, ◌∙◌, add-one, append_assoc, append-nil, arith}
 use Rattle.std.proofs.lemmas.List.{drop-drop, drop-take, length-append, length-drop, length-take}
 use Rattle.std.specs.Int.{to_le_bytes, w64}
-use Rattle.aegis_aes.specs.Lanes.{IsLaneCount}
 use Rattle.aegis_base.specs.Mac.{mac}
 use Rattle.aegis_base.specs.Run.{Stands}
 use Rattle.aegis_base.specs.Variant.{Variant}
 use Rattle.aegis_engine.specs.Saved.{IsSaved}
 use Rattle.aegis_engine.specs.declared.saved.SavedRun.{SavedRun}
 use Rattle.aegis_pages.specs.Commitments.{HasOneCommitment, commitment, committed, page_count, page_tag, page_tags}
-use Rattle.aegis_pages.specs.Headers.{IsNewest}
+use Rattle.aegis_aes.specs.Lanes.{IsLaneCount}
+use Rattle.aegis_pages.specs.Headers.{IsHeader}
+use Rattle.aegis_pages.proofs.Heading.{one_in_file}
 use Rattle.aegis_pages.specs.Layouts.{Layout, clear_part, nonce_bytes}
-use Rattle.aegis_pages.proofs.Heading.{one_newest}
 
 -- the last 32 bytes of a box of m + 32 bytes, if they are all there
 pub tag_end : (file tag : List ℕ) (at m n : ℕ) → n ≡ m + 32 → length tag ≡ 32 → tag ≡ take 32 (drop (at + m) file)
@@ -62,21 +62,14 @@ one_more a b c layout file tag k is =
 
 -- ---- the commitment of a file that was opened
 
-pub has_commitment : (layout : Layout) (counter len : ℕ) (variant : Variant) (key c : List ℕ) (o p : Option (List ℕ)) → IsLaneCount variant.lanes → layout.variant ≡ variant → layout.key ≡ key
-    → p ≡ o → IfSome o (IsNewest layout counter len) → IfSome p (λ file. c ≡ commitment layout counter len file) → IfSome o (HasOneCommitment variant key c)
-has_commitment layout counter len variant key c o p count v k same newest is =
-    known o newest (subst (λ (q : Option (List ℕ)). IfSome q (λ file. c ≡ commitment layout counter len file)) same is)
-  where
-    one : (file : List ℕ) → IsNewest layout counter len file → c ≡ commitment layout counter len file → HasOneCommitment variant key c file
-    one file newest is = record {
-      has = record { layout = layout; counter = counter; len = len; variant_is = v; key_is = k; header = newest; is = is };
-      one = λ other has.
-          let same = one_newest layout has.layout counter has.counter len has.len file (subst (λ (w : Variant). IsLaneCount w.lanes) (sym v) count) (has.variant_is ∙ sym v) (has.key_is ∙ sym k)
-          newest has.header in
-          has.is ∙ ap (λ (l : Layout). commitment l has.counter has.len file) same.0 ∙ ap (λ (n : ℕ). commitment layout n has.len file) same.1
-          ∙ ap (λ (n : ℕ). commitment layout counter n file) same.2 ∙ sym is;
-    }
-
-    known : (q : Option (List ℕ)) → IfSome q (IsNewest layout counter len) → IfSome q (λ file. c ≡ commitment layout counter len file) → IfSome q (HasOneCommitment variant key c)
-    known None newest is = tt
-    known (Some file) newest is = one file newest is
+pub has_commitment : (layout : Layout) (counter len : ℕ) (variant : Variant) (key c : List ℕ) (o : Option (List ℕ)) → IsLaneCount variant.lanes → layout.variant ≡ variant → layout.key ≡ key
+    → IfSome o (IsHeader layout counter len) → IfSome o (λ file. c ≡ commitment layout counter len file) → IfSome o (HasOneCommitment variant key c)
+has_commitment layout counter len variant key c None count v k header is = tt
+has_commitment layout counter len variant key c (Some file) count v k header is = record {
+  has = record { layout = layout; counter = counter; len = len; variant_is = v; key_is = k; header = header; is = is };
+  one = λ other has.
+      let same = one_in_file layout has.layout counter has.counter len has.len file (subst (λ (w : Variant). IsLaneCount w.lanes) (sym v) count) (has.variant_is ∙ sym v) (has.key_is ∙ sym k)
+      header has.header in
+      has.is ∙ ap (λ (l : Layout). commitment l has.counter has.len file) same.0 ∙ ap (λ (n : ℕ). commitment layout n has.len file) same.1
+      ∙ ap (λ (n : ℕ). commitment layout counter n file) same.2 ∙ sym is;
+}

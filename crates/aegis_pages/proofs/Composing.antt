@@ -1,12 +1,12 @@
 -- The text of a page, as it is after a part was written.
-use Rattle.std.proofs.Common.{◌≡◌, ℕ, ◌+◌, ◌-◌, ◌<◌, ◌≤◌, ◌⊎◌, inl, inr, List, ◌*◌, ◌++◌, drop, get_or, length, take, sym, ap, subst, ◌∙◌, arith}
+use Rattle.std.proofs.Common.{◌≡◌, ℕ, ◌+◌, ◌-◌, ◌<◌, ◌≤◌, ◌⊎◌, inl, inr, List, ◌*◌, ◌++◌, Option, drop, get_or, length, take, sym, ap, subst, ◌∙◌, arith}
 use Rattle.std.proofs.lemmas.Bool.{cases_lt}
 use Rattle.std.proofs.lemmas.List.{get_or-take, get_or_past, length-drop, length-take}
-use Rattle.aegis_storage.specs.Bytes.{overwritten}
-use Rattle.aegis_pages.specs.Layouts.{Layout, OpensAt, box_bytes, inner, nonce_bytes}
-use Rattle.aegis_pages.specs.SealedPages.{IsPage}
+use Rattle.aegis_storage.specs.Bytes.{overwritten, part_at}
+use Rattle.aegis_pages.specs.Layouts.{Layout, box_bytes, inner, nonce_bytes}
+use Rattle.aegis_pages.specs.SealedPages.{IsPage, Shows}
 use Rattle.aegis_pages.proofs.Boxes.{inner_of}
-use Rattle.aegis_storage.proofs.Overwriting.{after_part, before_part, within_part}
+use Rattle.aegis_storage.proofs.Overwriting.{after_part, before_part, length-overwritten, put_part, within_part}
 
 -- The part was laid over the first `live` bytes of the page's text and zeros. Where it was not, the text has no byte past `live`.
 pub record Lies (text part before after : List ℕ) (page_bytes live start at : ℕ) : Type 0 where
@@ -40,24 +40,24 @@ lies_so text part before after page_bytes live start at l i low = cases (cases_l
     cases (inr from) (inr above) = other (inr above) (cases_lt i live)
 
 -- the bytes of a page that was read are the text's
-pub live_so : (layout : Layout) (number n : ℕ) (text sealed page : List ℕ) (i : ℕ) → n ≡ nonce_bytes layout → length page ≡ box_bytes layout layout.page_bytes
-    → ((m : List ℕ) → OpensAt layout number sealed m → inner layout page ≡ m)
-    → IsPage layout number sealed text → i < layout.page_bytes → number * layout.page_bytes + i < length text
+pub live_so : (layout : Layout) (changed : Option (List ℕ)) (number n : ℕ) (text file page : List ℕ) (i : ℕ) → n ≡ nonce_bytes layout → length page ≡ box_bytes layout layout.page_bytes
+    → ((m : List ℕ) → Shows layout changed file number m → inner layout page ≡ m)
+    → IsPage layout changed file number text → i < layout.page_bytes → number * layout.page_bytes + i < length text
     → get_or (take ((n + layout.page_bytes) - n) (drop n page)) i 0 ≡ get_or text (number * layout.page_bytes + i) 0
-live_so layout number n text sealed page i nonce room only is low within =
+live_so layout changed number n text file page i nonce room only is low within =
     get_or-take ((n + layout.page_bytes) - n) (drop n page) i 0 (omega arith)
     ∙ ap (λ (k : ℕ). get_or (drop k page) i 0) nonce
     ∙ sym (get_or-take (length page - (nonce_bytes layout + 32)) (drop (nonce_bytes layout) page) i 0 (omega (arith, room, low)))
-    ∙ ap (λ (l : List ℕ). get_or l i 0) (only is.message is.opens) ∙ is.bytes i low within
+    ∙ ap (λ (l : List ℕ). get_or l i 0) (only is.message is.shows) ∙ is.bytes i low within
 
 -- the same, with the page size that the code has
-pub live_at : (layout : Layout) (number n p : ℕ) (text sealed page : List ℕ) (i : ℕ) → p ≡ layout.page_bytes → n ≡ nonce_bytes layout → length page ≡ box_bytes layout layout.page_bytes
-    → ((m : List ℕ) → OpensAt layout number sealed m → inner layout page ≡ m)
-    → IsPage layout number sealed text → i < p → number * p + i < length text
+pub live_at : (layout : Layout) (changed : Option (List ℕ)) (number n p : ℕ) (text file page : List ℕ) (i : ℕ) → p ≡ layout.page_bytes → n ≡ nonce_bytes layout → length page ≡ box_bytes layout layout.page_bytes
+    → ((m : List ℕ) → Shows layout changed file number m → inner layout page ≡ m)
+    → IsPage layout changed file number text → i < p → number * p + i < length text
     → get_or (take ((n + p) - n) (drop n page)) i 0 ≡ get_or text (number * p + i) 0
-live_at layout number n p text sealed page i size nonce room only is =
+live_at layout changed number n p text file page i size nonce room only is =
     subst (λ (q : ℕ). i < q → number * q + i < length text → get_or (take ((n + q) - n) (drop n page)) i 0 ≡ get_or text (number * q + i) 0) (sym size)
-    (live_so layout number n text sealed page i nonce room only is)
+    (live_so layout changed number n text file page i nonce room only is)
 
 -- the page with its text exchanged
 pub inner_put : (layout : Layout) (n m : ℕ) (page text : List ℕ) → n ≡ nonce_bytes layout → length page ≡ box_bytes layout m → length text ≡ m
@@ -65,3 +65,19 @@ pub inner_put : (layout : Layout) (n m : ℕ) (page text : List ℕ) → n ≡ n
 inner_put layout n m page text nonce room size =
     inner_of layout (take n page) text (drop ((n + m) - n) (drop n page)) (omega (arith, nonce, room, length-take n page))
     (omega (arith, nonce, room, length-drop ((n + m) - n) (drop n page), length-drop n page))
+
+-- the text that was put into a box
+pub inner_written : (layout : Layout) (n : ℕ) (box text made : List ℕ) → n ≡ nonce_bytes layout → length text ≡ layout.page_bytes → length box ≡ box_bytes layout layout.page_bytes → made ≡ overwritten box n text
+    → inner layout made ≡ text
+inner_written layout n box text made nonce size room put =
+    let long : length made ≡ box_bytes layout layout.page_bytes = omega (arith, ap length put, length-overwritten box n text, nonce, size, room) in
+    let count : length made - (nonce_bytes layout + 32) ≡ length text = omega (arith, long, size) in
+    ap (λ (k : ℕ). take k (drop (nonce_bytes layout) made)) count ∙ ap (λ (k : ℕ). take (length text) (drop k made)) (sym nonce)
+    ∙ ap (λ (l : List ℕ). part_at l n (length text)) put ∙ put_part box n text
+
+-- the text in a page's box
+pub slice_inner : (layout : Layout) (n p : ℕ) (page : List ℕ) → n ≡ nonce_bytes layout → p ≡ layout.page_bytes → length page ≡ box_bytes layout layout.page_bytes
+    → take ((n + p) - n) (drop n page) ≡ inner layout page
+slice_inner layout n p page nonce size room =
+    let count : (n + p) - n ≡ length page - (nonce_bytes layout + 32) = omega (arith, size, room) in
+    ap (λ (k : ℕ). take k (drop n page)) count ∙ ap (λ (k : ℕ). take (length page - (nonce_bytes layout + 32)) (drop k page)) nonce

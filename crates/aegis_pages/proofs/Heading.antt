@@ -1,95 +1,17 @@
 -- The headers of a file.
-use Rattle.std.proofs.Common.{◌≡◌, ℕ, ◌+◌, ◌-◌, ◌*◌, ◌/◌, ◌%◌, ◌^◌, ◌<◌, ◌≤◌, ◌⊎◌, inl, inr, List, [], ◌∷◌, ◌++◌, Option, None, Some, drop, length, take, refl, sym, ap, subst, ◌∙◌, arith}
+use Rattle.std.proofs.Common.{◌≡◌, ℕ, ◌+◌, ◌-◌, ◌^◌, ◌<◌, ◌≤◌, inl, List, [], ◌∷◌, ◌++◌, drop, length, take, refl, sym, ap, subst, ◌∙◌, arith}
 use Rattle.std.proofs.lemmas.List.{drop-drop, drop-take, drop_at, length-drop, length-take, take-append-le, take-take, take_all, take_at}
-use Rattle.std.proofs.lemmas.Bool.{cases_lt}
 use Rattle.std.proofs.Math.Seq.{take-add}
-use Rattle.std.proofs.lemmas.Nat.{div-add-mod', from_le_bytes-to_le_bytes_4, from_le_bytes-to_le_bytes_8, mod_below}
+use Rattle.std.proofs.lemmas.Nat.{from_le_bytes-to_le_bytes_4, from_le_bytes-to_le_bytes_8}
 use Rattle.std.specs.Int.{from_le_bytes, to_le_bytes, w32, w64}
 use Rattle.aegis_aes.specs.Lanes.{IsLaneCount}
 use Rattle.aegis_base.specs.Variant.{Variant}
 use Rattle.aegis_pages.specs.declared.layout.TheConstants.{HEADER_NUMBER, MAGIC, MAX_TEXT_BYTES}
-use Rattle.aegis_storage.specs.Bytes.{WritesAt, overwritten, part_at}
-use Rattle.aegis_pages.specs.Headers.{IsHeader, IsNewest, IsSector, WritesHeader, header_text, sector_place}
+use Rattle.aegis_storage.specs.Bytes.{overwritten, part_at}
+use Rattle.aegis_pages.specs.Headers.{IsHeader, IsSector, header_text}
 use Rattle.aegis_pages.specs.Layouts.{IsPageSize, Layout, OpensAt, box_bytes, clear_part, inner, nonce_bytes, variant_byte}
-use Rattle.aegis_pages.specs.SealedPages.{OnKnown}
 use Rattle.aegis_pages.proofs.Boxes.{opens_one}
-use Rattle.aegis_storage.proofs.Overwriting.{filled_front, kept_part, length-overwritten, length-part, put_part}
-
--- ---- the two sectors
-
--- a number is even or odd, as another one or as the next one after it
-pub turns : (c d : ℕ) → (c % 2 ≡ d % 2) ⊎ (c % 2 ≡ (d + 1) % 2)
-turns c d = cases (cases_lt (c % 2) 1) (cases_lt (d % 2) 1)
-  where
-    two : 0 < 2
-    two = omega arith
-
-    next : d / 2 * 2 + d % 2 ≡ d
-    next = div-add-mod' d 2
-
-    after : (d + 1) / 2 * 2 + (d + 1) % 2 ≡ d + 1
-    after = div-add-mod' (d + 1) 2
-
-    cases : (c % 2 < 1) ⊎ (1 ≤ c % 2) → (d % 2 < 1) ⊎ (1 ≤ d % 2) → (c % 2 ≡ d % 2) ⊎ (c % 2 ≡ (d + 1) % 2)
-    cases (inl a) (inl b) = inl (omega (arith, a, b))
-    cases (inl a) (inr b) = inr (omega (arith, a, b, next, after, mod_below d 2 two, mod_below (d + 1) 2 two))
-    cases (inr a) (inl b) = inr (omega (arith, a, b, next, after, mod_below c 2 two, mod_below (d + 1) 2 two))
-    cases (inr a) (inr b) = inl (omega (arith, a, b, mod_below c 2 two, mod_below d 2 two))
-
-pub next_but_one : (d : ℕ) → d % 2 ≡ (d + 1 + 1) % 2
-next_but_one d =
-    let two : 0 < 2 = omega arith in
-    omega (arith, div-add-mod' d 2, div-add-mod' (d + 1 + 1) 2, mod_below d 2 two, mod_below (d + 1 + 1) 2 two)
-
-pub sector_within : (counter : ℕ) → sector_place counter + 512 ≤ 1024
-sector_within counter = let two : 0 < 2 = omega arith in omega (arith, mod_below counter 2 two)
-
-sectors_apart : (c d n : ℕ) → c % 2 ≡ (d + 1) % 2 → n ≤ 512 → (sector_place c + 512 ≤ sector_place d) ⊎ (sector_place d + n ≤ sector_place c)
-sectors_apart c d n other most = cases (cases_lt (d % 2) 1)
-  where
-    two : 0 < 2
-    two = omega arith
-
-    next : d / 2 * 2 + d % 2 ≡ d
-    next = div-add-mod' d 2
-
-    after : (d + 1) / 2 * 2 + (d + 1) % 2 ≡ d + 1
-    after = div-add-mod' (d + 1) 2
-
-    cases : (d % 2 < 1) ⊎ (1 ≤ d % 2) → (sector_place c + 512 ≤ sector_place d) ⊎ (sector_place d + n ≤ sector_place c)
-    cases (inl even) = inr (omega (arith, even, other, most, next, after, mod_below (d + 1) 2 two))
-    cases (inr odd) = inl (omega (arith, odd, other, next, after, mod_below d 2 two, mod_below (d + 1) 2 two))
-
--- the other sector, after a write over one
-pub other_sector : (c d : ℕ) (old torn : List ℕ) → c % 2 ≡ (d + 1) % 2 → length torn ≤ 512 → 1024 ≤ length old
-    → part_at (overwritten old (sector_place d) torn) (sector_place c) 512 ≡ part_at old (sector_place c) 512
-other_sector c d old torn other most whole =
-    kept_part old (sector_place d) torn (sector_place c) 512 (sectors_apart c d (length torn) other most)
-    (omega (arith, whole, sector_within c, length-part old (sector_place c) 512))
-
--- ---- headers that stay
-
-front_part : (xs : List ℕ) (a n : ℕ) → a + n ≤ 1024 → part_at (part_at xs 0 1024) a n ≡ part_at xs a n
-front_part xs a n within =
-    let split : a + (1024 - a) ≡ 1024 = omega (arith, within) in
-    ap (λ (k : ℕ). take n (drop a (take k xs))) (sym split) ∙ ap (take n) (drop-take a (1024 - a) xs) ∙ take-take n (1024 - a) (drop a xs) (omega (arith, within))
-
-pub header_same : (layout : Layout) (counter len : ℕ) (old new : List ℕ) → part_at new 0 1024 ≡ part_at old 0 1024 → IsHeader layout counter len old → IsHeader layout counter len new
-header_same layout counter len old new same is = record {
-  whole = omega (arith, is.whole, ap length same, length-part old 0 1024, length-part new 0 1024);
-  is = subst (IsSector layout counter len)
-      (sym (sym (front_part new (sector_place counter) 512 (sector_within counter)) ∙ ap (λ (l : List ℕ). part_at l (sector_place counter) 512) same
-      ∙ front_part old (sector_place counter) 512 (sector_within counter))) is.is;
-}
-
-pub newest_same : (layout : Layout) (counter len : ℕ) (old new : List ℕ) → part_at new 0 1024 ≡ part_at old 0 1024 → IsNewest layout counter len old → IsNewest layout counter len new
-newest_same layout counter len old new same is = record {
-  is = header_same layout counter len old new same is.is;
-  newest = λ other c n variant key header. is.newest other c n variant key (header_same other c n new old (sym same) header);
-}
-
-pub sectors_long : (file : List ℕ) → 1024 ≤ length file → length (part_at file 0 1024) ≡ 1024
-sectors_long file whole = omega (arith, whole, length-part file 0 1024)
+use Rattle.aegis_storage.proofs.Overwriting.{filled_front, kept_part, length-part, put_part}
 
 -- ---- one header in a sector
 
@@ -166,81 +88,12 @@ one_header layout other c n c' n' sector count variant key first second =
     subst (λ (o : Layout). OpensAt o HEADER_NUMBER (part_at sector 33 (box_bytes o 16)) (header_text c' n')) same second.opens in
     (same, (one_text c' n' c n (opens_one layout HEADER_NUMBER _ _ _ count opens first.opens) second.countable first.countable second.within first.within).1)
 
--- a file has one newest header of a variant and a key
-pub one_newest : (layout other : Layout) (c c' n n' : ℕ) (file : List ℕ) → IsLaneCount layout.variant.lanes → other.variant ≡ layout.variant → other.key ≡ layout.key
-    → IsNewest layout c n file → IsNewest other c' n' file → (other ≡ layout) × (c' ≡ c) × (n' ≡ n)
-one_newest layout other c c' n n' file count variant key first second =
-    let most : c' ≤ c = first.newest other c' n' variant key second.is in
-    let least : c ≤ c' = second.newest layout c n (sym variant) (sym key) first.is in
-    let same : c' ≡ c = omega (arith, most, least) in
-    let one = one_header layout other c n c' n' (part_at file (sector_place c) 512) count variant key first.is.is
-    (subst (λ (k : ℕ). IsSector other c' n' (part_at file (sector_place k) 512)) same second.is.is) in
-    (one.0, same, one.1)
-
--- ---- a header that is newer than those of the other sector
-
-pub newest_by : (layout : Layout) (counter len : ℕ) (file : List ℕ) → IsLaneCount layout.variant.lanes → IsHeader layout counter len file
-    → ((other : Layout) (c n : ℕ) → other.variant ≡ layout.variant → other.key ≡ layout.key → c % 2 ≡ (counter + 1) % 2 → IsHeader other c n file → c ≤ counter)
-    → IsNewest layout counter len file
-newest_by layout counter len file count is rest = record {
-  is = is;
-  newest = λ other c n variant key header. cases other c n variant key header (turns c counter);
-}
-  where
-    cases : (other : Layout) (c n : ℕ) → other.variant ≡ layout.variant → other.key ≡ layout.key → IsHeader other c n file
-        → (c % 2 ≡ counter % 2) ⊎ (c % 2 ≡ (counter + 1) % 2) → c ≤ counter
-    cases other c n variant key header (inl turn) =
-        let here : IsSector other c n (part_at file (sector_place counter) 512) =
-        subst (λ (t : ℕ). IsSector other c n (part_at file (512 * t) 512)) turn header.is in
-        omega (arith, one_sector layout other counter len c n _ count variant key is.is here)
-    cases other c n variant key header (inr turn) = rest other c n variant key turn header
-
--- a header that was written over its sector
-pub put_header : (layout : Layout) (counter len : ℕ) (old new : List ℕ) → 1024 ≤ length old → WritesHeader layout counter len old new → IsHeader layout counter len new
-put_header layout counter len old new whole w = record {
-  whole = omega (arith, whole, w.long, ap length w.put, length-overwritten old (sector_place counter) w.bytes, sector_within counter);
-  is = subst (IsSector layout counter len)
-      (sym (ap (λ (l : List ℕ). part_at l (sector_place counter) 512) w.put
-      ∙ ap (λ (n : ℕ). part_at (overwritten old (sector_place counter) w.bytes) (sector_place counter) n) (sym w.long) ∙ put_part old (sector_place counter) w.bytes)) w.is;
-}
-
--- the next header, over the sector that does not have the newest one
-pub next_header : (layout : Layout) (counter n len : ℕ) (old new : List ℕ) → IsLaneCount layout.variant.lanes → IsNewest layout counter n old
-    → WritesHeader layout (counter + 1) len old new → IsNewest layout (counter + 1) len new
-next_header layout counter n len old new count is w =
-    newest_by layout (counter + 1) len new count (put_header layout (counter + 1) len old new is.is.whole w)
-    (λ other c m variant key turn header.
-    let kept : part_at new (sector_place c) 512 ≡ part_at old (sector_place c) 512 =
-    ap (λ (l : List ℕ). part_at l (sector_place c) 512) w.put ∙ other_sector c (counter + 1) old w.bytes turn (omega (arith, w.long)) is.is.whole in
-    let before : IsHeader other c m old = record { whole = is.is.whole; is = subst (IsSector other c m) kept header.is } in
-    omega (arith, is.newest other c m variant key before))
-
--- the header that was the newest one before another was written, or torn
-pub old_header : (layout : Layout) (counter len : ℕ) (old torn : List ℕ) → length torn ≤ 512 → IsHeader layout counter len old
-    → IsHeader layout counter len (overwritten old (sector_place (counter + 1)) torn)
-old_header layout counter len old torn most is = record {
-  whole = omega (arith, is.whole, length-overwritten old (sector_place (counter + 1)) torn);
-  is = subst (IsSector layout counter len) (sym (other_sector counter (counter + 1) old torn (next_but_one counter) most is.whole)) is.is;
-}
-
--- both headers of a file that is created
-pub first_headers : (layout : Layout) (empty old new : List ℕ) → IsLaneCount layout.variant.lanes → empty ≡ [] → WritesHeader layout 0 0 empty old → WritesHeader layout 1 0 old new
-    → IsNewest layout 1 0 new
-first_headers layout empty old new count none first second =
-    newest_by layout 1 0 new count (record {
-      whole = omega (arith, second.long, ap length second.put, length-overwritten old 512 second.bytes);
-      is = subst (IsSector layout 1 0)
-          (sym (ap (λ (l : List ℕ). part_at l 512 512) second.put ∙ ap (λ (n : ℕ). part_at (overwritten old 512 second.bytes) 512 n) (sym second.long)
-          ∙ put_part old 512 second.bytes)) second.is;
-    })
-    (λ other c m variant key turn header.
-    let even : c % 2 ≡ 0 = turn in
-    let here : IsSector other c m (part_at new 0 512) = subst (λ (t : ℕ). IsSector other c m (part_at new (512 * t) 512)) even header.is in
-    let long : length old ≡ 512 = omega (arith, first.long, ap length first.put, ap length none, length-overwritten empty 0 first.bytes) in
-    let kept : part_at new 0 512 ≡ first.bytes =
-    ap (λ (l : List ℕ). part_at l 0 512) second.put ∙ kept_part old 512 second.bytes 0 512 (inl (omega arith)) (omega (arith, long, length-part old 0 512))
-    ∙ ap (λ (l : List ℕ). part_at l 0 512) first.put ∙ ap (λ (n : ℕ). part_at (overwritten empty 0 first.bytes) 0 n) (sym first.long) ∙ put_part empty 0 first.bytes in
-    omega (arith, one_sector layout other 0 0 c m first.bytes count variant key first.is (subst (IsSector other c m) kept here)))
+-- a file has one header of a variant and a key
+pub one_in_file : (layout other : Layout) (c c' n n' : ℕ) (file : List ℕ) → IsLaneCount layout.variant.lanes → other.variant ≡ layout.variant → other.key ≡ layout.key
+    → IsHeader layout c n file → IsHeader other c' n' file → (other ≡ layout) × (c' ≡ c) × (n' ≡ n)
+one_in_file layout other c c' n n' file count variant key first second =
+    let one = one_header layout other c n c' n' (part_at file 0 512) count variant key first.is second.is in
+    (one.0, one_sector layout other c n c' n' (part_at file 0 512) count variant key first.is second.is, one.1)
 
 -- ---- a sector that is made
 
@@ -322,12 +175,6 @@ made_nonce layout v sealed nonce n e same most long end sized is =
     let within : nonce_bytes layout ≤ length sealed = omega (arith, same, most, long, end, sized, length-take (e - 33) (drop 33 v), length-drop 33 v) in
     ap (take (nonce_bytes layout)) (drop_at (take 33 v) (sealed ++ drop (e - 33) (drop 33 v)) 33 head)
     ∙ take-append-le (nonce_bytes layout) sealed (drop (e - 33) (drop 33 v)) within ∙ is
-
-pub writes_header : (layout : Layout) (counter len : ℕ) (a b : Option (List ℕ)) (bytes : List ℕ) → length bytes ≡ 512 → IsSector layout counter len bytes
-    → WritesAt a b (sector_place counter) bytes → OnKnown a b (WritesHeader layout counter len)
-writes_header layout counter len None b bytes long is w = tt
-writes_header layout counter len (Some xs) None bytes long is w = absurd w
-writes_header layout counter len (Some xs) (Some ys) bytes long is w = record { bytes = bytes; long = long; is = is; put = w }
 
 -- ---- a header that is read
 

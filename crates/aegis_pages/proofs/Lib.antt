@@ -1,11 +1,13 @@
-pub mod Batching
 pub mod Boxes
+pub mod Commits
 pub mod Committing
 pub mod Composing
 pub mod Heading
 pub mod Known
 pub mod Laying
-pub mod Newest
 pub mod Ranging
+pub mod Recovering
 pub mod Rewriting
+pub mod Sealed
 pub mod Standing
+pub mod Texts

@@ -4,8 +4,8 @@ use Rattle.std.proofs.lemmas.Bool.{cases_lt}
 use Rattle.std.proofs.lemmas.List.{get_or-drop, get_or-take, length-drop, length-take}
 use Rattle.std.proofs.lemmas.Nat.{div-add-mod', div-mul-add, mod-mul-add}
 use Rattle.aegis_storage.specs.Bytes.{overwritten}
-use Rattle.aegis_pages.specs.Layouts.{Layout, OpensAt, box_bytes, inner, nonce_bytes, page_at}
-use Rattle.aegis_pages.specs.SealedPages.{ArePages, IsByte}
+use Rattle.aegis_pages.specs.Layouts.{Layout, box_bytes, inner, nonce_bytes}
+use Rattle.aegis_pages.specs.SealedPages.{ArePages, Changes, IsByte, Shows}
 use Rattle.aegis_storage.proofs.Overwriting.{before_part, within_part}
 
 -- A piece of the page's text was put into `out`, after `done` bytes.
@@ -58,31 +58,31 @@ put_in layout page out piece new at done count p i from to =
 
 -- ---- each byte that was read is a page's
 
-pub bytes_more : (layout : Layout) (file page out piece new : List ℕ) (at done count : ℕ) → Puts layout page out piece new at done count
-    → ((i : ℕ) → i < done → IsByte layout file (at + i) (get_or out i 0))
-    → OpensAt layout ((at + done) / layout.page_bytes) (page_at layout file ((at + done) / layout.page_bytes)) (inner layout page)
-    → (i : ℕ) → i < done + count → IsByte layout file (at + i) (get_or new i 0)
-bytes_more layout file page out piece new at done count p before opens i low = cases (cases_lt i done)
+pub bytes_more : (layout : Layout) (changes : Changes) (file page out piece new : List ℕ) (at done count : ℕ) → Puts layout page out piece new at done count
+    → ((i : ℕ) → i < done → IsByte layout changes file (at + i) (get_or out i 0))
+    → Shows layout (changes ((at + done) / layout.page_bytes)) file ((at + done) / layout.page_bytes) (inner layout page)
+    → (i : ℕ) → i < done + count → IsByte layout changes file (at + i) (get_or new i 0)
+bytes_more layout changes file page out piece new at done count p before opens i low = cases (cases_lt i done)
   where
-    cases : (i < done) ⊎ (done ≤ i) → IsByte layout file (at + i) (get_or new i 0)
+    cases : (i < done) ⊎ (done ≤ i) → IsByte layout changes file (at + i) (get_or new i 0)
     cases (inl below) =
-        subst (IsByte layout file (at + i)) (sym (ap (λ (l : List ℕ). get_or l i 0) p.put ∙ before_part out done piece i below)) (before i below)
+        subst (IsByte layout changes file (at + i)) (sym (ap (λ (l : List ℕ). get_or l i 0) p.put ∙ before_part out done piece i below)) (before i below)
     cases (inr from) =
         let is = put_in layout page out piece new at done count p i from low in
         record {
           message = inner layout page;
-          opens = subst (λ (k : ℕ). OpensAt layout k (page_at layout file k) (inner layout page)) (sym is.number) opens;
+          shows = subst (λ (k : ℕ). Shows layout (changes k) file k (inner layout page)) (sym is.number) opens;
           byte = is.byte;
         }
 
 -- ---- each byte that was read is the text's
 
-pub text_more : (layout : Layout) (file page out piece new text : List ℕ) (at done count : ℕ) → Puts layout page out piece new at done count
-    → ArePages layout text file → ((i : ℕ) → i < done → get_or out i 0 ≡ get_or text (at + i) 0)
-    → ((m : List ℕ) → OpensAt layout ((at + done) / layout.page_bytes) (page_at layout file ((at + done) / layout.page_bytes)) m → inner layout page ≡ m)
+pub text_more : (layout : Layout) (changes : Changes) (file page out piece new text : List ℕ) (at done count : ℕ) → Puts layout page out piece new at done count
+    → ArePages layout changes text file → ((i : ℕ) → i < done → get_or out i 0 ≡ get_or text (at + i) 0)
+    → ((m : List ℕ) → Shows layout (changes ((at + done) / layout.page_bytes)) file ((at + done) / layout.page_bytes) m → inner layout page ≡ m)
     → at + (done + count) ≤ length text
     → (i : ℕ) → i < done + count → get_or new i 0 ≡ get_or text (at + i) 0
-text_more layout file page out piece new text at done count p are before only fits i low = cases (cases_lt i done)
+text_more layout changes file page out piece new text at done count p are before only fits i low = cases (cases_lt i done)
   where
     cases : (i < done) ⊎ (done ≤ i) → get_or new i 0 ≡ get_or text (at + i) 0
     cases (inl below) = ap (λ (l : List ℕ). get_or l i 0) p.put ∙ before_part out done piece i below ∙ before i below
@@ -91,5 +91,5 @@ text_more layout file page out piece new text at done count p are before only fi
         let place = is.place in
         let below = is.below in
         let found = are.page ((at + done) / layout.page_bytes) (omega arith) in
-        is.byte ∙ ap (λ (l : List ℕ). get_or l ((at + i) % layout.page_bytes) 0) (only found.message found.opens)
+        is.byte ∙ ap (λ (l : List ℕ). get_or l ((at + i) % layout.page_bytes) 0) (only found.message found.shows)
         ∙ found.bytes ((at + i) % layout.page_bytes) is.below (omega arith) ∙ ap (λ (k : ℕ). get_or text k 0) is.place

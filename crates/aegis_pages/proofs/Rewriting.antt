@@ -1,104 +1,62 @@
 -- Writing a part over a text, page after page.
-use Rattle.std.proofs.Common.{◌≡◌, ℕ, ◌+◌, ◌-◌, ◌*◌, ◌/◌, ◌%◌, ◌<◌, ◌≤◌, ◌⊎◌, inl, inr, List, get_or, length, min, sym, ap, subst, ◌∙◌, arith}
+use Rattle.std.proofs.Common.{◌≡◌, ◌≢◌, ℕ, ◌+◌, ◌-◌, ◌*◌, ◌/◌, ◌%◌, ◌<◌, ◌≤◌, ◌⊎◌, inl, inr, List, Option, Some, get_or, length, min, refl, sym, ap, subst, ◌∙◌, arith}
 use Rattle.std.proofs.lemmas.Bool.{cases_lt}
 use Rattle.std.proofs.lemmas.Nat.{div-add-mod', div_below, le-div, mod_below}
-use Rattle.aegis_storage.specs.Bytes.{overwritten, part_at}
-use Rattle.aegis_pages.specs.Layouts.{Layout, OpensAt, box_bytes, page_at, page_place}
-use Rattle.aegis_pages.specs.Headers.{KeepsSectors}
-use Rattle.aegis_pages.specs.SealedPages.{ArePages, IsApart, IsPage, KeepsOthers, KeepsPage, WritesText}
-use Rattle.aegis_storage.proofs.Overwriting.{after_part, before_part, kept_part, length-overwritten, put_part}
+use Rattle.aegis_storage.specs.Bytes.{overwritten}
+use Rattle.aegis_pages.specs.Layouts.{Layout}
+use Rattle.aegis_pages.specs.SealedPages.{ArePages, Changes, IsApart, IsPage, KeepsOthers, WritesText}
+use Rattle.aegis_storage.proofs.Overwriting.{after_part, before_part, length-overwritten}
 use Rattle.std.proofs.Math.Nat.{mul-le-mul_right}
 
--- Of the pages from `first` on, those before `number` were written.
-pub record Rewrites (layout : Layout) (len at : ℕ) (part : List ℕ) (first number : ℕ) (old new : List ℕ) : Type 0 where
-  pub sectors : KeepsSectors old new
-  pub others : (k : ℕ) → (k < first) ⊎ (number ≤ k) → KeepsPage layout k old new
-  pub written : (k : ℕ) → first ≤ k → k < number → (text : List ℕ) → length text ≡ len → ArePages layout text old
-      → IsPage layout k (page_at layout new k) (overwritten text at part)
+-- Of the pages from `first` on, those before `number` were changed.
+pub record Keeps (first number : ℕ) (old new : Changes) : Type 0 where
+  pub others : (k : ℕ) → (k < first) ⊎ (number ≤ k) → new k ≡ old k
 
--- two pages lie apart
-pub places_apart : (layout : Layout) (j k : ℕ) → j < k → page_place layout j + box_bytes layout layout.page_bytes ≤ page_place layout k
-places_apart layout j k below =
-    let more = mul-le-mul_right (box_bytes layout layout.page_bytes) (let h : j + 1 ≤ k = omega arith in h) in
-    omega (arith, more)
+pub record Rewrites (layout : Layout) (len at : ℕ) (part : List ℕ) (first number : ℕ) (old new : Changes) (file : List ℕ) : Type 0 where
+  pub written : (k : ℕ) → first ≤ k → k < number → (text : List ℕ) → length text ≡ len → ArePages layout old text file
+      → IsPage layout (new k) file k (overwritten text at part)
 
--- a write of the box of page `number`, in whole or in part
-pub other_page : (layout : Layout) (k number : ℕ) (old torn : List ℕ) → (k < number) ⊎ (number < k) → length torn ≤ box_bytes layout layout.page_bytes
-    → KeepsPage layout k old (overwritten old (page_place layout number) torn)
-other_page layout k number old torn (inl below) size = λ whole.
-    let far = places_apart layout k number below in
-    kept_part old (page_place layout number) torn (page_place layout k) (box_bytes layout layout.page_bytes) (inl far) whole
-other_page layout k number old torn (inr above) size = λ whole.
-    let far = places_apart layout number k above in
-    kept_part old (page_place layout number) torn (page_place layout k) (box_bytes layout layout.page_bytes) (inr (omega (arith, far))) whole
-
-pub other_sectors : (layout : Layout) (number : ℕ) (old torn : List ℕ) → KeepsSectors old (overwritten old (page_place layout number) torn)
-other_sectors layout number old torn = λ whole. kept_part old (page_place layout number) torn 0 1024 (inl (omega arith)) whole
-
-pub keeps_both : (layout : Layout) (k : ℕ) (a b c : List ℕ) → KeepsPage layout k a b → KeepsPage layout k b c → KeepsPage layout k a c
-keeps_both layout k a b c first second = λ whole. let same = first whole in second (ap length same ∙ whole) ∙ same
-
-pub sectors_both : (a b c : List ℕ) → KeepsSectors a b → KeepsSectors b c → KeepsSectors a c
-sectors_both a b c first second = λ whole. let same = first whole in second (ap length same ∙ whole) ∙ same
-
--- what is written as page `number`
-pub record Written (layout : Layout) (len at : ℕ) (part : List ℕ) (number : ℕ) (file sealed made : List ℕ) : Type 0 where
-  pub long : length sealed ≡ box_bytes layout layout.page_bytes
-  pub opens : OpensAt layout number sealed made
-  pub bytes : (text : List ℕ) → length text ≡ len → (number * layout.page_bytes < len → IsPage layout number (page_at layout file number) text)
-      → (i : ℕ) → i < layout.page_bytes → get_or made i 0 ≡ get_or (overwritten text at part) (number * layout.page_bytes + i) 0
-
-pub rewrites_more : (layout : Layout) (len at : ℕ) (part : List ℕ) (first number : ℕ) (old new sealed made : List ℕ) → first ≤ number
-    → Rewrites layout len at part first number old new → Written layout len at part number new sealed made
-    → Rewrites layout len at part first (number + 1) old (overwritten new (page_place layout number) sealed)
-rewrites_more layout len at part first number old new sealed made from r w =
-    let n : ℕ = layout.page_bytes in
-    let long = w.long in
-    record {
-      sectors = sectors_both old new _ r.sectors (other_sectors layout number new sealed);
-      others = λ k apart. keeps_both layout k old new _ (r.others k (earlier k apart)) (other_page layout k number new sealed (away k apart) (omega arith));
-      written = λ k low high. cases k low (cases_lt k number) high;
-    }
+pub keeps_more : (first number : ℕ) (old new next : Changes) → first ≤ number → Keeps first number old new → ((k : ℕ) → k ≢ number → next k ≡ new k) → Keeps first (number + 1) old next
+keeps_more first number old new next from keeps others = record {
+  others = λ k apart. others k (away k apart) ∙ keeps.others k (earlier k apart);
+}
   where
     earlier : (k : ℕ) → (k < first) ⊎ (number + 1 ≤ k) → (k < first) ⊎ (number ≤ k)
     earlier k (inl below) = inl below
     earlier k (inr above) = inr (omega arith)
 
-    away : (k : ℕ) → (k < first) ⊎ (number + 1 ≤ k) → (k < number) ⊎ (number < k)
-    away k (inl below) = inl (omega arith)
-    away k (inr above) = inr (omega arith)
+    away : (k : ℕ) → (k < first) ⊎ (number + 1 ≤ k) → k ≢ number
+    away k (inl below) is = omega arith
+    away k (inr above) is = omega arith
 
-    size : length sealed ≤ box_bytes layout layout.page_bytes
-    size = omega (arith, w.long)
-
-    same : (k : ℕ) → k < number → (text : List ℕ) → length text ≡ len → ArePages layout text old
-        → IsPage layout k (page_at layout new k) (overwritten text at part)
-        → IsPage layout k (page_at layout (overwritten new (page_place layout number) sealed) k) (overwritten text at part)
-    same k below text is are page =
-        subst (λ (l : List ℕ). IsPage layout k l (overwritten text at part)) (sym (other_page layout k number new sealed (inl below) size page.whole)) page
-
-    here : (text : List ℕ) → length text ≡ len → ArePages layout text old
-        → IsPage layout number (page_at layout (overwritten new (page_place layout number) sealed) number) (overwritten text at part)
-    here text is are =
-        let got : page_at layout (overwritten new (page_place layout number) sealed) number ≡ sealed =
-        ap (part_at (overwritten new (page_place layout number) sealed) (page_place layout number)) (sym w.long)
-        ∙ put_part new (page_place layout number) sealed in
-        let live : number * layout.page_bytes < len → IsPage layout number (page_at layout new number) text =
-        λ low. let page = are.page number (let h : number * layout.page_bytes < length text = omega arith in h) in
-        subst (λ (l : List ℕ). IsPage layout number l text) (sym (r.others number (inr (let h : number ≤ number = omega arith in h)) page.whole)) page in
-        subst (λ (l : List ℕ). IsPage layout number l (overwritten text at part)) (sym got) (record {
-          whole = w.long;
+pub rewrites_more : (layout : Layout) (len at : ℕ) (part : List ℕ) (first number : ℕ) (old new next : Changes) (made file : List ℕ) → first ≤ number
+    → Keeps first number old new → next number ≡ Some made → ((k : ℕ) → k ≢ number → next k ≡ new k)
+    → ((text : List ℕ) → length text ≡ len → (number * layout.page_bytes < len → IsPage layout (new number) file number text)
+    → (i : ℕ) → i < layout.page_bytes → get_or made i 0 ≡ get_or (overwritten text at part) (number * layout.page_bytes + i) 0)
+    → Rewrites layout len at part first number old new file → Rewrites layout len at part first (number + 1) old next file
+rewrites_more layout len at part first number old new next made file from keeps here others bytes r = record {
+  written = λ k low high text is are. cases k low high text is are (cases_lt k number);
+}
+  where
+    made_here : (text : List ℕ) → length text ≡ len → ArePages layout old text file → IsPage layout (next number) file number (overwritten text at part)
+    made_here text is are =
+        let same : new number ≡ old number = keeps.others number (inr (let h : number ≤ number = omega arith in h)) in
+        let live : number * layout.page_bytes < len → IsPage layout (new number) file number text =
+        λ low. subst (λ (o : Option (List ℕ)). IsPage layout o file number text) (sym same) (are.page number (let h : number * layout.page_bytes < length text = omega (arith, low, is) in h)) in
+        subst (λ (o : Option (List ℕ)). IsPage layout o file number (overwritten text at part)) (sym here) (record {
           message = made;
-          opens = w.opens;
-          bytes = λ i low fits. w.bytes text is live i low;
+          shows = refl;
+          bytes = λ i low fits. bytes text is live i low;
         })
 
-    cases : (k : ℕ) → first ≤ k → (k < number) ⊎ (number ≤ k) → k < number + 1 → (text : List ℕ) → length text ≡ len → ArePages layout text old
-        → IsPage layout k (page_at layout (overwritten new (page_place layout number) sealed) k) (overwritten text at part)
-    cases k low (inl below) high text is are = same k below text is are (r.written k low below text is are)
-    cases k low (inr above) high text is are =
+    cases : (k : ℕ) → first ≤ k → k < number + 1 → (text : List ℕ) → length text ≡ len → ArePages layout old text file → (k < number) ⊎ (number ≤ k)
+        → IsPage layout (next k) file k (overwritten text at part)
+    cases k low high text is are (inl below) =
+        let same : next k ≡ new k = others k (let h : k ≢ number = λ e. omega (arith, e, below) in h) in
+        subst (λ (o : Option (List ℕ)). IsPage layout o file k (overwritten text at part)) (sym same) (r.written k low below text is are)
+    cases k low high text is are (inr above) =
         let at_it : number ≡ k = omega arith in
-        subst (λ (j : ℕ). IsPage layout j (page_at layout (overwritten new (page_place layout number) sealed) j) (overwritten text at part)) at_it (here text is are)
+        subst (λ (j : ℕ). IsPage layout (next j) file j (overwritten text at part)) at_it (made_here text is are)
 
 -- ---- at the end, or after an error
 
@@ -138,37 +96,13 @@ last_high page_bytes len at size first last s =
     let is : last * page_bytes ≡ x / page_bytes * page_bytes = ap (λ (y : ℕ). y * page_bytes) s.last_is in
     omega (arith, split, rest, is, some)
 
-pub rewrites_others : (layout : Layout) (len at : ℕ) (part : List ℕ) (first last number : ℕ) (old new : List ℕ)
-    → Spans layout.page_bytes len at (length part) first last → number ≤ last → Rewrites layout len at part first number old new
-    → KeepsOthers layout (min at len) (at + length part) old new
-rewrites_others layout len at part first last number old new s to r = record {
-  sectors = r.sectors;
-  pages = λ k apart. r.others k (outside k (apart_outside layout.page_bytes len at (length part) first last k s apart));
-}
+pub keeps_others : (layout : Layout) (len at size first last number : ℕ) (old new : Changes) → Spans layout.page_bytes len at size first last → number ≤ last
+    → Keeps first number old new → KeepsOthers layout.page_bytes (min at len) (at + size) old new
+keeps_others layout len at size first last number old new s to keeps k apart = keeps.others k (outside (apart_outside layout.page_bytes len at size first last k s apart))
   where
-    outside : (k : ℕ) → (k < first) ⊎ (last ≤ k) → (k < first) ⊎ (number ≤ k)
-    outside k (inl below) = inl below
-    outside k (inr above) = inr (omega arith)
-
--- the box of page `number` may be torn too
-pub torn_others : (layout : Layout) (len at : ℕ) (part : List ℕ) (first last number : ℕ) (old new torn : List ℕ)
-    → Spans layout.page_bytes len at (length part) first last → first ≤ number → number < last → Rewrites layout len at part first number old new
-    → length torn ≤ box_bytes layout layout.page_bytes
-    → KeepsOthers layout (min at len) (at + length part) old (overwritten new (page_place layout number) torn)
-torn_others layout len at part first last number old new torn s from to r size = record {
-  sectors = sectors_both old new _ r.sectors (other_sectors layout number new torn);
-  pages = λ k apart.
-      let out = apart_outside layout.page_bytes len at (length part) first last k s apart in
-      keeps_both layout k old new _ (r.others k (outside k out)) (other_page layout k number new torn (away k out) size);
-}
-  where
-    outside : (k : ℕ) → (k < first) ⊎ (last ≤ k) → (k < first) ⊎ (number ≤ k)
-    outside k (inl below) = inl below
-    outside k (inr above) = inr (omega arith)
-
-    away : (k : ℕ) → (k < first) ⊎ (last ≤ k) → (k < number) ⊎ (number < k)
-    away k (inl below) = inl (omega arith)
-    away k (inr above) = inr (omega arith)
+    outside : (k < first) ⊎ (last ≤ k) → (k < first) ⊎ (number ≤ k)
+    outside (inl below) = inl below
+    outside (inr above) = inr (omega arith)
 
 -- the bytes of page k of both texts are the same
 record Same (page_bytes k len at size : ℕ) : Type 0 where
@@ -202,33 +136,32 @@ stays_byte : (text part : List ℕ) (at i : ℕ) → (i < at) ⊎ (at + length p
 stays_byte text part at i (inl below) = sym (before_part text at part i below)
 stays_byte text part at i (inr above) = sym (after_part text at part i above)
 
-same_page : (layout : Layout) (k at : ℕ) (text part old new : List ℕ) → Same layout.page_bytes k (length text) at (length part)
-    → ArePages layout text old → KeepsPage layout k old new → IsPage layout k (page_at layout new k) (overwritten text at part)
-same_page layout k at text part old new same are keeps =
+same_page : (layout : Layout) (k at : ℕ) (text part : List ℕ) (old new : Changes) (file : List ℕ) → Same layout.page_bytes k (length text) at (length part)
+    → ArePages layout old text file → new k ≡ old k → IsPage layout (new k) file k (overwritten text at part)
+same_page layout k at text part old new file same are is =
     let page = are.page k same.live in
-    let is = keeps page.whole in
-    subst (λ (l : List ℕ). IsPage layout k l (overwritten text at part)) (sym is) (record {
-      whole = page.whole;
+    subst (λ (o : Option (List ℕ)). IsPage layout o file k (overwritten text at part)) (sym is) (record {
       message = page.message;
-      opens = page.opens;
+      shows = page.shows;
       bytes = λ i low fits.
           page.bytes i low (same.within i low (subst (λ (n : ℕ). k * layout.page_bytes + i < n) (length-overwritten text at part) fits))
           ∙ stays_byte text part at (k * layout.page_bytes + i) (same.stays i low);
     })
 
-pub rewrites_all : (layout : Layout) (len at : ℕ) (part : List ℕ) (first last : ℕ) (old new : List ℕ)
-    → Spans layout.page_bytes len at (length part) first last → Rewrites layout len at part first last old new → WritesText layout len at part old new
-rewrites_all layout len at part first last old new s r = λ text is are. record {
+pub rewrites_all : (layout : Layout) (len at : ℕ) (part : List ℕ) (first last : ℕ) (old new : Changes) (file : List ℕ)
+    → Spans layout.page_bytes len at (length part) first last → Keeps first last old new → Rewrites layout len at part first last old new file → WritesText layout len at part old new file
+rewrites_all layout len at part first last old new file s keeps r = λ text is are. record {
   page = λ k in_text. cases text is are k in_text (cases_lt k first) (cases_lt k last);
 }
   where
-    cases : (text : List ℕ) → length text ≡ len → ArePages layout text old → (k : ℕ) → k * layout.page_bytes < length (overwritten text at part)
-        → (k < first) ⊎ (first ≤ k) → (k < last) ⊎ (last ≤ k) → IsPage layout k (page_at layout new k) (overwritten text at part)
+    cases : (text : List ℕ) → length text ≡ len → ArePages layout old text file → (k : ℕ) → k * layout.page_bytes < length (overwritten text at part)
+        → (k < first) ⊎ (first ≤ k) → (k < last) ⊎ (last ≤ k) → IsPage layout (new k) file k (overwritten text at part)
     cases text is are k in_text (inl below) any =
-        same_page layout k at text part old new (subst (λ (n : ℕ). Same layout.page_bytes k n at (length part)) (sym is)
-        (same_before layout.page_bytes len at (length part) first last k s below)) are (r.others k (inl below))
-    cases text is are k in_text (inr from) (inl low) = r.written k from low text is are
+        same_page layout k at text part old new file (subst (λ (n : ℕ). Same layout.page_bytes k n at (length part)) (sym is)
+        (same_before layout.page_bytes len at (length part) first last k s below)) are (keeps.others k (inl below))
+    cases text is are k in_text (inr from) (inl below) = r.written k from below text is are
     cases text is are k in_text (inr from) (inr above) =
-        same_page layout k at text part old new (subst (λ (n : ℕ). Same layout.page_bytes k n at (length part)) (sym is)
-        (same_after layout.page_bytes len at (length part) first last k s above
-        (subst (λ (n : ℕ). k * layout.page_bytes < (at + length part) + (n - (at + length part))) is (rw (← (length-overwritten text at part)) in_text)))) are (r.others k (inr above))
+        let size : k * layout.page_bytes < (at + length part) + (len - (at + length part)) =
+        subst (λ (n : ℕ). k * layout.page_bytes < (at + length part) + (n - (at + length part))) is (subst (λ (n : ℕ). k * layout.page_bytes < n) (length-overwritten text at part) in_text) in
+        same_page layout k at text part old new file (subst (λ (n : ℕ). Same layout.page_bytes k n at (length part)) (sym is)
+        (same_after layout.page_bytes len at (length part) first last k s above size)) are (keeps.others k (inr above))

@@ -1,9 +1,9 @@
--- The commitment of a file: a MAC over its newest header's counter and length, and the tag of each page of its text.
+-- The commitment of a file: a MAC over its header's counter and length, and the tag of each page of its text.
 use Rattle.std.specs.Prelude.{◌≡◌, ℕ, zero, suc, ◌+◌, ◌-◌, ◌/◌, List, [], ◌++◌, drop, length, replicate}
 use Rattle.std.specs.Int.{to_le_bytes, w64}
 use Rattle.aegis_base.specs.Mac.{mac}
 use Rattle.aegis_base.specs.Variant.{Variant}
-use Rattle.aegis_pages.specs.Headers.{IsNewest}
+use Rattle.aegis_pages.specs.Headers.{IsHeader}
 use Rattle.aegis_pages.specs.Layouts.{Layout, clear_part, nonce_bytes, page_at}
 
 -- how many pages a text of so many bytes has: those that begin before its end
@@ -19,7 +19,7 @@ abbrev pub page_tags : (layout : Layout) (file : List ℕ) (n : ℕ) → List �
 page_tags layout file zero = []
 page_tags layout file (suc k) = page_tags layout file k ++ page_tag layout file k
 
--- the input of the MAC: magic number, variant, page size and id; the counter and the length of the newest header; and
+-- the input of the MAC: magic number, variant, page size and id; the counter and the length of the header; and
 -- the tags of all pages of the text
 abbrev pub committed : (layout : Layout) (counter len : ℕ) (file : List ℕ) → List ℕ
 committed layout counter len file =
@@ -31,14 +31,14 @@ abbrev pub commitment : (layout : Layout) (counter len : ℕ) (file : List ℕ) 
 commitment layout counter len file =
     mac layout.variant 32 layout.key (replicate (nonce_bytes layout) 255) (committed layout counter len file)
 
--- the commitment of a file is c: that of its newest header under the variant and the key
+-- the commitment of a file is c: that of its header under the variant and the key
 pub record HasCommitment (variant : Variant) (key c file : List ℕ) : Type 0 where
   pub layout : Layout
   pub counter : ℕ
   pub len : ℕ
   pub variant_is : layout.variant ≡ variant
   pub key_is : layout.key ≡ key
-  pub header : IsNewest layout counter len file
+  pub header : IsHeader layout counter len file
   pub is : c ≡ commitment layout counter len file
 
 -- the file has this commitment, and no other

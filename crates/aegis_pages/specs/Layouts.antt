@@ -44,9 +44,9 @@ inner layout sealed = take (length sealed - (nonce_bytes layout + 32)) (drop (no
 pub record OpensAt (layout : Layout) (number : ℕ) (sealed m : List ℕ) : Type 0 where
   pub is : Opens layout.variant 32 layout.key (take (nonce_bytes layout) sealed) (associated_data layout number) (inner layout sealed) (drop (length sealed - 32) sealed) m
 
--- where page k begins, after the two sectors of the headers
+-- where page k begins, after the block of the header
 abbrev pub page_place : Layout → ℕ → ℕ
-page_place layout k = 1024 + k * box_bytes layout layout.page_bytes
+page_place layout k = 4096 + k * box_bytes layout layout.page_bytes
 
 -- the box of page k
 abbrev pub page_at : Layout → List ℕ → ℕ → List ℕ

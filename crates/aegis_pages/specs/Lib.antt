@@ -1,8 +1,11 @@
-pub mod Batches
+pub mod Changed
 pub mod Commitments
+pub mod Commits
 pub mod Errors
 pub mod Headers
+pub mod History
 pub mod Layouts
 pub mod OpenFile
 pub mod Reading
 pub mod SealedPages
+pub mod Sealing

@@ -1,43 +1,85 @@
 -- A file that is open.
-use Rattle.std.specs.Prelude.{◌≡◌, ℕ, ◌+◌, ◌-◌, ◌<◌, List, Option, Some, min, slice_index, take, IfSome}
-use Rattle.std.specs.Io.KnownBytes.{Keeps}
-use Rattle.aegis_base.specs.Variant.{Variant}
+use Rattle.std.specs.Prelude.{◌≡◌, ℕ, ◌+◌, ◌-◌, ◌<◌, ◌⊎◌, Bool, false, true, List, Option, Some, None, min, slice_index, take, length, IfSome}
 use Rattle.aegis_storage.specs.Bytes.{part_at}
+use Rattle.aegis_storage.specs.Disk.{Disk, certain}
+use Rattle.aegis_storage.specs.Journal.{IsAtRest}
+use Rattle.aegis_pages.specs.declared.error.PagesError.{PagesError}
+use Rattle.aegis_pages.specs.Headers.{IsHeader}
 use Rattle.aegis_pages.specs.Layouts.{Layout}
-use Rattle.aegis_pages.specs.SealedPages.{IsByte, Stands}
+use Rattle.aegis_pages.specs.SealedPages.{ArePages, IsByte, IsSealed}
+use Rattle.aegis_pages.specs.Changed.{Texts, text_at}
 
--- what the file's boxes are sealed under, the counter and the length of its newest header, its bytes where they are known, and those of a storage below that it reads through to
+-- What the file's boxes are sealed under, the counter and the length in its header, the length of the text, the pages
+-- that were changed since the last commit, the storage's bytes where they are known, what a crash may leave of the
+-- storage and of the journal where that is known, and whether a commit has failed.
 pub record OpenFile : Type 0 where
   pub layout : Layout
   pub counter : ℕ
+  pub stored : ℕ
   pub len : ℕ
+  pub changes : Texts
   pub bytes : Option (List ℕ)
-  pub below : Option (List ℕ)
+  pub disk : Option Disk
+  pub journal : Option Disk
+  pub broken : Bool
 
--- the bytes are known, and the file is that of the text
-abbrev pub HasText : OpenFile → List ℕ → Type 0
-HasText file text = Stands file.layout file.counter file.len file.bytes text
+-- The header and the pages, with the changes, are those of the text.
+pub record Has (layout : Layout) (counter stored len : ℕ) (changes : Texts) (broken : Bool) (text bytes : List ℕ) : Type 0 where
+  pub size : length text ≡ len
+  pub sound : broken ≡ false
+  pub header : IsHeader layout counter stored bytes
+  pub pages : ArePages layout (text_at changes) text bytes
 
-pub record CollectsBatch (file : OpenFile) (variant : Variant) (key text below : List ℕ) : Type 0 where
-  pub variant_is : file.layout.variant ≡ variant
-  pub key_is : file.layout.key ≡ key
-  pub text_is : HasText file text
-  pub below_is : file.below ≡ Some below
+-- the same of known bytes
+abbrev pub HasIn : Layout → (counter stored len : ℕ) → Texts → Bool → List ℕ → Option (List ℕ) → Type 0
+HasIn layout counter stored len changes broken text None = ⊥
+HasIn layout counter stored len changes broken text (Some bytes) = Has layout counter stored len changes broken text bytes
 
--- The file is open under a variant and a key, has the text, and reads through to a storage below that holds `below`: it collects a batch.
-unfoldable pub IsBatch : OpenFile → Variant → (key text below : List ℕ) → Type 0
-IsBatch file variant key text below = CollectsBatch file variant key text below
+-- the bytes are known, and the file has the text
+unfoldable pub HasText : OpenFile → List ℕ → Type 0
+HasText file text = HasIn file.layout file.counter file.stored file.len file.changes file.broken text file.bytes
+
+-- The storage holds the text and the journal is empty, and both are certain.
+pub record HasCommitted (file : OpenFile) (text : List ℕ) : Type 0 where
+  pub bytes : List ℕ
+  pub rests : IsAtRest file.disk file.journal bytes
+  pub is : IsSealed file.layout file.counter text bytes
 
 -- the file is as it was
 pub record IsUnchanged (old new : OpenFile) : Type 0 where
-  pub layout : new.layout ≡ old.layout
-  pub counter : new.counter ≡ old.counter
-  pub len : new.len ≡ old.len
-  pub bytes : Keeps old.bytes new.bytes
-  pub below : new.below ≡ old.below
+  pub is : new ≡ old
 
--- n bytes were read into `out`, which had room for `room`: as many as there are, each one a byte of a page that opens, and those of the text if the file has one
+-- n bytes were read into `out`, which had room for `room`: as many as there are, each one a byte of a page, and those of the text if the file has one
 pub record Reads (file : OpenFile) (at room : ℕ) (out : List ℕ) (n : ℕ) : Type 0 where
   pub count : n ≡ min room (file.len - at)
-  pub opened : IfSome file.bytes (λ bytes. (i : ℕ) → i < n → IsByte file.layout bytes (at + i) (slice_index out i))
+  pub opened : IfSome file.bytes (λ bytes. (i : ℕ) → i < n → IsByte file.layout (text_at file.changes) bytes (at + i) (slice_index out i))
   pub text : (text : List ℕ) → HasText file text → take n out ≡ part_at text at n
+
+-- the storages, the header, the layout and whether a commit has failed are as they were
+pub record IsStoredAs (old new : OpenFile) : Type 0 where
+  pub layout : new.layout ≡ old.layout
+  pub counter : new.counter ≡ old.counter
+  pub stored : new.stored ≡ old.stored
+  pub bytes : new.bytes ≡ old.bytes
+  pub disk : new.disk ≡ old.disk
+  pub journal : new.journal ≡ old.journal
+  pub broken : new.broken ≡ old.broken
+
+-- a commit failed: the file is broken from then on, or as it was
+abbrev pub BreaksOrKeeps : OpenFile → OpenFile → PagesError → Type 0
+BreaksOrKeeps old new error = (new.broken ≡ true) ⊎ (new ≡ old)
+
+-- The file has one of the texts, and its storage holds it for certain.
+abbrev pub OpensAtOne : OpenFile → (before now : List ℕ) → Type 0
+OpensAtOne file before now = (HasText file before × HasCommitted file before) ⊎ (HasText file now × HasCommitted file now)
+
+-- known bytes of which something is so
+abbrev pub IsKnown : (List ℕ → Type 0) → Option (List ℕ) → Type 0
+IsKnown P None = ⊥
+IsKnown P (Some bytes) = P bytes
+
+-- certain bytes of which something is so
+pub record IsCertain (P : List ℕ → Type 0) (state : Option Disk) : Type 0 where
+  pub bytes : List ℕ
+  pub is : state ≡ Some (certain bytes)
+  pub so : P bytes

@@ -3,20 +3,20 @@
 //! A page's tag stands for its nonce, its ciphertext and its number in this file. So a MAC over the tags in order, and
 //! over the newest header's counter and length, stands for the whole file.
 
-ghost use Rattle.std.specs.Prelude.{◌≡◌, ◌*◌, ◌≤◌, IfErr, IfOk, IfSome, OnOk};
+ghost use Rattle.std.specs.Prelude.{◌≡◌, ◌*◌, ◌≤◌, false, IfErr, IfOk, IfSome, OnOk};
 ghost use Rattle.aegis_pages.specs.Commitments.{commitment, page_tag};
 ghost use Rattle.aegis_pages.specs.Errors.{IsReadError, IsVerifyRefusal};
 
 use crate::error::PagesError;
 use crate::layout::{FileLayout, MAX_TEXT_BYTES, TAG_BYTES};
-use aegis_base::{LaneState, Names, SavedLanes};
+use aegis_base::{LaneState, SavedLanes};
 use aegis_engine::{ENDED, same_bytes};
 use aegis_storage::Storage;
 
 /// Reads the tag of a page, its last bytes. Returns [`PagesError::Read`].
-pub fn read_tag<S: Storage, L: LaneState, V: Names, const KEY_BYTES: usize>(
+pub fn read_tag<S: Storage, L: LaneState, const KEY_BYTES: usize>(
     storage: &S,
-    layout: &FileLayout<L, V, KEY_BYTES>,
+    layout: &FileLayout<L, KEY_BYTES>,
     number: u64,
 ) -> Result<[u8; TAG_BYTES], PagesError>
     requires { number * layout.now.page_bytes ≤ MAX_TEXT_BYTES }
@@ -34,9 +34,9 @@ pub fn read_tag<S: Storage, L: LaneState, V: Names, const KEY_BYTES: usize>(
 }
 
 /// Returns the commitment of a file. Returns [`PagesError::Read`].
-pub fn file_commitment<S: Storage, L: SavedLanes, V: Names, const KEY_BYTES: usize>(
+pub fn file_commitment<S: Storage, L: SavedLanes, const KEY_BYTES: usize>(
     storage: &S,
-    layout: &FileLayout<L, V, KEY_BYTES>,
+    layout: &FileLayout<L, KEY_BYTES>,
     counter: u64,
     len: u64,
 ) -> Result<[u8; TAG_BYTES], PagesError>
@@ -68,9 +68,9 @@ pub fn file_commitment<S: Storage, L: SavedLanes, V: Names, const KEY_BYTES: usi
 }
 
 /// Compares the commitment of a file with `expected`. Returns [`PagesError::Read`] or [`PagesError::Commitment`].
-pub fn verify_commitment<S: Storage, L: SavedLanes, V: Names, const KEY_BYTES: usize>(
+pub fn verify_commitment<S: Storage, L: SavedLanes, const KEY_BYTES: usize>(
     storage: &S,
-    layout: &FileLayout<L, V, KEY_BYTES>,
+    layout: &FileLayout<L, KEY_BYTES>,
     counter: u64,
     len: u64,
     expected: &[u8; TAG_BYTES],
@@ -79,7 +79,7 @@ pub fn verify_commitment<S: Storage, L: SavedLanes, V: Names, const KEY_BYTES: u
     ensures is { OnOk result (IfSome (S.bytes storage.now)
         (λ file. expected.now ≡ commitment layout.now counter len file)) }
     ensures refused { IfErr result
-        (IsVerifyRefusal layout.now counter len (S.bytes storage.now) expected.now) }
+        (IsVerifyRefusal false layout.now counter len (S.bytes storage.now) expected.now) }
 {
     let mac = file_commitment(storage, layout, counter, len)?;
     if same_bytes(&mac, expected) {

@@ -6,10 +6,10 @@ use thiserror::Error;
 /// The error of a call of [`crate::Pages`]. The call's documentation says what it leaves.
 #[derive(Debug, Drop, Error)]
 pub enum PagesError {
-    /// The storage could not be read, or ends before the page that is wanted.
+    /// The storage or the journal could not be read, or the storage ends before the page that is wanted.
     #[error("reading: {0}")]
     Read(io::Error),
-    /// The storage could not be written.
+    /// The storage or the journal could not be written.
     #[error("writing: {0}")]
     Write(io::Error),
     /// No nonce could be drawn.
@@ -21,7 +21,7 @@ pub enum PagesError {
     /// The page of this number is not one that was sealed under the key for this place of this file.
     #[error("page {0} is damaged")]
     Damaged(u64),
-    /// The text would have more than [`crate::MAX_TEXT_BYTES`], or 2^64 headers were written.
+    /// The text would have more than [`crate::MAX_TEXT_BYTES`], or 2^64 commits were made.
     #[error("too long")]
     TooLong,
     /// Memory ran out.
@@ -33,4 +33,10 @@ pub enum PagesError {
     /// The file's commitment is another than the one that was expected.
     #[error("not the file that was committed to")]
     Commitment,
+    /// The journal is that of another file, or of another state of this one.
+    #[error("the journal of another file, or of another state of this one")]
+    Journal,
+    /// A commit has failed. The file is to be opened again.
+    #[error("a commit has failed: open the file again")]
+    Broken,
 }

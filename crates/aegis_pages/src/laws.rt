@@ -4,13 +4,12 @@ ghost use Rattle.std.specs.Prelude.{◌≡◌, ◌+◌, ◌≤◌, IfSome, List,
 ghost use Rattle.aegis_aes.specs.Lanes.{IsLaneCount};
 ghost use Rattle.aegis_base.specs.Variant.{Variant};
 ghost use Rattle.aegis_storage.specs.Bytes.{overwritten, part_at};
-ghost use Rattle.aegis_storage.specs.Disk.{Disk};
-ghost use Rattle.aegis_storage.specs.Journal.{IsAtRest, Recovers, RestsAtEither};
-ghost use Rattle.aegis_pages.specs.Batches.{RecoversText, RestsAtText};
 ghost use Rattle.aegis_pages.specs.Commitments.{HasOneCommitment, commitment};
-ghost use Rattle.aegis_pages.specs.Headers.{IsNewest};
-ghost use Rattle.aegis_pages.specs.OpenFile.{HasText, IsUnchanged, OpenFile};
-ghost use Rattle.aegis_pages.specs.SealedPages.{Holds};
+ghost use Rattle.aegis_pages.specs.Headers.{IsHeader};
+ghost use Rattle.aegis_storage.specs.Disk.{Disk};
+ghost use Rattle.aegis_pages.specs.Commits.{RecoversText};
+ghost use Rattle.aegis_pages.specs.History.{AreCommits, Step, last_of};
+ghost use Rattle.aegis_pages.specs.OpenFile.{HasCommitted, HasText, IsStoredAs, IsUnchanged, OpenFile};
 
 /// A part that was written is what is read at its place.
 pub fn written_is_read()
@@ -33,44 +32,45 @@ pub fn whole_is_written()
     ensures { (text part : List ℕ) → length text ≤ length part → overwritten text 0 part ≡ part }
 {}
 
+/// A file has one commitment under a variant and a key: that of the file that was opened.
+pub fn opened_has_its_commitment()
+    ensures { (variant : Variant) (key c : List ℕ) (file : OpenFile)
+        → IsLaneCount variant.lanes
+        → file.layout.variant ≡ variant → file.layout.key ≡ key
+        → IfSome file.bytes (IsHeader file.layout file.counter file.stored)
+        → IfSome file.bytes (λ now. c ≡ commitment file.layout file.counter file.stored now)
+        → IfSome file.bytes (HasOneCommitment variant key c) }
+{}
+
 /// A file that is as it was has the same text.
 pub fn unchanged_has_its_text()
     ensures { (old new : OpenFile) (text : List ℕ) → IsUnchanged old new → HasText old text
         → HasText new text }
 {}
 
-/// A file at rest recovers to its text.
-pub fn text_at_rest_recovers()
-    ensures { (variant : Variant) (key before after journal_key context file : List ℕ)
-        (storage journal : Option Disk)
-        → IsAtRest storage journal file → Holds variant key before file
-        → RecoversText variant key before after journal_key context storage journal }
+/// Changes in memory leave the text that is committed.
+pub fn stored_is_committed()
+    ensures stored { (old new : OpenFile) (text : List ℕ) → IsStoredAs old new
+        → HasCommitted old text → HasCommitted new text }
+    ensures unchanged { (old new : OpenFile) (text : List ℕ) → IsUnchanged old new
+        → HasCommitted old text → HasCommitted new text }
 {}
 
-/// What recovery left, also when it failed, recovers to one of the same texts.
-pub fn recovers_text_again()
-    ensures { (variant : Variant) (key before after journal_key context : List ℕ)
-        (storage journal new_storage new_journal : Option Disk)
-        → (batch : RecoversText variant key before after journal_key context storage journal)
-        → Recovers journal_key context batch.file batch.writes new_storage new_journal
-        → RecoversText variant key before after journal_key context new_storage new_journal }
+/// A committed text is recovered, whatever was to come next.
+pub fn committed_recovers()
+    ensures { (file : OpenFile) (before now : List ℕ) → HasCommitted file before
+        → RecoversText file.layout.variant file.layout.key before now file.disk file.journal }
 {}
 
-/// What was recovered is at rest, and holds one of the two texts.
-pub fn recovered_text_is_at_rest()
-    ensures { (variant : Variant) (key before after journal_key context : List ℕ)
-        (storage journal new_storage new_journal : Option Disk)
-        → (batch : RecoversText variant key before after journal_key context storage journal)
-        → RestsAtEither new_storage new_journal batch.file batch.writes
-        → RestsAtText variant key before after new_storage new_journal }
-{}
-
-/// A file has one commitment under a variant and a key: that of the file that was opened.
-pub fn opened_has_its_commitment()
-    ensures { (variant : Variant) (key c : List ℕ) (bytes : Option (List ℕ)) (file : OpenFile)
-        → IsLaneCount variant.lanes
-        → file.layout.variant ≡ variant → file.layout.key ≡ key → file.bytes ≡ bytes
-        → IfSome bytes (IsNewest file.layout file.counter file.len)
-        → IfSome file.bytes (λ now. c ≡ commitment file.layout file.counter file.len now)
-        → IfSome bytes (HasOneCommitment variant key c) }
+/// After any number of commits that returned `Ok` the file has the text of the last one for certain; and a crash in the
+/// next one leaves that text, or the one that was to come.
+pub fn commits_in_a_row()
+    ensures certain { (start : Step) (steps : List Step) → HasCommitted start.0 start.1
+        → AreCommits start steps
+        → HasCommitted (last_of start steps).0 (last_of start steps).1 }
+    ensures crash { (start : Step) (steps : List Step) (variant : Variant) (key now : List ℕ)
+        (storage journal : Option Disk) → HasCommitted start.0 start.1 → AreCommits start steps
+        → (HasCommitted (last_of start steps).0 (last_of start steps).1
+        → RecoversText variant key (last_of start steps).1 now storage journal)
+        → RecoversText variant key (last_of start steps).1 now storage journal }
 {}

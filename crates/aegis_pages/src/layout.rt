@@ -6,8 +6,8 @@ ghost use Rattle.aegis_pages.specs.Commitments.{page_count};
 ghost use Rattle.aegis_pages.specs.Layouts.{IsPageSize, Layout, associated_data, box_bytes, clear_part, nonce_bytes, page_place, variant_byte};
 
 use aegis_aes::Row;
-use aegis_base::{LaneState, Names};
-use aegis_engine::Cipher;
+use aegis_base::LaneState;
+use aegis_engine::{Cipher, Once};
 use aegis_storage::bytes::put;
 use std::marker::{Model, PhantomData};
 
@@ -17,8 +17,8 @@ pub const MIN_PAGE_BYTES: u32 = 256;
 /// The greatest page size, in bytes of text.
 pub const MAX_PAGE_BYTES: u32 = 65_536;
 
-/// The page size for most uses, in bytes of text.
-pub const DEFAULT_PAGE_BYTES: u32 = 4_096;
+/// The page size for most uses, in bytes of text: with its nonce of 32 bytes and its tag a page has 4,096.
+pub const DEFAULT_PAGE_BYTES: u32 = 4_032;
 
 /// How many bytes a text may have, 2^60.
 pub const MAX_TEXT_BYTES: u64 = 1_152_921_504_606_846_976;
@@ -26,7 +26,7 @@ pub const MAX_TEXT_BYTES: u64 = 1_152_921_504_606_846_976;
 /// The length of a tag.
 pub const TAG_BYTES: usize = 32;
 
-/// The length of a sector. Each of the two first sectors has a header.
+/// The length of the sector of the header, with which a file begins.
 pub const SECTOR_BYTES: usize = 512;
 
 /// The length of the clear part of a header: a magic number, the variant, the page size and the file's id.
@@ -38,18 +38,24 @@ pub const HEADER_TEXT_BYTES: usize = 16;
 /// The number that stands for a header where a page has its own. No page has it.
 pub const HEADER_NUMBER: u64 = 18_446_744_073_709_551_615;
 
+/// Where the pages begin, after the block of the header.
+pub const PAGES_PLACE: u64 = 4_096;
+
 /// The first bytes of a file.
 pub const MAGIC: [u8; 4] = [65, 71, 80, 49];
 
+/// The first bytes of a journal.
+pub const JOURNAL_MAGIC: [u8; 4] = [65, 71, 80, 74];
+
 /// What all boxes of a file are sealed under. The key is overwritten when it is dropped.
-pub struct FileLayout<L: LaneState, V: Names, const KEY_BYTES: usize> {
+pub struct FileLayout<L: LaneState, const KEY_BYTES: usize> {
     key: [u8; KEY_BYTES],
     page_bytes: u32,
     id: [u8; 24],
-    cipher: PhantomData<(L, V)>,
+    cipher: PhantomData<L>,
 }
 
-impl<L: LaneState, V: Names, const KEY_BYTES: usize> Model for FileLayout<L, V, KEY_BYTES> {
+impl<L: LaneState, const KEY_BYTES: usize> Model for FileLayout<L, KEY_BYTES> {
     ghost use Rattle.std.specs.Prelude.{◌≡◌, length};
     ghost use Rattle.aegis_base.specs.Variant.{key_length};
     ghost use Rattle.aegis_pages.specs.Layouts.{IsPageSize, Layout};
@@ -67,7 +73,7 @@ impl<L: LaneState, V: Names, const KEY_BYTES: usize> Model for FileLayout<L, V, 
         × IsPageSize l.page_bytes };
 }
 
-impl<L: LaneState, V: Names, const KEY_BYTES: usize> Drop for FileLayout<L, V, KEY_BYTES> {
+impl<L: LaneState, const KEY_BYTES: usize> Drop for FileLayout<L, KEY_BYTES> {
     fn drop(self) {
         let FileLayout {
             mut key,
@@ -94,7 +100,7 @@ pub fn variant_byte<L: LaneState, const KEY_BYTES: usize>() -> u8
     (KEY_BYTES + L::Row::LANES) as u8
 }
 
-impl<L: LaneState, V: Names, const KEY_BYTES: usize> FileLayout<L, V, KEY_BYTES> {
+impl<L: LaneState, const KEY_BYTES: usize> FileLayout<L, KEY_BYTES> {
     /// Makes a layout.
     pub fn new(key: &[u8; KEY_BYTES], page_bytes: u32, id: &[u8; 24]) -> Self
         requires key_bytes { KEY_BYTES ≡ key_length L.VARIANT.family }
@@ -153,6 +159,13 @@ impl<L: LaneState, V: Names, const KEY_BYTES: usize> FileLayout<L, V, KEY_BYTES>
         clear
     }
 
+    /// Returns the front of the file's journals, which names the file.
+    pub fn journal_front(&self) -> [u8; CLEAR_BYTES] {
+        let mut front = self.clear();
+        put(&mut front, 0, &JOURNAL_MAGIC);
+        front
+    }
+
     /// Returns the associated data of the page of a number, or of a header.
     pub fn associated_data(&self, number: u64) -> [u8; 41]
         ensures { result ≡ associated_data self.now number }
@@ -164,7 +177,7 @@ impl<L: LaneState, V: Names, const KEY_BYTES: usize> FileLayout<L, V, KEY_BYTES>
     }
 
     /// Returns the cipher of a nonce.
-    pub fn cipher(&self, nonce: &[u8; KEY_BYTES]) -> Cipher<L, V, KEY_BYTES, TAG_BYTES>
+    pub fn cipher(&self, nonce: &[u8; KEY_BYTES]) -> Cipher<L, Once, KEY_BYTES, TAG_BYTES>
         ensures variant { self.now.variant ≡ L.VARIANT }
         ensures key { result.key ≡ self.now.key }
         ensures nonce { result.nonce ≡ nonce.now }
@@ -197,11 +210,11 @@ impl<L: LaneState, V: Names, const KEY_BYTES: usize> FileLayout<L, V, KEY_BYTES>
     pub fn page_place(&self, number: u64) -> u64
         requires { number * self.now.page_bytes ≤ MAX_TEXT_BYTES + MAX_PAGE_BYTES }
         ensures place { result ≡ page_place self.now number }
-        ensures within { result ≤ 1024 + 2 * (MAX_TEXT_BYTES + MAX_PAGE_BYTES) }
+        ensures within { result ≤ 4096 + 2 * (MAX_TEXT_BYTES + MAX_PAGE_BYTES) }
         ensures box_bytes { box_bytes self.now self.now.page_bytes ≤ MAX_PAGE_BYTES + 64 }
     {
         let box_bytes = self.page_bytes as u64 + (KEY_BYTES as u64 + TAG_BYTES as u64);
-        2 * SECTOR_BYTES as u64 + number * box_bytes
+        PAGES_PLACE + number * box_bytes
     }
 
     /// Returns the layout that the clear part of a header names, for a key, or `None` if it names none of this variant.

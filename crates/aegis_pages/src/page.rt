@@ -2,20 +2,21 @@
 //!
 //! A box is a nonce, a ciphertext and a tag.
 
-ghost use Rattle.std.specs.Prelude.{◌≡◌, ◌+◌, ◌*◌, ◌-◌, ◌≤◌, ◌⊎◌, ◌^◌, IfErr, IfSome, List, OnErr, OnOk, length, take, true, ℕ};
-ghost use Rattle.aegis_storage.specs.Bytes.{TearsAt, WritesAt};
+ghost use Rattle.std.specs.Prelude.{◌≡◌, ◌+◌, ◌*◌, ◌-◌, ◌≤◌, ◌⊎◌, ◌^◌, IfErr, IfOk, IfSome, List, OnOk, length, take, true, ℕ};
 ghost use Rattle.aegis_pages.specs.Layouts.{OpensAt, box_bytes, inner, nonce_bytes, page_at, page_place};
-ghost use Rattle.aegis_pages.specs.Errors.{IsReadError, IsWriteError};
+ghost use Rattle.aegis_pages.specs.Errors.{IsReadError, IsSealError};
 
 use crate::draws::Nonces;
 use crate::error::PagesError;
 use crate::layout::{FileLayout, MAX_TEXT_BYTES, TAG_BYTES};
-use aegis_base::{LaneState, Names};
-use aegis_storage::Storage;
+use aegis_base::LaneState;
+use aegis_storage::bytes::put;
+use aegis_storage::{PendingWrite, Storage};
+use std::alloc::Allocator;
 
 /// Seals a box in place: its text stands where the ciphertext is to be.
-pub fn seal_box<L: LaneState, V: Names, const KEY_BYTES: usize>(
-    layout: &FileLayout<L, V, KEY_BYTES>,
+pub fn seal_box<L: LaneState, const KEY_BYTES: usize>(
+    layout: &FileLayout<L, KEY_BYTES>,
     number: u64,
     nonce: &[u8; KEY_BYTES],
     sealed: &mut [u8],
@@ -36,8 +37,8 @@ pub fn seal_box<L: LaneState, V: Names, const KEY_BYTES: usize>(
 }
 
 /// Opens a box in place, or erases it: the text then stands where the ciphertext was.
-pub fn open_box<L: LaneState, V: Names, const KEY_BYTES: usize>(
-    layout: &FileLayout<L, V, KEY_BYTES>,
+pub fn open_box<L: LaneState, const KEY_BYTES: usize>(
+    layout: &FileLayout<L, KEY_BYTES>,
     number: u64,
     sealed: &mut [u8],
 ) -> bool
@@ -63,9 +64,9 @@ pub fn open_box<L: LaneState, V: Names, const KEY_BYTES: usize>(
 
 /// Reads a page and opens it: its text then stands in the page's box. Returns [`PagesError::Read`] or
 /// [`PagesError::Damaged`].
-pub fn read_page<S: Storage, L: LaneState, V: Names, const KEY_BYTES: usize>(
+pub fn read_page<S: Storage, L: LaneState, const KEY_BYTES: usize>(
     storage: &S,
-    layout: &FileLayout<L, V, KEY_BYTES>,
+    layout: &FileLayout<L, KEY_BYTES>,
     number: u64,
     page: &mut [u8],
 ) -> Result<(), PagesError>
@@ -74,6 +75,8 @@ pub fn read_page<S: Storage, L: LaneState, V: Names, const KEY_BYTES: usize>(
     ensures opened { OnOk result (IfSome (S.bytes storage.now)
         (λ file. OpensAt layout.now number (page_at layout.now file number)
         (inner layout.now page.new))) }
+    ensures whole { OnOk result (IfSome (S.bytes storage.now) (λ file.
+        length (page_at layout.now file number) ≡ box_bytes layout.now layout.now.page_bytes)) }
     ensures only { OnOk result (IfSome (S.bytes storage.now) (λ file. (m : List ℕ)
         → OpensAt layout.now number (page_at layout.now file number) m
         → inner layout.now page.new ≡ m)) }
@@ -93,25 +96,40 @@ pub fn read_page<S: Storage, L: LaneState, V: Names, const KEY_BYTES: usize>(
     }
 }
 
-/// Seals a page, whose text stands in its box, and writes it. Returns [`PagesError::Nonce`] or [`PagesError::Write`].
-pub fn write_page<S: Storage, N: Nonces, L: LaneState, V: Names, const KEY_BYTES: usize>(
-    storage: &mut S,
-    nonces: &mut N,
-    layout: &FileLayout<L, V, KEY_BYTES>,
+/// Seals a text into a page's box.
+pub fn seal_text<L: LaneState, const KEY_BYTES: usize>(
+    layout: &FileLayout<L, KEY_BYTES>,
     number: u64,
-    page: &mut [u8],
-) -> Result<(), PagesError>
-    requires room { length page.old ≡ box_bytes layout.now layout.now.page_bytes }
+    nonce: &[u8; KEY_BYTES],
+    text: &[u8],
+    sealed: &mut [u8],
+)
+    requires text { length text.now ≡ layout.now.page_bytes }
+    requires room { length sealed.old ≡ box_bytes layout.now layout.now.page_bytes }
+    requires within { length sealed.old ≤ 2 ^ 32 }
+    ensures { OpensAt layout.now number sealed.new text.now }
+{
+    put(sealed, layout.nonce_bytes(), text);
+    seal_box(layout, number, nonce, sealed);
+}
+
+/// Returns the write of a page: its box, sealed from its text, at its place. Returns [`PagesError::Nonce`] or
+/// [`PagesError::OutOfMemory`].
+pub fn sealed_page<N: Nonces, L: LaneState, const KEY_BYTES: usize, A: Allocator + Copy>(
+    alloc: A,
+    nonces: &mut N,
+    layout: &FileLayout<L, KEY_BYTES>,
+    number: u64,
+    text: &[u8],
+) -> Result<PendingWrite<A>, PagesError>
+    requires long { length text.now ≡ layout.now.page_bytes }
     requires within { number * layout.now.page_bytes ≤ MAX_TEXT_BYTES }
-    ensures written { OnOk result ((sealed : List ℕ)
-        × OpensAt layout.now number sealed (inner layout.now page.old)
-        × (length sealed ≡ box_bytes layout.now layout.now.page_bytes)
-        × WritesAt (S.bytes storage.old) (S.bytes storage.new)
-        (page_place layout.now number) sealed) }
-    ensures torn { OnErr result (TearsAt (S.bytes storage.old) (S.bytes storage.new)
-        (page_place layout.now number) (box_bytes layout.now layout.now.page_bytes)) }
-    ensures below { S.below storage.new ≡ S.below storage.old }
-    ensures refused { IfErr result IsWriteError }
+    ensures place { IfOk result (λ write. write.place ≡ page_place layout.now number) }
+    ensures opens { IfOk result (λ write.
+        OpensAt layout.now number write.bytes.items text.now) }
+    ensures size { IfOk result (λ write.
+        length write.bytes.items ≡ box_bytes layout.now layout.now.page_bytes) }
+    ensures refused { IfErr result IsSealError }
 {
     let place = layout.page_place(number);
     let mut nonce = [0; KEY_BYTES];
@@ -119,9 +137,10 @@ pub fn write_page<S: Storage, N: Nonces, L: LaneState, V: Names, const KEY_BYTES
         Ok(()) => {}
         Err(error) => return Err(PagesError::Nonce(error)),
     }
-    seal_box(layout, number, &nonce, page);
-    match storage.write_at(place, page) {
-        Ok(()) => Ok(()),
-        Err(error) => Err(PagesError::Write(error)),
-    }
+    let nonce_bytes = layout.nonce_bytes();
+    let Ok(mut bytes) = vec![in alloc; 0; text.len() + (nonce_bytes + TAG_BYTES)] else {
+        return Err(PagesError::OutOfMemory);
+    };
+    seal_text(layout, number, &nonce, text, &mut bytes);
+    Ok(PendingWrite { place, bytes })
 }

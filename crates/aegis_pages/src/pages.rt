@@ -1,48 +1,60 @@
-//! A text that is read and written at any place.
+//! A text that is read and written at any place, and committed.
 
-ghost use Rattle.std.specs.Prelude.{◌≡◌, ◌+◌, ◌-◌, ◌<◌, ◌≤◌, ◌⊎◌, ◌^◌, ◌↔◌, [], Err, IfErr, IfOk, IfSome, IsTrue, List, OnErr, OnOk, if◌then◌else◌, is_ok, length, max, min, replicate, true, ℕ};
-ghost use Rattle.aegis_base.specs.Variant.{Variant, key_length};
+ghost use Rattle.std.specs.Prelude.{◌≡◌, ◌+◌, ◌-◌, ◌<◌, ◌≤◌, ◌^◌, ◌↔◌, [], Err, IfErr, IfOk, IfSome, IsTrue, List, None, OnErr, OnOk, Some, if◌then◌else◌, false, is_ok, length, max, min, replicate, true, ℕ};
+ghost use Rattle.aegis_base.specs.Variant.{key_length};
 ghost use Rattle.aegis_storage.specs.Bytes.{overwritten, part_at, resized};
+ghost use Rattle.aegis_storage.specs.Disk.{Disk, certain};
+ghost use Rattle.aegis_pages.specs.Changed.{text_at};
 ghost use Rattle.aegis_pages.specs.Commitments.{commitment};
-ghost use Rattle.aegis_pages.specs.Errors.{IsCreateRefusal, IsOpenRefusal, IsReadError, IsReadRefusal, IsVerifyRefusal, IsWriteRefusal};
-ghost use Rattle.aegis_pages.specs.Headers.{IsNewest, KeepsNewest};
+ghost use Rattle.aegis_pages.specs.Commits.{Fits, IsHonest, RecoversText};
+ghost use Rattle.aegis_pages.specs.Errors.{IsBeginError, IsCommitRefusal, IsCommitmentRefusal, IsCreateRefusal, IsOpenRefusal, IsReadRefusal, IsVerifyRefusal, IsWriteRefusal};
+ghost use Rattle.aegis_pages.specs.Headers.{IsHeader};
 ghost use Rattle.aegis_pages.specs.Layouts.{IsPageSize};
-ghost use Rattle.aegis_pages.specs.OpenFile.{HasText, IsBatch, IsUnchanged, Reads};
-ghost use Rattle.aegis_pages.specs.SealedPages.{Holds, KeepsFront, KeepsPages, OnKnown};
+ghost use Rattle.aegis_pages.specs.OpenFile.{BreaksOrKeeps, HasCommitted, HasText, IsCertain, IsKnown, IsStoredAs, IsUnchanged, OpensAtOne, Reads};
+ghost use Rattle.aegis_pages.specs.SealedPages.{Holds, KeepsOthers};
 
+use crate::changes::{ChangedPages, PageText, empty_text};
 use crate::commitment::{file_commitment, verify_commitment};
 use crate::draws::Nonces;
 use crate::error::PagesError;
-use crate::header::{read_newest, write_header};
+use crate::header::read_sector;
 use crate::layout::{FileLayout, MAX_TEXT_BYTES, TAG_BYTES, is_page_size};
-use crate::range::{read_range, write_range};
-use aegis_base::{LaneState, Names, SavedLanes};
-use aegis_storage::Storage;
-use std::alloc::{AllocError, Allocator};
+use crate::opening::{journal_key, recover_file};
+use crate::range::{change_range, read_range};
+use crate::sealing::{sealed_commit, sealed_header};
+use aegis_base::{LaneState, SavedLanes};
+use aegis_storage::{PREFIX_BYTES, Storage, commit};
+use std::alloc::Allocator;
+use std::io;
+use std::io::ErrorKind;
 use std::marker::Model;
 
-/// A text in sealed pages, over a storage. It has a buffer for one page, and allocates nothing after it was made.
+/// A text in sealed pages, over a storage and its journal.
 ///
-/// Each page and header that is written takes one nonce. The contracts name the text where the storage's bytes are
-/// known: they are then the file of a text (`Stands`). The last page's bytes past the end of the text are zeros when
-/// they are written, and no call looks at them.
+/// Changes are kept in memory until they are committed: then all of them are there after a crash, or none. Each page and
+/// header that a commit writes takes one nonce, and each commit one prefix. The contracts name the text where the
+/// storage's bytes are known: they and the changes are then the file of a text (`HasText`).
 #[derive(Drop)]
-pub struct Pages<L: LaneState, V: Names, const KEY_BYTES: usize, S: Storage, N, A: Allocator> {
+pub struct Pages<L: LaneState, const KEY_BYTES: usize, S: Storage, J: Storage, N, A: Allocator> {
+    alloc: A,
     storage: S,
+    journal: J,
     nonces: N,
-    layout: FileLayout<L, V, KEY_BYTES>,
+    layout: FileLayout<L, KEY_BYTES>,
     counter: u64,
+    stored: u64,
     len: u64,
-    page: PageBuffer<A>,
+    changes: ChangedPages<A>,
+    page: PageText<A>,
+    is_broken: bool,
 }
 
-impl<L: LaneState, V: Names, const KEY_BYTES: usize, S: Storage, N, A: Allocator> Model
-    for Pages<L, V, KEY_BYTES, S, N, A> {
+impl<L: LaneState, const KEY_BYTES: usize, S: Storage, J: Storage, N, A: Allocator> Model
+    for Pages<L, KEY_BYTES, S, J, N, A> {
     ghost use Rattle.std.specs.Prelude.{◌≡◌, ◌≤◌, length};
     ghost use Rattle.aegis_aes.specs.Lanes.{IsLaneCount};
     ghost use Rattle.aegis_pages.specs.declared.layout.TheConstants.{MAX_TEXT_BYTES};
     ghost use Rattle.aegis_pages.specs.Layouts.{box_bytes};
-    ghost use Rattle.aegis_pages.specs.Layouts.{IsPageSize};
     ghost use Rattle.aegis_pages.specs.OpenFile.{OpenFile};
 
     ghost Value = { OpenFile };
@@ -50,43 +62,26 @@ impl<L: LaneState, V: Names, const KEY_BYTES: usize, S: Storage, N, A: Allocator
     ghost view = { λ p. record {
       layout = p.layout;
       counter = p.counter;
+      stored = p.stored;
       len = p.len;
+      changes = p.changes.entries;
       bytes = S.bytes p.storage;
-      below = S.below p.storage;
+      disk = S.disk p.storage;
+      journal = J.disk p.journal;
+      broken = p.is_broken;
     } };
 
     ghost invariant = { λ p. (length p.page.bytes.items ≡ box_bytes p.layout p.layout.page_bytes)
+        × (p.changes.size ≡ p.layout.page_bytes)
         × (p.len ≤ MAX_TEXT_BYTES)
+        × (p.stored ≤ MAX_TEXT_BYTES)
         × IsLaneCount p.layout.variant.lanes };
-}
-
-/// A buffer for one page, which is overwritten when it is dropped.
-struct PageBuffer<A: Allocator> {
-    bytes: Vec<u8, A>,
-}
-
-impl<A: Allocator> Drop for PageBuffer<A> {
-    fn drop(self) {
-        let PageBuffer { mut bytes } = self;
-        bytes.fill(0);
-    }
-}
-
-// A buffer for one page.
-fn page_buffer<A: Allocator>(alloc: A, box_bytes: usize) -> Result<PageBuffer<A>, AllocError>
-    requires { box_bytes ≤ 2 ^ 32 }
-    ensures { IfOk result (λ page. length page.bytes.items ≡ box_bytes) }
-{
-    Ok(PageBuffer {
-        bytes: vec![in alloc; 0; box_bytes]?,
-    })
 }
 
 // The counter of the next header.
 fn next_counter(counter: u64) -> Result<u64, PagesError>
     ensures counter { IfOk result (λ n. n ≡ counter + 1) }
-    ensures too_long { IfErr result (λ e. (e ≡ PagesError.TooLong)
-        × (counter ≡ 2 ^ 64 - 1)) }
+    ensures refused { IfErr result (λ e. (e ≡ PagesError.TooLong) × (counter ≡ 2 ^ 64 - 1)) }
 {
     if counter == u64::MAX {
         return Err(PagesError::TooLong);
@@ -94,34 +89,72 @@ fn next_counter(counter: u64) -> Result<u64, PagesError>
     Ok(counter + 1)
 }
 
-// The counter after a text of `len` bytes is written up to `end`: the next one, if it grows.
-fn counter_after(counter: u64, len: u64, end: u64) -> Result<u64, PagesError>
-    ensures counter { IfOk result (λ n. len < end → n ≡ counter + 1) }
-    ensures too_long { IfErr result (λ e. (e ≡ PagesError.TooLong)
-        × (counter ≡ 2 ^ 64 - 1)) }
+// Makes a storage a file with a header alone, and syncs it.
+fn begin_file<S: Storage, N: Nonces, L: LaneState, const KEY_BYTES: usize, A: Allocator>(
+    alloc: A,
+    storage: &mut S,
+    nonces: &mut N,
+    layout: &FileLayout<L, KEY_BYTES>,
+) -> Result<(), PagesError>
+    ensures known { OnOk result (IfSome (S.bytes storage.old) (λ _. IsKnown
+        (λ file. IsHeader layout.now 0 0 file) (S.bytes storage.new))) }
+    ensures certain { OnOk result ((disk : Disk) → S.disk storage.old ≡ Some disk
+        → IsCertain (λ file. IsHeader layout.now 0 0 file) (S.disk storage.new)) }
+    ensures refused { IfErr result IsBeginError }
 {
-    if end <= len {
-        return Ok(counter);
+    let header = sealed_header(alloc, nonces, layout, 0, 0)?;
+    match storage.set_size(0) {
+        Ok(()) => {}
+        Err(error) => return Err(PagesError::Write(error)),
     }
-    next_counter(counter)
+    match storage.write_at(0, &header.bytes) {
+        Ok(()) => {}
+        Err(error) => return Err(PagesError::Write(error)),
+    }
+    match storage.sync() {
+        Ok(()) => Ok(()),
+        Err(error) => Err(PagesError::Write(error)),
+    }
+}
+
+// Returns an error if a journal is not empty, and syncs it.
+fn begin_journal<J: Storage>(journal: &mut J) -> Result<(), PagesError>
+    ensures certain { OnOk result ((disk : Disk) → J.disk journal.old ≡ Some disk
+        → J.disk journal.new ≡ Some (certain [])) }
+    ensures refused { IfErr result IsBeginError }
+{
+    match journal.size() {
+        Ok(size) => {
+            if size != 0 {
+                return Err(PagesError::Journal);
+            }
+        }
+        Err(error) => return Err(PagesError::Read(error)),
+    }
+    match journal.sync() {
+        Ok(()) => Ok(()),
+        Err(error) => Err(PagesError::Write(error)),
+    }
 }
 
 impl<
-    L: LaneState,
-    V: Names,
+    L: SavedLanes,
     const KEY_BYTES: usize,
     S: Storage + Drop,
+    J: Storage + Drop,
     N: Nonces + Drop,
-    A: Allocator,
-> Pages<L, V, KEY_BYTES, S, N, A> {
+    A: Allocator + Copy,
+> Pages<L, KEY_BYTES, S, J, N, A> {
     /// Makes the storage a file of an empty text, under a key, an id of the file's own and a page size in bytes. What
-    /// it held before is lost.
+    /// it held before is lost. The journal must be empty.
     ///
-    /// Returns [`PagesError::PageSize`] or [`PagesError::OutOfMemory`] before the storage is changed, and
-    /// [`PagesError::Nonce`] or [`PagesError::Write`] after it may have been.
+    /// Returns [`PagesError::PageSize`], [`PagesError::OutOfMemory`], [`PagesError::Journal`] if the journal is not empty,
+    /// or [`PagesError::Nonce`] before the storage is changed, and [`PagesError::Write`] after it may have been. If a crash
+    /// interrupts it, create the file again.
     pub fn create(
         alloc: A,
         mut storage: S,
+        mut journal: J,
         mut nonces: N,
         key: &[u8; KEY_BYTES],
         id: &[u8; 24],
@@ -136,62 +169,79 @@ impl<
         }) }
         ensures empty { IfOk result (λ pages. pages.len ≡ 0) }
         ensures created { IfOk result (λ pages. IfSome (S.bytes storage) (λ _. HasText pages [])) }
-        ensures below { IfOk result (λ pages. pages.below ≡ S.below storage) }
+        ensures certain { IfOk result (λ pages. (disk journal_disk : Disk)
+            → S.disk storage ≡ Some disk → J.disk journal ≡ Some journal_disk
+            → HasCommitted pages []) }
         ensures size { OnOk result (IsPageSize page_bytes) }
         ensures refused { IfErr result (IsCreateRefusal page_bytes) }
     {
         if !is_page_size(page_bytes) {
             return Err(PagesError::PageSize);
         }
-        let Ok(page) = page_buffer(alloc, page_bytes as usize + (KEY_BYTES + TAG_BYTES)) else {
+        let Ok(page) = empty_text(alloc, page_bytes as usize + (KEY_BYTES + TAG_BYTES)) else {
             return Err(PagesError::OutOfMemory);
         };
         let layout = FileLayout::new(key, page_bytes, id);
-        match storage.set_size(0) {
-            Ok(()) => {}
-            Err(error) => return Err(PagesError::Write(error)),
-        }
-        write_header(&mut storage, &mut nonces, &layout, 0, 0)?;
-        write_header(&mut storage, &mut nonces, &layout, 1, 0)?;
+        begin_journal(&mut journal)?;
+        begin_file(alloc, &mut storage, &mut nonces, &layout)?;
         Ok(Pages {
+            alloc,
             storage,
+            journal,
             nonces,
             layout,
-            counter: 1,
+            counter: 0,
+            stored: 0,
             len: 0,
+            changes: ChangedPages::new(alloc, page_bytes as usize),
             page,
+            is_broken: false,
         })
     }
 
-    /// Opens the file that the storage holds. Only its headers are read, and nothing is written.
-    ///
-    /// Returns [`PagesError::Header`] if the storage has no header that was sealed with this variant and under the key,
-    /// and [`PagesError::Read`] or [`PagesError::OutOfMemory`].
-    pub fn open(alloc: A, storage: S, nonces: N, key: &[u8; KEY_BYTES]) -> Result<Self, PagesError>
+    /// Opens the file that the storage holds, and completes a commit that was cut short, or leaves out all of it, as
+    /// [`crate::recover_file`] does, whose errors it returns.
+    pub fn open(
+        alloc: A,
+        mut storage: S,
+        mut journal: J,
+        nonces: N,
+        key: &[u8; KEY_BYTES],
+    ) -> Result<Self, PagesError>
         requires { KEY_BYTES ≡ key_length L.VARIANT.family }
         ensures variant { IfOk result (λ pages. pages.layout.variant ≡ L.VARIANT) }
         ensures key { IfOk result (λ pages. pages.layout.key ≡ key.now) }
-        ensures kept { IfOk result (λ pages. pages.bytes ≡ S.bytes storage) }
-        ensures below { IfOk result (λ pages. pages.below ≡ S.below storage) }
-        ensures newest { IfOk result (λ pages. IfSome (S.bytes storage)
-            (IsNewest pages.layout pages.counter pages.len)) }
-        ensures holds { IfOk result (λ pages. IfSome (S.bytes storage) (λ file. (text : List ℕ)
+        ensures header { IfOk result (λ pages. IfSome pages.bytes
+            (IsHeader pages.layout pages.counter pages.stored)) }
+        ensures holds { IfOk result (λ pages. J.bytes journal ≡ Some []
+            → IfSome (S.bytes storage) (λ file. (text : List ℕ)
             → Holds L.VARIANT key.now text file → HasText pages text)) }
+        ensures recovered { IfOk result (λ pages. (before now : List ℕ)
+            → (batch : RecoversText L.VARIANT key.now before now (S.disk storage) (J.disk journal))
+            → IfSome (J.bytes journal) (IsHonest batch)
+            → OpensAtOne pages before now) }
+        ensures fits { OnOk result (IfSome (S.bytes storage) (λ file.
+            IfSome (J.bytes journal) (Fits L.VARIANT key.now file))) }
         ensures refused { IfErr result (IsOpenRefusal L.VARIANT key.now (S.bytes storage)) }
     {
-        let header = read_newest::<S, L, V, KEY_BYTES>(&storage, key)?;
+        let header = recover_file::<S, J, L, KEY_BYTES, A>(alloc, &mut storage, &mut journal, key)?;
         let layout = FileLayout::new(key, header.page_bytes, &header.id);
-        let Ok(page) = page_buffer(alloc, header.page_bytes as usize + (KEY_BYTES + TAG_BYTES))
-        else {
+        let size = header.page_bytes as usize;
+        let Ok(page) = empty_text(alloc, size + (KEY_BYTES + TAG_BYTES)) else {
             return Err(PagesError::OutOfMemory);
         };
         Ok(Pages {
+            alloc,
             storage,
+            journal,
             nonces,
             layout,
             counter: header.counter,
+            stored: header.len,
             len: header.len,
+            changes: ChangedPages::new(alloc, size),
             page,
+            is_broken: false,
         })
     }
 
@@ -210,10 +260,10 @@ impl<
     }
 
     /// Reads the bytes of the text from `at` on until `out` is full or the text ends, and returns how many were read.
-    /// Each is a byte of a page that opens under the key at its number in this file.
+    /// Each is a byte of a page that was changed, or that opens under the key at its number in this file.
     ///
-    /// Returns [`PagesError::Damaged`] with the number of a page that does not open, or [`PagesError::Read`]. Every
-    /// byte of `out` is then zero.
+    /// Returns [`PagesError::Damaged`] with the number of a page that does not open, [`PagesError::Read`], or
+    /// [`PagesError::Broken`]. Every byte of `out` is then zero.
     pub fn read_at(&mut self, at: u64, out: &mut [u8]) -> Result<usize, PagesError>
         ensures unchanged { IsUnchanged self.old self.new }
         ensures read { IfOk result (Reads self.old at (length out.old) out.new) }
@@ -223,15 +273,21 @@ impl<
         ensures written { OnOk result ((text part : List ℕ) → length part ≡ length out.old
             → HasText self.old (overwritten text at part) → out.new ≡ part) }
         ensures erased { OnErr result (out.new ≡ replicate (length out.old) 0) }
-        ensures refused { IfErr result
-            (IsReadRefusal self.old.layout self.old.len self.old.bytes) }
+        ensures broken { self.old.broken ≡ true → result ≡ Err PagesError.Broken }
+        ensures refused { IfErr result (IsReadRefusal self.old.broken self.old.layout
+            (text_at self.old.changes) self.old.len self.old.bytes) }
     {
+        if self.is_broken {
+            out.fill(0);
+            return Err(PagesError::Broken);
+        }
         if at >= self.len {
             return Ok(0);
         }
         let count = (self.len - at).min(out.len() as u64) as usize;
         let read = read_range(
             &self.storage,
+            &self.changes,
             &self.layout,
             &mut self.page.bytes,
             at,
@@ -244,159 +300,207 @@ impl<
         Ok(count)
     }
 
-    /// Writes all of `part` over the bytes of the text from `at` on. What lies past the end is added, and a gap is
-    /// filled with zeros, also if `part` is empty. A page of which some bytes are kept is read first.
+    /// Writes all of `part` over the bytes of the text from `at` on, in memory. What lies past the end is added, and a
+    /// gap is filled with zeros, also if `part` is empty. A page of which some bytes are kept is read first.
     ///
-    /// Returns [`PagesError::TooLong`] before anything is changed, and otherwise [`PagesError::Read`],
-    /// [`PagesError::Damaged`], [`PagesError::Nonce`] or [`PagesError::Write`]. The length is then as it was, and so
-    /// are the pages that have no byte of the part or of a gap before it. Each of the others is as before, as it was to
-    /// be, or damaged. The header that the file had still stands, so the file opens with the old length, or with the new
-    /// one if its header was written although writing failed.
+    /// Returns [`PagesError::Broken`] or [`PagesError::TooLong`] before anything is changed, and otherwise
+    /// [`PagesError::Read`], [`PagesError::Damaged`] or [`PagesError::OutOfMemory`]. The length is then as it was, and so
+    /// are the pages that have no byte of the part or of a gap before it. Each of the others is as before, or as it was
+    /// to be.
     pub fn write_at(&mut self, at: u64, part: &[u8]) -> Result<(), PagesError>
-        ensures layout { self.new.layout ≡ self.old.layout }
+        ensures stored { IsStoredAs self.old self.new }
         ensures len { self.new.len ≡ (if is_ok result
             then max self.old.len (at + length part.now) else self.old.len) }
         ensures written { OnOk result ((text : List ℕ) → HasText self.old text
             → HasText self.new (overwritten text at part.now)) }
-        ensures others { OnKnown self.old.bytes self.new.bytes
-            (KeepsPages self.old.layout (min at self.old.len) (at + length part.now)) }
-        ensures header { OnKnown self.old.bytes self.new.bytes
-            (KeepsNewest self.old.layout self.old.counter self.old.len) }
-        ensures batch { OnOk result ((variant : Variant) (key text file : List ℕ)
-            → IsBatch self.old variant key text file
-            → IsBatch self.new variant key (overwritten text at part.now) file) }
-        ensures too_long { MAX_TEXT_BYTES < at + length part.now
+        ensures others { KeepsOthers self.old.layout.page_bytes (min at self.old.len)
+            (at + length part.now) (text_at self.old.changes) (text_at self.new.changes) }
+        ensures broken { self.old.broken ≡ true → result ≡ Err PagesError.Broken }
+        ensures too_long { self.old.broken ≡ false → MAX_TEXT_BYTES < at + length part.now
             → result ≡ Err PagesError.TooLong }
-        ensures refused { IfErr result (IsWriteRefusal self.old (at + length part.now)) }
+        ensures refused { IfErr result (IsWriteRefusal self.old.broken self.old.layout
+            (text_at self.old.changes) self.old.len (at + length part.now) self.old.bytes) }
     {
+        if self.is_broken {
+            return Err(PagesError::Broken);
+        }
         if at > MAX_TEXT_BYTES || part.len() as u64 > MAX_TEXT_BYTES - at {
             return Err(PagesError::TooLong);
         }
-        let end = at + part.len() as u64;
-        let counter = counter_after(self.counter, self.len, end)?;
-        write_range(
-            &mut self.storage,
-            &mut self.nonces,
+        change_range(
+            self.alloc,
+            &self.storage,
+            &mut self.changes,
             &self.layout,
             self.len,
             &mut self.page.bytes,
             at,
             part,
         )?;
-        if end > self.len {
-            write_header(
-                &mut self.storage,
-                &mut self.nonces,
-                &self.layout,
-                counter,
-                end,
-            )?;
-            self.counter = counter;
-            self.len = end;
-        }
+        self.len = self.len.max(at + part.len() as u64);
         Ok(())
     }
 
-    /// Cuts the text off at `len` bytes, or fills it up to `len` with zeros, as [`Pages::write_at`] fills a gap.
-    ///
-    /// The errors, and what they leave, are those of `write_at`. A shorter text takes one header: the storage keeps its size,
-    /// and the bytes past the new end stay in it, sealed.
+    /// Cuts the text off at `len` bytes, or fills it up to `len` with zeros, in memory. The errors, and what they leave,
+    /// are those of `write_at`. A commit leaves the bytes past a new end in the storage, sealed, and its size as it was.
     pub fn set_len(&mut self, len: u64) -> Result<(), PagesError>
-        ensures layout { self.new.layout ≡ self.old.layout }
+        ensures stored { IsStoredAs self.old self.new }
         ensures len { self.new.len ≡ (if is_ok result then len else self.old.len) }
         ensures resized { OnOk result ((text : List ℕ) → HasText self.old text
             → HasText self.new (resized text len)) }
-        ensures others { OnKnown self.old.bytes self.new.bytes
-            (KeepsFront self.old.layout (min len self.old.len)) }
-        ensures header { OnKnown self.old.bytes self.new.bytes
-            (KeepsNewest self.old.layout self.old.counter self.old.len) }
-        ensures batch { OnOk result ((variant : Variant) (key text file : List ℕ)
-            → IsBatch self.old variant key text file
-            → IsBatch self.new variant key (resized text len) file) }
-        ensures too_long { MAX_TEXT_BYTES < len → result ≡ Err PagesError.TooLong }
-        ensures refused { IfErr result (IsWriteRefusal self.old len) }
+        ensures others { KeepsOthers self.old.layout.page_bytes (min len self.old.len) len
+            (text_at self.old.changes) (text_at self.new.changes) }
+        ensures broken { self.old.broken ≡ true → result ≡ Err PagesError.Broken }
+        ensures too_long { self.old.broken ≡ false → MAX_TEXT_BYTES < len
+            → result ≡ Err PagesError.TooLong }
+        ensures refused { IfErr result (IsWriteRefusal self.old.broken self.old.layout
+            (text_at self.old.changes) self.old.len len self.old.bytes) }
     {
         if len >= self.len {
             return self.write_at(len, &[]);
         }
-        let counter = next_counter(self.counter)?;
-        write_header(
-            &mut self.storage,
-            &mut self.nonces,
-            &self.layout,
-            counter,
-            len,
-        )?;
-        self.counter = counter;
+        if self.is_broken {
+            return Err(PagesError::Broken);
+        }
         self.len = len;
         Ok(())
     }
 
-    /// Returns once all that was written is where it outlasts a loss of power, or [`PagesError::Write`].
-    pub fn sync(&mut self) -> Result<(), PagesError>
-        ensures unchanged { IsUnchanged self.old self.new }
+    /// Writes all changes since the last commit, so that all of them are there after a crash, or none; with `Ok` they are
+    /// certain to be. By [`aegis_storage::commit`]: the changed pages and the next header are sealed into the journal,
+    /// then written to their places, and then the journal is emptied, each with a sync.
+    ///
+    /// Returns [`PagesError::Broken`], [`PagesError::TooLong`], [`PagesError::Read`], [`PagesError::Nonce`] or
+    /// [`PagesError::OutOfMemory`] before anything is written. After [`PagesError::Write`] the file is broken: each later call returns
+    /// [`PagesError::Broken`]. Open it again, which gives the text before the changes or the one after them.
+    pub fn commit(&mut self) -> Result<(), PagesError>
+        ensures layout { self.new.layout ≡ self.old.layout }
+        ensures len { self.new.len ≡ self.old.len }
+        ensures committed { OnOk result ((text : List ℕ) → HasText self.old text
+            → HasText self.new text) }
+        ensures crash { (before now : List ℕ) → HasCommitted self.old before
+            → HasText self.old now → RecoversText self.old.layout.variant self.old.layout.key
+            before now self.new.disk self.new.journal }
+        ensures certain { OnOk result ((before now : List ℕ) → HasCommitted self.old before
+            → HasText self.old now → HasCommitted self.new now) }
+        ensures broken { self.old.broken ≡ true → result ≡ Err PagesError.Broken }
+        ensures breaks { IfErr result (BreaksOrKeeps self.old self.new) }
+        ensures refused { IfErr result (IsCommitRefusal self.old.broken self.old.counter) }
     {
-        match self.storage.sync() {
-            Ok(()) => Ok(()),
-            Err(error) => Err(PagesError::Write(error)),
+        if self.is_broken {
+            return Err(PagesError::Broken);
+        }
+        let counter = next_counter(self.counter)?;
+        let Some(sector) = read_sector(&self.storage)? else {
+            return Err(PagesError::Read(io::Error::from(ErrorKind::UnexpectedEof)));
+        };
+        let writes = sealed_commit(
+            self.alloc,
+            &mut self.nonces,
+            &self.layout,
+            &self.changes,
+            &sector,
+            counter,
+            self.len,
+        )?;
+        let mut prefix = [0; PREFIX_BYTES];
+        match self.nonces.draw(&mut prefix) {
+            Ok(()) => {}
+            Err(error) => return Err(PagesError::Nonce(error)),
+        }
+        let key = journal_key::<L, KEY_BYTES>(self.layout.key());
+        let committed = commit(
+            self.alloc,
+            &mut self.storage,
+            &mut self.journal,
+            &key,
+            &self.layout.journal_front(),
+            &prefix,
+            &[],
+            &writes,
+        );
+        match committed {
+            Ok(()) => {
+                self.counter = counter;
+                self.stored = self.len;
+                self.changes.clear();
+                Ok(())
+            }
+            Err(error) => {
+                self.is_broken = true;
+                Err(PagesError::Write(error))
+            }
         }
     }
 
-    /// Gives the storage back.
-    pub fn into_storage(self) -> S
-        ensures bytes { S.bytes result ≡ self.bytes }
-        ensures below { S.below result ≡ self.below }
-        ensures holds { (text : List ℕ) → HasText self text
-            → IfSome (S.bytes result) (Holds self.layout.variant self.layout.key text) }
+    /// Forgets all changes since the last commit.
+    pub fn discard(&mut self)
+        ensures stored { IsStoredAs self.old self.new }
+        ensures len { self.new.len ≡ self.old.stored }
+        ensures none { (k : ℕ) → text_at self.new.changes k ≡ None }
+    {
+        self.changes.clear();
+        self.len = self.stored;
+    }
+
+    /// Gives the storage and the journal back. Changes that were not committed are lost.
+    pub fn into_storages(self) -> (S, J)
+        ensures bytes { S.bytes result.0 ≡ self.bytes }
+        ensures disk { S.disk result.0 ≡ self.disk }
+        ensures journal { J.disk result.1 ≡ self.journal }
     {
         let Pages {
+            alloc: _,
             storage,
+            journal,
             nonces: _,
             layout: _,
             counter: _,
+            stored: _,
             len: _,
+            changes: _,
             page: _,
+            is_broken: _,
         } = self;
-        storage
+        (storage, journal)
     }
-}
 
-impl<
-    L: SavedLanes,
-    V: Names,
-    const KEY_BYTES: usize,
-    S: Storage + Drop,
-    N: Nonces + Drop,
-    A: Allocator,
-> Pages<L, V, KEY_BYTES, S, N, A> {
-    /// Returns the file's commitment: a MAC of 32 bytes over the counter and the length of the newest header, and the tag
-    /// of each page of the text. It is taken under the file's key and the nonce of all bytes 255, which `N` must never
-    /// draw. A file whose header or page is an older one has another commitment, unless two MACs are equal by chance.
+    /// Returns the file's commitment: a MAC of 32 bytes over the counter and the length in the header, and the tag of each
+    /// page of the text, as they were at the last commit. It is taken under the file's key and the nonce of all bytes 255,
+    /// which `N` must never draw. A file whose header or page is an older one has another commitment, unless two MACs are
+    /// equal by chance.
     ///
-    /// Returns [`PagesError::Read`] if the storage could not be read, or ends before the last page does.
+    /// Returns [`PagesError::Read`] if the storage could not be read, or ends before the last page does, or
+    /// [`PagesError::Broken`].
     pub fn commitment(&self) -> Result<[u8; 32], PagesError>
         ensures is { IfOk result (λ mac. IfSome self.now.bytes
-            (λ file. mac ≡ commitment self.now.layout self.now.counter self.now.len file)) }
-        ensures refused { IfErr result IsReadError }
+            (λ file. mac ≡ commitment self.now.layout self.now.counter self.now.stored file)) }
+        ensures refused { IfErr result (IsCommitmentRefusal self.now.broken) }
     {
-        file_commitment(&self.storage, &self.layout, self.counter, self.len)
+        if self.is_broken {
+            return Err(PagesError::Broken);
+        }
+        file_commitment(&self.storage, &self.layout, self.counter, self.stored)
     }
 
     /// Returns `Ok` if the file's commitment is `expected`, which a call of [`Pages::commitment`] returned. All bytes are
     /// compared, whether they are equal or not.
     ///
-    /// Returns [`PagesError::Commitment`] if it is another, and [`PagesError::Read`] as `commitment` does.
+    /// Returns [`PagesError::Commitment`] if it is another, and the errors of `commitment`.
     pub fn verify(&self, expected: &[u8; 32]) -> Result<(), PagesError>
         ensures is { OnOk result (IfSome self.now.bytes (λ file. expected.now
-            ≡ commitment self.now.layout self.now.counter self.now.len file)) }
-        ensures refused { IfErr result (IsVerifyRefusal self.now.layout
-            self.now.counter self.now.len self.now.bytes expected.now) }
+            ≡ commitment self.now.layout self.now.counter self.now.stored file)) }
+        ensures refused { IfErr result (IsVerifyRefusal self.now.broken self.now.layout
+            self.now.counter self.now.stored self.now.bytes expected.now) }
     {
+        if self.is_broken {
+            return Err(PagesError::Broken);
+        }
         verify_commitment(
             &self.storage,
             &self.layout,
             self.counter,
-            self.len,
+            self.stored,
             expected,
         )
     }

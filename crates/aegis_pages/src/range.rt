@@ -1,36 +1,71 @@
 //! Reading and writing the bytes of a text across pages.
 
-ghost use Rattle.std.specs.Prelude.{◌≡◌, ◌+◌, ◌*◌, ◌-◌, ◌<◌, ◌≤◌, ◌⊎◌, ◌^◌, min, IfErr, IfSome, List, OnOk, length, slice_index, ℕ};
+ghost use Rattle.std.specs.Prelude.{◌≡◌, ◌+◌, ◌*◌, ◌-◌, ◌<◌, ◌≤◌, ◌⊎◌, ◌^◌, min, false, IfErr, IfSome, List, OnOk, length, slice_index, ℕ};
 ghost use Rattle.aegis_storage.specs.Bytes.{overwritten};
-ghost use Rattle.aegis_pages.specs.Errors.{IsRangeRefusal, IsReadError, IsReadRefusal};
-ghost use Rattle.aegis_pages.specs.Layouts.{OpensAt, box_bytes, inner, page_at};
-ghost use Rattle.aegis_pages.specs.SealedPages.{ArePages, IsByte, IsPage, KeepsOthers, OnKnown, WritesText};
+ghost use Rattle.aegis_pages.specs.Changed.{text_at};
+ghost use Rattle.aegis_pages.specs.Errors.{IsReadRefusal, IsShowRefusal, IsWriteRefusal};
+ghost use Rattle.aegis_pages.specs.Layouts.{box_bytes, inner};
+ghost use Rattle.aegis_pages.specs.SealedPages.{ArePages, IsByte, IsPage, KeepsOthers, Shows, WritesText};
 
-use crate::draws::Nonces;
+use crate::changes::ChangedPages;
 use crate::error::PagesError;
 use crate::layout::{FileLayout, MAX_TEXT_BYTES};
-use crate::page::{read_page, write_page};
-use aegis_base::{LaneState, Names};
+use crate::page::read_page;
+use aegis_base::LaneState;
 use aegis_storage::Storage;
 use aegis_storage::bytes::{clear_from, put};
+use std::alloc::Allocator;
+
+/// Puts the text of a page into its box: the text that it was changed to, or else that of the file's page. Returns
+/// [`PagesError::Read`] or [`PagesError::Damaged`].
+pub fn show_page<S: Storage, L: LaneState, const KEY_BYTES: usize, A: Allocator + Copy>(
+    storage: &S,
+    changes: &ChangedPages<A>,
+    layout: &FileLayout<L, KEY_BYTES>,
+    number: u64,
+    page: &mut [u8],
+) -> Result<(), PagesError>
+    requires room { length page.old ≡ box_bytes layout.now layout.now.page_bytes }
+    requires size { changes.now.size ≡ layout.now.page_bytes }
+    requires within { number * layout.now.page_bytes ≤ MAX_TEXT_BYTES }
+    ensures shown { OnOk result (IfSome (S.bytes storage.now) (λ file.
+        Shows layout.now (text_at changes.now.entries number) file number
+        (inner layout.now page.new))) }
+    ensures only { OnOk result (IfSome (S.bytes storage.now) (λ file. (m : List ℕ)
+        → Shows layout.now (text_at changes.now.entries number) file number m
+        → inner layout.now page.new ≡ m)) }
+    ensures refused { IfErr result
+        (IsShowRefusal layout.now (text_at changes.now.entries) number (S.bytes storage.now)) }
+{
+    let nonce_bytes = layout.nonce_bytes();
+    let end = nonce_bytes + layout.page_bytes() as usize;
+    if changes.copy_to(number, &mut page[nonce_bytes..end]) {
+        return Ok(());
+    }
+    read_page(storage, layout, number, page)
+}
 
 /// Reads the bytes of the text from `at` on until `out` is full.
-pub fn read_range<S: Storage, L: LaneState, V: Names, const KEY_BYTES: usize>(
+pub fn read_range<S: Storage, L: LaneState, const KEY_BYTES: usize, A: Allocator + Copy>(
     storage: &S,
-    layout: &FileLayout<L, V, KEY_BYTES>,
+    changes: &ChangedPages<A>,
+    layout: &FileLayout<L, KEY_BYTES>,
     page: &mut [u8],
     at: u64,
     out: &mut [u8],
 ) -> Result<(), PagesError>
     requires room { length page.old ≡ box_bytes layout.now layout.now.page_bytes }
+    requires size { changes.now.size ≡ layout.now.page_bytes }
     requires within { at + length out.old ≤ MAX_TEXT_BYTES }
     ensures opened { OnOk result (IfSome (S.bytes storage.now) (λ file. (i : ℕ)
-        → i < length out.new → IsByte layout.now file (at + i) (slice_index out.new i))) }
+        → i < length out.new
+        → IsByte layout.now (text_at changes.now.entries) file (at + i) (slice_index out.new i))) }
     ensures read { OnOk result (IfSome (S.bytes storage.now) (λ file. (text : List ℕ)
-        → ArePages layout.now text file → at + length out.new ≤ length text → (i : ℕ)
-        → i < length out.new → slice_index out.new i ≡ slice_index text (at + i))) }
-    ensures refused { IfErr result
-        (IsReadRefusal layout.now (at + length out.old) (S.bytes storage.now)) }
+        → ArePages layout.now (text_at changes.now.entries) text file
+        → at + length out.new ≤ length text → (i : ℕ) → i < length out.new
+        → slice_index out.new i ≡ slice_index text (at + i))) }
+    ensures refused { IfErr result (IsReadRefusal false layout.now (text_at changes.now.entries)
+        (at + length out.old) (S.bytes storage.now)) }
 {
     let page_bytes = layout.page_bytes() as u64;
     let nonce_bytes = layout.nonce_bytes();
@@ -39,7 +74,7 @@ pub fn read_range<S: Storage, L: LaneState, V: Names, const KEY_BYTES: usize>(
         let place = at + done as u64;
         let from = (place % page_bytes) as usize;
         let count = (page_bytes as usize - from).min(out.len() - done);
-        read_page(storage, layout, place / page_bytes, page)?;
+        show_page(storage, changes, layout, place / page_bytes, page)?;
         let start = nonce_bytes + from;
         put(out, done, &page[start..start + count]);
         done += count;
@@ -95,9 +130,10 @@ pub fn live_bytes(page_bytes: u64, len: u64, start: u64, at: u64, end: u64) -> u
 
 /// Puts into the page's box its text as it is after `part` was written over the text from `at` on. The text had `len`
 /// bytes before. The page is read only if some of its bytes are kept.
-pub fn compose<S: Storage, L: LaneState, V: Names, const KEY_BYTES: usize>(
+pub fn compose<S: Storage, L: LaneState, const KEY_BYTES: usize, A: Allocator + Copy>(
     storage: &S,
-    layout: &FileLayout<L, V, KEY_BYTES>,
+    changes: &ChangedPages<A>,
+    layout: &FileLayout<L, KEY_BYTES>,
     len: u64,
     number: u64,
     page: &mut [u8],
@@ -105,25 +141,24 @@ pub fn compose<S: Storage, L: LaneState, V: Names, const KEY_BYTES: usize>(
     part: &[u8],
 ) -> Result<(), PagesError>
     requires room { length page.old ≡ box_bytes layout.now layout.now.page_bytes }
+    requires size { changes.now.size ≡ layout.now.page_bytes }
     requires number { number * layout.now.page_bytes ≤ MAX_TEXT_BYTES }
     requires len { len ≤ MAX_TEXT_BYTES }
     requires end { at + length part.now ≤ MAX_TEXT_BYTES }
     ensures composed { OnOk result (IfSome (S.bytes storage.now) (λ file. (text : List ℕ)
-        → length text ≡ len
-        → (number * layout.now.page_bytes < len
-        → IsPage layout.now number (page_at layout.now file number) text)
-        → (i : ℕ) → i < layout.now.page_bytes → slice_index (inner layout.now page.new) i
+        → length text ≡ len → (number * layout.now.page_bytes < len
+        → IsPage layout.now (text_at changes.now.entries number) file number text) → (i : ℕ)
+        → i < layout.now.page_bytes → slice_index (inner layout.now page.new) i
         ≡ slice_index (overwritten text at part.now) (number * layout.now.page_bytes + i))) }
-    ensures refused { IfErr result (λ e. IsReadError e ⊎ ((e ≡ PagesError.Damaged number)
-        × (number * layout.now.page_bytes < len)
-        × IfSome (S.bytes storage.now) (λ file. (m : List ℕ)
-        → OpensAt layout.now number (page_at layout.now file number) m → ⊥))) }
+    ensures live { IfErr result (λ _. number * layout.now.page_bytes < len) }
+    ensures refused { IfErr result
+        (IsShowRefusal layout.now (text_at changes.now.entries) number (S.bytes storage.now)) }
 {
     let page_bytes = layout.page_bytes() as u64;
     let start = number * page_bytes;
     let live = live_bytes(page_bytes, len, start, at, at + part.len() as u64);
     if live > 0 {
-        read_page(storage, layout, number, page)?;
+        show_page(storage, changes, layout, number, page)?;
     }
     let nonce_bytes = layout.nonce_bytes();
     let text = &mut page[nonce_bytes..nonce_bytes + page_bytes as usize];
@@ -133,32 +168,40 @@ pub fn compose<S: Storage, L: LaneState, V: Names, const KEY_BYTES: usize>(
 
 /// Writes `part` over the bytes of the text from `at` on, in the pages that have some of these bytes or of a gap before
 /// them. The text has `len` bytes before.
-pub fn write_range<S: Storage, N: Nonces, L: LaneState, V: Names, const KEY_BYTES: usize>(
-    storage: &mut S,
-    nonces: &mut N,
-    layout: &FileLayout<L, V, KEY_BYTES>,
+pub fn change_range<S: Storage, L: LaneState, const KEY_BYTES: usize, A: Allocator + Copy>(
+    alloc: A,
+    storage: &S,
+    changes: &mut ChangedPages<A>,
+    layout: &FileLayout<L, KEY_BYTES>,
     len: u64,
     page: &mut [u8],
     at: u64,
     part: &[u8],
 ) -> Result<(), PagesError>
     requires room { length page.old ≡ box_bytes layout.now layout.now.page_bytes }
+    requires size { changes.old.size ≡ layout.now.page_bytes }
     requires len { len ≤ MAX_TEXT_BYTES }
     requires end { at + length part.now ≤ MAX_TEXT_BYTES }
-    ensures written { OnOk result (OnKnown (S.bytes storage.old) (S.bytes storage.new)
-        (WritesText layout.now len at part.now)) }
-    ensures others { OnKnown (S.bytes storage.old) (S.bytes storage.new)
-        (KeepsOthers layout.now (min at len) (at + length part.now)) }
-    ensures below { S.below storage.new ≡ S.below storage.old }
-    ensures refused { IfErr result (IsRangeRefusal layout.now len (S.bytes storage.old)) }
+    ensures size { changes.new.size ≡ changes.old.size }
+    ensures written { OnOk result (IfSome (S.bytes storage.now)
+        (WritesText layout.now len at part.now
+        (text_at changes.old.entries) (text_at changes.new.entries))) }
+    ensures others { KeepsOthers layout.now.page_bytes (min at len) (at + length part.now)
+        (text_at changes.old.entries) (text_at changes.new.entries) }
+    ensures refused { IfErr result (IsWriteRefusal false layout.now
+        (text_at changes.old.entries) len (at + length part.now) (S.bytes storage.now)) }
 {
     let page_bytes = layout.page_bytes() as u64;
+    let nonce_bytes = layout.nonce_bytes();
     let end = at + part.len() as u64;
     let first = at.min(len) / page_bytes;
     let last = (end + (page_bytes - 1)) / page_bytes;
     for number in first..last {
-        compose(storage, layout, len, number, page, at, part)?;
-        write_page(storage, nonces, layout, number, page)?;
+        compose(storage, changes, layout, len, number, page, at, part)?;
+        let text = &page[nonce_bytes..nonce_bytes + page_bytes as usize];
+        let Ok(()) = changes.set(alloc, number, text) else {
+            return Err(PagesError::OutOfMemory);
+        };
     }
     Ok(())
 }

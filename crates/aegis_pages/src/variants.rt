@@ -4,53 +4,23 @@
 //! AEGIS-256X4, and 16 bytes with the others.
 
 use crate::pages::Pages;
-use aegis::{aegis128l, aegis128x2, aegis128x4, aegis256, aegis256x2, aegis256x4};
-use aegis_128::State128;
-use aegis_256::State256;
-use aegis_aes::{AesBlock2, AesBlock4, Rows2};
+use aegis_128::{State128X1, State128X2, State128X4};
+use aegis_256::{State256X1, State256X2, State256X4};
 
 /// Sealed pages under AEGIS-256. Their calls are those of [`Pages`].
-pub type SealedPages<S, N, A> = Pages<State256<AesBlock2>, aegis256::Marker, 32, S, N, A>;
+pub type SealedPages<S, J, N, A> = Pages<State256X1, 32, S, J, N, A>;
 
 /// Sealed pages under AEGIS-256X2. Their calls are those of [`Pages`].
-pub type SealedPages256X2<S, N, A> = Pages<
-    State256<Rows2<AesBlock2>>,
-    aegis256x2::Marker,
-    32,
-    S,
-    N,
-    A,
->;
+pub type SealedPages256X2<S, J, N, A> = Pages<State256X2, 32, S, J, N, A>;
 
 /// Sealed pages under AEGIS-256X4. Their calls are those of [`Pages`].
-pub type SealedPages256X4<S, N, A> = Pages<
-    State256<Rows2<AesBlock4>>,
-    aegis256x4::Marker,
-    32,
-    S,
-    N,
-    A,
->;
+pub type SealedPages256X4<S, J, N, A> = Pages<State256X4, 32, S, J, N, A>;
 
 /// Sealed pages under AEGIS-128L. Their calls are those of [`Pages`].
-pub type SealedPages128L<S, N, A> = Pages<State128<AesBlock2>, aegis128l::Marker, 16, S, N, A>;
+pub type SealedPages128L<S, J, N, A> = Pages<State128X1, 16, S, J, N, A>;
 
 /// Sealed pages under AEGIS-128X2. Their calls are those of [`Pages`].
-pub type SealedPages128X2<S, N, A> = Pages<
-    State128<Rows2<AesBlock2>>,
-    aegis128x2::Marker,
-    16,
-    S,
-    N,
-    A,
->;
+pub type SealedPages128X2<S, J, N, A> = Pages<State128X2, 16, S, J, N, A>;
 
 /// Sealed pages under AEGIS-128X4. Their calls are those of [`Pages`].
-pub type SealedPages128X4<S, N, A> = Pages<
-    State128<Rows2<AesBlock4>>,
-    aegis128x4::Marker,
-    16,
-    S,
-    N,
-    A,
->;
+pub type SealedPages128X4<S, J, N, A> = Pages<State128X4, 16, S, J, N, A>;

@@ -2,5 +2,4 @@ pub mod Crashing
 pub mod Disks
 pub mod Journals
 pub mod Lists
-pub mod Overlays
 pub mod Overwriting

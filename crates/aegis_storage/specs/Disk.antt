@@ -1,6 +1,6 @@
 -- What a storage holds after a crash: what was synced, and of what came since any parts in any order.
 use Rattle.std.specs.Prelude.{◌≡◌, ℕ, ◌+◌, ◌≤◌, ◌⊎◌, List, [], ◌∷◌, ◌++◌, Option, None, Some, ⊤, length}
-use Rattle.aegis_storage.specs.Bytes.{overwritten, part_at, resized}
+use Rattle.aegis_storage.specs.Bytes.{overwritten, resized}
 
 -- a call that changes the bytes: these bytes are written at a place, or there are to be n of them
 pub data Change : Type 0 where
@@ -51,27 +51,26 @@ after disk change = record { synced = disk.synced; pending = disk.pending ++ cha
 
 -- ---- crashes
 
--- The first change is a part of the second: a run of its bytes at their place, whole or short or empty. A size is
--- whole.
+-- The first change may be left of the second: any bytes at a run of its places, or a size, which is whole.
 abbrev pub IsPart : Change → Change → Type 0
-IsPart (Write at bs) (Write place all) = (k : ℕ) × (k + length bs ≤ length all) × (at ≡ place + k) × (bs ≡ part_at all k (length bs))
+IsPart (Write at bs) (Write place all) = (k : ℕ) × (k + length bs ≤ length all) × (at ≡ place + k)
 IsPart (Write at bs) (Size n) = ⊥
 IsPart (Size m) (Write place all) = ⊥
 IsPart (Size m) (Size n) = m ≡ n
 
--- a part of one of the changes
+-- what may be left of one of the changes
 abbrev pub IsPartOfOne : List Change → Change → Type 0
 IsPartOfOne [] part = ⊥
 IsPartOfOne (change ∷ changes) part = IsPart part change ⊎ IsPartOfOne changes part
 
--- each is a part of one of the changes
+-- each may be left of one of the changes
 abbrev pub AreParts : List Change → List Change → Type 0
 AreParts changes [] = ⊤
 AreParts changes (part ∷ parts) = IsPartOfOne changes part × AreParts changes parts
 
--- What a crash may leave: the synced bytes after any parts of the pending changes, in any order. So of each pending
--- write all, any runs of bytes (a front, sectors) or none may be there, over or under those of other writes; a pending
--- size is there or not; and bytes that nothing wrote are as they were synced, or 0 past the end.
+-- What a crash may leave: the synced bytes after what may be left of the pending changes, in any order. So where a
+-- pending write was to write there may be any bytes: its own, those of before, or others; a pending size is there or
+-- not; and bytes that nothing was to write are as they were synced, or 0 past the end.
 pub record Crashed (disk : Disk) (bytes : List ℕ) : Type 0 where
   pub parts : List Change
   pub of_pending : AreParts disk.pending parts

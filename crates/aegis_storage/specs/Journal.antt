@@ -17,18 +17,21 @@ abbrev pub AreWithin : Writes → Type 0
 AreWithin writes = AllByRecursion (λ write. write.0 + length write.1 ≤ MAX_STORAGE_BYTES) writes
 
 -- the journal of writes that `commit` makes
-abbrev pub journal_of : (key prefix context : List ℕ) → Writes → List ℕ
-journal_of key prefix context writes = prefix ++ records Second key prefix context (map place_and_bytes writes)
+abbrev pub journal_of : (key front prefix context : List ℕ) → Writes → List ℕ
+journal_of key front prefix context writes = front ++ (prefix ++ records Second key prefix context (map place_and_bytes writes))
 
--- The bytes are a journal of these writes: a prefix, and a whole stream under it, the key and the context.
+-- The bytes are a journal of these writes: a front, a prefix, and a whole stream under the prefix, the key and the
+-- context.
 pub record IsJournal (key context : List ℕ) (writes : Writes) (bytes : List ℕ) : Type 0 where
+  pub front : List ℕ
   pub prefix : List ℕ
   pub stream : List ℕ
   pub version : Version
+  pub front_size : length front ≡ 33
   pub prefix_size : length prefix ≡ 24
   pub within : AreWithin writes
   pub records : AreRecords version key prefix context (map place_and_bytes writes) stream
-  pub are : bytes ≡ prefix ++ stream
+  pub are : bytes ≡ front ++ (prefix ++ stream)
 
 -- Recovery of a storage that holds `old`, by what the journal holds, gives `new`.
 pub record IsRecovered (key context journal old new : List ℕ) : Type 0 where

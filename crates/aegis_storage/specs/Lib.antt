@@ -2,5 +2,4 @@ pub mod Bytes
 pub mod Calls
 pub mod Disk
 pub mod Journal
-pub mod Overlay
 pub mod Pending

@@ -1,18 +1,19 @@
 //! Writes that are all there after a crash, or none of them.
 
-ghost use Rattle.std.specs.Prelude.{◌≤◌, List, OnOk, length, ℕ};
+ghost use Rattle.std.specs.Prelude.{◌≡◌, ◌<◌, ◌≤◌, IfSome, List, OnOk, length, ℕ};
 ghost use Rattle.aegis_storage.specs.Disk.{WritesAll};
 ghost use Rattle.aegis_storage.specs.Journal.{IsAtRest, Recovers, RestsWritten};
 ghost use Rattle.aegis_storage.specs.Pending.{writes_of};
 
 use crate::calls::{empty, write_and_sync};
-use crate::journal::journal_bytes;
+use crate::journal::{FRONT_BYTES, PREFIX_BYTES, journal_bytes};
 use crate::pending::PendingWrite;
 use crate::store::Storage;
 use aegis::aegis256::Key;
 use aegis::record::MAX_CONTEXT_BYTES;
 use std::alloc::Allocator;
 use std::io;
+use std::io::ErrorKind;
 
 /// Makes the writes, the first of them first, so that after a crash [`crate::recover`] makes all of them or none.
 ///
@@ -21,23 +22,27 @@ use std::io;
 /// then the journal is emptied and synced. With no writes nothing is called.
 ///
 /// Under one key a prefix must be used for one journal only. The context names the storage; it has at most
-/// [`MAX_CONTEXT_BYTES`].
+/// [`MAX_CONTEXT_BYTES`]. The front is what the journal begins with, in the clear.
 ///
-/// After an error, call `recover` before anything else. The error is that of a call, or `InvalidInput` if a write has
-/// more than [`aegis::record::MAX_MESSAGE_BYTES`] less 8 bytes or the journal would be longer than a record stream may
-/// be, or `OutOfMemory`. Memory is taken for a journal three times over.
+/// After an error, call `recover` before anything else. The error is that of a call, or `AlreadyExists` if the journal
+/// is not empty, which changes nothing, or `InvalidInput` if a write has more than
+/// [`aegis::record::MAX_MESSAGE_BYTES`] less 8 bytes or the journal would be longer than a record stream may be, or
+/// `OutOfMemory`. Memory is taken for a journal three times over.
 pub fn commit<S: Storage, J: Storage, A: Allocator + Copy>(
     alloc: A,
     storage: &mut S,
     journal: &mut J,
     key: &Key,
-    prefix: &[u8; 24],
+    front: &[u8; FRONT_BYTES],
+    prefix: &[u8; PREFIX_BYTES],
     context: &[u8],
     writes: &[PendingWrite<A>],
 ) -> io::Result<()>
     requires { length context.now ≤ MAX_CONTEXT_BYTES }
     ensures written { OnOk result
         (WritesAll (S.bytes storage.old) (S.bytes storage.new) (writes_of writes.now)) }
+    ensures empty { OnOk result (0 < length writes.now
+        → IfSome (J.bytes journal.old) (λ js. length js ≡ 0)) }
     ensures recovers { (xs : List ℕ) → IsAtRest (S.disk storage.old) (J.disk journal.old) xs
         → Recovers key.now context.now xs (writes_of writes.now)
         (S.disk storage.new) (J.disk journal.new) }
@@ -48,7 +53,10 @@ pub fn commit<S: Storage, J: Storage, A: Allocator + Copy>(
     if writes.is_empty() {
         return Ok(());
     }
-    let content = journal_bytes(alloc, key, prefix, context, writes)?;
+    if journal.size()? != 0 {
+        return Err(io::Error::from(ErrorKind::AlreadyExists));
+    }
+    let content = journal_bytes(alloc, key, front, prefix, context, writes)?;
     journal.write_at(0, &content)?;
     journal.sync()?;
     write_and_sync(storage, writes)?;

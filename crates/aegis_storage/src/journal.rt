@@ -1,4 +1,5 @@
-//! The bytes of a journal: 24 bytes of a prefix, and a record stream with a record for each write.
+//! The bytes of a journal: a front of the caller's, 24 bytes of a prefix, and a record stream with a record for each
+//! write.
 
 ghost use Rattle.std.specs.Prelude.{◌≡◌, ◌≢◌, ◌+◌, ◌<◌, ◌≤◌, IfNone, IfOk, IfSome, List, length, map, vec_items, ℕ};
 ghost use Rattle.aegis.specs.RecordStream as stream;
@@ -18,7 +19,11 @@ use std::alloc::{AllocError, Allocator};
 use std::io;
 use std::io::ErrorKind;
 
-/// How many bytes the prefix has, with which a journal begins.
+/// How many bytes the front has, with which a journal begins. It is the caller's, and in the clear, so that a journal can be
+/// told from that of another storage also if it is torn.
+pub const FRONT_BYTES: usize = 33;
+
+/// How many bytes the prefix has, which comes next.
 pub const PREFIX_BYTES: usize = 24;
 
 // How many bytes the place has, with which a message begins.
@@ -62,14 +67,15 @@ fn messages_of<A: Allocator + Copy>(
 pub fn journal_bytes<A: Allocator + Copy>(
     alloc: A,
     key: &Key,
-    prefix: &[u8; 24],
+    front: &[u8; FRONT_BYTES],
+    prefix: &[u8; PREFIX_BYTES],
     context: &[u8],
     writes: &[PendingWrite<A>],
 ) -> io::Result<Vec<u8, A>>
     requires some { 0 < length writes.now }
     requires context_within { length context.now ≤ MAX_CONTEXT_BYTES }
     ensures journal { IfOk result (λ made. made.items
-        ≡ journal_of key.now prefix.now context.now (writes_of writes.now)) }
+        ≡ journal_of key.now front.now prefix.now context.now (writes_of writes.now)) }
     ensures whole { IfOk result
         (λ made. IsJournal key.now context.now (writes_of writes.now) made.items) }
     ensures size { IfOk result (λ made. length made.items ≤ MAX_STORAGE_BYTES) }
@@ -83,6 +89,7 @@ pub fn journal_bytes<A: Allocator + Copy>(
         return Err(io::Error::from(ErrorKind::OutOfMemory));
     };
     let mut journal = Vec::new(alloc);
+    journal.extend_from_slice(front)?;
     journal.extend_from_slice(prefix)?;
     journal.extend_from_slice(&stream)?;
     Ok(journal)
@@ -144,12 +151,13 @@ pub fn journaled_writes<A: Allocator + Copy>(
     ensures none { IfOk result (λ found. IfNone found ((writes : Writes)
         → IsJournal key.now context.now writes journal.now → ⊥)) }
 {
-    if journal.len() < PREFIX_BYTES {
+    if journal.len() < FRONT_BYTES + PREFIX_BYTES {
         return Ok(None);
     }
-    let (front, stream) = journal.split_at(PREFIX_BYTES);
+    let (_front, rest) = journal.split_at(FRONT_BYTES);
+    let (head, stream) = rest.split_at(PREFIX_BYTES);
     let mut prefix = [0; PREFIX_BYTES];
-    prefix.copy_from_slice(front);
+    prefix.copy_from_slice(head);
     match open_records(alloc, key, &prefix, context, stream) {
         Ok(messages) => Ok(writes_in(alloc, &messages)?),
         Err(error) => match error {

@@ -1,20 +1,18 @@
 //! Storages, and writes that are all there after a crash, or none of them.
 //!
-//! A [`Storage`] holds bytes that are read and written at any place: a vector, or a file. An [`Overlay`] stands over
-//! one, collects writes, and reads through them. [`commit`] makes collected writes, by way of a second storage, the
-//! journal; after a crash [`recover`] makes all of them or none. It stands on [`aegis::record`], which seals the
-//! journal.
+//! A [`Storage`] holds bytes that are read and written at any place: a vector, or a file. [`commit`] makes writes, by
+//! way of a second storage, the journal; after a crash [`recover`] makes all of them or none. It stands on
+//! [`aegis::record`], which seals the journal.
 //!
-//! What a crash may leave is a definition, `Crashed` of `specs/Disk.antt`: the synced bytes after any parts of the
-//! writes and sizes that came since, in any order. What is promised of it is `Recovers` of `specs/Journal.antt`, which
+//! What a crash may leave is a definition, `Crashed` of `specs/Disk.antt`: the synced bytes, but where a write was to
+//! come since any bytes, and one of the sizes. What is promised of it is `Recovers` of `specs/Journal.antt`, which
 //! names the one premise on AEGIS: that the journal which the crash leaves is no forgery (`IsNoForgery`).
 //!
 //! ```
-//! let mut overlay = Overlay::new(alloc, &storage);
-//! overlay.write_at(0, b"both of these")?;
-//! overlay.write_at(100, b"or none")?;
-//! let writes = overlay.into_writes();
-//! commit(alloc, &mut storage, &mut journal, &key, &prefix, b"accounts", &writes)?;
+//! let mut writes = Vec::new(alloc);
+//! writes.push(PendingWrite::new(alloc, 0, b"both of these")?)?;
+//! writes.push(PendingWrite::new(alloc, 100, b"or none")?)?;
+//! commit(alloc, &mut storage, &mut journal, &key, &front, &prefix, b"accounts", &writes)?;
 //! ```
 #![tactic(auto)]
 
@@ -23,13 +21,13 @@ pub mod bytes;
 mod calls;
 mod journal;
 pub mod laws;
-mod overlay;
 mod pending;
 mod recovery;
 mod store;
 
 pub use atomic::commit;
-pub use overlay::Overlay;
+pub use calls::read_all;
+pub use journal::{FRONT_BYTES, PREFIX_BYTES, journaled_writes};
 pub use pending::PendingWrite;
 pub use recovery::recover;
-pub use store::{MAX_STORAGE_BYTES, Storage};
+pub use store::{MAX_STORAGE_BYTES, NoJournal, Storage};

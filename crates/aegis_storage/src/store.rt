@@ -22,17 +22,12 @@ pub const MAX_STORAGE_BYTES: u64 = 9_223_372_036_854_775_807;
 ///
 /// Its ghost member `disk` is what a crash may leave of the bytes, where that is known: what was synced, and the
 /// changes since. For vectors and files it is `None`.
-///
-/// Its ghost member `below` is what another storage holds that this one only reads, as that of an [`crate::Overlay`].
 pub trait Storage {
     // All the bytes, where they are known.
     ghost bytes: { Self → Option (List ℕ) } = { λ _. None };
 
     // What a crash may leave of them, where that is known.
     ghost disk: { Self → Option Disk } = { λ _. None };
-
-    // The bytes of a storage below, where there is one and they are known. No call changes them.
-    ghost below: { Self → Option (List ℕ) } = { λ _. None };
 
     /// Returns the number of bytes.
     fn size(&self) -> io::Result<u64>
@@ -54,8 +49,7 @@ pub trait Storage {
         ensures torn { OnErr result
             (TearsAt (bytes self.old) (bytes self.new) at (length part.now)) }
         ensures pending { OnOk result (Adds (disk self.old) (disk self.new) (Write at part.now)) }
-        ensures maybe { OnErr result (MayAdd (disk self.old) (disk self.new) (Write at part.now)) }
-        ensures below { below self.new ≡ below self.old };
+        ensures maybe { OnErr result (MayAdd (disk self.old) (disk self.new) (Write at part.now)) };
 
     /// Cuts the bytes off at `size`, or fills them up to it with zeros. After an error they are as they were. Until a
     /// sync, a crash may leave the one size or the other, also after an error.
@@ -64,16 +58,14 @@ pub trait Storage {
         ensures resized { OnOk result (ResizesTo (bytes self.old) (bytes self.new) size) }
         ensures kept { OnErr result (Keeps (bytes self.old) (bytes self.new)) }
         ensures pending { OnOk result (Adds (disk self.old) (disk self.new) (Size size)) }
-        ensures maybe { OnErr result (MayAdd (disk self.old) (disk self.new) (Size size)) }
-        ensures below { below self.new ≡ below self.old };
+        ensures maybe { OnErr result (MayAdd (disk self.old) (disk self.new) (Size size)) };
 
     /// Returns once all that was written is where it outlasts a loss of power. After an error none of it is certain to.
     fn sync(&mut self) -> io::Result<()>
         ensures kept { Keeps (bytes self.old) (bytes self.new) }
         ensures certain { OnOk result
             (MakesCertain (bytes self.old) (disk self.old) (disk self.new)) }
-        ensures uncertain { OnErr result (KeepsDisk (disk self.old) (disk self.new)) }
-        ensures below { below self.new ≡ below self.old };
+        ensures uncertain { OnErr result (KeepsDisk (disk self.old) (disk self.new)) };
 
     /// What can be read is one of the contents that a crash may leave.
     ghost possible: { (storage : Self) → IsPossible (bytes storage) (disk storage) };
@@ -110,6 +102,38 @@ impl<A: Allocator> Storage for Vec<u8, A> {
 
     fn set_size(&mut self, size: u64) -> io::Result<()> {
         self.resize(size as usize, 0)?;
+        Ok(())
+    }
+
+    fn sync(&mut self) -> io::Result<()> {
+        Ok(())
+    }
+}
+
+/// A storage that keeps nothing: the journal of a caller that wants no safety from crashes. Its bytes are not known, so
+/// no clause on a crash says anything then.
+#[derive(Clone, Copy, Drop)]
+pub struct NoJournal;
+
+impl Storage for NoJournal {
+    ghost possible = { λ _. tt };
+
+    fn size(&self) -> io::Result<u64> {
+        Ok(0)
+    }
+
+    fn read_at(&self, _at: u64, out: &mut [u8]) -> io::Result<()> {
+        if out.is_empty() {
+            return Ok(());
+        }
+        Err(io::Error::from(ErrorKind::UnexpectedEof))
+    }
+
+    fn write_at(&mut self, _at: u64, _part: &[u8]) -> io::Result<()> {
+        Ok(())
+    }
+
+    fn set_size(&mut self, _size: u64) -> io::Result<()> {
         Ok(())
     }
 

@@ -7,6 +7,7 @@
 mod target;
 
 use aegis_pages::SealedPages;
+use aegis_storage::NoJournal;
 use std::alloc::Global;
 use std::fs::File;
 use std::rt::Runtime;
@@ -14,13 +15,15 @@ use std::time::{Duration, Instant};
 use std::{env, fs, io};
 use target::{Access, Counter, ID, InMemory, KEY, PAGE_BYTES, Target, timed};
 
-// How many bytes are written and read in a turn.
-const TEXT_BYTES: u64 = 1 << 26;
+// How many bytes are written and read in a turn: a power of two of pages.
+const TEXT_BYTES: u64 = 4032 << 14;
 
 const TURNS: u32 = 7;
 
-// The text whose commitment is measured.
+// The text whose commitment is measured, which grows by commits of so many bytes.
 const COMMITTED_BYTES: u64 = 1 << 30;
+
+const STEP_BYTES: usize = 1 << 26;
 
 /// In which order pieces are written and read.
 #[derive(Clone, Copy)]
@@ -44,7 +47,7 @@ impl Order {
 // The orders that are measured, and the bytes of a piece.
 const FORMS: [(Order, usize, &str); 2] = [
     (Order::Sequential, 65_536, "in order, 64 KiB a call"),
-    (Order::Random, 4096, "at random places, 4 KiB a call"),
+    (Order::Random, 4032, "at random places, a page a call"),
 ];
 
 /// The shortest times of writing and reading the text.
@@ -103,8 +106,12 @@ fn new_file(rt: &HostRuntime, path: &str) -> io::Result<File> {
 // Prints a line for the commitment of a longer text.
 fn print_commitment(rt: &HostRuntime, alloc: Global, path: &str) -> anyhow::Result<()> {
     let file = new_file(rt, path)?;
-    let mut pages = SealedPages::create(alloc, file, Counter(0), &KEY, &ID, PAGE_BYTES as u32)?;
-    pages.set_len(COMMITTED_BYTES)?;
+    let size = PAGE_BYTES as u32;
+    let mut pages = SealedPages::create(alloc, file, NoJournal, Counter(0), &KEY, &ID, size)?;
+    for len in (0..=COMMITTED_BYTES).step_by(STEP_BYTES) {
+        pages.set_len(len)?;
+        pages.commit()?;
+    }
     let start = Instant::now(rt)?;
     let commitment = pages.commitment()?;
     let read = speed(COMMITTED_BYTES, start.elapsed(rt)?);
@@ -115,13 +122,20 @@ fn print_commitment(rt: &HostRuntime, alloc: Global, path: &str) -> anyhow::Resu
 
 // Measures in a file at a path.
 fn measure(rt: &HostRuntime, alloc: Global, path: &str) -> anyhow::Result<()> {
+    let journal_path = format!(in alloc; "{path}.journal")?;
     let mut piece = vec![in alloc; 0x5a; 65_536]?;
     for (order, bytes, form) in FORMS {
         let count = bytes.min(piece.len());
         let part = &mut piece[..count];
+        let size = PAGE_BYTES as u32;
         let file = new_file(rt, path)?;
-        let mut pages = SealedPages::create(alloc, file, Counter(0), &KEY, &ID, PAGE_BYTES as u32)?;
+        let journal = new_file(rt, &journal_path)?;
+        let mut pages = SealedPages::create(alloc, file, journal, Counter(0), &KEY, &ID, size)?;
         print_line(rt, "sealed pages", form, best(rt, &mut pages, order, part)?)?;
+        let file = new_file(rt, path)?;
+        let mut pages = SealedPages::create(alloc, file, NoJournal, Counter(0), &KEY, &ID, size)?;
+        let times = best(rt, &mut pages, order, part)?;
+        print_line(rt, "sealed pages with no journal", form, times)?;
         let mut file = new_file(rt, path)?;
         print_line(rt, "a plain file", form, best(rt, &mut file, order, part)?)?;
         let times = best(rt, &mut InMemory, order, part)?;
@@ -129,6 +143,7 @@ fn measure(rt: &HostRuntime, alloc: Global, path: &str) -> anyhow::Result<()> {
     }
     print_commitment(rt, alloc, path)?;
     fs::remove_file(rt, path)?;
+    fs::remove_file(rt, &journal_path)?;
     Ok(())
 }
 
@@ -138,7 +153,8 @@ fn main(rt: HostRuntime) -> anyhow::Result<()> {
     }
     let alloc = rt.alloc();
     let mut piece = [0x5a; 8192];
-    let mut pages = SealedPages::create(alloc, Vec::new(alloc), Counter(0), &KEY, &ID, 4096)?;
+    let (file, journal): (Vec<u8>, Vec<u8>) = (Vec::new(alloc), Vec::new(alloc));
+    let mut pages = SealedPages::create(alloc, file, journal, Counter(0), &KEY, &ID, 4096)?;
     for order in [Order::Sequential, Order::Random] {
         for access in [Access::Write, Access::Read] {
             timed(&rt, &mut pages, access, order, &mut piece, 1 << 16)?;

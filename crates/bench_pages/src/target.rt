@@ -16,7 +16,7 @@ pub const KEY: [u8; 32] = [7; 32];
 pub const ID: [u8; 24] = [9; 24];
 
 /// How many bytes of text a page has.
-pub const PAGE_BYTES: usize = 4096;
+pub const PAGE_BYTES: usize = 4032;
 
 /// Nonces that count up.
 #[derive(Drop)]
@@ -37,9 +37,12 @@ pub trait Target {
     fn write(&mut self, at: u64, piece: &mut [u8]) -> anyhow::Result<()>;
 
     fn read(&mut self, at: u64, piece: &mut [u8]) -> anyhow::Result<()>;
+
+    /// Makes what was written certain.
+    fn finish(&mut self) -> anyhow::Result<()>;
 }
 
-impl<S: Storage + Drop> Target for SealedPages<S, Counter, Global> {
+impl<S: Storage + Drop, J: Storage + Drop> Target for SealedPages<S, J, Counter, Global> {
     fn write(&mut self, at: u64, piece: &mut [u8]) -> anyhow::Result<()> {
         self.write_at(at, piece)?;
         Ok(())
@@ -47,6 +50,11 @@ impl<S: Storage + Drop> Target for SealedPages<S, Counter, Global> {
 
     fn read(&mut self, at: u64, piece: &mut [u8]) -> anyhow::Result<()> {
         self.read_at(at, piece)?;
+        Ok(())
+    }
+
+    fn finish(&mut self) -> anyhow::Result<()> {
+        self.commit()?;
         Ok(())
     }
 }
@@ -58,6 +66,10 @@ impl Target for File {
 
     fn read(&mut self, at: u64, piece: &mut [u8]) -> anyhow::Result<()> {
         Ok(self.read_exact_at(piece, at)?)
+    }
+
+    fn finish(&mut self) -> anyhow::Result<()> {
+        Ok(self.sync_all()?)
     }
 }
 
@@ -79,6 +91,10 @@ impl Target for InMemory {
         }
         Ok(())
     }
+
+    fn finish(&mut self) -> anyhow::Result<()> {
+        Ok(())
+    }
 }
 
 /// What is done with a piece.
@@ -88,7 +104,7 @@ pub enum Access {
     Read,
 }
 
-/// Writes or reads `text_bytes` in pieces, and returns how long it took.
+/// Writes or reads `text_bytes` in pieces, makes what was written certain, and returns how long it took.
 pub fn timed<R: Runtime, T: Target>(
     rt: &R,
     target: &mut T,
@@ -106,6 +122,9 @@ pub fn timed<R: Runtime, T: Target>(
             Access::Write => target.write(at, piece)?,
             Access::Read => target.read(at, piece)?,
         }
+    }
+    if let Access::Write = access {
+        target.finish()?;
     }
     Ok(start.elapsed(rt)?)
 }

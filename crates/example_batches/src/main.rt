@@ -1,25 +1,21 @@
 //! Writes a number to several rows of an encrypted file at once, so that a crash leaves all of them or none.
 //!
-//! `example_batches FILE JOURNAL` recovers the file, and prints the number that its rows hold, or fails if they hold
+//! `example_batches FILE JOURNAL` opens the file, and prints the number that its rows hold, or fails if they hold
 //! several. With `write` as a third argument it then writes the numbers after it, until it is stopped. With no
 //! argument it writes one number in memory.
 #![tactic(auto)]
 
-use aegis_pages::{
-    DEFAULT_PAGE_BYTES, Nonces, SealedPages, commit_batch, open_batch, open_recovered,
-};
+use aegis_pages::{DEFAULT_PAGE_BYTES, Nonces, SealedPages};
 use aegis_storage::Storage;
 use std::alloc::Global;
 use std::fs::File;
 use std::io::Read;
 use std::{env, io};
 
-// A real program reads its keys from where they are kept. The pages and the journal each have their own.
+// A real program reads its key from where it is kept.
 const KEY: [u8; 32] = [7; 32];
 
-const JOURNAL_KEY: [u8; 32] = [8; 32];
-
-// Names the file, for its journal too.
+// Names the file.
 const ID: [u8; 24] = *b"example of several rows.";
 
 // Rows of 8 bytes lie so far apart that each is in a page of its own.
@@ -41,18 +37,30 @@ fn system_random(rt: &HostRuntime) -> io::Result<SystemRandom> {
     Ok(SystemRandom(File::open(rt, "/dev/urandom")?))
 }
 
-// Gives a new file its rows, which hold 0, and closes it.
-fn with_rows<S: Storage + Drop>(
-    mut pages: SealedPages<S, SystemRandom, Global>,
-) -> anyhow::Result<S> {
+// Makes a new file, whose rows hold 0.
+fn create<S: Storage + Drop, J: Storage + Drop>(
+    rt: &HostRuntime,
+    file: S,
+    journal: J,
+) -> anyhow::Result<SealedPages<S, J, SystemRandom, Global>> {
+    let nonces = system_random(rt)?;
+    let mut pages = SealedPages::create(
+        rt.alloc(),
+        file,
+        journal,
+        nonces,
+        &KEY,
+        &ID,
+        DEFAULT_PAGE_BYTES,
+    )?;
     pages.set_len(ROWS * ROW_DISTANCE)?;
-    pages.sync()?;
-    Ok(pages.into_storage())
+    pages.commit()?;
+    Ok(pages)
 }
 
 // Reads the number that all rows hold.
-fn read_rows<S: Storage + Drop, N: Nonces + Drop>(
-    pages: &mut SealedPages<S, N, Global>,
+fn read_rows<S: Storage + Drop, J: Storage + Drop>(
+    pages: &mut SealedPages<S, J, SystemRandom, Global>,
 ) -> anyhow::Result<u64> {
     let mut first = [0; 8];
     pages.read_at(0, &mut first)?;
@@ -67,22 +75,14 @@ fn read_rows<S: Storage + Drop, N: Nonces + Drop>(
 }
 
 // Writes the number after that of the rows to all of them, and returns it.
-fn write_next<S: Storage, J: Storage>(
-    rt: &HostRuntime,
-    storage: &mut S,
-    journal: &mut J,
+fn write_next<S: Storage + Drop, J: Storage + Drop>(
+    pages: &mut SealedPages<S, J, SystemRandom, Global>,
 ) -> anyhow::Result<u64> {
-    let alloc = rt.alloc();
-    let nonces = system_random(rt)?;
-    let mut pages: SealedPages<_, _, _> = open_batch(alloc, &*storage, nonces, &KEY)?;
-    let number = read_rows(&mut pages)?.wrapping_add(1);
+    let number = read_rows(pages)?.wrapping_add(1);
     for row in 0..ROWS {
         pages.write_at(row * ROW_DISTANCE, &number.to_le_bytes())?;
     }
-    let writes = pages.into_writes();
-    let mut prefix = [0; 24];
-    system_random(rt)?.draw(&mut prefix)?;
-    commit_batch(alloc, storage, journal, &JOURNAL_KEY, &prefix, &ID, &writes)?;
+    pages.commit()?;
     Ok(number)
 }
 
@@ -95,52 +95,27 @@ fn open_file(rt: &HostRuntime, path: &str) -> io::Result<File> {
         .open(rt, path)
 }
 
-// Opens the file, with what its journal has of a batch, and makes it if it is empty. Returns the number of its rows.
-fn recovered(rt: &HostRuntime, path: &str, journal: &mut File) -> anyhow::Result<(File, u64)> {
-    let alloc = rt.alloc();
-    let mut file = open_file(rt, path)?;
-    if file.size()? == 0 {
-        let nonces = system_random(rt)?;
-        let pages = SealedPages::create(alloc, file, nonces, &KEY, &ID, DEFAULT_PAGE_BYTES)?;
-        file = with_rows(pages)?;
-    }
-    let nonces = system_random(rt)?;
-    let mut pages: SealedPages<_, _, _> = open_recovered(
-        alloc,
-        file,
-        journal,
-        nonces,
-        &KEY,
-        &JOURNAL_KEY,
-        &ID,
-    )?;
-    let number = read_rows(&mut pages)?;
-    Ok((pages.into_storage(), number))
-}
-
 fn main(rt: HostRuntime) -> anyhow::Result<()> {
     let mut arguments = env::args(&rt)?;
     let (Some(path), Some(journal_path)) = (arguments.nth(1), arguments.nth(0)) else {
-        let (alloc, nonces) = (rt.alloc(), system_random(&rt)?);
-        let pages = SealedPages::create(
-            alloc,
-            Vec::new(alloc),
-            nonces,
-            &KEY,
-            &ID,
-            DEFAULT_PAGE_BYTES,
-        )?;
-        let mut file: Vec<u8> = with_rows(pages)?;
-        let number = write_next(&rt, &mut file, &mut Vec::new(rt.alloc()))?;
+        let (file, journal): (Vec<u8>, Vec<u8>) = (Vec::new(rt.alloc()), Vec::new(rt.alloc()));
+        let mut pages = create(&rt, file, journal)?;
+        let number = write_next(&mut pages)?;
         println!(rt; "all rows hold {number}")?;
         return Ok(());
     };
-    let mut journal = open_file(&rt, &journal_path)?;
-    let (mut file, number) = recovered(&rt, &path, &mut journal)?;
+    let file = open_file(&rt, &path)?;
+    let journal = open_file(&rt, &journal_path)?;
+    let mut pages = if file.size()? == 0 {
+        create(&rt, file, journal)?
+    } else {
+        SealedPages::open(rt.alloc(), file, journal, system_random(&rt)?, &KEY)?
+    };
+    let number = read_rows(&mut pages)?;
     println!(rt; "all rows hold {number}")?;
     if arguments.next().is_some() {
         for _ in 0..u64::MAX {
-            write_next(&rt, &mut file, &mut journal)?;
+            write_next(&mut pages)?;
         }
     }
     Ok(())

@@ -1,5 +1,6 @@
 //! What the tests share.
 
+mod crashes;
 mod damage;
 mod failures;
 mod formats;
@@ -21,6 +22,14 @@ const ID: [u8; 24] = [9; 24];
 /// Nonces that count up.
 #[derive(Drop)]
 struct Counter(u64);
+
+/// Sealed pages in vectors.
+type InVectors = SealedPages<Vec<u8>, Vec<u8>, Counter, Global>;
+
+/// Opens a file with an empty journal.
+fn open(alloc: Global, file: Vec<u8>, key: &[u8; 32]) -> Result<InVectors, PagesError> {
+    SealedPages::open(alloc, file, Vec::new(alloc), Counter(1 << 20), key)
+}
 
 impl Nonces for Counter {
     fn draw(&mut self, nonce: &mut [u8]) -> io::Result<()> {
@@ -50,7 +59,10 @@ fn copy(to: &mut [u8], from: &[u8]) {
 
 /// The file of 1,000 bytes of 5, in pages of 256 bytes.
 fn small_file(alloc: Global) -> Result<Vec<u8>, PagesError> {
-    let mut pages = SealedPages::create(alloc, Vec::new(alloc), Counter(0), &KEY, &ID, 256)?;
+    let (file, journal): (Vec<u8>, Vec<u8>) = (Vec::new(alloc), Vec::new(alloc));
+    let mut pages = SealedPages::create(alloc, file, journal, Counter(0), &KEY, &ID, 256)?;
     pages.write_at(0, &[5; 1000])?;
-    Ok(pages.into_storage())
+    pages.commit()?;
+    let (file, _) = pages.into_storages();
+    Ok(file)
 }

@@ -1,7 +1,6 @@
 -- What a disk of the tests holds.
-use Rattle.std.specs.Prelude.{◌≡◌, ℕ, ◌+◌, ◌≤◌, ◌⊎◌, List, [], ◌∷◌, drop, length, map, take}
-use Rattle.std.proofs.Common.{arith, inl, inr, refl, sym, ap, ◌∙◌}
-use Rattle.std.proofs.lemmas.List.{take_all}
+use Rattle.std.specs.Prelude.{◌≡◌, ℕ, ◌+◌, ◌≤◌, ◌⊎◌, List, [], ◌∷◌, length, map}
+use Rattle.std.proofs.Common.{arith, inl, inr, refl}
 use Rattle.aegis_storage.specs.Disk.{AreParts, Change, Crashed, Disk, IsPartOfOne, IsPossible, applied}
 use Rattle.aegis_storage.specs.Disk as disk
 use Rattle.test_storage.specs.declared.pending.PendingChange.{PendingChange}
@@ -25,7 +24,7 @@ bytes_of test_disk = applied (changes_of test_disk.pending.items) test_disk.sync
 -- ---- a crash may leave all of it
 
 self_part : (change : Change) → disk.IsPart change change
-self_part (disk.Write at bs) = (0, omega arith, omega arith, sym (take_all (length bs) bs (omega arith)))
+self_part (disk.Write at bs) = (0, omega arith, omega arith)
 self_part (disk.Size n) = refl
 
 more_parts : (change : Change) (changes parts : List Change) → AreParts changes parts → AreParts (change ∷ changes) parts

@@ -3,5 +3,6 @@
 
 pub mod disk;
 pub mod pending;
+pub mod tears;
 #[cfg(test)]
 mod tests;

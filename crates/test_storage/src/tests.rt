@@ -1,15 +1,14 @@
 //! What the tests share: batches of writes, and what a crash leaves of them.
 
 mod crashes;
-mod overlays;
 
-use crate::disk::{TestDisk, change};
-use crate::pending::PendingChange;
 use aegis_storage::{PendingWrite, Storage};
 use std::alloc::Global;
 use std::io;
 
 const KEY: [u8; 32] = [7; 32];
+
+const FRONT: [u8; 33] = [5; 33];
 
 const PREFIX: [u8; 24] = [9; 24];
 
@@ -17,9 +16,6 @@ const CONTEXT: [u8; 4] = *b"test";
 
 // More calls than are made.
 const ALL_CALLS: u64 = 1000;
-
-// How many bytes are written at once, or not at all, by a disk that fails.
-const SECTOR_BYTES: usize = 512;
 
 /// A write of equal bytes.
 #[derive(Clone, Copy)]
@@ -137,60 +133,6 @@ fn after(alloc: Global, writes: &[PendingWrite<Global>]) -> io::Result<Vec<u8>> 
     let mut bytes = before(alloc)?;
     for write in writes {
         bytes.write_at(write.place, &write.bytes)?;
-    }
-    Ok(bytes)
-}
-
-// Writes the bytes of a write from `from` up to `to`, if it has them.
-fn write_part(
-    bytes: &mut Vec<u8>,
-    write: &PendingWrite<Global>,
-    from: usize,
-    to: usize,
-) -> io::Result<()> {
-    if from <= to && to <= write.bytes.len() {
-        bytes.write_at(write.place + from as u64, &write.bytes[from..to])?;
-    }
-    Ok(())
-}
-
-// Makes a part of a change: none of it, a front, every other sector, or all.
-fn tear(bytes: &mut Vec<u8>, pending: &PendingChange, part: u32) -> io::Result<()> {
-    let PendingChange::Write(write) = pending else {
-        return if part % 2 == 0 {
-            Ok(())
-        } else {
-            change(bytes, pending)
-        };
-    };
-    let size = write.bytes.len();
-    match part {
-        0 => Ok(()),
-        1 => write_part(bytes, write, 0, size / 2),
-        2 => {
-            write_part(bytes, write, 0, size.min(SECTOR_BYTES))?;
-            write_part(bytes, write, 2 * SECTOR_BYTES, size.min(3 * SECTOR_BYTES))
-        }
-        _ => change(bytes, pending),
-    }
-}
-
-/// What a crash leaves of a disk. Each digit of `parts`, in base 4, is the part of a pending change that is there; they
-/// come in order, from the last one, or from the middle on.
-fn left_of(disk: &TestDisk, parts: u32, order: usize) -> io::Result<Vec<u8>> {
-    let mut bytes = disk.synced.to_vec(disk.alloc)?;
-    let count = disk.pending.len();
-    let mut parts = parts;
-    for turn in 0..count {
-        let index = match order {
-            0 => turn,
-            1 => count - 1 - turn,
-            _ => turn.wrapping_add(count / 2) % count,
-        };
-        if let Some(pending) = disk.pending.get(index) {
-            tear(&mut bytes, pending, parts % 4)?;
-        }
-        parts /= 4;
     }
     Ok(bytes)
 }

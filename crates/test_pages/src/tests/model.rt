@@ -92,7 +92,7 @@ impl Random {
 /// Sealed pages, the text that they are to hold, and room for a part of it.
 #[derive(Drop)]
 struct Pair {
-    pages: SealedPages<Place, Counter, Global>,
+    pages: SealedPages<Place, Vec<u8>, Counter, Global>,
     text: Vec<u8>,
     part: Vec<u8>,
     random: Random,
@@ -110,7 +110,7 @@ impl Pair {
         most: u64,
     ) -> Result<Self, Fail> {
         Ok(Pair {
-            pages: SealedPages::open(alloc, place, Counter(random.0), &KEY)?,
+            pages: SealedPages::open(alloc, place, Vec::new(alloc), Counter(random.0), &KEY)?,
             text,
             part: vec![in alloc; 0; most as usize]?,
             random,
@@ -119,15 +119,17 @@ impl Pair {
     }
 
     // Closes the file. Returns what `open` takes.
-    fn close(self) -> (Place, Vec<u8>, Random) {
+    fn close(self) -> Result<(Place, Vec<u8>, Random), Fail> {
         let Pair {
-            pages,
+            mut pages,
             text,
             part: _,
             random,
             most: _,
         } = self;
-        (pages.into_storage(), text, random)
+        pages.commit()?;
+        let (place, _) = pages.into_storages();
+        Ok((place, text, random))
     }
 
     // Reads at a random place. Returns whether what was read is the text's.
@@ -175,6 +177,8 @@ fn make_calls<R: Abort>(rt: &R, pair: &mut Pair) -> Result<(), Fail> {
             pair.write(300)?;
         } else if kind < 10 {
             pair.set_len()?;
+        } else if kind < 12 {
+            pair.pages.commit()?;
         } else {
             assert!(rt; pair.read()?);
         }
@@ -191,15 +195,16 @@ fn check<R: Abort + AllocGlobal>(
     openings: u32,
 ) -> Result<(), Fail> {
     let alloc = rt.alloc();
-    let pages = SealedPages::create(alloc, place, Counter(0), &KEY, &ID, page_bytes)?;
-    let mut place = pages.into_storage();
+    let journal: Vec<u8> = Vec::new(alloc);
+    let pages = SealedPages::create(alloc, place, journal, Counter(0), &KEY, &ID, page_bytes)?;
+    let (mut place, _) = pages.into_storages();
     let mut text = Vec::new(alloc);
     let mut random = Random(u64::from(page_bytes));
     for _ in 0..openings {
         let most = u64::from(page_bytes) * 9 + 17;
         let mut pair = Pair::open(alloc, place, text, random, most)?;
         make_calls(rt, &mut pair)?;
-        (place, text, random) = pair.close();
+        (place, text, random) = pair.close()?;
     }
     Ok(())
 }

@@ -9,10 +9,12 @@ use std::test::Fail;
 macro_rules! check {
     ($rt:expr, $pages:ident, $key:expr) => {{
         let alloc = $rt.alloc();
-        let mut pages = $pages::create(alloc, Vec::new(alloc), Counter(0), $key, &ID, 300)?;
+        let (file, journal): (Vec<u8>, Vec<u8>) = (Vec::new(alloc), Vec::new(alloc));
+        let mut pages = $pages::create(alloc, file, journal, Counter(0), $key, &ID, 300)?;
         pages.write_at(100, &[5; 900])?;
-        let file: Vec<u8> = pages.into_storage();
-        let mut pages = $pages::open(alloc, file, Counter(9), $key)?;
+        pages.commit()?;
+        let (file, journal) = pages.into_storages();
+        let mut pages = $pages::open(alloc, file, journal, Counter(9), $key)?;
         let mut out = [9; 900];
         assert_eq!($rt; pages.read_at(100, &mut out)?, 900);
         assert!($rt; out == [5; 900]);

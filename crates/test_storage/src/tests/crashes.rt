@@ -1,7 +1,8 @@
 //! A commit and a recovery that are cut at each call.
 
-use super::{ALL_CALLS, BATCHES, CONTEXT, Fill, KEY, PREFIX, after, before, left_of, writes_of};
+use super::{ALL_CALLS, BATCHES, CONTEXT, FRONT, Fill, KEY, PREFIX, after, before, writes_of};
 use crate::disk::TestDisk;
+use crate::tears::left_of;
 use aegis_storage::{commit, recover};
 use std::alloc::Global;
 use std::io;
@@ -126,6 +127,7 @@ fn committed(
         &mut storage,
         &mut journal,
         &KEY,
+        &FRONT,
         &PREFIX,
         &CONTEXT,
         &writes,

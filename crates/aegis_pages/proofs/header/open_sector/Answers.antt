@@ -1,20 +1,10 @@
-use Rattle.std.proofs.Common.{◌≡◌, ◌%◌, ◌∙◌, ℕ, Option, None, Some, is_some, ap, sym}
+use Rattle.std.proofs.Common.{◌∙◌, ap, is_some, sym}
 use Rattle.aegis_pages.proofs.Heading.{sector_opens}
 use Rattle.aegis_pages.proofs.header.open_sector.Goals as goal
 
 pub returns-in_err-counter-clause-found : goal.returns-in_err-counter-clause-found
-returns-in_err-counter-clause-found g c = λ layout counter len variant key turn sector.
+returns-in_err-counter-clause-found g c = λ layout counter len variant key sector.
     let named = c.in_ok-layout.ensures in
     let opens = sector_opens layout c.in_ok-layout.layout counter len c.nonce_bytes.result c.args.sector.now c.split_at_mut-clear.result.0.now c.split_at_mut-clear.result.1.now sector
     (variant ∙ sym named.variant) (key ∙ sym named.key) named.size c.split_at_mut-clear.ensures.front named.clear c.split_at_mut-clear.ensures.back c.nonce_bytes.ensures.value in
     rw c.from_residual-in_err-counter.ensures (ap is_some (c.in_err-counter.ensures.found counter len sector.countable sector.within opens))
-
-pub returns-then-counter-turn-clause-found : goal.returns-then-counter-turn-clause-found
-returns-then-counter-turn-clause-found g c = λ layout counter len variant key turn sector.
-    let named = c.in_ok-layout.ensures in
-    let opens = sector_opens layout c.in_ok-layout.layout counter len c.nonce_bytes.result c.args.sector.now c.split_at_mut-clear.result.0.now c.split_at_mut-clear.result.1.now sector
-    (variant ∙ sym named.variant) (key ∙ sym named.key) named.size c.split_at_mut-clear.ensures.front named.clear c.split_at_mut-clear.ensures.back c.nonce_bytes.ensures.value in
-    let same : Some (c.in_ok-counter.counter, c.in_ok-counter.len) ≡ Some (counter, len) = c.in_ok-counter.ensures.found counter len sector.countable sector.within opens in
-    let first : Option (ℕ × ℕ) → ℕ = elim [ None ↦ 0 | Some p ↦ p.0 ] in
-    let one : c.in_ok-counter.counter ≡ counter = ap first same in
-    absurd (c.if-counter-turn.true (ap (λ (x : ℕ). x % 2) one ∙ turn))

@@ -2,4 +2,4 @@ use Rattle.aegis_pages.proofs.Committing.{has_commitment}
 use Rattle.aegis_pages.proofs.laws.opened_has_its_commitment.Goals as goal
 
 pub returns : goal.returns
-returns c = λ variant key mac bytes file. has_commitment file.layout file.counter file.len variant key mac bytes file.bytes
+returns c variant key mac file count v k header is = has_commitment file.layout file.counter file.stored variant key mac file.bytes count v k header is

@@ -1,11 +1,12 @@
 use Rattle.std.proofs.Common.{◌≡◌, ℕ, ◌+◌, ◌-◌, ◌*◌, ◌<◌, ◌∙◌, IfSome, List, ap, arith, drop, get_or, length, sym, take}
 use Rattle.std.proofs.lemmas.List.{length-drop, length-take}
 use Rattle.aegis_storage.specs.Bytes.{overwritten}
-use Rattle.aegis_pages.specs.Layouts.{box_bytes, page_at}
+use Rattle.aegis_pages.specs.Changed.{text_at}
+use Rattle.aegis_pages.specs.Layouts.{box_bytes}
 use Rattle.aegis_pages.specs.SealedPages.{IsPage}
 use Rattle.aegis_pages.proofs.Composing.{inner_put, lies_so, live_at}
 use Rattle.aegis_pages.proofs.Known.{known_all, known_map}
-use Rattle.aegis_pages.proofs.range.compose.Goals.{then-live-gt0+in_ok-read_page, else-live-gt0}
+use Rattle.aegis_pages.proofs.range.compose.Goals.{then-live-gt0+in_ok-show_page, else-live-gt0}
 use Rattle.aegis_pages.proofs.range.compose.Goals as goal
 
 pub returns-clause-composed : goal.returns-clause-composed
@@ -24,17 +25,17 @@ returns-clause-composed g c =
     let room_at = room ∙ ap (box_bytes layout) (sym value) in
     let said = c.live_bytes-live.ensures in
     let facts : IfSome (g.S.Storage.bytes c.args.storage.now) (λ file. (text : List ℕ) → length text ≡ c.args.len
-    → (c.args.number * c.args.layout.now.page_bytes < c.args.len → IsPage c.args.layout.now c.args.number (page_at c.args.layout.now file c.args.number) text)
+    → (c.args.number * c.args.layout.now.page_bytes < c.args.len → IsPage c.args.layout.now (text_at c.args.changes.now.entries c.args.number) file c.args.number text)
     → (i : ℕ) → i < c.live_bytes-live.result
     → get_or (take ((c.nonce_bytes-nonce_bytes.result + c.page_bytes-page_bytes.result) - c.nonce_bytes-nonce_bytes.result) (drop c.nonce_bytes-nonce_bytes.result c.if-live-gt0.page)) i 0
     ≡ get_or text (c.args.number * c.page_bytes-page_bytes.result + i) 0) =
     elim c.if-live-gt0.branch [
-      | then-live-gt0+in_ok-read_page w ↦
+      | then-live-gt0+in_ok-show_page w ↦
           known_map bytes _ _ (λ file only text is opens i low.
           let some = said.live w.if-live-gt0.true in
           let here : c.args.number * c.args.layout.now.page_bytes < c.args.len = omega (arith, some, low, start) in
-          live_at layout number n p text (page_at layout file number) page i value nonce room (rw (← w.page-is) at only) (opens here)
-          (omega (arith, low, said.within)) (omega (arith, some, low, is))) w.in_ok-read_page.ensures.only
+          live_at layout (text_at c.args.changes.now.entries c.args.number) number n p text file page i value nonce room (rw (← w.page-is) at only) (opens here)
+          (omega (arith, low, said.within)) (omega (arith, some, low, is))) w.in_ok-show_page.ensures.only
       | else-live-gt0 w ↦ known_all bytes _ (λ file text is opens i low. absurd (omega (arith, low, w.if-live-gt0.false)))
     ] in
     let size : length (take ((c.nonce_bytes-nonce_bytes.result + c.page_bytes-page_bytes.result) - c.nonce_bytes-nonce_bytes.result) (drop c.nonce_bytes-nonce_bytes.result c.if-live-gt0.page))

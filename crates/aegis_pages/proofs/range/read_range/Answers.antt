@@ -1,15 +1,16 @@
 use Rattle.std.proofs.Common.{◌≡◌, ◌+◌, ◌-◌, ◌%◌, ◌<◌, ◌≤◌, ◌∙◌, ℕ, ap, arith, drop, length, refl, take}
 use Rattle.std.proofs.lemmas.Nat.{mod_below}
 use Rattle.aegis_storage.specs.Bytes.{overwritten}
+use Rattle.aegis_pages.specs.Changed.{text_at}
 use Rattle.aegis_pages.proofs.Known.{known_map2}
 use Rattle.aegis_pages.proofs.Ranging.{Puts, bytes_more, text_more}
 use Rattle.aegis_pages.proofs.range.read_range.Given.{Over}
 use Rattle.aegis_pages.proofs.range.read_range.Goals as goal
 
-puts : (g : Over) (c : goal.After-slice_known-in-loop-done-2-1 g) → Puts c.args.layout.now c.read_page.new.page c.loop-done.out
+puts : (g : Over) (c : goal.After-slice_known-in-loop-done-2-1 g) → Puts c.args.layout.now c.show_page.new.page c.loop-done.out
     (take (((c.nonce_bytes-nonce_bytes.result + (c.args.at + c.loop-done.done) % c.args.layout.now.page_bytes) + c.min-count.result)
     - (c.nonce_bytes-nonce_bytes.result + (c.args.at + c.loop-done.done) % c.args.layout.now.page_bytes))
-    (drop (c.nonce_bytes-nonce_bytes.result + (c.args.at + c.loop-done.done) % c.args.layout.now.page_bytes) c.read_page.new.page))
+    (drop (c.nonce_bytes-nonce_bytes.result + (c.args.at + c.loop-done.done) % c.args.layout.now.page_bytes) c.show_page.new.page))
     c.put.new.bytes c.args.at c.loop-done.done c.min-count.result
 puts g c =
     let value = c.page_bytes-page_bytes.ensures.value in
@@ -21,11 +22,11 @@ puts g c =
     record {
       nonce = c.nonce_bytes-nonce_bytes.result;
       nonce_is = c.nonce_bytes-nonce_bytes.ensures.value;
-      room = c.read_page.auto.page ∙ c.loop-done.invariant.room ∙ c.requires.room;
+      room = c.show_page.auto.page ∙ c.loop-done.invariant.room ∙ c.requires.room;
       piece_is = refl;
       put = c.put.ensures
           ∙ ap (λ (r : ℕ). overwritten c.loop-done.out c.loop-done.done
-          (take (((c.nonce_bytes-nonce_bytes.result + r) + c.min-count.result) - (c.nonce_bytes-nonce_bytes.result + r)) (drop (c.nonce_bytes-nonce_bytes.result + r) c.read_page.new.page))) rest;
+          (take (((c.nonce_bytes-nonce_bytes.result + r) + c.min-count.result) - (c.nonce_bytes-nonce_bytes.result + r)) (drop (c.nonce_bytes-nonce_bytes.result + r) c.show_page.new.page))) rest;
       within = omega (arith, c.min-count.ensures, low, value, rest);
     }
 
@@ -38,15 +39,15 @@ loop-done-preserved g c =
     let value = c.page_bytes-page_bytes.ensures.value in
     record {
       within = omega (arith, out, longer, count, within);
-      room = c.read_page.auto.page ∙ c.loop-done.invariant.room;
+      room = c.show_page.auto.page ∙ c.loop-done.invariant.room;
       opened = known_map2 (g.S.Storage.bytes c.args.storage.now) _ _ _
-          (λ file before opens. bytes_more c.args.layout.now file c.read_page.new.page c.loop-done.out _ c.put.new.bytes c.args.at c.loop-done.done c.min-count.result (puts g c) before
+          (λ file before opens. bytes_more c.args.layout.now (text_at c.args.changes.now.entries) file c.show_page.new.page c.loop-done.out _ c.put.new.bytes c.args.at c.loop-done.done c.min-count.result (puts g c) before
           (rw value at opens))
-          c.loop-done.invariant.opened c.in_ok-read_page.ensures.opened;
+          c.loop-done.invariant.opened c.in_ok-show_page.ensures.shown;
       read = known_map2 (g.S.Storage.bytes c.args.storage.now) _ _ _
           (λ file before only text are fits.
-          text_more c.args.layout.now file c.read_page.new.page c.loop-done.out _ c.put.new.bytes text c.args.at c.loop-done.done c.min-count.result (puts g c) are
+          text_more c.args.layout.now (text_at c.args.changes.now.entries) file c.show_page.new.page c.loop-done.out _ c.put.new.bytes text c.args.at c.loop-done.done c.min-count.result (puts g c) are
           (before text are (let h : c.args.at + length c.loop-done.out ≤ length text = omega (arith, longer, fits) in h)) (rw value at only)
           (let h : c.args.at + (c.loop-done.done + c.min-count.result) ≤ length text = omega (arith, longer, fits, count, within) in h))
-          c.loop-done.invariant.read c.in_ok-read_page.ensures.only;
+          c.loop-done.invariant.read c.in_ok-show_page.ensures.only;
     }

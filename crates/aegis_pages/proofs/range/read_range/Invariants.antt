@@ -1,4 +1,5 @@
 use Rattle.std.proofs.Common.{◌≡◌, ℕ, ◌+◌, ◌-◌, ◌<◌, ◌≤◌, IfSome, List, get_or, length}
+use Rattle.aegis_pages.specs.Changed.{text_at}
 use Rattle.aegis_pages.specs.SealedPages.{ArePages, IsByte}
 use Rattle.aegis_pages.proofs.range.read_range.Given as goal
 
@@ -7,9 +8,9 @@ invariant-loop-done g l = record {
   within : l.done ≤ length l.out;
   room : length l.page ≡ length l.fn.page;
   opened : IfSome (g.S.Storage.bytes l.fn.storage)
-      (λ file. (i : ℕ) → i < l.done → IsByte l.fn.layout file (l.at + i) (get_or l.out i 0));
+      (λ file. (i : ℕ) → i < l.done → IsByte l.fn.layout (text_at l.fn.changes.entries) file (l.at + i) (get_or l.out i 0));
   read : IfSome (g.S.Storage.bytes l.fn.storage)
-      (λ file. (text : List ℕ) → ArePages l.fn.layout text file → l.at + length l.out ≤ length text
+      (λ file. (text : List ℕ) → ArePages l.fn.layout (text_at l.fn.changes.entries) text file → l.at + length l.out ≤ length text
       → (i : ℕ) → i < l.done → get_or l.out i 0 ≡ get_or text (l.at + i) 0);
 }
 

@@ -43,3 +43,9 @@ returns-clause-at_rest g c =
     let kept = whole_journal c.deref.result.now _ _ _ _ _ (g.met.J.Storage.possible c.args.journal.now) rest.journal_is c.in_ok-write_at.ensures.written c.in_ok-write_at.ensures.pending c.in_ok-sync.ensures.certain in
     record { rests = record { storage_is = c.in_ok-write_and_sync.ensures.certain xs rest.storage_is; journal_is = certainly c.deref.result.now kept } })
     c.empty.ensures.certain
+
+pub returns-in_err-size-clause-recovers : goal.returns-in_err-size-clause-recovers
+returns-in_err-size-clause-recovers g c xs rest = rest_recovers _ _ xs _ _ _ xs (inl refl) rest
+
+pub returns-then-branch-ne0-clause-recovers : goal.returns-then-branch-ne0-clause-recovers
+returns-then-branch-ne0-clause-recovers g c xs rest = rest_recovers _ _ xs _ _ _ xs (inl refl) rest

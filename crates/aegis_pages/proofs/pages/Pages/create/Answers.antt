@@ -1,14 +1,31 @@
-use Rattle.std.proofs.Common.{◌+◌, ◌∙◌, ℕ, ap, arith, subst, sym}
-use Rattle.aegis_aes.specs.Lanes.{IsLaneCount}
-use Rattle.aegis_pages.specs.Layouts.{Layout}
-use Rattle.aegis_pages.proofs.Standing.{created}
+use Rattle.std.proofs.Common.{◌≡◌, ◌+◌, ◌∙◌, ap, arith, rules, ℕ}
+use Rattle.std.proofs.lemmas.Result.{err_from_is_err_and}
+use Rattle.aegis_pages.specs.Layouts.{IsPageSize}
+use Rattle.aegis_pages.specs.OpenFile.{HasText}
+use Rattle.aegis_pages.proofs.Known.{create_begins, known_map}
+use Rattle.aegis_pages.proofs.Standing.{created_has, sealed_empty}
 use Rattle.aegis_pages.proofs.pages.Pages.create.Goals as goal
 
-pub returns-clause-created : goal.returns-clause-created
-returns-clause-created g c =
-    let count = subst (λ (l : Layout). IsLaneCount l.variant.lanes) (sym c.new-layout.ensures) g.met.L.LaneState.one_two_or_four in
-    created c.new-layout.result _ _ _ _ count c.in-Ok-set_size.ensures.resized c.in_ok-write_header.ensures.written c.in_ok-write_header-2.ensures.written
+pub returns-in_err-begin_journal-clause-refused : goal.returns-in_err-begin_journal-clause-refused
+returns-in_err-begin_journal-clause-refused g c =
+    let p = err_from_is_err_and c.from_residual.result c.from_residual.ensures.1 in
+    let size : IsPageSize c.args.page_bytes = search rules in
+    rw (p.1, p.2) (create_begins c.args.page_bytes size _ c.in_err-begin_journal.ensures.refused)
 
 pub invariant_of-result : goal.invariant_of-result
 invariant_of-result g c =
-    rw c.new-layout.ensures (c.in-Ok.ensures ∙ ap (λ (k : ℕ). c.args.page_bytes + (k + 32)) c.requires, omega arith, g.met.L.LaneState.one_two_or_four)
+    rw c.new-layout.ensures
+    (c.in-Ok.ensures ∙ ap (λ (k : ℕ). c.args.page_bytes + (k + 32)) c.requires, c.new.ensures.size, omega arith, omega arith, g.met.L.LaneState.one_two_or_four)
+
+pub returns-clause-created : goal.returns-clause-created
+unfolding HasText
+returns-clause-created g c =
+    known_map (g.S.Storage.bytes c.args.storage) _ _ (λ xs known. created_has c.new-layout.result c.new.result.entries _ c.new.ensures.none known) c.in_ok-begin_file.ensures.known
+
+pub returns-clause-certain : goal.returns-clause-certain
+returns-clause-certain g c disk journal_disk storage_is journal_is =
+    let begun = c.in_ok-begin_file.ensures.certain disk storage_is in record {
+      bytes = begun.bytes;
+      rests = record { storage_is = begun.is; journal_is = c.in_ok-begin_journal.ensures.certain journal_disk journal_is };
+      is = sealed_empty c.new-layout.result begun.bytes begun.so;
+    }

@@ -1,18 +1,38 @@
-use Rattle.std.proofs.Common.{◌+◌, ◌∙◌, IfSome, List, ℕ, ap, subst, sym}
+use Rattle.std.proofs.Common.{◌≡◌, ◌+◌, ◌∙◌, false, IfSome, List, ap, subst, sym, ℕ}
 use Rattle.aegis_pages.specs.Layouts.{Layout}
+use Rattle.aegis_pages.specs.OpenFile.{HasIn, HasText, OpensAtOne}
 use Rattle.aegis_pages.specs.Reading.{layout_of}
-use Rattle.aegis_pages.specs.SealedPages.{Holds, Stands}
-use Rattle.aegis_pages.proofs.Standing.{opens_text}
+use Rattle.aegis_pages.specs.SealedPages.{Holds}
+use Rattle.aegis_pages.proofs.Recovering.{opens_at_one, opens_held}
 use Rattle.aegis_pages.proofs.pages.Pages.open.Goals as goal
 
 pub invariant_of-result : goal.invariant_of-result
 invariant_of-result g c =
     rw c.new-layout.ensures
-    (c.in-Ok.ensures ∙ ap (λ (k : ℕ). c.in_ok-header.header.page_bytes + (k + 32)) c.requires, c.in_ok-header.ensures.within, g.met.L.LaneState.one_two_or_four)
+    (c.in-Ok.ensures ∙ ap (λ (k : ℕ). c.in_ok-header.header.page_bytes + (k + 32)) c.requires, c.new.ensures.size, c.in_ok-header.ensures.sound.1, c.in_ok-header.ensures.sound.1, g.met.L.LaneState.one_two_or_four)
 
 pub returns-clause-holds : goal.returns-clause-holds
-returns-clause-holds g c =
+unfolding HasText
+returns-clause-holds g c empty =
     let header = c.in_ok-header.header in
     subst (λ (l : Layout). IfSome (g.S.Storage.bytes c.args.storage) (λ file. (text : List ℕ) → Holds g.L.LaneState.VARIANT c.args.key.now text file
-    → Stands l c.in_ok-header.header.counter c.in_ok-header.header.len (g.S.Storage.bytes c.args.storage) text)) (sym c.new-layout.ensures)
-    (opens_text (layout_of g.L.LaneState.VARIANT c.args.key.now c.in_ok-header.header) header.counter header.len _ g.met.L.LaneState.one_two_or_four c.in_ok-header.ensures.newest)
+    → HasIn l c.in_ok-header.header.counter c.in_ok-header.header.len c.in_ok-header.header.len c.new.result.entries false text (g.S.Storage.bytes c.recover_file.new.storage))) (sym c.new-layout.ensures)
+    (opens_held (layout_of g.L.LaneState.VARIANT c.args.key.now header) header.counter header.len c.new.result.entries _ _ g.met.L.LaneState.one_two_or_four c.new.ensures.none
+    c.in_ok-header.ensures.header (c.in_ok-header.ensures.kept empty))
+
+pub returns-clause-recovered : goal.returns-clause-recovered
+returns-clause-recovered g c before now batch honest =
+    let header = c.in_ok-header.header in
+    subst (λ (l : Layout). OpensAtOne (record {
+      layout = l;
+      counter = c.in_ok-header.header.counter;
+      stored = c.in_ok-header.header.len;
+      len = c.in_ok-header.header.len;
+      changes = c.new.result.entries;
+      bytes = g.S.Storage.bytes c.recover_file.new.storage;
+      disk = g.S.Storage.disk c.recover_file.new.storage;
+      journal = g.J.Storage.disk c.recover_file.new.journal;
+      broken = false;
+    }) before now) (sym c.new-layout.ensures)
+    (opens_at_one (layout_of g.L.LaneState.VARIANT c.args.key.now header) header.counter header.len c.new.result.entries _ _ _ before now g.met.L.LaneState.one_two_or_four c.new.ensures.none
+    c.in_ok-header.ensures.header (g.met.S.Storage.possible c.recover_file.new.storage) (c.in_ok-header.ensures.rests before now batch honest))

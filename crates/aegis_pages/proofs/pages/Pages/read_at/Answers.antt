@@ -1,15 +1,18 @@
-use Rattle.std.proofs.Common.{◌≡◌, ◌+◌, ◌<◌, ◌≤◌, ◌∙◌, ℕ, List, ◌++◌, ap, arith, drop, length, refl, subst, sym, take}
+use Rattle.std.proofs.Common.{◌≡◌, ◌+◌, ◌<◌, ◌≤◌, ◌∙◌, ℕ, List, ◌++◌, ap, arith, drop, false, length, refl, subst, sym, take}
 use Rattle.std.proofs.lemmas.List.{get_or_append_left, length-append, length-drop, length-take, take_all, take_at}
 use Rattle.aegis_storage.specs.Bytes.{overwritten, part_at}
-use Rattle.aegis_pages.specs.SealedPages.{IsByte, Stands}
-use Rattle.aegis_pages.proofs.Known.{keeps_same, known_map, refusal_within}
-use Rattle.aegis_pages.proofs.Standing.{read_so, stands_len, stands_use, written_none, written_read}
+use Rattle.aegis_pages.specs.Changed.{text_at}
+use Rattle.aegis_pages.specs.OpenFile.{HasIn, HasText}
+use Rattle.aegis_pages.specs.SealedPages.{IsByte}
+use Rattle.aegis_pages.proofs.Known.{known_all, known_map, read_within}
+use Rattle.aegis_pages.proofs.Standing.{has_len, has_use, read_so, written_none, written_read}
 use Rattle.aegis_pages.proofs.pages.Pages.read_at.Given.{Over}
 use Rattle.aegis_pages.proofs.pages.Pages.read_at.Goals as goal
 
 pub returns-then-at-self-clause-written : goal.returns-then-at-self-clause-written
+unfolding HasText
 returns-then-at-self-clause-written g c = rw (← c.self.view_is) (λ text part same stands.
-    written_none text part c.args.out.now c.args.at c.self.inside.len (stands_len _ _ _ _ _ stands) same c.if-at-self.true)
+    written_none text part c.args.out.now c.args.at c.self.inside.len (has_len _ _ _ _ _ _ _ _ stands) same c.if-at-self.true)
 
 pub invariant_of-self : goal.invariant_of-self
 invariant_of-self g c =
@@ -20,11 +23,11 @@ invariant_of-self g c =
     let long : length (take c.self.inside.page.bytes.len (c.read_range-read.new.page ++ drop (length c.read_range-read.new.page) c.self.inside.page.bytes.items))
     ≡ length c.self.inside.page.bytes.items =
     omega (arith, same, all, length-take c.self.inside.page.bytes.len (new ++ drop (length new) items), length-append new (drop (length new) items), length-drop (length new) items) in
-    (long ∙ c.self.invariant.0, c.self.invariant.1, c.self.invariant.2)
+    (long ∙ c.self.invariant.0, c.self.invariant.1, c.self.invariant.2, c.self.invariant.3, c.self.invariant.4)
 
 pub returns-in-Err-clause-unchanged : goal.returns-in-Err-clause-unchanged
 returns-in-Err-clause-unchanged g c = rw (← c.self.view_is)
-    (record { layout = refl; counter = refl; len = refl; bytes = keeps_same (g.S.Storage.bytes c.self.inside.storage); below = refl })
+    (record { is = refl })
 
 pub returns-in-Err-clause-refused : goal.returns-in-Err-clause-refused
 returns-in-Err-clause-refused g c =
@@ -32,7 +35,7 @@ returns-in-Err-clause-refused g c =
     let low = c.if-at-self.false in
     let within : c.args.at + length (take c.min-count.result c.args.out.now) ≤ c.self.inside.len = omega (arith, count, low, length-take c.min-count.result c.args.out.now) in
     rw (← c.self.view_is)
-    (refusal_within c.self.inside.layout (c.args.at + length (take c.min-count.result c.args.out.now)) c.self.inside.len _ c.in-Err.error within c.in-Err.ensures.refused)
+    (rw c.if-self.false (read_within c.self.inside.layout (text_at c.self.inside.changes.entries) (c.args.at + length (take c.min-count.result c.args.out.now)) c.self.inside.len _ within false c.in-Err.error c.in-Err.ensures.refused))
 
 pub invariant_of-self-2 : goal.invariant_of-self-2
 invariant_of-self-2 g c =
@@ -43,9 +46,9 @@ invariant_of-self-2 g c =
     let long : length (take c.self.inside.page.bytes.len (c.read_range-read.new.page ++ drop (length c.read_range-read.new.page) c.self.inside.page.bytes.items))
     ≡ length c.self.inside.page.bytes.items =
     omega (arith, same, all, length-take c.self.inside.page.bytes.len (new ++ drop (length new) items), length-append new (drop (length new) items), length-drop (length new) items) in
-    (long ∙ c.self.invariant.0, c.self.invariant.1, c.self.invariant.2)
+    (long ∙ c.self.invariant.0, c.self.invariant.1, c.self.invariant.2, c.self.invariant.3, c.self.invariant.4)
 
-reads : (g : Over) (c : goal.In_default g) (text : List ℕ) → Stands c.self.inside.layout c.self.inside.counter c.self.inside.len (g.S.Storage.bytes c.self.inside.storage) text
+reads : (g : Over) (c : goal.In_default g) (text : List ℕ) → HasIn c.self.inside.layout c.self.inside.counter c.self.inside.stored c.self.inside.len c.self.inside.changes.entries c.self.inside.is_broken text (g.S.Storage.bytes c.self.inside.storage)
     → take c.min-count.result (c.read_range-read.new.out ++ drop c.min-count.result c.args.out.now) ≡ part_at text c.args.at c.min-count.result
 reads g c text stands =
     let count = c.min-count.result in
@@ -53,10 +56,10 @@ reads g c text stands =
     let at = c.args.at in
     let low = c.if-at-self.false in
     let size : length c.read_range-read.new.out ≡ c.min-count.result = omega (arith, c.read_range-read.auto.out, c.min-count.ensures, length-take count c.args.out.now) in
-    let s = stands_use _ _ _ _ text _ c.in_default.ensures.read stands in
-    let within : c.args.at + length c.read_range-read.new.out ≤ length text = omega (arith, s.2, size, low, c.min-count.ensures) in
+    let s = has_use _ _ _ _ _ _ text _ _ c.in_default.ensures.read stands in
+    let within : c.args.at + length c.read_range-read.new.out ≤ length text = omega (arith, s.2.size, size, low, c.min-count.ensures) in
     take_at out (drop count c.args.out.now) count size
-    ∙ read_so text out at within (s.1 text s.3.pages within)
+    ∙ read_so text out at within (s.1 text s.2.pages within)
     ∙ ap (part_at text at) size
 
 all_long : (g : Over) (c : goal.In_default g) → length (c.read_range-read.new.out ++ drop c.min-count.result c.args.out.now) ≡ length c.args.out.now
@@ -70,6 +73,7 @@ all_long g c = omega (
 )
 
 pub returns-clause-read : goal.returns-clause-read
+unfolding HasText
 returns-clause-read g c =
     let count = c.min-count.ensures in
     let out = c.read_range-read.new.out in
@@ -79,11 +83,12 @@ returns-clause-read g c =
       count = omega (arith, count);
       opened = known_map (g.S.Storage.bytes c.self.inside.storage) _ _ (λ bytes opened i low.
           let near : i < length c.read_range-read.new.out = omega (arith, low, size) in
-          subst (IsByte c.self.inside.layout bytes (c.args.at + i)) (sym (get_or_append_left out rest 0 i near)) (opened i near)) c.in_default.ensures.opened;
+          subst (IsByte c.self.inside.layout (text_at c.self.inside.changes.entries) bytes (c.args.at + i)) (sym (get_or_append_left out rest 0 i near)) (opened i near)) c.in_default.ensures.opened;
       text = λ text stands. reads g c text stands;
     })
 
 pub returns-clause-whole : goal.returns-clause-whole
+unfolding HasText
 returns-clause-whole g c = rw (← c.self.view_is) (λ text stands within.
     let low = c.if-at-self.false in
     let count : c.min-count.result ≡ length c.args.out.now = omega (arith, c.min-count.ensures, low, within) in
@@ -91,13 +96,21 @@ returns-clause-whole g c = rw (← c.self.view_is) (λ text stands within.
     ∙ reads g c text stands ∙ ap (part_at text c.args.at) count)
 
 pub returns-clause-written : goal.returns-clause-written
+unfolding HasText
 returns-clause-written g c = rw (← c.self.view_is) (λ text part same stands.
     let low = c.if-at-self.false in
     let count = c.min-count.ensures in
     let size = all_long g c in
     written_read text part (c.read_range-read.new.out ++ drop c.min-count.result c.args.out.now) c.args.at c.self.inside.len c.min-count.result
-    (stands_len _ _ _ _ _ stands) (same ∙ sym size) (omega (arith, count, size)) (reads g c (overwritten text c.args.at part) stands))
+    (has_len _ _ _ _ _ _ _ _ stands) (same ∙ sym size) (omega (arith, count, size)) (reads g c (overwritten text c.args.at part) stands))
 
 pub returns-clause-unchanged : goal.returns-clause-unchanged
 returns-clause-unchanged g c = rw (← c.self.view_is)
-    (record { layout = refl; counter = refl; len = refl; bytes = keeps_same (g.S.Storage.bytes c.self.inside.storage); below = refl })
+    (record { is = refl })
+
+pub returns-then-at-self-clause-read : goal.returns-then-at-self-clause-read
+returns-then-at-self-clause-read g c = rw (← c.self.view_is) (record {
+  count = let past = c.if-at-self.true in omega (arith, past);
+  opened = known_all (g.S.Storage.bytes c.self.inside.storage) _ (λ bytes i low. absurd (omega (arith, low)));
+  text = λ text stands. refl;
+})

@@ -1,54 +1,37 @@
-use Rattle.std.proofs.Common.{◌≡◌, ◌≤◌, ◌∙◌, List, ℕ, ap, arith, length, min, subst}
-use Rattle.aegis_pages.specs.OpenFile.{HasText, IsBatch, OpenFile}
-use Rattle.aegis_pages.proofs.Standing.{front_header, front_others, front_torn, grown, ok_map, shrunk_next, stands_len, stays_same, stays_torn, stays_written}
+use Rattle.std.proofs.Common.{◌≡◌, ◌≤◌, ◌+◌, ◌∙◌, ℕ, IfErr, ap, arith, if◌then◌else◌, is_ok, length, max, min, subst}
+use Rattle.aegis_pages.specs.Changed.{text_at}
+use Rattle.aegis_pages.specs.Errors.{IsWriteRefusal}
+use Rattle.aegis_pages.specs.SealedPages.{KeepsOthers}
+use Rattle.aegis_pages.specs.OpenFile.{HasText, OpenFile}
+use Rattle.aegis_pages.proofs.Standing.{cut, grown, has_len, ok_map}
 use Rattle.aegis_pages.proofs.pages.Pages.set_len.Goals as goal
 
 pub returns-then-len-self-clause-resized : goal.returns-then-len-self-clause-resized
+unfolding HasText
 returns-then-len-self-clause-resized g c =
     let told : c.self.inside.len ≡ c.args.self.now.len = ap (λ (f : OpenFile). f.len) c.self.view_is in
-    ok_map c.write_at.result (λ written text stands.
+    ok_map c.write_at.result (λ written text has.
     subst (HasText c.write_at.new.self)
-    (grown text c.args.len (let h : length text ≤ c.args.len = omega (arith, c.if-len-self.true, told, stands_len _ _ _ _ text stands) in h)) (written text stands)) c.write_at.ensures.written
-
-pub returns-then-len-self-clause-others : goal.returns-then-len-self-clause-others
-returns-then-len-self-clause-others g c = front_others c.args.self.now.layout _ _ _ _ c.write_at.ensures.others
-
-pub returns-in_err-write_header-clause-others : goal.returns-in_err-write_header-clause-others
-returns-in_err-write_header-clause-others g c =
-    rw (← c.self.view_is) (front_torn c.self.inside.layout c.in_ok-counter.counter (min c.args.len c.self.inside.len) _ _ c.in_err-write_header.ensures.torn)
-
-pub returns-in_err-write_header-clause-header : goal.returns-in_err-write_header-clause-header
-returns-in_err-write_header-clause-header g c = rw (← c.self.view_is)
-    (stays_torn _ _ _ _ _ _ _ c.in_ok-counter.ensures.counter (stays_same _ _ _ _) c.in_err-write_header.ensures.torn)
+    (grown text c.args.len (let h : length text ≤ c.args.len = omega (arith, c.if-len-self.true, told, has_len _ _ _ _ _ _ _ _ has) in h)) (written text has)) c.write_at.ensures.written
 
 pub returns-clause-resized : goal.returns-clause-resized
-returns-clause-resized g c = rw (← c.self.view_is) (λ text stands.
-    shrunk_next c.self.inside.layout c.self.inside.counter c.in_ok-counter.counter c.self.inside.len c.args.len _ _ text c.in_ok-counter.ensures.counter c.self.invariant.2
-    c.in_ok-write_header.ensures.written c.if-len-self.false stands)
+unfolding HasText
+returns-clause-resized g c = rw (← c.self.view_is) (λ text has. cut _ _ _ _ _ _ _ text _ c.if-len-self.false has)
 
-pub returns-clause-others : goal.returns-clause-others
-returns-clause-others g c = rw (← c.self.view_is)
-    (front_header c.self.inside.layout c.in_ok-counter.counter c.args.len (min c.args.len c.self.inside.len) _ _ c.in_ok-write_header.ensures.written)
-
-pub returns-clause-header : goal.returns-clause-header
-returns-clause-header g c = rw (← c.self.view_is)
-    (stays_written c.self.inside.layout c.self.inside.counter c.in_ok-counter.counter c.self.inside.len c.args.len _ _ _ c.in_ok-counter.ensures.counter (stays_same _ _ _ _)
-    c.in_ok-write_header.ensures.written)
-
-pub returns-then-len-self-clause-batch : goal.returns-then-len-self-clause-batch
-unfolding IsBatch
-returns-then-len-self-clause-batch g c =
+pub returns-then-len-self-clause-len : goal.returns-then-len-self-clause-len
+returns-then-len-self-clause-len g c =
     let told : c.self.inside.len ≡ c.args.self.now.len = ap (λ (f : OpenFile). f.len) c.self.view_is in
-    ok_map c.write_at.result (λ written variant key text file is.
-    subst (λ (t : List ℕ). IsBatch c.write_at.new.self variant key t file)
-    (grown text c.args.len (let h : length text ≤ c.args.len = omega (arith, c.if-len-self.true, told, stands_len _ _ _ _ text is.text_is) in h)) (written variant key text file is)) c.write_at.ensures.batch
+    let most : max c.args.self.now.len (c.args.len + 0) ≡ c.args.len = omega (arith, told, c.if-len-self.true) in
+    c.write_at.ensures.len ∙ ap (λ (n : ℕ). if is_ok c.write_at.result then n else c.args.self.now.len) most
 
-pub returns-clause-batch : goal.returns-clause-batch
-unfolding IsBatch
-returns-clause-batch g c = rw (← c.self.view_is) (λ variant key text file is. record {
-  variant_is = is.variant_is;
-  key_is = is.key_is;
-  text_is = shrunk_next c.self.inside.layout c.self.inside.counter c.in_ok-counter.counter c.self.inside.len c.args.len _ _ text c.in_ok-counter.ensures.counter c.self.invariant.2
-      c.in_ok-write_header.ensures.written c.if-len-self.false is.text_is;
-  below_is = c.in_ok-write_header.ensures.below ∙ is.below_is;
-})
+pub returns-then-len-self-clause-others : goal.returns-then-len-self-clause-others
+returns-then-len-self-clause-others g c =
+    let same : c.args.len + 0 ≡ c.args.len = omega arith in
+    subst (λ (n : ℕ). KeepsOthers c.args.self.now.layout.page_bytes (min c.args.len c.args.self.now.len) n (text_at c.args.self.now.changes) (text_at c.write_at.new.self.changes)) same
+    c.write_at.ensures.others
+
+pub returns-then-len-self-clause-refused : goal.returns-then-len-self-clause-refused
+returns-then-len-self-clause-refused g c =
+    let same : c.args.len + 0 ≡ c.args.len = omega arith in
+    subst (λ (n : ℕ). IfErr c.write_at.result (IsWriteRefusal c.args.self.now.broken c.args.self.now.layout (text_at c.args.self.now.changes) c.args.self.now.len n c.args.self.now.bytes)) same
+    c.write_at.ensures.refused

@@ -1,55 +1,45 @@
-use Rattle.std.proofs.Common.{◌∙◌}
-use Rattle.aegis_pages.specs.OpenFile.{IsBatch}
-use Rattle.aegis_pages.proofs.Standing.{more_others, only_others, stays_kept, stays_torn, stays_written, torn_header, wrote_next, wrote_within}
+use Rattle.std.proofs.Common.{◌≡◌, ◌+◌, ◌≤◌, ◌++◌, ◌∙◌, ap, arith, drop, false, length, max, take}
+use Rattle.std.proofs.lemmas.List.{length-append, length-drop, length-take}
+use Rattle.std.proofs.lemmas.Result.{err_from_is_err_and}
+use Rattle.aegis_pages.specs.OpenFile.{HasText}
+use Rattle.aegis_pages.proofs.Standing.{wrote}
 use Rattle.aegis_pages.proofs.pages.Pages.write_at.Goals as goal
 
-pub returns-in_err-write_range-clause-header : goal.returns-in_err-write_range-clause-header
-returns-in_err-write_range-clause-header g c = rw (← c.self.view_is) (stays_kept _ _ _ _ _ _ _ c.in_err-write_range.ensures.others)
+pub invariant_of-self : goal.invariant_of-self
+invariant_of-self g c =
+    let new = c.change_range.new.page in
+    let items = c.self.inside.page.bytes.items in
+    let same : length c.change_range.new.page ≡ length c.self.inside.page.bytes.items = c.change_range.auto.page ∙ ap length c.deref_mut.ensures.value in
+    let all = c.self.inside.page.bytes.ok.0 in
+    let long : length (take c.self.inside.page.bytes.len (c.change_range.new.page ++ drop (length c.change_range.new.page) c.self.inside.page.bytes.items))
+    ≡ length c.self.inside.page.bytes.items =
+    omega (arith, same, all, length-take c.self.inside.page.bytes.len (new ++ drop (length new) items), length-append new (drop (length new) items), length-drop (length new) items) in
+    (long ∙ c.self.invariant.0, c.change_range.ensures.size ∙ c.self.invariant.1, c.self.invariant.2, c.self.invariant.3, c.self.invariant.4)
 
-pub returns-in_err-write_header-clause-others : goal.returns-in_err-write_header-clause-others
-returns-in_err-write_header-clause-others g c = rw (← c.self.view_is) (torn_header _ _ _ _ _ _ _ c.in_ok-write_range.ensures.others c.in_err-write_header.ensures.torn)
+pub returns-in_err-change_range-clause-others : goal.returns-in_err-change_range-clause-others
+returns-in_err-change_range-clause-others g c = rw (← c.self.view_is) c.change_range.ensures.others
 
-pub returns-in_err-write_header-clause-header : goal.returns-in_err-write_header-clause-header
-returns-in_err-write_header-clause-header g c = rw (← c.self.view_is)
-    (stays_torn _ _ _ _ _ _ _ (c.in_ok-counter.ensures.counter c.if-end-self.true) (stays_kept _ _ _ _ _ _ _ c.in_ok-write_range.ensures.others) c.in_err-write_header.ensures.torn)
+pub returns-in_err-change_range-clause-refused : goal.returns-in_err-change_range-clause-refused
+returns-in_err-change_range-clause-refused g c =
+    let p = err_from_is_err_and c.from_residual.result c.from_residual.ensures.1 in
+    rw (← c.self.view_is) (rw (p.1, p.2) (rw c.if-self.false c.in_err-change_range.ensures.refused))
 
-pub returns-in_ok-write_header-clause-written : goal.returns-in_ok-write_header-clause-written
-returns-in_ok-write_header-clause-written g c = rw (← c.self.view_is) (λ text stands.
-    wrote_next _ _ _ _ _ _ _ _ _ _ _ text (c.in_ok-counter.ensures.counter c.if-end-self.true) c.self.invariant.2 c.in_ok-write_range.ensures.written c.in_ok-write_range.ensures.others
-    c.in_ok-write_header.ensures.written c.if-end-self.true stands)
+pub invariant_of-self-2 : goal.invariant_of-self-2
+invariant_of-self-2 g c =
+    let new = c.change_range.new.page in
+    let items = c.self.inside.page.bytes.items in
+    let same : length c.change_range.new.page ≡ length c.self.inside.page.bytes.items = c.change_range.auto.page ∙ ap length c.deref_mut.ensures.value in
+    let all = c.self.inside.page.bytes.ok.0 in
+    let long : length (take c.self.inside.page.bytes.len (c.change_range.new.page ++ drop (length c.change_range.new.page) c.self.inside.page.bytes.items))
+    ≡ length c.self.inside.page.bytes.items =
+    omega (arith, same, all, length-take c.self.inside.page.bytes.len (new ++ drop (length new) items), length-append new (drop (length new) items), length-drop (length new) items) in
+    let most = c.self.invariant.2 in
+    let end = c.max-self-inside.ensures in
+    (long ∙ c.self.invariant.0, c.change_range.ensures.size ∙ c.self.invariant.1, omega (arith, most, end), c.self.invariant.3, c.self.invariant.4)
 
-pub returns-in_ok-write_header-clause-others : goal.returns-in_ok-write_header-clause-others
-returns-in_ok-write_header-clause-others g c = rw (← c.self.view_is) (more_others _ _ _ _ _ _ _ _ c.in_ok-write_range.ensures.others c.in_ok-write_header.ensures.written)
+pub returns-clause-others : goal.returns-clause-others
+returns-clause-others g c = rw (← c.self.view_is) c.change_range.ensures.others
 
-pub returns-in_ok-write_header-clause-header : goal.returns-in_ok-write_header-clause-header
-returns-in_ok-write_header-clause-header g c = rw (← c.self.view_is)
-    (stays_written _ _ _ _ _ _ _ _ (c.in_ok-counter.ensures.counter c.if-end-self.true) (stays_kept _ _ _ _ _ _ _ c.in_ok-write_range.ensures.others) c.in_ok-write_header.ensures.written)
-
-pub returns-else-end-self-clause-written : goal.returns-else-end-self-clause-written
-returns-else-end-self-clause-written g c = rw (← c.self.view_is) (λ text stands.
-    wrote_within _ _ _ _ _ _ _ _ _ text c.in_ok-write_range.ensures.written c.in_ok-write_range.ensures.others c.if-end-self.false stands)
-
-pub returns-else-end-self-clause-others : goal.returns-else-end-self-clause-others
-returns-else-end-self-clause-others g c = rw (← c.self.view_is) (only_others _ _ _ _ _ c.in_ok-write_range.ensures.others)
-
-pub returns-else-end-self-clause-header : goal.returns-else-end-self-clause-header
-returns-else-end-self-clause-header g c = rw (← c.self.view_is) (stays_kept _ _ _ _ _ _ _ c.in_ok-write_range.ensures.others)
-
-pub returns-in_ok-write_header-clause-batch : goal.returns-in_ok-write_header-clause-batch
-unfolding IsBatch
-returns-in_ok-write_header-clause-batch g c = rw (← c.self.view_is) (λ variant key text file is. record {
-  variant_is = is.variant_is;
-  key_is = is.key_is;
-  text_is = wrote_next _ _ _ _ _ _ _ _ _ _ _ text (c.in_ok-counter.ensures.counter c.if-end-self.true) c.self.invariant.2 c.in_ok-write_range.ensures.written c.in_ok-write_range.ensures.others
-      c.in_ok-write_header.ensures.written c.if-end-self.true is.text_is;
-  below_is = c.in_ok-write_header.ensures.below ∙ c.in_ok-write_range.ensures.below ∙ is.below_is;
-})
-
-pub returns-else-end-self-clause-batch : goal.returns-else-end-self-clause-batch
-unfolding IsBatch
-returns-else-end-self-clause-batch g c = rw (← c.self.view_is) (λ variant key text file is. record {
-  variant_is = is.variant_is;
-  key_is = is.key_is;
-  text_is = wrote_within _ _ _ _ _ _ _ _ _ text c.in_ok-write_range.ensures.written c.in_ok-write_range.ensures.others c.if-end-self.false is.text_is;
-  below_is = c.in_ok-write_range.ensures.below ∙ is.below_is;
-})
+pub returns-clause-written : goal.returns-clause-written
+unfolding HasText
+returns-clause-written g c = rw (← c.self.view_is) (λ text has. wrote _ _ _ _ _ _ _ _ _ _ text _ c.max-self-inside.ensures c.in_ok-change_range.ensures.written has)

@@ -1,0 +1,211 @@
+-- The text of a file after a commit that was cut short.
+use Rattle.std.proofs.Common.{◌≡◌, ℕ, ◌⊎◌, inl, inr, Bool, false, List, [], ◌∷◌, Option, None, Some, IfNone, IfSome, IsSome, drop, length, take, refl, sym, ap, subst, ◌∙◌, ◌≤◌, arith}
+use Rattle.std.proofs.lemmas.List.{take-take}
+use Rattle.aegis_aes.specs.Lanes.{IsLaneCount}
+use Rattle.aegis_base.specs.Variant.{Variant, key_length}
+use Rattle.aegis_storage.specs.Bytes.{part_at}
+use Rattle.aegis_storage.specs.Disk.{Disk, IsPossible, Writes, WritesAll, written}
+use Rattle.aegis_storage.specs.Journal.{IsAtRest, IsJournal, IsNoForgery, IsOneOf, Recovers, RecoversKnown, RestsAtEither}
+use Rattle.aegis_storage.proofs.Disks.{readable_certain}
+use Rattle.aegis_storage.proofs.Journals.{empty_is_none, one_journal, rest_recovers}
+use Rattle.aegis_pages.specs.Changed.{Texts, text_at}
+use Rattle.aegis_pages.specs.Commits.{Fits, IsOfCommit, KnownSame, RecoversText, RestsAtText, head_bytes, journal_key}
+use Rattle.aegis_pages.specs.Errors.{HasNoHeader}
+use Rattle.aegis_pages.specs.Headers.{IsHeader}
+use Rattle.aegis_pages.specs.History.{AreCommits, Step, last_of}
+use Rattle.aegis_pages.specs.Layouts.{Layout}
+use Rattle.aegis_pages.specs.Reading.{layout_of}
+use Rattle.aegis_pages.specs.declared.header.FileHeader.{FileHeader}
+use Rattle.aegis_pages.specs.OpenFile.{Has, HasCommitted, HasIn, HasText, IsStoredAs, OpenFile, OpensAtOne}
+use Rattle.aegis_pages.specs.SealedPages.{ArePages, Holds, IsSealed}
+use Rattle.aegis_pages.proofs.Standing.{holds_has, holds_sealed, sealed_has}
+
+-- ---- a commit
+
+-- what the writes of a commit do to a file of any text
+abbrev pub Commits : Layout → (len next : ℕ) → Texts → Writes → Type 0
+Commits layout len next changes writes = (text file : List ℕ) → length text ≡ len → ArePages layout (text_at changes) text file → IsSealed layout next text (written writes file)
+
+pub commit_has : (layout : Layout) (counter stored len next : ℕ) (changes none : Texts) (broken : Bool) (writes : Writes) (text : List ℕ) (a b : Option (List ℕ)) → Commits layout len next changes writes
+    → ((k : ℕ) → text_at none k ≡ None) → WritesAll a b writes → HasIn layout counter stored len changes broken text a → HasIn layout next len len none broken text b
+commit_has layout counter stored len next changes none broken writes text None b commits empty w s = absurd s
+commit_has layout counter stored len next changes none broken writes text (Some xs) None commits empty w s = absurd w
+commit_has layout counter stored len next changes none broken writes text (Some xs) (Some ys) commits empty w s =
+    let has = sealed_has layout next len none text ys empty s.size (subst (IsSealed layout next text) (sym w) (commits text xs s.size s.pages)) in record {
+      size = has.size;
+      sound = s.sound;
+      header = has.header;
+      pages = has.pages;
+    }
+
+has_known : (layout : Layout) (counter stored len : ℕ) (changes : Texts) (broken : Bool) (text file : List ℕ) (a : Option (List ℕ)) → a ≡ Some file → HasIn layout counter stored len changes broken text a
+    → Has layout counter stored len changes broken text file
+has_known layout counter stored len changes broken text file a is s = subst (HasIn layout counter stored len changes broken text) is s
+
+pub commit_sealed_at : (layout : Layout) (counter stored len next : ℕ) (changes : Texts) (broken : Bool) (writes : Writes) (now file : List ℕ) (a : Option (List ℕ)) (disk journal : Option Disk)
+    → IsPossible a disk → Commits layout len next changes writes → IsAtRest disk journal file → HasIn layout counter stored len changes broken now a → IsSealed layout next now (written writes file)
+commit_sealed_at layout counter stored len next changes broken writes now file a disk journal possible commits rests s =
+    let has = has_known layout counter stored len changes broken now file a (readable_certain a disk file possible rests.storage_is) s in
+    commits now file has.size has.pages
+
+pub commit_recovers : (layout : Layout) (counter stored len next : ℕ) (changes : Texts) (broken : Bool) (writes : Writes) (key before now file : List ℕ) (a : Option (List ℕ)) (disk journal disk' journal' : Option Disk)
+    → key ≡ journal_key layout.variant layout.key → IsPossible a disk → Commits layout len next changes writes → IsAtRest disk journal file → IsSealed layout counter before file
+    → HasIn layout counter stored len changes broken now a → Recovers key [] file writes disk' journal' → RecoversText layout.variant layout.key before now disk' journal'
+commit_recovers layout counter stored len next changes broken writes key before now file a disk journal disk' journal' is possible commits rests sealed s recovers = record {
+  file = file;
+  writes = writes;
+  recovers = subst (λ (k : List ℕ). Recovers k [] file writes disk' journal') is recovers;
+  without = record { layout = layout; counter = counter; variant_is = refl; key_is = refl; is = sealed };
+  with_writes = inr (record {
+    layout = layout;
+    counter = next;
+    variant_is = refl;
+    key_is = refl;
+    is = commit_sealed_at layout counter stored len next changes broken writes now file a disk journal possible commits rests s;
+  });
+}
+
+-- ---- an opening
+
+pub recovers_again : (variant : Variant) (key before now k : List ℕ) (storage journal storage' journal' : Option Disk) → k ≡ journal_key variant key
+    → (batch : RecoversText variant key before now storage journal)
+    → (Recovers k [] batch.file batch.writes storage journal → Recovers k [] batch.file batch.writes storage' journal') → RecoversText variant key before now storage' journal'
+recovers_again variant key before now k storage journal storage' journal' is batch next = record {
+  file = batch.file;
+  writes = batch.writes;
+  recovers = subst (λ (l : List ℕ). Recovers l [] batch.file batch.writes storage' journal') is
+      (next (subst (λ (l : List ℕ). Recovers l [] batch.file batch.writes storage journal) (sym is) batch.recovers));
+  without = batch.without;
+  with_writes = batch.with_writes;
+}
+
+pub honest_as : (variant : Variant) (key k : List ℕ) (writes : Writes) (o : Option (List ℕ)) → k ≡ journal_key variant key → IfSome o (IsNoForgery (journal_key variant key) [] writes)
+    → IfSome o (IsNoForgery k [] writes)
+honest_as variant key k writes o is h = subst (λ (l : List ℕ). IfSome o (IsNoForgery l [] writes)) (sym is) h
+
+pub rests_at_text : (variant : Variant) (key before now : List ℕ) (storage journal storage' journal' : Option Disk)
+    → (batch : RecoversText variant key before now storage journal) → RestsAtEither storage' journal' batch.file batch.writes → RestsAtText variant key before now storage' journal'
+rests_at_text variant key before now storage journal storage' journal' batch rests = record { file = rests.bytes; rests = rests.rests; holds = cases rests.one }
+  where
+    cases : IsOneOf batch.file (written batch.writes batch.file) rests.bytes → Holds variant key before rests.bytes ⊎ Holds variant key now rests.bytes
+    cases (inl same) = inl (subst (Holds variant key before) (sym same) batch.without)
+    cases (inr same) = subst (λ (l : List ℕ). Holds variant key before l ⊎ Holds variant key now l) (sym same) batch.with_writes
+
+pub kept_by_empty : (key context : List ℕ) (j a b : Option (List ℕ)) → RecoversKnown key context j a b → j ≡ Some [] → KnownSame a b
+kept_by_empty key context j a b recovers none = cases a b (subst (λ (o : Option (List ℕ)). RecoversKnown key context o a b) none recovers)
+  where
+    cases : (a b : Option (List ℕ)) → RecoversKnown key context (Some []) a b → KnownSame a b
+    cases None b r = tt
+    cases (Some xs) None r = absurd r
+    cases (Some xs) (Some ys) r = ap Some (r.other (λ writes is. empty_is_none key context writes is))
+
+-- ---- a text that is committed
+
+pub stored_committed : (old new : OpenFile) (text : List ℕ) → IsStoredAs old new → HasCommitted old text → HasCommitted new text
+stored_committed old new text s has = record {
+  bytes = has.bytes;
+  rests = record { storage_is = s.disk ∙ has.rests.storage_is; journal_is = s.journal ∙ has.rests.journal_is };
+  is = subst (λ (l : Layout). IsSealed l new.counter text has.bytes) (sym s.layout) (subst (λ (k : ℕ). IsSealed old.layout k text has.bytes) (sym s.counter) has.is);
+}
+
+pub committed_file_recovers : (file : OpenFile) (before now : List ℕ) → HasCommitted file before → RecoversText file.layout.variant file.layout.key before now file.disk file.journal
+committed_file_recovers file before now has = record {
+  file = has.bytes;
+  writes = [];
+  recovers = rest_recovers (journal_key file.layout.variant file.layout.key) [] has.bytes [] file.disk file.journal has.bytes (inl refl) has.rests;
+  without = record { layout = file.layout; counter = file.counter; variant_is = refl; key_is = refl; is = has.is };
+  with_writes = inl (record { layout = file.layout; counter = file.counter; variant_is = refl; key_is = refl; is = has.is });
+}
+
+-- ---- a journal that fits
+
+pub fits_whole : (variant : Variant) (key file journal sector : List ℕ) (writes : Writes) → key_length variant.family ≤ 32 → sector ≡ part_at file 0 512 → IsJournal (journal_key variant key) [] writes journal
+    → IsOfCommit (take (head_bytes variant) sector) writes → Fits variant key file journal
+fits_whole variant key file journal sector writes most is whole of_commit = record {
+  whole = λ found found_is has. subst (IsOfCommit (part_at file 0 (head_bytes variant))) (one_journal (journal_key variant key) [] writes found journal whole found_is)
+      (subst (λ (l : List ℕ). IsOfCommit l writes) (ap (take (head_bytes variant)) is ∙ take-take (head_bytes variant) 512 (drop 0 file) (omega (arith, most))) of_commit);
+  other = λ not none. not writes whole;
+}
+
+pub fits_lost : (variant : Variant) (key file journal : List ℕ) (writes : Writes) → HasNoHeader variant key file → IsJournal (journal_key variant key) [] writes journal → Fits variant key file journal
+fits_lost variant key file journal writes none whole = record {
+  whole = λ found found_is has. absurd (has none);
+  other = λ not no_header. not writes whole;
+}
+
+pub fits_torn : (variant : Variant) (key file journal : List ℕ) (header : FileHeader) → IsHeader (layout_of variant key header) header.counter header.len file
+    → ((writes : Writes) → IsJournal (journal_key variant key) [] writes journal → ⊥) → Fits variant key file journal
+fits_torn variant key file journal header is torn = record {
+  whole = λ found found_is has. absurd (torn found found_is);
+  other = λ not none. none (layout_of variant key header) header.counter header.len refl refl is;
+}
+
+-- what is known of both
+pub fits_known : (variant : Variant) (key : List ℕ) (a b : Option (List ℕ)) (read : List ℕ) (P : List ℕ → Type 0) → IfSome a P → IfSome b (λ js. read ≡ js)
+    → ((file : List ℕ) → P file → Fits variant key file read) → IfSome a (λ file. IfSome b (Fits variant key file))
+fits_known variant key None b read P p q f = tt
+fits_known variant key (Some file) None read P p q f = tt
+fits_known variant key (Some file) (Some js) read P p q f = subst (Fits variant key file) q (f file p)
+
+-- ---- a file that was opened
+
+pub opens_at_one : (layout : Layout) (counter len : ℕ) (changes : Texts) (a : Option (List ℕ)) (disk journal : Option Disk) (before now : List ℕ) → IsLaneCount layout.variant.lanes
+    → ((k : ℕ) → text_at changes k ≡ None) → IfSome a (IsHeader layout counter len) → IsPossible a disk → RestsAtText layout.variant layout.key before now disk journal
+    → OpensAtOne (record { layout = layout; counter = counter; stored = len; len = len; changes = changes; bytes = a; disk = disk; journal = journal; broken = false }) before now
+unfolding HasText
+opens_at_one layout counter len changes a disk journal before now count none header possible rest = cases rest.holds
+  where
+    known : a ≡ Some rest.file
+    known = readable_certain a disk rest.file possible rest.rests.storage_is
+
+    is : IsHeader layout counter len rest.file
+    is = subst (λ (o : Option (List ℕ)). IfSome o (IsHeader layout counter len)) known header
+
+    has : (text : List ℕ) → Holds layout.variant layout.key text rest.file → HasIn layout counter len len changes false text a
+    has text h = subst (HasIn layout counter len len changes false text) (sym known) (holds_has layout counter len changes text rest.file count none is h)
+
+    sealed : (text : List ℕ) → Holds layout.variant layout.key text rest.file
+        → HasCommitted (record { layout = layout; counter = counter; stored = len; len = len; changes = changes; bytes = a; disk = disk; journal = journal; broken = false }) text
+    sealed text h = record { bytes = rest.file; rests = rest.rests; is = holds_sealed layout counter len text rest.file count is h }
+
+    cases : Holds layout.variant layout.key before rest.file ⊎ Holds layout.variant layout.key now rest.file
+        → OpensAtOne (record { layout = layout; counter = counter; stored = len; len = len; changes = changes; bytes = a; disk = disk; journal = journal; broken = false }) before now
+    cases (inl h) = inl (has before h, sealed before h)
+    cases (inr h) = inr (has now h, sealed now h)
+
+pub opens_held : (layout : Layout) (counter len : ℕ) (changes : Texts) (a b : Option (List ℕ)) → IsLaneCount layout.variant.lanes → ((k : ℕ) → text_at changes k ≡ None) → IfSome b (IsHeader layout counter len)
+    → KnownSame a b → IfSome a (λ file. (text : List ℕ) → Holds layout.variant layout.key text file → HasIn layout counter len len changes false text b)
+opens_held layout counter len changes None b count none header same = tt
+opens_held layout counter len changes (Some file) b count none header same = λ text h.
+    subst (HasIn layout counter len len changes false text) (sym same)
+    (holds_has layout counter len changes text file count none (subst (λ (o : Option (List ℕ)). IfSome o (IsHeader layout counter len)) same header) h)
+
+-- ---- commits in a row
+
+pub last_committed : (start : Step) (steps : List Step) → HasCommitted start.0 start.1 → AreCommits start steps → HasCommitted (last_of start steps).0 (last_of start steps).1
+last_committed start [] has are = has
+last_committed start (step ∷ steps) has are = last_committed step steps (are.0 has) are.1
+
+pub recovers_as : (variant : Variant) (key k file : List ℕ) (writes : Writes) (storage journal : Option Disk) → k ≡ journal_key variant key → Recovers (journal_key variant key) [] file writes storage journal
+    → Recovers k [] file writes storage journal
+recovers_as variant key k file writes storage journal is r = subst (λ (l : List ℕ). Recovers l [] file writes storage journal) (sym is) r
+
+-- what was checked of a journal before it was made again or emptied
+pub fits_all : {W : Type 0} (of : W → Writes) (variant : Variant) (key k : List ℕ) (a b : Option (List ℕ)) (read : List ℕ) (sector : Option (List ℕ)) (header : Option FileHeader) (writes : Option W)
+    → key_length variant.family ≤ 32 → k ≡ journal_key variant key → IfSome b (λ js. read ≡ js)
+    → IfSome header (λ h. IfSome a (IsHeader (layout_of variant key h) h.counter h.len)) → IfNone header (IfSome a (HasNoHeader variant key))
+    → IfSome sector (λ s. IfSome a (λ file. (512 ≤ length file) × (s ≡ part_at file 0 512)))
+    → IfSome writes (λ ws. IsJournal k [] (of ws) read) → IfNone writes ((ws : Writes) → IsJournal k [] ws read → ⊥)
+    → (IsSome header → IfSome writes (λ ws. IsSome sector × IfSome sector (λ s. IsOfCommit (take (head_bytes variant) s) (of ws)))) → IfNone header (IsSome writes)
+    → IfSome a (λ file. IfSome b (Fits variant key file))
+fits_all of variant key k a b read sector None None most is same found none first whole torn of_commit some = absurd (cc)
+fits_all of variant key k a b read sector None (Some ws) most is same found none first whole torn of_commit some =
+    fits_known variant key a b read (HasNoHeader variant key) none same
+    (λ file no. fits_lost variant key file read (of ws) no (subst (λ (l : List ℕ). IsJournal l [] (of ws) read) is whole))
+fits_all of variant key k a b read sector (Some h) None most is same found none first whole torn of_commit some =
+    fits_known variant key a b read (IsHeader (layout_of variant key h) h.counter h.len) found same
+    (λ file header. fits_torn variant key file read h header (λ ws journal. torn ws (subst (λ (l : List ℕ). IsJournal l [] ws read) (sym is) journal)))
+fits_all of variant key k a b read None (Some h) (Some ws) most is same found none first whole torn of_commit some = let no = (of_commit refl).0 in absurd (cc)
+fits_all of variant key k a b read (Some s) (Some h) (Some ws) most is same found none first whole torn of_commit some =
+    fits_known variant key a b read (λ file. (512 ≤ length file) × (s ≡ part_at file 0 512)) first same
+    (λ file at. fits_whole variant key file read s (of ws) most at.1 (subst (λ (l : List ℕ). IsJournal l [] (of ws) read) is whole) (of_commit refl).1)

@@ -1,0 +1,14 @@
+use Rattle.std.proofs.Common.{◌+◌, refl, rules, subst, take, true, ℕ}
+use Rattle.std.specs.Bool.{IsTrue}
+use Rattle.aegis_storage.specs.Pending.{writes_of}
+use Rattle.aegis_pages.specs.Commits.{IsOfCommit}
+use Rattle.aegis_pages.proofs.opening.check_journal.Goals as goal
+
+pub returns-then-is_of_commit-clause-of_commit : goal.returns-then-is_of_commit-clause-of_commit
+returns-then-is_of_commit-clause-of_commit g c some =
+    let yes : IsTrue true = search rules in
+    rw (c.in-Some-writes-2.is, c.in-Some-sector.is) (
+      refl,
+      subst (λ (n : ℕ). IsOfCommit (take (33 + (16 + (n + 32))) c.in-Some-sector.sector) (writes_of c.in-Some-writes-2.writes.items)) c.requires.key_bytes
+          (subst (λ l. IsOfCommit (take (33 + (16 + (g.row.KEY_BYTES + 32))) c.in-Some-sector.sector) (writes_of l)) c.deref.ensures.value (c.if-is_of_commit.ensures yes)),
+    )

@@ -1,0 +1,19 @@
+use Rattle.std.proofs.Common.{◌≡◌, ◌++◌, ◌∷◌, [], ◌∙◌, ap, arith, length, refl, rules, subst, sym, List, ℕ}
+use Rattle.aegis_storage.specs.Pending.{writes_of}
+use Rattle.aegis_storage.proofs.Lists.{writes_pushed}
+use Rattle.aegis_pages.specs.Changed.{texts_in}
+use Rattle.aegis_pages.proofs.Sealed.{commit_sealed}
+use Rattle.aegis_pages.proofs.sealing.sealed_commit.Goals as goal
+
+pub returns-clause-sealed : goal.returns-clause-sealed
+returns-clause-sealed g c = rw (← c.changes.view_is) (λ text file size are.
+    let first = c.in-Ok.first in
+    let header = c.in_ok-header.header in
+    let sector : length c.args.sector.now ≡ 512 = omega arith in
+    let seals = c.in_ok-seal_pages.ensures.seals in
+    commit_sealed c.args.layout.now c.args.counter c.args.len (texts_in c.changes.inside.texts) (writes_of c.push.new.self.items) seals.0 (writes_of c.seal_pages.new.writes.items)
+    (writes_of c.push-2.new.self.items) 0 header.place c.args.sector.now header.bytes.items text file seals.2 c.in_ok-seal_pages.ensures.one
+    (writes_pushed c.new-writes.result.items c.push.new.self.items first 0 c.args.sector.now c.in-Ok-push.ensures.items c.in-Ok.ensures.place c.in-Ok.ensures.bytes
+    ∙ ap (λ l. writes_of l ++ (0, c.args.sector.now) ∷ []) c.new-writes.ensures.items) refl sector seals.1
+    (writes_pushed c.seal_pages.new.writes.items c.push-2.new.self.items header header.place header.bytes.items c.in-Ok-push-2.ensures.items refl refl)
+    c.in_ok-header.ensures.place c.in_ok-header.ensures.size c.in_ok-header.ensures.header size are)

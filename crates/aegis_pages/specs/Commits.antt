@@ -1,0 +1,58 @@
+-- Commits, before a crash and after it.
+use Rattle.std.specs.Prelude.{◌≡◌, ℕ, ◌+◌, ◌⊎◌, List, [], ◌∷◌, ◌++◌, Option, None, Some, ⊤, length, replicate, take}
+use Rattle.aegis_base.specs.Mac.{mac}
+use Rattle.aegis_base.specs.Variant.{Variant, key_length}
+use Rattle.aegis_storage.specs.Bytes.{part_at}
+use Rattle.aegis_storage.specs.Disk.{Disk, Writes, written}
+use Rattle.aegis_storage.specs.Journal.{IsAtRest, IsJournal, IsNoForgery, Recovers}
+use Rattle.aegis_pages.specs.declared.layout.TheConstants.{JOURNAL_MAGIC}
+use Rattle.aegis_pages.specs.Errors.{HasNoHeader}
+use Rattle.aegis_pages.specs.SealedPages.{Holds}
+
+-- the key of the journals of files under a key: a MAC of 32 bytes of the journals' magic number, under the nonce of all
+-- bytes 255
+abbrev pub journal_key : Variant → List ℕ → List ℕ
+journal_key variant key = mac variant 32 key (replicate (key_length variant.family) 255) JOURNAL_MAGIC
+
+-- Whatever a crash now leaves of the storage and of the journal, unless it leaves a forgery, opening gives the text
+-- `before` or the text `now`.
+pub record RecoversText (variant : Variant) (key before now : List ℕ) (storage journal : Option Disk) : Type 0 where
+  pub file : List ℕ
+  pub writes : Writes
+  pub recovers : Recovers (journal_key variant key) [] file writes storage journal
+  pub without : Holds variant key before file
+  pub with_writes : Holds variant key before (written writes file) ⊎ Holds variant key now (written writes file)
+
+-- The journal's content is no forgery.
+abbrev pub IsHonest : {variant : Variant} {key before now : List ℕ} {storage journal : Option Disk} → RecoversText variant key before now storage journal → List ℕ → Type 0
+IsHonest {variant} {key} batch bytes = IsNoForgery (journal_key variant key) [] batch.writes bytes
+
+-- The storage and the journal are synced, the journal is empty, and the file holds one of the two texts.
+pub record RestsAtText (variant : Variant) (key before now : List ℕ) (storage journal : Option Disk) : Type 0 where
+  pub file : List ℕ
+  pub rests : IsAtRest storage journal file
+  pub holds : Holds variant key before file ⊎ Holds variant key now file
+
+-- known bytes are the same as before
+abbrev pub KnownSame : Option (List ℕ) → Option (List ℕ) → Type 0
+KnownSame None new = ⊤
+KnownSame (Some xs) new = new ≡ Some xs
+
+-- ---- what a journal is to a file
+
+-- how many bytes a header has
+abbrev pub head_bytes : Variant → ℕ
+head_bytes variant = 33 + (16 + (key_length variant.family + 32))
+
+-- the first of the writes, or the last, makes a file begin with these bytes of a header
+abbrev pub IsOfCommit : (head : List ℕ) → Writes → Type 0
+IsOfCommit head writes =
+    ((sector : List ℕ) × (rest : Writes) × (writes ≡ (0, sector) ∷ rest) × (take (length head) sector ≡ head))
+    ⊎ ((sector : List ℕ) × (before : Writes) × (writes ≡ before ++ (0, sector) ∷ []) × (take (length head) sector ≡ head))
+
+-- The journal may be made again, or emptied: if it is whole, and the file has a header, its commit began or ended with
+-- that one; and if it is not whole the file has a header.
+pub record Fits (variant : Variant) (key file journal : List ℕ) : Type 0 where
+  pub whole : (writes : Writes) → IsJournal (journal_key variant key) [] writes journal
+      → (HasNoHeader variant key file → ⊥) → IsOfCommit (part_at file 0 (head_bytes variant)) writes
+  pub other : ((writes : Writes) → IsJournal (journal_key variant key) [] writes journal → ⊥) → HasNoHeader variant key file → ⊥

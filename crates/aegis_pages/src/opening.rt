@@ -1,0 +1,178 @@
+//! Opening a file: whether its journal is its own, and what recovery makes of both.
+
+ghost use Rattle.std.specs.Prelude.{◌≡◌, ◌+◌, ◌≤◌, [], Err, IfErr, IfNone, IfOk, IfSome, IsSome, IsTrue, List, None, OnOk, Some, length, take, ℕ};
+ghost use Rattle.aegis_base.specs.Variant.{key_length};
+ghost use Rattle.aegis_storage.specs.Pending.{writes_of};
+ghost use Rattle.aegis_pages.specs.Commits.{Fits, IsHonest, IsOfCommit, KnownSame, head_bytes, RecoversText, RestsAtText, journal_key};
+ghost use Rattle.aegis_pages.specs.Errors.{IsLeftAlone, IsOpenRefusal};
+ghost use Rattle.aegis_pages.specs.Headers.{IsHeader};
+ghost use Rattle.aegis_pages.specs.Layouts.{IsPageSize};
+ghost use Rattle.aegis_pages.specs.Reading.{layout_of};
+
+use crate::error::PagesError;
+use crate::header::{FileHeader, read_header, read_sector};
+use crate::layout::{
+    CLEAR_BYTES, FileLayout, HEADER_TEXT_BYTES, JOURNAL_MAGIC, MAX_TEXT_BYTES, SECTOR_BYTES,
+    TAG_BYTES,
+};
+use aegis::aegis256::Key;
+use aegis_base::LaneState;
+use aegis_engine::mac_at_once;
+use aegis_storage::{PendingWrite, Storage, journaled_writes, read_all, recover};
+use std::alloc::Allocator;
+use std::io;
+use std::io::ErrorKind;
+
+/// Returns the key of the journals of files under a key.
+pub fn journal_key<L: LaneState, const KEY_BYTES: usize>(key: &[u8; KEY_BYTES]) -> Key
+    requires { KEY_BYTES ≡ key_length L.VARIANT.family }
+    ensures { result ≡ journal_key L.VARIANT key.now }
+{
+    mac_at_once::<L, 32>(key, &[255; KEY_BYTES], &JOURNAL_MAGIC)
+}
+
+// Returns whether a write makes a file begin with these bytes.
+fn begins_with<A: Allocator>(write: &PendingWrite<A>, head: &[u8]) -> bool
+    ensures place { IsTrue result → write.now.place ≡ 0 }
+    ensures head { IsTrue result → take (length head.now) write.now.bytes.items ≡ head.now }
+{
+    if write.place != 0 || write.bytes.len() < head.len() {
+        return false;
+    }
+    write.bytes[..head.len()] == head[..]
+}
+
+/// Returns whether a file that begins with this header is that of before a commit, whose first write is of the header of
+/// before, or that of after it, whose last write is of the next header.
+pub fn is_of_commit<A: Allocator>(head: &[u8], writes: &[PendingWrite<A>]) -> bool
+    ensures { IsTrue result → IsOfCommit head.now (writes_of writes.now) }
+{
+    let count = writes.len();
+    if count == 0 {
+        return false;
+    }
+    begins_with(&writes[0], head) || begins_with(&writes[count - 1], head)
+}
+
+/// Returns whether a journal begins with the front of another file's.
+pub fn is_of_another(front: &[u8; CLEAR_BYTES], journal: &[u8]) -> bool {
+    if journal.len() < CLEAR_BYTES {
+        return false;
+    }
+    journal[..4] == JOURNAL_MAGIC[..] && journal[..CLEAR_BYTES] != front[..]
+}
+
+/// Returns an error if a journal must not be made again or emptied: [`PagesError::Journal`] if the file has a header and
+/// the journal is whole but of another commit, or is plainly that of another file, and [`PagesError::Header`] if the file
+/// has no header and the journal is not whole.
+pub fn check_journal<L: LaneState, const KEY_BYTES: usize, A: Allocator + Copy>(
+    key: &[u8; KEY_BYTES],
+    sector: Option<[u8; SECTOR_BYTES]>,
+    header: Option<FileHeader>,
+    writes: &Option<Vec<PendingWrite<A>, A>>,
+    journal: &[u8],
+) -> Result<(), PagesError>
+    requires key_bytes { KEY_BYTES ≡ key_length L.VARIANT.family }
+    requires size { IfSome header (λ header. IsPageSize header.page_bytes) }
+    ensures of_commit { OnOk result (IsSome header → IfSome writes.now (λ writes. IsSome sector
+        × IfSome sector (λ sector. IsOfCommit (take (head_bytes L.VARIANT) sector)
+        (writes_of writes.items)))) }
+    ensures whole { OnOk result (IfNone header (IsSome writes.now)) }
+    ensures alone { IfErr result IsLeftAlone }
+    ensures none { result ≡ Err PagesError.Header → header ≡ None }
+{
+    let Some(header) = header else {
+        return match writes {
+            Some(_) => Ok(()),
+            None => Err(PagesError::Header),
+        };
+    };
+    let Some(writes) = writes else {
+        let front = FileLayout::<L, KEY_BYTES>::new(
+            key,
+            header.page_bytes,
+            &header.id,
+        ).journal_front();
+        if is_of_another(&front, journal) {
+            return Err(PagesError::Journal);
+        }
+        return Ok(());
+    };
+    match sector {
+        Some(sector) => {
+            let head = CLEAR_BYTES + (HEADER_TEXT_BYTES + (KEY_BYTES + TAG_BYTES));
+            if is_of_commit(&sector[..head], writes) {
+                Ok(())
+            } else {
+                Err(PagesError::Journal)
+            }
+        }
+        None => Err(PagesError::Journal),
+    }
+}
+
+/// Completes a commit that a crash or an error cut short, or leaves out all of it, and returns the file's header. To be
+/// called on a file that is opened.
+///
+/// A journal that is whole under this key, and whose commit began or ended with the file's header, byte for byte, is made
+/// again and emptied; so it is also if the file has no header. A torn one is emptied if the file has a header. Otherwise
+/// nothing is changed: the error is [`PagesError::Journal`] for a whole journal of another commit, or one that is plainly
+/// of another file, and [`PagesError::Header`] if the file has no header and the journal is not whole.
+///
+/// The others are [`PagesError::Read`], [`PagesError::Write`] and [`PagesError::OutOfMemory`]. Nothing is then lost: call
+/// it again.
+pub fn recover_file<
+    S: Storage,
+    J: Storage,
+    L: LaneState,
+    const KEY_BYTES: usize,
+    A: Allocator + Copy,
+>(
+    alloc: A,
+    storage: &mut S,
+    journal: &mut J,
+    key: &[u8; KEY_BYTES],
+) -> Result<FileHeader, PagesError>
+    requires { KEY_BYTES ≡ key_length L.VARIANT.family }
+    ensures sound { IfOk result (λ header. IsPageSize header.page_bytes
+        × (header.len ≤ MAX_TEXT_BYTES)) }
+    ensures header { IfOk result (λ header. IfSome (S.bytes storage.new)
+        (IsHeader (layout_of L.VARIANT key.now header) header.counter header.len)) }
+    ensures kept { OnOk result (J.bytes journal.old ≡ Some []
+        → KnownSame (S.bytes storage.old) (S.bytes storage.new)) }
+    ensures recovers { (before now : List ℕ)
+        → (batch : RecoversText L.VARIANT key.now before now
+        (S.disk storage.old) (J.disk journal.old))
+        → IfSome (J.bytes journal.old) (IsHonest batch)
+        → RecoversText L.VARIANT key.now before now (S.disk storage.new) (J.disk journal.new) }
+    ensures rests { OnOk result ((before now : List ℕ)
+        → (batch : RecoversText L.VARIANT key.now before now
+        (S.disk storage.old) (J.disk journal.old))
+        → IfSome (J.bytes journal.old) (IsHonest batch)
+        → RestsAtText L.VARIANT key.now before now (S.disk storage.new) (J.disk journal.new)) }
+    ensures fits { OnOk result (IfSome (S.bytes storage.old) (λ file.
+        IfSome (J.bytes journal.old) (Fits L.VARIANT key.now file))) }
+    ensures alone { IfErr result (λ error. IsLeftAlone error
+        → (storage.new ≡ storage.old) × (journal.new ≡ journal.old)) }
+    ensures refused { IfErr result (IsOpenRefusal L.VARIANT key.now (S.bytes storage.old)) }
+{
+    let content = match read_all(alloc, journal) {
+        Ok(content) => content,
+        Err(error) => return Err(PagesError::Read(error)),
+    };
+    let sector = read_sector(storage)?;
+    let header = read_header::<S, L, KEY_BYTES>(storage, key)?;
+    let journal_key = journal_key::<L, KEY_BYTES>(key);
+    let Ok(writes) = journaled_writes(alloc, &journal_key, &[], &content) else {
+        return Err(PagesError::OutOfMemory);
+    };
+    check_journal::<L, KEY_BYTES, A>(key, sector, header, &writes, &content)?;
+    match recover(alloc, storage, journal, &journal_key, &[]) {
+        Ok(()) => {}
+        Err(error) => return Err(PagesError::Write(error)),
+    }
+    match read_header::<S, L, KEY_BYTES>(storage, key)? {
+        Some(header) => Ok(header),
+        None => Err(PagesError::Read(io::Error::from(ErrorKind::InvalidData))),
+    }
+}

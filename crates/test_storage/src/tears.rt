@@ -1,0 +1,90 @@
+//! What a crash leaves of a disk of the tests.
+
+use crate::disk::{TestDisk, change};
+use crate::pending::PendingChange;
+use aegis_storage::{PendingWrite, Storage};
+use std::alloc::Global;
+use std::io;
+
+// How many bytes are written at once, or not at all, by a disk that fails.
+const SECTOR_BYTES: usize = 512;
+
+// Writes the bytes of a write from `from` up to `to`, if it has them.
+fn write_part(
+    bytes: &mut Vec<u8>,
+    write: &PendingWrite<Global>,
+    from: usize,
+    to: usize,
+) -> io::Result<()> {
+    if from <= to && to <= write.bytes.len() {
+        bytes.write_at(write.place + from as u64, &write.bytes[from..to])?;
+    }
+    Ok(())
+}
+
+// Writes other bytes than those of a write from `from` up to `to`, if it has them.
+fn write_others(
+    alloc: Global,
+    bytes: &mut Vec<u8>,
+    write: &PendingWrite<Global>,
+    from: usize,
+    to: usize,
+) -> io::Result<()> {
+    if from <= to && to <= write.bytes.len() {
+        let others = vec![in alloc; 0xee; to - from]?;
+        bytes.write_at(write.place + from as u64, &others)?;
+    }
+    Ok(())
+}
+
+// Leaves what a crash may of a change: none of it, a front and other bytes after it, other bytes in every other sector, or
+// all.
+fn tear(alloc: Global, bytes: &mut Vec<u8>, pending: &PendingChange, part: u32) -> io::Result<()> {
+    let PendingChange::Write(write) = pending else {
+        return if part % 2 == 0 {
+            Ok(())
+        } else {
+            change(bytes, pending)
+        };
+    };
+    let size = write.bytes.len();
+    match part {
+        0 => Ok(()),
+        1 => {
+            write_part(bytes, write, 0, size / 2)?;
+            write_others(alloc, bytes, write, size / 2, size / 2 + size / 4)
+        }
+        2 => {
+            write_others(alloc, bytes, write, 0, size.min(SECTOR_BYTES))?;
+            write_part(bytes, write, SECTOR_BYTES, size.min(2 * SECTOR_BYTES))?;
+            write_others(
+                alloc,
+                bytes,
+                write,
+                2 * SECTOR_BYTES,
+                size.min(3 * SECTOR_BYTES),
+            )
+        }
+        _ => change(bytes, pending),
+    }
+}
+
+/// What a crash leaves of a disk. Each digit of `parts`, in base 4, is the part of a pending change that is there; they
+/// come in order, from the last one, or from the middle on.
+pub fn left_of(disk: &TestDisk, parts: u32, order: usize) -> io::Result<Vec<u8>> {
+    let mut bytes = disk.synced.to_vec(disk.alloc)?;
+    let count = disk.pending.len();
+    let mut parts = parts;
+    for turn in 0..count {
+        let index = match order {
+            0 => turn,
+            1 => count - 1 - turn,
+            _ => turn.wrapping_add(count / 2) % count,
+        };
+        if let Some(pending) = disk.pending.get(index) {
+            tear(disk.alloc, &mut bytes, pending, parts % 4)?;
+        }
+        parts /= 4;
+    }
+    Ok(bytes)
+}
