@@ -8,6 +8,7 @@ set -euo pipefail
 tool=$(realpath "$1")
 version=$2
 pages=$(realpath crates/hunkravy/manual)
+calls=$(realpath tools/check_tool_calls.c)
 folder=$(mktemp -d)
 trap 'rm -rf "$folder"' EXIT
 cd "$folder"
@@ -37,11 +38,27 @@ terminal() {
     [ "$found" = "$wanted" ] || fail "status $found, not $wanted, in a terminal: $2: $(cat said)"
 }
 
+# lacks TEXT: the output of the last command must not have this text.
+lacks() {
+    ! grep -q -- "$1" said || fail "'$1' is in: $(cat said)"
+}
+
+# no_parts [FOLDER]: no run left a part.
+no_parts() {
+    [ -z "$(find "${1:-.}" -maxdepth 1 -name '.*.hunkravy-*')" ] || fail "a part is left: $(ls -A "${1:-.}")"
+}
+
 # refuses FILE: the file must not open, and no output must be left.
 refuses() {
     status 1 "$tool" open -k key "$1" text
-    [ ! -e text ] && [ ! -e text.part ] || fail "$1 was refused, and something is left"
+    [ ! -e text ] || fail "$1 was refused, and something is left"
+    no_parts
     status 1 "$tool" check -k key "$1"
+}
+
+# put FILE BYTE BYTES: overwrites bytes of a file, which are written as printf takes them.
+put() {
+    printf "$3" | dd of="$1" bs=1 seek="$2" conv=notrunc status=none
 }
 
 echo 'help and the version'
@@ -51,6 +68,11 @@ says 'proved by rattle-kit'
 status 0 "$tool" -V
 status 0 "$tool" --help
 says 'Exit status'
+says 'Outputs get mode 0600. File names must be UTF-8.'
+for section in DESCRIPTION 'EXIT STATUS' EXAMPLES FILES 'SEE ALSO'; do
+    grep -q "^\.SH $section$" "$pages/man" || fail "the manual page has no $section"
+done
+grep -q '^\.TH HUNKRAVY 1 [0-9]*-[0-9]*-[0-9]* ' "$pages/man" || fail 'the manual page has no date'
 for form in man bash zsh fish; do
     "$tool" manual "$form" | cmp - "$pages/$form"
 done
@@ -80,7 +102,8 @@ done
 status 0 "$tool" seal -k <(cat key) small small.piped-key
 status 0 "$tool" check -k key small.piped-key
 (trap '' XFSZ; ulimit -f 0; status_of=0; "$tool" keygen full-key 2> /dev/null || status_of=$?; [ "$status_of" = 3 ])
-[ ! -e full-key ] && [ ! -e full-key.part ] || fail 'keygen left something on a full disk'
+[ ! -e full-key ] || fail 'keygen left something on a full disk'
+no_parts
 status 2 "$tool" seal -k key $'small\xff' small.name
 says 'UTF-8'
 status 2 "$tool" seal small
@@ -98,6 +121,12 @@ for length in 0 1 65535 65536 65537 200000; do
     status 0 "$tool" check -k key sealed
     status 0 "$tool" info sealed
     says "$length bytes of text, not verified"
+    status 0 "$tool" check -k key sealed
+    says "$length bytes of text, all verified"
+    for command in 'check -k key' info; do
+        status 0 "$tool" $command --quiet sealed
+        [ ! -s said ] || fail "$command --quiet printed $(cat said)"
+    done
     "$tool" seal -k key - - < text-before | "$tool" open -k key > text
     cmp text-before text
 done
@@ -136,7 +165,7 @@ tail -n 1 said | grep -q 'the output is incomplete: discard it' || fail "the las
 
 echo 'parts of a text'
 part() { tail -c +$(($1 + 1)) text-before | head -c "$2"; }
-for from in 0 1 65535 65536 131072 199999 200000 300000; do
+for from in 0 1 65535 65536 131072 199999 200000; do
     for length in 0 1 70000 200000; do
         status 0 "$tool" open --force -k key --from "$from" --length "$length" sealed text
         cmp text <(part "$from" "$length")
@@ -148,17 +177,105 @@ status 0 "$tool" open --force -k key --records 1..3 sealed text
 cmp text <(part 65536 131072)
 status 0 "$tool" open --force -k key --records 3..9 sealed text
 cmp text <(part 196608 200000)
-status 0 "$tool" open --force -k key --records 9..12 sealed text
-[ ! -s text ] || fail 'records after the last one have text'
+status 0 "$tool" open --force -k key --records 4..5 sealed text
+[ ! -s text ] || fail 'the last record has text'
 status 0 "$tool" open --force -k key --from 0 --length 1000 changed text
 cmp text <(part 0 1000)
 rm text
-status 1 "$tool" open -k key --from 140000 --length 10 changed text
-status 1 "$tool" open -k other --from 0 --length 10 sealed text
-[ ! -e text ] || fail 'a part of a damaged file is left'
 status 2 "$tool" open -k key --records 1-3 sealed text
+for records in 2..2 3..1; do
+    status 2 "$tool" open -k key --records $records sealed text
+done
 status 2 "$tool" open -k key --from x sealed text
 status 2 "$tool" open -k key --from 1 - text
+
+# no_part FILE OPTIONS..: the part is refused, and nothing of it is written.
+no_part() {
+    local file=$1
+    shift
+    status 1 "$tool" open -k key "$@" "$file" text
+    [ ! -e text ] || fail "$* of $file is left"
+    no_parts
+    status 1 sh -c "'$tool' open -k key $* $file > printed"
+    [ ! -s printed ] || fail "$* of $file is printed"
+}
+
+echo 'parts past the end'
+for records in 5..6 9..12 100..200; do
+    no_part sealed --records $records
+    says 'sealed has only 5 records'
+done
+for from in 200001 300000 18446744073709551615; do
+    no_part sealed --from $from
+    says 'sealed has only 200000 bytes of text'
+    no_part sealed --from $from --length 0
+done
+
+echo 'parts of files that were changed, or under another key'
+no_part changed --from 140000 --length 10
+no_part changed --records 2..3
+for options in '--records 0..1' '--records 4..5' '--records 100..200' '--from 0 --length 0' '--from 10' '--from 199999' \
+    '--from 200000' '--from 300000'; do
+    status 1 "$tool" open -k other $options sealed text
+    says 'the key is not the one it was sealed under'
+    [ ! -e text ] || fail "$options is left under another key"
+done
+# The flag of the first record says that it is the last one.
+cp sealed flagged
+put flagged 28 '\x01'
+for options in '--records 0..1' '--records 2..5' '--records 100..200' '--from 10' '--from 140000 --length 10' '--from 300000'; do
+    no_part flagged $options
+done
+# The flag of the last record says that it is not the last one.
+cp sealed flagged
+put flagged 200176 '\x00'
+cmp -s flagged sealed && fail 'the flag is not there'
+for options in '--records 4..5' '--records 5..6' '--from 200000' '--from 300000'; do
+    no_part flagged $options
+done
+# The length of a record before the part, in it, and after it. Record k starts at byte 28 + 65573 k.
+for length in '\x00\x00\x00\x00' '\xff\xff\x00\x00' '\x00\x00\x00\x01' '\xff\xff\xff\xff'; do
+    for record in 0 1 2 3; do
+        cp sealed longer
+        put longer $((28 + 65573 * record + 1)) "$length"
+        for options in '--records 3..4' '--records 3..5' '--records 9..12' '--from 199000' '--from 199000 --length 5' '--from 300000'; do
+            no_part longer $options
+        done
+    done
+    status 0 "$tool" open --force -k key --records 1..3 longer text
+    cmp text <(part 65536 131072)
+    status 0 "$tool" open --force -k key --from 10 --length 1000 longer text
+    cmp text <(part 10 1000)
+    rm text
+done
+# A file that was made with no key.
+head -c 24 /dev/zero > forged
+printf 'AGR2\x01\x00\x00\x00\x00' >> forged
+head -c 32 /dev/zero >> forged
+[ "$(wc -c < forged)" = 65 ] || fail 'the forged file has another length'
+for options in '--records 0..1' '--records 5..9' '--from 0' '--from 0 --length 0' '--from 300000' '--length 0'; do
+    no_part forged $options
+done
+# A file of the first version, in which a record is not sealed at its byte of the text: "one", "and two" and "three".
+seq -f '%02g' 0 31 | while read -r byte; do printf '%02x' "$((10#$byte))"; done > first-key
+echo >> first-key
+chmod 600 first-key
+for byte in 09 09 09 09 09 09 09 09 09 09 09 09 09 09 09 09 09 09 09 09 09 09 09 09 41 47 52 31 00 03 00 00 00 af 4d 5f \
+    f1 04 f1 aa 00 63 af bb a8 9e 90 6d 50 c9 e1 92 66 0a 1f 83 11 c3 f0 44 c2 e0 b9 22 61 25 94 2a 00 07 00 00 \
+    00 6f b9 04 73 2d 47 74 6e 11 ad ab 24 51 b1 af 57 4a 65 94 ca 66 4a a2 7c 85 7d 55 15 6e 1b 99 f6 2d b3 e8 \
+    1d 81 0d 8b 01 05 00 00 00 6f b9 1b 8b 3e c5 d7 54 5b b9 77 6c 0c e3 d1 f1 50 45 45 ee 5b 57 5d 80 ef 90 b0 \
+    5a 13 38 71 25 01 82 5d 40 1e; do
+    printf "\\x$byte"
+done > first
+status 0 "$tool" check -k first-key first
+says '15 bytes of text'
+[ "$("$tool" open -k first-key --from 3 --length 3 first)" = and ] || fail 'a part of the first version'
+[ "$("$tool" open -k first-key --records 1..2 first)" = 'and two' ] || fail 'a record of the first version'
+# Two bytes more in the first record, so that the second begins at byte 5 of the text.
+{ head -c 36 first; printf xx; tail -c +37 first; } > shifted
+put shifted 29 '\x05'
+status 1 "$tool" open -k first-key --from 5 --length 3 shifted text
+[ ! -e text ] || fail 'a part was opened at another byte'
 
 echo 'another key'
 status 0 "$tool" rekey -k key -n other sealed moved
@@ -167,7 +284,8 @@ cmp text text-before
 rm text
 status 1 "$tool" open -k key moved text
 status 1 "$tool" rekey -k key -n other changed not-moved
-[ ! -e not-moved ] && [ ! -e not-moved.part ] || fail 'a damaged file was sealed anew'
+[ ! -e not-moved ] || fail 'a damaged file was sealed anew'
+no_parts
 
 echo 'outputs that exist'
 status 0 "$tool" seal -k key small kept
@@ -223,23 +341,122 @@ wait $!
 [ -p pipe ] || fail 'a pipe was replaced'
 status 0 "$tool" check -k key piped
 status 3 "$tool" seal -k key small far
-mkdir taken.part
-status 3 "$tool" seal -k key small taken
-says 'taken.part'
+no_parts far
 
-echo 'parts that were left'
-echo left > half.part
+echo 'files of others'
+# A run removes, opens and replaces no file that it did not create, whatever its name.
+for name in backup.part backup.tmp backup~ .backup.part .backup.hunkravy-0123456789abcdef; do
+    cp key "$name"
+    status 0 "$tool" seal -k "$name" small backup
+    cmp key "$name"
+    rm backup
+    cp sealed "$name"
+    status 1 "$tool" open -k key cut backup
+    cmp sealed "$name"
+    [ ! -e backup ] || fail 'a damaged file was opened'
+    status 0 "$tool" seal -k key small backup
+    status 0 "$tool" seal --force -k key small backup
+    cmp sealed "$name"
+    rm backup "$name"
+done
+cp sealed doc.part
+truncate -s 1000 doc.part
+status 1 "$tool" open -k key doc.part doc
+[ -e doc.part ] || fail 'the input is gone'
+no_parts
+mkdir half.part
 status 0 "$tool" seal -k key small half
-status 0 "$tool" check -k key half
-[ ! -e half.part ] || fail 'a part is left'
-rm half
-touch half.part
-flock half.part sleep 3 &
-sleep 0.3
-status 3 "$tool" seal -k key small half
-says 'another run writes it'
-[ ! -e half ] || fail 'half is there'
-wait $!
+rm -r half.part half
+name=$(printf 'n%.0s' $(seq 250))
+status 0 "$tool" seal -k key small "$name"
+status 0 "$tool" check -k key "$name"
+rm "$name"
+name=$(printf '\u00fc%.0s' $(seq 120))
+status 0 "$tool" seal -k key small "$name"
+rm "$name"
+
+echo 'an output that is created meanwhile'
+mkfifo slow
+for command in 'seal -k key' 'open -k key'; do
+    "$tool" $command slow meanwhile > said 2>&1 &
+    exec 9> slow
+    head -c 1000 sealed >&9
+    sleep 0.3
+    echo precious > meanwhile
+    tail -c +1001 sealed >&9
+    exec 9>&-
+    found=0
+    wait $! || found=$?
+    [ "$found" = 3 ] || fail "status $found, not 3, of an output that was created meanwhile: $(cat said)"
+    says 'meanwhile exists'
+    [ "$(cat meanwhile)" = precious ] || fail 'an output that was created meanwhile was replaced'
+    no_parts
+    rm meanwhile
+done
+
+echo 'one winner of three, 300 times'
+for turn in $(seq 300); do
+    rm -f won-*
+    for run in 1 2 3; do
+        { "$tool" keygen race 2> said-$run && touch won-$run; } &
+    done
+    wait
+    [ "$(find . -name 'won-*' | wc -l)" = 1 ] || fail "in round $turn keys were drawn by: $(ls won-*)"
+    [ "$(wc -c < race)" = 65 ] || fail 'no key won'
+    no_parts
+    rm race
+done
+rm won-*
+
+if "${CC:-gcc}" -shared -fPIC -O1 "$calls" -ldl -o calls.so 2> said; then
+    echo 'the calls that name and sync files'
+    # order COMMAND..: the calls of the command, in their order.
+    order() {
+        rm -f noted
+        LD_PRELOAD=$PWD/calls.so CALLS=$PWD/noted "$@" > said 2>&1 || fail "$*: $(cat said)"
+        tr '\n' ' ' < noted
+    }
+    [ "$(order "$tool" keygen synced)" = 'fsync-file link unlink fsync-folder ' ] || fail "keygen: $(cat noted)"
+    [ "$(order "$tool" seal -k key small far/synced)" = 'fsync-file link unlink fsync-folder ' ] || fail "seal: $(cat noted)"
+    [ "$(order "$tool" seal --force -k key small far/synced)" = 'fsync-file rename fsync-folder ' ] || fail "seal --force: $(cat noted)"
+    rm synced far/synced
+    # A file system with no links: LINK_FAILS has link fail, and RACES creates a file just before.
+    [ "$(LINK_FAILS=1 order "$tool" seal -k key small linkless)" = 'fsync-file link rename fsync-folder ' ] || fail "no links: $(cat noted)"
+    says 'linkless is renamed to, and not linked'
+    status 0 "$tool" check -k key linkless
+    rm linkless
+    LINK_FAILS=1 order "$tool" seal --quiet -k key small linkless > noted
+    [ ! -s said ] || fail "--quiet printed $(cat said)"
+    status 3 env LD_PRELOAD="$PWD/calls.so" LINK_FAILS=1 RACES=raced "$tool" seal -k key small raced
+    says 'raced exists'
+    [ ! -s raced ] || fail 'a file was replaced where there are no links'
+    no_parts
+fi
+
+echo 'files that were made with no key'
+# Record 0 says that it has 16 MiB, and ends after its head.
+{ head -c 24 /dev/zero; printf 'AGR2\x00\xff\xff\xff\x00'; } > vast
+(ulimit -v 8000 && "$tool" --version) > said 2>&1 && limits=1 || limits=0
+for command in 'check -k key vast' 'open -k key vast -' 'open -k key --from 1 vast -' 'open -k key --records 0..1 vast -' \
+    'rekey -k key -n other vast -'; do
+    [ "$limits" = 1 ] || continue
+    found=0
+    (ulimit -v 8000 && "$tool" $command) > said 2>&1 || found=$?
+    [ "$found" = 1 ] || fail "status $found, not 1, in 8 MB of memory: $command: $(cat said)"
+    says 'cut off'
+done
+
+echo 'names that a terminal acts on'
+name=$'no\033[2J\u009b2Jsuch'
+status 3 "$tool" check -k key "$name"
+says 'no\\u{1b}\[2J\\u{9b}2Jsuch cannot be read'
+lacks $'\033'
+lacks $'\u009b'
+status 3 "$tool" check -k "$name" small
+lacks $'\033'
+status 2 "$tool" check -k key small "$name"
+lacks $'\033'
+lacks $'\u009b'
 
 if command -v script > /dev/null; then
     echo 'terminals'
@@ -251,11 +468,25 @@ if command -v script > /dev/null; then
     status 0 "$tool" seal -k key letter letter.sealed
     terminal 0 "'$tool' open -k key letter.sealed"
     says 'a letter'
-    printf '\033[2J' > letter
-    status 0 "$tool" seal --force -k key letter letter.sealed
-    terminal 3 "'$tool' open -k key letter.sealed"
-    says 'a terminal cannot show'
-    terminal 0 "'$tool' open -k key letter.sealed -"
+    for bad in 'x\033[2J' 'x\x00' 'x\x7f' 'x\xc2\x9b2J' 'x\xc2\x80' 'x\x9b2J' 'x\xff' 'x\xc2' 'x\xe2\x98' 'x\xed\xa0\x80' 'x\xc0\xaf' 'x\xf5\x80\x80\x80'; do
+        printf "$bad" > letter
+        status 0 "$tool" seal --force -k key letter letter.sealed
+        terminal 3 "'$tool' open -k key letter.sealed"
+        says 'not one that a terminal can show'
+        ! LC_ALL=C grep -q "$(printf '[\033\177-\377]')" said || fail "bytes of $bad were printed: $(od -c said)"
+        terminal 0 "'$tool' open -k key letter.sealed -"
+    done
+    # Characters of several bytes at the end of a piece.
+    for before in 65533 65534 65535; do
+        { head -c $before /dev/zero | tr '\0' x; printf '\xc3\xbc\xe2\x98\x83\xf0\x9f\x98\x80 fin\n'; } > letter
+        status 0 "$tool" seal --force -k key letter letter.sealed
+        terminal 0 "'$tool' open -k key letter.sealed"
+        tr -d '\r' < said | cmp - letter
+        head -c $((before + 2)) letter > cut-letter
+        printf '\x9b2J' >> cut-letter
+        status 0 "$tool" seal --force -k key cut-letter letter.sealed
+        terminal 3 "'$tool' open -k key letter.sealed"
+    done
     truncate -s 200M sparse
     status 0 "$tool" seal -k key sparse sparse.sealed
     [ ! -s said ] || fail "progress was shown on no terminal: $(cat said)"
@@ -277,6 +508,7 @@ found=0
 status 3 "$tool" seal -k key . out-of-a-folder
 status 3 "$tool" seal -k key small no/such/folder
 status 3 "$tool" seal -k key no-such-file out
+no_parts
 
 echo 'killed at 200 moments'
 head -c 30000000 /dev/urandom > long
@@ -290,6 +522,11 @@ for turn in $(seq 200); do
     sleep "0.0$((RANDOM % 10))$((RANDOM % 10))"
     kill -9 $! 2> /dev/null || true
     wait $! 2> /dev/null || true
+    for left in .*.hunkravy-*; do
+        [ -e "$left" ] || continue
+        [[ $left =~ ^\.(new|old)\.hunkravy-[0-9a-f]{16}$ ]] || fail "a killed run left $left"
+        rm "$left"
+    done
     if [ -e new ]; then "$tool" open --force -k key new text && cmp text long; fi
     [ -e old ] || fail 'the old output is lost'
     cmp -s old whole || { "$tool" open --force -k key old text && cmp text long; "$tool" seal --force -k key small old; }

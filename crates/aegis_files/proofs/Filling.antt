@@ -1,8 +1,8 @@
 -- A buffer of which a part is filled.
-use Rattle.std.proofs.Common.{◌≡◌, ℕ, ◌+◌, ◌-◌, ◌<◌, ◌≤◌, List, ◌++◌, Option, arith, length, take, drop, sym, ap, ◌∙◌, subst, le_refl, length-take-le}
+use Rattle.std.proofs.Common.{◌≡◌, ℕ, ◌+◌, ◌-◌, ◌<◌, ◌≤◌, List, ◌++◌, Option, arith, length, take, drop, refl, sym, ap, ◌∙◌, subst, le_refl, length-take-le}
 use Rattle.std.proofs.KnownBytes.{Consumes-trans}
 use Rattle.std.proofs.Math.Seq.{take-append-add}
-use Rattle.std.proofs.lemmas.List.{length-append, length-drop, length-take, take-append-le, take_all, with_items_is}
+use Rattle.std.proofs.lemmas.List.{length-append, length-drop, length-take, take-append-le, take-take, take_all, with_items_is}
 use Rattle.std.proofs.lemmas.Slice.{take-put_mid_below}
 use Rattle.std.specs.Io.KnownBytes.{Consumes, IsAtEnd}
 use Rattle.std.specs.Prelude.{Vec}
@@ -65,3 +65,38 @@ filled_part v old all part from to n left left' value front ordered fits same wi
 pub longer : (old zeros : List ℕ) (from to : ℕ) → from ≤ length old → length old ≤ to → take from (take to old ++ zeros) ≡ take from old
 longer old zeros from to within grown =
     ap (λ (l : List ℕ). take from (l ++ zeros)) (take_all to old grown) ∙ take-append-le from old zeros within
+
+-- no bytes were read yet
+pub filled_none : (old : List ℕ) (from : ℕ) (left : Option (List ℕ)) → from ≤ length old → ReadsPart old old from from from left left
+filled_none old from left within = record {
+  within = within;
+  above = le_refl from;
+  below = le_refl from;
+  kept = refl;
+  read = λ first before. before;
+  ended = λ short. absurd (omega (arith, short));
+}
+
+-- one step more
+pub filled_step : (old mid new : List ℕ) (from a to end : ℕ) (left left' left'' : Option (List ℕ)) → ReadsPart old mid from a a left left'
+    → ReadsPart mid new a to end left' left'' → ReadsPart old new from to end left left''
+filled_step old mid new from a to end left left' left'' before step = record {
+  within = step.within;
+  above = omega (arith, before.above, step.above);
+  below = step.below;
+  kept = sym (take-take from a new before.above) ∙ ap (take from) step.kept ∙ take-take from a mid before.above ∙ before.kept;
+  read = λ first start. step.read first (before.read first start);
+  ended = step.ended;
+}
+
+-- the same bytes are all up to another end
+pub filled_to : (old new : List ℕ) (from a b end : ℕ) (left left' : Option (List ℕ)) → ReadsPart old new from a end left left' → end ≤ b → (end < b → IsAtEnd left')
+    → ReadsPart old new from b end left left'
+filled_to old new from a b end left left' r below ended = record {
+  within = r.within;
+  above = r.above;
+  below = below;
+  kept = r.kept;
+  read = r.read;
+  ended = ended;
+}

@@ -1,14 +1,14 @@
 -- The facts that hold between two records of a range that is opened.
-use Rattle.std.proofs.Common.{◌≡◌, ◌⊎◌, ℕ, ◌+◌, ◌-◌, ◌<◌, ◌≤◌, Bool, true, false, List, [], ◌∷◌, ◌++◌, Option, None, Some, IfSome, drop, length, take, refl, sym, ap, subst, ◌∙◌, append_assoc, arith, inl, inr}
+use Rattle.std.proofs.Common.{◌≡◌, ◌⊎◌, ℕ, zero, suc, ◌+◌, ◌-◌, ◌<◌, ◌≤◌, Bool, true, false, List, [], ◌∷◌, ◌++◌, Option, None, Some, IfSome, drop, length, take, refl, sym, ap, subst, ◌∙◌, append_assoc, arith, inl, inr}
 use Rattle.std.proofs.KnownBytes.{Appends-kept, Appends-nil, Appends-trans, Consumes-nil, Consumes-trans}
 use Rattle.std.proofs.Math.Nat.{add-zero}
-use Rattle.std.proofs.Math.Seq.{drop-append-add}
-use Rattle.std.proofs.lemmas.List.{append-nil, length-append, length-take, take_at}
+use Rattle.std.proofs.Math.Seq.{drop-append-add, take-append-add}
+use Rattle.std.proofs.lemmas.List.{append-nil, drop_at, length-append, length-take, take_all, take_at}
 use Rattle.std.specs.Bool.{OnFalse, OnTrue}
 use Rattle.std.specs.Io.KnownBytes.{Appends, Consumes, Keeps}
 use Rattle.std.specs.List.{concat}
 use Rattle.aegis.specs.declared.record.position.RecordPosition.{RecordPosition}
-use Rattle.aegis.specs.Progress.{AreRecordsOfSomeVersion, Begun, Progress, after, last_flag, progress_at, record_of, start_at, start_of}
+use Rattle.aegis.specs.Progress.{AreRecordsOfSomeVersion, Begun, Progress, after, last_flag, position_of, progress_at, record_of, start_at, start_of}
 use Rattle.aegis.specs.Records.{sealed}
 use Rattle.aegis.specs.RecordStream.{AreWithin, Sealing, frame, frames, limit, total}
 use Rattle.aegis.proofs.Fronts.{begun_front}
@@ -16,6 +16,7 @@ use Rattle.aegis.proofs.Reading.{frames_push, total_push, within_push}
 use Rattle.aegis.proofs.Sealed.{sealed-is}
 use Rattle.aegis.proofs.Stepwise.{length-record_of}
 use Rattle.aegis.proofs.Streams.{one_record_stream}
+use Rattle.aegis_files.specs.declared.range.OpenedRange.{OpenedRange}
 use Rattle.aegis_files.specs.declared.range.TextRange.{TextRange}
 use Rattle.aegis_files.specs.Range.{AreFrom, IsTextFrom, OpensRange, part_of, part_of_text}
 use Rattle.aegis_files.specs.Reading.{ReadsNext}
@@ -134,53 +135,79 @@ are_from key prefix context position p is_last messages taken rest stream r is =
 
 -- ---- the text
 
--- the text from the position on is that of the messages, and of others if their last record is not the stream's
-pub record GoesOn (range : TextRange) (is_last : Bool) (messages : List (List ℕ)) (text : List ℕ) : Type 0 where
+take_none : (n : ℕ) → take {A = List ℕ} n [] ≡ []
+take_none zero = refl
+take_none (suc n) = refl
+
+-- what follows equal lists of messages
+after_them : (a x y : List (List ℕ)) → a ++ x ≡ a ++ y → x ≡ y
+after_them a x y e = sym (drop_at a x (length a) refl) ∙ ap (drop (length a)) e ∙ drop_at a y (length a) refl
+
+-- the records asked for are those of the messages, and others if their last record is not the stream's and more are asked for
+pub record GoesOn (range : TextRange) (is_last : Bool) (messages following : List (List ℕ)) : Type 0 where
   pub others : List ℕ
-  pub part_is : part_of_text range text ≡ take range.length (drop range.skip (concat messages ++ others))
+  pub part_is : part_of range (take range.records following) ≡ take range.length (drop range.skip (concat messages ++ others))
   pub ends : OnTrue is_last (others ≡ [])
+  pub full : length messages ≡ range.records → others ≡ []
 
-pub goes_on : (key prefix context : List ℕ) (range : TextRange) (p : Progress) (is_last : Bool) (messages : List (List ℕ)) (taken rest stream text : List ℕ)
-    → ReadsFrom key prefix context range.position p is_last messages taken → stream ≡ taken ++ rest
-    → IsTextFrom key prefix context range.position text stream → GoesOn range is_last messages text
-goes_on key prefix context range p is_last messages taken rest stream text r is t = go is_last r
+pub goes_on : (key prefix context : List ℕ) (range : TextRange) (p : Progress) (is_last : Bool) (messages : List (List ℕ)) (taken rest stream : List ℕ) (following : List (List ℕ)) (text : List ℕ)
+    → ReadsFrom key prefix context range.position p is_last messages taken → stream ≡ taken ++ rest → length messages ≤ range.records
+    → (t : IsTextFrom key prefix context range.position following text stream) → GoesOn range is_last messages following
+goes_on key prefix context range p is_last messages taken rest stream following text r is within t = go is_last r
   where
-    -- the bytes of the text before the position
-    size : range.position.before ≡ length (concat t.messages)
-    size = (counted (progress_at key prefix context range.position) key prefix context t.messages t.before t.begun).1 ∙ total-concat t.messages
+    left : ℕ
+    left = range.records - length messages
 
-    after_them : (others : List (List ℕ)) → t.all ≡ t.messages ++ (messages ++ others)
-        → part_of_text range text ≡ take range.length (drop range.skip (concat messages ++ concat others))
-    after_them others e =
-        ap (λ (l : List ℕ). take range.length (drop (range.position.before + range.skip) l)) (t.text_is ∙ ap concat e ∙ concat-append t.messages (messages ++ others))
-        ∙ ap (λ (n : ℕ). take range.length (drop (n + range.skip) (concat t.messages ++ concat (messages ++ others)))) size
-        ∙ ap (take range.length) (drop-append-add (concat t.messages) (concat (messages ++ others)) range.skip)
-        ∙ ap (λ (l : List ℕ). take range.length (drop range.skip l)) (concat-append messages others)
+    part_is : (others : List (List ℕ)) → t.messages ++ following ≡ t.messages ++ (messages ++ others)
+        → part_of range (take range.records following) ≡ take range.length (drop range.skip (concat messages ++ concat (take left others)))
+    part_is others e =
+        let size : range.records ≡ length messages + left = omega (arith, within) in
+        let all : take range.records following ≡ messages ++ take left others =
+        ap (take range.records) (after_them t.messages following (messages ++ others) e)
+        ∙ ap (λ (n : ℕ). take n (messages ++ others)) size ∙ take-append-add messages others left in
+        ap (λ (l : List (List ℕ)). part_of range l) all
+        ∙ ap (λ (l : List ℕ). take range.length (drop range.skip l)) (concat-append messages (take left others))
 
-    go : (is_last : Bool) → ReadsFrom key prefix context range.position p is_last messages taken → GoesOn range is_last messages text
+    full : (others : List (List ℕ)) → length messages ≡ range.records → concat (take left others) ≡ []
+    full others e = let none : left ≡ 0 = omega (arith, e) in rw none refl
+
+    go : (is_last : Bool) → ReadsFrom key prefix context range.position p is_last messages taken → GoesOn range is_last messages following
     go false r =
-        let other = begun_front p key prefix context (t.messages ++ messages) (t.before ++ taken) (r.begun t.messages t.before t.begun) t.all rest
-        (subst (AreRecordsOfSomeVersion key prefix context t.all) (ap (λ (l : List ℕ). t.before ++ l) is ∙ sym (append_assoc t.before taken rest)) t.are) in
+        let other = begun_front p key prefix context (t.messages ++ messages) (t.before ++ taken) (r.begun t.messages t.before t.begun) (t.messages ++ following) rest
+        (subst (AreRecordsOfSomeVersion key prefix context (t.messages ++ following)) (ap (λ (l : List ℕ). t.before ++ l) is ∙ sym (append_assoc t.before taken rest)) t.are) in
         record {
-          others = concat other.0;
-          part_is = after_them other.0 (other.1 ∙ append_assoc t.messages messages other.0);
+          others = concat (take left other.0);
+          part_is = part_is other.0 (other.1 ∙ append_assoc t.messages messages other.0);
           ends = tt;
+          full = full other.0;
         }
     go true r =
         let whole = r.whole t.messages t.before t.begun in
-        let only = one_record_stream (sealed key prefix context) (sealed-is key prefix context) t.are.0 whole.0 t.all (t.messages ++ messages) (t.before ++ stream) (t.before ++ taken) [] rest
+        let only = one_record_stream (sealed key prefix context) (sealed-is key prefix context) t.are.0 whole.0 (t.messages ++ following) (t.messages ++ messages) (t.before ++ stream) (t.before ++ taken) [] rest
         t.are.1 whole.1 (append-nil (t.before ++ stream) ∙ ap (λ (l : List ℕ). t.before ++ l) is ∙ sym (append_assoc t.before taken rest)) in
         record {
           others = [];
-          part_is = after_them [] (only.1 ∙ ap (λ (l : List (List ℕ)). t.messages ++ l) (sym (append-nil messages)));
+          part_is = part_is [] (only.1 ∙ ap (λ (l : List (List ℕ)). t.messages ++ l) (sym (append-nil messages)))
+              ∙ ap (λ (l : List (List ℕ)). take range.length (drop range.skip (concat messages ++ concat l))) (take_none left);
           ends = refl;
+          full = λ e. refl;
         }
+
+-- the bytes of the text from the position on are those of the messages from there on
+text_from : (key prefix context : List ℕ) (range : TextRange) (following : List (List ℕ)) (text stream : List ℕ) (t : IsTextFrom key prefix context range.position following text stream)
+    → part_of_text range text ≡ part_of range following
+text_from key prefix context range following text stream t =
+    let size : range.position.before ≡ length (concat t.messages) =
+    (counted (progress_at key prefix context range.position) key prefix context t.messages t.before t.begun).1 ∙ total-concat t.messages in
+    ap (λ (l : List ℕ). take range.length (drop (range.position.before + range.skip) l)) (t.text_is ∙ concat-append t.messages following)
+    ∙ ap (λ (n : ℕ). take range.length (drop (n + range.skip) (concat t.messages ++ concat following))) size
+    ∙ ap (take range.length) (drop-append-add (concat t.messages) (concat following) range.skip)
 
 -- ---- between records
 
--- The messages were read, and the range's part of them was written. `skip` bytes more are left out, and `more` bytes more are
--- to be written.
-pub record RangeSome (key prefix context : List ℕ) (range : TextRange) (p : Progress) (is_last : Bool) (skip more : ℕ) (stream left old new : Option (List ℕ)) : Type 0 where
+-- The messages were read, and the range's part of them was written. `skip` bytes more are left out, and `more` bytes of `records`
+-- records more are to be written.
+pub record RangeSome (key prefix context : List ℕ) (range : TextRange) (p : Progress) (is_last : Bool) (skip more records : ℕ) (stream left old new : Option (List ℕ)) : Type 0 where
   pub messages : List (List ℕ)
   pub taken : List ℕ
   pub reads : ReadsFrom key prefix context range.position p is_last messages taken
@@ -188,22 +215,35 @@ pub record RangeSome (key prefix context : List ℕ) (range : TextRange) (p : Pr
   pub written : Appends old new (part_of range messages)
   pub skip_is : skip ≡ range.skip - length (concat messages)
   pub more_is : more ≡ range.length - length (part_of range messages)
-  pub needed : (ms : List (List ℕ)) (m : List ℕ) → messages ≡ ms ++ m ∷ [] → length (part_of range ms) < range.length
+  pub records_is : length messages + records ≡ range.records
+  pub needed : (ms : List (List ℕ)) (m : List ℕ) → messages ≡ ms ++ m ∷ [] → 0 < length ms
+      → (length (part_of range ms) < range.length) ⊎ (length (concat ms) < range.skip)
+
+-- the same, and one more record is needed
+pub record RangeMore (key prefix context : List ℕ) (range : TextRange) (p : Progress) (skip more records : ℕ) (stream left old new : Option (List ℕ)) : Type 0 where
+  pub some : RangeSome key prefix context range p false skip more records stream left old new
+  pub asked : 0 < records
+  pub on : 0 < length some.messages → (0 < more) ⊎ (0 < skip)
 
 pub part_none : (range : TextRange) → part_of range [] ≡ []
 part_none range = part_nil range.skip range.length
 
-pub range_begin : (key prefix context : List ℕ) (range : TextRange) (p : Progress) (stream old : Option (List ℕ)) → p ≡ progress_at key prefix context range.position
-    → RangeSome key prefix context range p false range.skip range.length stream stream old old
-range_begin key prefix context range p stream old is = record {
-  messages = [];
-  taken = [];
-  reads = reads_none key prefix context range.position p is;
-  read = Consumes-nil stream;
-  written = subst (Appends old old) (sym (part_none range)) (Appends-nil old);
-  skip_is = omega arith;
-  more_is = omega (arith, ap length (part_none range));
-  needed = λ ms m e. absurd (omega (arith, ap length e, length-append ms (m ∷ [])));
+pub range_begin : (key prefix context : List ℕ) (range : TextRange) (p : Progress) (stream old : Option (List ℕ)) → p ≡ progress_at key prefix context range.position → 0 < range.records
+    → RangeMore key prefix context range p range.skip range.length range.records stream stream old old
+range_begin key prefix context range p stream old is asked = record {
+  some = record {
+    messages = [];
+    taken = [];
+    reads = reads_none key prefix context range.position p is;
+    read = Consumes-nil stream;
+    written = subst (Appends old old) (sym (part_none range)) (Appends-nil old);
+    skip_is = omega arith;
+    more_is = omega (arith, ap length (part_none range));
+    records_is = omega arith;
+    needed = λ ms m e some. absurd (omega (arith, ap length e, length-append ms (m ∷ [])));
+  };
+  asked = asked;
+  on = λ some. absurd (omega (arith, some));
 }
 
 -- what is in front of the last of two equal lists
@@ -212,64 +252,96 @@ front_one a b x y e =
     let size : length b ≡ length a = omega (arith, ap length e, length-append a (x ∷ []), length-append b (y ∷ [])) in
     sym (take_at a (x ∷ []) (length a) refl) ∙ ap (take (length a)) e ∙ take_at b (y ∷ []) (length a) size
 
-pub range_more : (key prefix context : List ℕ) (range : TextRange) (p q : Progress) (is_last : Bool) (skip skip' more more' : ℕ) (stream left left' old new new' : Option (List ℕ)) (m piece : List ℕ)
-    → RangeSome key prefix context range p false skip more stream left old new → ReadsNext p q left left' is_last m → 0 < more → piece ≡ take more (drop skip m)
-    → Appends new new' piece → skip' ≡ skip - length m → more' ≡ more - length piece
-    → RangeSome key prefix context range q is_last skip' more' stream left' old new'
-range_more key prefix context range p q is_last skip skip' more more' stream left left' old new new' m piece s next some piece_is written skip_is more_is =
+pub range_more : (key prefix context : List ℕ) (range : TextRange) (p q : Progress) (is_last : Bool) (skip skip' more more' records records' : ℕ) (stream left left' old new new' : Option (List ℕ)) (m piece : List ℕ)
+    → RangeMore key prefix context range p skip more records stream left old new → ReadsNext p q left left' is_last m → piece ≡ take more (drop skip m)
+    → Appends new new' piece → skip' ≡ skip - length m → more' ≡ more - length piece → records' ≡ records - 1
+    → (next : RangeSome key prefix context range q is_last skip' more' records' stream left' old new') × (0 < length next.messages)
+range_more key prefix context range p q is_last skip skip' more more' records records' stream left left' old new new' m piece before next piece_is written skip_is more_is records_is =
+    let s = before.some in
     let parts : part_of range (s.messages ++ m ∷ []) ≡ part_of range s.messages ++ piece =
     part_more range s.messages m skip more s.skip_is s.more_is ∙ ap (λ (l : List ℕ). part_of range s.messages ++ l) (sym piece_is) in
-    record {
-      messages = s.messages ++ m ∷ [];
-      taken = s.taken ++ record_of p (last_flag is_last) m;
-      reads = reads_more key prefix context range.position p q is_last s.messages s.taken m left left' s.reads next;
-      read = Consumes-trans stream left left' s.taken (record_of p (last_flag is_last) m) s.read next.read;
-      written = subst (Appends old new') (sym parts) (Appends-trans old new new' (part_of range s.messages) piece s.written written);
-      skip_is = omega (arith, skip_is, s.skip_is, ap length (concat-push s.messages m), length-append (concat s.messages) m);
-      more_is = omega (arith, more_is, s.more_is, ap length parts, length-append (part_of range s.messages) piece);
-      needed = λ ms n e. subst (λ (l : List (List ℕ)). length (part_of range l) < range.length) (front_one s.messages ms m n e) (omega (arith, some, s.more_is));
-    }
+    let size : length (s.messages ++ m ∷ []) ≡ length s.messages + 1 = length-append s.messages (m ∷ []) in (
+      record {
+        messages = s.messages ++ m ∷ [];
+        taken = s.taken ++ record_of p (last_flag is_last) m;
+        reads = reads_more key prefix context range.position p q is_last s.messages s.taken m left left' s.reads next;
+        read = Consumes-trans stream left left' s.taken (record_of p (last_flag is_last) m) s.read next.read;
+        written = subst (Appends old new') (sym parts) (Appends-trans old new new' (part_of range s.messages) piece s.written written);
+        skip_is = omega (arith, skip_is, s.skip_is, ap length (concat-push s.messages m), length-append (concat s.messages) m);
+        more_is = omega (arith, more_is, s.more_is, ap length parts, length-append (part_of range s.messages) piece);
+        records_is = omega (arith, records_is, s.records_is, before.asked, size);
+        needed = λ ms n e some. needed ms (front_one s.messages ms m n e) some;
+      },
+      omega (arith, size),
+    )
+  where
+    go : (ms : List (List ℕ)) → before.some.messages ≡ ms → (0 < more) ⊎ (0 < skip)
+        → (length (part_of range ms) < range.length) ⊎ (length (concat ms) < range.skip)
+    go ms is (inl low) = inl (subst (λ (l : List (List ℕ)). length (part_of range l) < range.length) is (omega (arith, low, before.some.more_is)))
+    go ms is (inr low) = inr (subst (λ (l : List (List ℕ)). length (concat l) < range.skip) is (omega (arith, low, before.some.skip_is)))
 
--- the part so far is the text's, if the last record was opened or no more is asked for
-part_whole : (key prefix context : List ℕ) (range : TextRange) (p : Progress) (is_last : Bool) (messages : List (List ℕ)) (taken rest stream text : List ℕ)
-    → ReadsFrom key prefix context range.position p is_last messages taken → stream ≡ taken ++ rest
-    → (is_last ≡ true) ⊎ (range.length - length (part_of range messages) ≡ 0)
-    → IsTextFrom key prefix context range.position text stream → part_of range messages ≡ part_of_text range text
-part_whole key prefix context range p is_last messages taken rest stream text r is whole t =
-    let on = goes_on key prefix context range p is_last messages taken rest stream text r is t in
-    sym (on.part_is ∙ part-append range.skip range.length (concat messages) on.others ∙ ap (λ (l : List ℕ). part_of range messages ++ l) (no_more is_last on.others on.ends whole)
+    needed : (ms : List (List ℕ)) → before.some.messages ≡ ms → 0 < length ms → (length (part_of range ms) < range.length) ⊎ (length (concat ms) < range.skip)
+    needed ms is some = go ms is (before.on (subst (λ (l : List (List ℕ)). 0 < length l) (sym is) some))
+
+-- the part so far is the text's, if no more is asked for or the last record was opened
+part_whole : (key prefix context : List ℕ) (range : TextRange) (p : Progress) (is_last : Bool) (messages : List (List ℕ)) (taken rest stream : List ℕ) (following : List (List ℕ)) (text : List ℕ)
+    → ReadsFrom key prefix context range.position p is_last messages taken → stream ≡ taken ++ rest → length messages ≤ range.records
+    → (is_last ≡ true) ⊎ ((length messages ≡ range.records) ⊎ (range.length - length (part_of range messages) ≡ 0))
+    → (t : IsTextFrom key prefix context range.position following text stream) → part_of range messages ≡ part_of range (take range.records following)
+part_whole key prefix context range p is_last messages taken rest stream following text r is within whole t =
+    let on = goes_on key prefix context range p is_last messages taken rest stream following text r is within t in
+    sym (on.part_is ∙ part-append range.skip range.length (concat messages) on.others ∙ ap (λ (l : List ℕ). part_of range messages ++ l) (no_more is_last on.others on.ends on.full whole)
     ∙ append-nil (part_of range messages))
   where
-    no_more : (is_last : Bool) (others : List ℕ) → OnTrue is_last (others ≡ []) → (is_last ≡ true) ⊎ (range.length - length (part_of range messages) ≡ 0)
-        → take (range.length - length (part_of range messages)) (drop (range.skip - length (concat messages)) others) ≡ []
-    no_more is_last others ends (inl last) =
-        ap (λ (l : List ℕ). take (range.length - length (part_of range messages)) (drop (range.skip - length (concat messages)) l)) (rw last at ends)
+    none : (others : List ℕ) → others ≡ [] → take (range.length - length (part_of range messages)) (drop (range.skip - length (concat messages)) others) ≡ []
+    none others is =
+        ap (λ (l : List ℕ). take (range.length - length (part_of range messages)) (drop (range.skip - length (concat messages)) l)) is
         ∙ part_nil (range.skip - length (concat messages)) (range.length - length (part_of range messages))
-    no_more is_last others ends (inr full) = rw full refl
 
-pub range_end : (key prefix context : List ℕ) (range : TextRange) (p : Progress) (is_last : Bool) (skip more n : ℕ) (stream left old new new' : Option (List ℕ))
-    → RangeSome key prefix context range p is_last skip more stream left old new → (is_last ≡ true) ⊎ (more ≡ 0) → n ≡ range.length - more → Keeps new new'
-    → IfSome stream (λ f. OpensRange key prefix context range n f left old new')
-range_end key prefix context range p is_last skip more n None left old new new' s whole count kept = tt
-range_end key prefix context range p is_last skip more n (Some f) left old new new' s whole count kept =
+    no_more : (is_last : Bool) (others : List ℕ) → OnTrue is_last (others ≡ []) → (length messages ≡ range.records → others ≡ [])
+        → (is_last ≡ true) ⊎ ((length messages ≡ range.records) ⊎ (range.length - length (part_of range messages) ≡ 0))
+        → take (range.length - length (part_of range messages)) (drop (range.skip - length (concat messages)) others) ≡ []
+    no_more is_last others ends full (inl last) = none others (rw last at ends)
+    no_more is_last others ends full (inr (inl all)) = none others (full all)
+    no_more is_last others ends full (inr (inr done)) = rw done refl
+
+pub range_end : (key prefix context : List ℕ) (range : TextRange) (p : Progress) (is_last : Bool) (skip more records : ℕ) (opened : OpenedRange) (stream left old new new' : Option (List ℕ))
+    → (s : RangeSome key prefix context range p is_last skip more records stream left old new) → 0 < length s.messages
+    → (is_last ≡ true) ⊎ ((records ≡ 0) ⊎ ((more ≡ 0) × (skip ≡ 0)))
+    → opened.written ≡ range.length - more → opened.end ≡ position_of p → opened.is_last ≡ is_last → Keeps new new'
+    → IfSome stream (λ f. OpensRange key prefix context range opened f left old new')
+range_end key prefix context range p is_last skip more records opened None left old new new' s some done written_is end_is last_is kept = tt
+range_end key prefix context range p is_last skip more records opened (Some f) left old new new' s some done written_is end_is last_is kept =
     let parts = split f s.taken left s.read in
+    let within : length s.messages ≤ range.records = omega (arith, s.records_is) in
+    let part_is = λ (following : List (List ℕ)) (text : List ℕ) (t : IsTextFrom key prefix context range.position following text f).
+    part_whole key prefix context range p is_last s.messages s.taken parts.0 f following text s.reads parts.1 within (full done) t in
     record {
       messages = s.messages;
-      flag = last_flag is_last;
       rest = parts.0;
-      records = are_from key prefix context range.position p is_last s.messages s.taken parts.0 f s.reads parts.1;
+      records = subst (λ (b : Bool). AreFrom key prefix context range.position (last_flag b) s.messages parts.0 f) (sym last_is)
+          (are_from key prefix context range.position p is_last s.messages s.taken parts.0 f s.reads parts.1);
+      some = some;
+      within = within;
       written = Appends-kept old new new' (part_of range s.messages) s.written kept;
-      count = omega (arith, count, s.more_is, length-take range.length (drop range.skip (concat s.messages)));
-      whole = λ short. last whole (omega (arith, short, count));
+      count = omega (arith, written_is, s.more_is, length-take range.length (drop range.skip (concat s.messages)));
+      ended = end_is ∙ ap position_of s.reads.reached;
+      whole = whole done;
       read = parts.2;
       needed = s.needed;
-      of_text = λ text t. part_whole key prefix context range p is_last s.messages s.taken parts.0 f text s.reads parts.1 (full whole) t;
+      of_text = part_is;
+      of_bytes = λ following text t all. part_is following text t ∙ ap (λ (l : List (List ℕ)). part_of range l) (take_all range.records following all)
+          ∙ sym (text_from key prefix context range following text f t);
     }
   where
-    last : (is_last ≡ true) ⊎ (more ≡ 0) → 0 < more → last_flag is_last ≡ 1
-    last (inl is) some = rw is refl
-    last (inr none) some = absurd (omega (arith, none, some))
+    whole : (is_last ≡ true) ⊎ ((records ≡ 0) ⊎ ((more ≡ 0) × (skip ≡ 0)))
+        → (length s.messages ≡ range.records) ⊎ ((opened.is_last ≡ true) ⊎ ((opened.written ≡ range.length) × (range.skip ≤ length (concat s.messages))))
+    whole (inl last) = inr (inl (last_is ∙ last))
+    whole (inr (inl none)) = inl (omega (arith, none, s.records_is))
+    whole (inr (inr (none, in_it))) = inr (inr (omega (arith, written_is, none), omega (arith, in_it, s.skip_is)))
 
-    full : (is_last ≡ true) ⊎ (more ≡ 0) → (is_last ≡ true) ⊎ (range.length - length (part_of range s.messages) ≡ 0)
-    full (inl is) = inl is
-    full (inr none) = inr (sym s.more_is ∙ none)
+    full : (is_last ≡ true) ⊎ ((records ≡ 0) ⊎ ((more ≡ 0) × (skip ≡ 0)))
+        → (is_last ≡ true) ⊎ ((length s.messages ≡ range.records) ⊎ (range.length - length (part_of range s.messages) ≡ 0))
+    full (inl last) = inl last
+    full (inr (inl none)) = inr (inl (omega (arith, none, s.records_is)))
+    full (inr (inr (none, in_it))) = inr (inr (sym s.more_is ∙ none))

@@ -4,7 +4,8 @@ ghost use Rattle.std.specs.Prelude.{◌≡◌, ◌+◌, ◌≤◌, [], ◌++◌,
 ghost use Rattle.std.specs.Io.KnownBytes.{Consumes, IsAtEnd};
 ghost use Rattle.aegis.specs.Calls.{message_of};
 ghost use Rattle.aegis.specs.Fault.{parts};
-ghost use Rattle.aegis.specs.Progress.{record_of};
+ghost use Rattle.aegis.specs.Progress.{record_of, start_of};
+ghost use Rattle.aegis_base.specs.declared.error.TheConstants.{MAX_AEAD_BYTES};
 ghost use Rattle.aegis_files.specs.Reading.{FailsNext, ReadsNext};
 
 use crate::error::FileError;
@@ -16,9 +17,9 @@ use std::alloc::Allocator;
 use std::io::Read;
 
 // Reads the next record to the front of the buffer, or the bytes that there are of it. Returns how many.
-fn read_record<R: Read, A: Allocator + Copy>(
+fn read_record<R: Read, A: Allocator>(
     input: &mut R,
-    opener: &RecordOpener<'_, A>,
+    opener: &RecordOpener<'_>,
     buffer: &mut Vec<u8, A>,
 ) -> Result<usize, FileError>
     ensures within { IfOk result (λ n. n ≤ length buffer.new.items) }
@@ -43,9 +44,9 @@ fn read_record<R: Read, A: Allocator + Copy>(
 
 // Reads the next record, and opens it where it lies: at the front of the buffer, which is made longer only if the record
 // needs more.
-pub(crate) fn next_message<R: Read, A: Allocator + Copy>(
+pub(crate) fn next_message<R: Read, A: Allocator>(
     input: &mut R,
-    opener: &mut RecordOpener<'_, A>,
+    opener: &mut RecordOpener<'_>,
     buffer: &mut Vec<u8, A>,
 ) -> Result<OpenedInPlace, FileError>
     ensures size { IfOk result
@@ -53,6 +54,7 @@ pub(crate) fn next_message<R: Read, A: Allocator + Copy>(
     ensures opened { IfOk result (λ opened. ReadsNext opener.old opener.new
         (R.remaining input.old) (R.remaining input.new)
         opened.is_last (message_of opened buffer.new.items)) }
+    ensures fits { IfOk result (λ opened. start_of opener.new ≤ MAX_AEAD_BYTES) }
     ensures failed { IfErr result (λ e. FailsNext opener.old (R.remaining input.old) e) }
 {
     let count = read_record(input, opener, buffer)?;

@@ -35,7 +35,7 @@ fn open_under<R: Read, W: Write, A: Allocator + Copy>(
 {
     let mut header = [0; 4];
     let count = fill(input, &mut header)?;
-    let mut opener = RecordOpener::new(alloc, key, prefix, context, &header[..count])?;
+    let mut opener = RecordOpener::new(key, prefix, context, &header[..count])?;
     let mut buffer = Vec::new(alloc);
     'records: loop {
         let opened = next_message(input, &mut opener, &mut buffer)?;

@@ -1,6 +1,7 @@
 //! Opening a part of the text of a sealed file, from a reader to a writer.
 
-ghost use Rattle.std.specs.Prelude.{◌≡◌, ◌≤◌, IfErr, IfOk, IfSome, drop, length, take};
+ghost use Rattle.std.specs.Prelude.{◌≡◌, ◌<◌, ◌≤◌, ◌⊎◌, IfErr, IfOk, IfSome, drop, false, length, take, true};
+ghost use Rattle.std.specs.Bool.{OnFalse, OnTrue};
 ghost use Rattle.aegis_base.specs.declared.error.TheConstants.{MAX_AEAD_BYTES};
 ghost use Rattle.aegis.specs.Progress.{start_at};
 ghost use Rattle.aegis_files.specs.Range.{OpensRange, StopsRange};
@@ -13,7 +14,7 @@ use aegis::record::{MAX_CONTEXT_BYTES, RecordOpener, RecordPosition};
 use std::alloc::Allocator;
 use std::io::{Read, Write};
 
-/// A part of a text, from one of its records on.
+/// A part of a text, from one of its records on. It ends after so many bytes or so many records, whichever come first.
 #[derive(Clone, Copy, Debug, PartialEq, Eq)]
 pub struct TextRange {
     /// The position of the record at which the input begins.
@@ -22,6 +23,20 @@ pub struct TextRange {
     pub skip: u64,
     /// How many bytes the part has at most.
     pub length: u64,
+    /// How many records are opened at most, at least 1.
+    pub records: u64,
+}
+
+/// What was opened of a part of a text.
+#[derive(Clone, Copy, Debug, PartialEq, Eq)]
+pub struct OpenedRange {
+    /// How many bytes were written.
+    pub written: u64,
+    /// The position after the last of the records that were opened.
+    pub end: RecordPosition,
+    /// Whether that is the last record of the file, so that `end` has the number of all its records and of all bytes of
+    /// its text.
+    pub is_last: bool,
 }
 
 // At most `length` bytes of the message, after its first `skip` ones.
@@ -33,24 +48,37 @@ fn part<'b>(message: &'b [u8], skip: u64, length: u64) -> &'b [u8]
     &message[start..end]
 }
 
+// Whether a part ends with a record: with the last one, or if no more records or no more bytes are asked for.
+fn is_done(is_last: bool, records: u64, left: u64, skip: u64) -> bool
+    ensures done { OnTrue result
+        ((is_last ≡ true) ⊎ ((records ≡ 0) ⊎ ((left ≡ 0) × (skip ≡ 0)))) }
+    ensures more { OnFalse result
+        ((is_last ≡ false) × (0 < records) × ((0 < left) ⊎ (0 < skip))) }
+{
+    is_last || records == 0 || (left == 0 && skip == 0)
+}
+
 /// Opens a part of the text of a sealed file, from one of its records on. Writes those bytes of each message that are
-/// in the part, after the message's tag has been verified, and returns how many bytes were written.
+/// in the part, after the message's tag has been verified.
 ///
-/// The input begins at the record at `range.position`, and only the records up to the part's end are read from it:
-/// none if `range.length` is 0. The prefix is the file's first 24 bytes. The record starts at byte
-/// `28 + 37 * number + before` of the file; [`RecordOpener::position`] returns such positions.
+/// The input begins at the record at `range.position`. That record is opened whatever the part has of it, and after it
+/// those up to the part's end, and only they are read. So `Ok` is never returned before a tag has been verified. The
+/// prefix is the file's first 24 bytes. The record starts at byte `28 + 37 * number + before` of the file;
+/// [`RecordOpener::position`] returns such positions.
 ///
-/// Fewer than `range.length` bytes are written only if the last record was opened, so that the text ends there. If
-/// the file is that of a text, they are its bytes from byte `before + skip` on. Whatever the file is, they are bytes
-/// of messages that are sealed at just these positions. Nothing is known of the records before those that were read,
-/// nor of the ones after them.
+/// Fewer than `range.length` bytes of fewer than `range.records` records are written only if the last record was
+/// opened, so that the text ends there. If the file is that of a text, they are the part of it: of its records from
+/// `number` on, and in a part that `range.records` does not end the text's bytes from `before + skip` on. Whatever the
+/// file is, they are bytes of messages that are sealed at just these positions. Nothing is known of the records before
+/// those that were read, nor of the ones after them. In a stream of the first version a record is sealed at its number
+/// alone, so there the bytes before it are known only to those who have opened the records before it.
 ///
 /// After any error, only bytes of the part from verified records were written, all of them unless a write failed. The
 /// file of a text is refused only if memory runs out. The error is [`FileError::TooLong`] only if the record stream
 /// has more than [`aegis::MAX_AEAD_BYTES`].
 ///
-/// The context must have at most [`MAX_CONTEXT_BYTES`], and the record must start at byte [`aegis::MAX_AEAD_BYTES`]
-/// of the stream at most. Memory is allocated for one record, which is opened where it lies.
+/// The context must have at most [`MAX_CONTEXT_BYTES`], the record must start at byte [`aegis::MAX_AEAD_BYTES`] of the
+/// stream at most, and at least one record must be asked for. Memory is allocated for one record, as its bytes come.
 pub fn open_range<R: Read, W: Write, A: Allocator + Copy>(
     alloc: A,
     key: &Key,
@@ -59,29 +87,36 @@ pub fn open_range<R: Read, W: Write, A: Allocator + Copy>(
     range: TextRange,
     input: &mut R,
     output: &mut W,
-) -> Result<u64, FileError>
+) -> Result<OpenedRange, FileError>
     requires context_within { length context.now ≤ MAX_CONTEXT_BYTES }
     requires start_within { start_at range.position.number range.position.before ≤ MAX_AEAD_BYTES }
-    ensures opened { IfOk result (λ n. IfSome (R.remaining input.old) (λ stream.
-        OpensRange key.now prefix.now context.now range n stream (R.remaining input.new)
+    requires some_records { 0 < range.records }
+    ensures opened { IfOk result (λ opened. IfSome (R.remaining input.old) (λ stream.
+        OpensRange key.now prefix.now context.now range opened stream (R.remaining input.new)
         (W.contents output.old) (W.contents output.new))) }
     ensures stopped { IfErr result (λ e. IfSome (R.remaining input.old) (λ stream.
         StopsRange key.now prefix.now context.now range stream
         (W.contents output.old) (W.contents output.new) e)) }
 {
-    let mut opener = RecordOpener::begin_at(alloc, key, prefix, context, range.position)?;
+    let mut opener = RecordOpener::begin_at(key, prefix, context, range.position);
     let mut buffer = Vec::new(alloc);
     let mut skip = range.skip;
     let mut left = range.length;
-    let mut is_last = false;
-    'records: while left > 0 && !is_last {
+    let mut records = range.records;
+    'records: loop {
         let opened = next_message(input, &mut opener, &mut buffer)?;
         let piece = part(message(&buffer, opened), skip, left);
         write(output, piece)?;
         skip = skip.saturating_sub(opened.message_len as u64);
         left -= piece.len() as u64;
-        is_last = opened.is_last;
+        records -= 1;
+        if is_done(opened.is_last, records, left, skip) {
+            flush(output)?;
+            return Ok(OpenedRange {
+                written: range.length - left,
+                end: opener.position(),
+                is_last: opened.is_last,
+            });
+        }
     }
-    flush(output)?;
-    Ok(range.length - left)
 }

@@ -5,7 +5,8 @@ ghost use Rattle.std.specs.Io.KnownBytes.{Consumes, IsAtEnd};
 ghost use Rattle.aegis_files.specs.Reading.{IsReadError, ReadsPart};
 
 use crate::error::FileError;
-use aegis::record::RecordError;
+use crate::seal::PIECE_BYTES;
+use aegis::record::{RECORD_BYTES, RecordError};
 use std::alloc::Allocator;
 use std::io;
 use std::io::{ErrorKind, Read};
@@ -37,9 +38,13 @@ pub fn fill<R: Read>(input: &mut R, buffer: &mut [u8]) -> Result<usize, FileErro
     Err(FileError::Read(io::Error::from(ErrorKind::TimedOut)))
 }
 
+// The most bytes by which a buffer is made longer before they are read: those of a record of the length that sealing
+// writes, so that its bytes come in one step.
+const STEP_BYTES: usize = RECORD_BYTES as usize + PIECE_BYTES;
+
 // Reads the bytes `from..to` of the buffer, or all that are left of the input, and returns where they end. The buffer is
 // made longer if it is shorter than that, and is not filled again.
-pub(crate) fn fill_part<R: Read, A: Allocator>(
+fn fill_step<R: Read, A: Allocator>(
     input: &mut R,
     buffer: &mut Vec<u8, A>,
     from: usize,
@@ -56,4 +61,31 @@ pub(crate) fn fill_part<R: Read, A: Allocator>(
         buffer.resize(to, 0)?;
     }
     Ok(from + fill(input, &mut buffer[from..to])?)
+}
+
+// The same in steps. A record's length is not authenticated before its tag, so memory for it is allocated as its bytes
+// come.
+pub(crate) fn fill_part<R: Read, A: Allocator>(
+    input: &mut R,
+    buffer: &mut Vec<u8, A>,
+    from: usize,
+    to: usize,
+) -> Result<usize, FileError>
+    requires ordered { from ≤ to }
+    requires within { from ≤ length buffer.old.items }
+    ensures ok { IfOk result (λ end. ReadsPart buffer.old.items buffer.new.items from to end
+        (R.remaining input.old) (R.remaining input.new)) }
+    ensures err { IfErr result
+        (λ e. IsReadError e ⊎ (e ≡ FileError.Stream RecordError.OutOfMemory)) }
+{
+    let mut end = from;
+    'steps: while end < to {
+        let step = STEP_BYTES.max(buffer.len() - end).min(to - end);
+        let next = end + step;
+        end = fill_step(input, buffer, end, next)?;
+        if end < next {
+            return Ok(end);
+        }
+    }
+    Ok(end)
 }

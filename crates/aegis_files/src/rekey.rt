@@ -49,11 +49,11 @@ fn rekey_under<'a, R: Read, W: Write, A: Allocator + Copy>(
 {
     let mut header = [0; 4];
     let count = fill(input, &mut header)?;
-    let mut opener = RecordOpener::new(alloc, from.key, from.prefix, context, &header[..count])?;
+    let mut opener = RecordOpener::new(from.key, from.prefix, context, &header[..count])?;
     let FileKey { key, prefix } = to;
     let mut out = Vec::new(alloc);
     write(output, prefix)?;
-    let mut sealer = RecordSealer::new(alloc, key, prefix, context, &mut out)?;
+    let mut sealer = RecordSealer::new(key, prefix, context, &mut out)?;
     let mut buffer = Vec::new(alloc);
     'records: loop {
         let opened = next_message(input, &mut opener, &mut buffer)?;

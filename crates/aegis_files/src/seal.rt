@@ -53,7 +53,7 @@ pub fn seal_stream<R: Read, W: Write, A: Allocator + Copy>(
     // The prefix and the header, and later the last record.
     let mut out = Vec::with_capacity(alloc, RECORD_BYTES as usize)?;
     out.extend_from_slice(prefix)?;
-    let mut sealer = RecordSealer::new(alloc, key, prefix, context, &mut out)?;
+    let mut sealer = RecordSealer::new(key, prefix, context, &mut out)?;
     write(output, &out)?;
     'pieces: loop {
         let piece = &mut buffer[RECORD_HEAD_BYTES..RECORD_HEAD_BYTES + PIECE_BYTES];

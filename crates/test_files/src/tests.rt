@@ -51,7 +51,7 @@ const TEXT: &[u8] = b"oneand twothree";
 fn three_records(alloc: Global, key: &[u8; 32], prefix: &[u8; 24]) -> Result<Vec<u8>, FileError> {
     let mut file = Vec::new(alloc);
     file.extend_from_slice(prefix)?;
-    let mut sealer = RecordSealer::new(alloc, key, prefix, &CONTEXT, &mut file)?;
+    let mut sealer = RecordSealer::new(key, prefix, &CONTEXT, &mut file)?;
     sealer.seal_next(MESSAGES[0], &mut file)?;
     sealer.seal_next(MESSAGES[1], &mut file)?;
     sealer.seal_last(MESSAGES[2], &mut file)?;

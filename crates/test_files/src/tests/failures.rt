@@ -171,18 +171,18 @@ fn memory_is_refused_in_turn(rt: HostRuntime) -> Result<(), Fail> {
     Ok(())
 }
 
-// The record's buffer, the vector of the other bytes, and the associated data: no piece takes memory.
+// The record's buffer, and the vector of the other bytes: no piece takes memory.
 #[test]
 fn memory_is_taken_at_the_start_alone(rt: HostRuntime) -> Result<(), Fail> {
     let mut text = Vec::new(rt.alloc());
     text.resize(2 * PIECE_BYTES + 9, 0x5a)?;
-    for requests in 0..4 {
+    for requests in 0..3 {
         let heap = Rationed::new(rt.alloc(), requests);
         let mut file = Vec::new(rt.alloc());
         let mut input = text.as_slice();
         let result = seal_stream(&heap, &KEY, &PREFIX, &CONTEXT, &mut input, &mut file);
-        assert_eq!(rt; result.is_ok(), requests == 3, "{requests}");
-        assert_eq!(rt; file.is_empty(), requests < 3, "{requests}");
+        assert_eq!(rt; result.is_ok(), requests == 2, "{requests}");
+        assert_eq!(rt; file.is_empty(), requests < 2, "{requests}");
     }
     Ok(())
 }

@@ -1,8 +1,10 @@
 //! Parts of a text, each opened from a record on.
 
+ghost use Rattle.std.specs.Prelude.{◌<◌};
+
 use super::{CONTEXT, KEY, PREFIX, TEXT, three_records};
 use aegis::record::{RecordError, RecordPosition, Version};
-use aegis_files::{FileError, TextRange, open_range};
+use aegis_files::{FileError, OpenedRange, TextRange, open_range};
 use std::alloc::Global;
 use std::io::{ErrorKind, Read, Write};
 use std::test::Fail;
@@ -38,19 +40,39 @@ const PLACES: [Place; 3] = [
 #[derive(Drop)]
 struct Part {
     written: Vec<u8>,
-    result: Result<u64, FileError>,
+    result: Result<OpenedRange, FileError>,
     left: usize,
+}
+
+// How many bytes a part leaves out, and how many bytes and records it has at most.
+#[derive(Clone, Copy)]
+struct Asked {
+    skip: u64,
+    length: u64,
+    records: u64,
+}
+
+// A part that is bounded by bytes alone.
+fn bytes(skip: u64, length: u64) -> Asked
+    ensures { 0 < result.records }
+{
+    Asked {
+        skip,
+        length,
+        records: u64::MAX,
+    }
 }
 
 // Opens a part of a text from a record on.
 fn open_part<R: Read, W: Write>(
     alloc: Global,
     place: Place,
-    skip: u64,
-    length: u64,
+    asked: Asked,
     input: &mut R,
     output: &mut W,
-) -> Result<u64, FileError> {
+) -> Result<OpenedRange, FileError>
+    requires { 0 < asked.records }
+{
     let position = RecordPosition {
         version: Version::Second,
         number: u64::from(place.number),
@@ -58,17 +80,20 @@ fn open_part<R: Read, W: Write>(
     };
     let range = TextRange {
         position,
-        skip,
-        length,
+        skip: asked.skip,
+        length: asked.length,
+        records: asked.records,
     };
     open_range(alloc, &KEY, &PREFIX, &CONTEXT, range, input, output)
 }
 
 // Opens a part of a file from a record on.
-fn opened_part(alloc: Global, file: &[u8], place: Place, skip: u64, length: u64) -> Part {
+fn opened_part(alloc: Global, file: &[u8], place: Place, asked: Asked) -> Part
+    requires { 0 < asked.records }
+{
     let mut input = file.get(place.start..).unwrap_or(&[]);
     let mut written = Vec::new(alloc);
-    let result = open_part(alloc, place, skip, length, &mut input, &mut written);
+    let result = open_part(alloc, place, asked, &mut input, &mut written);
     Part {
         written,
         result,
@@ -86,9 +111,10 @@ fn each_part_opens_from_each_record(rt: HostRuntime) -> Result<(), Fail> {
             for length in 0..=TEXT.len() {
                 let rest = text.get(skip..).unwrap_or(&[]);
                 let wanted = rest.get(..length).unwrap_or(rest);
-                let part = opened_part(rt.alloc(), &file, place, skip as u64, length as u64);
+                let asked = bytes(skip as u64, length as u64);
+                let part = opened_part(rt.alloc(), &file, place, asked);
                 assert!(rt;
-                    matches!(part.result, Ok(n) if n == wanted.len() as u64),
+                    matches!(part.result, Ok(opened) if opened.written == wanted.len() as u64),
                     "{skip}, {length}"
                 );
                 assert_eq!(rt; part.written.as_slice(), wanted, "{skip}, {length}");
@@ -101,12 +127,66 @@ fn each_part_opens_from_each_record(rt: HostRuntime) -> Result<(), Fail> {
 #[test]
 fn a_part_has_the_whole_text_at_most(rt: HostRuntime) -> Result<(), Fail> {
     let file = three_records(rt.alloc(), &KEY, &PREFIX)?;
-    let part = opened_part(rt.alloc(), &file, PLACES[0], 0, u64::MAX);
-    assert!(rt; matches!(part.result, Ok(15)));
+    let part = opened_part(rt.alloc(), &file, PLACES[0], bytes(0, u64::MAX));
+    assert!(rt; matches!(part.result, Ok(opened) if is_whole(&opened, 15)));
     assert_eq!(rt; part.written.as_slice(), TEXT);
-    let none = opened_part(rt.alloc(), &file, PLACES[0], u64::MAX, u64::MAX);
-    assert!(rt; matches!(none.result, Ok(0)));
+    let none = opened_part(rt.alloc(), &file, PLACES[0], bytes(u64::MAX, u64::MAX));
+    assert!(rt; matches!(none.result, Ok(opened) if is_whole(&opened, 0)));
     assert!(rt; none.written.is_empty());
+    Ok(())
+}
+
+// Whether all records of the small file were opened, and so many bytes written.
+fn is_whole(opened: &OpenedRange, written: u64) -> bool {
+    let end = RecordPosition {
+        version: Version::Second,
+        number: 3,
+        before: 15,
+    };
+    *opened
+        == OpenedRange {
+            written,
+            end,
+            is_last: true,
+        }
+}
+
+// From the first record, each number of records.
+#[test]
+fn a_part_has_so_many_records_at_most(rt: HostRuntime) -> Result<(), Fail> {
+    let file = three_records(rt.alloc(), &KEY, &PREFIX)?;
+    let parts = [(1, 3, false), (2, 10, false), (3, 15, true), (4, 15, true)];
+    for (records, length, is_last) in parts {
+        let asked = Asked {
+            skip: 0,
+            length: u64::MAX,
+            records,
+        };
+        let part = opened_part(rt.alloc(), &file, PLACES[0], asked);
+        assert_eq!(rt; part.written.as_slice(), &TEXT[..length], "{records}");
+        assert!(rt;
+            matches!(part.result, Ok(opened) if opened.is_last == is_last),
+            "{records}"
+        );
+    }
+    Ok(())
+}
+
+// A part of no bytes, and one that begins after the text, are not opened without a record that is as it was sealed.
+#[test]
+fn a_record_is_opened_for_no_bytes(rt: HostRuntime) -> Result<(), Fail> {
+    let mut file = three_records(rt.alloc(), &KEY, &PREFIX)?;
+    if let Some(byte) = file.get_mut(PLACES[2].start + 5) {
+        *byte ^= 1;
+    }
+    for (skip, length) in [(0, 0), (5, 0), (5, 1), (u64::MAX, u64::MAX)] {
+        let part = opened_part(rt.alloc(), &file, PLACES[2], bytes(skip, length));
+        assert!(rt;
+            matches!(part.result, Err(FileError::Stream(RecordError::Damaged(2)))),
+            "{skip}, {length}"
+        );
+        assert!(rt; part.written.is_empty(), "{skip}, {length}");
+    }
     Ok(())
 }
 
@@ -115,7 +195,9 @@ fn a_part_has_the_whole_text_at_most(rt: HostRuntime) -> Result<(), Fail> {
 fn only_the_records_of_the_part_are_read(rt: HostRuntime) -> Result<(), Fail> {
     let file = three_records(rt.alloc(), &KEY, &PREFIX)?;
     let parts = [
-        (2, 0, 126),
+        (0, 0, 86),
+        (2, 0, 86),
+        (5, 0, 42),
         (0, 3, 86),
         (2, 2, 42),
         (3, 7, 42),
@@ -123,7 +205,7 @@ fn only_the_records_of_the_part_are_read(rt: HostRuntime) -> Result<(), Fail> {
         (20, 1, 0),
     ];
     for (skip, length, left) in parts {
-        let part = opened_part(rt.alloc(), &file, PLACES[0], skip, length);
+        let part = opened_part(rt.alloc(), &file, PLACES[0], bytes(skip, length));
         assert_eq!(rt; part.left, left, "{skip}, {length}");
     }
     Ok(())
@@ -137,10 +219,10 @@ fn records_after_the_part_need_not_be_whole(rt: HostRuntime) -> Result<(), Fail>
     if let Some(byte) = file.last_mut() {
         *byte ^= 1;
     }
-    let part = opened_part(rt.alloc(), &file, PLACES[0], 1, 9);
-    assert!(rt; matches!(part.result, Ok(9)));
+    let part = opened_part(rt.alloc(), &file, PLACES[0], bytes(1, 9));
+    assert!(rt; matches!(part.result, Ok(opened) if opened.written == 9));
     assert_eq!(rt; part.written.as_slice(), b"neand two".as_slice());
-    let damaged = opened_part(rt.alloc(), &file, PLACES[1], 4, 9);
+    let damaged = opened_part(rt.alloc(), &file, PLACES[1], bytes(4, 9));
     assert!(rt;
         matches!(
             damaged.result,
@@ -149,7 +231,7 @@ fn records_after_the_part_need_not_be_whole(rt: HostRuntime) -> Result<(), Fail>
     );
     assert_eq!(rt; damaged.written.as_slice(), b"two".as_slice());
     file.pop();
-    let truncated = opened_part(rt.alloc(), &file, PLACES[1], 4, 9);
+    let truncated = opened_part(rt.alloc(), &file, PLACES[1], bytes(4, 9));
     assert!(rt;
         matches!(
             truncated.result,
@@ -181,7 +263,7 @@ fn a_wrong_position_is_refused(rt: HostRuntime) -> Result<(), Fail> {
         Place { start: 29, ..first },
     ];
     for place in others {
-        let part = opened_part(rt.alloc(), &file, place, 0, 1);
+        let part = opened_part(rt.alloc(), &file, place, bytes(0, 1));
         assert!(rt; matches!(part.result, Err(FileError::Stream(_))));
         assert!(rt; part.written.is_empty());
     }
@@ -201,7 +283,7 @@ fn a_part_ends_where_a_read_fails(rt: HostRuntime) -> Result<(), Fail> {
             error: ErrorKind::Other,
         };
         let mut written = Vec::new(rt.alloc());
-        let result = open_part(rt.alloc(), PLACES[1], 4, 8, &mut input, &mut written);
+        let result = open_part(rt.alloc(), PLACES[1], bytes(4, 8), &mut input, &mut written);
         assert!(rt; matches!(result, Err(FileError::Read(_))), "at {count}");
         assert!(rt; PART.starts_with(&written), "at {count}");
     }
@@ -220,7 +302,7 @@ fn a_part_ends_where_a_write_fails(rt: HostRuntime) -> Result<(), Fail> {
             flushes: true,
         };
         let mut input = records;
-        let result = open_part(rt.alloc(), PLACES[1], 4, 8, &mut input, &mut output);
+        let result = open_part(rt.alloc(), PLACES[1], bytes(4, 8), &mut input, &mut output);
         assert!(rt;
             matches!(result, Err(FileError::Write(_))),
             "with room {room}"

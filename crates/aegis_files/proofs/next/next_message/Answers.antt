@@ -25,3 +25,6 @@ returns-clause-opened g c =
     subst (ReadsNext _ _ _ _ _) (message_kept opened part after fits ∙ ap (message_of opened) (sym whole))
     (reads_next _ _ opened.is_last _ _ cut.result.0.now _ _ (subst (Consumes _ _) (sym found) c.in_ok-count.ensures.read) e.opened
     (λ flag low is. c.in_ok-count.ensures.alone flag _ _ low (sym found ∙ is)))
+
+pub returns-clause-fits : goal.returns-clause-fits
+returns-clause-fits g c = omega (arith, c.in_ok-open_next_in_place.ensures.opened.taken, c.split_at_mut-record.ensures.front_len)

@@ -1,7 +1,8 @@
-use Rattle.std.proofs.Common.{◌∙◌, ap, subst, take}
+use Rattle.std.proofs.Common.{◌∙◌, ap, arith, subst, take}
 use Rattle.std.proofs.lemmas.Result.{err_from_is_err_and}
 use Rattle.std.specs.Io.KnownBytes.{Appends}
 use Rattle.aegis.specs.Calls.{message_of}
+use Rattle.aegis.specs.Progress.{Progress, start_of}
 use Rattle.aegis_files.proofs.Failing.{fails_end, fails_flush, fails_next, fails_write}
 use Rattle.aegis_files.proofs.Opening.{opens_begin, opens_end, opens_more}
 use Rattle.aegis_files.proofs.open.open_under.Goals as goal
@@ -46,3 +47,6 @@ returns-in_err-flush-clause-refused g c =
     let m = c.message.ensures ∙ ap (message_of c.in_ok-opened.opened) c.deref.ensures.value in
     rw (p.1, p.2) (fails_flush _ _ _ _ _ _ _ _ _ _ _ _ _ _ c.records.invariant (rw c.if-opened.true at c.in_ok-opened.ensures.opened)
     (subst (Appends _ _) m c.in_ok-write.ensures.ok) c.in_err-flush.ensures.kept c.in_err-flush.ensures.err)
+
+pub records-smaller : goal.records-smaller
+records-smaller g c = omega (arith, c.in_ok-opened.ensures.fits, ap (λ (p : Progress). start_of p) c.in_ok-opened.ensures.opened.progress)

@@ -61,12 +61,10 @@ returns-in_err-end-clause-refused g c =
 pub seal_last-requires-clause-fits : goal.seal_last-requires-clause-fits
 seal_last-requires-clause-fits g c =
     let m = c.message-text.ensures ∙ ap (message_of c.in_ok-opened.opened) c.deref.ensures.value in
-    let o = c.opener-in-records in
     omega (
       arith,
       ap length m,
-      next_fits _ _ _ _ _ _ _ _ _ _ _ _ _ _ _ _ c.records.invariant c.in_ok-opened.ensures.opened
-          (omega (arith, ap (λ (p : Progress). start_of p) o.view_is, o.invariant)),
+      next_fits _ _ _ _ _ _ _ _ _ _ _ _ _ _ _ _ c.records.invariant c.in_ok-opened.ensures.opened c.in_ok-opened.ensures.fits,
     )
 
 pub returns-in_err-seal_last-clause-stopped : goal.returns-in_err-seal_last-clause-stopped
@@ -120,12 +118,10 @@ returns-then-opened-clause-rekeyed g c =
 pub seal_next-requires-clause-fits : goal.seal_next-requires-clause-fits
 seal_next-requires-clause-fits g c =
     let m = c.message-text.ensures ∙ ap (message_of c.in_ok-opened.opened) c.deref.ensures.value in
-    let o = c.opener-in-records in
     omega (
       arith,
       ap length m,
-      next_fits _ _ _ _ _ _ _ _ _ _ _ _ _ _ _ _ c.records.invariant c.in_ok-opened.ensures.opened
-          (omega (arith, ap (λ (p : Progress). start_of p) o.view_is, o.invariant)),
+      next_fits _ _ _ _ _ _ _ _ _ _ _ _ _ _ _ _ c.records.invariant c.in_ok-opened.ensures.opened c.in_ok-opened.ensures.fits,
     )
 
 pub returns-in_err-seal_next-clause-stopped : goal.returns-in_err-seal_next-clause-stopped
@@ -150,3 +146,6 @@ records-preserved g c =
     let step = subst (λ m. IsStep c.records.sealer c.seal_next.new.self m (record_of c.records.sealer 0 text)) m c.in_ok-seal_next.ensures.begun in
     rekeys_more _ _ _ _ _ _ _ _ _ _ _ _ _ _ _ _ _ _ _ _ c.records.invariant
     (rw c.if-opened.false at c.in_ok-opened.ensures.opened) step (c.deref-in-records.ensures.value ∙ c.in_ok-seal_next.ensures.appended) c.in_ok-write-3.ensures.ok c.clear.ensures.items
+
+pub records-smaller : goal.records-smaller
+records-smaller g c = omega (arith, c.in_ok-opened.ensures.fits, ap (λ (p : Progress). start_of p) c.in_ok-opened.ensures.opened.progress)

@@ -1,12 +1,14 @@
 //! Sealing, opening and checking files, and drawing keys.
 
 use crate::command::{Place, Span, Transfer};
-use crate::failure::{Failure, Stopped};
+use crate::failure::{Failure, PartError, Stopped, printed};
 use crate::info::with_missing;
 use crate::key;
 use crate::output::{Target, look, open_target, refuse_terminal};
 use crate::progress::{Counted, Display, Measured};
 use crate::range::{Start, is_reachable, start_of};
+use crate::shown::Name;
+use crate::terminal::TextOnly;
 use aegis::aegis256::Key;
 use aegis_files::{FileError, open_range, open_stream, rekey_stream, seal_stream};
 use std::alloc::Global;
@@ -40,52 +42,64 @@ enum Task {
     },
 }
 
-// Reads the whole input, and writes its sealed file or its text.
+// Opens a part of a text. The input begins at the record that it starts in.
+fn carry_part<R: Read, W: Write>(
+    alloc: Global,
+    key: &Key,
+    start: &Start,
+    input: &mut R,
+    output: &mut W,
+) -> Result<(), PartError> {
+    let Start { prefix, range, .. } = *start;
+    if !is_reachable(&range) {
+        return Err(PartError::File(FileError::TooLong));
+    }
+    let opened = open_range(alloc, key, &prefix, &CONTEXT, range, input, output)?;
+    start.reached(&opened)
+}
+
+// Reads the input, and writes its sealed file, its text, or a part of that.
 fn carry<R: Read, W: Write>(
     alloc: Global,
     task: &Task,
     input: &mut R,
     output: &mut W,
-) -> Result<(), FileError> {
+) -> Result<(), PartError> {
     match task {
-        Task::Seal { key, prefix } => seal_stream(alloc, key, prefix, &CONTEXT, input, output),
-        Task::Open { key } => open_stream(alloc, key, &CONTEXT, input, output),
-        Task::OpenPart { key, start } => {
-            let Start { prefix, range } = *start;
-            if !is_reachable(range.position) {
-                return Err(FileError::TooLong);
-            }
-            open_range(alloc, key, &prefix, &CONTEXT, range, input, output)?;
-            Ok(())
-        }
+        Task::Seal { key, prefix } => seal_stream(alloc, key, prefix, &CONTEXT, input, output)?,
+        Task::Open { key } => open_stream(alloc, key, &CONTEXT, input, output)?,
+        Task::OpenPart { key, start } => carry_part(alloc, key, start, input, output)?,
         Task::Rekey {
             key,
             new_key,
             prefix,
-        } => rekey_stream(alloc, key, new_key, prefix, &CONTEXT, input, output),
+        } => rekey_stream(alloc, key, new_key, prefix, &CONTEXT, input, output)?,
     }
+    Ok(())
 }
 
-// Carries out a task. The text may have any bytes, or only such as a terminal can show.
+// Carries out a task, and returns how many bytes were written.
 fn carry_out<'a, R: Read, W: Write + Drop>(
     rt: &HostRuntime,
     task: &Task,
     paths: Transfer<'a>,
     input: &mut R,
     output: W,
-    text_only: bool,
-) -> Result<(), Stopped<'a>> {
-    let mut output = Measured::new(output, text_only);
-    match carry(rt.alloc(), task, input, &mut output) {
-        Ok(()) => Ok(()),
-        Err(error) => {
-            let failure = Failure::of_files(error, paths.input, paths.output, output.written);
-            Err(Stopped {
-                failure: with_missing(rt, failure, paths.input),
-                incomplete: output.written > 0,
-            })
+) -> Result<u64, Stopped<'a>> {
+    let mut output = Measured::new(output);
+    let Err(error) = carry(rt.alloc(), task, input, &mut output) else {
+        return Ok(output.written);
+    };
+    let failure = match error {
+        PartError::File(error) if !matches!(task, Task::OpenPart { .. }) => {
+            Failure::of_files(error, paths.input, paths.output, output.written)
         }
-    }
+        _ => Failure::of_part(error, paths.input, paths.output),
+    };
+    Err(Stopped {
+        failure: with_missing(rt, failure, paths.input),
+        incomplete: output.written > 0,
+    })
 }
 
 // Reads the input, and writes the output, which is whole or is said to be incomplete.
@@ -97,18 +111,24 @@ fn write_to<'a, R: Read>(
 ) -> Result<(), Stopped<'a>> {
     let name = match paths.output {
         Place::File(name) => name,
-        Place::Standard => return carry_out(rt, task, paths, input, rt.stdout(), false),
-        Place::Default => {
-            let text_only = rt.stdout().is_terminal();
-            return carry_out(rt, task, paths, input, rt.stdout(), text_only);
+        Place::Default if rt.stdout().is_terminal() => {
+            carry_out(rt, task, paths, input, TextOnly::new(rt.stdout()))?;
+            return Ok(());
+        }
+        _ => {
+            carry_out(rt, task, paths, input, rt.stdout())?;
+            return Ok(());
         }
     };
-    match open_target(rt, name, paths.force)? {
-        Target::Direct(file) => carry_out(rt, task, paths, input, file, false),
-        Target::Part(mut part) => {
-            let written = carry_out(rt, task, paths, input, &mut part.file, false);
-            Ok(part.end(rt, written.map_err(|stopped| stopped.failure))?)
+    match open_target(rt, name, paths.force, paths.quiet)? {
+        Target::Direct(file) => {
+            carry_out(rt, task, paths, input, file)?;
+            Ok(())
         }
+        Target::Part(mut part) => match carry_out(rt, task, paths, input, &mut part.file) {
+            Ok(_) => Ok(part.end(rt, Ok(()))?),
+            Err(stopped) => Ok(part.end(rt, Err(stopped.failure))?),
+        },
     }
 }
 
@@ -139,7 +159,7 @@ fn length_of(file: &File) -> Option<u64> {
 fn transfer<'a>(rt: &HostRuntime, task: &Task, paths: Transfer<'a>) -> Result<(), Stopped<'a>> {
     match paths.input {
         Place::File(name) => {
-            let file = File::open(rt, name).map_err(|error| Failure::Input(name, error))?;
+            let file = File::open(rt, name).map_err(|error| Failure::Input(Name(name), error))?;
             let shown = display(rt, paths.quiet, length_of(&file));
             let mut input = Counted::new(file, shown);
             let written = write_to(rt, task, paths, &mut input);
@@ -188,11 +208,12 @@ pub fn open_part<'a>(rt: &HostRuntime, span: Span, paths: Transfer<'a>) -> Resul
     let Place::File(name) = paths.input else {
         return Err(Stopped::from(Failure::NoFile));
     };
-    let mut file = File::open(rt, name).map_err(|error| Failure::Input(name, error))?;
-    match start_of(rt.alloc(), &mut file, span) {
+    let mut file = File::open(rt, name).map_err(|error| Failure::Input(Name(name), error))?;
+    match start_of(&mut file, span) {
         Ok(start) => write_to(rt, &Task::OpenPart { key, start }, paths, &mut file),
         Err(error) => {
-            let failure = Failure::of_files(error, paths.input, paths.output, 0);
+            let error = PartError::File(error);
+            let failure = Failure::of_part(error, paths.input, paths.output);
             Err(Stopped::from(failure))
         }
     }
@@ -217,37 +238,41 @@ pub fn rekey<'a>(
     transfer(rt, &task, paths)
 }
 
-// Reads a sealed file, and discards its text.
+// Reads a sealed file, and discards its text. Returns how many bytes it has.
 fn check_from<'a, R: Read>(
     rt: &HostRuntime,
     task: &Task,
     paths: Transfer<'a>,
     input: &mut R,
-) -> Result<(), Failure<'a>> {
-    carry_out(rt, task, paths, input, io::sink(), false).map_err(|stopped| stopped.failure)
+) -> Result<u64, Failure<'a>> {
+    carry_out(rt, task, paths, input, io::sink()).map_err(|stopped| stopped.failure)
 }
 
-/// Opens a sealed file without writing its text.
+/// Opens a sealed file without writing its text, and prints how many bytes it has.
 pub fn check<'a>(rt: &HostRuntime, paths: Transfer<'a>) -> Result<(), Failure<'a>> {
     let task = Task::Open {
         key: key::read(rt, paths.key, paths.quiet)?,
     };
-    match paths.input {
+    let text_bytes = match paths.input {
         Place::File(name) => {
-            let file = File::open(rt, name).map_err(|error| Failure::Input(name, error))?;
+            let file = File::open(rt, name).map_err(|error| Failure::Input(Name(name), error))?;
             let shown = display(rt, paths.quiet, length_of(&file));
             let mut input = Counted::new(file, shown);
             let checked = check_from(rt, &task, paths, &mut input);
             input.end();
-            checked
+            checked?
         }
         _ => {
             let mut input = Counted::new(rt.stdin(), display(rt, paths.quiet, None));
             let checked = check_from(rt, &task, paths, &mut input);
             input.end();
-            checked
+            checked?
         }
+    };
+    if paths.quiet {
+        return Ok(());
     }
+    printed(println!(rt; "{text_bytes} bytes of text, all verified"))
 }
 
 /// Writes a key that is drawn at random.
@@ -259,7 +284,7 @@ pub fn keygen<'a>(rt: &HostRuntime, output: Place<'a>) -> Result<(), Failure<'a>
         Place::File(name) => name,
         _ => return rt.stdout().write_all(text.as_bytes()).map_err(failed),
     };
-    match open_target(rt, name, false)? {
+    match open_target(rt, name, false, false)? {
         Target::Direct(mut file) => file.write_all(text.as_bytes()).map_err(failed),
         Target::Part(mut part) => {
             let written = part.file.write_all(text.as_bytes()).map_err(failed);

@@ -1,8 +1,8 @@
 use Rattle.std.proofs.Common.{◌≡◌, ◌-◌, ◌≤◌, ◌∙◌, ap, arith, length, refl, replicate, take, ℕ}
 use Rattle.std.proofs.lemmas.List.{length-append, length-replicate, length-take}
 use Rattle.aegis_files.proofs.Filling.{filled_part, longer}
-use Rattle.aegis_files.proofs.reading.fill_part.Goals.{then-len-to+in_ok-resize, else-len-to}
-use Rattle.aegis_files.proofs.reading.fill_part.Goals as goal
+use Rattle.aegis_files.proofs.reading.fill_step.Goals.{then-len-to+in_ok-resize, else-len-to}
+use Rattle.aegis_files.proofs.reading.fill_step.Goals as goal
 
 pub returns-clause-ok : goal.returns-clause-ok
 returns-clause-ok g c =

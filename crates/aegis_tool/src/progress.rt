@@ -95,34 +95,19 @@ pub struct Measured<W: Write + Drop> {
     inner: W,
     /// How many bytes were written.
     pub written: u64,
-    /// Whether the first bytes must be text.
-    text_only: bool,
 }
 
 impl<W: Write + Drop> Measured<W> {
-    /// Creates a writer that has written nothing yet. If `text_only`, the first write fails with
-    /// [`ErrorKind::InvalidData`] if a terminal cannot show its bytes.
-    pub fn new(inner: W, text_only: bool) -> Self {
-        Measured {
-            inner,
-            written: 0,
-            text_only,
-        }
+    /// Creates a writer that has written nothing yet.
+    pub fn new(inner: W) -> Self {
+        Measured { inner, written: 0 }
     }
-}
-
-// Whether a terminal shows the byte as a part of a text, and does not act on it.
-fn is_text(byte: u8) -> bool {
-    matches!(byte, b'\t' | b'\n' | b'\r' | 0x20..=0x7e | 0x80..=0xff)
 }
 
 impl<W: Write + Drop> Write for Measured<W> {
     ghost contents = { λ t. W.contents t.inner };
 
     fn write(&mut self, buf: &[u8]) -> io::Result<usize> {
-        if self.text_only && !buf.iter().all(|byte| is_text(*byte)) {
-            return Err(io::Error::from(ErrorKind::InvalidData));
-        }
         let count = self.inner.write(buf)?;
         self.written = self.written.saturating_add(count as u64);
         Ok(count)

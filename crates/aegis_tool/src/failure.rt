@@ -1,6 +1,7 @@
 //! The errors of commands, and the exit statuses.
 
 use crate::command::Place;
+use crate::shown::Name;
 use aegis::record::RecordError;
 use aegis_files::FileError;
 use std::alloc::AllocError;
@@ -11,51 +12,63 @@ use thiserror::Error;
 #[derive(Debug, Drop, Error)]
 pub enum Failure<'a> {
     #[error("{0} is not a sealed file: its first bytes after the prefix are not AGR1 or AGR2")]
-    NotSealed(&'a str),
+    NotSealed(Name<'a>),
     #[error("{0}: the key is not the one it was sealed under, or the file is damaged from its first record")]
-    Key(&'a str),
+    Key(Name<'a>),
     #[error("{0} is damaged from record {1}; the first {2} bytes of the text are right")]
-    Damaged(&'a str, u64, u64),
+    Damaged(Name<'a>, u64, u64),
     #[error("{0} is damaged: after {1} bytes of the text comes no record")]
-    NoRecord(&'a str, u64),
+    NoRecord(Name<'a>, u64),
     #[error("{0} is cut off after {1} bytes of the text")]
-    Truncated(&'a str, u64),
+    Truncated(Name<'a>, u64),
     #[error("{0} is cut off after {1} bytes of the text: at least {2} bytes are missing")]
-    Missing(&'a str, u64, u64),
+    Missing(Name<'a>, u64, u64),
     #[error("{0} goes on after the end of its sealed file")]
-    Trailing(&'a str),
+    Trailing(Name<'a>),
     #[error("{0} is longer than a sealed file may be")]
-    TooLong(&'a str),
+    TooLong(Name<'a>),
+    #[error("{0}: the key is not the one it was sealed under, or the file is damaged in record {1} or before it")]
+    DamagedPart(Name<'a>, u64),
+    #[error("{0} is damaged in the part or before it")]
+    NoPart(Name<'a>),
+    #[error("{0} is cut off in the part or before it")]
+    TruncatedPart(Name<'a>),
+    #[error("{0} has only {1} records")]
+    PastRecords(Name<'a>, u64),
+    #[error("{0} has only {1} bytes of text")]
+    PastBytes(Name<'a>, u64),
+    #[error("{0} was changed while it was read")]
+    Changed(Name<'a>),
     #[error("{0} cannot be read: {1}")]
-    Input(&'a str, io::Error),
+    Input(Name<'a>, io::Error),
     #[error("{0} cannot be written: {1}")]
-    Output(&'a str, io::Error),
+    Output(Name<'a>, io::Error),
+    #[error("{0} is complete, but its folder cannot be synced, so a power loss may remove it: {1}")]
+    Unsynced(Name<'a>, io::Error),
     #[error("{0} exists; --force replaces it")]
-    Exists(&'a str),
+    Exists(Name<'a>),
     #[error("{0} is a link to a file that does not exist: name that file")]
-    DanglingLink(&'a str),
-    #[error("{0}.part is there and cannot be replaced: another run writes it, or remove it")]
-    Part(&'a str),
+    DanglingLink(Name<'a>),
     #[error("{0} is the input too: input and output must be different files")]
-    SameFile(&'a str),
+    SameFile(Name<'a>),
     #[error("{0} is the key file {1}: it would be lost")]
-    OverKey(&'a str, &'a str),
+    OverKey(Name<'a>, Name<'a>),
     #[error("standard output is a terminal: name OUT, redirect the output by >, or write - for OUT to print it anyway")]
     Terminal,
-    #[error("the text has bytes that a terminal cannot show: name OUT, redirect the output by >, or write - for OUT to print it anyway")]
+    #[error("the text is not one that a terminal can show: name OUT, redirect the output by >, or write - for OUT to print it anyway")]
     NoText,
     #[error("the key file {0} cannot be read: {1}")]
-    KeyFile(&'a str, io::Error),
+    KeyFile(Name<'a>, io::Error),
     #[error("the key file {0} has no key: 64 hexadecimal digits and a line feed, as keygen writes them")]
-    NoKey(&'a str),
+    NoKey(Name<'a>),
     #[error("the system gives no random bytes: {0}")]
     Random(io::Error),
     #[error("a part is opened of a file alone: name IN")]
     NoFile,
-    #[error("--records takes A..B: the numbers of the first record and of the one after the last")]
+    #[error("--records takes A..B, A less than B: the records A to B-1, from 0")]
     NoSpan,
     #[error("there is no manual for {0}: man, bash, zsh or fish")]
-    NoManual(&'a str),
+    NoManual(Name<'a>),
     #[error("there is no command; --help lists them")]
     NoCommand,
     #[error("out of memory")]
@@ -74,7 +87,7 @@ const REFUSED: u8 = 1;
 /// The exit status for a command line that is not understood.
 pub const MISUSED: u8 = 2;
 
-/// The exit status if reading, writing or an allocation fails, or a key file has no key.
+/// The exit status for an I/O error, if memory runs out, or for a file that is no key.
 pub const FAILED: u8 = 3;
 
 impl<'a> Failure<'a> {
@@ -88,7 +101,12 @@ impl<'a> Failure<'a> {
             | Failure::Truncated(..)
             | Failure::Missing(..)
             | Failure::Trailing(_)
-            | Failure::TooLong(_) => REFUSED,
+            | Failure::TooLong(_)
+            | Failure::DamagedPart(..)
+            | Failure::NoPart(_)
+            | Failure::TruncatedPart(_)
+            | Failure::PastRecords(..)
+            | Failure::PastBytes(..) => REFUSED,
             Failure::NoCommand | Failure::NoManual(_) | Failure::NoFile | Failure::NoSpan =>
                 MISUSED,
             _ => FAILED,
@@ -115,7 +133,7 @@ impl<'a> Failure<'a> {
     }
 
     // The failure of a sealed file with this fault, after `text_bytes` of its text.
-    fn of_stream(fault: RecordError, input: &'a str, text_bytes: u64) -> Self {
+    fn of_stream(fault: RecordError, input: Name<'a>, text_bytes: u64) -> Self {
         match fault {
             RecordError::Header => Failure::NotSealed(input),
             RecordError::Damaged(0) => Failure::Key(input),
@@ -125,6 +143,49 @@ impl<'a> Failure<'a> {
             RecordError::Trailing => Failure::Trailing(input),
             RecordError::OutOfMemory => Failure::OutOfMemory,
         }
+    }
+
+    /// Returns the failure of opening a part of `input`, and writing `output`.
+    pub fn of_part(error: PartError, input: Place<'a>, output: Place<'a>) -> Self {
+        let name = input.input_name();
+        match error {
+            PartError::PastRecords(records) => Failure::PastRecords(name, records),
+            PartError::PastBytes(bytes) => Failure::PastBytes(name, bytes),
+            PartError::Changed => Failure::Changed(name),
+            PartError::File(FileError::Stream(fault)) => match fault {
+                RecordError::Damaged(number) => Failure::DamagedPart(name, number),
+                RecordError::Flag | RecordError::TooLong => Failure::NoPart(name),
+                RecordError::Truncated => Failure::TruncatedPart(name),
+                _ => Failure::of_stream(fault, name, 0),
+            },
+            PartError::File(error) => Failure::of_files(error, input, output, 0),
+        }
+    }
+}
+
+/// The error of opening a part of a text.
+#[derive(Debug, Drop)]
+pub enum PartError {
+    File(FileError),
+    /// The part begins after the last record. The file has so many records.
+    PastRecords(u64),
+    /// The part begins after the last byte of the text, which has so many bytes.
+    PastBytes(u64),
+    /// The record in which the part begins was found, and another was there when it was read.
+    Changed,
+}
+
+impl From<FileError> for PartError {
+    fn from(error: FileError) -> PartError {
+        PartError::File(error)
+    }
+}
+
+/// Returns the result of printing to standard output.
+pub fn printed<'a>(printing: io::Result<()>) -> Result<(), Failure<'a>> {
+    match printing {
+        Ok(()) => Ok(()),
+        Err(error) => Err(Failure::Output(Name("standard output"), error)),
     }
 }
 

@@ -1,6 +1,7 @@
 //! Key files: 64 hexadecimal digits and a line feed.
 
 use crate::failure::Failure;
+use crate::shown::Name;
 use aegis::aegis256::Key;
 use aegis_files::{FileError, fill};
 use hex::FromHex;
@@ -47,15 +48,16 @@ fn read_key(file: &mut File) -> io::Result<Option<Key>> {
 
 /// Reads the key of a key file. Warns on standard error if it is a file whose mode lets others read it, unless `quiet`.
 pub fn read<'a>(rt: &HostRuntime, name: &'a str, quiet: bool) -> Result<Key, Failure<'a>> {
-    let unreadable = |error| Failure::KeyFile(name, error);
+    let unreadable = |error| Failure::KeyFile(Name(name), error);
     let mut file = File::open(rt, name).map_err(unreadable)?;
     let Some(key) = read_key(&mut file).map_err(unreadable)? else {
-        return Err(Failure::NoKey(name));
+        return Err(Failure::NoKey(Name(name)));
     };
     let found = file.metadata().map_err(unreadable)?;
     if found.is_file() && found.mode() & OTHERS != 0 && !quiet {
+        let shown = Name(name);
         let _ = eprintln!(rt;
-            "hunkravy: the mode of {name} lets others use this key: chmod 600 {name}"
+            "hunkravy: the mode of {shown} lets others use this key: chmod 600 {shown}"
         );
     }
     Ok(key)

@@ -1,10 +1,10 @@
 //! What can be seen of a sealed file without its key.
 
 use crate::command::Place;
-use crate::failure::Failure;
+use crate::failure::{Failure, printed};
+use crate::shown::Name;
 use aegis::record::{RECORD_BYTES, RECORD_HEAD_BYTES, RecordError, RecordOpener};
 use aegis_files::{FileError, fill};
-use std::alloc::Global;
 use std::fs::File;
 use std::io::Read;
 
@@ -36,12 +36,12 @@ fn skip<R: Read>(input: &mut R, count: usize) -> Result<u64, FileError> {
 }
 
 // Goes from record to record by their lengths. The opener's key is never used.
-fn outline_of<R: Read>(alloc: Global, input: &mut R) -> Result<Outline, FileError> {
+fn outline_of<R: Read>(input: &mut R) -> Result<Outline, FileError> {
     let mut front = [0; 28];
     if missing_in(input, &mut front)? > 0 {
         return Err(FileError::Stream(RecordError::Header));
     }
-    let lengths = RecordOpener::new(alloc, &[0; 32], &[0; 24], &[], &front[24..])?;
+    let lengths = RecordOpener::new(&[0; 32], &[0; 24], &[], &front[24..])?;
     let mut seen = Outline {
         records: 0,
         text_bytes: 0,
@@ -73,8 +73,8 @@ fn outline_of<R: Read>(alloc: Global, input: &mut R) -> Result<Outline, FileErro
 
 // The outline of the file of this name.
 fn outline_of_file<'a>(rt: &HostRuntime, name: &'a str) -> Result<Outline, Failure<'a>> {
-    let mut file = File::open(rt, name).map_err(|error| Failure::Input(name, error))?;
-    match outline_of(rt.alloc(), &mut file) {
+    let mut file = File::open(rt, name).map_err(|error| Failure::Input(Name(name), error))?;
+    match outline_of(&mut file) {
         Ok(seen) => Ok(seen),
         Err(error) => Err(Failure::of_files(error, Place::File(name), Place::Standard, 0)),
     }
@@ -86,17 +86,17 @@ pub fn with_missing<'a>(rt: &HostRuntime, failure: Failure<'a>, input: Place<'a>
         return failure;
     };
     match outline_of_file(rt, file) {
-        Ok(seen) if seen.missing > 0 => Failure::Missing(name, *text_bytes, seen.missing),
+        Ok(seen) if seen.missing > 0 => Failure::Missing(*name, *text_bytes, seen.missing),
         _ => failure,
     }
 }
 
-/// Prints the number of records and of bytes of text of a sealed file, if it consists of whole records. No tag is
-/// verified.
-pub fn info<'a>(rt: &HostRuntime, input: Place<'a>) -> Result<(), Failure<'a>> {
+/// Prints the number of records and of bytes of text of a sealed file, if it consists of whole records, or nothing if
+/// `quiet`. No tag is verified.
+pub fn info<'a>(rt: &HostRuntime, input: Place<'a>, quiet: bool) -> Result<(), Failure<'a>> {
     let seen = match input {
         Place::File(name) => outline_of_file(rt, name)?,
-        _ => match outline_of(rt.alloc(), &mut rt.stdin()) {
+        _ => match outline_of(&mut rt.stdin()) {
             Ok(seen) => seen,
             Err(error) => return Err(Failure::of_files(error, input, Place::Standard, 0)),
         },
@@ -104,9 +104,11 @@ pub fn info<'a>(rt: &HostRuntime, input: Place<'a>) -> Result<(), Failure<'a>> {
     if seen.missing > 0 {
         return Err(Failure::Missing(input.input_name(), seen.text_bytes, seen.missing));
     }
-    println!(rt;
+    if quiet {
+        return Ok(());
+    }
+    printed(println!(rt;
         "{} records, {} bytes of text, not verified",
         seen.records, seen.text_bytes
-    )
-    .map_err(|error| Failure::Output("standard output", error))
+    ))
 }

@@ -1,5 +1,6 @@
 //! The command line.
 
+use crate::shown::Name;
 use clap::{Arg, ArgAction, ArgMatches, Command, value_parser};
 use std::alloc::{AllocError, Global};
 
@@ -15,18 +16,18 @@ pub enum Place<'a> {
 
 impl<'a> Place<'a> {
     /// Returns the name of an input for messages.
-    pub fn input_name(self) -> &'a str {
+    pub fn input_name(self) -> Name<'a> {
         match self {
-            Place::File(name) => name,
-            _ => "standard input",
+            Place::File(name) => Name(name),
+            _ => Name("standard input"),
         }
     }
 
     /// Returns the name of an output for messages.
-    pub fn output_name(self) -> &'a str {
+    pub fn output_name(self) -> Name<'a> {
         match self {
-            Place::File(name) => name,
-            _ => "standard output",
+            Place::File(name) => Name(name),
+            _ => Name("standard output"),
         }
     }
 }
@@ -49,7 +50,7 @@ pub struct Transfer<'a> {
 pub enum Span {
     /// So many bytes from a byte on.
     Bytes { from: u64, length: u64 },
-    /// The records from a number on, up to one that is not opened.
+    /// The records from a number on, up to one that is not opened. There is at least one.
     Records { first: u64, end: u64 },
 }
 
@@ -66,7 +67,7 @@ pub enum Action<'a> {
         span: Span,
         paths: Transfer<'a>,
     },
-    /// The argument of `--records` is not understood.
+    /// The argument of `--records` is not understood, or has no records.
     NoSpan,
     Rekey {
         new_key: &'a str,
@@ -75,6 +76,8 @@ pub enum Action<'a> {
     Check(Transfer<'a>),
     Info {
         input: Place<'a>,
+        /// Whether only errors are printed.
+        quiet: bool,
     },
     /// Prints the manual page, or the completions for a shell.
     Manual {
@@ -102,22 +105,20 @@ fn from_argument<'a>(alloc: Global) -> Arg<'a> {
     Arg::new(alloc, "BYTE")
         .long("from")
         .value_parser(value_parser!(u64))
-        .help(
-            "Open the text from this byte on, counted from 0; the rest of the file is not looked at",
-        )
+        .help("Start at this byte of the text (from 0)")
 }
 
 fn length_argument<'a>(alloc: Global) -> Arg<'a> {
     Arg::new(alloc, "N")
         .long("length")
         .value_parser(value_parser!(u64))
-        .help("Open so many bytes of the text")
+        .help("Write at most N bytes")
 }
 
 fn records_argument<'a>(alloc: Global) -> Result<Arg<'a>, AllocError> {
     Arg::new(alloc, "A..B")
         .long("records")
-        .help("Open the records from number A on, counted from 0, up to B, which is left out")
+        .help("Records A to B-1")
         .conflicts_with("BYTE")?
         .conflicts_with("N")
 }
@@ -196,6 +197,7 @@ fn check<'a>(alloc: Global) -> Result<Command<'a>, AllocError> {
 fn info<'a>(alloc: Global) -> Result<Command<'a>, AllocError> {
     Command::new(alloc, "info")
         .about("Shows what can be seen of a sealed file without its key; verifies nothing")
+        .arg(quiet_argument(alloc))?
         .arg(input_argument(alloc))
 }
 
@@ -214,32 +216,16 @@ fn with_command<'a>(
     program.subcommand(command?)
 }
 
-/// Examples, the exit statuses and what an interrupted run leaves, with which `--help` and the manual page end.
-pub const AFTER_HELP: &str = "\
-Examples:
-  hunkravy keygen backup.key
-  hunkravy seal -k backup.key backup.tar backup.sealed
-  hunkravy check -k backup.key backup.sealed
-  hunkravy open -k backup.key backup.sealed restored.tar
-  hunkravy open -k backup.key --from 1000000 --length 512 backup.sealed part
-  hunkravy rekey -k backup.key -n new.key backup.sealed backup.new
-
-Exit status:
-  0  all went well
-  1  a sealed file is refused
-  2  the command line is not understood
-  3  reading, writing or an allocation failed, or a key file has no key
-
-OUT is written as OUT.part and gets its name once it is complete. A run that
-is interrupted leaves OUT.part, with text in it if it opened a file: the next
-run for OUT replaces it, or remove it.";
-
-/// The commands that users call, and their arguments.
-pub fn users_commands<'a>(alloc: Global, version: &'a str) -> Result<Command<'a>, AllocError> {
+/// The commands that users call, and their arguments. `--help` ends with the notes.
+pub fn users_commands<'a>(
+    alloc: Global,
+    version: &'a str,
+    notes: &'a str,
+) -> Result<Command<'a>, AllocError> {
     let program = Command::new(alloc, "hunkravy")
         .about("Seals and opens files with AEGIS-256")
         .version(version)
-        .after_help(AFTER_HELP)
+        .after_help(notes)
         .subcommand_required(true)
         .arg_required_else_help(true);
     let program = with_command(program, keygen(alloc))?;
@@ -251,8 +237,12 @@ pub fn users_commands<'a>(alloc: Global, version: &'a str) -> Result<Command<'a>
 }
 
 /// All commands: also the one that prints the manual page and completions.
-pub fn command<'a>(alloc: Global, version: &'a str) -> Result<Command<'a>, AllocError> {
-    with_command(users_commands(alloc, version)?, manual(alloc))
+pub fn command<'a>(
+    alloc: Global,
+    version: &'a str,
+    notes: &'a str,
+) -> Result<Command<'a>, AllocError> {
+    with_command(users_commands(alloc, version, notes)?, manual(alloc))
 }
 
 fn name<'a>(matches: &ArgMatches<'a>, id: &str) -> &'a str {
@@ -277,13 +267,15 @@ fn transfer_of<'a>(matches: &ArgMatches<'a>) -> Transfer<'a> {
     }
 }
 
-// The records `A..B`.
+// The records `A..B`, at least one.
 fn records_of(text: &str) -> Option<Span> {
     let (first, end) = text.split_once("..")?;
-    Some(Span::Records {
-        first: first.parse().ok()?,
-        end: end.parse().ok()?,
-    })
+    let (first, end) = (first.parse().ok()?, end.parse().ok()?);
+    if first < end {
+        Some(Span::Records { first, end })
+    } else {
+        None
+    }
 }
 
 // The action of `open`.
@@ -323,6 +315,7 @@ pub fn parse<'a>(matches: &ArgMatches<'a>) -> Option<Action<'a>> {
         "check" => Some(Action::Check(transfer_of(found))),
         "info" => Some(Action::Info {
             input: place_of(found, "IN"),
+            quiet: found.get_flag("quiet"),
         }),
         "manual" => Some(Action::Manual {
             form: name(found, "FORM"),

@@ -1,10 +1,80 @@
-//! The manual page and the completions for shells, made of the description of the command line.
+//! The notes that `--help` ends with, and the manual page and the completions for shells, made of the description of the
+//! command line.
 
-use crate::command::{AFTER_HELP, users_commands};
-use crate::failure::Failure;
+use crate::command::users_commands;
+use crate::failure::{Failure, printed};
+use crate::shown::Name;
+use crate::version::VERSION;
 use clap::{Arg, ArgAction, Command};
-use std::alloc::AllocError;
+use std::alloc::{AllocError, Global};
 use std::fmt::Write;
+
+/// The day of the manual page.
+const DATE: &str = "2026-11-27";
+
+const DESCRIPTION: &str = "\
+Encrypts files under a random key kept in a key file. No passwords, no public keys. Losing the key loses the data.";
+
+// Commands, each with what it does.
+const EXAMPLES: [(&str, &str); 8] = [
+    ("A new key", "hunkravy keygen backup.key"),
+    (
+        "Sealing and opening",
+        "hunkravy seal -k backup.key backup.tar backup.sealed",
+    ),
+    ("", "hunkravy check -k backup.key backup.sealed"),
+    ("", "hunkravy open -k backup.key backup.sealed restored.tar"),
+    (
+        "A backup to a pipe and back",
+        "tar -c docs | hunkravy seal -k backup.key > docs.sealed",
+    ),
+    ("", "hunkravy open -k backup.key docs.sealed | tar -x"),
+    (
+        "A part of a file",
+        "hunkravy open -k backup.key --from 1000000 --length 512 docs.sealed part",
+    ),
+    (
+        "Another key",
+        "hunkravy rekey -k backup.key -n new.key docs.sealed docs.new",
+    ),
+];
+
+// The exit statuses.
+const STATUSES: [(u8, &str); 4] = [
+    (0, "all went well"),
+    (1, "a sealed file is refused, or the part is not in it"),
+    (2, "the command line is not understood"),
+    (3, "I/O error, out of memory, or a file that is no key"),
+];
+
+// What is said of files, a line for each.
+const FILES: [&str; 7] = [
+    "Outputs get mode 0600. File names must be UTF-8.",
+    "OUT is written as .OUT.hunkravy- and 16 hexadecimal digits beside it, and gets",
+    "its name once it is complete. A run that is interrupted leaves that file. It may",
+    "hold plaintext, and may be deleted. Only --force replaces a file that exists.",
+    "A key file has 64 hexadecimal digits and a line feed.",
+    "On standard output a text is written as it is opened: use it only if the exit",
+    "status is 0.",
+];
+
+/// Returns the notes that `--help` ends with: examples, the exit statuses and what is said of files.
+pub fn notes(alloc: Global) -> Result<String, AllocError> {
+    let mut notes = String::new(alloc);
+    notes.push_str("Examples:\n")?;
+    for (_, command) in EXAMPLES {
+        writeln!(notes, "  {command}")?;
+    }
+    notes.push_str("\nExit status:\n")?;
+    for (status, meaning) in STATUSES {
+        writeln!(notes, "  {status}  {meaning}")?;
+    }
+    notes.push_str("\nFiles:")?;
+    for line in FILES {
+        write!(notes, "\n  {line}")?;
+    }
+    Ok(notes)
+}
 
 // Whether an option is followed by a value.
 fn has_value(argument: &Arg<'_>) -> bool {
@@ -46,20 +116,52 @@ fn about<'a>(command: &Command<'a>) -> &'a str {
     command.get_about().unwrap_or("")
 }
 
-fn push_manual(page: &mut String, program: &Command<'_>) -> Result<(), AllocError> {
+fn push_examples(page: &mut String) -> Result<(), AllocError> {
+    page.push_str(".SH EXAMPLES\n")?;
+    for (title, command) in EXAMPLES {
+        if !title.is_empty() {
+            writeln!(page, ".PP\n{title}:")?;
+        }
+        writeln!(page, ".PP\n.RS 4\n.nf\n{command}\n.fi\n.RE")?;
+    }
+    Ok(())
+}
+
+fn push_statuses(page: &mut String) -> Result<(), AllocError> {
+    page.push_str(".SH EXIT STATUS\n")?;
+    for (status, meaning) in STATUSES {
+        writeln!(page, ".TP\n.B {status}\n{meaning}")?;
+    }
+    Ok(())
+}
+
+fn push_files(page: &mut String) -> Result<(), AllocError> {
+    page.push_str(".SH FILES\n")?;
+    for line in FILES {
+        // A line that begins with a dot is a request.
+        writeln!(page, "\\&{line}")?;
+    }
+    Ok(())
+}
+
+fn push_manual(page: &mut String, program: &Command<'_>, version: &str) -> Result<(), AllocError> {
     writeln!(
         page,
-        ".TH HUNKRAVY 1\n.SH NAME\nhunkravy \\- {}",
+        ".TH HUNKRAVY 1 {DATE} \"hunkravy {version}\" \"User Commands\"\n.SH NAME\nhunkravy \\- {}",
         about(program)
     )?;
     page.push_str(
         ".SH SYNOPSIS\n\\fBhunkravy\\fR \\fICOMMAND\\fR [\\fIOPTIONS\\fR] [\\fIIN\\fR] [\\fIOUT\\fR]\n",
     )?;
+    writeln!(page, ".SH DESCRIPTION\n{DESCRIPTION}")?;
     page.push_str(".SH COMMANDS\n")?;
     for command in program.get_subcommands() {
         push_command(page, command)?;
     }
-    writeln!(page, ".SH NOTES\n.nf\n{AFTER_HELP}\n.fi")
+    push_statuses(page)?;
+    push_files(page)?;
+    push_examples(page)?;
+    page.push_str(".SH SEE ALSO\n\\fBage\\fR(1), \\fBgpg\\fR(1), \\fBopenssl-enc\\fR(1)\n")
 }
 
 // ---- Completions
@@ -170,14 +272,14 @@ fn push_fish(page: &mut String, program: &Command<'_>) -> Result<(), AllocError>
 
 /// Prints the manual page (`man`), or the completions for `bash`, `zsh` or `fish`.
 pub fn print<'a>(rt: &HostRuntime, form: &'a str) -> Result<(), Failure<'a>> {
-    let program = users_commands(rt.alloc(), "")?;
+    let program = users_commands(rt.alloc(), "", "")?;
     let mut page = String::new(rt.alloc());
     match form {
-        "man" => push_manual(&mut page, &program)?,
+        "man" => push_manual(&mut page, &program, VERSION)?,
         "bash" => push_bash(&mut page, &program)?,
         "zsh" => push_zsh(&mut page, &program)?,
         "fish" => push_fish(&mut page, &program)?,
-        _ => return Err(Failure::NoManual(form)),
+        _ => return Err(Failure::NoManual(Name(form))),
     }
-    print!(rt; "{page}").map_err(|error| Failure::Output("standard output", error))
+    printed(print!(rt; "{page}"))
 }

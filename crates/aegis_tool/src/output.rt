@@ -1,0 +1,311 @@
+//! Where a command writes. A file gets its name only once it is complete.
+//!
+//! A file OUT is written under a name of its own beside it, `.OUT.hunkravy-` and 16 hexadecimal digits that are drawn at
+//! random. It is created there, synced, and linked to the name OUT, which fails if there is such a file by then; to replace
+//! one it is renamed. Then the folder is synced. So OUT is the complete file, or as it was before, and no file that
+//! another created is opened, removed or replaced, but OUT by `--force`. If OUT is a link, all this happens beside the
+//! file that it leads to. A device, a pipe or a socket is written directly.
+
+use crate::command::Place;
+use crate::failure::Failure;
+use crate::shown::Name;
+use std::fs::{File, Metadata, OpenOptions};
+use std::io::{ErrorKind, IsTerminal};
+use std::os::unix::fs::{FileTypeExt, MetadataExt, OpenOptionsExt};
+use std::path::Path;
+use std::random::RandomSource;
+use std::{fs, io};
+
+// The mode of new files: only the owner can read and write them.
+const OWNER_ONLY: u32 = 0o600;
+
+// The device and the number of a file there, which all of its names share.
+fn identity(found: &Metadata) -> (u64, u64) {
+    (found.dev(), found.ino())
+}
+
+// The identity of the file of this name, if it is a regular one.
+fn regular(rt: &HostRuntime, name: &str) -> Option<(u64, u64)> {
+    let found = fs::metadata(rt, name).ok()?;
+    if found.is_file() {
+        Some(identity(&found))
+    } else {
+        None
+    }
+}
+
+// The name of a place, of which the standard one has this name.
+fn name_or<'a>(place: Place<'a>, standard: &'a str) -> &'a str {
+    match place {
+        Place::File(name) => name,
+        _ => standard,
+    }
+}
+
+/// Returns an error if the output is the input or the key file, by whatever names.
+pub fn look<'a>(
+    rt: &HostRuntime,
+    input: Place<'a>,
+    key: &'a str,
+    output: Place<'a>,
+) -> Result<(), Failure<'a>> {
+    let Some(written) = regular(rt, name_or(output, "/dev/stdout")) else {
+        return Ok(());
+    };
+    if regular(rt, key) == Some(written) {
+        return Err(Failure::OverKey(output.output_name(), Name(key)));
+    }
+    if regular(rt, name_or(input, "/dev/stdin")) == Some(written) {
+        return Err(Failure::SameFile(output.output_name()));
+    }
+    Ok(())
+}
+
+/// Returns an error if nothing names the output and standard output is a terminal.
+pub fn refuse_terminal<'a>(rt: &HostRuntime, output: Place<'a>) -> Result<(), Failure<'a>> {
+    match output {
+        Place::Default if rt.stdout().is_terminal() => Err(Failure::Terminal),
+        _ => Ok(()),
+    }
+}
+
+/// An output file that is open.
+#[derive(Drop)]
+pub enum Target<'a> {
+    /// A device, a pipe or a socket.
+    Direct(File),
+    Part(Part<'a>),
+}
+
+// What stands at the name of an output file.
+#[derive(Drop)]
+enum Found {
+    Nothing,
+    File,
+    // A device, a pipe or a socket.
+    Stream,
+}
+
+// Looks at an output file. It is an error if it is a folder.
+fn find(rt: &HostRuntime, name: &str) -> io::Result<Found> {
+    let found = match fs::metadata(rt, name) {
+        Ok(found) => found,
+        Err(error) => {
+            return match error.kind() {
+                ErrorKind::NotFound => Ok(Found::Nothing),
+                _ => Err(error),
+            };
+        }
+    };
+    // A block device keeps what is written, as a file does.
+    let kind = found.file_type();
+    if found.is_dir() || kind.is_block_device() {
+        return Err(io::Error::from(ErrorKind::IsADirectory));
+    }
+    if found.is_file() {
+        Ok(Found::File)
+    } else {
+        Ok(Found::Stream)
+    }
+}
+
+// The file that a link leads to, or the name itself if it is no link.
+fn followed<'a>(rt: &HostRuntime, name: &'a str) -> Result<String, Failure<'a>> {
+    match fs::symlink_metadata(rt, name) {
+        Ok(found) if found.is_symlink() => match fs::canonicalize(rt, name) {
+            Ok(target) => Ok(target.into_string()),
+            Err(_) => Err(Failure::DanglingLink(Name(name))),
+        },
+        _ => Ok(String::from_str(rt.alloc(), name)?),
+    }
+}
+
+// Opens a device, a pipe or a socket. It is an error if a file has taken its place.
+fn open_stream<'a>(rt: &HostRuntime, name: &'a str, target: &str) -> Result<File, Failure<'a>> {
+    let failed = |error| Failure::Output(Name(name), error);
+    let file = OpenOptions::new()
+        .write(true)
+        .open(rt, target)
+        .map_err(failed)?;
+    if file.metadata().map_err(failed)?.is_file() {
+        return Err(Failure::Exists(Name(name)));
+    }
+    Ok(file)
+}
+
+/// Opens an output file. It is an error if it exists, unless it may be replaced.
+pub fn open_target<'a>(
+    rt: &HostRuntime,
+    name: &'a str,
+    replace: bool,
+    quiet: bool,
+) -> Result<Target<'a>, Failure<'a>> {
+    let target = followed(rt, name)?;
+    match find(rt, target.as_str()) {
+        Err(error) => Err(Failure::Output(Name(name), error)),
+        Ok(Found::File) if !replace => Err(Failure::Exists(Name(name))),
+        Ok(Found::Stream) => Ok(Target::Direct(open_stream(rt, name, target.as_str())?)),
+        Ok(_) => {
+            let part = Part::new(rt, Name(name), target, replace, quiet)?;
+            Ok(Target::Part(part))
+        }
+    }
+}
+
+// The name of the folder that a file is in.
+fn folder(file: &str) -> &str {
+    match Path::new(file).parent() {
+        Some(folder) if !folder.as_str().is_empty() => folder.as_str(),
+        _ => ".",
+    }
+}
+
+// The most bytes that a part's name has of the name of its file: with what is added it is a name in any file system.
+const MOST_OF_NAME: usize = 200;
+
+// A name for the part of a file, beside it.
+fn name_of_part<'a>(rt: &HostRuntime, target: &str) -> Result<String, Failure<'a>> {
+    let mut drawn = [0; 8];
+    if let Err(error) = rt.fill_bytes(&mut drawn) {
+        return Err(Failure::Random(error));
+    }
+    let digits = hex::encode(rt.alloc(), drawn.as_slice())?;
+    let name = Path::new(target).file_name().unwrap_or("");
+    let front = &name[..name.floor_char_boundary(MOST_OF_NAME)];
+    let folder = folder(target);
+    Ok(format!(in rt.alloc(); "{folder}/.{front}.hunkravy-{digits}")?)
+}
+
+// Syncs a folder, if its file system can do that.
+fn sync_folder(rt: &HostRuntime, folder: &str) -> io::Result<()> {
+    match File::open(rt, folder)?.sync_all() {
+        Err(error)
+            if !matches!(
+                error.kind(),
+                ErrorKind::InvalidInput | ErrorKind::Unsupported
+            ) => { Err(error) }
+        _ => Ok(()),
+    }
+}
+
+/// A file that is being written, and has not yet the name of its output.
+#[derive(Drop)]
+pub struct Part<'a> {
+    pub file: File,
+    name: String,
+    target: String,
+    output: Name<'a>,
+    /// Whether a file of the output's name is replaced.
+    replace: bool,
+    quiet: bool,
+}
+
+impl<'a> Part<'a> {
+    // Creates the part of the file `target`, to which the name `output` leads.
+    fn new(
+        rt: &HostRuntime,
+        output: Name<'a>,
+        target: String,
+        replace: bool,
+        quiet: bool,
+    ) -> Result<Self, Failure<'a>> {
+        let name = name_of_part(rt, target.as_str())?;
+        let created = OpenOptions::new()
+            .write(true)
+            .create_new(true)
+            .mode(OWNER_ONLY)
+            .open(rt, name.as_str());
+        match created {
+            Ok(file) => Ok(Part {
+                file,
+                name,
+                target,
+                output,
+                replace,
+                quiet,
+            }),
+            Err(error) => Err(Failure::Output(output, error)),
+        }
+    }
+
+    // Whether the name that the file was created under still is its name.
+    fn is_there(&self, rt: &HostRuntime) -> bool {
+        match (
+            self.file.metadata(),
+            fs::symlink_metadata(rt, self.name.as_str()),
+        ) {
+            (Ok(written), Ok(there)) => identity(&written) == identity(&there),
+            _ => false,
+        }
+    }
+
+    fn failed(&self, error: io::Error) -> Failure<'a> {
+        match error.kind() {
+            ErrorKind::AlreadyExists => Failure::Exists(self.output),
+            _ => Failure::Output(self.output, error),
+        }
+    }
+
+    // Gives the file the name of the output too, if no file has it.
+    fn link(&self, rt: &HostRuntime) -> io::Result<()> {
+        let (name, target) = (self.name.as_str(), self.target.as_str());
+        match fs::hard_link(rt, name, target) {
+            Ok(()) => fs::remove_file(rt, name),
+            Err(error) if error.kind() == ErrorKind::AlreadyExists => Err(error),
+            Err(error) => {
+                self.say_renamed(rt, &error);
+                if fs::symlink_metadata(rt, target).is_ok() {
+                    return Err(io::Error::from(ErrorKind::AlreadyExists));
+                }
+                fs::rename(rt, name, target)
+            }
+        }
+    }
+
+    // Says that a file of the output's name that is created at just this moment is replaced.
+    fn say_renamed(&self, rt: &HostRuntime, error: &io::Error) {
+        if !self.quiet {
+            let _ = eprintln!(rt;
+                "hunkravy: {} is renamed to, and not linked: {error}",
+                self.output
+            );
+        }
+    }
+
+    // Syncs the file, and gives it the name of the output.
+    fn place(&self, rt: &HostRuntime) -> io::Result<()> {
+        self.file.sync_all()?;
+        if !self.is_there(rt) {
+            return Err(io::Error::from(ErrorKind::NotFound));
+        }
+        if self.replace {
+            fs::rename(rt, self.name.as_str(), self.target.as_str())
+        } else {
+            self.link(rt)
+        }
+    }
+
+    /// Gives the file the name of its output if all of it was written, and otherwise removes it.
+    pub fn end(
+        self,
+        rt: &HostRuntime,
+        written: Result<(), Failure<'a>>,
+    ) -> Result<(), Failure<'a>> {
+        let placed = match written {
+            Ok(()) => self.place(rt).map_err(|error| self.failed(error)),
+            Err(failure) => Err(failure),
+        };
+        match placed {
+            Ok(()) => match sync_folder(rt, folder(self.target.as_str())) {
+                Ok(()) => Ok(()),
+                Err(error) => Err(Failure::Unsynced(self.output, error)),
+            },
+            Err(failure) => {
+                if self.is_there(rt) {
+                    let _ = fs::remove_file(rt, self.name.as_str());
+                }
+                Err(failure)
+            }
+        }
+    }
+}
