@@ -1,4 +1,4 @@
-//! The exports of `libhunkravy.a` as safe calls over slices.
+//! The calls of `libhunkravy.a` as safe calls over slices.
 //!
 //! The library checks each length, and Rust's borrows ensure all else that a caller must. This file needs nothing else of
 //! the crate: a program that is built without cargo may include it as a module by `#[path]`.
@@ -18,14 +18,22 @@ pub enum Refusal {
     WrongNonceLength,
     /// The key's length is not that of the variant.
     WrongKeyLength,
-    /// The message, or the input of a MAC, has more than 2^61 - 1 bytes; or a page has too many, or is too far in its text.
+    /// The message, or the input of a MAC, has more than 2^61 - 1 bytes.
     MessageTooLong,
     /// The associated data have more than 2^61 - 1 bytes.
     DataTooLong,
-    /// The tag, or the MAC, has neither 16 nor 32 bytes; or a page has too few.
+    /// The tag, or the MAC, has neither 16 nor 32 bytes.
     WrongTagLength,
     /// The state was not begun, or has ended; or it is of a message in the other direction, or a MAC and no message.
     WrongState,
+    /// No version of record streams has this header.
+    UnknownHeader,
+    /// A record has fewer bytes than a record of no message.
+    WrongRecordLength,
+    /// A page has less text than 256 bytes, or more than 65,536.
+    WrongPageSize,
+    /// The text of a file has more than 2^60 bytes, or a page begins after so many.
+    TextTooLong,
 }
 
 /// What a call returns.
@@ -41,6 +49,10 @@ fn read(code: i32) -> Answer {
         -5 => Err(Refusal::DataTooLong),
         -6 => Err(Refusal::WrongTagLength),
         -7 => Err(Refusal::WrongState),
+        -10 => Err(Refusal::UnknownHeader),
+        -11 => Err(Refusal::WrongRecordLength),
+        -12 => Err(Refusal::WrongPageSize),
+        -13 => Err(Refusal::TextTooLong),
         other => unreachable!("the library does not return {other}"),
     }
 }
@@ -95,7 +107,7 @@ type Out = *mut u8;
 
 // Each pointer is followed by its length.
 unsafe extern "C" {
-    fn hunkravy_encrypt_in_place_nonnull(
+    fn hunkravy_encrypt_in_place(
         variant: u32,
         mc: Out,
         mclen: usize,
@@ -108,7 +120,7 @@ unsafe extern "C" {
         mac: Out,
         maclen: usize,
     ) -> i32;
-    fn hunkravy_decrypt_in_place_nonnull(
+    fn hunkravy_decrypt_in_place(
         variant: u32,
         mc: Out,
         mclen: usize,
@@ -121,7 +133,7 @@ unsafe extern "C" {
         mac: In,
         maclen: usize,
     ) -> i32;
-    fn hunkravy_stream_nonnull(
+    fn hunkravy_stream(
         variant: u32,
         out: Out,
         len: usize,
@@ -130,7 +142,7 @@ unsafe extern "C" {
         k: In,
         klen: usize,
     ) -> i32;
-    fn hunkravy_stream_xor_in_place_nonnull(
+    fn hunkravy_stream_xor_in_place(
         variant: u32,
         mc: Out,
         mclen: usize,
@@ -139,7 +151,7 @@ unsafe extern "C" {
         k: In,
         klen: usize,
     ) -> i32;
-    fn hunkravy_mac_nonnull(
+    fn hunkravy_mac(
         variant: u32,
         input: In,
         inputlen: usize,
@@ -150,7 +162,7 @@ unsafe extern "C" {
         mac: Out,
         maclen: usize,
     ) -> i32;
-    fn hunkravy_mac_verify_nonnull(
+    fn hunkravy_mac_verify(
         variant: u32,
         input: In,
         inputlen: usize,
@@ -161,7 +173,7 @@ unsafe extern "C" {
         mac: In,
         maclen: usize,
     ) -> i32;
-    fn hunkravy_state_init_nonnull(
+    fn hunkravy_state_init(
         variant: u32,
         st: &mut State,
         ad: In,
@@ -171,22 +183,18 @@ unsafe extern "C" {
         k: In,
         klen: usize,
     ) -> i32;
-    fn hunkravy_state_encrypt_in_place_nonnull(st: &mut State, mc: Out, mclen: usize) -> i32;
-    fn hunkravy_state_encrypt_final_nonnull(st: &mut State, mac: Out, maclen: usize) -> i32;
-    fn hunkravy_state_decrypt_in_place_unverified_nonnull(
-        st: &mut State,
-        mc: Out,
-        mclen: usize,
-    ) -> i32;
-    fn hunkravy_state_decrypt_check_nonnull(st: &mut State, c: In, clen: usize) -> i32;
-    fn hunkravy_state_decrypt_final_nonnull(
+    fn hunkravy_state_encrypt_in_place(st: &mut State, mc: Out, mclen: usize) -> i32;
+    fn hunkravy_state_encrypt_final(st: &mut State, mac: Out, maclen: usize) -> i32;
+    fn hunkravy_state_decrypt_in_place_unverified(st: &mut State, mc: Out, mclen: usize) -> i32;
+    fn hunkravy_state_decrypt_check(st: &mut State, c: In, clen: usize) -> i32;
+    fn hunkravy_state_decrypt_final(
         st: &mut State,
         m: Out,
         mlen: usize,
         mac: In,
         maclen: usize,
     ) -> i32;
-    fn hunkravy_mac_init_nonnull(
+    fn hunkravy_mac_init(
         variant: u32,
         st: &mut State,
         npub: In,
@@ -194,45 +202,80 @@ unsafe extern "C" {
         k: In,
         klen: usize,
     ) -> i32;
-    fn hunkravy_mac_update_nonnull(st: &mut State, input: In, inputlen: usize) -> i32;
-    fn hunkravy_mac_final_nonnull(st: &State, mac: Out, maclen: usize) -> i32;
-    fn hunkravy_mac_final_verify_nonnull(st: &State, mac: In, maclen: usize) -> i32;
-    fn hunkravy_page_seal_nonnull(
+    fn hunkravy_mac_update(st: &mut State, input: In, inputlen: usize) -> i32;
+    fn hunkravy_mac_final(st: &State, mac: Out, maclen: usize) -> i32;
+    fn hunkravy_mac_final_verify(st: &State, mac: In, maclen: usize) -> i32;
+    fn hunkravy_page_seal(
+        variant: u32,
         page: Out,
         pagelen: usize,
         id: &[u8; 24],
         number: u64,
-        npub: &[u8; 32],
-        k: &[u8; 32],
+        npub: In,
+        npublen: usize,
+        k: In,
+        klen: usize,
     ) -> i32;
-    fn hunkravy_page_open_nonnull(
+    fn hunkravy_page_open(
+        variant: u32,
         page: Out,
         pagelen: usize,
         id: &[u8; 24],
         number: u64,
-        k: &[u8; 32],
+        k: In,
+        klen: usize,
     ) -> i32;
-    fn hunkravy_page_header_seal_nonnull(
+    fn hunkravy_page_header_seal(
+        variant: u32,
         sector: &mut [u8; 512],
         page_size: u32,
         id: &[u8; 24],
         counter: u64,
         textlen: u64,
-        npub: &[u8; 32],
-        k: &[u8; 32],
+        npub: In,
+        npublen: usize,
+        k: In,
+        klen: usize,
     ) -> i32;
-    fn hunkravy_page_header_open_nonnull(
+    fn hunkravy_page_header_open(
+        variant: u32,
         sector: &[u8; 512],
-        turn: u64,
-        k: &[u8; 32],
+        k: In,
+        klen: usize,
         page_size: &mut u32,
         id: &mut [u8; 24],
         counter: &mut u64,
         textlen: &mut u64,
     ) -> i32;
+    fn hunkravy_record_begin(
+        st: &mut Records,
+        k: &[u8; 32],
+        prefix: &[u8; 24],
+        context: In,
+        contextlen: usize,
+        header: &mut [u8; 4],
+    ) -> i32;
+    fn hunkravy_record_begin_open(
+        st: &mut Records,
+        k: &[u8; 32],
+        prefix: &[u8; 24],
+        context: In,
+        contextlen: usize,
+        header: &[u8; 4],
+    ) -> i32;
+    fn hunkravy_record_seal(st: &mut Records, record: Out, mlen: usize) -> i32;
+    fn hunkravy_record_seal_last(st: &mut Records, record: Out, mlen: usize) -> i32;
+    fn hunkravy_record_len(st: &Records, head: &[u8; 5], recordlen: &mut usize) -> i32;
+    fn hunkravy_record_open(
+        st: &mut Records,
+        record: Out,
+        recordlen: usize,
+        mlen: &mut usize,
+        is_last: &mut i32,
+    ) -> i32;
 }
 
-/// Calls an export: on a number or a state, if it has one, and on the pointer and the length of each slice.
+/// Makes a call: on a number or a state, if it has one, and on the pointer and the length of each slice.
 macro_rules! call {
     ($export:ident($($first:expr),*) $(, $bytes:ident.$pointer:ident)*) => {
         // SAFETY: each pointer is that of a borrowed slice of the length after it, and one that is written to is borrowed
@@ -247,6 +290,8 @@ pub struct Variant {
     pub name: &'static str,
     /// How many bytes a key has, and a nonce.
     pub key_bytes: usize,
+    /// How many lanes it has.
+    pub lanes: u8,
     number: u32,
 }
 
@@ -261,7 +306,7 @@ impl Variant {
         mac: &mut [u8],
     ) -> Answer {
         call!(
-            hunkravy_encrypt_in_place_nonnull(self.number),
+            hunkravy_encrypt_in_place(self.number),
             mc.as_mut_ptr,
             ad.as_ptr,
             npub.as_ptr,
@@ -280,7 +325,7 @@ impl Variant {
         mac: &[u8],
     ) -> Answer {
         call!(
-            hunkravy_decrypt_in_place_nonnull(self.number),
+            hunkravy_decrypt_in_place(self.number),
             mc.as_mut_ptr,
             ad.as_ptr,
             npub.as_ptr,
@@ -292,7 +337,7 @@ impl Variant {
     /// Writes keystream to `out`, whatever was there.
     pub fn stream(&self, out: &mut [u8], npub: &[u8], k: &[u8]) -> Answer {
         call!(
-            hunkravy_stream_nonnull(self.number),
+            hunkravy_stream(self.number),
             out.as_mut_ptr,
             npub.as_ptr,
             k.as_ptr
@@ -302,7 +347,7 @@ impl Variant {
     /// Xors the bytes at `mc` with keystream.
     pub fn stream_xor_in_place(&self, mc: &mut [u8], npub: &[u8], k: &[u8]) -> Answer {
         call!(
-            hunkravy_stream_xor_in_place_nonnull(self.number),
+            hunkravy_stream_xor_in_place(self.number),
             mc.as_mut_ptr,
             npub.as_ptr,
             k.as_ptr
@@ -312,7 +357,7 @@ impl Variant {
     /// Writes the MAC of `input` to `mac`. A nonce of zeros stands for none.
     pub fn mac(&self, input: &[u8], npub: &[u8], k: &[u8], mac: &mut [u8]) -> Answer {
         call!(
-            hunkravy_mac_nonnull(self.number),
+            hunkravy_mac(self.number),
             input.as_ptr,
             npub.as_ptr,
             k.as_ptr,
@@ -323,7 +368,7 @@ impl Variant {
     /// `Ok` exactly if `mac` is that MAC.
     pub fn mac_verify(&self, input: &[u8], npub: &[u8], k: &[u8], mac: &[u8]) -> Answer {
         call!(
-            hunkravy_mac_verify_nonnull(self.number),
+            hunkravy_mac_verify(self.number),
             input.as_ptr,
             npub.as_ptr,
             k.as_ptr,
@@ -331,72 +376,64 @@ impl Variant {
         )
     }
 
-    /// Begins a message. If it is refused, the state is as it was.
+    /// Begins a message. If it is refused, the state is [`State::ENDED`].
     pub fn state_init(&self, st: &mut State, ad: &[u8], npub: &[u8], k: &[u8]) -> Answer {
         call!(
-            hunkravy_state_init_nonnull(self.number, st),
+            hunkravy_state_init(self.number, st),
             ad.as_ptr,
             npub.as_ptr,
             k.as_ptr
         )
     }
 
-    /// Begins a MAC. If it is refused, the state is as it was.
+    /// Begins a MAC. If it is refused, the state is [`State::ENDED`].
     pub fn mac_init(&self, st: &mut State, npub: &[u8], k: &[u8]) -> Answer {
-        call!(
-            hunkravy_mac_init_nonnull(self.number, st),
-            npub.as_ptr,
-            k.as_ptr
-        )
+        call!(hunkravy_mac_init(self.number, st), npub.as_ptr, k.as_ptr)
     }
 }
 
 impl State {
     /// Turns the next bytes of the message into as many of its ciphertext.
     pub fn encrypt_in_place(&mut self, mc: &mut [u8]) -> Answer {
-        call!(hunkravy_state_encrypt_in_place_nonnull(self), mc.as_mut_ptr)
+        call!(hunkravy_state_encrypt_in_place(self), mc.as_mut_ptr)
     }
 
     /// Writes the tag of the message to `mac`, and ends the state.
     pub fn encrypt_final(&mut self, mac: &mut [u8]) -> Answer {
-        call!(hunkravy_state_encrypt_final_nonnull(self), mac.as_mut_ptr)
+        call!(hunkravy_state_encrypt_final(self), mac.as_mut_ptr)
     }
 
     /// Turns the next bytes of the ciphertext into as many of its message, whatever the tag will be.
     pub fn decrypt_in_place_unverified(&mut self, mc: &mut [u8]) -> Answer {
         call!(
-            hunkravy_state_decrypt_in_place_unverified_nonnull(self),
+            hunkravy_state_decrypt_in_place_unverified(self),
             mc.as_mut_ptr
         )
     }
 
     /// Takes in the next bytes of the ciphertext, and writes nothing.
     pub fn decrypt_check(&mut self, c: &[u8]) -> Answer {
-        call!(hunkravy_state_decrypt_check_nonnull(self), c.as_ptr)
+        call!(hunkravy_state_decrypt_check(self), c.as_ptr)
     }
 
     /// `Ok` exactly if `mac` is the tag of the message. Otherwise every byte at `m` is [`ERASED`]. Ends the state.
     pub fn decrypt_final(&mut self, m: &mut [u8], mac: &[u8]) -> Answer {
-        call!(
-            hunkravy_state_decrypt_final_nonnull(self),
-            m.as_mut_ptr,
-            mac.as_ptr
-        )
+        call!(hunkravy_state_decrypt_final(self), m.as_mut_ptr, mac.as_ptr)
     }
 
     /// Takes in the next bytes of the input of a MAC.
     pub fn mac_update(&mut self, input: &[u8]) -> Answer {
-        call!(hunkravy_mac_update_nonnull(self), input.as_ptr)
+        call!(hunkravy_mac_update(self), input.as_ptr)
     }
 
     /// Writes the MAC of the input so far to `mac`. The state stays.
     pub fn mac_final(&self, mac: &mut [u8]) -> Answer {
-        call!(hunkravy_mac_final_nonnull(self), mac.as_mut_ptr)
+        call!(hunkravy_mac_final(self), mac.as_mut_ptr)
     }
 
     /// `Ok` exactly if `mac` is the MAC of the input so far. The state stays.
     pub fn mac_final_verify(&self, mac: &[u8]) -> Answer {
-        call!(hunkravy_mac_final_verify_nonnull(self), mac.as_ptr)
+        call!(hunkravy_mac_final_verify(self), mac.as_ptr)
     }
 }
 
@@ -413,83 +450,187 @@ pub struct PageHeader {
     pub text_len: u64,
 }
 
-/// Seals page `number` of a file in place. Its text has 32 bytes in front of it for the nonce, and 32 after it for the tag.
-pub fn page_seal(
-    page: &mut [u8],
-    id: &[u8; 24],
-    number: u64,
-    npub: &[u8; 32],
-    k: &[u8; 32],
-) -> Answer {
-    // SAFETY: the pointer is that of a slice of this length, which is borrowed exclusively.
-    read(unsafe { hunkravy_page_seal_nonnull(page.as_mut_ptr(), page.len(), id, number, npub, k) })
+impl Variant {
+    /// Seals page `number` of a file in place. Its text has as many bytes in front of it as a nonce, and 32 after it for the
+    /// tag.
+    pub fn page_seal(
+        &self,
+        page: &mut [u8],
+        id: &[u8; 24],
+        number: u64,
+        npub: &[u8],
+        k: &[u8],
+    ) -> Answer {
+        let (bytes, length) = (page.as_mut_ptr(), page.len());
+        call!(
+            hunkravy_page_seal(self.number, bytes, length, id, number),
+            npub.as_ptr,
+            k.as_ptr
+        )
+    }
+
+    /// Opens page `number` of a file in place. If it is not that page, each of its bytes is [`ERASED`].
+    pub fn page_open(&self, page: &mut [u8], id: &[u8; 24], number: u64, k: &[u8]) -> Answer {
+        let (bytes, length) = (page.as_mut_ptr(), page.len());
+        call!(
+            hunkravy_page_open(self.number, bytes, length, id, number),
+            k.as_ptr
+        )
+    }
+
+    /// Writes the sector of a header.
+    pub fn page_header_seal(
+        &self,
+        sector: &mut [u8; 512],
+        header: &PageHeader,
+        npub: &[u8],
+        k: &[u8],
+    ) -> Answer {
+        let PageHeader {
+            page_size,
+            ref id,
+            counter,
+            text_len,
+        } = *header;
+        call!(
+            hunkravy_page_header_seal(self.number, sector, page_size, id, counter, text_len),
+            npub.as_ptr,
+            k.as_ptr
+        )
+    }
+
+    /// Returns the header in a sector.
+    pub fn page_header_open(&self, sector: &[u8; 512], k: &[u8]) -> Result<PageHeader, Refusal> {
+        let mut header = PageHeader::default();
+        let PageHeader {
+            page_size,
+            id,
+            counter,
+            text_len,
+        } = &mut header;
+        // SAFETY: each pointer is that of a borrowed value of the length that the library reads or writes.
+        read(unsafe {
+            hunkravy_page_header_open(
+                self.number,
+                sector,
+                k.as_ptr(),
+                k.len(),
+                page_size,
+                id,
+                counter,
+                text_len,
+            )
+        })?;
+        Ok(header)
+    }
 }
 
-/// Opens page `number` of a file in place. If it is not that page, each of its bytes is [`ERASED`].
-pub fn page_open(page: &mut [u8], id: &[u8; 24], number: u64, k: &[u8; 32]) -> Answer {
-    // SAFETY: the pointer is that of a slice of this length, which is borrowed exclusively.
-    read(unsafe { hunkravy_page_open_nonnull(page.as_mut_ptr(), page.len(), id, number, k) })
+/// How many bytes a record has in front of its message.
+pub const RECORD_HEAD_BYTES: usize = 5;
+/// How many bytes a record has more than its message: its head, and a tag after it.
+pub const RECORD_BYTES: usize = 37;
+
+/// A record stream with no context between two calls, as the library reads and writes it. It is overwritten when it is
+/// dropped.
+#[repr(C)]
+pub struct Records {
+    opaque: [u64; 11],
+    context: *const u8,
+    context_len: usize,
 }
 
-/// Writes the sector of a header.
-pub fn page_header_seal(
-    sector: &mut [u8; 512],
-    header: &PageHeader,
-    npub: &[u8; 32],
-    k: &[u8; 32],
-) -> Answer {
-    let PageHeader {
-        page_size,
-        ref id,
-        counter,
-        text_len,
-    } = *header;
-    // SAFETY: each pointer is that of a borrowed array of the length that the library reads or writes.
-    read(unsafe {
-        hunkravy_page_header_seal_nonnull(sector, page_size, id, counter, text_len, npub, k)
-    })
+impl Records {
+    /// A stream that every call refuses but the one that begins it.
+    const ENDED: Self = Self {
+        opaque: [0; 11],
+        context: core::ptr::null(),
+        context_len: 0,
+    };
+
+    /// Begins to seal a stream. Returns it and its header.
+    pub fn begin(k: &[u8; 32], prefix: &[u8; 24]) -> (Self, [u8; 4]) {
+        let (mut st, mut header) = (Self::ENDED, [0; 4]);
+        let context = core::ptr::null();
+        // SAFETY: each pointer is that of a borrowed value of the length that the library reads or writes; the context has no
+        // byte.
+        let code = unsafe { hunkravy_record_begin(&mut st, k, prefix, context, 0, &mut header) };
+        assert_eq!(read(code), Ok(()), "the context is not too long");
+        (st, header)
+    }
+
+    /// Begins to open a stream that has this header.
+    pub fn begin_open(k: &[u8; 32], prefix: &[u8; 24], header: &[u8; 4]) -> Result<Self, Refusal> {
+        let mut st = Self::ENDED;
+        let context = core::ptr::null();
+        // SAFETY: as above.
+        read(unsafe { hunkravy_record_begin_open(&mut st, k, prefix, context, 0, header) })?;
+        Ok(st)
+    }
+
+    /// Seals the next message in place: it has [`RECORD_HEAD_BYTES`] in front of it, and 32 bytes after it for the tag. The
+    /// last one ends the stream.
+    pub fn seal(&mut self, record: &mut [u8], is_last: bool) -> Answer {
+        let Some(message_len) = record.len().checked_sub(RECORD_BYTES) else {
+            return Err(Refusal::WrongRecordLength);
+        };
+        let bytes = record.as_mut_ptr();
+        // SAFETY: the pointer is that of a slice, borrowed exclusively, which has the bytes of a record of this message.
+        read(unsafe {
+            if is_last {
+                hunkravy_record_seal_last(self, bytes, message_len)
+            } else {
+                hunkravy_record_seal(self, bytes, message_len)
+            }
+        })
+    }
+
+    /// Returns how many bytes the next record has, by its head, which is not verified.
+    pub fn record_len(&self, head: &[u8; RECORD_HEAD_BYTES]) -> Result<usize, Refusal> {
+        let mut length = 0;
+        // SAFETY: each pointer is that of a borrowed value of the length that the library reads or writes.
+        read(unsafe { hunkravy_record_len(self, head, &mut length) })?;
+        Ok(length)
+    }
+
+    /// Opens the next record in place, and returns whether it is the last one, which ends the stream. If the bytes are not the
+    /// next record, each of them is [`ERASED`].
+    pub fn open(&mut self, record: &mut [u8]) -> Result<bool, Refusal> {
+        let (mut message_len, mut is_last) = (0, 0);
+        let (bytes, length) = (record.as_mut_ptr(), record.len());
+        // SAFETY: the pointer is that of a slice of this length, which is borrowed exclusively.
+        read(unsafe { hunkravy_record_open(self, bytes, length, &mut message_len, &mut is_last) })?;
+        Ok(is_last == 1)
+    }
 }
 
-/// Returns the header in a sector: the first of its file if `turn` is 0, and the second if it is 1.
-pub fn page_header_open(
-    sector: &[u8; 512],
-    turn: u64,
-    k: &[u8; 32],
-) -> Result<PageHeader, Refusal> {
-    let mut header = PageHeader::default();
-    let PageHeader {
-        page_size,
-        id,
-        counter,
-        text_len,
-    } = &mut header;
-    // SAFETY: each pointer is that of a borrowed value of the length that the library reads or writes.
-    read(unsafe {
-        hunkravy_page_header_open_nonnull(sector, turn, k, page_size, id, counter, text_len)
-    })?;
-    Ok(header)
+impl Drop for Records {
+    fn drop(&mut self) {
+        // SAFETY: the pointer is that of an exclusive borrow of an array.
+        unsafe { core::ptr::write_volatile(&mut self.opaque, [0; 11]) }
+    }
 }
 
-const fn variant(name: &'static str, key_bytes: usize, number: u32) -> Variant {
+const fn variant(name: &'static str, key_bytes: usize, lanes: u8, number: u32) -> Variant {
     Variant {
         name,
         key_bytes,
+        lanes,
         number,
     }
 }
 
 /// AEGIS-128L.
-pub const AEGIS128L: Variant = variant("aegis128l", 16, 0);
+pub const AEGIS128L: Variant = variant("aegis128l", 16, 1, 0);
 /// AEGIS-128X2.
-pub const AEGIS128X2: Variant = variant("aegis128x2", 16, 1);
+pub const AEGIS128X2: Variant = variant("aegis128x2", 16, 2, 1);
 /// AEGIS-128X4.
-pub const AEGIS128X4: Variant = variant("aegis128x4", 16, 2);
+pub const AEGIS128X4: Variant = variant("aegis128x4", 16, 4, 2);
 /// AEGIS-256.
-pub const AEGIS256: Variant = variant("aegis256", 32, 3);
+pub const AEGIS256: Variant = variant("aegis256", 32, 1, 3);
 /// AEGIS-256X2.
-pub const AEGIS256X2: Variant = variant("aegis256x2", 32, 4);
+pub const AEGIS256X2: Variant = variant("aegis256x2", 32, 2, 4);
 /// AEGIS-256X4.
-pub const AEGIS256X4: Variant = variant("aegis256x4", 32, 5);
+pub const AEGIS256X4: Variant = variant("aegis256x4", 32, 4, 5);
 
 /// All six.
 pub const VARIANTS: [Variant; 6] = [

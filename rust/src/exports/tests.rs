@@ -1,10 +1,12 @@
-//! The calls on a state, in orders and with lengths that the crate does not make, and those on pages and headers.
+//! The calls on a state, in orders and with lengths that the crate does not make, and those on pages, headers and records.
 
 use super::{
-    Answer, ERASED, PageHeader, Refusal, State, VARIANTS, Variant, page_header_open,
-    page_header_seal, page_open, page_seal,
+    Answer, ERASED, PageHeader, RECORD_BYTES, RECORD_HEAD_BYTES, Records, Refusal, State, VARIANTS,
+    Variant,
 };
 use crate::MAX_AEAD_BYTES;
+use alloc::vec;
+use alloc::vec::Vec;
 
 const AD: &[u8] = b"associated data";
 const MESSAGE: &[u8] = &[0x5a; 150];
@@ -120,13 +122,12 @@ fn a_key_or_a_nonce_of_another_length_is_refused() {
         for other in [0, 1, length - 1, length + 1, 48 - length] {
             let (right, wrong) = (&bytes[..length], &bytes[..other]);
             let st = &mut begun(variant, AD);
-            let before = contents(st);
             let nonce = Err(Refusal::WrongNonceLength);
             assert_eq!(variant.state_init(st, AD, wrong, right), nonce);
             assert_eq!(variant.state_init(st, AD, wrong, wrong), nonce);
             let key = Err(Refusal::WrongKeyLength);
             assert_eq!(variant.state_init(st, AD, right, wrong), key);
-            assert_eq!(contents(st), before);
+            assert_eq!(contents(st), contents(&State::ENDED));
         }
     }
 }
@@ -254,45 +255,72 @@ fn a_wiped_state_is_zeros() {
 }
 
 /// A page of 256 bytes of text.
-fn sealed_page(number: u64) -> [u8; 320] {
-    let mut page = [0x5a; 320];
-    assert_eq!(
-        page_seal(&mut page, &[1; 24], number, &[2; 32], &[3; 32]),
-        Ok(())
-    );
+fn sealed_page(variant: &Variant, number: u64) -> Vec<u8> {
+    let n = variant.key_bytes;
+    let mut page = vec![0x5a; n + 288];
+    let answer = variant.page_seal(&mut page, &[1; 24], number, &[2; 32][..n], &[3; 32][..n]);
+    assert_eq!(answer, Ok(()));
     page
 }
 
 #[test]
 fn a_page_opens_at_its_number() {
-    let mut page = sealed_page(7);
-    assert_eq!(page_open(&mut page, &[1; 24], 7, &[3; 32]), Ok(()));
-    assert_eq!(page[32..288], [0x5a; 256]);
-    for (id, number, key) in [(1, 8, 3), (2, 7, 3), (1, 7, 4)] {
-        let mut page = sealed_page(7);
-        let answer = page_open(&mut page, &[id; 24], number, &[key; 32]);
-        assert_eq!(answer, Err(Refusal::InvalidTag));
-        assert_eq!(page, [ERASED; 320]);
+    for variant in &VARIANTS {
+        let n = variant.key_bytes;
+        let mut page = sealed_page(variant, 7);
+        let answer = variant.page_open(&mut page, &[1; 24], 7, &[3; 32][..n]);
+        assert_eq!(answer, Ok(()));
+        assert_eq!(page[n..n + 256], [0x5a; 256]);
+        for (id, number, key) in [(1, 8, 3), (2, 7, 3), (1, 7, 4)] {
+            let mut page = sealed_page(variant, 7);
+            let answer = variant.page_open(&mut page, &[id; 24], number, &[key; 32][..n]);
+            assert_eq!(answer, Err(Refusal::InvalidTag));
+            assert_eq!(page, vec![ERASED; n + 288]);
+        }
+    }
+}
+
+/// Neither a variant of other lengths nor one of other lanes opens it.
+#[test]
+fn a_page_of_another_variant_is_refused() {
+    for sealing in &VARIANTS {
+        for opening in &VARIANTS {
+            let n = opening.key_bytes;
+            let mut page = sealed_page(sealing, 7);
+            let answer = opening.page_open(&mut page, &[1; 24], 7, &[3; 32][..n]);
+            assert_eq!(answer.is_ok(), sealing.name == opening.name);
+        }
     }
 }
 
 #[test]
 fn a_page_of_another_length_is_refused() {
-    let mut page = [0x77; 70_000];
-    for (length, number, refusal) in [
-        (0, 0, Refusal::WrongTagLength),
-        (319, 0, Refusal::WrongTagLength),
-        (65_601, 0, Refusal::MessageTooLong),
-        (320, (1 << 52) + 1, Refusal::MessageTooLong),
-        (320, u64::MAX, Refusal::MessageTooLong),
-    ] {
-        let bytes = &mut page[..length];
-        let answer = page_seal(bytes, &[1; 24], number, &[2; 32], &[3; 32]);
-        assert_eq!(answer, Err(refusal));
-        let answer = page_open(bytes, &[1; 24], number, &[3; 32]);
-        assert_eq!(answer, Err(refusal));
+    for variant in &VARIANTS {
+        let n = variant.key_bytes;
+        let mut page = vec![0x77; 70_000];
+        for (length, number, refusal) in [
+            (0, 0, Refusal::WrongPageSize),
+            (n + 287, 0, Refusal::WrongPageSize),
+            (n + 65_569, 0, Refusal::WrongPageSize),
+            (n + 288, (1 << 52) + 1, Refusal::TextTooLong),
+            (n + 288, u64::MAX, Refusal::TextTooLong),
+        ] {
+            let (bytes, k) = (&mut page[..length], &[3; 33][..n]);
+            let answer = variant.page_seal(bytes, &[1; 24], number, k, k);
+            assert_eq!(answer, Err(refusal));
+            assert_eq!(variant.page_open(bytes, &[1; 24], number, k), Err(refusal));
+            let (long, short) = (&[3; 33][..n + 1], &[3; 33][..n - 1]);
+            for wrong in [long, short, &[]] {
+                let answer = variant.page_seal(bytes, &[1; 24], number, wrong, k);
+                assert_eq!(answer, Err(Refusal::WrongNonceLength));
+                let answer = variant.page_seal(bytes, &[1; 24], number, k, wrong);
+                assert_eq!(answer, Err(Refusal::WrongKeyLength));
+                let answer = variant.page_open(bytes, &[1; 24], number, wrong);
+                assert_eq!(answer, Err(Refusal::WrongKeyLength));
+            }
+        }
+        assert_eq!(page, vec![0x77; 70_000]);
     }
-    assert_eq!(page, [0x77; 70_000]);
 }
 
 #[test]
@@ -303,25 +331,69 @@ fn a_header_opens_in_its_turn() {
         counter: 5,
         text_len: 1 << 60,
     };
-    let mut sector = [0x77; 512];
-    for wrong in [
-        PageHeader {
-            page_size: 255,
-            ..header
-        },
-        PageHeader {
-            text_len: (1 << 60) + 1,
-            ..header
-        },
-    ] {
-        assert!(page_header_seal(&mut sector, &wrong, &[2; 32], &[3; 32]).is_err());
-        assert_eq!(sector, [0x77; 512]);
-    }
-    let answer = page_header_seal(&mut sector, &header, &[2; 32], &[3; 32]);
-    assert_eq!(answer, Ok(()));
-    assert_eq!(page_header_open(&sector, 1, &[3; 32]), Ok(header));
-    for (turn, key) in [(0, 3), (2, 3), (1, 4)] {
-        let found = page_header_open(&sector, turn, &[key; 32]);
+    for variant in &VARIANTS {
+        let n = variant.key_bytes;
+        let (npub, k) = (&[2; 32][..n], &[3; 32][..n]);
+        let mut sector = [0x77; 512];
+        for wrong in [
+            PageHeader {
+                page_size: 255,
+                ..header
+            },
+            PageHeader {
+                text_len: (1 << 60) + 1,
+                ..header
+            },
+        ] {
+            let answer = variant.page_header_seal(&mut sector, &wrong, npub, k);
+            assert!(answer.is_err());
+            let answer = variant.page_header_seal(&mut sector, &header, npub, &k[1..]);
+            assert_eq!(answer, Err(Refusal::WrongKeyLength));
+            let answer = variant.page_header_seal(&mut sector, &header, &npub[1..], k);
+            assert_eq!(answer, Err(Refusal::WrongNonceLength));
+            assert_eq!(sector, [0x77; 512]);
+        }
+        let answer = variant.page_header_seal(&mut sector, &header, npub, k);
+        assert_eq!(answer, Ok(()));
+        assert_eq!(variant.page_header_open(&sector, k), Ok(header));
+        for other in &VARIANTS {
+            let found = other.page_header_open(&sector, &[3; 32][..other.key_bytes]);
+            assert_eq!(found.is_ok(), other.name == variant.name);
+        }
+        let found = variant.page_header_open(&sector, &[4; 32][..n]);
         assert_eq!(found, Err(Refusal::InvalidTag));
+        let found = variant.page_header_open(&sector, &k[1..]);
+        assert_eq!(found, Err(Refusal::WrongKeyLength));
     }
+}
+
+/// A record of a message.
+fn with_room(message: &[u8]) -> Vec<u8> {
+    let mut record = vec![0; message.len() + RECORD_BYTES];
+    record[RECORD_HEAD_BYTES..][..message.len()].copy_from_slice(message);
+    record
+}
+
+#[test]
+fn records_open_in_their_order() {
+    let (mut records, header) = Records::begin(&[1; 32], &[2; 24]);
+    let (mut first, mut last) = (with_room(b"first"), with_room(b""));
+    assert_eq!(
+        records.seal(&mut [0; 36], false),
+        Err(Refusal::WrongRecordLength)
+    );
+    assert_eq!(records.seal(&mut first, false), Ok(()));
+    assert_eq!(records.seal(&mut last, true), Ok(()));
+    assert_eq!(records.seal(&mut last, true), Err(Refusal::WrongState));
+
+    let unknown = Records::begin_open(&[1; 32], &[2; 24], b"none").map(|_| ());
+    assert_eq!(unknown, Err(Refusal::UnknownHeader));
+    let mut records = Records::begin_open(&[1; 32], &[2; 24], &header).unwrap();
+    assert_eq!(records.record_len(first[..5].try_into().unwrap()), Ok(42));
+    assert_eq!(records.record_len(&[2; 5]), Err(Refusal::InvalidTag));
+    assert_eq!(records.open(&mut last.clone()), Err(Refusal::InvalidTag));
+    assert_eq!(records.open(&mut first), Ok(false));
+    assert_eq!(first[RECORD_HEAD_BYTES..10], *b"first");
+    assert_eq!(records.open(&mut last), Ok(true));
+    assert_eq!(records.open(&mut last), Err(Refusal::WrongState));
 }

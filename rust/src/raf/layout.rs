@@ -1,43 +1,77 @@
-//! How a file is laid out: its headers and its pages, which the library seals and opens.
+//! How a file is laid out: its header and its pages, which the library seals and opens.
 
-use crate::exports::{PageHeader, page_header_open, page_header_seal, page_open, page_seal};
+use super::Algorithm;
+use crate::exports::PageHeader;
+use crate::wipe::wipe;
 
-/// The length of a nonce, in front of a page's text.
-pub const NONCE_BYTES: usize = 32;
-/// How many bytes a page has more than its text: the nonce, and a tag after it.
-pub const ADDED_BYTES: usize = 64;
-/// The length of a sector. Each of the first two has a header.
+/// The length of a tag, at the end of a page.
+pub const TAG_BYTES: usize = 32;
+/// The length of the first sector, which has the header.
 pub const SECTOR_BYTES: usize = 512;
 /// Where the first page is.
-pub const FIRST_PAGE: u64 = 1024;
-/// The length of the clear part of a header: the magic number, the variant, the chunk size and the id.
+pub const FIRST_PAGE: u64 = 4096;
+/// The length of a file's id.
+pub const ID_BYTES: usize = 24;
+/// The length of the clear part of a header: the magic number, the algorithm, the chunk size and the id.
 pub const CLEAR_BYTES: usize = 33;
+/// The length of the counter and the size, which are encrypted in a header.
+const HEADER_TEXT_BYTES: usize = 16;
 
 const MAGIC: [u8; 4] = *b"AGP1";
-/// The byte that stands for AEGIS-256.
-const VARIANT: u8 = 33;
+const JOURNAL_MAGIC: [u8; 4] = *b"AGPJ";
 
-/// What all pages and headers of a file are sealed under.
-pub struct Layout {
-    pub key: [u8; 32],
+/// What all pages and headers of a file are sealed under. The key is overwritten when it is dropped.
+pub struct Layout<A: Algorithm> {
+    pub key: A::Key,
     pub chunk_size: u32,
-    pub id: [u8; 24],
+    pub id: [u8; ID_BYTES],
 }
 
-impl Layout {
+impl<A: Algorithm> Layout<A> {
+    /// The layout that a header names.
+    pub fn of(key: &A::Key, header: &PageHeader) -> Self {
+        Layout {
+            key: *key,
+            chunk_size: header.page_size,
+            id: header.id,
+        }
+    }
+
+    /// The length of a page.
+    pub fn page_bytes(&self) -> usize {
+        A::EXPORTS.key_bytes + self.chunk_size as usize + TAG_BYTES
+    }
+
+    /// Where a page begins.
+    pub fn page_place(&self, number: u64) -> u64 {
+        FIRST_PAGE + number * self.page_bytes() as u64
+    }
+
+    /// How many pages a text of `size` bytes has.
+    pub fn page_count(&self, size: u64) -> u64 {
+        size.div_ceil(u64::from(self.chunk_size))
+    }
+
+    /// The text of a page.
+    pub fn text<'a>(&self, page: &'a mut [u8]) -> &'a mut [u8] {
+        &mut page[A::EXPORTS.key_bytes..][..self.chunk_size as usize]
+    }
+
     /// Seals the page of this number, whose text is in its place.
-    pub fn seal(&self, number: u64, nonce: &[u8; NONCE_BYTES], page: &mut [u8]) {
-        let answer = page_seal(page, &self.id, number, nonce, &self.key);
-        assert_eq!(answer, Ok(()), "the length and the number are right");
+    pub fn seal(&self, number: u64, nonce: &A::Nonce, page: &mut [u8]) {
+        let (nonce, key) = (nonce.as_ref(), self.key.as_ref());
+        let answer = A::EXPORTS.page_seal(page, &self.id, number, nonce, key);
+        assert_eq!(answer, Ok(()), "the lengths and the number are right");
     }
 
     /// Opens the page of this number. If it was not sealed under it, each byte is erased.
     pub fn open(&self, number: u64, page: &mut [u8]) -> bool {
-        page_open(page, &self.id, number, &self.key).is_ok()
+        let answer = A::EXPORTS.page_open(page, &self.id, number, self.key.as_ref());
+        answer.is_ok()
     }
 
     /// Returns the sector of the header of this counter, for a text of `size` bytes.
-    pub fn header(&self, counter: u64, size: u64, nonce: &[u8; NONCE_BYTES]) -> [u8; SECTOR_BYTES] {
+    pub fn header(&self, counter: u64, size: u64, nonce: &A::Nonce) -> [u8; SECTOR_BYTES] {
         let header = PageHeader {
             page_size: self.chunk_size,
             id: self.id,
@@ -45,9 +79,35 @@ impl Layout {
             text_len: size,
         };
         let mut sector = [0; SECTOR_BYTES];
-        let answer = page_header_seal(&mut sector, &header, nonce, &self.key);
-        assert_eq!(answer, Ok(()), "the chunk size and the length are right");
+        let (nonce, key) = (nonce.as_ref(), self.key.as_ref());
+        let answer = A::EXPORTS.page_header_seal(&mut sector, &header, nonce, key);
+        assert_eq!(answer, Ok(()), "the chunk size and the lengths are right");
         sector
+    }
+
+    /// The first bytes of a header.
+    pub fn clear(&self) -> [u8; CLEAR_BYTES] {
+        self.named(MAGIC)
+    }
+
+    /// The first bytes of the file's journals.
+    pub fn journal_front(&self) -> [u8; CLEAR_BYTES] {
+        self.named(JOURNAL_MAGIC)
+    }
+
+    fn named(&self, magic: [u8; 4]) -> [u8; CLEAR_BYTES] {
+        let mut clear = [0; CLEAR_BYTES];
+        clear[..4].copy_from_slice(&magic);
+        clear[4] = A::EXPORTS.key_bytes as u8 + A::EXPORTS.lanes;
+        clear[5..9].copy_from_slice(&self.chunk_size.to_le_bytes());
+        clear[9..].copy_from_slice(&self.id);
+        clear
+    }
+}
+
+impl<A: Algorithm> Drop for Layout<A> {
+    fn drop(&mut self) {
+        wipe(self.key.as_mut());
     }
 }
 
@@ -56,14 +116,42 @@ pub fn is_chunk_size(bytes: u32) -> bool {
     (256..=65_536).contains(&bytes)
 }
 
-/// Returns the chunk size that the clear part of a header names, if it is one of this format.
-pub fn chunk_size_of(clear: &[u8; CLEAR_BYTES]) -> Option<u32> {
+/// Returns the byte of the algorithm and the chunk size that the clear part of a header names, if it is one of this format.
+pub fn named_by(clear: &[u8; CLEAR_BYTES]) -> Option<(u8, u32)> {
     let chunk_size = u32::from_le_bytes(clear[5..9].try_into().ok()?);
-    let is_known = clear[..4] == MAGIC && clear[4] == VARIANT && is_chunk_size(chunk_size);
-    is_known.then_some(chunk_size)
+    let is_known = clear[..4] == MAGIC && is_chunk_size(chunk_size);
+    is_known.then_some((clear[4], chunk_size))
 }
 
-/// Returns the header in a sector, 0 or 1, if it was sealed under the key for this sector.
-pub fn open_header(key: &[u8; 32], number: u64, sector: &[u8; SECTOR_BYTES]) -> Option<PageHeader> {
-    page_header_open(sector, number, key).ok()
+/// Returns the header in a sector, if it was sealed by this algorithm and under the key.
+pub fn open_header<A: Algorithm>(key: &A::Key, sector: &[u8; SECTOR_BYTES]) -> Option<PageHeader> {
+    A::EXPORTS.page_header_open(sector, key.as_ref()).ok()
+}
+
+/// Returns the bytes of the header in a sector, without the zeros after it.
+pub fn header_bytes<A: Algorithm>(sector: &[u8; SECTOR_BYTES]) -> &[u8] {
+    &sector[..CLEAR_BYTES + A::EXPORTS.key_bytes + HEADER_TEXT_BYTES + TAG_BYTES]
+}
+
+/// Returns the MAC, under the key and the nonce whose bytes are all 255, of the first bytes of a journal: the key of the
+/// journals of all files under that key.
+pub fn journal_key<A: Algorithm>(key: &A::Key) -> [u8; 32] {
+    let mut mac = [0; 32];
+    let nonce = commitment_nonce::<A>();
+    let answer = A::EXPORTS.mac(&JOURNAL_MAGIC, nonce.as_ref(), key.as_ref(), &mut mac);
+    assert_eq!(answer, Ok(()), "the lengths are right");
+    mac
+}
+
+/// Returns the nonce that no page and no header has.
+pub fn commitment_nonce<A: Algorithm>() -> A::Nonce {
+    let mut nonce = A::Nonce::default();
+    nonce.as_mut().fill(255);
+    nonce
+}
+
+/// Returns whether a journal begins as that of another file than the one of this front.
+pub fn is_of_another(front: &[u8; CLEAR_BYTES], journal: &[u8]) -> bool {
+    let first = journal.get(..CLEAR_BYTES);
+    first.is_some_and(|first| first[..4] == JOURNAL_MAGIC && first != front)
 }

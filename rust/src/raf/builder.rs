@@ -1,0 +1,237 @@
+//! How a file is created or opened.
+
+use super::changes::Changes;
+use super::io::{Beside, FileIo, JournalChoice, JournalFile, RafIo, journal_path, sync_folder};
+use super::layout::{ID_BYTES, Layout, is_chunk_size};
+use super::recovery::recover;
+use super::rng::{OsRng, RafRng};
+use super::{Algorithm, DEFAULT_CHUNK_SIZE, Error, Raf, Result};
+use crate::exports::PageHeader;
+use alloc::vec;
+use core::marker::PhantomData;
+use std::io;
+use std::path::Path;
+
+/// How many bytes of changed pages are kept in memory before a write commits them, unless the builder is told otherwise.
+const DEFAULT_BUFFER_LIMIT: usize = 16 << 20;
+
+/// How a file is created or opened.
+pub struct RafBuilder<A: Algorithm, R: RafRng = OsRng, J: JournalChoice = Beside> {
+    chunk_size: u32,
+    truncate: bool,
+    buffer_limit: usize,
+    rng: R,
+    journal: J,
+    algorithm: PhantomData<A>,
+}
+
+impl<A: Algorithm> RafBuilder<A> {
+    /// The default: pages of [`DEFAULT_CHUNK_SIZE`], the system's random bytes, 16 MiB of changes in memory, and no file is
+    /// overwritten.
+    #[allow(clippy::new_without_default)]
+    pub fn new() -> Self {
+        Self::with_rng(OsRng::default())
+    }
+
+    /// The default, but nonces and ids come from `rng`.
+    pub fn with_rng<R: RafRng>(rng: R) -> RafBuilder<A, R> {
+        RafBuilder {
+            chunk_size: DEFAULT_CHUNK_SIZE,
+            truncate: false,
+            buffer_limit: DEFAULT_BUFFER_LIMIT,
+            rng,
+            journal: Beside,
+            algorithm: PhantomData,
+        }
+    }
+}
+
+impl<A: Algorithm, R: RafRng, J: JournalChoice> RafBuilder<A, R, J> {
+    /// Sets the number of bytes of text in a page of a new file, from 256 to 65,536.
+    pub fn chunk_size(mut self, bytes: u32) -> Self {
+        self.chunk_size = bytes;
+        self
+    }
+
+    /// Sets whether a file that exists is overwritten by a new one.
+    pub fn truncate(mut self, truncate: bool) -> Self {
+        self.truncate = truncate;
+        self
+    }
+
+    /// Sets how many bytes of changed pages may be kept in memory. A [`write`](Raf::write) or [`truncate`](Raf::truncate)
+    /// after which there are more is a commit too, of all changes so far. The default is 16 MiB. With `usize::MAX` none is.
+    pub fn buffer_limit(mut self, bytes: usize) -> Self {
+        self.buffer_limit = bytes;
+        self
+    }
+
+    /// Sets where nonces and ids come from.
+    pub fn rng<S: RafRng>(self, rng: S) -> RafBuilder<A, S, J> {
+        let journal = self.journal;
+        RafBuilder {
+            chunk_size: self.chunk_size,
+            truncate: self.truncate,
+            buffer_limit: self.buffer_limit,
+            rng,
+            journal,
+            algorithm: PhantomData,
+        }
+    }
+
+    /// Sets where the journal is kept. The default is a [`JournalFile`](super::JournalFile) beside a file of the system, and none
+    /// for another storage: a crash in a commit may then leave some of its changes, or damage it.
+    pub fn journal<K: RafIo>(self, journal: K) -> RafBuilder<A, R, K> {
+        RafBuilder {
+            chunk_size: self.chunk_size,
+            truncate: self.truncate,
+            buffer_limit: self.buffer_limit,
+            rng: self.rng,
+            journal,
+            algorithm: PhantomData,
+        }
+    }
+
+    /// Makes the bytes of `io` a file with no text, and syncs it.
+    ///
+    /// # Errors
+    ///
+    /// [`Error::ChunkSize`], an error of the source of random bytes, [`Error::Locked`], [`Error::Journal`] if the journal is not
+    /// empty, or [`io::ErrorKind::AlreadyExists`] if `io` is not and [`truncate`](Self::truncate) was not set. Nothing was
+    /// changed then. Or [`Error::Io`].
+    pub fn create<I: RafIo>(mut self, io: I, key: &A::Key) -> Result<Raf<A, I, R, J::Journal>> {
+        let draws = self.draw()?;
+        self.begin(io, key, &draws)
+    }
+
+    /// Opens the file that the bytes of `io` are, and completes a commit that was cut short, or leaves out all of it.
+    ///
+    /// # Errors
+    ///
+    /// [`Error::Locked`]; [`Error::Header`] if there is no header of this algorithm and key; or [`Error::Journal`] if the
+    /// journal is that of another file, or of another state of this one. Nothing was changed then. Or [`Error::Io`]: nothing is
+    /// lost, so open it again.
+    pub fn open<I: RafIo>(self, mut io: I, key: &A::Key) -> Result<Raf<A, I, R, J::Journal>> {
+        io.lock()?;
+        let mut builder = self.choose(&io);
+        builder.journal.lock()?;
+        let header = recover::<A>(&mut io, &mut builder.journal, key)?;
+        Ok(builder.over(io, key, &header))
+    }
+
+    /// Creates a file at a path. The file, its header and its name are then synced.
+    ///
+    /// # Errors
+    ///
+    /// Those of [`create`](Self::create). If one of them says that nothing was changed, a file that was there is as it was, and
+    /// there is no new one.
+    pub fn create_file(
+        mut self,
+        path: impl AsRef<Path>,
+        key: &A::Key,
+    ) -> Result<Raf<A, FileIo, R, J::Journal>> {
+        let path = path.as_ref();
+        let draws = self.draw()?;
+        if JournalFile::at(Some(journal_path(path)?)).get_size()? != 0 {
+            return Err(Error::Journal);
+        }
+        let io = if self.truncate {
+            FileIo::create(path)?
+        } else {
+            FileIo::create_new(path)?
+        };
+        let file = self.begin(io, key, &draws)?;
+        sync_folder(&path.canonicalize()?)?;
+        Ok(file)
+    }
+
+    /// Opens the file at a path, and completes a commit that was cut short, or leaves out all of it. The errors are those of
+    /// [`open`](Self::open).
+    pub fn open_file(
+        self,
+        path: impl AsRef<Path>,
+        key: &A::Key,
+    ) -> Result<Raf<A, FileIo, R, J::Journal>> {
+        self.open(FileIo::open(path)?, key)
+    }
+
+    fn choose(self, io: &impl RafIo) -> RafBuilder<A, R, J::Journal> {
+        RafBuilder {
+            chunk_size: self.chunk_size,
+            truncate: self.truncate,
+            buffer_limit: self.buffer_limit,
+            rng: self.rng,
+            journal: self.journal.of(io),
+            algorithm: PhantomData,
+        }
+    }
+
+    /// Draws all random bytes that a new file needs, before anything is changed.
+    fn draw(&mut self) -> Result<Draws<A>> {
+        if !is_chunk_size(self.chunk_size) {
+            return Err(Error::ChunkSize);
+        }
+        let mut draws = Draws {
+            id: [0; ID_BYTES],
+            nonce: A::Nonce::default(),
+        };
+        self.rng.fill(&mut draws.id)?;
+        self.rng.fill(A::Nonce::as_mut(&mut draws.nonce))?;
+        Ok(draws)
+    }
+
+    fn begin<I: RafIo>(
+        self,
+        mut io: I,
+        key: &A::Key,
+        draws: &Draws<A>,
+    ) -> Result<Raf<A, I, R, J::Journal>> {
+        io.lock()?;
+        let mut builder = self.choose(&io);
+        builder.journal.lock()?;
+        if builder.journal.get_size()? != 0 {
+            return Err(Error::Journal);
+        }
+        if !builder.truncate && io.get_size()? != 0 {
+            return Err(Error::Io(io::ErrorKind::AlreadyExists.into()));
+        }
+        let header = PageHeader {
+            page_size: builder.chunk_size,
+            id: draws.id,
+            counter: 0,
+            text_len: 0,
+        };
+        let sector = Layout::<A>::of(key, &header).header(0, 0, &draws.nonce);
+        builder.journal.sync()?;
+        io.set_size(0)?;
+        io.write_at(&sector, 0)?;
+        io.sync()?;
+        Ok(builder.over(io, key, &header))
+    }
+}
+
+impl<A: Algorithm, R: RafRng, J: RafIo> RafBuilder<A, R, J> {
+    /// The open file that has this header.
+    fn over<I: RafIo>(self, io: I, key: &A::Key, header: &PageHeader) -> Raf<A, I, R, J> {
+        let layout = Layout::<A>::of(key, header);
+        Raf {
+            io,
+            journal: self.journal,
+            rng: self.rng,
+            page: vec![0; layout.page_bytes()],
+            layout,
+            counter: header.counter,
+            stored: header.text_len,
+            size: header.text_len,
+            changes: Changes::default(),
+            buffer_limit: self.buffer_limit,
+            is_broken: false,
+        }
+    }
+}
+
+/// The random bytes of a new file.
+struct Draws<A: Algorithm> {
+    id: [u8; ID_BYTES],
+    nonce: A::Nonce,
+}

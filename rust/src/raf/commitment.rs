@@ -1,0 +1,44 @@
+//! One MAC over the tags of all pages.
+
+use super::layout::{TAG_BYTES, commitment_nonce};
+use super::{Algorithm, Error, Raf, RafIo, RafRng, Result};
+use crate::Mac;
+
+impl<A: Algorithm, I: RafIo, R: RafRng, J: RafIo> Raf<A, I, R, J> {
+    /// Returns the commitment of the file as it was at the last commit: a MAC, under the key, of its header's counter and size,
+    /// and of the tag of each page. A file of which a page or the header is an older one has another commitment. Keep it where
+    /// nobody can set it back together with the file.
+    ///
+    /// # Errors
+    ///
+    /// [`Error::Io`] or [`Error::Broken`].
+    pub fn commitment(&mut self) -> Result<[u8; 32]> {
+        Ok(self.commitment_mac()?.finalize())
+    }
+
+    /// Returns `Ok` if the file's commitment is `expected`. The comparison looks at every byte.
+    ///
+    /// # Errors
+    ///
+    /// [`Error::Commitment`] if it is another, [`Error::Io`] or [`Error::Broken`].
+    pub fn verify(&mut self, expected: &[u8; 32]) -> Result<()> {
+        let mac = self.commitment_mac()?;
+        mac.verify(expected).map_err(|_| Error::Commitment)
+    }
+
+    fn commitment_mac(&mut self) -> Result<Mac<A, 32>> {
+        self.check_is_whole()?;
+        let nonce = commitment_nonce::<A>();
+        let mut mac = Mac::<A, 32>::new_with_nonce(&self.layout.key, &nonce);
+        mac.update(&self.layout.clear());
+        mac.update(&self.counter.to_le_bytes());
+        mac.update(&self.stored.to_le_bytes());
+        for number in 0..self.layout.page_count(self.stored) {
+            let mut tag = [0; TAG_BYTES];
+            let end = self.layout.page_place(number + 1);
+            self.io.read_at(&mut tag, end - TAG_BYTES as u64)?;
+            mac.update(&tag);
+        }
+        Ok(mac)
+    }
+}

@@ -1,0 +1,49 @@
+//! A place in the text of a file.
+
+use super::{Algorithm, Raf, RafIo, RafRng};
+use std::io::{self, Read, Seek, SeekFrom, Write};
+
+/// A place in the text of a file, which each read and write moves on. [`Raf::cursor`] returns one.
+pub struct RafCursor<'a, A: Algorithm, I: RafIo, R: RafRng, J: RafIo> {
+    file: &'a mut Raf<A, I, R, J>,
+    offset: u64,
+}
+
+impl<'a, A: Algorithm, I: RafIo, R: RafRng, J: RafIo> RafCursor<'a, A, I, R, J> {
+    pub(super) fn new(file: &'a mut Raf<A, I, R, J>) -> Self {
+        RafCursor { file, offset: 0 }
+    }
+}
+
+impl<A: Algorithm, I: RafIo, R: RafRng, J: RafIo> Read for RafCursor<'_, A, I, R, J> {
+    fn read(&mut self, buf: &mut [u8]) -> io::Result<usize> {
+        let count = self.file.read(buf, self.offset)?;
+        self.offset += count as u64;
+        Ok(count)
+    }
+}
+
+impl<A: Algorithm, I: RafIo, R: RafRng, J: RafIo> Write for RafCursor<'_, A, I, R, J> {
+    fn write(&mut self, data: &[u8]) -> io::Result<usize> {
+        let count = self.file.write(data, self.offset)?;
+        self.offset += count as u64;
+        Ok(count)
+    }
+
+    /// Commits the changes, as [`Raf::commit`] does.
+    fn flush(&mut self) -> io::Result<()> {
+        Ok(self.file.commit()?)
+    }
+}
+
+impl<A: Algorithm, I: RafIo, R: RafRng, J: RafIo> Seek for RafCursor<'_, A, I, R, J> {
+    fn seek(&mut self, to: SeekFrom) -> io::Result<u64> {
+        let offset = match to {
+            SeekFrom::Start(offset) => Some(offset),
+            SeekFrom::End(by) => self.file.size().checked_add_signed(by),
+            SeekFrom::Current(by) => self.offset.checked_add_signed(by),
+        };
+        self.offset = offset.ok_or(io::ErrorKind::InvalidInput)?;
+        Ok(self.offset)
+    }
+}

@@ -1,0 +1,48 @@
+//! Keys of files, derived from a master key.
+
+use super::{Error, Result};
+use crate::exports::{AEGIS128L, AEGIS256};
+
+/// What the input of each derivation begins with.
+const DOMAIN: &[u8; 24] = b"hunkravy raf file key v1";
+
+/// Derives the key of a file, or of a family of files, from a master key. Both have `N` bytes: 16 or 32; with another length
+/// the program does not compile.
+///
+/// The key is the MAC of `N` bytes, by AEGIS-128L or AEGIS-256, under the master key and a nonce of zeros, of the 24 bytes
+/// `hunkravy raf file key v1` and of the context. So other contexts give other keys, unless two MACs are equal by chance.
+/// Use the master key for nothing else. The crate `aegis` derives other keys.
+///
+/// # Errors
+///
+/// [`Error::ContextTooLong`] if the context has more than 120 bytes for keys of 16, or 72 for keys of 32. It may be empty.
+///
+/// ```
+/// use hunkravy::raf::derive_key;
+///
+/// let key = derive_key(&[1; 32], b"my-app/files")?;
+/// assert_ne!(key, derive_key(&[1; 32], b"")?);
+/// # Ok::<(), hunkravy::raf::Error>(())
+/// ```
+pub fn derive_key<const N: usize>(master_key: &[u8; N], context: &[u8]) -> Result<[u8; N]> {
+    const { assert!(N == 16 || N == 32, "a key has 16 or 32 bytes") }
+    let mut key = [0; N];
+    derive(master_key, context, &mut key)?;
+    Ok(key)
+}
+
+/// Writes the key of a context to `key`, which has the length of the master key.
+pub(super) fn derive(master_key: &[u8], context: &[u8], key: &mut [u8]) -> Result<()> {
+    let (variant, most) = if key.len() == 16 {
+        (&AEGIS128L, 120)
+    } else {
+        (&AEGIS256, 72)
+    };
+    if context.len() > most {
+        return Err(Error::ContextTooLong);
+    }
+    let input = [DOMAIN.as_slice(), context].concat();
+    let answer = variant.mac(&input, &[0; 32][..key.len()], master_key, key);
+    assert_eq!(answer, Ok(()), "the lengths are right");
+    Ok(())
+}

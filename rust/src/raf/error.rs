@@ -1,0 +1,85 @@
+//! Why a call failed.
+
+use core::fmt;
+use std::fs::TryLockError;
+use std::io;
+
+/// Why a call failed. The documentation of the call says what it leaves.
+#[derive(Debug)]
+#[non_exhaustive]
+pub enum Error {
+    /// Reading, writing or drawing random bytes failed.
+    Io(io::Error),
+    /// There is no header that was written by this algorithm and under this key.
+    Header,
+    /// The journal is that of another file, or of another state of this one.
+    Journal,
+    /// The page of this number was not written under the key for its place in this file.
+    Damaged(u64),
+    /// The text would have more than [`MAX_SIZE`](super::MAX_SIZE) bytes, or 2^64 commits were made.
+    TooLong,
+    /// The chunk size is not from 256 to 65,536 bytes.
+    ChunkSize,
+    /// The context of a key has more bytes than it may have.
+    ContextTooLong,
+    /// The file's commitment is another than the one that was expected.
+    Commitment,
+    /// The file is open elsewhere, in this program or in another.
+    Locked,
+    /// A commit has failed while it was written. Open the file again.
+    Broken,
+}
+
+/// What a call returns.
+pub type Result<T> = core::result::Result<T, Error>;
+
+impl fmt::Display for Error {
+    fn fmt(&self, f: &mut fmt::Formatter<'_>) -> fmt::Result {
+        let text = match self {
+            Error::Io(error) => return error.fmt(f),
+            Error::Damaged(page) => return write!(f, "page {page} is damaged"),
+            Error::Header => "no header that was written by this algorithm and under this key",
+            Error::Journal => "the journal of another file, or of another state of this one",
+            Error::TooLong => "too long",
+            Error::ChunkSize => "a chunk has 256 to 65,536 bytes",
+            Error::ContextTooLong => "the context is too long",
+            Error::Commitment => "not the file that was committed to",
+            Error::Locked => "the file is open elsewhere",
+            Error::Broken => "a commit has failed: open the file again",
+        };
+        f.write_str(text)
+    }
+}
+
+impl std::error::Error for Error {
+    fn source(&self) -> Option<&(dyn std::error::Error + 'static)> {
+        match self {
+            Error::Io(error) => Some(error),
+            _ => None,
+        }
+    }
+}
+
+impl From<io::Error> for Error {
+    fn from(error: io::Error) -> Self {
+        Error::Io(error)
+    }
+}
+
+impl From<TryLockError> for Error {
+    fn from(error: TryLockError) -> Self {
+        match error {
+            TryLockError::Error(error) => Error::Io(error),
+            TryLockError::WouldBlock => Error::Locked,
+        }
+    }
+}
+
+impl From<Error> for io::Error {
+    fn from(error: Error) -> Self {
+        match error {
+            Error::Io(error) => error,
+            other => io::Error::new(io::ErrorKind::InvalidData, other),
+        }
+    }
+}

@@ -1,0 +1,153 @@
+//! Writes that are all there after a crash, or none of them, by way of a journal.
+//!
+//! This is what the proved crate `aegis_storage` does, call by call: the same bytes, written and synced in the same order.
+
+use super::io::RafIo;
+use super::layout::CLEAR_BYTES;
+use crate::exports::{RECORD_BYTES, RECORD_HEAD_BYTES, Records};
+use crate::wipe::wipe;
+use alloc::vec::Vec;
+use std::io;
+
+/// The length of the prefix of the record stream, after the front.
+pub const PREFIX_BYTES: usize = 24;
+/// The length of the record stream's header.
+const HEADER_BYTES: usize = 4;
+/// The length of the place with which a message begins.
+const PLACE_BYTES: usize = 8;
+/// The last byte of a file lies below this place.
+const MAX_BYTES: u64 = i64::MAX as u64;
+
+/// A write that is to be made.
+pub struct PendingWrite {
+    pub place: u64,
+    pub bytes: Vec<u8>,
+}
+
+/// What a journal is sealed under, and what it begins with.
+pub struct JournalSeal {
+    pub key: [u8; 32],
+    pub front: [u8; CLEAR_BYTES],
+    pub prefix: [u8; PREFIX_BYTES],
+}
+
+impl Drop for JournalSeal {
+    fn drop(&mut self) {
+        wipe(&mut self.key);
+    }
+}
+
+/// Makes the writes, the first of them first, so that after a crash all of them are made or none.
+pub fn commit(
+    io: &mut impl RafIo,
+    journal: &mut impl RafIo,
+    seal: &JournalSeal,
+    writes: &[PendingWrite],
+) -> io::Result<()> {
+    if journal.get_size()? != 0 {
+        return Err(io::ErrorKind::AlreadyExists.into());
+    }
+    journal.write_at(&journal_bytes(seal, writes), 0)?;
+    journal.sync()?;
+    write_and_sync(io, writes)?;
+    empty(journal)
+}
+
+/// Makes the writes, and syncs them.
+pub fn write_and_sync(io: &mut impl RafIo, writes: &[PendingWrite]) -> io::Result<()> {
+    for write in writes {
+        io.write_at(&write.bytes, write.place)?;
+    }
+    io.sync()
+}
+
+/// Empties a journal, and syncs that.
+pub fn empty(journal: &mut impl RafIo) -> io::Result<()> {
+    journal.set_size(0)?;
+    journal.sync()
+}
+
+/// Returns the journal of the writes, of which there is at least one: the front, the prefix, and a record stream with a
+/// record for each write.
+fn journal_bytes(seal: &JournalSeal, writes: &[PendingWrite]) -> Vec<u8> {
+    let (mut records, header) = Records::begin(&seal.key, &seal.prefix);
+    let bytes_of = |write: &PendingWrite| PLACE_BYTES + write.bytes.len() + RECORD_BYTES;
+    let length: usize = writes.iter().map(bytes_of).sum();
+    let mut journal = Vec::with_capacity(CLEAR_BYTES + PREFIX_BYTES + HEADER_BYTES + length);
+    journal.extend_from_slice(&seal.front);
+    journal.extend_from_slice(&seal.prefix);
+    journal.extend_from_slice(&header);
+    for (number, write) in writes.iter().enumerate() {
+        let start = journal.len();
+        journal.resize(start + RECORD_HEAD_BYTES, 0);
+        journal.extend_from_slice(&write.place.to_le_bytes());
+        journal.extend_from_slice(&write.bytes);
+        journal.resize(start + bytes_of(write), 0);
+        let answer = records.seal(&mut journal[start..], number + 1 == writes.len());
+        assert_eq!(answer, Ok(()), "a page is not too long for a record");
+    }
+    journal
+}
+
+/// Returns the writes of a journal, or `None` if the bytes are no whole journal under this key.
+pub fn journaled_writes(key: &[u8; 32], journal: &[u8]) -> Option<Vec<PendingWrite>> {
+    let (_front, rest) = journal.split_first_chunk::<CLEAR_BYTES>()?;
+    let (prefix, rest) = rest.split_first_chunk::<PREFIX_BYTES>()?;
+    let (header, mut rest) = rest.split_first_chunk::<HEADER_BYTES>()?;
+    let mut records = Records::begin_open(key, prefix, header).ok()?;
+    let mut writes = Vec::new();
+    loop {
+        let length = records.record_len(rest.first_chunk()?).ok()?;
+        let (record, after) = rest.split_at_checked(length)?;
+        let mut record = record.to_vec();
+        let is_last = records.open(&mut record).ok()?;
+        writes.push(write_of(&record)?);
+        rest = after;
+        if is_last {
+            return rest.is_empty().then_some(writes);
+        }
+    }
+}
+
+/// Returns the write of a record that was opened, or `None` if it is the record of no write.
+fn write_of(record: &[u8]) -> Option<PendingWrite> {
+    let message = &record[RECORD_HEAD_BYTES..RECORD_HEAD_BYTES + record.len() - RECORD_BYTES];
+    let (place, bytes) = message.split_first_chunk::<PLACE_BYTES>()?;
+    let place = u64::from_le_bytes(*place);
+    let end = place.checked_add(bytes.len() as u64)?;
+    (end <= MAX_BYTES).then(|| PendingWrite {
+        place,
+        bytes: bytes.to_vec(),
+    })
+}
+
+#[cfg(test)]
+mod tests {
+    use super::{
+        CLEAR_BYTES, JournalSeal, PREFIX_BYTES, PendingWrite, journal_bytes, journaled_writes,
+    };
+    use alloc::vec;
+
+    /// What is sealed is opened, but for a write past the last byte that a file may have.
+    #[test]
+    fn places() {
+        let seal = JournalSeal {
+            key: [1; 32],
+            front: [2; CLEAR_BYTES],
+            prefix: [3; PREFIX_BYTES],
+        };
+        for (place, is_within) in [
+            (0, true),
+            ((1 << 63) - 4, true),
+            ((1 << 63) - 3, false),
+            (u64::MAX - 2, false),
+            (u64::MAX, false),
+        ] {
+            let bytes = vec![4; 3];
+            let journal = journal_bytes(&seal, &[PendingWrite { place, bytes }]);
+            let writes = journaled_writes(&seal.key, &journal);
+            let found = writes.map(|writes| (writes.len(), writes[0].place));
+            assert_eq!(found, is_within.then_some((1, place)));
+        }
+    }
+}

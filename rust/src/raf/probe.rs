@@ -1,0 +1,35 @@
+//! What a file tells without its key.
+
+use super::layout::{CLEAR_BYTES, named_by};
+use super::{AlgorithmId, Error, RafIo, Result};
+
+/// What the clear part of a header names. Nothing has verified it.
+#[derive(Clone, Copy, Debug, PartialEq, Eq)]
+pub struct RafInfo {
+    /// The algorithm.
+    pub algorithm: AlgorithmId,
+    /// The number of bytes of text in a page.
+    pub chunk_size: u32,
+    /// The number of bytes of the file. That of the text is encrypted.
+    pub file_size: u64,
+}
+
+/// Returns what a file names of itself. No key is needed, and nothing is verified or changed.
+///
+/// # Errors
+///
+/// [`Error::Header`] if it is no file of this format, or [`Error::Io`].
+pub fn probe(io: &mut impl RafIo) -> Result<RafInfo> {
+    let file_size = io.get_size()?;
+    if file_size < CLEAR_BYTES as u64 {
+        return Err(Error::Header);
+    }
+    let mut clear = [0; CLEAR_BYTES];
+    io.read_at(&mut clear, 0)?;
+    let (byte, chunk_size) = named_by(&clear).ok_or(Error::Header)?;
+    Ok(RafInfo {
+        algorithm: AlgorithmId::of_byte(byte).ok_or(Error::Header)?,
+        chunk_size,
+        file_size,
+    })
+}

@@ -1,0 +1,356 @@
+//! What single calls do: drops, the limit on changes in memory, sources of random bytes that fail, and numbers out of range.
+
+use crate::support::{Bytes, Call, Disk, FailingRandom, KEY, Part, Random, disks};
+use hunkravy::raf::*;
+use std::io;
+
+type File = Raf<Aegis256, Disk, Random, Disk>;
+
+fn created(disks: &(Disk, Disk), limit: usize) -> File {
+    RafBuilder::with_rng(Random(5))
+        .chunk_size(256)
+        .buffer_limit(limit)
+        .journal(disks.1.clone())
+        .create(disks.0.clone(), &KEY)
+        .unwrap()
+}
+
+fn opened(disks: &(Disk, Disk)) -> File {
+    RafBuilder::with_rng(Random(50))
+        .journal(disks.1.clone())
+        .open(disks.0.clone(), &KEY)
+        .unwrap()
+}
+
+fn calls(disks: &(Disk, Disk)) -> usize {
+    disks.0.log.borrow().calls.len()
+}
+
+#[test]
+fn a_drop_commits() {
+    let disks = disks(Bytes::default());
+    let mut file = created(&disks, usize::MAX);
+    file.write(b"kept", 0).unwrap();
+    drop(file);
+    assert_eq!(opened(&disks).size(), 4);
+}
+
+/// A drop ignores the error of its commit.
+#[test]
+fn a_drop_that_fails() {
+    let disks = disks(Bytes::default());
+    let mut file = created(&disks, usize::MAX);
+    file.write(b"lost", 0).unwrap();
+    disks.0.log.borrow_mut().left = 0;
+    drop(file);
+    disks.0.log.borrow_mut().left = usize::MAX;
+    assert_eq!(opened(&disks).size(), 0);
+}
+
+#[test]
+fn a_panic_commits_nothing() {
+    let disks = disks(Bytes::default());
+    let unwound = std::panic::catch_unwind(std::panic::AssertUnwindSafe(|| {
+        let mut file = created(&disks, usize::MAX);
+        file.write(b"half of what was to be", 0).unwrap();
+        panic!("in the middle of a change");
+    }));
+    assert!(unwound.is_err());
+    assert_eq!(opened(&disks).size(), 0);
+}
+
+#[test]
+fn nothing_changed_is_no_commit() {
+    let disks = disks(Bytes::default());
+    let mut file = created(&disks, 0);
+    let count = calls(&disks);
+    file.commit().unwrap();
+    file.sync().unwrap();
+    file.truncate(0).unwrap();
+    file.write(b"", 0).unwrap();
+    file.discard();
+    drop(file);
+    assert_eq!(calls(&disks), count);
+}
+
+/// A write past the limit is a commit, and one up to it is none.
+#[test]
+fn the_limit_on_changes() {
+    let disks = disks(Bytes::default());
+    let mut file = created(&disks, 4 * 256);
+    let count = calls(&disks);
+    file.write(&[1; 1024], 0).unwrap();
+    file.write(&[2; 1024], 0).unwrap();
+    assert_eq!(calls(&disks), count);
+    file.write(&[3; 1], 1024).unwrap();
+    assert!(calls(&disks) > count);
+    let count = calls(&disks);
+    drop(file);
+    assert_eq!(calls(&disks), count);
+    let mut file = opened(&disks);
+    let mut text = [0; 1025];
+    assert_eq!(file.read(&mut text, 0).unwrap(), 1025);
+    assert!(text[..1024] == [2; 1024] && text[1024] == 3);
+    // So is a truncation.
+    let mut file = created_again(file, &disks);
+    let count = calls(&disks);
+    file.truncate(5000).unwrap();
+    assert!(calls(&disks) > count);
+}
+
+fn created_again(file: File, disks: &(Disk, Disk)) -> File {
+    drop(file);
+    RafBuilder::with_rng(Random(500))
+        .chunk_size(256)
+        .buffer_limit(1000)
+        .truncate(true)
+        .journal(disks.1.clone())
+        .create(disks.0.clone(), &KEY)
+        .unwrap()
+}
+
+/// By default so many changes are kept: 16 MiB.
+#[test]
+fn the_default_limit() {
+    let disks = disks(Bytes::default());
+    let mut file = RafBuilder::<Aegis128X2>::with_rng(Random(5))
+        .chunk_size(65_536)
+        .journal(disks.1.clone())
+        .create(disks.0.clone(), &[7; 16])
+        .unwrap();
+    let count = calls(&disks);
+    file.write(&vec![1; 16 << 20], 0).unwrap();
+    assert_eq!(calls(&disks), count);
+    file.write(&[1], 16 << 20).unwrap();
+    assert!(calls(&disks) > count);
+}
+
+/// The calls of the disks: the place of a write, that of no byte for the journal's cut, and none for a sync.
+fn places(disks: &(Disk, Disk)) -> Vec<(Part, Option<u64>)> {
+    let place = |call: &Call| match call {
+        Call::Write(place, _) => Some(*place),
+        Call::Resize(0) => Some(u64::MAX),
+        Call::Resize(_) => panic!("only the journal is cut"),
+        Call::Sync => None,
+    };
+    let log = disks.0.log.borrow();
+    log.calls
+        .iter()
+        .map(|(part, call)| (*part, place(call)))
+        .collect()
+}
+
+/// An opening syncs both before it empties the journal, since what can be read may not be synced.
+#[test]
+fn the_calls_of_an_opening() {
+    let disks = disks(Bytes::default());
+    drop(created(&disks, usize::MAX));
+    disks.0.log.borrow_mut().calls.clear();
+    drop(opened(&disks));
+    let (file, journal) = (Part::File, Part::Journal);
+    let expected = [
+        (file, None),
+        (journal, None),
+        (journal, Some(u64::MAX)),
+        (journal, None),
+    ];
+    assert_eq!(places(&disks), expected);
+}
+
+/// Each commit writes the journal and syncs it, then the file and syncs it, and then empties the journal and syncs it.
+#[test]
+fn the_calls_of_a_commit() {
+    let disks = disks(Bytes::default());
+    let mut file = created(&disks, usize::MAX);
+    let first = disks.0.bytes.borrow().clone();
+    file.write(&[1; 600], 0).unwrap();
+    disks.0.log.borrow_mut().calls.clear();
+    file.commit().unwrap();
+    let (file, journal) = (Part::File, Part::Journal);
+    let expected = [
+        (journal, Some(0)),
+        (journal, None),
+        (file, Some(0)),
+        (file, Some(4096)),
+        (file, Some(4416)),
+        (file, Some(4736)),
+        (file, Some(0)),
+        (file, None),
+        (journal, Some(u64::MAX)),
+        (journal, None),
+    ];
+    assert_eq!(places(&disks), expected);
+    let log = disks.0.log.borrow();
+    assert_eq!(log.calls[2].1, Call::Write(0, first[..512].to_vec()));
+}
+
+/// A source that fails keeps what is there, and the changes.
+#[test]
+fn a_source_of_random_bytes_that_fails() {
+    let disks = disks(Bytes::default());
+    created(&disks, 0).write(b"kept", 0).unwrap();
+    let bytes = disks.0.bytes.borrow().clone();
+    for left in 0..2 {
+        let refused = RafBuilder::<Aegis256>::with_rng(FailingRandom(Random(5), left))
+            .truncate(true)
+            .journal(disks.1.clone())
+            .create(disks.0.clone(), &KEY);
+        assert!(matches!(refused, Err(Error::Io(_))));
+    }
+    // Two pages, the header, and the prefix.
+    for left in 0..4 {
+        let mut file = RafBuilder::<Aegis256>::new()
+            .rng(FailingRandom(Random(5), left))
+            .journal(disks.1.clone())
+            .open(disks.0.clone(), &KEY)
+            .unwrap();
+        let count = calls(&disks);
+        file.write(&[1; 300], 0).unwrap();
+        assert!(matches!(file.commit(), Err(Error::Io(_))));
+        assert_eq!(file.size(), 300);
+        let mut buf = [0; 300];
+        assert_eq!(file.read(&mut buf, 0).unwrap(), 300);
+        assert_eq!(buf, [1; 300]);
+        drop(file);
+        assert_eq!(calls(&disks), count);
+        assert_eq!(*disks.0.bytes.borrow(), bytes);
+    }
+    let mut file = RafBuilder::<Aegis256>::with_rng(FailingRandom(Random(5), 4))
+        .journal(disks.1.clone())
+        .open(disks.0.clone(), &KEY)
+        .unwrap();
+    file.write(&[1; 300], 0).unwrap();
+    file.commit().unwrap();
+}
+
+#[test]
+fn chunk_sizes() {
+    for bytes in [0, 1, 255, 65_537, u32::MAX] {
+        let disks = disks((vec![1; 10], Vec::new()));
+        let refused = RafBuilder::<Aegis256>::new()
+            .chunk_size(bytes)
+            .truncate(true)
+            .create(disks.0.clone(), &KEY);
+        assert!(matches!(refused, Err(Error::ChunkSize)));
+        assert_eq!(*disks.0.bytes.borrow(), [1; 10]);
+    }
+    for bytes in [256, 257, 4032, 65_535, 65_536] {
+        let disks = disks(Bytes::default());
+        let mut file = RafBuilder::<Aegis128L>::with_rng(Random(5))
+            .chunk_size(bytes)
+            .create(disks.0.clone(), &[7; 16])
+            .unwrap();
+        file.write(&[1, 2, 3], u64::from(bytes) - 1).unwrap();
+        file.commit().unwrap();
+        let info = probe(&mut disks.0.clone()).unwrap();
+        assert_eq!(
+            (info.chunk_size, info.algorithm),
+            (bytes, AlgorithmId::Aegis128L)
+        );
+        assert_eq!(info.file_size, 4096 + 2 * (u64::from(bytes) + 48));
+    }
+}
+
+#[test]
+fn sizes_and_offsets() {
+    let disks = disks(Bytes::default());
+    let mut file = created(&disks, usize::MAX);
+    file.write(b"text", 0).unwrap();
+    for offset in [MAX_SIZE, MAX_SIZE + 1, u64::MAX - 3, u64::MAX] {
+        assert!(matches!(file.write(b"a", offset), Err(Error::TooLong)));
+    }
+    for size in [MAX_SIZE + 1, u64::MAX] {
+        assert!(matches!(file.truncate(size), Err(Error::TooLong)));
+    }
+    let mut buf = [7; 4];
+    for offset in [4, 5, MAX_SIZE, u64::MAX] {
+        assert_eq!(file.read(&mut buf, offset).unwrap(), 0);
+        assert_eq!(buf, [7; 4]);
+    }
+    assert_eq!(file.read(&mut buf, 3).unwrap(), 1);
+    assert_eq!(&buf, b"t\x07\x07\x07");
+    assert_eq!((file.size(), file.write(b"", 4).unwrap()), (4, 0));
+    // No byte far away, so a longer text.
+    assert_eq!((file.write(b"", 9).unwrap(), file.size()), (0, 9));
+    assert_eq!(file.read(&mut [0; 20], 0).unwrap(), 9);
+}
+
+/// Bytes that hold something are overwritten only if that is asked for, and never over a journal.
+#[test]
+fn bytes_that_hold_something() {
+    let disks = disks((vec![1; 1000], Vec::new()));
+    let create = |truncate| {
+        RafBuilder::<Aegis256>::with_rng(Random(5))
+            .truncate(truncate)
+            .journal(disks.1.clone())
+            .create(disks.0.clone(), &KEY)
+    };
+    let refused = create(false).unwrap_err();
+    assert!(matches!(refused, Error::Io(error) if error.kind() == io::ErrorKind::AlreadyExists));
+    disks.1.bytes.borrow_mut().push(1);
+    assert!(matches!(create(true), Err(Error::Journal)));
+    assert_eq!(*disks.0.bytes.borrow(), [1; 1000]);
+    disks.1.bytes.borrow_mut().clear();
+    assert_eq!(create(true).unwrap().size(), 0);
+    assert_eq!(disks.0.bytes.borrow().len(), 512);
+}
+
+/// Without a journal what is committed is read again.
+#[test]
+fn no_journal() {
+    let disks = disks(Bytes::default());
+    let mut file = RafBuilder::<Aegis256X4>::with_rng(Random(5))
+        .create(disks.0.clone(), &KEY)
+        .unwrap();
+    file.write(b"text", 1).unwrap();
+    file.commit().unwrap();
+    drop(file);
+    let mut file = RafBuilder::<Aegis256X4>::new()
+        .open(disks.0.clone(), &KEY)
+        .unwrap();
+    let mut buf = [0; 10];
+    assert_eq!(file.read(&mut buf, 0).unwrap(), 5);
+    assert_eq!(&buf[..5], b"\0text");
+}
+
+/// What is written again has another nonce each time.
+#[test]
+fn fresh_nonces() {
+    let disks = disks(Bytes::default());
+    let mut file = created(&disks, 0);
+    let mut nonces = std::collections::HashSet::new();
+    for _ in 0..20 {
+        file.write(b"same", 0).unwrap();
+        let bytes = disks.0.bytes.borrow();
+        assert!(nonces.insert(bytes[4096..4128].to_vec()));
+        assert!(nonces.insert(bytes[33..65].to_vec()));
+    }
+}
+
+#[test]
+fn derived_keys() {
+    let master = [3; 32];
+    let key = derive_key(&master, b"my-app/files").unwrap();
+    assert_eq!(
+        Raf::<Aegis256>::derive_master_key(&master, b"my-app/files").unwrap(),
+        key
+    );
+    assert_eq!(
+        Raf::<Aegis256X4>::derive_master_key(&master, b"my-app/files").unwrap(),
+        key
+    );
+    assert_ne!(derive_key(&master, b"my-app/file").unwrap(), key);
+    assert_ne!(derive_key(&[4; 32], b"my-app/files").unwrap(), key);
+    assert_ne!(derive_key(&master, b"").unwrap(), master);
+    let short = [3; 16];
+    assert_ne!(derive_key(&short, b"").unwrap(), short);
+    assert!(derive_key(&short, &[1; 120]).is_ok() && derive_key(&master, &[1; 72]).is_ok());
+    assert!(matches!(
+        derive_key(&short, &[1; 121]),
+        Err(Error::ContextTooLong)
+    ));
+    assert!(matches!(
+        derive_key(&master, &[1; 73]),
+        Err(Error::ContextTooLong)
+    ));
+}

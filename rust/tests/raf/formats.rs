@@ -1,0 +1,104 @@
+//! The bytes of files and journals, which are those of the proved crate `aegis_pages`.
+
+use crate::support::{Bytes, KEY, disks};
+use hunkravy::aegis128l::Aegis128LMac;
+use hunkravy::aegis256::Aegis256Mac;
+use hunkravy::raf::*;
+
+/// The file's id, and then nonces that count up.
+struct Counter(Option<u64>);
+
+impl RafRng for Counter {
+    fn fill(&mut self, buf: &mut [u8]) -> Result<()> {
+        let Some(number) = &mut self.0 else {
+            buf.fill(9);
+            self.0 = Some(0);
+            return Ok(());
+        };
+        buf.fill(0);
+        buf[..8].copy_from_slice(&number.to_le_bytes());
+        *number += 1;
+        Ok(())
+    }
+}
+
+fn mac(bytes: &[u8]) -> [u8; 16] {
+    let mut mac = Aegis256Mac::<16>::new(&KEY);
+    mac.update(bytes);
+    mac.finalize()
+}
+
+/// The file of 1,000 bytes of 5, in pages of 256 bytes.
+fn small_file() -> Vec<u8> {
+    let disks = disks(Bytes::default());
+    let mut file = RafBuilder::<Aegis256>::new()
+        .chunk_size(256)
+        .rng(Counter(None))
+        .journal(disks.1.clone())
+        .create(disks.0.clone(), &KEY)
+        .unwrap();
+    file.write(&[5; 1000], 0).unwrap();
+    drop(file);
+    disks.0.bytes.take()
+}
+
+/// The proved crate writes the same file by the same nonces: its test `the_small_file` compares with this MAC too.
+#[test]
+fn the_small_file() {
+    let expected = [
+        66, 95, 84, 100, 141, 176, 61, 104, 111, 84, 143, 156, 241, 205, 194, 185,
+    ];
+    assert_eq!(mac(&small_file()), expected);
+}
+
+/// A commitment is the MAC of the first 33 bytes, the counter, the length, and the tag of each page.
+#[test]
+fn the_commitment_of_the_small_file() {
+    let bytes = small_file();
+    let mut mac = Aegis256Mac::<32>::new_with_nonce(&KEY, &[255; 32]);
+    mac.update(&bytes[..33]);
+    mac.update(&1u64.to_le_bytes());
+    mac.update(&1000u64.to_le_bytes());
+    for page in bytes[4096..].chunks(320) {
+        mac.update(&page[288..]);
+    }
+    let disks = disks((bytes, Vec::new()));
+    let mut file = RafBuilder::<Aegis256>::new().open(disks.0, &KEY).unwrap();
+    assert_eq!(file.commitment().unwrap(), mac.finalize());
+}
+
+/// A derived key is the MAC of a text of 24 bytes and of the context.
+#[test]
+fn derived_keys() {
+    let text = b"hunkravy raf file key v1";
+    let mac = Aegis256Mac::<32>::new(&KEY);
+    let expected = mac.finalize_chunks(&[text, b"a context"]);
+    assert_eq!(derive_key(&KEY, b"a context").unwrap(), expected);
+    let mac = Aegis128LMac::<16>::new(&[5; 16]);
+    let expected = mac.finalize_chunks(&[text]);
+    assert_eq!(derive_key(&[5; 16], b"").unwrap(), expected);
+}
+
+/// The proved crate writes the same journal by the same nonces, and then the same file: its test `a_commit_of_the_small_file`
+/// compares with these MACs too.
+#[test]
+fn a_commit_of_the_small_file() {
+    let disks = disks((small_file(), Vec::new()));
+    let mut file = RafBuilder::<Aegis256>::new()
+        .rng(Counter(Some(1 << 21)))
+        .journal(disks.1.clone())
+        .open(disks.0.clone(), &KEY)
+        .unwrap();
+    file.write(&[6; 1300], 0).unwrap();
+    // All is done but to empty the journal.
+    disks.0.log.borrow_mut().left = 11;
+    assert!(file.commit().is_err());
+    let journal = [
+        55, 245, 17, 208, 239, 20, 183, 147, 133, 253, 42, 194, 186, 95, 208, 106,
+    ];
+    let changed = [
+        193, 200, 198, 72, 90, 10, 43, 29, 250, 173, 233, 197, 240, 242, 78, 241,
+    ];
+    assert_eq!(mac(&disks.1.bytes.borrow()), journal);
+    assert_eq!(mac(&disks.0.bytes.borrow()), changed);
+}

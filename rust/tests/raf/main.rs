@@ -1,0 +1,12 @@
+//! Files that are read and written at any place: beside a vector that holds the same text, after crashes, errors and damage,
+//! at paths, and as programs are written for the crate `aegis`.
+
+mod batches;
+mod calls;
+mod crashes;
+mod damage;
+mod formats;
+mod model;
+mod paths;
+mod samples;
+mod support;

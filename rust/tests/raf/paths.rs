@@ -1,0 +1,285 @@
+//! Files at paths: their journals, locks and cursors.
+
+use crate::support::{FailingRandom, KEY, Random};
+use hunkravy::raf::*;
+use std::fs;
+use std::io::{self, Read, Seek, SeekFrom, Write};
+use std::path::{Path, PathBuf};
+
+/// A folder that is removed when it is dropped.
+pub struct Folder(PathBuf);
+
+impl Folder {
+    pub fn new(name: &str) -> Self {
+        let folder = std::env::temp_dir().join(format!("hunkravy-{name}-{}", std::process::id()));
+        let _ = fs::remove_dir_all(&folder);
+        fs::create_dir(&folder).unwrap();
+        Folder(folder)
+    }
+
+    pub fn path(&self, name: &str) -> PathBuf {
+        self.0.join(name)
+    }
+
+    /// The names of the files in it.
+    fn names(&self) -> Vec<String> {
+        let mut names: Vec<String> = fs::read_dir(&self.0)
+            .unwrap()
+            .map(|entry| entry.unwrap().file_name().into_string().unwrap())
+            .collect();
+        names.sort();
+        names
+    }
+}
+
+impl Drop for Folder {
+    fn drop(&mut self) {
+        let _ = fs::remove_dir_all(&self.0);
+    }
+}
+
+fn create(path: &Path) -> Result<Raf<Aegis256>> {
+    Raf::<Aegis256>::create_file(path, &KEY)
+}
+
+fn open(path: &Path) -> Result<Raf<Aegis256>> {
+    Raf::<Aegis256>::open_file(path, &KEY)
+}
+
+fn read(file: &mut Raf<Aegis256>) -> Vec<u8> {
+    let mut text = vec![0; file.size() as usize];
+    file.read(&mut text, 0).unwrap();
+    text
+}
+
+#[test]
+fn a_file_has_no_journal_between_commits() {
+    let folder = Folder::new("between");
+    let path = folder.path("file");
+    let mut file = create(&path).unwrap();
+    assert_eq!(folder.names(), ["file"]);
+    for turn in 0..3 {
+        file.write(b"text", turn).unwrap();
+        file.commit().unwrap();
+        assert_eq!(folder.names(), ["file"]);
+    }
+    drop(file);
+    assert_eq!(read(&mut open(&path).unwrap()), b"tttext");
+    assert_eq!(folder.names(), ["file"]);
+}
+
+/// A commit that cannot write its journal breaks the file, which opens as it was.
+#[test]
+fn a_journal_that_cannot_be_written() {
+    let folder = Folder::new("unwritable");
+    let path = folder.path("file");
+    let mut file = create(&path).unwrap();
+    file.write(b"before", 0).unwrap();
+    file.commit().unwrap();
+    file.write(b"after!", 0).unwrap();
+    fs::create_dir(folder.path("file.journal")).unwrap();
+    assert!(file.commit().is_err());
+    assert!(matches!(file.size(), 6));
+    drop(file);
+    fs::remove_dir(folder.path("file.journal")).unwrap();
+    assert_eq!(read(&mut open(&path).unwrap()), b"before");
+}
+
+/// A whole journal that lies beside a file is completed, and a torn one is left out; both are then gone.
+#[test]
+fn journals_beside_a_file() {
+    let folder = Folder::new("beside");
+    let (path, journal) = (folder.path("file"), folder.path("file.journal"));
+    let mut file = RafBuilder::<Aegis256>::new()
+        .create_file(&path, &KEY)
+        .unwrap();
+    file.write(b"before", 0).unwrap();
+    drop(file);
+    // The same commit over a copy in memory gives the journal.
+    let before = fs::read(&path).unwrap();
+    let disks = crate::support::disks((before.clone(), Vec::new()));
+    let mut copy = RafBuilder::<Aegis256>::with_rng(Random(9))
+        .journal(disks.1.clone())
+        .open(disks.0.clone(), &KEY)
+        .unwrap();
+    copy.write(b"after!", 0).unwrap();
+    disks.0.log.borrow_mut().left = 2;
+    assert!(copy.commit().is_err());
+    let whole = disks.1.bytes.borrow().clone();
+    for (bytes, text) in [
+        (&whole[..], b"after!"),
+        (&whole[..whole.len() - 1], b"before"),
+        (&whole[..5], b"before"),
+        (&[], b"before"),
+    ] {
+        fs::write(&path, &before).unwrap();
+        fs::write(&journal, bytes).unwrap();
+        assert_eq!(read(&mut open(&path).unwrap()), text);
+        assert_eq!(folder.names(), ["file"]);
+        // By the file's storage too.
+        fs::write(&path, &before).unwrap();
+        fs::write(&journal, bytes).unwrap();
+        let io = FileIo::open(&path).unwrap();
+        let mut file = RafBuilder::<Aegis256>::new().open(io, &KEY).unwrap();
+        assert_eq!(read(&mut file), text);
+        assert_eq!(folder.names(), ["file"]);
+    }
+    // A new file is not made over a journal, and nothing is changed.
+    fs::write(&path, &before).unwrap();
+    fs::write(&journal, &whole).unwrap();
+    let over = RafBuilder::<Aegis256>::new()
+        .truncate(true)
+        .create_file(&path, &KEY);
+    assert!(matches!(over, Err(Error::Journal)));
+    assert_eq!(
+        (fs::read(&path).unwrap(), fs::read(&journal).unwrap()),
+        (before, whole)
+    );
+    fs::remove_file(&path).unwrap();
+    assert!(matches!(create(&path), Err(Error::Journal)));
+    assert_eq!(folder.names(), ["file.journal"]);
+}
+
+#[test]
+fn a_second_writer_is_refused() {
+    let folder = Folder::new("locked");
+    let path = folder.path("file");
+    let mut file = create(&path).unwrap();
+    file.write(b"text", 0).unwrap();
+    file.commit().unwrap();
+    let bytes = fs::read(&path).unwrap();
+    assert!(matches!(open(&path), Err(Error::Locked)));
+    let over = RafBuilder::<Aegis256>::new()
+        .truncate(true)
+        .create_file(&path, &KEY);
+    assert!(matches!(over, Err(Error::Locked)));
+    let io = FileIo::open(&path).unwrap();
+    let builder = RafBuilder::<Aegis256>::new();
+    assert!(matches!(builder.open(io, &KEY), Err(Error::Locked)));
+    assert_eq!(fs::read(&path).unwrap(), bytes);
+    // It may be probed.
+    let info = probe(&mut FileIo::open(&path).unwrap()).unwrap();
+    assert_eq!(
+        (info.chunk_size, info.algorithm),
+        (4032, AlgorithmId::Aegis256)
+    );
+    drop(file);
+    drop(open(&path).unwrap());
+    assert!(open(&path).is_ok());
+}
+
+/// A link to a file and the file itself have one journal.
+#[test]
+fn links_to_a_file() {
+    let folder = Folder::new("links");
+    let (path, link) = (folder.path("file"), folder.path("link"));
+    drop(create(&path).unwrap());
+    std::os::unix::fs::symlink(&path, &link).unwrap();
+    fs::write(folder.path("file.journal"), b"torn").unwrap();
+    drop(open(&link).unwrap());
+    assert_eq!(folder.names(), ["file", "link"]);
+}
+
+/// However a file is made, it has a journal: here one that cannot be written.
+#[test]
+fn each_way_to_create_a_file() {
+    let folder = Folder::new("ways");
+    let (path, link) = (folder.path("file"), folder.path("link"));
+    std::os::unix::fs::symlink(&path, &link).unwrap();
+    let builder = || RafBuilder::<Aegis256>::new().truncate(true);
+    let ways: [&dyn Fn() -> Result<Raf<Aegis256>>; 4] = [
+        // The link leads to no file yet.
+        &|| builder().create_file(&link, &KEY),
+        &|| builder().create_file(&path, &KEY),
+        &|| builder().create(FileIo::create(&path)?, &KEY),
+        &|| builder().create(FileIo::open(&link)?, &KEY),
+    ];
+    for way in ways {
+        let mut file = way().unwrap();
+        fs::create_dir(folder.path("file.journal")).unwrap();
+        file.write(b"text", 0).unwrap();
+        assert!(file.commit().is_err());
+        fs::remove_dir(folder.path("file.journal")).unwrap();
+    }
+    // But not if its path is not known.
+    let io = fs::File::options().read(true).write(true).open(&path);
+    let mut file = builder().create(FileIo::new(io.unwrap()), &KEY).unwrap();
+    fs::create_dir(folder.path("file.journal")).unwrap();
+    file.write(b"text", 0).unwrap();
+    file.commit().unwrap();
+}
+
+/// What is refused before a file is made makes none, and keeps one that is there.
+#[test]
+fn refused_before_anything_is_changed() {
+    let folder = Folder::new("refused");
+    let path = folder.path("file");
+    for left in 0..2 {
+        let failing = FailingRandom(Random(1), left);
+        let refused = RafBuilder::<Aegis256>::with_rng(failing).create_file(&path, &KEY);
+        assert!(matches!(refused, Err(Error::Io(_))));
+        assert!(folder.names().is_empty());
+    }
+    create(&path).unwrap().write(b"kept", 0).unwrap();
+    let builder = || RafBuilder::<Aegis256>::new().truncate(true);
+    let refused = builder().chunk_size(65_537).create_file(&path, &KEY);
+    assert!(matches!(refused, Err(Error::ChunkSize)));
+    let failing = builder().rng(FailingRandom(Random(1), 1));
+    assert!(failing.create_file(&path, &KEY).is_err());
+    assert!(
+        matches!(create(&path), Err(Error::Io(error)) if error.kind() == io::ErrorKind::AlreadyExists)
+    );
+    assert_eq!(read(&mut open(&path).unwrap()), b"kept");
+    assert_eq!(builder().create_file(&path, &KEY).unwrap().size(), 0);
+    assert!(open(&folder.path("none")).is_err());
+    assert!(create(&folder.path("no/folder")).is_err());
+}
+
+#[test]
+fn files_that_are_none() {
+    let folder = Folder::new("none");
+    let path = folder.path("file");
+    for bytes in [&b""[..], b"AGP1", &[0; 600], &[65; 33]] {
+        fs::write(&path, bytes).unwrap();
+        assert!(matches!(open(&path), Err(Error::Header)));
+        let probed = probe(&mut FileIo::open(&path).unwrap());
+        assert!(matches!(probed, Err(Error::Header)));
+        assert_eq!(fs::read(&path).unwrap(), bytes);
+    }
+}
+
+#[test]
+fn cursors() {
+    let folder = Folder::new("cursors");
+    let path = folder.path("file");
+    let mut file = create(&path).unwrap();
+    let mut cursor = file.cursor();
+    cursor.write_all(b"one two three").unwrap();
+    cursor.seek(SeekFrom::End(-5)).unwrap();
+    let mut word = String::new();
+    cursor.read_to_string(&mut word).unwrap();
+    assert_eq!(word, "three");
+    assert!(cursor.seek(SeekFrom::Current(-14)).is_err());
+    assert_eq!(cursor.seek(SeekFrom::Current(-13)).unwrap(), 0);
+    assert_eq!(fs::metadata(&path).unwrap().len(), 512);
+    cursor.flush().unwrap();
+    assert_eq!(fs::metadata(&path).unwrap().len(), 4096 + 4096);
+    cursor.seek(SeekFrom::Start(20)).unwrap();
+    assert_eq!(cursor.read(&mut [0; 9]).unwrap(), 0);
+    drop(file);
+    assert_eq!(read(&mut open(&path).unwrap()), b"one two three");
+}
+
+#[test]
+fn files_go_to_other_threads() {
+    fn sent<T: Send>(value: T) -> T {
+        value
+    }
+    let folder = Folder::new("threads");
+    let path = folder.path("file");
+    let mut file = sent(create(&path).unwrap());
+    std::thread::spawn(move || file.write(b"there", 0).unwrap())
+        .join()
+        .unwrap();
+    assert_eq!(read(&mut open(&path).unwrap()), b"there");
+}
