@@ -1,19 +1,26 @@
 .PHONY: run program test check-pages check-edits bench bench-peers bench-states bench-tool bench-pages c-library check-c check-header check-c++ \
-	check-sodium check-rust check-python check-time check-batches check-install check-dist check-shared dist install install-tool check-tool tool-pages gcc-aarch64-linux-gnu qemu-user
+	check-sodium check-rust check-python check-time check-batches check-raf check-install check-dist check-shared dist install install-tool check-tool tool-pages gcc-aarch64-linux-gnu qemu-user
 .SECONDARY:
 
 SHELL = /bin/bash
 .SHELLFLAGS = -eu -o pipefail -c
 
-# How many checks run side by side: one on each processor, as far as each has 4 GiB of memory. A check that several
+# How many checks run side by side: one on each processor, as far as each has 2.5 GiB of memory. A check that several
 # processors share takes nearly half more of their time.
-CHECKS = $(shell awk -v most=$$(nproc) '/^MemAvailable/ { n = int($$2 / 4194304); print n < 1 ? 1 : n < most ? n : most }' /proc/meminfo)
+CHECKS = $(shell awk -v most=$$(nproc) '/^MemAvailable/ { n = int($$2 / 2621440); print n < 1 ? 1 : n < most ? n : most }' /proc/meminfo)
 
 # What is built outside the crates.
 OUT = out
 
 # What crates are built from.
 sources = $(shell find $(addprefix crates/,$(1)) \( -name out -o -name must-fail \) -prune -o -type f -print)
+
+# In the gate, the file with the sums of what `rt ci` has just proved. A crate is then proved and built over those libraries;
+# rt itself would prove the libraries once more.
+PROVED =
+
+# $(call build,CRATE,FLAGS,COMMAND,FILE): proves a crate and builds it as the rule's target, by rt's command, which writes FILE.
+build = $(if $(PROVED),tools/build_proved.py $(PROVED) $(1) $@ $(2),cd crates/$(1) && $(3) && cp $(4) $(abspath $@))
 
 # ---- The two commands
 
@@ -85,7 +92,6 @@ check-pages:
 
 # ---- The C library, for Linux. What follows builds with stock gcc and rustc, and proves nothing but that library.
 
-C_LIBRARY = crates/aegis_c/out/libaegis_c.a
 CC = gcc
 C_FLAGS = -Wall -Wextra -Wpedantic -Werror -Ic/include
 SANITIZERS = -O1 -g -fsanitize=address,undefined -fno-sanitize-recover
@@ -111,29 +117,32 @@ FOLDER = $(or $(FOLDER_$(TARGET)),$(error TARGET is x86_64-unknown-linux-gnu or 
 LIBRARY = $(OUT)/$(FOLDER)/libhunkravy.a
 
 STORED_LINES = crates/test_agreement/data
-HEADERS = hunkravy.h aegis_compat.h sodium_compat.h
+OWN_HEADERS = hunkravy.h hunkravy_records.h hunkravy_pages.h
+HEADERS = $(OWN_HEADERS) aegis_compat.h sodium_compat.h
 C_EXAMPLES = seal chunks records pages libaegis libaegis_chunks libsodium
 
-# The names that the library exports, as the header declares them.
-EXPORTS = sed -nE 's/^(HUNKRAVY_MUST_USE )?(int|size_t) (hunkravy_[a-z0-9_]*).*/\3/p' c/include/hunkravy.h
+# The names that the library exports: the calls that its headers declare.
+EXPORTS = sed -nE 's/^(HUNKRAVY_MUST_USE )?(int|size_t|uint64_t|void|const char) \*?(hunkravy_[a-z0-9_]*)\(.*/\3/p' $(OWN_HEADERS:%=c/include/%)
 
-C_SOURCES = $(call sources,aegis_aes aegis_base aegis_128 aegis_256 aegis_engine aegis aegis_storage aegis_pages aegis_c_calls aegis_c_records \
-	aegis_c_pages aegis_c)
+C_SOURCES = $(call sources,aegis_aes aegis_base aegis_128 aegis_256 aegis_engine aegis aegis_storage aegis_pages aegis_c_calls aegis_c)
+
+# What join.sh adds to a build.
+CALLS = $(wildcard c/library/* c/levels/*) $(OWN_HEADERS:%=c/include/%)
 
 c-library: $(LIBRARY)
 
-$(OUT)/both/libhunkravy.a: $(LEVELS:%=$(OUT)/%/aegis_c.a) c/levels/join.sh c/levels/choose.c
+$(OUT)/both/libhunkravy.a: $(LEVELS:%=$(OUT)/%/aegis_c.a) $(CALLS)
 	mkdir -p $(@D)
 	c/levels/join.sh $@ $(LEVELS:%=$(OUT)/%/aegis_c.a)
 
-$(OUT)/%/libhunkravy.a: $(OUT)/%/aegis_c.a c/levels/join.sh c/levels/choose.c
+$(OUT)/%/libhunkravy.a: $(OUT)/%/aegis_c.a $(CALLS)
 	LEVEL=$(patsubst x86-64-v%,%,$(filter x86-64-v%,$*)) CC=$(TOOLS_$*)gcc AR=$(TOOLS_$*)ar \
 		OBJCOPY=$(TOOLS_$*)objcopy c/levels/join.sh $@ $<
 
 # The shared library, which exports the calls alone.
 SONAME = libhunkravy.so.0
 
-$(OUT)/%/$(SONAME): $(OUT)/%/libhunkravy.a c/include/hunkravy.h
+$(OUT)/%/$(SONAME): $(OUT)/%/libhunkravy.a
 	(echo '{ global:'; $(EXPORTS) | sed 's/$$/;/'; echo 'local: *; };') > $(@D)/exports.map
 	$(TOOLS_$*)$(CC) -shared -s -Wl,-soname,$(SONAME),--version-script=$(@D)/exports.map,-z,defs,-z,relro,-z,now \
 		-Wl,--whole-archive $< -Wl,--no-whole-archive -o $@
@@ -141,10 +150,10 @@ $(OUT)/%/$(SONAME): $(OUT)/%/libhunkravy.a c/include/hunkravy.h
 # Both levels are built in one folder, so one after the other.
 $(OUT)/x86-64-v3/aegis_c.a: | $(if $(CPU),,$(OUT)/x86-64-v2/aegis_c.a)
 
+$(OUT)/%/aegis_c.a: FLAGS = $(if $(filter aarch64,$*),--target=$(ARM),--cpu=$*)
 $(OUT)/%/aegis_c.a: $(C_SOURCES) crates.txt
 	mkdir -p $(@D)
-	cd crates/aegis_c && rt lib $(if $(filter aarch64,$*),--target=$(ARM),--cpu=$*)
-	cp $(C_LIBRARY) $@
+	$(call build,aegis_c,$(FLAGS),rt lib $(FLAGS),out/libaegis_c.a)
 
 # The packages that have the tools for ARM.
 $(OUT)/aarch64/aegis_c.a: | gcc-aarch64-linux-gnu
@@ -157,41 +166,57 @@ gcc-aarch64-linux-gnu qemu-user:
 		{ echo '$(PROGRAM) is not installed: TARGET=$(ARM) needs the package $@' >&2; exit 1; }
 
 # The tests of the C interface: its headers, and over the library with both levels and over each level alone the examples,
-# every call of each header against the stored lines, and forgeries; the C programs under gcc's sanitizers too, and what
-# hunkravy_wipe leaves in memory. The header has the exports of the library, all of them and no other. A level that this
-# processor lacks is left out. For ARM the programs run under an emulator, where the sanitizers do not look for leaks.
+# every call of each header against the stored lines, and forgeries; the C programs with the calls of c/library under gcc's
+# sanitizers too, and what hunkravy_wipe leaves in memory. The headers have the exports of the library, all of them and no
+# other. A level that this processor lacks is left out. For ARM the programs run under an emulator, where the sanitizers do
+# not look for leaks.
 RUNNABLE = $(if $(shell grep -m1 -w avx2 /proc/cpuinfo),$(LEVELS),x86-64-v2)
 
 check-c: $(if $(filter aarch64,$(FOLDER)),check-c-aarch64,check-header $(addprefix check-c-,both $(RUNNABLE)) check-shared check-c++ check-sodium)
 check-c-aarch64: export ASAN_OPTIONS = detect_leaks=0
 
-# Each header compiles alone, as C and as C++.
+# Each header compiles alone, by each standard of C and C++, and without a warning; and so does what is compiled here.
+CLANG = $(shell command -v clang)
+
 check-header:
-	for header in $(HEADERS); do for form in HUNKRAVY_COMPAT HUNKRAVY_COMPAT_WRITTEN; do \
-		echo "#include \"$$header\"" | $(CC) -std=c99 $(C_FLAGS) -D$$form -fsyntax-only -x c - && \
-		echo "#include \"$$header\"" | $(CC) -std=c++11 $(C_FLAGS) -D$$form -fsyntax-only -x c++ - || exit 1; \
-	done; done
+	for header in $(HEADERS); do for form in HUNKRAVY_COMPAT HUNKRAVY_COMPAT_WRITTEN; do for compiler in $(CC) $(CLANG); do \
+		for standard in c99 c11 c17 c2x c++11 c++14 c++17 c++20; do \
+			case $$standard in c++*) language=c++ ;; *) language=c ;; esac; \
+			echo "#include \"$$header\"" | \
+				$$compiler -std=$$standard $(C_FLAGS) -D$$form -fsyntax-only -x $$language - || exit 1; \
+		done; \
+	done; done; done
+	if [ -n "$(CLANG)" ]; then \
+		for header in $(HEADERS); do \
+			echo "#include \"$$header\"" | $(CLANG) -std=c99 $(C_FLAGS) -Weverything -fsyntax-only -x c - || exit 1; \
+		done; \
+		for file in c/library/*.c; do $(CLANG) -std=c99 $(C_FLAGS) -Weverything -fsyntax-only $$file || exit 1; done; \
+	fi
 
 # The C programs: the examples, and the tests, which read the stored lines.
 C_TESTS = check_calls check_states check_records check_pages check_libaegis check_libsodium
 C_PROGRAMS = $(C_EXAMPLES) $(C_TESTS) check_libaegis_written
-CLANG = $(shell command -v clang)
+
+# The library whose calls the sanitizers see: its sources, over the proved exports of one level.
+SANITIZED = c/library/*.c c/levels/choose.c -DHUNKRAVY_LEVEL=0
 
 check-c-%: $(OUT)/%/libhunkravy.a
 	diff <($(EXPORTS) | sort) \
 		<($(TOOLS_$*)nm --defined-only -g $< | awk '{ print $$3 }' | grep '^hunkravy_' | grep -v '^hunkravy_v[23]_' | sort)
-	for program in $(C_PROGRAMS); do for flags in -O2 '$(SANITIZERS)'; do \
-		source=$${program%_written}; \
-		if [ $$source != $$program ]; then flags="$$flags -DHUNKRAVY_COMPAT_WRITTEN"; fi; \
-		$(TOOLS_$*)$(CC) -std=c99 $(C_FLAGS) $$flags c/*/$$source.c $< -o $(OUT)/$*/$$program && \
-		$(RUN_$*) $(OUT)/$*/$$program $(STORED_LINES) || exit 1; \
-	done; done
-	for compiler in $(TOOLS_$*)$(CC) $(if $(TOOLS_$*),,$(CLANG)); do for flags in -O3 '-O3 -DOTHER_COMPILER'; do \
-		$$compiler -std=c99 $(C_FLAGS) $$flags c/tests/check_wipe.c $< -o $(OUT)/$*/check_wipe && \
+	for program in $(C_PROGRAMS); do \
+		source=$${program%_written}; flags=; \
+		if [ $$source != $$program ]; then flags=-DHUNKRAVY_COMPAT_WRITTEN; fi; \
+		for library in '-O2 $<' '$(SANITIZERS) $(SANITIZED) $(OUT)/$(if $(filter both,$*),$(firstword $(LEVELS)),$*)/aegis_c.a'; do \
+			$(TOOLS_$*)$(CC) -std=c99 $(C_FLAGS) $$flags c/[et]*/$$source.c $$library -o $(OUT)/$*/$$program && \
+			$(RUN_$*) $(OUT)/$*/$$program $(STORED_LINES) || exit 1; \
+		done; \
+	done
+	for compiler in $(TOOLS_$*)$(CC) $(if $(TOOLS_$*),,$(CLANG)); do \
+		$$compiler -std=c99 $(C_FLAGS) -O3 c/tests/check_wipe.c $< -o $(OUT)/$*/check_wipe && \
 		$(RUN_$*) $(OUT)/$*/check_wipe || exit 1; \
-	done; done
+	done
 
-# The tests over the shared library, which exports the calls of the header and nothing else.
+# The tests over the shared library, which exports the calls of the headers and nothing else.
 check-shared: $(OUT)/both/$(SONAME)
 	diff <($(EXPORTS) | sort) <(nm -D --defined-only $< | awk '{ print $$3 }' | sort)
 	for program in $(C_TESTS); do \
@@ -293,7 +318,7 @@ check-python: $(WHEEL)
 
 # It is built for the best level that this machine has, for that of CPU, or for each if CPU is `both`.
 TOOL_LEVELS = $(if $(filter both,$(CPU)),$(LEVELS),$(or $(CPU),$(lastword $(RUNNABLE))))
-TOOL_SOURCES = $(call sources,aegis_aes aegis_base aegis_128 aegis_256 aegis_engine aegis aegis_files hunkravy)
+TOOL_SOURCES = $(call sources,aegis_aes aegis_base aegis_128 aegis_256 aegis_engine aegis aegis_files aegis_tool hunkravy)
 TOOL_PAGES = crates/hunkravy/manual
 
 # The levels are built in one folder, so one after the other.
@@ -301,8 +326,7 @@ $(OUT)/x86-64-v3/hunkravy: | $(if $(filter both,$(CPU))$(filter bench% %dist,$(M
 
 $(OUT)/%/hunkravy: $(TOOL_SOURCES) crates.txt
 	mkdir -p $(@D)
-	cd crates/hunkravy && rt run --cpu=$* -- --help > /dev/null
-	cp crates/hunkravy/out/hunkravy $@
+	$(call build,hunkravy,--cpu=$*,rt run --cpu=$* -- --help > /dev/null,out/hunkravy)
 
 # Installs the program hunkravy, its manual page, and completions for shells. The program is a link to the build for the
 # level, or, if there are two, a script that starts the better one.
@@ -339,6 +363,17 @@ check-batches: $(BATCHES)
 
 $(BATCHES): $(call sources,aegis_aes aegis_base aegis_128 aegis_256 aegis_engine aegis aegis_storage aegis_pages example_batches)
 	cd crates/example_batches && rt run > /dev/null
+
+# Whether the proved program and the Cargo package's example open what the other has left, after 200 kills and after crashes
+# that tear what was being written.
+RAF = $(OUT)/raf
+
+check-raf: $(BATCHES) $(LIBRARY)
+	rm -rf $(RAF)/left && mkdir -p $(RAF)/left
+	cd rust && export HUNKRAVY_LIB_DIR=$(abspath $(dir $(LIBRARY))) CARGO_TARGET_DIR=$(abspath $(RAF)/cargo) && \
+		cargo build --offline --example batches && \
+		HUNKRAVY_BATCHES=$(abspath $(RAF)/left) cargo test --offline --test raf each_call_of_two_batches
+	tools/check_raf.sh $(BATCHES) $(RAF)/cargo/debug/examples/batches $(RAF)/left
 
 # ---- What is released
 
