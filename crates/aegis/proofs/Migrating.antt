@@ -1,10 +1,12 @@
 -- A stream whose records are opened, and sealed again one after the other.
-use Rattle.std.proofs.Common.{◌≡◌, ◌≢◌, ◌⊎◌, ℕ, ◌+◌, ◌<◌, List, [], ◌∷◌, ◌++◌, length, take, refl, sym, ap, subst, ◌∙◌, append_assoc, inl, inr}
+use Rattle.std.proofs.Common.{◌≡◌, ◌≢◌, ◌⊎◌, ℕ, ◌+◌, ◌<◌, List, [], ◌∷◌, ◌++◌, length, take, refl, sym, ap, subst, ◌∙◌, append_assoc, inl, inr, Result, Ok, Err}
+use Rattle.std.specs.Prelude.{IfErr, IfOk, Vec}
 use Rattle.std.proofs.lemmas.List.{append-nil}
 use Rattle.aegis.specs.declared.record.error.RecordError.{RecordError}
 use Rattle.aegis.specs.declared.record.error.RecordError.TheVariants as errors
 use Rattle.aegis.specs.declared.record.version.Version.{Version}
 use Rattle.aegis.specs.declared.record.version.Version.TheVariants.{Second}
+use Rattle.aegis.specs.Calls.{IsRefused, MigratesTo}
 use Rattle.aegis.specs.Fault.{AtHeader, IsFaultOf}
 use Rattle.aegis.specs.Progress.{AreRecordsOfSomeVersion, Begun, Progress, start_of}
 use Rattle.aegis.specs.Records.{AreRecords, IsFault, sealed}
@@ -55,18 +57,27 @@ next_fault key old new context bytes p q rest stream e s (inr fault) =
     inr (subst (λ (l : List ℕ). IsFault key old context l e) (ap (λ (l : List ℕ). s.before ++ l) (append-nil rest) ∙ sym s.all)
     (fault key old context s.messages s.before [] s.opened (λ cut. refl)))
 
--- a stream has no fault, so it is refused for want of memory alone
-pub memory_alone : (key prefix context bytes : List ℕ) (e : RecordError) → (e ≡ errors.OutOfMemory) ⊎ IsFault key prefix context bytes e
-    → (v : Version) (ms : List (List ℕ)) → AreRecords v key prefix context ms bytes → e ≡ errors.OutOfMemory
-memory_alone key prefix context bytes e (inl memory) v ms are = memory
-memory_alone key prefix context bytes e (inr fault) v ms are =
-    absurd ((one_fault (sealed key prefix context) (sealed-is key prefix context)).1 bytes v ms e are fault)
+-- the stream of one list is sealed again as the stream of that list
+pub migrates_to : {A : Type 0} (key old new context bytes : List ℕ) (v : Version) (ms : List (List ℕ)) (r : Result (Vec ℕ A) RecordError)
+    → AreRecords v key old context ms bytes
+    → IfOk r (λ stream. (w : Version) × (ns : List (List ℕ)) × AreRecords w key old context ns bytes × AreRecords Second key new context ns stream.items)
+    → IfErr r (λ e. (e ≡ errors.OutOfMemory) ⊎ IsFault key old context bytes e) → MigratesTo key new context ms r
+migrates_to key old new context bytes v ms (Ok stream) are good bad =
+    subst (λ (l : List (List ℕ)). AreRecords Second key new context l stream.items)
+    ((one_record_stream (sealed key old context) (sealed-is key old context) good.0 v good.1 ms bytes bytes [] [] good.2 are refl).1) good.3
+migrates_to key old new context bytes v ms (Err e) are good (inl memory) = memory
+migrates_to key old new context bytes v ms (Err e) are good (inr fault) =
+    absurd ((one_fault (sealed key old context) (sealed-is key old context)).1 bytes v ms e are fault)
 
--- the bytes are the stream of one list
-pub one_list : (key prefix context bytes : List ℕ) (v w : Version) (ms ns : List (List ℕ)) → AreRecords v key prefix context ms bytes
-    → AreRecords w key prefix context ns bytes → ms ≡ ns
-one_list key prefix context bytes v w ms ns a b =
-    (one_record_stream (sealed key prefix context) (sealed-is key prefix context) v w ms ns bytes bytes [] [] a b refl).1
+-- a fault is the error
+pub refused_by : {A : Type 0} (key old new context bytes : List ℕ) (r : Result (Vec ℕ A) RecordError) (e : RecordError) → IsFault key old context bytes e
+    → IfOk r (λ stream. (w : Version) × (ns : List (List ℕ)) × AreRecords w key old context ns bytes × AreRecords Second key new context ns stream.items)
+    → IfErr r (λ d. (d ≡ errors.OutOfMemory) ⊎ IsFault key old context bytes d) → IsRefused e r
+refused_by key old new context bytes (Ok stream) e fault good bad =
+    (one_fault (sealed key old context) (sealed-is key old context)).1 bytes good.0 good.1 e good.2 fault
+refused_by key old new context bytes (Err d) e fault good (inl memory) = inr memory
+refused_by key old new context bytes (Err d) e fault good (inr other) =
+    inl ((one_fault (sealed key old context) (sealed-is key old context)).0 bytes d e other fault)
 
 pub header_fault : (key prefix context bytes : List ℕ) → ((v : Version) → take 4 bytes ≢ header v) → IsFault key prefix context bytes errors.Header
 unfolding IsFaultOf

@@ -30,8 +30,8 @@ MigratesTo key prefix context ms (Ok stream) = AreRecords Second key prefix cont
 MigratesTo key prefix context ms (Err e) = e ≡ errors.OutOfMemory
 
 -- the result is this error, unless memory ran out
-abbrev pub IsRefused : {A : Type 0} → RecordError → Result (Vec (Vec ℕ A) A) RecordError → Type 0
-IsRefused fault (Ok opened) = ⊥
+abbrev pub IsRefused : {A : Type 0} → RecordError → Result A RecordError → Type 0
+IsRefused fault (Ok value) = ⊥
 IsRefused fault (Err e) = (e ≡ fault) ⊎ (e ≡ errors.OutOfMemory)
 
 -- the result is this message, whether it is the last, and the bytes after its record, unless memory ran out

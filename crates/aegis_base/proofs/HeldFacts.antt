@@ -27,8 +27,8 @@ held-along variant lanes lane block x t on =
 
 -- ---- more of a message
 
-module _ (variant : Variant) (lane : ℕ → List (List ℕ)) (updates : ℕ) (block : List ℕ) (data_bytes message_bytes : ℕ)
-    (key nonce ad m p : List ℕ) (is : Stands variant (held_by variant lane updates block data_bytes message_bytes) key nonce ad m) where
+module _ (variant : Variant) (lane : ℕ → List (List ℕ)) (updates : ℕ) (block : List ℕ) (ad_bytes message_bytes : ℕ)
+    (key nonce ad m p : List ℕ) (is : Stands variant (held_by variant lane updates block ad_bytes message_bytes) key nonce ad m) where
   begun : IsAlong variant (lane_before variant key nonce ad) lane block (m ++ p) message_bytes
   unfolding Stands
   begun = rw is.1 (along-longer variant _ lane block m p (held-along variant _ lane block m _ is.3))
@@ -42,7 +42,7 @@ module _ (variant : Variant) (lane : ℕ → List (List ℕ)) (updates : ℕ) (b
       → ((lanes : ℕ → List (List ℕ)) (x : List ℕ) → IsAlong variant lanes lane block x message_bytes → HasFrom x message_bytes p
       → IsAlong variant lanes next last x (message_bytes + n))
       → count + message_bytes / r ≡ updates + (message_bytes + n) / r
-      → Stands variant (held_by variant next count last data_bytes (message_bytes + n)) key nonce ad (m ++ p)
+      → Stands variant (held_by variant next count last ad_bytes (message_bytes + n)) key nonce ad (m ++ p)
   unfolding Stands
   stands-on next count last n r long rate_is along counted =
       let both = length-append m p in
@@ -65,11 +65,11 @@ module _ (variant : Variant) (lane : ℕ → List (List ℕ)) (updates : ℕ) (b
 
 -- ---- a message of no bytes so far, and a run without associated data
 
-pub stands-begun : (variant : Variant) (lane : ℕ → List (List ℕ)) (updates : ℕ) (block : List ℕ) (data_bytes : ℕ) (key nonce ad : List ℕ)
-    → data_bytes ≡ length ad → updates ≡ block_count variant (length ad)
+pub stands-begun : (variant : Variant) (lane : ℕ → List (List ℕ)) (updates : ℕ) (block : List ℕ) (ad_bytes : ℕ) (key nonce ad : List ℕ)
+    → ad_bytes ≡ length ad → updates ≡ block_count variant (length ad)
     → ((j : ℕ) → j < variant.lanes → lane j ≡ lane_before variant key nonce ad j)
-    → Stands variant (held_by variant lane updates block data_bytes 0) key nonce ad []
+    → Stands variant (held_by variant lane updates block ad_bytes 0) key nonce ad []
 unfolding Stands
-stands-begun variant lane updates block data_bytes key nonce ad long counted begun =
+stands-begun variant lane updates block ad_bytes key nonce ad long counted begun =
     let none = zero-div (rate variant) in
     (long, refl, omega arith, along-held variant _ lane block [] 0 (along-none variant _ lane block [] begun))

@@ -31,18 +31,18 @@ pub record Held : Type 0 where
   pub lanes : List (List (List ℕ))
   pub updates : ℕ
   pub block : List ℕ
-  pub data_bytes : ℕ
+  pub ad_bytes : ℕ
   pub message_bytes : ℕ
 
-abbrev pub held_by : (variant : Variant) (lane : ℕ → List (List ℕ)) (updates : ℕ) (block : List ℕ) (data_bytes message_bytes : ℕ) → Held
-held_by variant lane updates block data_bytes message_bytes =
-    record { lanes = lanes_of variant.lanes lane; updates = updates; block = block; data_bytes = data_bytes; message_bytes = message_bytes }
+abbrev pub held_by : (variant : Variant) (lane : ℕ → List (List ℕ)) (updates : ℕ) (block : List ℕ) (ad_bytes message_bytes : ℕ) → Held
+held_by variant lane updates block ad_bytes message_bytes =
+    record { lanes = lanes_of variant.lanes lane; updates = updates; block = block; ad_bytes = ad_bytes; message_bytes = message_bytes }
 
 -- h stands for this key, nonce, associated data and message so far: the counts are theirs, and the lanes and the open
 -- block are those after the start, the associated data and the message
 unfoldable pub Stands : (variant : Variant) (h : Held) (key nonce ad m : List ℕ) → Type 0
 Stands variant h key nonce ad m =
-    (h.data_bytes ≡ length ad)
+    (h.ad_bytes ≡ length ad)
     × (h.message_bytes ≡ length m)
     × (h.updates ≡ block_count variant (length ad) + length m / rate variant)
     × IsAlong variant (lane_before variant key nonce ad) (lane_in h.lanes) h.block m (length m)

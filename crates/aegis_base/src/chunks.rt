@@ -1,9 +1,23 @@
 //! Lengths of chunked messages.
 
-ghost use Rattle.std.specs.Prelude.{◌≡◌, ◌<◌, ◌≤◌, length};
+ghost use Rattle.std.specs.Prelude.{◌≡◌, ◌+◌, ◌<◌, ◌≤◌, IfErr, IfOk, length};
 ghost use Rattle.aegis_base.specs.Chunks.{joined};
 
-use crate::error::MAX_AEAD_BYTES;
+use crate::error::{Error, MAX_AEAD_BYTES};
+
+/// Returns the length in bytes of a message of `total` bytes after `more` bytes, or [`Error::MessageTooLong`] exactly if
+/// it is more than [`MAX_AEAD_BYTES`].
+pub fn counted(total: u64, more: u64) -> Result<u64, Error>
+    requires { total ≤ MAX_AEAD_BYTES }
+    ensures sum { IfOk result (λ sum. (sum ≡ total + more) × (sum ≤ MAX_AEAD_BYTES)) }
+    ensures too_long { IfErr result (λ e. (e ≡ Error.MessageTooLong)
+        × (MAX_AEAD_BYTES < total + more)) }
+{
+    if more > MAX_AEAD_BYTES - total {
+        return Err(Error::MessageTooLong);
+    }
+    Ok(total + more)
+}
 
 /// Returns the length of all chunks together, in bytes, or `None` exactly if it is more than [`MAX_AEAD_BYTES`].
 pub fn chunks_len(chunks: &[&[u8]]) -> Option<u64>
@@ -13,10 +27,10 @@ pub fn chunks_len(chunks: &[&[u8]]) -> Option<u64>
 {
     let mut length = 0;
     for chunk in chunks {
-        if chunk.len() as u64 > MAX_AEAD_BYTES - length {
+        let Ok(sum) = counted(length, chunk.len() as u64) else {
             return None;
-        }
-        length += chunk.len() as u64;
+        };
+        length = sum;
     }
     Some(length)
 }

@@ -68,7 +68,7 @@ mac_code variant key nonce input mac = lengths_code variant key nonce input 0 ma
 abbrev pub run_code : SavedRun → ℤ → ℤ
 run_code run rest =
     if run.mark == BEGUN
-    then (if leb run.data_bytes MAX_AEAD_BYTES then (if leb run.message_bytes MAX_AEAD_BYTES then rest else WRONG_STATE) else WRONG_STATE)
+    then (if leb run.ad_bytes MAX_AEAD_BYTES then (if leb run.message_bytes MAX_AEAD_BYTES then rest else WRONG_STATE) else WRONG_STATE)
     else WRONG_STATE
 
 -- for the role of a state, which should be `begun`, as after its init, or `role`, and for its run
@@ -95,4 +95,4 @@ final_code variant st begun role tag = state_code variant st begun role (tag_cod
 -- for a state and the length of its MAC; the state of a MAC has no associated data
 abbrev pub mac_final_code : Option Variant → State → ℕ → ℤ
 mac_final_code variant st tag =
-    if st.run.data_bytes == 0 then final_code variant st MAC MAC tag else WRONG_STATE
+    if st.run.ad_bytes == 0 then final_code variant st MAC MAC tag else WRONG_STATE

@@ -46,7 +46,7 @@ const _: () = prove!(size_of::<State>() == 672);
 // Refuses a state that lacks the mark, was begun as neither `begun` nor has gone on as `role`, or has a number past the
 // limit.
 fn check_state(st: &State, begun: u32, role: u32) -> Result<(), Refusal>
-    ensures associated_data { OnOk result (st.now.run.data_bytes ≤ MAX_AEAD_BYTES) }
+    ensures associated_data { OnOk result (st.now.run.ad_bytes ≤ MAX_AEAD_BYTES) }
     ensures message { OnOk result (st.now.run.message_bytes ≤ MAX_AEAD_BYTES) }
     ensures right { OnOk result ((rest : ℤ) → role_code st.now begun role rest ≡ rest) }
     ensures wrong { IfErr result (λ refusal. (rest : ℤ)
@@ -57,7 +57,7 @@ fn check_state(st: &State, begun: u32, role: u32) -> Result<(), Refusal>
         return Err(Refusal::WrongState);
     }
     let run = &st.run;
-    if run.mark != BEGUN || run.data_bytes > MAX_AEAD_BYTES || run.message_bytes > MAX_AEAD_BYTES {
+    if run.mark != BEGUN || run.ad_bytes > MAX_AEAD_BYTES || run.message_bytes > MAX_AEAD_BYTES {
         return Err(Refusal::WrongState);
     }
     Ok(())
@@ -65,7 +65,7 @@ fn check_state(st: &State, begun: u32, role: u32) -> Result<(), Refusal>
 
 // The same for a state and the number of the next bytes, which is refused too if the message would be too long.
 fn check_chunk(st: &State, begun: u32, role: u32, more: usize) -> Result<(), Refusal>
-    ensures associated_data { OnOk result (st.now.run.data_bytes ≤ MAX_AEAD_BYTES) }
+    ensures associated_data { OnOk result (st.now.run.ad_bytes ≤ MAX_AEAD_BYTES) }
     ensures message { OnOk result (st.now.run.message_bytes + more ≤ MAX_AEAD_BYTES) }
     ensures right { OnOk result (role_code st.now begun role (more_code st.now more) ≡ DONE) }
     ensures wrong { IfErr result (λ refusal.
@@ -209,7 +209,7 @@ pub fn mac_update<S: SavedLanes>(st: &mut State, input: &[u8]) -> Result<(), Ref
 pub fn mac_final<S: SavedLanes>(st: &State, mac: &mut [u8]) -> Result<(), Refusal>
     ensures { MacFinal (Some S.VARIANT) st.now mac.old mac.new (code_of result) }
 {
-    if st.run.data_bytes != 0 {
+    if st.run.ad_bytes != 0 {
         return Err(Refusal::WrongState);
     }
     check_state(st, MAC, MAC)?;
@@ -228,7 +228,7 @@ pub fn mac_final<S: SavedLanes>(st: &State, mac: &mut [u8]) -> Result<(), Refusa
 pub fn mac_final_verify<S: SavedLanes>(st: &State, mac: &[u8]) -> Result<(), Refusal>
     ensures { MacFinalVerify (Some S.VARIANT) st.now mac.now (code_of result) }
 {
-    if st.run.data_bytes != 0 {
+    if st.run.ad_bytes != 0 {
         return Err(Refusal::WrongState);
     }
     check_state(st, MAC, MAC)?;

@@ -21,14 +21,14 @@ unfolding IsSaved
 stands-of variant run key nonce ad m is = is.1
 
 -- with equal lanes and as many updates they stand for the same
-stands-same : (variant : Variant) (here there : ℕ → List (List ℕ)) (u v : ℕ) (block : List ℕ) (data_bytes message_bytes : ℕ) (key nonce ad m : List ℕ)
+stands-same : (variant : Variant) (here there : ℕ → List (List ℕ)) (u v : ℕ) (block : List ℕ) (ad_bytes message_bytes : ℕ) (key nonce ad m : List ℕ)
     → ((j : ℕ) → j < variant.lanes → there j ≡ here j)
-    → v ≡ block_count variant data_bytes + message_bytes / rate variant
-    → Stands variant (held_by variant here u block data_bytes message_bytes) key nonce ad m
-    → Stands variant (held_by variant there v block data_bytes message_bytes) key nonce ad m
+    → v ≡ block_count variant ad_bytes + message_bytes / rate variant
+    → Stands variant (held_by variant here u block ad_bytes message_bytes) key nonce ad m
+    → Stands variant (held_by variant there v block ad_bytes message_bytes) key nonce ad m
 unfolding Stands
-stands-same variant here there u v block data_bytes message_bytes key nonce ad m same counted is =
-    let first : block_count variant data_bytes ≡ block_count variant (length ad) = ap (block_count variant) is.0 in
+stands-same variant here there u v block ad_bytes message_bytes key nonce ad m same counted is =
+    let first : block_count variant ad_bytes ≡ block_count variant (length ad) = ap (block_count variant) is.0 in
     let second : message_bytes / rate variant ≡ length m / rate variant = ap (λ (q : ℕ). q / rate variant) is.1 in
     let on = held-along variant _ here block m _ is.3 in (
       is.0,
@@ -42,21 +42,21 @@ module _ (variant : Variant) (lane : ℕ → List (List ℕ)) (updates : ℕ) (r
   -- lanes that are read from a run, with the number of updates that follows from its numbers of bytes
   pub restored : (r : ℕ) → r ≡ rate variant
       → ((j : ℕ) → j < variant.lanes → lane j ≡ saved_lane variant run.rows j)
-      → updates ≡ block_count variant run.data_bytes + run.message_bytes / r
+      → updates ≡ block_count variant run.ad_bytes + run.message_bytes / r
       → IsSaved variant run key nonce ad m
-      → Stands variant (held_by variant lane updates run.block run.data_bytes run.message_bytes) key nonce ad m
+      → Stands variant (held_by variant lane updates run.block run.ad_bytes run.message_bytes) key nonce ad m
   restored r rate_is same counted is =
-      stands-same variant (saved_lane variant run.rows) lane _ updates run.block run.data_bytes run.message_bytes key nonce ad m same
+      stands-same variant (saved_lane variant run.rows) lane _ updates run.block run.ad_bytes run.message_bytes key nonce ad m same
       (rw rate_is at counted) (stands-of variant run key nonce ad m is)
 
   -- lanes that are written to a run
   pub saved : run.mark ≡ BEGUN
       → ((j : ℕ) → j < variant.lanes → saved_lane variant run.rows j ≡ lane j)
-      → Stands variant (held_by variant lane updates run.block run.data_bytes run.message_bytes) key nonce ad m
+      → Stands variant (held_by variant lane updates run.block run.ad_bytes run.message_bytes) key nonce ad m
       → IsSaved variant run key nonce ad m
   unfolding IsSaved
   saved marked same is =
-      (marked, stands-same variant lane (saved_lane variant run.rows) updates _ run.block run.data_bytes run.message_bytes key nonce ad m same refl is)
+      (marked, stands-same variant lane (saved_lane variant run.rows) updates _ run.block run.ad_bytes run.message_bytes key nonce ad m same refl is)
 
 -- nothing is checked
 pub checked-none : (variant : Variant) (run : SavedRun) → HasChecked variant run run []

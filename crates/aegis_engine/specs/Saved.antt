@@ -10,8 +10,8 @@ use Rattle.aegis_engine.specs.declared.saved.TheConstants.{BEGUN}
 -- the values that a saved run holds; the number of updates is not saved, since it follows from the numbers of bytes
 abbrev pub held_in : (variant : Variant) (run : SavedRun) → Held
 held_in variant run =
-    held_by variant (saved_lane variant run.rows) (block_count variant run.data_bytes + run.message_bytes / rate variant)
-    run.block run.data_bytes run.message_bytes
+    held_by variant (saved_lane variant run.rows) (block_count variant run.ad_bytes + run.message_bytes / rate variant)
+    run.block run.ad_bytes run.message_bytes
 
 -- `run` has the mark, and stands for this key, nonce, associated data and message so far
 unfoldable pub IsSaved : (variant : Variant) (run : SavedRun) (key nonce ad m : List ℕ) → Type 0

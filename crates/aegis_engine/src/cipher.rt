@@ -143,8 +143,8 @@ impl<S: LaneState, U, const KEY_BYTES: usize, const TAG_BYTES: usize> Cipher<
         self.decrypt_in_place_with(mc, tag, &[ad])
     }
 
-    /// Seals a message in place, as `encrypt_in_place` does, with associated data that comes in pieces: they are one
-    /// text. Together they must have at most [`MAX_AEAD_BYTES`] (see `chunks_len`).
+    /// Seals a message in place, as `encrypt_in_place` does, with associated data in pieces, which are concatenated.
+    /// Together they must have at most [`MAX_AEAD_BYTES`] (see `chunks_len`).
     pub fn encrypt_in_place_with(self, mc: &mut [u8], ad: &[&[u8]]) -> [u8; TAG_BYTES]
         requires message_within { length mc.old ≤ MAX_AEAD_BYTES }
         requires associated_data_within { length (joined ad.now) ≤ MAX_AEAD_BYTES }
@@ -156,8 +156,8 @@ impl<S: LaneState, U, const KEY_BYTES: usize, const TAG_BYTES: usize> Cipher<
         run.tag()
     }
 
-    /// Opens a ciphertext in place, as `decrypt_in_place` does, with associated data that comes in pieces: they are one
-    /// text. Together they must have at most [`MAX_AEAD_BYTES`] (see `chunks_len`).
+    /// Opens a ciphertext in place, as `decrypt_in_place` does, with associated data in pieces, which are concatenated.
+    /// Together they must have at most [`MAX_AEAD_BYTES`] (see `chunks_len`).
     pub fn decrypt_in_place_with(
         self,
         mc: &mut [u8],
@@ -240,8 +240,8 @@ impl<S: LaneState, U, const KEY_BYTES: usize, const TAG_BYTES: usize> Cipher<
         self.decrypt_with(alloc, c, tag, &[ad])
     }
 
-    /// Opens a ciphertext into a new vector, as `decrypt` does, with associated data that comes in pieces: they are one
-    /// text. Together they must have at most [`MAX_AEAD_BYTES`] (see `chunks_len`).
+    /// Opens a ciphertext into a new vector, as `decrypt` does, with associated data in pieces, which are concatenated.
+    /// Together they must have at most [`MAX_AEAD_BYTES`] (see `chunks_len`).
     pub fn decrypt_with<A: Allocator>(
         self,
         alloc: A,
@@ -318,8 +318,8 @@ impl<S: LaneState, U, const KEY_BYTES: usize, const TAG_BYTES: usize> Cipher<
         self.encryptor_with(&[ad])
     }
 
-    /// Returns an encryptor, as `encryptor` does, with associated data that comes in pieces: they are one text. Together
-    /// they must have at most [`MAX_AEAD_BYTES`] (see `chunks_len`).
+    /// Returns an encryptor, as `encryptor` does, with associated data in pieces, which are concatenated. Together they
+    /// must have at most [`MAX_AEAD_BYTES`] (see `chunks_len`).
     pub fn encryptor_with(&self, ad: &[&[u8]]) -> Encryptor<S, TAG_BYTES>
         requires { length (joined ad.now) ≤ MAX_AEAD_BYTES }
         ensures stands { Stands S.VARIANT result self.now.key self.now.nonce (joined ad.now) [] }
@@ -364,7 +364,7 @@ impl<S: LaneState, U, const KEY_BYTES: usize, const TAG_BYTES: usize> Cipher<
         }
     }
 
-    // Opens chunks into the front of `dst` for any tag, and returns how many bytes were written and whether the tag is
+    // Opens chunks into the start of `dst` for any tag, and returns how many bytes were written and whether the tag is
     // right. If it is not, the caller erases them.
     fn open_chunks_unchecked(
         &self,
@@ -431,7 +431,7 @@ impl<S: LaneState, U, const KEY_BYTES: usize, const TAG_BYTES: usize> Cipher<
         }
     }
 
-    /// Opens a ciphertext that is a list of chunks, and returns the message at the front of `dst`.
+    /// Opens a ciphertext that is a list of chunks, and returns the message at the start of `dst`.
     ///
     /// The chunks are taken in order. A chunk that does not fit in the rest of `dst`, or within [`MAX_AEAD_BYTES`], is
     /// left out whole. Returns the message that is sealed to the other chunks and this tag if there is one. Otherwise
@@ -466,7 +466,7 @@ impl<S: LaneState, U, const KEY_BYTES: usize, const TAG_BYTES: usize> Cipher<
     }
 
     /// Opens a ciphertext that is a list of chunks, as `open_chunks` does, and returns the length of the message in
-    /// bytes. The message is at the front of `dst`.
+    /// bytes. The message is at the start of `dst`.
     ///
     /// The error and the state of `dst` after it are those of `open_chunks`. Use this call if `dst` is used again: its
     /// contract states what `dst` holds afterwards.

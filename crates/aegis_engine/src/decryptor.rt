@@ -19,7 +19,7 @@ use std::fmt;
 /// `finalize_len` has accepted the tag. After a wrong tag, or if the decryptor is dropped, they are zeros.
 ///
 /// Contracts state the key, nonce, associated data and message so far that a decryptor stands for: the message is the
-/// front of the destination.
+/// start of the destination.
 pub struct Decryptor<'a, S: LaneState, const TAG_BYTES: usize> {
     pub(crate) dst: &'a mut [u8],
     pub(crate) run: Run<S>,
@@ -110,7 +110,7 @@ impl<'a, S: LaneState, const TAG_BYTES: usize> Decryptor<'a, S, TAG_BYTES> {
         }
     }
 
-    /// Returns the message, which is the front of the destination itself, if the tag is right. Otherwise returns
+    /// Returns the message, which is the start of the destination itself, if the tag is right. Otherwise returns
     /// [`Error::InvalidTag`], and the bytes of the message are zeros. The bytes after it are unchanged.
     pub fn finalize(self, tag: &[u8; TAG_BYTES]) -> Result<&'a mut [u8], Error>
         ensures* writes_back { sem 𝓛 (LendsIfOk (Array u8 0) (Array u8 0) self.entry.dst result
@@ -128,7 +128,7 @@ impl<'a, S: LaneState, const TAG_BYTES: usize> Decryptor<'a, S, TAG_BYTES> {
         accepted_message(self.check_tag(tag))
     }
 
-    /// Returns the length of the message in bytes, if the tag is right; the message is at the front of the destination.
+    /// Returns the length of the message in bytes, if the tag is right; the message is at the start of the destination.
     /// Otherwise returns [`Error::InvalidTag`], and the bytes of the message are zeros. The bytes after it are
     /// unchanged.
     pub fn finalize_len(self, tag: &[u8; TAG_BYTES]) -> Result<usize, Error>

@@ -1,4 +1,4 @@
-//! Borrowed destinations: the message at their front is returned, or overwritten with zeros.
+//! Borrowed destinations: the message at their start is returned, or overwritten with zeros.
 
 ghost use Rattle.std.specs.Prelude.{◌≡◌, ℕ, ◌≤◌, ◌++◌, IfErr, MatchResult, OnErr, OnOk, drop, false, length, take, true};
 ghost use Rattle.std.specs.Borrow.{Array, LendsIfOk, sem, u8};

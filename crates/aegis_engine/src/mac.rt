@@ -72,7 +72,7 @@ impl<S: LaneState> Run<S> {
             → (j : ℕ) → j < S.VARIANT.lanes
             → S.lane result j
             ≡ after_all S.VARIANT (start S.VARIANT key nonce j) j (mac_input S.VARIANT x) }
-        ensures few { S.updates result ≤ self.now.data_bytes + self.now.message_bytes + 1 }
+        ensures few { S.updates result ≤ self.now.ad_bytes + self.now.message_bytes + 1 }
     {
         if self.message_bytes == 0 {
             let mut after = self.state;

@@ -1,4 +1,4 @@
-//! Opening the chunks of a ciphertext into a destination, one after the other. The message so far is the front of the
+//! Opening the chunks of a ciphertext into a destination, one after the other. The message so far is the start of the
 //! destination.
 
 ghost use Rattle.std.specs.Prelude.{◌≡◌, ℕ, ◌+◌, ◌<◌, ◌≤◌, ◌↔◌, IsOk, List, OnErr, OnOk, drop, length, take};
@@ -8,7 +8,7 @@ ghost use Rattle.aegis_base.specs.Run.{Continues, Decrypts, Stands};
 
 use crate::pass::Pass;
 use crate::run::Run;
-use aegis_base::{Error, LaneState, MAX_AEAD_BYTES};
+use aegis_base::{Error, LaneState, MAX_AEAD_BYTES, counted};
 
 impl<S: LaneState> Run<S> {
     /// Opens the next chunk into the destination, after the message so far. Returns [`Error::OutputBufferTooSmall`] if
@@ -44,9 +44,7 @@ impl<S: LaneState> Run<S> {
         if chunk.len() > dst.len() - so_far {
             return Err(Error::OutputBufferTooSmall);
         }
-        if chunk.len() as u64 > self.remaining() {
-            return Err(Error::MessageTooLong);
-        }
+        let _end = counted(self.message_bytes(), chunk.len() as u64)?;
         let part = &mut dst[so_far..so_far + chunk.len()];
         self.pass_from(Pass::Open, chunk, part);
         Ok(())

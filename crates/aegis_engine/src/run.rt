@@ -24,7 +24,7 @@ use std::marker::Model;
 pub struct Run<S: LaneState> {
     pub(crate) state: S,
     pub(crate) block: RateBlock,
-    pub(crate) data_bytes: u64,
+    pub(crate) ad_bytes: u64,
     pub(crate) message_bytes: u64,
 }
 
@@ -36,10 +36,10 @@ impl<S: LaneState> Model for Run<S> {
     ghost Value = { Held };
 
     ghost view = { λ r. held_by S.VARIANT (S.lane r.state) (S.updates r.state) r.block
-        r.data_bytes r.message_bytes };
+        r.ad_bytes r.message_bytes };
 
-    ghost invariant = { λ r. (S.updates r.state ≤ r.data_bytes + r.message_bytes)
-        × (r.data_bytes ≤ MAX_AEAD_BYTES) };
+    ghost invariant = { λ r. (S.updates r.state ≤ r.ad_bytes + r.message_bytes)
+        × (r.ad_bytes ≤ MAX_AEAD_BYTES) };
 }
 
 impl<S: LaneState> Drop for Run<S> {
@@ -47,7 +47,7 @@ impl<S: LaneState> Drop for Run<S> {
         let Run {
             mut state,
             mut block,
-            data_bytes: _,
+            ad_bytes: _,
             message_bytes: _,
         } = self;
         state = S::zeros();
@@ -75,9 +75,9 @@ fn filling<S: LaneState>(total: u64, count: usize) -> usize
 pub fn absorb_bytes<S: LaneState>(state: S, block: &mut RateBlock, total: u64, bytes: &[u8]) -> S
     requires within { total + length bytes.now < 2 ^ 64 }
     requires countable { S.updates state + length bytes.now < 2 ^ 64 }
-    ensures taken { (data_bytes : ℕ) → Takes S.VARIANT
-        (held_by S.VARIANT (S.lane state) (S.updates state) block.old data_bytes total)
-        (held_by S.VARIANT (S.lane result) (S.updates result) block.new data_bytes
+    ensures taken { (ad_bytes : ℕ) → Takes S.VARIANT
+        (held_by S.VARIANT (S.lane state) (S.updates state) block.old ad_bytes total)
+        (held_by S.VARIANT (S.lane result) (S.updates result) block.new ad_bytes
         (total + length bytes.now))
         bytes.now }
     ensures few { S.updates result ≤ S.updates state + length bytes.now }
@@ -110,13 +110,13 @@ pub fn pass_bytes<S: LaneState>(
 ) -> S
     requires within { total + length mc.old < 2 ^ 64 }
     requires countable { S.updates state + length mc.old < 2 ^ 64 }
-    ensures taken { (data_bytes : ℕ) → Takes S.VARIANT
-        (held_by S.VARIANT (S.lane state) (S.updates state) block.old data_bytes total)
-        (held_by S.VARIANT (S.lane result) (S.updates result) block.new data_bytes
+    ensures taken { (ad_bytes : ℕ) → Takes S.VARIANT
+        (held_by S.VARIANT (S.lane state) (S.updates state) block.old ad_bytes total)
+        (held_by S.VARIANT (S.lane result) (S.updates result) block.new ad_bytes
         (total + length mc.old))
         (absorbed pass mc.old mc.new) }
-    ensures written { (data_bytes : ℕ) → Encrypts S.VARIANT
-        (held_by S.VARIANT (S.lane state) (S.updates state) block.old data_bytes total)
+    ensures written { (ad_bytes : ℕ) → Encrypts S.VARIANT
+        (held_by S.VARIANT (S.lane state) (S.updates state) block.old ad_bytes total)
         (absorbed pass mc.old mc.new) (sealed pass mc.old mc.new) }
     ensures few { S.updates result ≤ S.updates state + length mc.old }
 {
@@ -146,12 +146,12 @@ fn begun<S: LaneState>(key: &[u8], nonce: &[u8], ad: &[&[u8]]) -> (S, u64)
     ensures lanes { (j : ℕ) → j < S.VARIANT.lanes
         → S.lane result.0 j ≡ lane_before S.VARIANT key.now nonce.now (joined ad.now) j }
     ensures updates { S.updates result.0 ≡ block_count S.VARIANT (length (joined ad.now)) }
-    ensures data_bytes { result.1 ≡ length (joined ad.now) }
+    ensures ad_bytes { result.1 ≡ length (joined ad.now) }
 {
     let mut run = Run {
         state: S::new(key, nonce),
         block: ZEROS,
-        data_bytes: 0,
+        ad_bytes: 0,
         message_bytes: 0,
     };
     for piece in ad {
@@ -169,7 +169,7 @@ impl<S: LaneState> Run<S> {
         requires associated_data_within { length ad.now ≤ MAX_AEAD_BYTES }
         ensures stands { Stands S.VARIANT result key.now nonce.now ad.now [] }
         ensures empty { ciphertext S.VARIANT key.now nonce.now ad.now [] ≡ [] }
-        ensures data_bytes { result.data_bytes ≡ length ad.now }
+        ensures ad_bytes { result.ad_bytes ≡ length ad.now }
         ensures message_bytes { result.message_bytes ≡ 0 }
     {
         Run::begin_with(key, nonce, &[ad])
@@ -183,14 +183,14 @@ impl<S: LaneState> Run<S> {
         requires associated_data_within { length (joined ad.now) ≤ MAX_AEAD_BYTES }
         ensures stands { Stands S.VARIANT result key.now nonce.now (joined ad.now) [] }
         ensures empty { ciphertext S.VARIANT key.now nonce.now (joined ad.now) [] ≡ [] }
-        ensures data_bytes { result.data_bytes ≡ length (joined ad.now) }
+        ensures ad_bytes { result.ad_bytes ≡ length (joined ad.now) }
         ensures message_bytes { result.message_bytes ≡ 0 }
     {
-        let (state, data_bytes) = begun(key, nonce, ad);
+        let (state, ad_bytes) = begun(key, nonce, ad);
         Run {
             state,
             block: ZEROS,
-            data_bytes,
+            ad_bytes,
             message_bytes: 0,
         }
     }
@@ -202,7 +202,7 @@ impl<S: LaneState> Run<S> {
         Run {
             state: self.state,
             block: self.block,
-            data_bytes: self.data_bytes,
+            ad_bytes: self.ad_bytes,
             message_bytes: self.message_bytes,
         }
     }
@@ -244,7 +244,7 @@ impl<S: LaneState> Run<S> {
         ensures taken { Takes S.VARIANT self.old self.new (absorbed pass mc.old mc.new) }
         ensures written { Encrypts S.VARIANT self.old (absorbed pass mc.old mc.new)
             (sealed pass mc.old mc.new) }
-        ensures data_bytes { self.new.data_bytes ≡ self.old.data_bytes }
+        ensures ad_bytes { self.new.ad_bytes ≡ self.old.ad_bytes }
         ensures length { self.new.message_bytes ≡ self.old.message_bytes + length mc.old }
     {
         // As in `absorb`.
@@ -265,7 +265,7 @@ impl<S: LaneState> Run<S> {
         ensures updates { (key nonce ad m : List ℕ) → Stands S.VARIANT self.now key nonce ad m
             → S.updates result
             ≡ block_count S.VARIANT (length ad) + block_count S.VARIANT (length m) }
-        ensures few { S.updates result ≤ self.now.data_bytes + self.now.message_bytes + 1 }
+        ensures few { S.updates result ≤ self.now.ad_bytes + self.now.message_bytes + 1 }
     {
         let open = (self.message_bytes % S::RATE as u64) as usize;
         let mut state = self.state;
@@ -289,7 +289,7 @@ impl<S: LaneState> Run<S> {
             ≡ block_count S.VARIANT (length ad) + block_count S.VARIANT (length m) + 7 }
     {
         self.padded()
-            .finish(8 * self.data_bytes, 8 * self.message_bytes)
+            .finish(8 * self.ad_bytes, 8 * self.message_bytes)
     }
 
     /// Returns the tag of the message.

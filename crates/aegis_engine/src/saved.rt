@@ -31,7 +31,7 @@ pub struct SavedRun {
     pub mark: u64,
     pub rows: SavedRows,
     pub block: RateBlock,
-    pub data_bytes: u64,
+    pub ad_bytes: u64,
     pub message_bytes: u64,
 }
 
@@ -45,33 +45,33 @@ pub const ENDED: SavedRun = SavedRun {
         fourth_pair: [0; 128],
     },
     block: ZEROS,
-    data_bytes: 0,
+    ad_bytes: 0,
     message_bytes: 0,
 };
 
 // The number of updates since the start, after this many bytes of associated data and of a message.
-fn updates_along<S: LaneState>(data_bytes: u64, message_bytes: u64) -> u64
-    requires associated_data_within { data_bytes ≤ MAX_AEAD_BYTES }
+fn updates_along<S: LaneState>(ad_bytes: u64, message_bytes: u64) -> u64
+    requires associated_data_within { ad_bytes ≤ MAX_AEAD_BYTES }
     requires message_within { message_bytes ≤ MAX_AEAD_BYTES }
-    ensures value { result ≡ block_count S.VARIANT data_bytes + message_bytes / S.RATE }
-    ensures few { result ≤ data_bytes + message_bytes }
+    ensures value { result ≡ block_count S.VARIANT ad_bytes + message_bytes / S.RATE }
+    ensures few { result ≤ ad_bytes + message_bytes }
 {
     let rate = S::RATE as u64;
-    (data_bytes + (rate - 1)) / rate + message_bytes / rate
+    (ad_bytes + (rate - 1)) / rate + message_bytes / rate
 }
 
 impl SavedRun {
     // The lanes, with their updates counted.
     #[inline(always)]
     fn lanes<S: SavedLanes>(&self) -> S
-        requires associated_data_within { self.now.data_bytes ≤ MAX_AEAD_BYTES }
+        requires associated_data_within { self.now.ad_bytes ≤ MAX_AEAD_BYTES }
         requires message_within { self.now.message_bytes ≤ MAX_AEAD_BYTES }
         ensures stands { (key nonce ad m : List ℕ) → IsSaved S.VARIANT self.now key nonce ad m
             → Stands S.VARIANT (held_by S.VARIANT (S.lane result) (S.updates result)
-            self.now.block self.now.data_bytes self.now.message_bytes) key nonce ad m }
-        ensures few { S.updates result ≤ self.now.data_bytes + self.now.message_bytes }
+            self.now.block self.now.ad_bytes self.now.message_bytes) key nonce ad m }
+        ensures few { S.updates result ≤ self.now.ad_bytes + self.now.message_bytes }
     {
-        let count = updates_along::<S>(self.data_bytes, self.message_bytes);
+        let count = updates_along::<S>(self.ad_bytes, self.message_bytes);
         S::restore(&self.rows, count)
     }
 
@@ -80,9 +80,9 @@ impl SavedRun {
     fn keep<S: SavedLanes>(&mut self, state: S)
         ensures stands { (key nonce ad m : List ℕ)
             → Stands S.VARIANT (held_by S.VARIANT (S.lane state) (S.updates state)
-            self.old.block self.old.data_bytes self.old.message_bytes) key nonce ad m
+            self.old.block self.old.ad_bytes self.old.message_bytes) key nonce ad m
             → self.old.mark ≡ BEGUN → IsSaved S.VARIANT self.new key nonce ad m }
-        ensures data_bytes { self.new.data_bytes ≡ self.old.data_bytes }
+        ensures ad_bytes { self.new.ad_bytes ≡ self.old.ad_bytes }
         ensures message_bytes { self.new.message_bytes ≡ self.old.message_bytes }
     {
         state.save(&mut self.rows);
@@ -90,17 +90,17 @@ impl SavedRun {
 
     // The run, as a value of its own.
     fn run<S: SavedLanes>(&self) -> Run<S>
-        requires associated_data_within { self.now.data_bytes ≤ MAX_AEAD_BYTES }
+        requires associated_data_within { self.now.ad_bytes ≤ MAX_AEAD_BYTES }
         requires message_within { self.now.message_bytes ≤ MAX_AEAD_BYTES }
         ensures stands { (key nonce ad m : List ℕ) → IsSaved S.VARIANT self.now key nonce ad m
             → Stands S.VARIANT result key nonce ad m }
-        ensures data_bytes { result.data_bytes ≡ self.now.data_bytes }
+        ensures ad_bytes { result.ad_bytes ≡ self.now.ad_bytes }
         ensures message_bytes { result.message_bytes ≡ self.now.message_bytes }
     {
         Run {
             state: self.lanes::<S>(),
             block: self.block,
-            data_bytes: self.data_bytes,
+            ad_bytes: self.ad_bytes,
             message_bytes: self.message_bytes,
         }
     }
@@ -117,7 +117,7 @@ impl SavedRun {
         let run = Run::<S>::begin(key, nonce, ad);
         self.mark = BEGUN;
         self.block = run.block;
-        self.data_bytes = run.data_bytes;
+        self.ad_bytes = run.ad_bytes;
         self.message_bytes = run.message_bytes;
         self.keep(run.state);
     }
@@ -125,12 +125,12 @@ impl SavedRun {
     // Processes the next bytes of a message in place, as `Run::pass` does.
     #[inline(always)]
     fn pass<S: SavedLanes>(&mut self, pass: Pass, mc: &mut [u8])
-        requires associated_data_within { self.old.data_bytes ≤ MAX_AEAD_BYTES }
+        requires associated_data_within { self.old.ad_bytes ≤ MAX_AEAD_BYTES }
         requires message_within { self.old.message_bytes + length mc.old ≤ MAX_AEAD_BYTES }
         ensures taken { HasTaken S.VARIANT self.old self.new (absorbed pass mc.old mc.new) }
         ensures written { HasSealed S.VARIANT self.old (absorbed pass mc.old mc.new)
             (sealed pass mc.old mc.new) }
-        ensures associated_data { self.new.data_bytes ≡ self.old.data_bytes }
+        ensures associated_data { self.new.ad_bytes ≡ self.old.ad_bytes }
         ensures counted { self.new.message_bytes ≡ self.old.message_bytes + length mc.old }
     {
         let state = self.lanes::<S>();
@@ -142,7 +142,7 @@ impl SavedRun {
     /// Encrypts the next bytes of the message in place. Together with those before, there must be at most
     /// [`MAX_AEAD_BYTES`].
     pub fn encrypt_in_place<S: SavedLanes>(&mut self, mc: &mut [u8])
-        requires associated_data_within { self.old.data_bytes ≤ MAX_AEAD_BYTES }
+        requires associated_data_within { self.old.ad_bytes ≤ MAX_AEAD_BYTES }
         requires message_within { self.old.message_bytes + length mc.old ≤ MAX_AEAD_BYTES }
         ensures taken { HasTaken S.VARIANT self.old self.new mc.old }
         ensures written { HasSealed S.VARIANT self.old mc.old mc.new }
@@ -153,11 +153,11 @@ impl SavedRun {
     /// Decrypts the next bytes of the ciphertext in place, before the tag is known. The limit is that of
     /// `encrypt_in_place`.
     pub fn decrypt_in_place_unverified<S: SavedLanes>(&mut self, mc: &mut [u8])
-        requires associated_data_within { self.old.data_bytes ≤ MAX_AEAD_BYTES }
+        requires associated_data_within { self.old.ad_bytes ≤ MAX_AEAD_BYTES }
         requires message_within { self.old.message_bytes + length mc.old ≤ MAX_AEAD_BYTES }
         ensures taken { HasTaken S.VARIANT self.old self.new mc.new }
         ensures written { HasSealed S.VARIANT self.old mc.new mc.old }
-        ensures associated_data { self.new.data_bytes ≡ self.old.data_bytes }
+        ensures associated_data { self.new.ad_bytes ≡ self.old.ad_bytes }
         ensures counted { self.new.message_bytes ≡ self.old.message_bytes + length mc.old }
     {
         self.pass::<S>(Pass::Open, mc);
@@ -166,10 +166,10 @@ impl SavedRun {
     // Takes in a piece of the ciphertext, which is decrypted in a copy.
     fn check_piece<S: SavedLanes>(&mut self, piece: &[u8])
         requires short { length piece.now ≤ COPY_BYTES }
-        requires associated_data_within { self.old.data_bytes ≤ MAX_AEAD_BYTES }
+        requires associated_data_within { self.old.ad_bytes ≤ MAX_AEAD_BYTES }
         requires message_within { self.old.message_bytes + length piece.now ≤ MAX_AEAD_BYTES }
         ensures checked { HasChecked S.VARIANT self.old self.new piece.now }
-        ensures associated_data { self.new.data_bytes ≡ self.old.data_bytes }
+        ensures associated_data { self.new.ad_bytes ≡ self.old.ad_bytes }
         ensures counted { self.new.message_bytes ≡ self.old.message_bytes + length piece.now }
     {
         let mut copy = [0; COPY_BYTES];
@@ -181,7 +181,7 @@ impl SavedRun {
     /// Takes in the next bytes of the ciphertext, without writing the message. The limit is that of
     /// `encrypt_in_place`.
     pub fn decrypt_check<S: SavedLanes>(&mut self, c: &[u8])
-        requires associated_data_within { self.old.data_bytes ≤ MAX_AEAD_BYTES }
+        requires associated_data_within { self.old.ad_bytes ≤ MAX_AEAD_BYTES }
         requires message_within { self.old.message_bytes + length c.now ≤ MAX_AEAD_BYTES }
         ensures { HasChecked S.VARIANT self.old self.new c.now }
     {
@@ -192,7 +192,7 @@ impl SavedRun {
 
     /// Takes in the next bytes of the input of a MAC. The limit is that of `encrypt_in_place`.
     pub fn absorb<S: SavedLanes>(&mut self, input: &[u8])
-        requires associated_data_within { self.old.data_bytes ≤ MAX_AEAD_BYTES }
+        requires associated_data_within { self.old.ad_bytes ≤ MAX_AEAD_BYTES }
         requires message_within { self.old.message_bytes + length input.now ≤ MAX_AEAD_BYTES }
         ensures { HasTaken S.VARIANT self.old self.new input.now }
     {
@@ -205,7 +205,7 @@ impl SavedRun {
     /// Returns the tag of the message. The run may continue afterwards.
     pub fn tag<S: SavedLanes, const TAG_BYTES: usize>(&self) -> [u8; TAG_BYTES]
         requires tag_bytes { IsTagLength TAG_BYTES }
-        requires associated_data_within { self.now.data_bytes ≤ MAX_AEAD_BYTES }
+        requires associated_data_within { self.now.ad_bytes ≤ MAX_AEAD_BYTES }
         requires message_within { self.now.message_bytes ≤ MAX_AEAD_BYTES }
         ensures { (key nonce ad m : List ℕ) → IsSaved S.VARIANT self.now key nonce ad m
             → result ≡ tag_of S.VARIANT TAG_BYTES key nonce ad m }
@@ -216,7 +216,7 @@ impl SavedRun {
     /// Returns whether `tag` is the tag of the message. All bytes are compared, whether they are equal or not.
     pub fn has_tag<S: SavedLanes, const TAG_BYTES: usize>(&self, tag: &[u8; TAG_BYTES]) -> bool
         requires tag_bytes { IsTagLength TAG_BYTES }
-        requires associated_data_within { self.now.data_bytes ≤ MAX_AEAD_BYTES }
+        requires associated_data_within { self.now.ad_bytes ≤ MAX_AEAD_BYTES }
         requires message_within { self.now.message_bytes ≤ MAX_AEAD_BYTES }
         ensures tag { (key nonce ad m : List ℕ) → IsSaved S.VARIANT self.now key nonce ad m
             → (result ≡ true) ↔ (tag.now ≡ tag_of S.VARIANT TAG_BYTES key nonce ad m) }
@@ -232,7 +232,7 @@ impl SavedRun {
     /// Returns the MAC of the input. The run may continue afterwards.
     pub fn mac<S: SavedLanes, const TAG_BYTES: usize>(&self) -> [u8; TAG_BYTES]
         requires tag_bytes { IsTagLength TAG_BYTES }
-        requires no_associated_data { self.now.data_bytes ≡ 0 }
+        requires no_associated_data { self.now.ad_bytes ≡ 0 }
         requires input_within { self.now.message_bytes ≤ MAX_AEAD_BYTES }
         ensures { (key nonce x : List ℕ) → IsSaved S.VARIANT self.now key nonce [] x
             → result ≡ mac S.VARIANT TAG_BYTES key nonce x }
@@ -243,7 +243,7 @@ impl SavedRun {
     /// Returns whether `expected` is the MAC of the input. All bytes are compared, whether they are equal or not.
     pub fn has_mac<S: SavedLanes, const TAG_BYTES: usize>(&self, expected: &[u8; TAG_BYTES]) -> bool
         requires tag_bytes { IsTagLength TAG_BYTES }
-        requires no_associated_data { self.now.data_bytes ≡ 0 }
+        requires no_associated_data { self.now.ad_bytes ≡ 0 }
         requires input_within { self.now.message_bytes ≤ MAX_AEAD_BYTES }
         ensures { (key nonce x : List ℕ) → IsSaved S.VARIANT self.now key nonce [] x
             → (result ≡ true) ↔ (expected.now ≡ mac S.VARIANT TAG_BYTES key nonce x) }

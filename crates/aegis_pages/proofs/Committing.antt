@@ -25,7 +25,7 @@ tag_end file tag at m n is long read =
 -- ---- the input, with the tags at its end
 
 -- what a saved run counts
-pub saved_data : (v : Variant) (run : SavedRun) (key nonce x : List ℕ) → IsSaved v run key nonce [] x → run.data_bytes ≡ 0
+pub saved_data : (v : Variant) (run : SavedRun) (key nonce x : List ℕ) → IsSaved v run key nonce [] x → run.ad_bytes ≡ 0
 unfolding IsSaved Stands
 saved_data v run key nonce x is = is.1.0
 

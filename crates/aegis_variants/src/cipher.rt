@@ -1,6 +1,6 @@
 //! A cipher of any variant, with its key and nonce.
 
-ghost use Rattle.std.specs.Prelude.{◌≡◌, ◌≤◌, ℕ, List, length, IfErr, IsOk, OnOk};
+ghost use Rattle.std.specs.Prelude.{◌≡◌, ◌≤◌, ◌⊎◌, ℕ, Err, IfErr, IfOk, IsOk, List, OnErr, OnOk, length, replicate};
 ghost use Rattle.aegis_base.specs.Lane.{IsTagLength};
 ghost use Rattle.aegis_base.specs.Chunks.{joined};
 ghost use Rattle.aegis_base.specs.Message.{Opens};
@@ -9,8 +9,9 @@ ghost use Rattle.aegis_variants.specs.Cipher.{IsCipherOf, IsKeys, key_of, mac_by
 ghost use Rattle.aegis_variants.specs.Variant.{family_of};
 
 use crate::variant::AnyVariant;
-use aegis::{Error, MAX_AEAD_BYTES};
+use aegis::{ERASED, Error, MAX_AEAD_BYTES};
 use aegis_base::LaneState;
+use std::alloc::Allocator;
 use std::fmt;
 
 /// A key and a nonce, of `N` bytes each.
@@ -189,6 +190,89 @@ impl AnyCipher {
             AnyCipher::Aegis256X2(_) => AnyVariant::Aegis256X2,
             AnyCipher::Aegis256X4(_) => AnyVariant::Aegis256X4,
         }
+    }
+
+    /// Seals a message in place: `mc` is the message before the call and the ciphertext after it. Returns the tag, which
+    /// covers the associated data `ad` too.
+    pub fn encrypt_in_place<const TAG_BYTES: usize>(
+        &self,
+        mc: &mut [u8],
+        ad: &[u8],
+    ) -> [u8; TAG_BYTES]
+        requires tag { IsTagLength TAG_BYTES }
+        requires associated_data { length ad.now ≤ MAX_AEAD_BYTES }
+        requires message { length mc.old ≤ MAX_AEAD_BYTES }
+        ensures { (mc.new, result) ≡ sealed_by self.now TAG_BYTES ad.now mc.old }
+    {
+        with_cipher!(self, TAG_BYTES, cipher => cipher.encrypt_in_place(mc, ad))
+    }
+
+    /// Opens a ciphertext in place: `mc` is the ciphertext before the call and the message after it.
+    ///
+    /// The only error is [`Error::InvalidTag`], if no message is sealed to the ciphertext and the tag. Every byte of `mc`
+    /// is then [`ERASED`].
+    pub fn decrypt_in_place<const TAG_BYTES: usize>(
+        &self,
+        mc: &mut [u8],
+        tag: &[u8; TAG_BYTES],
+        ad: &[u8],
+    ) -> Result<(), Error>
+        requires tag { IsTagLength TAG_BYTES }
+        requires associated_data { length ad.now ≤ MAX_AEAD_BYTES }
+        requires ciphertext { length mc.old ≤ MAX_AEAD_BYTES }
+        ensures opened { OnOk result
+            (sealed_by self.now TAG_BYTES ad.now mc.new ≡ (mc.old, tag.now)) }
+        ensures accepted { (m : List ℕ)
+            → sealed_by self.now TAG_BYTES ad.now m ≡ (mc.old, tag.now) → IsOk result }
+        ensures only { (m : List ℕ)
+            → sealed_by self.now TAG_BYTES ad.now m ≡ (mc.old, tag.now) → mc.new ≡ m }
+        ensures erased { OnErr result (mc.new ≡ replicate (length mc.old) ERASED) }
+        ensures error { IfErr result (λ e. e ≡ Error.InvalidTag) }
+    {
+        with_cipher!(self, TAG_BYTES, cipher => cipher.decrypt_in_place(mc, tag, ad))
+    }
+
+    /// Seals a message into a new vector. Returns the ciphertext, and the tag, which covers the associated data `ad`
+    /// too. The only error is [`Error::OutOfMemory`].
+    pub fn encrypt<A: Allocator, const TAG_BYTES: usize>(
+        &self,
+        alloc: A,
+        m: &[u8],
+        ad: &[u8],
+    ) -> Result<(Vec<u8, A>, [u8; TAG_BYTES]), Error>
+        requires tag { IsTagLength TAG_BYTES }
+        requires associated_data { length ad.now ≤ MAX_AEAD_BYTES }
+        requires message { length m.now ≤ MAX_AEAD_BYTES }
+        ensures sealed { IfOk result (λ sealed. (sealed.0.items, sealed.1)
+            ≡ sealed_by self.now TAG_BYTES ad.now m.now) }
+        ensures error { IfErr result (λ e. e ≡ Error.OutOfMemory) }
+    {
+        with_cipher!(self, TAG_BYTES, cipher => cipher.encrypt(alloc, m, ad))
+    }
+
+    /// Opens a ciphertext into a new vector.
+    ///
+    /// Returns [`Error::OutOfMemory`] before any byte is processed, and otherwise [`Error::InvalidTag`] if no message is
+    /// sealed to the ciphertext and the tag. With an error, no byte of the message is returned.
+    pub fn decrypt<A: Allocator, const TAG_BYTES: usize>(
+        &self,
+        alloc: A,
+        c: &[u8],
+        tag: &[u8; TAG_BYTES],
+        ad: &[u8],
+    ) -> Result<Vec<u8, A>, Error>
+        requires tag { IsTagLength TAG_BYTES }
+        requires associated_data { length ad.now ≤ MAX_AEAD_BYTES }
+        requires ciphertext { length c.now ≤ MAX_AEAD_BYTES }
+        ensures opened { IfOk result
+            (λ m. sealed_by self.now TAG_BYTES ad.now m.items ≡ (c.now, tag.now)) }
+        ensures accepted { (m : List ℕ)
+            → sealed_by self.now TAG_BYTES ad.now m ≡ (c.now, tag.now)
+            → result ≡ Err Error.InvalidTag → ⊥ }
+        ensures error { IfErr result (λ e. (e ≡ Error.InvalidTag)
+            ⊎ (e ≡ Error.OutOfMemory)) }
+    {
+        with_cipher!(self, TAG_BYTES, cipher => cipher.decrypt(alloc, c, tag, ad))
     }
 
     /// Seals a message that is a list of chunks. Writes the ciphertext into `ciphertext`, which must be as long as all

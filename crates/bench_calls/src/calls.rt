@@ -44,8 +44,8 @@ pub fn seal<A: Allocator>(
     requires within { length message.now ≤ 16777216 }
 {
     match way {
-        Way::InPlace => Some(calls::encrypt_in_place(cipher, out, &[])),
-        Way::Vector => match calls::encrypt::<A, 16>(cipher, alloc, message, &[]) {
+        Way::InPlace => Some(cipher.encrypt_in_place(out, &[])),
+        Way::Vector => match cipher.encrypt::<A, 16>(alloc, message, &[]) {
             Ok(sealed) => {
                 let tag = sealed.1;
                 Some(tag)
@@ -88,8 +88,8 @@ pub fn open<A: Allocator>(
     requires within { length ciphertext.now ≤ 16777216 }
 {
     match way {
-        Way::InPlace => calls::decrypt_in_place(cipher, out, tag, &[]).is_ok(),
-        Way::Vector => calls::decrypt(cipher, alloc, ciphertext, tag, &[]).is_ok(),
+        Way::InPlace => cipher.decrypt_in_place(out, tag, &[]).is_ok(),
+        Way::Vector => cipher.decrypt(alloc, ciphertext, tag, &[]).is_ok(),
         Way::Chunks => open_in_chunks(cipher, ciphertext, tag, out),
         Way::List => cipher.open_chunks(&[], &[ciphertext], tag, out).is_ok(),
     }

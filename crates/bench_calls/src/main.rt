@@ -17,7 +17,6 @@ use std::alloc::{AllocError, Allocator};
 use std::rt::Runtime;
 use std::time::{Duration, Instant};
 use std::{env, io};
-use test_tools::calls::encrypt_in_place;
 
 const STREAM_BYTES: usize = 1 << 24;
 
@@ -90,7 +89,7 @@ fn turn<R: Runtime, A: Allocator + Copy>(
     let tag = tag.ok_or(io::Error::from(io::ErrorKind::OutOfMemory))?;
     // Into a vector the ciphertext is gone by now.
     if let Way::Vector = way {
-        let _ = encrypt_in_place::<16>(cipher, other, &[]);
+        let _ = cipher.encrypt_in_place::<16>(other, &[]);
     }
     message.copy_from_slice(other);
     let start = Instant::now(rt)?;

@@ -1,9 +1,8 @@
-//! The one-shot calls of a cipher of any variant, and a key and a nonce for each family.
+//! Keystreams of a cipher of any variant for either tag length, and a key and a nonce for each family.
 
-ghost use Rattle.std.specs.Prelude.{◌≡◌, ◌⊎◌, ◌≤◌, length};
 ghost use Rattle.aegis_base.specs.Lane.{IsTagLength};
 
-use aegis::{Error, MAX_AEAD_BYTES};
+use aegis::Error;
 use aegis_variants::{AnyCipher, AnyVariant, Keys, with_cipher};
 use std::alloc::Allocator;
 
@@ -30,62 +29,6 @@ pub fn keyed(variant: AnyVariant) -> AnyCipher {
         nonce: LONG_NONCE,
     };
     AnyCipher::with_keys(variant, short, long)
-}
-
-/// Seals a message in place and returns the tag.
-pub fn encrypt_in_place<const TAG_BYTES: usize>(
-    cipher: &AnyCipher,
-    mc: &mut [u8],
-    ad: &[u8],
-) -> [u8; TAG_BYTES]
-    requires tag { IsTagLength TAG_BYTES }
-    requires message { length mc.old ≤ MAX_AEAD_BYTES }
-    requires ad { length ad.now ≤ MAX_AEAD_BYTES }
-{
-    with_cipher!(cipher, TAG_BYTES, cipher => cipher.encrypt_in_place(mc, ad))
-}
-
-/// Opens a ciphertext in place.
-pub fn decrypt_in_place<const TAG_BYTES: usize>(
-    cipher: &AnyCipher,
-    mc: &mut [u8],
-    tag: &[u8; TAG_BYTES],
-    ad: &[u8],
-) -> Result<(), Error>
-    requires tag { IsTagLength TAG_BYTES }
-    requires message { length mc.old ≤ MAX_AEAD_BYTES }
-    requires ad { length ad.now ≤ MAX_AEAD_BYTES }
-{
-    with_cipher!(cipher, TAG_BYTES, cipher => cipher.decrypt_in_place(mc, tag, ad))
-}
-
-/// Seals a message into a new vector.
-pub fn encrypt<A: Allocator, const TAG_BYTES: usize>(
-    cipher: &AnyCipher,
-    alloc: A,
-    m: &[u8],
-    ad: &[u8],
-) -> Result<(Vec<u8, A>, [u8; TAG_BYTES]), Error>
-    requires tag { IsTagLength TAG_BYTES }
-    requires message { length m.now ≤ MAX_AEAD_BYTES }
-    requires ad { length ad.now ≤ MAX_AEAD_BYTES }
-{
-    with_cipher!(cipher, TAG_BYTES, cipher => cipher.encrypt(alloc, m, ad))
-}
-
-/// Opens a ciphertext into a new vector.
-pub fn decrypt<A: Allocator, const TAG_BYTES: usize>(
-    cipher: &AnyCipher,
-    alloc: A,
-    c: &[u8],
-    tag: &[u8; TAG_BYTES],
-    ad: &[u8],
-) -> Result<Vec<u8, A>, Error>
-    requires tag { IsTagLength TAG_BYTES }
-    requires message { length c.now ≤ MAX_AEAD_BYTES }
-    requires ad { length ad.now ≤ MAX_AEAD_BYTES }
-{
-    with_cipher!(cipher, TAG_BYTES, cipher => cipher.decrypt(alloc, c, tag, ad))
 }
 
 /// Overwrites a buffer with the keystream.

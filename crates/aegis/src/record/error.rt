@@ -6,7 +6,7 @@ ghost use Rattle.aegis.specs.declared.record.error.RecordError.TheVariants.{OutO
 use std::alloc::{AllocError, AllocFailed};
 use thiserror::Error;
 
-/// Why a record stream is refused: the first fault of its bytes, read from the front, or want of memory.
+/// Why a record stream is refused: the first fault of its bytes, read from the start, or that memory ran out.
 #[derive(Clone, Copy, Debug, PartialEq, Eq, Error)]
 pub enum RecordError {
     /// The bytes begin with no known header.

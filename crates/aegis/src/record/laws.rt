@@ -10,7 +10,7 @@ ghost use Rattle.aegis.specs.declared.record.error.RecordError.TheVariants.{Trai
 ghost use Rattle.aegis.specs.declared.record.version.Version.{Version};
 
 /// Under one key, prefix and context two lists of messages, or two versions, never have the same stream, and no stream is a
-/// proper front of another.
+/// proper prefix of another.
 pub fn one_record_stream()
     ensures { (key prefix context : List ℕ) → IsOneRecordStream (sealed key prefix context) }
 {}
@@ -27,7 +27,7 @@ pub fn record_stream_lengths()
         → AreRecords v key prefix context ms bytes → length bytes ≡ records_length ms }
 {}
 
-/// The bytes in front of a record are as many as `start_of` says: 4, 37 for each record before it, and the lengths of their
+/// The bytes before a record are as many as `start_of` gives: 4, 37 for each record before it, and the lengths of their
 /// messages.
 pub fn begun_lengths()
     ensures { (p : Progress) (key prefix context : List ℕ)
@@ -35,7 +35,7 @@ pub fn begun_lengths()
         → length bytes ≡ start_of p }
 {}
 
-/// The messages before the last record are a proper front of the list of any stream that begins with the same bytes, so no
+/// The messages before the last record are a proper prefix of the list of any stream that begins with the same bytes, so no
 /// stream ends there.
 pub fn begun_is_a_front()
     ensures { (p : Progress) (key prefix context : List ℕ)

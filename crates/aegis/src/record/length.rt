@@ -9,7 +9,7 @@ use aegis_base::MAX_AEAD_BYTES;
 /// How many bytes a header has.
 pub const HEADER_BYTES: u64 = 4;
 
-/// How many bytes a record has in front of its message: a flag and a length.
+/// How many bytes a record has before its message: a flag and a length.
 pub const RECORD_HEAD_BYTES: usize = 1 + 4;
 
 /// How many bytes a record adds to its message: a flag, a length and a tag.

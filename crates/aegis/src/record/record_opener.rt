@@ -36,13 +36,13 @@ pub struct Opened<'b, A: Allocator> {
 /// Opens a stream, of the version that its header names, a record at a time: each message is returned before the bytes of the
 /// next record are needed, so a stream of any length is opened in the memory of one record.
 ///
-/// The messages that are returned before the last record are a proper front of the list of any stream that begins with the
+/// The messages that are returned before the last record are a proper prefix of the list of any stream that begins with the
 /// same bytes. A stream that was cut off is [`RecordError::Truncated`] only at the cut, so a caller that needs all of the
 /// messages must wait for the last one.
 ///
 /// In a contract an opener stands for a `Progress`: the key, prefix and context, the version, the next record's number, how
-/// many bytes the messages before it have, and whether the last record was opened. `Begun` says of which messages and bytes
-/// that is the progress.
+/// many bytes the messages before it have, and whether the last record was opened. `Begun` relates it to those
+/// messages and bytes.
 #[derive(Drop)]
 pub struct RecordOpener<'a> {
     cipher: RecordCipher<'a>,

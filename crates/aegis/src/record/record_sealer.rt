@@ -70,10 +70,10 @@ fn seal_record<A: Allocator>(
 /// one after the other, are the stream that [`seal_records`](crate::record::seal_records) makes of the list of messages.
 ///
 /// Only the sealer that began a stream appends to it. No call begins a sealer at a given number, since a number that is used
-/// twice under one prefix gives both messages away. To change what was sealed, seal a new stream under a new prefix.
+/// twice under one prefix reveals information about both messages, and may allow forgeries. To change what was sealed, seal a new stream under a new prefix.
 ///
 /// In a contract a sealer stands for a `Progress`: the key, prefix and context, the next record's number, and how many bytes
-/// the messages before it have. `Begun` says of which messages and bytes that is the progress.
+/// the messages before it have. `Begun` relates it to those messages and bytes.
 #[derive(Drop)]
 pub struct RecordSealer<'a> {
     cipher: RecordCipher<'a>,

@@ -4,7 +4,6 @@ ghost use Rattle.std.specs.Prelude.{◌<◌, ◌^◌, length};
 
 use aegis_variants::{AnyCipher, TagLength};
 use test_reference::{TwoBlocks, halves};
-use test_tools::calls::encrypt_in_place;
 
 /// Seals a message in place. A tag of 16 bytes has zeros after it.
 pub fn library_seal(
@@ -17,8 +16,8 @@ pub fn library_seal(
     requires message { length buffer.old < 2 ^ 32 }
 {
     match tag_length {
-        TagLength::Short => [encrypt_in_place(cipher, buffer, ad), [0; 16]],
-        TagLength::Long => halves(&encrypt_in_place(cipher, buffer, ad)),
+        TagLength::Short => [cipher.encrypt_in_place(buffer, ad), [0; 16]],
+        TagLength::Long => halves(&cipher.encrypt_in_place(buffer, ad)),
     }
 }
 

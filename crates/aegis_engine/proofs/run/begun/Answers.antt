@@ -55,7 +55,7 @@ returns-clause-updates g c =
     div-eq_of_lt (let positive = rate-positive L.VARIANT g.met.S.LaneState.one_two_or_four in omega arith) in
     omega arith
 
-pub returns-clause-data_bytes : goal.returns-clause-data_bytes
-returns-clause-data_bytes g c =
+pub returns-clause-ad_bytes : goal.returns-clause-ad_bytes
+returns-clause-ad_bytes g c =
     let all = ap joined (take_all c.loop-piece.piece-index c.args.ad.now (omega (arith, c.loop-piece-test.false))) in
     omega (arith, c.loop-piece.invariant.counted, ap length all, ap (λ (h : Held). h.message_bytes) c.run.view_is)

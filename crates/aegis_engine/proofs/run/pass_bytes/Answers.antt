@@ -54,7 +54,7 @@ untouched : (g : _) → (c : goal.After-slice_known-4-1 g) (i : ℕ)
 untouched g c i high = c.pass_whole-state.ensures.above i high ∙ c.pass_part.ensures.above i (omega arith)
 
 pub returns-clause-taken : goal.returns-clause-taken
-returns-clause-taken g c data_bytes key nonce ad m stands =
+returns-clause-taken g c ad_bytes key nonce ad m stands =
     let L = g.S.LaneState in let t : ℕ = c.args.total in let len : ℕ = length c.args.mc.now in
     let first : ℕ = c.filling-first.result in let n : ℕ = (len - first) / c.RATE.result in let pass = c.args.pass in
     let old : List ℕ = c.args.mc.now in let two : List ℕ = c.pass_whole-state.new.buffer in let new : List ℕ = c.pass_part-2.new.buffer in
@@ -63,7 +63,7 @@ returns-clause-taken g c data_bytes key nonce ad m stands =
     let last : first + n * c.RATE-2.result ≡ first + n * L.RATE = ap (λ (r : ℕ). first + n * r) c.RATE-2.ensures in
     let long : length (absorbed pass old new) ≡ len = length-absorbed pass old new (omega arith) in
     let positive : 0 < L.RATE = rw g.met.S.LaneState.rate_is (rate-positive L.VARIANT g.met.S.LaneState.one_two_or_four) in
-    stands-on L.VARIANT (L.lane c.args.state) (L.updates c.args.state) c.args.block.now data_bytes t key nonce ad m (absorbed pass old new) stands
+    stands-on L.VARIANT (L.lane c.args.state) (L.updates c.args.state) c.args.block.now ad_bytes t key nonce ad m (absorbed pass old new) stands
     (L.lane c.pass_part-2.new.state) (L.updates c.pass_part-2.new.state) c.pass_part-2.new.block len L.RATE (sym long) g.met.S.LaneState.rate_is
     (λ lanes x along same.
     let are = parts g c lanes x along same in
@@ -77,13 +77,13 @@ returns-clause-taken g c data_bytes key nonce ad m stands =
     (omega arith) c.pass_part.ensures.updates c.pass_whole-state.ensures.updates (rw c.RATE-2.ensures at c.pass_part-2.ensures.updates))
 
 pub returns-clause-written : goal.returns-clause-written
-returns-clause-written g c data_bytes key nonce ad m stands =
+returns-clause-written g c ad_bytes key nonce ad m stands =
     let L = g.S.LaneState in let t : ℕ = c.args.total in let len : ℕ = length c.args.mc.now in
     let first : ℕ = c.filling-first.result in let n : ℕ = (len - first) / c.RATE.result in let pass = c.args.pass in
     let old : List ℕ = c.args.mc.now in let new : List ℕ = c.pass_part-2.new.buffer in
     let kept : length new ≡ len = omega arith in
     let long = length-absorbed pass old new kept in
-    ciphertext-on L.VARIANT (L.lane c.args.state) (L.updates c.args.state) c.args.block.now data_bytes t key nonce ad m (absorbed pass old new) stands
+    ciphertext-on L.VARIANT (L.lane c.args.state) (L.updates c.args.state) c.args.block.now ad_bytes t key nonce ad m (absorbed pass old new) stands
     (sealed pass old new) g.met.S.LaneState.one_two_or_four (length-sealed pass old new kept)
     (λ lanes x along same i under.
     let low : i < len = rw long at under in
@@ -136,7 +136,7 @@ blocks-alone g c x same =
     record { all = all; unopened = are.1; whole = λ k low. same k (omega arith) ∙ ap (slice_index absorbed_bytes) (omega arith) }
 
 pub returns-then-first-rest-eq0-clause-taken : goal.returns-then-first-rest-eq0-clause-taken
-returns-then-first-rest-eq0-clause-taken g c data_bytes key nonce ad m stands =
+returns-then-first-rest-eq0-clause-taken g c ad_bytes key nonce ad m stands =
     let L = g.S.LaneState in let t : ℕ = c.args.total in let len : ℕ = length c.args.mc.now in
     let first : ℕ = c.filling-first.result in let n : ℕ = (len - first) / c.RATE.result in let pass = c.args.pass in
     let old : List ℕ = c.args.mc.now in let whole = c.pass_whole in
@@ -145,19 +145,19 @@ returns-then-first-rest-eq0-clause-taken g c data_bytes key nonce ad m stands =
     let end : t + n * L.RATE ≡ t + len = ap (λ (k : ℕ). t + k) are.0 in
     let positive : 0 < L.RATE = rw g.met.S.LaneState.rate_is (rate-positive L.VARIANT g.met.S.LaneState.one_two_or_four) in
     let blocks = rw end at (whole-quotient t n L.RATE positive are.1) in
-    stands-on L.VARIANT (L.lane c.args.state) (L.updates c.args.state) c.args.block.now data_bytes t key nonce ad m (absorbed pass old whole.new.buffer) stands
+    stands-on L.VARIANT (L.lane c.args.state) (L.updates c.args.state) c.args.block.now ad_bytes t key nonce ad m (absorbed pass old whole.new.buffer) stands
     (L.lane whole.result) (L.updates whole.result) c.args.block.now len L.RATE (sym (length-absorbed pass old whole.new.buffer kept)) g.met.S.LaneState.rate_is
     (λ lanes x along same. rw end at (whole.ensures.along lanes c.args.block.now x t are.1 along (blocks-alone g c x same).whole))
     (omega (arith, whole.ensures.updates))
 
 pub returns-then-first-rest-eq0-clause-written : goal.returns-then-first-rest-eq0-clause-written
-returns-then-first-rest-eq0-clause-written g c data_bytes key nonce ad m stands =
+returns-then-first-rest-eq0-clause-written g c ad_bytes key nonce ad m stands =
     let L = g.S.LaneState in let t : ℕ = c.args.total in let len : ℕ = length c.args.mc.now in
     let first : ℕ = c.filling-first.result in let n : ℕ = (len - first) / c.RATE.result in let pass = c.args.pass in
     let old : List ℕ = c.args.mc.now in let whole = c.pass_whole in let new : List ℕ = whole.new.buffer in
     let kept : length new ≡ len = whole.auto.buffer in
     let long = length-absorbed pass old new kept in
-    ciphertext-on L.VARIANT (L.lane c.args.state) (L.updates c.args.state) c.args.block.now data_bytes t key nonce ad m (absorbed pass old new) stands
+    ciphertext-on L.VARIANT (L.lane c.args.state) (L.updates c.args.state) c.args.block.now ad_bytes t key nonce ad m (absorbed pass old new) stands
     (sealed pass old new) g.met.S.LaneState.one_two_or_four (length-sealed pass old new kept)
     (λ lanes x along same i under.
     let low : i < len = rw long at under in

@@ -11,7 +11,7 @@ use crate::tests::chunks::chunked::{
 use aegis_variants::{AnyCipher, VARIANTS};
 use std::process::Abort;
 use std::test::Fail;
-use test_tools::calls::{counting, encrypt_in_place, keyed};
+use test_tools::calls::{counting, keyed};
 use test_tools::worked::{ASSOCIATED_DATA, MESSAGE};
 
 // One byte more than two rate blocks of 128 bytes.
@@ -86,7 +86,7 @@ fn check_cuts<R: Abort + AllocGlobal, const TAG_BYTES: usize>(
     let mut buffer = [0; LONGEST];
     let sealed = &mut buffer[..message.len()];
     sealed.copy_from_slice(message);
-    let tag = encrypt_in_place::<TAG_BYTES>(cipher, sealed, &ASSOCIATED_DATA);
+    let tag = cipher.encrypt_in_place::<TAG_BYTES>(sealed, &ASSOCIATED_DATA);
     for lengths in cuts {
         check_sealing(rt, cipher, message, lengths, sealed, &tag)?;
         check_opening(rt, cipher, sealed, &tag, lengths, message)?;

@@ -11,7 +11,7 @@ use aegis_variants::{AnyCipher, AnyVariant, Keys, VARIANTS};
 use hex::FromHex;
 use std::process::Abort;
 use std::test::Fail;
-use test_tools::calls::{SHORT_KEY, encrypt_in_place, keyed};
+use test_tools::calls::{SHORT_KEY, keyed};
 use test_tools::worked::{AEGIS128L_CIPHERTEXT, AEGIS128L_TAG, ASSOCIATED_DATA, MESSAGE};
 
 // The worked message is cut into pieces of these lengths, and 17 bytes.
@@ -99,7 +99,7 @@ fn check_empty<R: Abort, const TAG_BYTES: usize>(rt: &R, cipher: &AnyCipher)
     requires { IsTagLength TAG_BYTES }
 {
     let data = &ASSOCIATED_DATA;
-    let tag = encrypt_in_place::<TAG_BYTES>(cipher, &mut [], data);
+    let tag = cipher.encrypt_in_place::<TAG_BYTES>(&mut [], data);
     for update in UPDATES {
         let (of_none, _) = seal_by_encryptor::<TAG_BYTES>(cipher, update, data, &[], &mut []);
         assert_bytes(rt, &of_none, &tag, &update);

@@ -8,7 +8,7 @@ use crate::tests::hostile::is_all;
 use aegis::Error;
 use aegis_variants::{AnyCipher, VARIANTS};
 use std::process::Abort;
-use test_tools::calls::{counting, encrypt_in_place, keyed};
+use test_tools::calls::{counting, keyed};
 use test_tools::worked::ASSOCIATED_DATA;
 
 // One byte more than three rate blocks of 128 bytes.
@@ -45,7 +45,7 @@ fn check_refused_chunks<R: Abort, const TAG_BYTES: usize>(
     let mut buffer = [0; LONGEST];
     let sealed = &mut buffer[..message.len()];
     sealed.copy_from_slice(message);
-    let tag = encrypt_in_place::<TAG_BYTES>(cipher, sealed, &ASSOCIATED_DATA);
+    let tag = cipher.encrypt_in_place::<TAG_BYTES>(sealed, &ASSOCIATED_DATA);
     let sealed = &buffer[..message.len()];
     let longer = [0; 386];
     let longer = &longer[..message.len() + 1];

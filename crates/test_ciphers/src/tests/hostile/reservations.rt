@@ -8,7 +8,7 @@ use aegis::Error;
 use aegis_variants::{AnyCipher, VARIANTS};
 use std::process::Abort;
 use std::test::Fail;
-use test_tools::calls::{decrypt, encrypt, encrypt_in_place, keyed, stream_xor};
+use test_tools::calls::{keyed, stream_xor};
 use test_tools::memory::Rationed;
 use test_tools::worked::ASSOCIATED_DATA;
 
@@ -24,14 +24,14 @@ fn check_no_memory<R: Abort + AllocGlobal, const TAG_BYTES: usize>(
     requires message { length message.now ≤ 65537 }
 {
     let heap = Rationed::new(rt.alloc(), 0);
-    let sealed = encrypt::<_, TAG_BYTES>(cipher, &heap, message, &ASSOCIATED_DATA);
+    let sealed = cipher.encrypt::<_, TAG_BYTES>(&heap, message, &ASSOCIATED_DATA);
     assert_error(rt, sealed.err(), Error::OutOfMemory);
     let mut sealed = Vec::from_slice(rt.alloc(), message)?;
-    let tag = encrypt_in_place::<TAG_BYTES>(cipher, &mut sealed, &ASSOCIATED_DATA);
+    let tag = cipher.encrypt_in_place::<TAG_BYTES>(&mut sealed, &ASSOCIATED_DATA);
     assert_eq!(rt; sealed.len(), message.len());
-    let opened = decrypt(cipher, &heap, &sealed, &tag, &ASSOCIATED_DATA);
+    let opened = cipher.decrypt(&heap, &sealed, &tag, &ASSOCIATED_DATA);
     assert_error(rt, opened.err(), Error::OutOfMemory);
-    let opened = decrypt(cipher, &heap, &sealed, &tag, &[]);
+    let opened = cipher.decrypt(&heap, &sealed, &tag, &[]);
     assert_error(rt, opened.err(), Error::OutOfMemory);
     let xored = stream_xor::<_, TAG_BYTES>(cipher, &heap, message);
     assert_error(rt, xored.err(), Error::OutOfMemory);
@@ -61,20 +61,20 @@ fn check_one_request<R: Abort + AllocGlobal, const TAG_BYTES: usize>(
     requires message { length message.now ≤ 65537 }
 {
     let mut in_place = Vec::from_slice(rt.alloc(), message)?;
-    let tag = encrypt_in_place::<TAG_BYTES>(cipher, &mut in_place, &ASSOCIATED_DATA);
+    let tag = cipher.encrypt_in_place::<TAG_BYTES>(&mut in_place, &ASSOCIATED_DATA);
     let heap = Rationed::new(rt.alloc(), 1);
-    let sealed = encrypt::<_, TAG_BYTES>(cipher, &heap, message, &ASSOCIATED_DATA)?;
+    let sealed = cipher.encrypt::<_, TAG_BYTES>(&heap, message, &ASSOCIATED_DATA)?;
     assert_bytes(rt, &sealed.0, &in_place, &cipher);
     assert_bytes(rt, &sealed.1, &tag, &cipher);
     assert_eq!(rt; heap.left(), 0);
 
     assert_eq!(rt; in_place.len(), message.len());
     let heap = Rationed::new(rt.alloc(), 1);
-    let opened = decrypt(cipher, &heap, &in_place, &tag, &ASSOCIATED_DATA)?;
+    let opened = cipher.decrypt(&heap, &in_place, &tag, &ASSOCIATED_DATA)?;
     assert_bytes(rt, &opened, message, &cipher);
     assert_eq!(rt; heap.left(), 0);
     let heap = Rationed::new(rt.alloc(), 1);
-    let refused = decrypt(cipher, &heap, &in_place, &tag, &[]);
+    let refused = cipher.decrypt(&heap, &in_place, &tag, &[]);
     assert_error(rt, refused.err(), Error::InvalidTag);
     Ok(())
 }

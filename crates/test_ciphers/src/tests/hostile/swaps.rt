@@ -8,9 +8,7 @@ use crate::tests::hostile::is_all;
 use aegis::{Error, MAX_AEAD_BYTES};
 use aegis_variants::{AnyCipher, AnyVariant, Keys, VARIANTS};
 use std::process::Abort;
-use test_tools::calls::{
-    LONG_KEY, LONG_NONCE, SHORT_KEY, SHORT_NONCE, decrypt_in_place, encrypt_in_place, keyed,
-};
+use test_tools::calls::{LONG_KEY, LONG_NONCE, SHORT_KEY, SHORT_NONCE, keyed};
 use test_tools::worked::{ASSOCIATED_DATA, MESSAGE};
 
 // The length of the associated data and the message together.
@@ -30,7 +28,7 @@ fn assert_refused<R: Abort, const TAG_BYTES: usize>(
     let mut buffer = [0; LONGEST];
     let opened = &mut buffer[..ciphertext.len()];
     opened.copy_from_slice(ciphertext);
-    let refused = decrypt_in_place(cipher, opened, tag, associated_data);
+    let refused = cipher.decrypt_in_place(opened, tag, associated_data);
     assert_error(rt, refused.err(), Error::InvalidTag);
     assert!(rt; is_all(opened, 0xaa), "{cipher:?}");
 }
@@ -53,7 +51,7 @@ fn check_swaps<R: Abort, const TAG_BYTES: usize>(rt: &R, variant: AnyVariant)
 {
     let cipher = keyed(variant);
     let mut sealed = MESSAGE;
-    let tag = encrypt_in_place::<TAG_BYTES>(&cipher, &mut sealed, &ASSOCIATED_DATA);
+    let tag = cipher.encrypt_in_place::<TAG_BYTES>(&mut sealed, &ASSOCIATED_DATA);
     assert_refused(rt, &cipher, &sealed, &[0; TAG_BYTES], &ASSOCIATED_DATA);
     assert_refused(rt, &cipher, &sealed, &[0xff; TAG_BYTES], &ASSOCIATED_DATA);
     assert_refused(rt, &exchanged(variant), &sealed, &tag, &ASSOCIATED_DATA);
@@ -87,7 +85,7 @@ fn check_moved_data<R: Abort, const TAG_BYTES: usize>(rt: &R, cipher: &AnyCipher
     requires { IsTagLength TAG_BYTES }
 {
     let mut sealed = MESSAGE;
-    let tag = encrypt_in_place::<TAG_BYTES>(cipher, &mut sealed, &ASSOCIATED_DATA);
+    let tag = cipher.encrypt_in_place::<TAG_BYTES>(&mut sealed, &ASSOCIATED_DATA);
     assert_refused(rt, cipher, &behind_data(&sealed), &tag, &[]);
 }
 
@@ -95,7 +93,7 @@ fn check_moved_message<R: Abort, const TAG_BYTES: usize>(rt: &R, cipher: &AnyCip
     requires { IsTagLength TAG_BYTES }
 {
     let mut both = behind_data(&MESSAGE);
-    let tag = encrypt_in_place::<TAG_BYTES>(cipher, &mut both, &[]);
+    let tag = cipher.encrypt_in_place::<TAG_BYTES>(&mut both, &[]);
     let (front, sealed) = both.split_at(17);
     assert_refused(rt, cipher, sealed, &tag, front);
     assert_refused(rt, cipher, sealed, &tag, &ASSOCIATED_DATA);

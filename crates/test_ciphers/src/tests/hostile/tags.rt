@@ -10,7 +10,7 @@ use aegis::{Error, MAX_AEAD_BYTES};
 use aegis_variants::{AnyCipher, VARIANTS};
 use std::process::Abort;
 use std::test::Fail;
-use test_tools::calls::{counting, decrypt, decrypt_in_place, encrypt_in_place, keyed};
+use test_tools::calls::{counting, keyed};
 use test_tools::worked::ASSOCIATED_DATA;
 
 // One byte more than two rate blocks of 128 bytes.
@@ -33,7 +33,7 @@ fn check_in_place<R: Abort + AllocGlobal, const TAG_BYTES: usize>(
     requires sealed { length sealed.now ≤ MAX_AEAD_BYTES }
 {
     let mut buffer = Vec::from_slice(rt.alloc(), sealed)?;
-    let refused = decrypt_in_place(cipher, &mut buffer, tag, &ASSOCIATED_DATA);
+    let refused = cipher.decrypt_in_place(&mut buffer, tag, &ASSOCIATED_DATA);
     assert_error(rt, refused.err(), Error::InvalidTag);
     assert_eq!(rt; buffer.len(), sealed.len());
     assert!(rt; is_all(&buffer, 0xaa));
@@ -50,7 +50,7 @@ fn check_into_a_vector<R: Abort + AllocGlobal, const TAG_BYTES: usize>(
     requires tag { IsTagLength TAG_BYTES }
     requires sealed { length sealed.now ≤ MAX_AEAD_BYTES }
 {
-    let refused = decrypt(cipher, rt.alloc(), sealed, tag, &ASSOCIATED_DATA);
+    let refused = cipher.decrypt(rt.alloc(), sealed, tag, &ASSOCIATED_DATA);
     assert_error(rt, refused.err(), Error::InvalidTag);
 }
 
@@ -91,7 +91,7 @@ fn check_tags<R: Abort + AllocGlobal, const TAG_BYTES: usize>(
     let mut buffer = [0; LONGEST];
     let sealed = &mut buffer[..message.len()];
     sealed.copy_from_slice(message);
-    let right = encrypt_in_place::<TAG_BYTES>(cipher, sealed, &ASSOCIATED_DATA);
+    let right = cipher.encrypt_in_place::<TAG_BYTES>(sealed, &ASSOCIATED_DATA);
     for index in 0..TAG_BYTES {
         let mut wrong = right;
         wrong[index] ^= 1;

@@ -23,7 +23,7 @@ fn check_keystream<R: Abort + AllocGlobal, const TAG_BYTES: usize>(
     let mut stream = [0xa5; 515];
     calls::stream::<TAG_BYTES>(&cipher, &mut stream);
     let mut sealed = [0; 515];
-    calls::encrypt_in_place::<TAG_BYTES>(&cipher, &mut sealed, &[]);
+    cipher.encrypt_in_place::<TAG_BYTES>(&mut sealed, &[]);
     assert_bytes(rt, &stream, &sealed, &variant);
 
     let mut buffer = MESSAGE;

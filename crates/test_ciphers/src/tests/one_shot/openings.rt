@@ -26,16 +26,16 @@ fn opens<R: Abort + AllocGlobal, const TAG_BYTES: usize>(
 {
     let cipher = calls::keyed(variant);
     let mut buffer = Vec::from_slice(rt.alloc(), message)?;
-    let tag = calls::encrypt_in_place::<TAG_BYTES>(&cipher, &mut buffer, ad);
-    let (sealed, tag_of_vector) = calls::encrypt::<_, TAG_BYTES>(&cipher, rt.alloc(), message, ad)?;
+    let tag = cipher.encrypt_in_place::<TAG_BYTES>(&mut buffer, ad);
+    let (sealed, tag_of_vector) = cipher.encrypt::<_, TAG_BYTES>(rt.alloc(), message, ad)?;
     assert_bytes(rt, &sealed, &buffer, &variant);
     assert_bytes(rt, &tag_of_vector, &tag, &variant);
 
     assert_eq!(rt; sealed.len(), message.len());
-    let opened = calls::decrypt(&cipher, rt.alloc(), &sealed, &tag, ad)?;
+    let opened = cipher.decrypt(rt.alloc(), &sealed, &tag, ad)?;
     assert_bytes(rt, &opened, message, &variant);
     assert_eq!(rt; buffer.len(), message.len());
-    calls::decrypt_in_place(&cipher, &mut buffer, &tag, ad)?;
+    cipher.decrypt_in_place(&mut buffer, &tag, ad)?;
     assert_bytes(rt, &buffer, message, &variant);
     Ok(())
 }
@@ -66,7 +66,7 @@ fn associated_data_in_pieces(rt: HostRuntime) -> Result<(), Fail> {
     for variant in VARIANTS {
         let cipher = calls::keyed(variant);
         let mut whole = [7; 33];
-        let tag = calls::encrypt_in_place::<16>(&cipher, &mut whole, &ad);
+        let tag = cipher.encrypt_in_place::<16>(&mut whole, &ad);
         for cut in [0, 1, 16, 40] {
             let (first, second) = ad.split_at(cut);
             let pieces: [&[u8]; 3] = [first, &[], second];

@@ -13,5 +13,5 @@ returns-clause-stands g c = rw (append-nil c.args.ad.now) at c.begin_with.ensure
 pub returns-clause-empty : goal.returns-clause-empty
 returns-clause-empty g c = ciphertext-none g.S.LaneState.VARIANT _
 
-pub returns-clause-data_bytes : goal.returns-clause-data_bytes
-returns-clause-data_bytes g c = rw (append-nil c.args.ad.now) at c.begin_with.ensures.data_bytes
+pub returns-clause-ad_bytes : goal.returns-clause-ad_bytes
+returns-clause-ad_bytes g c = rw (append-nil c.args.ad.now) at c.begin_with.ensures.ad_bytes

@@ -8,6 +8,6 @@ unfolding Stands
 returns-clause-lanes g c key nonce ad m stands j inside =
     let is = rw (← c.self.view_is) at stands in
     c.finish.ensures.lanes j inside
-    ∙ ap (λ (s : List (List ℕ)). finish g.S.LaneState.VARIANT.family s (8 * c.self.inside.data_bytes) (8 * c.self.inside.message_bytes))
+    ∙ ap (λ (s : List (List ℕ)). finish g.S.LaneState.VARIANT.family s (8 * c.self.inside.ad_bytes) (8 * c.self.inside.message_bytes))
     (c.padded.ensures.lanes key nonce ad m stands j inside)
     ∙ rw (is.0, is.1) refl

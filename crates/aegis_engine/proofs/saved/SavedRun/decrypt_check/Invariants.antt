@@ -10,7 +10,7 @@ invariant-loop-piece g l =
     record {
       can_next : (goal.iterator-loop-piece g).can_next l.piece-iterator;
       is_finite : (goal.iterator-loop-piece g).is_finite l.piece-iterator;
-      associated_data_within : l.self.data_bytes ≤ MAX_AEAD_BYTES;
+      associated_data_within : l.self.ad_bytes ≤ MAX_AEAD_BYTES;
       message_within : l.self.message_bytes + length (chunks_rest l.piece-iterator) ≤ MAX_AEAD_BYTES;
       checked : (so_far : List ℕ) × (so_far ++ chunks_rest l.piece-iterator ≡ l.c) × HasChecked L.VARIANT l.initial.self l.self so_far;
     }
