@@ -3,7 +3,8 @@
 # sums. Equal builds give equal bytes: files are sorted, and their times are that of the commit.
 set -euo pipefail
 version=$1 out=$2
-export SOURCE_DATE_EPOCH=${SOURCE_DATE_EPOCH:-$(git log -1 --format=%ct)}
+. tools/revision.sh
+export SOURCE_DATE_EPOCH=${SOURCE_DATE_EPOCH:-$(revision_time)}
 export LC_ALL=C TZ=UTC
 umask 022
 work=$out/dist/work
@@ -17,13 +18,16 @@ install_to() {
     "${MAKE:-make}" --no-print-directory -s "$@" DESTDIR="$PWD/$folder" OUT="$out" > /dev/null
 }
 
-# What was proved, by what.
+# What was proved, by what: the run of the gate that made these builds, if the sources are still those that it proved.
 proved() {
     cat dist/PROVED.md
     echo
-    echo "- Commit: ${COMMIT:-$(git rev-parse HEAD)}"
-    echo "- Proved by: $(rt version)"
-    echo "- The last whole run of the gate: $(sed -n 's/.*\*\*\([0-9]* passed[^*]*\)\.\*\*.*/\1/p' docs/GATE.md | head -n 1)"
+    echo "- Commit: ${COMMIT:-$(revision)}"
+    echo "- Proved by: $(rt version 2> /dev/null || echo 'not by this machine')"
+    if [ -z "${GATE_LINE-}" ] && python3 tools/proved.py check 2> /dev/null; then
+        GATE_LINE=$(cat out/proved-line)
+    fi
+    echo "- Proofs, edits, tests and programs of this revision in the gate: ${GATE_LINE:-not run here}"
 }
 
 # Gives all files of a folder the time of the commit.

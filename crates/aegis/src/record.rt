@@ -1,10 +1,10 @@
 //! Streams of numbered records over AEGIS-256 with tags of 32 bytes.
 //!
-//! A record stream seals a list of messages under a key, a prefix and a context: [`seal_records`] makes it and [`open_records`]
-//! returns the list. It is a header and a record for each message: a flag, 1 for the last record and otherwise 0, the message's
-//! length in four bytes, least byte first, the ciphertext, and the tag. The nonce of a record is the prefix and then the record's
-//! number in eight bytes; its associated data has the header, the number, in version 2 how many bytes the messages before it
-//! have, the flag and the context.
+//! A record stream seals a list of messages under a key, a prefix and a context: [`seal_records`] makes it and
+//! [`open_records`] returns the list. It is a header and a record for each message: a flag, 1 for the last record and
+//! otherwise 0, the message's length in four bytes, least byte first, the ciphertext, and the tag. The nonce of a
+//! record is the prefix and then the record's number in eight bytes; its associated data has the header, the number, in
+//! version 2 how many bytes the messages before it have, the flag and the context.
 //!
 //! A list that is sealed and opened again:
 //!
@@ -27,8 +27,9 @@
 //! }
 //! ```
 //!
-//! [`RecordSealer`] and [`RecordOpener`] seal and open a stream one record at a time; [`RecordSealer::seal_next_in_place`] and
-//! [`RecordOpener::open_next_in_place`] do so in the buffer that holds the record, and allocate nothing.
+//! [`RecordSealer`] and [`RecordOpener`] seal and open a stream one record at a time;
+//! [`RecordSealer::seal_next_in_place`] and [`RecordOpener::open_next_in_place`] do so in the buffer that holds the
+//! record, and allocate nothing.
 //!
 //! Not covered: that a prefix is used once under its key, which the caller has to ensure.
 mod error;

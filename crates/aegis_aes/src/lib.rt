@@ -1,8 +1,8 @@
 //! The AES round on blocks of sixteen bytes (FIPS 197), and rows of blocks, one for each lane of AEGIS.
 //!
 //! The source of a round indexes no memory by data, and `make check-time` tests the compiled code. The round is
-//! implemented twice, under one definition: `round` of the block types computes in the field, on all bytes of a vector at
-//! once, and [`Pair::update_from`], which the ciphers call, uses byte permutes and is several times as fast.
+//! implemented twice, under one definition: `round` of the block types computes in the field, on all bytes of a vector
+//! at once, and [`Pair::update_from`], which the ciphers call, uses byte permutes and is several times as fast.
 #![tactic(auto)]
 
 mod block;

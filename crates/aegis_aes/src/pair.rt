@@ -72,8 +72,8 @@ pub trait Pair: Copy {
         ensures { (h j : ℕ) → h < 2 → j < Self.Row.LANES
             → block result h j ≡ and (block self h j) (block other h j) };
 
-    /// Replaces each block by the block of `previous` at the same place after one AES round (FIPS 197, sections 5.1.1 to
-    /// 5.1.4), with the replaced block as its key.
+    /// Replaces each block by the block of `previous` at the same place after one AES round (FIPS 197, sections 5.1.1
+    /// to 5.1.4), with the replaced block as its key.
     fn update_from(&mut self, previous: &Self)
         ensures { (h j : ℕ) → h < 2 → j < Self.Row.LANES
             → block self.new h j ≡ round (block previous.now h j) (block self.old h j) };

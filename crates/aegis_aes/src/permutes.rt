@@ -1,5 +1,5 @@
-//! SubBytes by byte permutes: each half of a byte selects one of the 16 bytes of a constant vector, so that no memory is
-//! indexed by data. After Hamburg, "Accelerating AES with vector permute instructions" (2009).
+//! SubBytes by byte permutes: each half of a byte selects one of the 16 bytes of a constant vector, so that no memory
+//! is indexed by data. After Hamburg, "Accelerating AES with vector permute instructions" (2009).
 //!
 //! A byte is u + v * t, where u and v are in the subfield of 16 elements and t = 0x34 is a root of t^2 = a * t + a,
 //! with a = 0x0c. Elements of the subfield are represented by their coordinates in the powers 0 to 3 of its generator

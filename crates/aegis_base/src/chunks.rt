@@ -5,8 +5,8 @@ ghost use Rattle.aegis_base.specs.Chunks.{joined};
 
 use crate::error::{Error, MAX_AEAD_BYTES};
 
-/// Returns the length in bytes of a message of `total` bytes after `more` bytes, or [`Error::MessageTooLong`] exactly if
-/// it is more than [`MAX_AEAD_BYTES`].
+/// Returns the length in bytes of a message of `total` bytes after `more` bytes, or [`Error::MessageTooLong`] exactly
+/// if it is more than [`MAX_AEAD_BYTES`].
 pub fn counted(total: u64, more: u64) -> Result<u64, Error>
     requires { total ≤ MAX_AEAD_BYTES }
     ensures sum { IfOk result (λ sum. (sum ≡ total + more) × (sum ≤ MAX_AEAD_BYTES)) }

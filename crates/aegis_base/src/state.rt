@@ -17,8 +17,8 @@ use aegis_aes::{AesBlock, Row};
 /// as if it ran alone. A state also counts its updates since the start.
 ///
 /// A family implements the steps of the AEGIS specification, and the start, the end and the tags are composed of them
-/// here. The engine uses only `RATE`, `FIT_REGISTERS`, the names, `new`, `absorb`, `xor_keystream`, `finish`, `zeros`, the
-/// two tags and the two MAC tags.
+/// here. The engine uses only `RATE`, `FIT_REGISTERS`, the names, `new`, `absorb`, `xor_keystream`, `finish`, `zeros`,
+/// the two tags and the two MAC tags.
 pub trait LaneState: Copy {
     /// The type of a row: one block of each lane.
     type Row: Row;

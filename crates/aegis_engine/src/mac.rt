@@ -97,8 +97,8 @@ impl<S: LaneState> Run<S> {
     }
 }
 
-/// The MAC of an input that is there at once. The key and the nonce have the variant's length, and the input has at most
-/// [`MAX_AEAD_BYTES`].
+/// The MAC of an input that is there at once. The key and the nonce have the variant's length, and the input has at
+/// most [`MAX_AEAD_BYTES`].
 pub fn mac_at_once<S: LaneState, const TAG_BYTES: usize>(
     key: &[u8],
     nonce: &[u8],

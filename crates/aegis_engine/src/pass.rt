@@ -92,8 +92,8 @@ fn xor_part<S: LaneState>(state: &S, total: u64, buffer: &mut [u8], at: usize, c
     copy_part(buffer, at, &part, place, count);
 }
 
-/// Takes `count` more bytes of one rate block, beginning at place `at` of `bytes`, into the open block. If they fill it,
-/// the lanes are updated by it.
+/// Takes `count` more bytes of one rate block, beginning at place `at` of `bytes`, into the open block. If they fill
+/// it, the lanes are updated by it.
 #[inline(never)]
 pub fn absorb_part<S: LaneState>(
     state: &mut S,
@@ -187,8 +187,8 @@ fn absorb_zeros<S: LaneState>(state: &mut S)
     state.absorb(&ZEROS, 0);
 }
 
-// Updates the lanes by one rate block of a buffer: it is xored with the keystream of `before`, which are the lanes before
-// that, and the lanes take in the bytes that `pass` selects.
+// Updates the lanes by one rate block of a buffer: it is xored with the keystream of `before`, which are the lanes
+// before that, and the lanes take in the bytes that `pass` selects.
 #[inline(always)]
 fn pass_block<S: LaneState>(before: S, state: &mut S, pass: Pass, buffer: &mut [u8], at: usize)
     requires within { at + S.RATE ≤ length buffer.old }

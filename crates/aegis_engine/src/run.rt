@@ -69,8 +69,8 @@ fn filling<S: LaneState>(total: u64, count: usize) -> usize
     }
 }
 
-/// The lanes after the next bytes of an input that is not encrypted, of which they have taken in `total`. The open block
-/// is filled where it lies.
+/// The lanes after the next bytes of an input that is not encrypted, of which they have taken in `total`. The open
+/// block is filled where it lies.
 #[inline(always)]
 pub fn absorb_bytes<S: LaneState>(state: S, block: &mut RateBlock, total: u64, bytes: &[u8]) -> S
     requires within { total + length bytes.now < 2 ^ 64 }

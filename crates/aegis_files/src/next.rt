@@ -42,8 +42,8 @@ fn read_record<R: Read, A: Allocator>(
     fill_part(input, buffer, RECORD_HEAD_BYTES, len)
 }
 
-// Reads the next record, and opens it where it lies: at the front of the buffer, which is made longer only if the record
-// needs more.
+// Reads the next record, and opens it where it lies: at the front of the buffer, which is made longer only if the
+// record needs more.
 pub(crate) fn next_message<R: Read, A: Allocator>(
     input: &mut R,
     opener: &mut RecordOpener<'_>,

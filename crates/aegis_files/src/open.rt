@@ -66,9 +66,9 @@ pub(crate) fn end<R: Read>(input: &mut R) -> Result<(), FileError>
 /// verified.
 ///
 /// Returns `Ok` only if the whole input is the file of the text that was written. A file is refused only if it is not
-/// the file of any text, and the error is then its first fault, or if memory runs out. After any error, whatever the file
-/// is, only the messages of verified records at its beginning were written, all of them unless a write failed: a front of
-/// the file's text, if it has one. A caller that needs the whole text must discard it.
+/// the file of any text, and the error is then its first fault, or if memory runs out. After any error, whatever the
+/// file is, only the messages of verified records at its beginning were written, all of them unless a write failed: a
+/// front of the file's text, if it has one. A caller that needs the whole text must discard it.
 ///
 /// The context must have at most [`MAX_CONTEXT_BYTES`]. Memory is allocated for one record, which is opened where it
 /// lies. In a file that someone else made with the key, it can have up to 16 MiB.

@@ -42,8 +42,8 @@ pub fn fill<R: Read>(input: &mut R, buffer: &mut [u8]) -> Result<usize, FileErro
 // writes, so that its bytes come in one step.
 const STEP_BYTES: usize = RECORD_BYTES as usize + PIECE_BYTES;
 
-// Reads the bytes `from..to` of the buffer, or all that are left of the input, and returns where they end. The buffer is
-// made longer if it is shorter than that, and is not filled again.
+// Reads the bytes `from..to` of the buffer, or all that are left of the input, and returns where they end. The buffer
+// is made longer if it is shorter than that, and is not filled again.
 fn fill_step<R: Read, A: Allocator>(
     input: &mut R,
     buffer: &mut Vec<u8, A>,

@@ -79,11 +79,12 @@ fn rekey_under<'a, R: Read, W: Write, A: Allocator + Copy>(
 /// [`FileError::TooLong`] only if the input's record stream has more than [`aegis::MAX_AEAD_BYTES`].
 ///
 /// After an error, a front of a file under the new key was written, whose messages are those of verified records at the
-/// input's beginning. If it is a file that opens, it has the input's whole text, and a write or the flush failed; so after
-/// any other error it is the file of no text.
+/// input's beginning. If it is a file that opens, it has the input's whole text, and a write or the flush failed; so
+/// after any other error it is the file of no text.
 ///
-/// Under one key, a prefix must be used for one file only. The context must have at most [`MAX_CONTEXT_BYTES`]. Memory is
-/// allocated for one record and the new record. In a file that someone else made with the key, each can have up to 16 MiB.
+/// Under one key, a prefix must be used for one file only. The context must have at most [`MAX_CONTEXT_BYTES`]. Memory
+/// is allocated for one record and the new record. In a file that someone else made with the key, each can have up to
+/// 16 MiB.
 pub fn rekey_stream<R: Read, W: Write, A: Allocator + Copy>(
     alloc: A,
     key: &Key,

@@ -1,5 +1,5 @@
-//! The notes that `--help` ends with, and the manual page and the completions for shells, made of the description of the
-//! command line.
+//! The notes that `--help` ends with, and the manual page and the completions for shells, made of the description of
+//! the command line.
 
 use crate::command::users_commands;
 use crate::failure::{Failure, printed};

@@ -1,10 +1,10 @@
 //! Where a command writes. A file gets its name only once it is complete.
 //!
-//! A file OUT is written under a name of its own beside it, `.OUT.hunkravy-` and 16 hexadecimal digits that are drawn at
-//! random. It is created there, synced, and linked to the name OUT, which fails if there is such a file by then; to replace
-//! one it is renamed. Then the folder is synced. So OUT is the complete file, or as it was before, and no file that
-//! another created is opened, removed or replaced, but OUT by `--force`. If OUT is a link, all this happens beside the
-//! file that it leads to. A device, a pipe or a socket is written directly.
+//! A file OUT is written under a name of its own beside it, `.OUT.hunkravy-` and 16 hexadecimal digits that are drawn
+//! at random. It is created there, synced, and linked to the name OUT, which fails if there is such a file by then; to
+//! replace one it is renamed. Then the folder is synced. So OUT is the complete file, or as it was before, and no file
+//! that another created is opened, removed or replaced, but OUT by `--force`. If OUT is a link, all this happens beside
+//! the file that it leads to. A device, a pipe or a socket is written directly.
 
 use crate::command::Place;
 use crate::failure::Failure;

@@ -1,5 +1,5 @@
-//! A part of the text of a sealed file: the record in which it begins is found by the lengths of those before it, which are
-//! not verified. What is said of the part is said by the records that were opened.
+//! A part of the text of a sealed file: the record in which it begins is found by the lengths of those before it, which
+//! are not verified. What is said of the part is said by the records that were opened.
 
 ghost use Rattle.std.specs.Prelude.{◌<◌, ◌≤◌};
 ghost use Rattle.std.specs.Bool.{OnTrue};
@@ -143,8 +143,8 @@ fn find(lengths: &RecordOpener<'_>, file: &mut File, target: Target) -> Result<F
     Err(FileError::TooLong)
 }
 
-// The range of a part by bytes. A record of the first version is not sealed at the byte of the text at which it begins, so
-// there all records are opened.
+// The range of a part by bytes. A record of the first version is not sealed at the byte of the text at which it begins,
+// so there all records are opened.
 fn range_of_bytes(
     lengths: &RecordOpener<'_>,
     file: &mut File,
@@ -164,7 +164,8 @@ fn range_of_bytes(
     })
 }
 
-// The range of a part by records. If the last record comes before it, that one is opened for its place, and for no text.
+// The range of a part by records. If the last record comes before it, that one is opened for its place, and for no
+// text.
 fn range_of_records(
     lengths: &RecordOpener<'_>,
     file: &mut File,
@@ -189,8 +190,8 @@ fn range_of_records(
     }
 }
 
-/// Finds the record in which a part of the text begins, and goes to its first byte. The file's key is not used: the lengths
-/// are not authenticated until the records are opened.
+/// Finds the record in which a part of the text begins, and goes to its first byte. The file's key is not used: the
+/// lengths are not authenticated until the records are opened.
 pub fn start_of(file: &mut File, span: Span) -> Result<Start, FileError> {
     let mut prefix = [0; 24];
     read(file, &mut prefix, RecordError::Header)?;

@@ -192,8 +192,8 @@ impl AnyCipher {
         }
     }
 
-    /// Seals a message in place: `mc` is the message before the call and the ciphertext after it. Returns the tag, which
-    /// covers the associated data `ad` too.
+    /// Seals a message in place: `mc` is the message before the call and the ciphertext after it. Returns the tag,
+    /// which covers the associated data `ad` too.
     pub fn encrypt_in_place<const TAG_BYTES: usize>(
         &self,
         mc: &mut [u8],
@@ -209,8 +209,8 @@ impl AnyCipher {
 
     /// Opens a ciphertext in place: `mc` is the ciphertext before the call and the message after it.
     ///
-    /// The only error is [`Error::InvalidTag`], if no message is sealed to the ciphertext and the tag. Every byte of `mc`
-    /// is then [`ERASED`].
+    /// The only error is [`Error::InvalidTag`], if no message is sealed to the ciphertext and the tag. Every byte of
+    /// `mc` is then [`ERASED`].
     pub fn decrypt_in_place<const TAG_BYTES: usize>(
         &self,
         mc: &mut [u8],
@@ -252,8 +252,8 @@ impl AnyCipher {
 
     /// Opens a ciphertext into a new vector.
     ///
-    /// Returns [`Error::OutOfMemory`] before any byte is processed, and otherwise [`Error::InvalidTag`] if no message is
-    /// sealed to the ciphertext and the tag. With an error, no byte of the message is returned.
+    /// Returns [`Error::OutOfMemory`] before any byte is processed, and otherwise [`Error::InvalidTag`] if no message
+    /// is sealed to the ciphertext and the tag. With an error, no byte of the message is returned.
     pub fn decrypt<A: Allocator, const TAG_BYTES: usize>(
         &self,
         alloc: A,

@@ -1,5 +1,5 @@
-//! A worked example of each family, under the keys of `calls` and nonces of zeros. The ciphertexts and tags were not made
-//! by the library.
+//! A worked example of each family, under the keys of `calls` and nonces of zeros. The ciphertexts and tags were not
+//! made by the library.
 
 /// The message.
 pub const MESSAGE: [u8; 114] =

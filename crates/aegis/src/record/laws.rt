@@ -1,5 +1,5 @@
-//! Laws of record streams: functions that do nothing, and whose contracts are facts about the definitions that the other
-//! contracts cite.
+//! Laws of record streams: functions that do nothing, and whose contracts are facts about the definitions that the
+//! other contracts cite.
 
 ghost use Rattle.std.specs.Prelude.{◌≡◌, ◌<◌, ◌++◌, List, length, ℕ};
 ghost use Rattle.aegis.specs.Fault.{IsOneFault};
@@ -9,8 +9,8 @@ ghost use Rattle.aegis.specs.RecordStream.{IsOneRecordStream, records_length};
 ghost use Rattle.aegis.specs.declared.record.error.RecordError.TheVariants.{Trailing};
 ghost use Rattle.aegis.specs.declared.record.version.Version.{Version};
 
-/// Under one key, prefix and context two lists of messages, or two versions, never have the same stream, and no stream is a
-/// proper prefix of another.
+/// Under one key, prefix and context two lists of messages, or two versions, never have the same stream, and no stream
+/// is a proper prefix of another.
 pub fn one_record_stream()
     ensures { (key prefix context : List ℕ) → IsOneRecordStream (sealed key prefix context) }
 {}
@@ -35,8 +35,8 @@ pub fn begun_lengths()
         → length bytes ≡ start_of p }
 {}
 
-/// The messages before the last record are a proper prefix of the list of any stream that begins with the same bytes, so no
-/// stream ends there.
+/// The messages before the last record are a proper prefix of the list of any stream that begins with the same bytes,
+/// so no stream ends there.
 pub fn begun_is_a_front()
     ensures { (p : Progress) (key prefix context : List ℕ)
         (ms : List (List ℕ)) (bytes : List ℕ) → Begun p key prefix context ms bytes

@@ -62,10 +62,11 @@ fn reseal<A: Allocator + Copy>(
 /// Opens a stream of either version, and seals its messages again in version 2 under another prefix of the same key.
 ///
 /// The two prefixes must differ, since a stream uses all nonces that begin with its prefix. The context has at most
-/// [`MAX_CONTEXT_BYTES`], and the stream at most `MAX_AEAD_BYTES`, so that the new one, which is as long, can be sealed.
+/// [`MAX_CONTEXT_BYTES`], and the stream at most `MAX_AEAD_BYTES`, so that the new one, which is as long, can be
+/// sealed.
 ///
-/// The error is that of [`open_records`](crate::record::open_records) under the old prefix, or [`RecordError::OutOfMemory`]. One
-/// message at a time is in memory beside the new stream.
+/// The error is that of [`open_records`](crate::record::open_records) under the old prefix, or
+/// [`RecordError::OutOfMemory`]. One message at a time is in memory beside the new stream.
 pub fn migrate<A: Allocator + Copy>(
     alloc: A,
     key: &Key,

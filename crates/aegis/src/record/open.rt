@@ -100,11 +100,12 @@ fn open_each<A: Allocator + Copy>(
 
 /// Opens a stream, of the version of its header, and returns the list of messages whose stream the bytes are.
 ///
-/// It returns `Ok` exactly if there is such a list, unless memory runs out. Otherwise the error is the first fault of the
-/// bytes, read from the start; [`RecordError::Damaged`] has the number of a record that no message is sealed to. After an error
-/// no message is returned, not even those of the records before the fault.
+/// It returns `Ok` exactly if there is such a list, unless memory runs out. Otherwise the error is the first fault of
+/// the bytes, read from the start; [`RecordError::Damaged`] has the number of a record that no message is sealed to.
+/// After an error no message is returned, not even those of the records before the fault.
 ///
-/// The context has at most [`MAX_CONTEXT_BYTES`]. Memory is taken for the messages, a vector each, and for the list of them.
+/// The context has at most [`MAX_CONTEXT_BYTES`]. Memory is taken for the messages, a vector each, and for the list of
+/// them.
 pub fn open_records<A: Allocator + Copy>(
     alloc: A,
     key: &Key,

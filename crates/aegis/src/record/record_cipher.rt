@@ -19,8 +19,8 @@ use std::alloc::Allocator;
 /// How many bytes the context of a stream may have.
 pub const MAX_CONTEXT_BYTES: usize = 65_535;
 
-// A message is copied and sealed in updates of this many bytes: so few that a copy waits for memory while rounds run. Of the
-// lengths from 128 to 65536 it is the fastest for AEGIS-256.
+// A message is copied and sealed in updates of this many bytes: so few that a copy waits for memory while rounds run.
+// Of the lengths from 128 to 65536 it is the fastest for AEGIS-256.
 const UPDATE_BYTES: usize = 256;
 
 /// What all records of a stream are sealed under.
@@ -157,7 +157,8 @@ impl RecordCipher<'_> {
         Ok(())
     }
 
-    /// Seals a message in place: `sealed` has the message and then 32 bytes, over which its ciphertext and its tag are written.
+    /// Seals a message in place: `sealed` has the message and then 32 bytes, over which its ciphertext and its tag are
+    /// written.
     pub fn seal_in_place(&self, place: RecordPlace, sealed: &mut [u8])
         requires context { length self.now.context.now ≤ MAX_CONTEXT_BYTES }
         requires long { 32 ≤ length sealed.old }

@@ -33,15 +33,15 @@ pub struct Opened<'b, A: Allocator> {
     pub rest: &'b [u8],
 }
 
-/// Opens a stream, of the version that its header names, a record at a time: each message is returned before the bytes of the
-/// next record are needed, so a stream of any length is opened in the memory of one record.
+/// Opens a stream, of the version that its header names, a record at a time: each message is returned before the bytes
+/// of the next record are needed, so a stream of any length is opened in the memory of one record.
 ///
-/// The messages that are returned before the last record are a proper prefix of the list of any stream that begins with the
-/// same bytes. A stream that was cut off is [`RecordError::Truncated`] only at the cut, so a caller that needs all of the
-/// messages must wait for the last one.
+/// The messages that are returned before the last record are a proper prefix of the list of any stream that begins with
+/// the same bytes. A stream that was cut off is [`RecordError::Truncated`] only at the cut, so a caller that needs all
+/// of the messages must wait for the last one.
 ///
-/// In a contract an opener stands for a `Progress`: the key, prefix and context, the version, the next record's number, how
-/// many bytes the messages before it have, and whether the last record was opened. `Begun` relates it to those
+/// In a contract an opener stands for a `Progress`: the key, prefix and context, the version, the next record's number,
+/// how many bytes the messages before it have, and whether the last record was opened. `Begun` relates it to those
 /// messages and bytes.
 #[derive(Drop)]
 pub struct RecordOpener<'a> {
@@ -77,7 +77,8 @@ impl<'a> Model for RecordOpener<'a> {
 impl<'a> RecordOpener<'a> {
     /// Begins to open a stream. `header` is its first 4 bytes, or all of its bytes if it has fewer.
     ///
-    /// The context has at most [`MAX_CONTEXT_BYTES`]. The only error is [`RecordError::Header`], if no version has this header.
+    /// The context has at most [`MAX_CONTEXT_BYTES`]. The only error is [`RecordError::Header`], if no version has this
+    /// header.
     pub fn new(
         key: &'a Key,
         prefix: &'a [u8; 24],
@@ -113,11 +114,13 @@ impl<'a> RecordOpener<'a> {
 
     /// Begins to open a stream at one of its records.
     ///
-    /// The opener opens the records at this position and after it, of a stream under this key, prefix and context. Nothing is
-    /// known of the records before them, nor that the stream is whole, unless its last record is opened. A position is not
-    /// secret. At a wrong one `Ok` still means that the message is sealed to the bytes at just this position.
+    /// The opener opens the records at this position and after it, of a stream under this key, prefix and context.
+    /// Nothing is known of the records before them, nor that the stream is whole, unless its last record is opened. A
+    /// position is not secret. At a wrong one `Ok` still means that the message is sealed to the bytes at just this
+    /// position.
     ///
-    /// The context has at most [`MAX_CONTEXT_BYTES`], and the record starts at byte [`MAX_AEAD_BYTES`] of the stream at most.
+    /// The context has at most [`MAX_CONTEXT_BYTES`], and the record starts at byte [`MAX_AEAD_BYTES`] of the stream at
+    /// most.
     pub fn begin_at(
         key: &'a Key,
         prefix: &'a [u8; 24],
@@ -161,8 +164,8 @@ impl<'a> RecordOpener<'a> {
 
     /// Returns how many bytes the next record has, from its first five bytes.
     ///
-    /// The bytes are not authenticated. The error is [`RecordError::Flag`] or [`RecordError::TooLong`]: the fault of any record
-    /// that begins with them.
+    /// The bytes are not authenticated. The error is [`RecordError::Flag`] or [`RecordError::TooLong`]: the fault of
+    /// any record that begins with them.
     pub fn record_len(&self, head: &[u8; 5]) -> Result<usize, RecordError>
         ensures least { IfOk result (λ n. RECORD_BYTES ≤ n) }
         ensures most { IfOk result (λ n. n ≤ RECORD_BYTES + MAX_MESSAGE_BYTES) }
@@ -185,10 +188,11 @@ impl<'a> RecordOpener<'a> {
         Ok(head.len() + length as usize + TAG_BYTES)
     }
 
-    /// Opens the next record, which `bytes` begin with. They have at least that record, or all that is left of the stream.
+    /// Opens the next record, which `bytes` begin with. They have at least that record, or all that is left of the
+    /// stream.
     ///
-    /// The error is the first fault of the stream, or [`RecordError::OutOfMemory`], and leaves the opener as it was. After the
-    /// last record it is always [`RecordError::Trailing`].
+    /// The error is the first fault of the stream, or [`RecordError::OutOfMemory`], and leaves the opener as it was.
+    /// After the last record it is always [`RecordError::Trailing`].
     pub fn open_next<'b, A: Allocator>(
         &mut self,
         alloc: A,
@@ -225,8 +229,8 @@ impl<'a> RecordOpener<'a> {
 
     /// Opens the record at a position, which `bytes` begin with.
     ///
-    /// The message is the one whose record at this position, under this key, prefix and context, `bytes` begin with. Nothing is
-    /// known of the other records, nor that the stream is whole. The error is the fault of the record, as
+    /// The message is the one whose record at this position, under this key, prefix and context, `bytes` begin with.
+    /// Nothing is known of the other records, nor that the stream is whole. The error is the fault of the record, as
     /// [`RecordError::Damaged`] if no message is sealed to it at this position, or [`RecordError::OutOfMemory`].
     pub fn open_at<'b, A: Allocator>(
         &self,

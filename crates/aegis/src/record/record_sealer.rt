@@ -65,15 +65,17 @@ fn seal_record<A: Allocator>(
 
 /// Seals a stream a record at a time, in version 2.
 ///
-/// Each call appends one record to a vector, which the caller may write out and clear before the next call, or seals a message
-/// in the buffer that holds it; so a stream of any length is sealed in the memory of one record. The header and the records,
-/// one after the other, are the stream that [`seal_records`](crate::record::seal_records) makes of the list of messages.
+/// Each call appends one record to a vector, which the caller may write out and clear before the next call, or seals a
+/// message in the buffer that holds it; so a stream of any length is sealed in the memory of one record. The header and
+/// the records, one after the other, are the stream that [`seal_records`](crate::record::seal_records) makes of the
+/// list of messages.
 ///
-/// Only the sealer that began a stream appends to it. No call begins a sealer at a given number, since a number that is used
-/// twice under one prefix reveals information about both messages, and may allow forgeries. To change what was sealed, seal a new stream under a new prefix.
+/// Only the sealer that began a stream appends to it. No call begins a sealer at a given number, since a number that is
+/// used twice under one prefix reveals information about both messages, and may allow forgeries. To change what was
+/// sealed, seal a new stream under a new prefix.
 ///
-/// In a contract a sealer stands for a `Progress`: the key, prefix and context, the next record's number, and how many bytes
-/// the messages before it have. `Begun` relates it to those messages and bytes.
+/// In a contract a sealer stands for a `Progress`: the key, prefix and context, the next record's number, and how many
+/// bytes the messages before it have. `Begun` relates it to those messages and bytes.
 #[derive(Drop)]
 pub struct RecordSealer<'a> {
     cipher: RecordCipher<'a>,
@@ -144,8 +146,8 @@ impl<'a> RecordSealer<'a> {
         MAX_AEAD_BYTES - (HEADER_BYTES + RECORD_BYTES * self.number + self.before)
     }
 
-    /// Returns the position of the next record, at which [`RecordOpener::open_at`](crate::record::RecordOpener::open_at) opens
-    /// it without the records before it.
+    /// Returns the position of the next record, at which
+    /// [`RecordOpener::open_at`](crate::record::RecordOpener::open_at) opens it without the records before it.
     pub fn position(&self) -> RecordPosition
         ensures { result ≡ position_of self.now }
     {
@@ -159,9 +161,9 @@ impl<'a> RecordSealer<'a> {
     /// Appends the record of the next message, which is not the last one, to `out`.
     ///
     /// A message has at most [`MAX_MESSAGE_BYTES`], and the whole stream at most [`MAX_AEAD_BYTES`], of which
-    /// [`RecordSealer::remaining`] are left. [`RecordError::OutOfMemory`] is the only error; the sealer and `out` are then as
-    /// they were. The next call uses the same record number, so `out`'s spare memory must not be given to anyone if the next
-    /// message differs from that of the failed call.
+    /// [`RecordSealer::remaining`] are left. [`RecordError::OutOfMemory`] is the only error; the sealer and `out` are
+    /// then as they were. The next call uses the same record number, so `out`'s spare memory must not be given to
+    /// anyone if the next message differs from that of the failed call.
     pub fn seal_next<A: Allocator>(
         &mut self,
         message: &[u8],
@@ -197,11 +199,11 @@ impl<'a> RecordSealer<'a> {
         Ok(())
     }
 
-    /// Appends the record of the last message to `out`, and ends the stream: the sealer is taken by value, so no record can
-    /// follow.
+    /// Appends the record of the last message to `out`, and ends the stream: the sealer is taken by value, so no record
+    /// can follow.
     ///
-    /// The limits are those of [`RecordSealer::seal_next`], so what was sealed can be opened. [`RecordError::OutOfMemory`] is the
-    /// only error; `out` is then as it was, and the stream has no end.
+    /// The limits are those of [`RecordSealer::seal_next`], so what was sealed can be opened.
+    /// [`RecordError::OutOfMemory`] is the only error; `out` is then as it was, and the stream has no end.
     pub fn seal_last<A: Allocator>(
         self,
         message: &[u8],

@@ -14,11 +14,12 @@ use crate::record::record_cipher::MAX_CONTEXT_BYTES;
 use crate::record::record_sealer::RecordSealer;
 use std::alloc::Allocator;
 
-/// Returns the stream of the messages, in version 2, under a key, a prefix and a context. There is at least one message.
+/// Returns the stream of the messages, in version 2, under a key, a prefix and a context. There is at least one
+/// message.
 ///
-/// A message has at most [`MAX_MESSAGE_BYTES`] and the context [`MAX_CONTEXT_BYTES`], and [`records_len`] must return a number,
-/// which is the length of the stream. [`RecordError::OutOfMemory`] is the only error. Memory is taken once, for the
-/// whole stream, in which the messages are sealed piece by piece.
+/// A message has at most [`MAX_MESSAGE_BYTES`] and the context [`MAX_CONTEXT_BYTES`], and [`records_len`] must return a
+/// number, which is the length of the stream. [`RecordError::OutOfMemory`] is the only error. Memory is taken once, for
+/// the whole stream, in which the messages are sealed piece by piece.
 pub fn seal_records<A: Allocator + Copy>(
     alloc: A,
     key: &Key,

@@ -211,8 +211,8 @@ fn only_the_records_of_the_part_are_read(rt: HostRuntime) -> Result<(), Fail> {
     Ok(())
 }
 
-// A part opens though a record after it is damaged or cut off. One that reaches it is refused, after its bytes in front of
-// that were written.
+// A part opens though a record after it is damaged or cut off. One that reaches it is refused, after its bytes in front
+// of that were written.
 #[test]
 fn records_after_the_part_need_not_be_whole(rt: HostRuntime) -> Result<(), Fail> {
     let mut file = three_records(rt.alloc(), &KEY, &PREFIX)?;

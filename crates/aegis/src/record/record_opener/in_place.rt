@@ -27,8 +27,8 @@ pub struct OpenedInPlace {
     pub is_last: bool,
 }
 
-/// Opens the record at its place that the bytes begin with, where it lies. Returns its flag, and how many bytes its message
-/// has.
+/// Opens the record at its place that the bytes begin with, where it lies. Returns its flag, and how many bytes its
+/// message has.
 ///
 /// The error is the fault of the record. If it is [`RecordError::Damaged`], every byte of the ciphertext is
 /// [`ERASED`](crate::ERASED), and after any other error the bytes are as they were.
@@ -72,13 +72,14 @@ pub fn open_record_in_place(
 }
 
 impl RecordOpener<'_> {
-    /// Opens the next record, which `bytes` begin with, in place: its message is written over its ciphertext. `bytes` have at
-    /// least that record, or all that is left of the stream.
+    /// Opens the next record, which `bytes` begin with, in place: its message is written over its ciphertext. `bytes`
+    /// have at least that record, or all that is left of the stream.
     ///
     /// This is [`RecordOpener::open_next`] with no vector: it allocates nothing, and never returns
-    /// [`RecordError::OutOfMemory`]. The error is the first fault of the stream, and leaves the opener as it was. If it is
-    /// [`RecordError::Damaged`], every byte of the ciphertext is [`ERASED`](crate::ERASED) and the others are as they were; after
-    /// any other error `bytes` are as they were. After the last record the error is always [`RecordError::Trailing`].
+    /// [`RecordError::OutOfMemory`]. The error is the first fault of the stream, and leaves the opener as it was. If it
+    /// is [`RecordError::Damaged`], every byte of the ciphertext is [`ERASED`](crate::ERASED) and the others are as
+    /// they were; after any other error `bytes` are as they were. After the last record the error is always
+    /// [`RecordError::Trailing`].
     pub fn open_next_in_place(&mut self, bytes: &mut [u8]) -> Result<OpenedInPlace, RecordError>
         requires { start_of self.old + length bytes.old ≤ MAX_AEAD_BYTES }
         ensures opened { IfOk result (λ opened. OpensNext self.old self.new bytes.old

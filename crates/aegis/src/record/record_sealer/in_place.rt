@@ -13,8 +13,8 @@ use crate::record::record_sealer::{RecordSealer, WRITTEN};
 use crate::record::version::MAX_MESSAGE_BYTES;
 use aegis_base::MAX_AEAD_BYTES;
 
-/// Seals a record at its place where its message lies: `buffer` has [`RECORD_HEAD_BYTES`] for the head, the message, and 32
-/// bytes for the tag, and becomes the record.
+/// Seals a record at its place where its message lies: `buffer` has [`RECORD_HEAD_BYTES`] for the head, the message,
+/// and 32 bytes for the tag, and becomes the record.
 pub fn seal_record_in_place(cipher: &RecordCipher<'_>, place: RecordPlace, buffer: &mut [u8])
     requires context { length cipher.now.context.now ≤ MAX_CONTEXT_BYTES }
     requires room { RECORD_BYTES ≤ length buffer.old }
@@ -27,10 +27,11 @@ pub fn seal_record_in_place(cipher: &RecordCipher<'_>, place: RecordPlace, buffe
 }
 
 impl RecordSealer<'_> {
-    /// Seals the next message, which is not the last one, where it lies: `buffer` has [`RECORD_HEAD_BYTES`] for the head, the
-    /// message, and 32 bytes for the tag, and becomes its record.
+    /// Seals the next message, which is not the last one, where it lies: `buffer` has [`RECORD_HEAD_BYTES`] for the
+    /// head, the message, and 32 bytes for the tag, and becomes its record.
     ///
-    /// This is [`RecordSealer::seal_next`] with no vector, and has the same limits. It allocates nothing, and has no error.
+    /// This is [`RecordSealer::seal_next`] with no vector, and has the same limits. It allocates nothing, and has no
+    /// error.
     pub fn seal_next_in_place(&mut self, buffer: &mut [u8])
         requires room { RECORD_BYTES ≤ length buffer.old }
         requires within { length buffer.old ≤ RECORD_BYTES + MAX_MESSAGE_BYTES }

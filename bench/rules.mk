@@ -1,0 +1,55 @@
+# The measurements, which write the tables of bench/.
+.PHONY: bench bench-peers bench-states bench-tool bench-pages
+
+# One level is measured, x86-64-v2 unless CPU gives another, and the code that the library is compared with is built for
+# it too. Without `no-vectorize-slp` the compiler gathers look-ups into vectors, which makes the four tables a third
+# slower at four lanes.
+RUSTC = rustc -O --edition 2024
+BENCH_CPU = $(or $(CPU),x86-64-v2)
+BENCH_FOLDER = $(if $(filter x86-64-v2,$(BENCH_CPU)),bench,bench/$(BENCH_CPU))
+
+$(OUT)/%/driver: $(wildcard bench/*.rs $(STORED_LINES)/*) rust/src/exports.rs $(OUT)/%/libhunkravy.a
+	CPU=$* $(RUSTC) $(if $(filter x86-64%,$*),-C target-cpu=$*) -C no-vectorize-slp bench/driver.rs \
+		-L native=$(OUT)/$* -l static=hunkravy -o $@
+
+# Compares the library with look-up tables and AES instructions, with libsodium if it is installed, the chunked calls and
+# record streams with the one-shot calls, and sealed pages with a plain file. Writes the tables of BENCH_FOLDER and of
+# bench/.
+bench: $(OUT)/$(BENCH_CPU)/driver bench-peers bench-states bench-tool bench-pages
+	mkdir -p $(BENCH_FOLDER)
+	$< $(BENCH_FOLDER)
+	cd crates/bench_calls && rt run -- bench > ../../$(OUT)/speeds
+	(cat bench/calls.md.in; grep '^| aegis' $(OUT)/speeds) > bench/CALLS.md
+	(cat bench/records.md.in; grep '^| 16 MiB' $(OUT)/speeds) > bench/RECORDS.md
+
+bench-pages: | $(OUT)
+	cd crates/bench_pages && rt run --cpu=$(BENCH_CPU) -- /dev/shm/hunkravy-bench > ../../$(OUT)/pages
+	mkdir -p $(BENCH_FOLDER)
+	(cat bench/pages.md.in; grep '^|' $(OUT)/pages) > $(BENCH_FOLDER)/PAGES.md
+
+bench-states: $(OUT)/$(BENCH_CPU)/libhunkravy.a
+	mkdir -p $(BENCH_FOLDER)
+	$(CC) -std=c11 -O2 $(C_FLAGS) bench/states.c $< -o $(OUT)/$(BENCH_CPU)/states
+	($(OUT)/$(BENCH_CPU)/states > $(OUT)/$(BENCH_CPU)/states.md) && \
+		cat bench/states.md.in $(OUT)/$(BENCH_CPU)/states.md > $(BENCH_FOLDER)/STATES.md
+
+# Measures the file tool, at each level that this machine has.
+bench-tool: $(RUNNABLE:%=$(OUT)/%/pieces) $(RUNNABLE:%=$(OUT)/%/hunkravy)
+	(cat bench/tool.md.in; for level in $(RUNNABLE); do \
+		tools/measure_tool.sh $$level $(OUT)/$$level/hunkravy $(OUT)/$$level/pieces || exit 1; \
+	done) > $(OUT)/tool.md
+	cp $(OUT)/tool.md bench/TOOL.md
+
+$(OUT)/%/pieces: bench/pieces.c $(OUT)/%/libhunkravy.a
+	$(CC) -std=c11 -O2 $(C_FLAGS) $^ -o $@
+
+bench-peers: $(OUT)/$(BENCH_CPU)/libhunkravy.a
+	if pkg-config --exists libsodium; then \
+		$(CC) -std=c11 -O2 $(C_FLAGS) bench/peers.c $< $$(pkg-config --cflags --libs libsodium) -o $(OUT)/$(BENCH_CPU)/peers && \
+		$(OUT)/$(BENCH_CPU)/peers > $(OUT)/$(BENCH_CPU)/peers.md && \
+		cat bench/peers.md.in $(OUT)/$(BENCH_CPU)/peers.md > $(BENCH_FOLDER)/PEERS.md && \
+		$(RUSTC) bench/peers_picture.rs -o $(OUT)/peers-picture && \
+		$(OUT)/peers-picture $(BENCH_CPU) < $(BENCH_FOLDER)/PEERS.md > $(BENCH_FOLDER)/peers.svg; \
+	else \
+		echo 'libsodium is not installed, so it is not measured'; \
+	fi

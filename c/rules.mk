@@ -1,0 +1,185 @@
+# The C library, for Linux, and its tests. What follows builds with stock gcc, and proves nothing but that library.
+.PHONY: c-library install check-c check-c-aarch64 check-header check-c++ check-shared check-level check-sodium check-time check-install \
+	gcc-aarch64-linux-gnu qemu-user
+
+CC = gcc
+C_FLAGS = -Wall -Wextra -Wpedantic -Werror -Ic/include
+SANITIZERS = -O1 -g -fsanitize=address,undefined -fno-sanitize-recover
+
+# The platform. If TARGET is that of ARM, there is one build, and its programs run here under an emulator.
+TARGET = x86_64-unknown-linux-gnu
+ARM = aarch64-unknown-linux-gnu
+TOOLS_aarch64 = aarch64-linux-gnu-
+RUN_aarch64 = qemu-aarch64 -L /usr/aarch64-linux-gnu
+
+# The folder of the library below OUT.
+FOLDER_x86_64-unknown-linux-gnu = $(or $(CPU),both)
+FOLDER_$(ARM) = aarch64
+FOLDER = $(or $(FOLDER_$(TARGET)),$(error TARGET is x86_64-unknown-linux-gnu or $(ARM)))
+LIBRARY = $(OUT)/$(FOLDER)/libhunkravy.a
+
+STORED_LINES = crates/test_agreement/data
+OWN_HEADERS = hunkravy.h hunkravy_records.h hunkravy_pages.h
+HEADERS = $(OWN_HEADERS) aegis_compat.h sodium_compat.h
+C_EXAMPLES = seal chunks records pages libaegis libaegis_chunks libsodium
+
+# The names that the library exports: the calls that its headers declare.
+EXPORTS = sed -nE 's/^(HUNKRAVY_MUST_USE )?(int|size_t|uint64_t|void|const char) \*?(hunkravy_[a-z0-9_]*)\(.*/\3/p' $(OWN_HEADERS:%=c/include/%)
+
+# ---- The library
+
+# What join.sh adds to a build.
+CALLS = $(wildcard c/library/* c/levels/*) $(OWN_HEADERS:%=c/include/%)
+
+c-library: $(LIBRARY)
+
+$(OUT)/both/libhunkravy.a: $(LEVELS:%=$(OUT)/%/aegis_c.a) $(CALLS)
+	mkdir -p $(@D)
+	c/levels/join.sh $@ $(LEVELS:%=$(OUT)/%/aegis_c.a)
+
+$(OUT)/%/libhunkravy.a: $(OUT)/%/aegis_c.a $(CALLS)
+	LEVEL=$(patsubst x86-64-v%,%,$(filter x86-64-v%,$*)) CC=$(TOOLS_$*)gcc AR=$(TOOLS_$*)ar \
+		OBJCOPY=$(TOOLS_$*)objcopy c/levels/join.sh $@ $<
+
+# The shared library, which exports the calls alone.
+SONAME = libhunkravy.so.0
+
+$(OUT)/%/$(SONAME): $(OUT)/%/libhunkravy.a
+	(echo '{ global:'; $(EXPORTS) | sed 's/$$/;/'; echo 'local: *; };') > $(@D)/exports.map
+	$(TOOLS_$*)$(CC) -shared -s -Wl,-soname,$(SONAME),--version-script=$(@D)/exports.map,-z,defs,-z,relro,-z,now \
+		-Wl,--whole-archive $< -Wl,--no-whole-archive -o $@
+
+# The levels are built in one folder, so one after the other.
+$(OUT)/x86-64-v3/aegis_c.a: | $(if $(CPU),,$(OUT)/x86-64-v2/aegis_c.a)
+
+$(OUT)/%/aegis_c.a: FLAGS = $(if $(filter aarch64,$*),--target=$(ARM),--cpu=$*)
+$(OUT)/%/aegis_c.a: $(call sources,aegis_c) crates.txt
+	mkdir -p $(@D)
+	$(call build,aegis_c,$(FLAGS),rt lib $(FLAGS),out/libaegis_c.a)
+
+# The packages that have the tools for ARM.
+$(OUT)/aarch64/aegis_c.a: | gcc-aarch64-linux-gnu
+check-c-aarch64: | qemu-user
+
+gcc-aarch64-linux-gnu: PROGRAM = aarch64-linux-gnu-gcc
+qemu-user: PROGRAM = qemu-aarch64
+gcc-aarch64-linux-gnu qemu-user:
+	@command -v $(PROGRAM) > /dev/null || \
+		{ echo '$(PROGRAM) is not installed: TARGET=$(ARM) needs the package $@' >&2; exit 1; }
+
+# ---- Its tests
+
+# Its headers, and over the library with both levels and over each level alone the examples, every call of each header
+# against the stored lines, and forgeries; the C programs with the calls of c/library under gcc's sanitizers too, and what
+# hunkravy_wipe leaves in memory. A level that this processor lacks is left out. For ARM the programs run under an emulator,
+# where the sanitizers do not look for leaks.
+check-c: $(if $(filter aarch64,$(FOLDER)),check-c-aarch64,check-header $(addprefix check-c-,both $(RUNNABLE)) check-shared \
+	check-level check-c++ check-sodium)
+check-c-aarch64: export ASAN_OPTIONS = detect_leaks=0
+
+# Each header compiles alone, by each standard of C and C++, and without a warning; and so does what is compiled here.
+CLANG = $(shell command -v clang)
+
+check-header:
+	for header in $(HEADERS); do for form in HUNKRAVY_COMPAT HUNKRAVY_COMPAT_WRITTEN; do for compiler in $(CC) $(CLANG); do \
+		for standard in c99 c11 c17 c2x c++11 c++14 c++17 c++20; do \
+			case $$standard in c++*) language=c++ ;; *) language=c ;; esac; \
+			echo "#include \"$$header\"" | \
+				$$compiler -std=$$standard $(C_FLAGS) -D$$form -fsyntax-only -x $$language - || exit 1; \
+		done; \
+	done; done; done
+	if [ -n "$(CLANG)" ]; then \
+		for header in $(HEADERS); do \
+			echo "#include \"$$header\"" | $(CLANG) -std=c99 $(C_FLAGS) -Weverything -fsyntax-only -x c - || exit 1; \
+		done; \
+		for file in c/library/*.c; do $(CLANG) -std=c99 $(C_FLAGS) -Weverything -fsyntax-only $$file || exit 1; done; \
+	else \
+		echo 'left out: the headers by clang, which is not installed'; \
+	fi
+
+# The C programs: the examples, and the tests, which read the stored lines.
+C_TESTS = check_calls check_states check_records check_pages check_libaegis check_libsodium
+C_PROGRAMS = $(C_EXAMPLES) $(C_TESTS) check_libaegis_written
+
+# The library whose calls the sanitizers see: its sources, over the proved exports of one level.
+SANITIZED = c/library/*.c c/levels/choose.c -DHUNKRAVY_LEVEL=0
+
+# The archive has the calls of the headers, those of each level, and no other name that is not local.
+check-c-%: $(OUT)/%/libhunkravy.a
+	diff <($(EXPORTS) | sort) <($(TOOLS_$*)nm --defined-only -g $< | awk 'NF == 3 { print $$3 }' | grep -v '^hunkravy_v[23]_' | sort -u)
+	for program in $(C_PROGRAMS); do \
+		source=$${program%_written}; flags=; \
+		if [ $$source != $$program ]; then flags=-DHUNKRAVY_COMPAT_WRITTEN; fi; \
+		for library in '-O2 $<' '$(SANITIZERS) $(SANITIZED) $(OUT)/$(if $(filter both,$*),$(firstword $(LEVELS)),$*)/aegis_c.a'; do \
+			$(TOOLS_$*)$(CC) -std=c99 $(C_FLAGS) $$flags c/[et]*/$$source.c $$library -o $(OUT)/$*/$$program && \
+			$(RUN_$*) $(OUT)/$*/$$program $(STORED_LINES) || exit 1; \
+		done; \
+	done
+	for compiler in $(TOOLS_$*)$(CC) $(if $(TOOLS_$*),,$(CLANG)); do \
+		$$compiler -std=c99 $(C_FLAGS) -O3 c/tests/check_wipe.c $< -o $(OUT)/$*/check_wipe && \
+		$(RUN_$*) $(OUT)/$*/check_wipe || exit 1; \
+	done
+
+# The tests over the shared library, which exports the calls of the headers and nothing else.
+check-shared: $(OUT)/both/$(SONAME)
+	diff <($(EXPORTS) | sort) <(nm -D --defined-only $< | awk '{ print $$3 }' | sort)
+	for program in $(C_TESTS); do \
+		$(CC) -std=c99 $(C_FLAGS) -O2 c/tests/$$program.c $< -Wl,-rpath,"$(CURDIR)/$(<D)" -o $(<D)/$$program-shared && \
+		$(<D)/$$program-shared $(STORED_LINES) || exit 1; \
+	done
+
+# That each name is bound to the build for this processor's level, and that no build has instructions of another level.
+check-level: $(OUT)/both/libhunkravy.a $(OUT)/both/$(SONAME)
+	tools/check_level.sh $^ $(STORED_LINES)
+
+# The tests as C++, which call what the headers have.
+check-c++: $(OUT)/both/libhunkravy.a
+	for program in $(C_TESTS); do \
+		$(CC) -std=c++11 $(C_FLAGS) $(SANITIZERS) -x c++ c/tests/$$program.c -x none $< -o $(OUT)/both/$$program++ && \
+		$(OUT)/both/$$program++ $(STORED_LINES) || exit 1; \
+	done
+
+# Whether a branch or an address depends on a secret: valgrind's memcheck reports each, at each level.
+check-time: $(addprefix check-time-,$(RUNNABLE))
+
+check-time-%: $(OUT)/%/libhunkravy.a
+	$(CC) -std=c99 $(C_FLAGS) -O2 c/tests/check_time.c $< -o $(OUT)/$*/check_time
+	tools/check_time.sh $(OUT)/$*/check_time
+
+# Runs the test of libsodium's calls with libsodium itself, if its release has AEGIS, to see that both behave the same.
+check-sodium: $(OUT)/both/libhunkravy.a
+	if pkg-config --exists 'libsodium >= 1.0.19'; then \
+		$(CC) -std=c99 $(C_FLAGS) -DWITH_LIBSODIUM c/tests/check_libsodium.c $< \
+			$$(pkg-config --cflags --libs libsodium) -o $(OUT)/check-sodium && \
+		$(OUT)/check-sodium $(STORED_LINES); \
+	else \
+		echo 'left out: sodium_compat.h beside libsodium 1.0.19 or newer, which is not installed'; \
+	fi
+
+# ---- Installing
+
+# Installs the headers, the libraries, the examples, and the file that pkg-config reads, which finds the others from where it
+# lies itself.
+EXAMPLES_FOLDER = $(PREFIX)/share/doc/hunkravy/examples
+LIBRARIES = $(PREFIX)/lib
+SHARED = $(OUT)/$(FOLDER)/$(SONAME)
+
+install: $(LIBRARY) $(SHARED)
+	install -d "$(DESTDIR)$(PREFIX)/include" "$(DESTDIR)$(LIBRARIES)/pkgconfig" "$(DESTDIR)$(EXAMPLES_FOLDER)"
+	install -m 644 $(HEADERS:%=c/include/%) "$(DESTDIR)$(PREFIX)/include"
+	install -m 644 $(LIBRARY) $(SHARED) "$(DESTDIR)$(LIBRARIES)"
+	ln -sf $(SONAME) "$(DESTDIR)$(LIBRARIES)/libhunkravy.so"
+	install -m 644 $(C_EXAMPLES:%=c/examples/%.c) "$(DESTDIR)$(EXAMPLES_FOLDER)"
+	include=$$(realpath -m --relative-to="$(DESTDIR)$(LIBRARIES)/pkgconfig" "$(DESTDIR)$(PREFIX)/include") && \
+		sed -e "s|@INCLUDE@|$$include|" -e 's|@VERSION@|$(VERSION)|' c/include/hunkravy.pc.in \
+		> "$(DESTDIR)$(LIBRARIES)/pkgconfig/hunkravy.pc"
+
+# Builds and runs the examples that are installed at PREFIX, by what pkg-config says of it: over the shared library, and over
+# the static one.
+check-install: | $(OUT) $(if $(filter aarch64,$(FOLDER)),gcc-aarch64-linux-gnu qemu-user)
+	export PKG_CONFIG_PATH="$(LIBRARIES)/pkgconfig" LD_LIBRARY_PATH="$(LIBRARIES)" && \
+	for example in $(C_EXAMPLES); do for library in -lhunkravy -l:libhunkravy.a; do \
+		eval "$(TOOLS_$(FOLDER))$(CC) -std=c99 '$(EXAMPLES_FOLDER)/$$example.c' \
+			$$(pkg-config --cflags --libs-only-L hunkravy) $$library -o $(OUT)/$$example-installed" && \
+		$(RUN_$(FOLDER)) $(OUT)/$$example-installed || exit 1; \
+	done; done

@@ -1,0 +1,14 @@
+# What is released.
+.PHONY: dist check-dist
+
+# Writes the archives, the packages and their sums to out/dist. If the tools for ARM are there, its archive too.
+HAS_ARM = $(shell command -v aarch64-linux-gnu-gcc)
+
+dist: $(OUT)/both/libhunkravy.a $(OUT)/both/$(SONAME) $(LEVELS:%=$(OUT)/%/hunkravy) $(WHEEL) \
+		$(if $(HAS_ARM),$(OUT)/aarch64/libhunkravy.a $(OUT)/aarch64/$(SONAME))
+	tools/pack.sh $(VERSION) $(OUT)
+
+# Packs the same builds once more, in a copy of the repository in another folder, which has to give the same bytes; compares
+# what was packed with what a package has to have; and uses what was unpacked in an empty folder, with no kit.
+check-dist: dist
+	tools/check_dist.sh $(VERSION) $(OUT)

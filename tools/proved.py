@@ -1,0 +1,122 @@
+#!/usr/bin/env python3
+"""What `rt ci` has proved, and what is built over it.
+
+proved.py check: passes if the sources and the libraries are still those of OUT/proved.
+proved.py run: runs `rt ci`. If it passed, OUT/proved has the sums of the sources and of the libraries that it made.
+proved.py build CRATE FILE [FLAG..]: proves a program or a static library, and builds it as FILE.
+
+`build` calls rattle as `rt run` and `rt lib` do, with these flags, but over the libraries that `rt ci` has left in
+crates/*/out/rlib, so that it proves that crate alone: these have no stamp, and rt would prove them once more. If a source
+or a library has another sum than in OUT/proved, or if that file is not there, nothing is built. `run` writes it last, and
+not at all if a library stood there before, which rt puts back, or if a source changed meanwhile. A second level of a crate
+takes its proof from the folder OUT/proved-work, which only the first one has written.
+"""
+import hashlib
+import os
+import pathlib
+import shutil
+import subprocess
+import sys
+
+import crates
+
+OUT = pathlib.Path("out")
+PROVED, WORK, LINE = OUT / "proved", OUT / "proved-work", OUT / "proved-line"
+RT = shutil.which("rt") or sys.exit("rt is not installed")
+KIT = os.path.dirname(os.path.dirname(os.path.realpath(RT)))
+
+
+def sources():
+    """Yields the files that `rt ci` reads."""
+    for path in pathlib.Path("crates").glob("**/*"):
+        if path.is_file() and "out" not in path.parts[2:3]:
+            yield path
+    yield from (pathlib.Path("crates.txt"), pathlib.Path("HANDLES"))
+
+
+def libraries():
+    """Returns the libraries that `rt ci` leaves."""
+    return pathlib.Path("crates").glob("*/out/rlib/*.rlib/format")
+
+
+def sums(paths):
+    """Returns the sum of each file, as sha256sum prints them."""
+    return "".join(f"{hashlib.sha256(path.read_bytes()).hexdigest()}  {path}\n" for path in sorted(paths))
+
+
+def clear():
+    """Removes what an earlier run has left, but for the libraries."""
+    PROVED.unlink(missing_ok=True)
+    LINE.unlink(missing_ok=True)
+    shutil.rmtree(WORK, ignore_errors=True)
+
+
+def has_libraries():
+    """Returns whether libraries stand where rt writes its own, or where rt puts back some."""
+    return any(pathlib.Path("crates").glob("*/out/rlib")) or any(pathlib.Path(".git").glob("rt-aside/*/rlib"))
+
+
+def run():
+    """Runs `rt ci`, writes what it proved, and returns its status."""
+    OUT.mkdir(exist_ok=True)
+    clear()
+    others, before, line = has_libraries(), sums(sources()), ""
+    with subprocess.Popen([RT, "ci"], stdout=subprocess.PIPE, stderr=subprocess.STDOUT, text=True) as process:
+        for line in process.stdout:
+            print(line, end="", flush=True)
+    if process.returncode:
+        return process.returncode
+    if others or sums(sources()) != before:
+        print("note: a library stood in crates/*/out, or a source was changed: what is built is proved once more", file=sys.stderr)
+        return 0
+    LINE.write_text(line, "utf-8")
+    PROVED.write_text(before + sums(libraries()), "utf-8")
+    return 0
+
+
+def check():
+    """Ends with a message unless the sources and the libraries are those that `run` has proved."""
+    if not PROVED.is_file():
+        sys.exit(f"{PROVED} is not there: nothing was proved")
+    if sums(sources()) + sums(libraries()) != PROVED.read_text("utf-8"):
+        sys.exit(f"a source or a library is not that of {PROVED}")
+
+
+def words(rows, name, root, is_static):
+    """Returns rattle's words for a crate, as rt passes them."""
+    folder = os.path.abspath("crates")
+    found = ["--crate-name", name, root, "-L", f"dependency={KIT}/rlibs", "--links", f"{name}="]
+    found += ["--antt-project", f"{KIT}/rattle/logic/antt-project.json", "--logic-built", f"{KIT}/logic_built"]
+    for library in ["std", *rows[name]]:
+        place = f"{folder}/{library}/out/rlib" if library in rows else f"{KIT}/rlibs"
+        found += ["--extern", f"{library}={place}/{library}.rlib"]
+    for library in sorted(crates.below(rows, name)):
+        found += ["-L", f"dependency={folder}/{library}/out/rlib"]
+    return found + ["--crate-type", "staticlib"] * is_static
+
+
+def build(name, file, *flags):
+    """Proves a crate over what was proved, and builds it."""
+    check()
+    rows, static = crates.listed()
+    is_static, file = name in static, os.path.abspath(file)
+    built, how = file if is_static else f"{file}.o", {"check": True, "stdin": subprocess.DEVNULL, "cwd": f"crates/{name}"}
+    toolchain = ["--toolchain", f"{KIT}/toolchain"]
+    found = words(rows, name, "src/lib.rt" if is_static else "src/main.rt", is_static)
+    found += [*flags, "--incremental", os.path.abspath(WORK / name), *toolchain, "--backend", "llvm"]
+    subprocess.run([f"{KIT}/bin/rattle", "build", *found, "-o", built], **how)
+    if not is_static:
+        found = ["--target", "x86_64-unknown-linux-gnu", *toolchain, "-o", file, built]
+        subprocess.run([f"{KIT}/bin/rattle-link", *found, f"{KIT}/c/libos_c.a", f"{KIT}/c/liblibc_c.a"], **how)
+        os.remove(built)
+
+
+if __name__ == "__main__":
+    if sys.argv[1] == "run":
+        sys.exit(run())
+    if sys.argv[1] == "check":
+        sys.exit(check())
+    try:
+        build(*sys.argv[2:])
+    except subprocess.CalledProcessError as error:
+        sys.exit(error.returncode if error.returncode > 0 else 1)

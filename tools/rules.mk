@@ -1,0 +1,59 @@
+# The file tool, the example of batches, and their tests.
+.PHONY: install-tool check-tool tool-pages check-batches check-proved
+
+# ---- The file tool
+
+# It is built for the best level that this machine has, for that of CPU, or for each if CPU is `both`.
+TOOL_LEVELS = $(if $(filter both,$(CPU)),$(LEVELS),$(or $(CPU),$(lastword $(RUNNABLE))))
+TOOL_PAGES = crates/hunkravy/manual
+
+# The levels are built in one folder, so one after the other.
+$(OUT)/x86-64-v3/hunkravy: | $(if $(filter both,$(CPU))$(filter bench% %dist,$(MAKECMDGOALS)),$(OUT)/x86-64-v2/hunkravy)
+
+$(OUT)/%/hunkravy: $(call sources,hunkravy) crates.txt
+	mkdir -p $(@D)
+	$(call build,hunkravy,--cpu=$*,rt run --cpu=$* -- --help > /dev/null,out/hunkravy)
+
+# Installs the program hunkravy, its manual page, and completions for shells. The program is a link to the build for the
+# level, or, if there are two, a script that starts the better one.
+ZSH_COMPLETIONS = $(PREFIX)/share/zsh/site-functions
+
+install-tool: $(TOOL_LEVELS:%=$(OUT)/%/hunkravy)
+	install -d "$(DESTDIR)$(PREFIX)/bin"
+	for level in $(TOOL_LEVELS); do \
+		install -D -m 755 $(OUT)/$$level/hunkravy "$(DESTDIR)$(PREFIX)/lib/hunkravy/$$level/hunkravy" && \
+		ln -sf ../lib/hunkravy/$$level/hunkravy "$(DESTDIR)$(PREFIX)/bin/hunkravy" && \
+		echo "hunkravy is built for $$level" || exit 1; \
+	done
+	if [ $(words $(TOOL_LEVELS)) = 2 ]; then \
+		rm "$(DESTDIR)$(PREFIX)/bin/hunkravy" && install -m 755 dist/start.sh "$(DESTDIR)$(PREFIX)/bin/hunkravy"; \
+	fi
+	install -D -m 644 $(TOOL_PAGES)/man "$(DESTDIR)$(PREFIX)/share/man/man1/hunkravy.1"
+	install -D -m 644 $(TOOL_PAGES)/bash "$(DESTDIR)$(PREFIX)/share/bash-completion/completions/hunkravy"
+	install -D -m 644 $(TOOL_PAGES)/zsh "$(DESTDIR)$(ZSH_COMPLETIONS)/_hunkravy"
+	install -D -m 644 $(TOOL_PAGES)/fish "$(DESTDIR)$(PREFIX)/share/fish/vendor_completions.d/hunkravy.fish"
+
+# The tests of the program that need files, pipes and kills: some minutes, and 100 MB of disk.
+check-tool: $(OUT)/$(lastword $(TOOL_LEVELS))/hunkravy
+	tools/check_tool.sh $< $(VERSION)
+
+# Writes the manual page and the completions, which check-tool compares with what the program prints.
+tool-pages: $(OUT)/$(lastword $(TOOL_LEVELS))/hunkravy
+	for form in man bash zsh fish; do $< manual $$form > $(TOOL_PAGES)/$$form; done
+
+# ---- Batches of writes
+
+# Kills a program that writes to sealed pages in batches, at 200 moments.
+BATCHES = crates/example_batches/out/example_batches
+
+check-batches: $(BATCHES)
+	tools/check_batches.sh $<
+
+$(BATCHES): $(call sources,example_batches)
+	cd crates/example_batches && rt run > /dev/null
+
+# ---- The gate
+
+# That nothing is built over what the gate has not proved.
+check-proved:
+	tools/check_proved.sh
