@@ -73,8 +73,7 @@ check-edits:
 # Each sample and each quoted contract of the pages stands in a proved crate, no line is too long, each definition that a public
 # contract reaches is listed, each wrong body can be applied, and no link leads nowhere.
 check-pages:
-	sh tools/check_samples.sh README.md docs/CALLING.md
-	python3 tools/check_clauses.py
+	python3 tools/check_pages.py
 	python3 tools/check_definitions.py
 	python3 tools/edits.py check
 

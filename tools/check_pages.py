@@ -1,0 +1,133 @@
+"""The pages: their samples and quoted contracts stand in the sources, their links lead somewhere, and no line is too long.
+
+- A sample in ```rust stands in a crate, one in ```c in an example of C, and one in ```rs in an example of Rust, line breaks
+  aside. Those of the module docs of `aegis` stand in another crate. Samples in ```python are run (tools/check_python.sh).
+- A link to a file of the repository leads to one, and its fragment to a heading.
+- A line of a contract has at most 100 columns, one of a source or a page at most 120, but for imports, attributes, tables
+  and links; a decision has at most five lines, and some pages have a length of their own.
+"""
+
+import pathlib
+import re
+import sys
+
+ROOT = pathlib.Path(".")
+SKIPPED = {"out", ".git", "target"}
+PAGES = [page for page in sorted(ROOT.glob("**/*.md")) if not SKIPPED & set(page.parts)]
+SOURCES = sorted(ROOT.glob("crates/*/src/**/*.rt"))
+DECISIONS = ROOT / "docs/maintainers/DECISIONS.md"
+MOST_LINES = {"README.md": 125, "docs/CALLING.md": 150, "docs/PROOFS.md": 250, "Makefile": 120}
+# The pages that have to show something in a language.
+SHOWN = {"README.md": "rust rs c python", "docs/CALLING.md": "rust", "python/README.md": "python"}
+
+CLAUSE = re.compile(r"\s*(requires|ensures)\b")
+FENCE = re.compile(r"^```(\w*)$")
+LINK = re.compile(r"\[[^\]]*\]\(([^)\s]+)\)")
+
+
+def read(path):
+    return path.read_text("utf-8")
+
+
+def in_one_line(text):
+    return " ".join(text.split())
+
+
+def samples(text):
+    """Yields the language and the text of each sample of a page."""
+    language, lines = None, []
+    for line in text.splitlines():
+        fence = FENCE.match(line)
+        if fence and language is None:
+            language, lines = fence[1], []
+        elif fence:
+            yield language, "\n".join(lines)
+            language = None
+        else:
+            lines.append(line)
+
+
+def module_docs(path):
+    """Returns the module docs of a source, whose samples are in Rattle."""
+    lines = [line[3:].removeprefix(" ") for line in read(path).splitlines() if line.startswith("//!")]
+    text, is_open = [], False
+    for line in lines:
+        if line == "```":
+            is_open = not is_open
+            line = "```rust" if is_open else line
+        text.append(line)
+    return "\n".join(text)
+
+
+def joined(paths):
+    return in_one_line("\n".join(read(path) for path in paths))
+
+
+def strange_samples():
+    """Yields each sample that stands in no source, and each page that lacks one."""
+    known = {
+        "rust": joined(SOURCES),
+        "rs": joined(sorted(ROOT.glob("rust/examples/*.rs"))),
+        "c": joined(sorted(ROOT.glob("c/examples/*.c"))),
+    }
+    crate_aegis = [path for path in SOURCES if path.parts[1] == "aegis"]
+    outside = joined([path for path in SOURCES if path.parts[1] != "aegis"])
+    pages = [(page, read(page), known) for page in PAGES if page.parts[0] not in ("rust", "python", "bench")]
+    pages += [(path, module_docs(path), {"rust": outside}) for path in crate_aegis]
+    for page, text, where in pages:
+        for number, (language, sample) in enumerate(samples(text), 1):
+            if language in where and in_one_line(sample) not in where[language]:
+                yield f"{page}: its sample number {number} stands in no source"
+    for page, languages in SHOWN.items():
+        shown = {language for language, _ in samples(read(ROOT / page))}
+        yield from (f"{page}: no sample in {language}" for language in languages.split() if language not in shown)
+
+
+def anchors(page):
+    """Returns the fragments that lead to the headings of a page."""
+    headings = re.findall(r"^#+ (.*)$", read(page), re.M)
+    return {re.sub(r"[^\w\- ]", "", heading.lower()).replace(" ", "-") for heading in headings}
+
+
+def dead_links():
+    """Yields each link to a file or a heading that is not there."""
+    for page in PAGES:
+        for link in LINK.findall(read(page)):
+            path, _, fragment = link.partition("#")
+            if re.match(r"[a-z]+:", path):
+                continue
+            target = page.parent / path if path else page
+            if not target.exists():
+                yield f"{page}: it links to {link}, which is not there"
+            elif fragment and target.suffix == ".md" and fragment not in anchors(target):
+                yield f"{page}: it links to {link}, a heading that is not there"
+
+
+def long_lines(path):
+    """Yields the place of each line that is too long."""
+    inside = False
+    for number, line in enumerate(read(path).splitlines(), 1):
+        inside = path.suffix == ".rt" and (inside or CLAUSE.match(line) is not None)
+        most = 100 if inside else 120
+        if len(line) > most and not line.lstrip().startswith(("ghost use", "use ", "#[", "#![", "|", '"', 'b"')) and "](" not in line:
+            yield f"{path}:{number}: {len(line)} columns"
+        if line.rstrip().endswith(("}", "};", "{")):
+            inside = False
+
+
+def long_texts():
+    """Yields each decision and each page that is too long."""
+    for entry in read(DECISIONS).split("\n\n"):
+        lines = entry.splitlines()
+        if entry.startswith("**") and len(lines) > 5:
+            yield f"{DECISIONS}: {len(lines)} lines: {lines[0]}"
+    for page, most in MOST_LINES.items():
+        count = len(read(ROOT / page).splitlines())
+        if count > most:
+            yield f"{page}: {count} lines, and at most {most} are allowed"
+
+
+found = [*strange_samples(), *dead_links(), *long_texts()]
+found += [place for path in [*SOURCES, *PAGES] for place in long_lines(path)]
+print("\n".join(found), end="\n" if found else "")
+sys.exit(bool(found))
