@@ -1,40 +1,106 @@
 #!/bin/bash
-# check_dist.sh VERSION OUT: whether what `make dist` wrote can be written again with the same bytes, and used with no kit.
+# check_dist.sh VERSION OUT: whether what `make dist` wrote can be written again with the same bytes, has what dist/contents.txt
+# lists, has one version, licence and holder, and can be used with no kit.
 set -euo pipefail
 version=$1 out=$2
+. tools/revision.sh
 dist=$PWD/$out/dist
 work=$(mktemp -d)
 trap 'rm -rf "$work"' EXIT
 
+fail() {
+    echo "check_dist.sh: $*" >&2
+    exit 1
+}
+
 # The same bytes, from a copy in a folder of another name.
 copy=$work/another-name
 mkdir "$copy"
-git ls-files -z | tar --null -T - -cf - | tar -C "$copy" -xf -
+revision_files | tar --null -T - -cf - | tar -C "$copy" -xf -
 (cd "$out" && find . -path ./dist -prune -o -type f -print0 | tar --null -T - -cf -) | (mkdir "$copy/$out" && tar -C "$copy/$out" -xf -)
-epoch=$(git log -1 --format=%ct)
-commit=$(git rev-parse HEAD)
-(cd "$copy" && touch -c "$out"/*/* && SOURCE_DATE_EPOCH=$epoch COMMIT=$commit tools/pack.sh "$version" "$out") | diff "$dist/SHA256SUMS" -
+epoch=$(revision_time)
+commit=$(revision)
+line=$(if python3 tools/proved.py check 2> /dev/null; then cat out/proved-line; fi)
+(cd "$copy" && touch -c "$out"/*/* && SOURCE_DATE_EPOCH=$epoch COMMIT=$commit GATE_LINE=$line tools/pack.sh "$version" "$out") |
+    diff "$dist/SHA256SUMS" -
 
-# Uses what is installed in a folder, with no kit and nothing of the repository in PATH.
-tests=$PWD/tools/use_dist.sh
-programs=$(for program in cargo python3; do dirname "$(command -v "$program" || echo "/usr/bin/$program")"; done | paste -sd :)
-use() {
-    (cd "$work/empty" && env -i HOME="$HOME" PATH="$programs:/usr/bin:/bin" "$tests" "$@")
-}
+# What is in them. Without the tools for ARM its archive is left out.
+tools/list_dist.sh "$version" "$dist" | sed "s/$version/VERSION/g" > "$work/contents"
+if ls "$dist"/*aarch64* > /dev/null 2>&1; then
+    diff dist/contents.txt "$work/contents" || fail 'what is packed is not what dist/contents.txt lists'
+else
+    echo 'left out: the archive for ARM, since aarch64-linux-gnu-gcc is not installed'
+    awk '/^== / { arm = /aarch64/ } !arm' dist/contents.txt | diff - "$work/contents" || fail 'what is packed is not what dist/contents.txt lists'
+fi
 
-# The archive, and the packages, unpacked as a system of their own.
-mkdir "$work/empty"
-name=hunkravy-$version-x86_64-linux
-tar -C "$work/empty" -xf "$dist/$name.tar.gz"
-use "$work/empty/$name"
+# Everything, unpacked: the archives, the packages as a system of their own, and the wheel.
+mkdir "$work/empty" "$work/site"
+for archive in "$dist"/*.tar.gz; do
+    tar -C "$work/empty" -xf "$archive"
+done
 for package in "$dist"/*.deb; do
     dpkg-deb -x "$package" "$work/system"
 done
+python3 -m pip install --quiet --no-index --no-deps --disable-pip-version-check --root-user-action=ignore --target "$work/site" "$dist"/*.whl
+
+# One version, licence and holder. What is proved is of this revision, or of none.
+name=hunkravy-$version-x86_64-linux
+for folder in "$work"/empty/*; do
+    grep -q "^Version: $version\$" "$folder/lib/pkgconfig/hunkravy.pc" || fail "another version in hunkravy.pc"
+    grep -q "^version = \"$version\"" "$folder/rust/Cargo.toml" || fail "another version in Cargo.toml"
+    grep -q "^#define HUNKRAVY_VERSION \"$version\"" "$folder/include/hunkravy.h" || fail "another version in hunkravy.h"
+    grep -q "^- Commit: $commit\$" "$folder/PROVED.md" || fail "PROVED.md is of another revision"
+    grep -q "^- Proofs, edits, tests and programs of this revision in the gate: ${line:-not run here}\$" "$folder/PROVED.md" ||
+        fail "PROVED.md names another run"
+done
+[ "$(PYTHONPATH=$work/site python3 -c 'import hunkravy._version as v; print(v.VERSION)')" = "$version" ] || fail 'another version in the wheel'
+"$work/empty/$name/bin/hunkravy" --version | grep -qw "$version" || fail 'another version of the tool'
+grep -q "\"hunkravy $version\"" "$work/empty/$name/share/man/man1/hunkravy.1" || fail 'another version in the manual page'
+for licence in "$work"/empty/*/LICENSE "$work"/system/usr/share/doc/*/copyright "$work"/site/hunkravy-*/LICENSE; do
+    grep -q 'Permission is hereby granted' "$licence" || fail "$licence has no licence"
+    [ "$(grep -ihoE 'copyright:? (\(c\) )?2026 .*' "$licence" | sed 's/.*2026 //')" = 'The Hunkravy authors' ] || fail "$licence has another holder"
+done
+
+# No link of a page that is shipped leads nowhere.
+for folder in "$work"/empty/*; do
+    (cd "$folder" && python3 - << 'END') || fail 'a page has a dead link'
+import pathlib, re, sys
+dead = [f"{page}: {link}" for page in pathlib.Path(".").glob("**/*.md")
+        for link in re.findall(r"\]\(([^)\s#]+)", page.read_text("utf-8"))
+        if not re.match(r"[a-z]+:", link) and not (page.parent / link).exists()]
+print("\n".join(dead))
+sys.exit(bool(dead))
+END
+done
+
+# The script that starts the tool chooses the build by /proc/cpuinfo, which the second run reads by a grep that finds nothing.
+start=$work/start
+for level in x86-64-v2 x86-64-v3; do
+    mkdir -p "$start/lib/hunkravy/$level"
+    printf '#!/bin/sh\necho %s "$@"\n' $level > "$start/lib/hunkravy/$level/hunkravy"
+    chmod +x "$start/lib/hunkravy/$level/hunkravy"
+done
+install -D "$work/empty/$name/bin/hunkravy" "$start/bin/hunkravy"
+best=x86-64-v3
+for feature in avx2 bmi2 fma; do
+    grep -m 1 -q -w $feature /proc/cpuinfo || best=x86-64-v2
+done
+[ "$("$start/bin/hunkravy" word)" = "$best word" ] || fail 'the tool is not started for the level of this processor'
+mkdir "$start/none" && printf '#!/bin/sh\nexit 1\n' > "$start/none/grep" && chmod +x "$start/none/grep"
+[ "$(PATH=$start/none:$PATH "$start/bin/hunkravy" word)" = 'x86-64-v2 word' ] || fail 'the tool is not started on an older processor'
+
+# Used with no kit and nothing of the repository in PATH.
+tests=$PWD/tools/use_dist.sh
+programs=$(for program in cargo python3; do dirname "$(command -v "$program" || echo "/usr/bin/$program")"; done | paste -sd :)
+use() {
+    (cd "$work" && env -i HOME="$HOME" PATH="$programs:/usr/bin:/bin" "$tests" "$@")
+}
+use "$work/empty/$name"
 use "$work/system/usr" lib/x86_64-linux-gnu
 
 # What Debian wants of packages, where its program is installed.
 if command -v lintian > /dev/null; then
     lintian --allow-root --fail-on error "$dist"/*.deb
 else
-    echo 'lintian is not installed, so the packages are not checked'
+    echo 'left out: the packages by lintian, which is not installed'
 fi

@@ -40,20 +40,25 @@ archive() {
     tar -C "$work" --sort=name --owner=0 --group=0 --numeric-owner --format=gnu -cf - "$1" | gzip -9n > "$out/dist/$1.tar.gz"
 }
 
+# The pages that are shipped.
+PAGES='README.md SECURITY.md CHANGELOG.md docs/FILES.md docs/PAGES.md docs/DIFFERENCES.md rust/README.md'
+
 # What the archives of both processors have.
 common() {
-    cp LICENSE SECURITY.md CHANGELOG.md "$1"
+    cp LICENSE "$1"
     proved > "$1/PROVED.md"
     mkdir -p "$1/rust/lib"
-    cp -R rust/Cargo.toml rust/Cargo.lock rust/README.md rust/build.rs rust/src rust/examples "$1/rust"
+    cp -R rust/Cargo.toml rust/Cargo.lock rust/build.rs rust/src rust/examples "$1/rust"
     cp "$1/lib/libhunkravy.a" "$1/rust/lib"
+    # shellcheck disable=SC2086
+    python3 tools/ship_pages.py "$1" $PAGES
 }
 
 # package NAME DEPENDS DESCRIPTION: the Debian package of the files in work/NAME.
 package() {
     local folder=$work/$1 doc=$work/$1/usr/share/doc/$1
     mkdir -p "$folder/DEBIAN" "$doc"
-    cp dist/copyright "$doc/copyright"
+    (cat dist/copyright && sed -n '/^Permission/,$p' LICENSE | sed 's/^$/./; s/^/ /') > "$doc/copyright"
     printf 'hunkravy (%s) unstable; urgency=medium\n\n  * See /usr/share/doc/%s/CHANGELOG.md.gz.\n\n -- %s  %s\n' "$version" "$1" \
         "$MAINTAINER" "$(date -R -d "@$SOURCE_DATE_EPOCH")" | gzip -9n > "$doc/changelog.gz"
     gzip -9nc CHANGELOG.md > "$doc/CHANGELOG.md.gz"
@@ -67,7 +72,8 @@ package() {
         echo "Version: $version"
         echo "Architecture: amd64"
         echo "Maintainer: $MAINTAINER"
-        echo "Installed-Size: $(du -k -s --apparent-size "$folder/usr" | cut -f 1)"
+        # The files alone: what a folder takes depends on the file system.
+        echo "Installed-Size: $(find "$folder/usr" -type f -printf '%s\n' | awk '{ sum += int(($1 + 1023) / 1024) } END { print sum }')"
         if [ -n "$2" ]; then echo "Depends: $2"; fi
         echo "Section: ${5:-utils}"
         echo "Priority: optional"
@@ -97,7 +103,7 @@ if [ -f "$out/aarch64/libhunkravy.a" ]; then
 fi
 
 if command -v dpkg-deb > /dev/null; then
-    install_to "$work/hunkravy" install-tool PREFIX=/usr CPU=both
+    install_to "$work/hunkravy" install-tool PREFIX=/usr CPU=both ZSH_COMPLETIONS=/usr/share/zsh/vendor-completions
     strip "$work"/hunkravy/usr/lib/hunkravy/*/hunkravy
     package hunkravy 'libc6 (>= 2.34)' 'seals and opens files by AEGIS-256' \
         'Nothing of a file that was changed comes out.'
