@@ -431,7 +431,84 @@ if "${CC:-gcc}" -shared -fPIC -O1 "$calls" -ldl -o calls.so 2> said; then
     says 'raced exists'
     [ ! -s raced ] || fail 'a file was replaced where there are no links'
     no_parts
+
+    # at_each_call WHAT OLD NEW COMMAND..: runs the command, whose output is `out`, with each of its calls failing in turn, or
+    # killed there. Before it `out` is a copy of OLD, or is not there; after it, it is as before, or complete: what NEW prints.
+    at_each_call() {
+        local what=$1 old=$2 new=$3 number=0 found
+        shift 3
+        while number=$((number + 1)); do
+            rm -f noted out .out.hunkravy-*
+            [ "$old" = none ] || cp "$old" out
+            found=0
+            env LD_PRELOAD="$PWD/calls.so" CALLS="$PWD/noted" AT=$number $how "$@" > said 2>&1 || found=$?
+            grep -q '^here$' noted || break
+            if [ -e out ] && { [ "$old" = none ] || ! cmp -s "$old" out; }; then
+                $new | cmp - text-before || fail "$what, call $number ($how): a part of the output is left"
+            elif [ "$old" != none ] && [ ! -e out ]; then
+                fail "$what, call $number ($how): the output of before is gone"
+            elif [ "$found" = 0 ]; then
+                fail "$what, call $number ($how): status 0, and no output"
+            fi
+            if [ -z "$how" ] && [ "$found" != 0 ] && [ "$found" != 3 ]; then
+                fail "$what, call $number: status $found, not 3: $(cat said)"
+            fi
+        done
+        [ "$found" = 0 ] && [ "$number" -gt 4 ] || fail "$what: $number calls were noted, and status $found at the end"
+        echo "    $what: $((number - 1)) calls ${how:-fail}"
+    }
+    opened() { "$tool" open -k key out -; }
+    reopened() { "$tool" open -k other out -; }
+    rm -f sealed && head -c 200000 /dev/urandom > text-before
+    status 0 "$tool" seal -k key text-before sealed
+    for how in '' KILLS=1; do
+        echo "each call ${how:-fails}"
+        at_each_call seal none opened "$tool" seal -k key text-before out
+        at_each_call 'seal --force' small opened "$tool" seal --force -k key text-before out
+        at_each_call open none 'cat out' "$tool" open -k key sealed out
+        at_each_call 'open --force' small 'cat out' "$tool" open --force -k key sealed out
+        at_each_call rekey none reopened "$tool" rekey -k key -n other sealed out
+        [ "$(cat key)" = "$(cat key-before)" ] || fail 'the key was changed'
+        cmp <("$tool" open -k key sealed -) text-before || fail 'the input was changed'
+    done
+    rm -f out .out.hunkravy-* noted
 fi
+
+echo 'folders that are read-only or renamed meanwhile'
+mkdir moved
+mkfifo slow-text
+"$tool" seal -k key slow-text moved/out > said 2>&1 &
+exec 9> slow-text
+head -c 70000 text-before >&9
+sleep 0.3
+mv moved elsewhere
+tail -c +70001 text-before >&9
+exec 9>&-
+found=0
+wait $! || found=$?
+[ "$found" = 3 ] || fail "status $found, not 3, of an output whose folder was renamed: $(cat said)"
+[ ! -e elsewhere/out ] && [ ! -e moved ] || fail 'an output was given a name in a folder that was renamed'
+rm -r elsewhere slow-text
+if [ "$(id -u)" = 0 ]; then
+    # Root may write anywhere, so the folder is one of another file system that is read-only.
+    status 3 "$tool" seal -k key small /proc/sys/out
+else
+    mkdir fixed && chmod 555 fixed
+    status 3 "$tool" seal -k key small fixed/out
+    chmod 755 fixed && rmdir fixed
+fi
+status 3 "$tool" seal -k key small .
+for name in $'line\nfeed' $'\ttab' '-' '--force' ' ' '*'; do
+    status 0 "$tool" seal -k key small "./$name"
+    status 0 "$tool" check -k key "./$name"
+    rm "./$name"
+done
+name=$(printf 'n%.0s' $(seq 255))
+status 0 "$tool" seal -k key small "$name"
+status 0 "$tool" check -k key "$name"
+rm "$name"
+status 3 "$tool" seal -k key small "${name}n"
+no_parts
 
 echo 'files that were made with no key'
 # Record 0 says that it has 16 MiB, and ends after its head.
