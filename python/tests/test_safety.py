@@ -152,10 +152,11 @@ class Copies(unittest.TestCase):
             self.assertEqual(mac.digest(), Aegis256Mac(KEY, b"the other input", tag_length=16).digest())
 
     def test_nothing_else_is_copied_or_pickled(self) -> None:
-        secrets = [CIPHER, CIPHER.encryptor(NONCE), CIPHER.decryptor(NONCE), State()]
+        copiers: list[Callable[[Any], Any]] = [copy.copy, copy.deepcopy]
+        secrets: list[Any] = [CIPHER, CIPHER.encryptor(NONCE), CIPHER.decryptor(NONCE), State()]
         secrets += [cipher(bytes(cipher.KEY_BYTES)) for cipher, _ in CIPHERS.values()]
         for secret in secrets:
-            for copied in (copy.copy, copy.deepcopy):
+            for copied in copiers:
                 with self.assertRaises(TypeError):
                     copied(secret)
         secrets += [mac(bytes(mac.KEY_BYTES)) for _, mac in CIPHERS.values()]

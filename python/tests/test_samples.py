@@ -48,7 +48,8 @@ class Example(unittest.TestCase):
         with tempfile.NamedTemporaryFile() as keys:
             keys.write(Aegis256.generate_key())
             keys.flush()
-            for arguments in ([], [keys.name]):
+            cases: list[list[str]] = [[], [keys.name]]
+            for arguments in cases:
                 command = [sys.executable, str(EXAMPLE), *arguments]
                 printed = subprocess.run(command, capture_output=True, check=True, text=True).stdout
                 self.assertRegex(printed, r"\A[A-Za-z0-9_-]{100,}\n\Z")
