@@ -9,6 +9,7 @@ associated data too. With it keys can be changed: the newest key seals, and olde
 
 import base64
 import json
+import pathlib
 import sys
 import time
 from typing import Any, Optional
@@ -67,7 +68,7 @@ def decoded(token: str) -> bytes:
 
 
 if __name__ == "__main__":
-    first = open(sys.argv[1], "rb").read() if len(sys.argv) > 1 else Aegis256.generate_key()
+    first = pathlib.Path(sys.argv[1]).read_bytes() if len(sys.argv) > 1 else Aegis256.generate_key()
     token = Tokens({b"2026": first}).issue({"user": "ada"}, seconds=3600)
     # Later there is a newer key, and the older one still opens.
     tokens = Tokens({b"2026": first, b"2027": Aegis256.generate_key()})

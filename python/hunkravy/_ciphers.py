@@ -136,8 +136,8 @@ class Cipher(variants.Variant, library.Secret):
         return bytes(out)
 
     def _nonce_and_key(self, nonce: ReadableBuffer) -> tuple[bytes, int, bytes, int]:
-        start = library.exactly("nonce", nonce, self.NONCE_BYTES)
-        return start, len(start), self._key, len(self._key)
+        start, key = library.exactly("nonce", nonce, self.NONCE_BYTES), self._key
+        return start, len(start), key, len(key)
 
     def _inputs(
         self, nonce: ReadableBuffer, associated_data: Optional[ReadableBuffer]
@@ -161,12 +161,13 @@ class Cipher(variants.Variant, library.Secret):
         inputs: tuple[bytes, int, bytes, int, bytes, int],
     ) -> int:
         """Encrypts or decrypts in place the bytes of a buffer in front of their tag. Returns how many there are."""
-        length = len(sealed) - self._tag_length
+        tag_length = self._tag_length
+        length = len(sealed) - tag_length
         if length < 0:
             raise library.InvalidTag
         first = library.first_byte(sealed)
         place = ctypes.addressof(first)
-        library.check(call(self._VARIANT, place, length, *inputs, place + length, self._tag_length))
+        library.check(call(self._VARIANT, place, length, *inputs, place + length, tag_length))
         return length
 
 

@@ -92,7 +92,8 @@ impl<A: Algorithm, R: RafRng, J: JournalChoice> RafBuilder<A, R, J> {
         }
     }
 
-    /// Makes the bytes of `io` a file with no text, and syncs it.
+    /// Makes the bytes of `io` a file with no text, and syncs it. A crash before it returns may leave one that does not
+    /// open.
     ///
     /// # Errors
     ///

@@ -70,7 +70,7 @@ pub struct FileIo {
 impl FileIo {
     /// The bytes of a file that is open for reading and writing, but not for appending, with which Linux writes at no
     /// other place than the end. Its path is not known, so it has no journal but one that
-    /// [`RafBuilder::journal`](super::RafBuilder::journal) sets.
+    /// [`RafBuilder::journal`](super::RafBuilder::journal) sets: a commit that was cut short is not completed.
     pub fn new(file: File) -> Self {
         FileIo {
             file,

@@ -187,6 +187,29 @@ fn each_call_of_a_commit_and_of_an_opening_after_it() {
     }
 }
 
+/// A crash while a file is created leaves none, or an empty one. Once it is created, it opens.
+#[test]
+fn each_call_of_a_creation() {
+    let creating = disks(Bytes::default());
+    let builder = RafBuilder::<Aegis256>::with_rng(Random(6)).journal(creating.1.clone());
+    drop(builder.create(creating.0.clone(), &KEY).unwrap());
+    let calls = creating.0.log.borrow().calls.clone();
+    let mut random = Random(80);
+    let mut seen = [0; 2];
+    for count in 0..=calls.len() {
+        for _ in 0..20 {
+            let left = crashed(&Bytes::default(), &calls[..count], &mut random);
+            match open(&disks(left)) {
+                Ok(file) => assert_eq!(file.size(), 0),
+                Err(Error::Header) => assert!(count < calls.len()),
+                Err(error) => panic!("{error:?}"),
+            }
+            seen[usize::from(count == calls.len())] += 1;
+        }
+    }
+    assert!(seen[0] >= 60 && seen[1] == 20, "{seen:?}");
+}
+
 /// Several commits in a row: a crash in one of them gives the text of before it or the one after it, and no older one.
 #[test]
 fn each_call_of_several_commits() {
