@@ -34,7 +34,7 @@ pub trait RafIo {
     }
 
     /// Refuses all others that would write the bytes, until this is dropped. Called once, before anything is read or written;
-    /// [`Error::Locked`](super::Error::Locked) if another one came first.
+    /// [`Error::Locked`] if another one came first.
     ///
     /// The default does nothing: the caller then has to see that nothing else writes the bytes.
     fn lock(&mut self) -> Result<()> {
@@ -48,7 +48,7 @@ pub trait RafIo {
         None
     }
 
-    /// Returns [`Error::Moved`](super::Error::Moved) if whoever opens these bytes later would not find the journal at
+    /// Returns [`Error::Moved`] if whoever opens these bytes later would not find the journal at
     /// [`journal_path`](RafIo::journal_path). Called before each commit writes anything.
     ///
     /// The default does nothing.
