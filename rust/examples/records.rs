@@ -1,5 +1,4 @@
-//! Sends messages over a pair of sockets as sealed records: none can be changed, left out, repeated or moved, nor the
-//! end cut off.
+//! Sends sealed records over a pair of sockets: none can be changed, left out, repeated or moved, nor the end cut off.
 //!
 //! A stream begins with 24 bytes that are drawn for it. A record is a head of 5 bytes, which are 1 in the last record
 //! and otherwise 0, and the message's length; then its ciphertext and its tag. Its nonce is those 24 bytes, and its

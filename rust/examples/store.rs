@@ -1,8 +1,7 @@
-//! A small store of names and values in an encrypted file. Each change is a commit: a crash leaves all of it or nothing
-//! of it.
+//! A small store of names and values in an encrypted file. A crash leaves all of a change, or nothing of it.
 //!
-//! `store KEYFILE FILE NAME=VALUE` sets a value, and `store KEYFILE FILE` prints all. `head -c 32 /dev/urandom >
-//! KEYFILE` makes a key. Without arguments it tries itself on a file that it removes.
+//! `store KEYFILE FILE NAME=VALUE` sets a value, and `store KEYFILE FILE` prints all of them. A key is made by
+//! `head -c 32 /dev/urandom > KEYFILE`. Without arguments it tries itself on a file that it removes.
 
 use hunkravy::raf::{Aegis256, Raf};
 use std::collections::BTreeMap;
