@@ -18,7 +18,12 @@ fn main() {
     ] {
         println!("cargo::rerun-if-env-changed={variable}");
     }
-    match target().and_then(|()| folder()) {
+    let target = env::var("TARGET").unwrap_or_default();
+    if let Err(message) = check_target(&target) {
+        println!("cargo::error={message}");
+        return;
+    }
+    match folder() {
         Ok(folder) => {
             println!("cargo::rerun-if-changed={}", folder.join(ARCHIVE).display());
             println!("cargo::rustc-link-search=native={}", folder.display());
@@ -28,16 +33,14 @@ fn main() {
     println!("cargo::rustc-link-lib=static=hunkravy");
 }
 
-/// An error if the library cannot be built for what is compiled for.
-fn target() -> Result<(), String> {
-    let target = env::var("TARGET").map_err(|error| error.to_string())?;
-    let has_build = target.starts_with("x86_64-") || target.starts_with("aarch64-");
-    if has_build && target.contains("-linux-") {
-        Ok(())
-    } else {
-        Err(format!(
-            "{ARCHIVE} is for Linux on x86-64 and aarch64, not for {target}"
-        ))
+/// An error if there is no library for a target. One with another C library than glibc, as musl, would link with it,
+/// and crash at the first call.
+pub fn check_target(target: &str) -> Result<(), String> {
+    match target {
+        "x86_64-unknown-linux-gnu" | "aarch64-unknown-linux-gnu" => Ok(()),
+        _ => Err(format!(
+            "{ARCHIVE} is for x86_64-unknown-linux-gnu and aarch64-unknown-linux-gnu, with glibc, not for {target}"
+        )),
     }
 }
 

@@ -1,13 +1,13 @@
 /*
- * Keeps a text in a file of sealed pages, which A CRASH WHILE IT WRITES MAY LOSE, and reads and
- * writes it at any place:
+ * Keeps a text in a file of sealed pages, which a crash while it writes MAY LOSE, all of it: there is
+ * no journal. For files that outlast a crash use `raf` of the Cargo package or the Rattle crate
+ * `aegis_pages`. It reads and writes the text at any place:
  *
  *     pages KEYFILE FILE PLACE [TEXT]
  *
  * A key file has 32 bytes. The first call makes the file. TEXT is written at PLACE, which is not
  * past the text's end; without TEXT it prints what is there, at most 4,096 bytes. Without arguments
- * it tries itself on a temporary file. For safety from crashes, write by way of a journal, as the
- * Cargo package's `raf` does; docs/PAGES.md of the repository has the format.
+ * it tries itself on a temporary file. docs/PAGES.md of the repository has the format of the file.
  *
  * cc pages.c $(pkg-config --cflags --libs hunkravy)
  */

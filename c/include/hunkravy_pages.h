@@ -1,18 +1,20 @@
 /*
- * Sealed pages: a text in a file that is read and written at any place. The text is cut into pages of one size, each of
- * which is encrypted on its own, by any variant with a tag of 32 bytes. These calls seal and open a page or a header, and
- * you read and write the file. A page opens only under its number and the id of its file, but an older page of the same
- * number opens too. The files are those of the Rattle library's `aegis_pages` and of the Cargo package's `raf`, of the
- * format in docs/PAGES.md of their repository.
+ * Sealed pages: a text in a file that is read and written at any place, and that a crash while you write MAY LOSE,
+ * unless you write by way of a journal. For files that outlast a crash use `raf` of the Cargo package or the Rattle
+ * crate `aegis_pages`, which keep one: these calls only seal and open a page or a header, and you read and write the
+ * file.
+ *
+ * The text is cut into pages of one size, each of which is encrypted on its own, by any variant with a tag of 32 bytes.
+ * A page opens only under its number and the id of its file, but an older page of the same number opens too. The files
+ * are those of `aegis_pages` and `raf`, of the format in docs/PAGES.md of their repository.
  *
  * A file begins with a sector of HUNKRAVY_PAGE_SECTOR_BYTES that has its header: the variant, the page size, the file's
  * id, a counter, and the length of the text. The pages begin at byte HUNKRAVY_PAGE_FIRST, each whole, the last one too: a
  * nonce of hunkravy_key_bytes(variant) bytes, the encrypted text, and the tag.
  *
  * A crash may tear whatever was not synced, and a file whose header is torn is lost: so it is with the example pages.c,
- * which has no journal. For safety from crashes, write pages and header by way of a journal, which docs/PAGES.md
- * defines, and which the calls of hunkravy_records.h seal and open. If a journal that is not empty lies beside a file,
- * complete it before you open the file: the Rattle library and the Cargo package do.
+ * which has no journal. docs/PAGES.md defines the journal, which the calls of hunkravy_records.h seal and open. If one
+ * that is not empty lies beside a file, complete it before you open the file: `aegis_pages` and `raf` do.
  *
  * To change some bytes of a page: read the page, open it, change its text, seal it with a fresh nonce, and write it. To
  * change the length: write the pages that are new, and then the header with the next counter.

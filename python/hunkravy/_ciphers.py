@@ -3,6 +3,7 @@
 from __future__ import annotations
 
 import ctypes
+import operator
 import os
 from typing import TYPE_CHECKING, Any, Optional
 
@@ -14,7 +15,7 @@ if TYPE_CHECKING:
     from _typeshed import ReadableBuffer, WriteableBuffer
 
 
-class Cipher(variants.Variant):
+class Cipher(variants.Variant, library.Secret):
     """A cipher with a key. `tag_length` is the number of bytes of its tags, 16 or 32.
 
     Data, associated data and nonces may be any buffers of bytes: bytes, bytearray, memoryview, mmap, array and the like. A key,
@@ -55,7 +56,7 @@ class Cipher(variants.Variant):
         message = memoryview(data).cast("B")
         sealed = bytearray(len(message) + self._tag_length)
         sealed[: len(message)] = message
-        self._in_place(library.encrypt_in_place, nonce, sealed, associated_data)
+        self._in_place(library.encrypt_in_place, sealed, self._inputs(nonce, associated_data))
         return bytes(sealed)
 
     def encrypt_into(
@@ -65,12 +66,16 @@ class Cipher(variants.Variant):
         associated_data: Optional[ReadableBuffer],
         buf: WriteableBuffer,
     ) -> int:
-        """Encrypts a message into a buffer, which has the message's length and the tag's. Returns that length."""
+        """Encrypts a message into a buffer, which has the message's length and the tag's. Returns that length.
+
+        The message, the nonce and the associated data may lie in the buffer.
+        """
         message = memoryview(data).cast("B")
         length = len(message) + self._tag_length
+        inputs = self._inputs(nonce, associated_data)
         with library.writable(buf, length) as sealed:
             sealed[: len(message)] = message
-            self._in_place(library.encrypt_in_place, nonce, sealed, associated_data)
+            self._in_place(library.encrypt_in_place, sealed, inputs)
         return length
 
     def decrypt(
@@ -81,7 +86,9 @@ class Cipher(variants.Variant):
     ) -> bytes:
         """Decrypts a ciphertext that has its tag after it. Raises `InvalidTag` if it is another's, or if there is none."""
         sealed = bytearray(memoryview(data).cast("B"))
-        length = self._in_place(library.decrypt_in_place, nonce, sealed, associated_data)
+        length = self._in_place(
+            library.decrypt_in_place, sealed, self._inputs(nonce, associated_data)
+        )
         return bytes(memoryview(sealed)[:length])
 
     def decrypt_into(
@@ -97,9 +104,10 @@ class Cipher(variants.Variant):
         """
         sealed = bytearray(memoryview(data).cast("B"))
         length = max(len(sealed) - self._tag_length, 0)
+        inputs = self._inputs(nonce, associated_data)
         with library.writable(buf, length) as message:
             try:
-                self._in_place(library.decrypt_in_place, nonce, sealed, associated_data)
+                self._in_place(library.decrypt_in_place, sealed, inputs)
             except library.InvalidTag:
                 message[:] = memoryview(sealed)[:length]
                 raise
@@ -110,56 +118,56 @@ class Cipher(variants.Variant):
         self, nonce: ReadableBuffer, associated_data: Optional[ReadableBuffer] = None
     ) -> Encryptor:
         """Begins a message that is encrypted in chunks."""
-        return Encryptor(self._begin(nonce, associated_data), self._tag_length)
+        return Encryptor._of(self._begin(nonce, associated_data), self._tag_length)
 
     def decryptor(
         self, nonce: ReadableBuffer, associated_data: Optional[ReadableBuffer] = None
     ) -> Decryptor:
         """Begins a ciphertext that comes in chunks."""
-        return Decryptor(self._begin(nonce, associated_data), self._tag_length)
+        return Decryptor._of(self._begin(nonce, associated_data), self._tag_length)
 
     def keystream(self, nonce: ReadableBuffer, length: int) -> bytes:
         """Returns so many bytes of the keystream. A nonce must not be used for a message and for a keystream."""
-        out = bytearray(length)
+        out = bytearray(operator.index(length))
+        nonce_and_key = self._nonce_and_key(nonce)
         library.check(
-            library.stream(
-                self._VARIANT, library.pointer(out), length, *self._nonce_and_key(nonce)
-            )
+            library.stream(self._VARIANT, library.pointer(out), len(out), *nonce_and_key)
         )
         return bytes(out)
 
     def _nonce_and_key(self, nonce: ReadableBuffer) -> tuple[bytes, int, bytes, int]:
-        size = self.NONCE_BYTES
-        return library.exactly("nonce", nonce, size), size, self._key, self.KEY_BYTES
+        start, key = library.exactly("nonce", nonce, self.NONCE_BYTES), self._key
+        return start, len(start), key, len(key)
+
+    def _inputs(
+        self, nonce: ReadableBuffer, associated_data: Optional[ReadableBuffer]
+    ) -> tuple[bytes, int, bytes, int, bytes, int]:
+        """The associated data, the nonce and the key, each with its length, as they are now."""
+        data = library.associated(associated_data)
+        return (data, len(data), *self._nonce_and_key(nonce))
 
     def _begin(
         self, nonce: ReadableBuffer, associated_data: Optional[ReadableBuffer]
     ) -> library.State:
-        data = library.associated(associated_data)
         state = library.State()
-        library.check(
-            library.state_init(
-                self._VARIANT, state, data, len(data), *self._nonce_and_key(nonce)
-            )
-        )
+        inputs = self._inputs(nonce, associated_data)
+        library.check(library.state_init(self._VARIANT, state, *inputs))
         return state
 
     def _in_place(
         self,
         call: Any,
-        nonce: ReadableBuffer,
         sealed: bytearray | memoryview,
-        associated_data: Optional[ReadableBuffer],
+        inputs: tuple[bytes, int, bytes, int, bytes, int],
     ) -> int:
         """Encrypts or decrypts in place the bytes of a buffer in front of their tag. Returns how many there are."""
-        data = library.associated(associated_data)
-        arguments = data, len(data), *self._nonce_and_key(nonce)
-        length = len(sealed) - self._tag_length
+        tag_length = self._tag_length
+        length = len(sealed) - tag_length
         if length < 0:
             raise library.InvalidTag
         first = library.first_byte(sealed)
         place = ctypes.addressof(first)
-        library.check(call(self._VARIANT, place, length, *arguments, place + length, self._tag_length))
+        library.check(call(self._VARIANT, place, length, *inputs, place + length, tag_length))
         return length
 
 

@@ -4,9 +4,11 @@ from __future__ import annotations
 
 import ctypes
 import os
-from typing import TYPE_CHECKING, Any, Optional
+from typing import TYPE_CHECKING, Any, NoReturn, Optional
 
 if TYPE_CHECKING:
+    from typing import SupportsIndex
+
     from _typeshed import ReadableBuffer, WriteableBuffer
 
 
@@ -18,7 +20,17 @@ class InvalidTag(Exception):
 OK = 0
 INVALID_TAG = -1
 
-class State(ctypes.Array[ctypes.c_uint64]):
+
+class Secret:
+    """What has a key or a state, so that it is neither copied nor pickled: each is a `TypeError`."""
+
+    __slots__ = ()
+
+    def __reduce_ex__(self, protocol: SupportsIndex) -> NoReturn:
+        raise TypeError(f"{type(self).__name__} has a secret, and is neither copied nor pickled")
+
+
+class State(Secret, ctypes.Array[ctypes.c_uint64]):
     """`hunkravy_state` of the library's header: 672 bytes, aligned to 8."""
 
     _type_ = ctypes.c_uint64
@@ -80,8 +92,11 @@ def check(code: int) -> None:
 
 
 def readable(data: ReadableBuffer) -> bytes:
-    """The bytes of a buffer: itself if it is bytes, and otherwise a copy."""
-    return data if isinstance(data, bytes) else bytes(memoryview(data))
+    """The bytes of a buffer: itself if it is bytes, and otherwise a copy.
+
+    So `len` of the result counts its bytes. That of an object of a subclass may return anything.
+    """
+    return data if type(data) is bytes else bytes(memoryview(data))
 
 
 def associated(data: Optional[ReadableBuffer]) -> bytes:
@@ -99,9 +114,10 @@ def exactly(name: str, data: ReadableBuffer, length: int) -> bytes:
 
 def tag_length_of(length: int) -> int:
     """Returns the length, if a tag or a MAC may have it."""
-    if length not in (16, 32):
-        raise ValueError("a tag has 16 or 32 bytes")
-    return length
+    for allowed in (16, 32):
+        if length == allowed:
+            return allowed
+    raise ValueError("a tag has 16 or 32 bytes")
 
 
 def writable(buffer: WriteableBuffer, length: int) -> memoryview:

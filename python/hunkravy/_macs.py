@@ -4,7 +4,7 @@ from __future__ import annotations
 
 import ctypes
 import threading
-from typing import TYPE_CHECKING, Optional
+from typing import TYPE_CHECKING, Any, Optional
 
 from . import _library as library
 from . import _variants as variants
@@ -13,7 +13,7 @@ if TYPE_CHECKING:
     from _typeshed import ReadableBuffer
 
 
-class Mac(variants.Variant):
+class Mac(variants.Variant, library.Secret):
     """The MAC of an input that comes in chunks. The key must be used for nothing but MACs.
 
     `tag_length` is the number of bytes of the MAC, 16 or 32. The nonce is one of zeros if none is given.
@@ -42,7 +42,7 @@ class Mac(variants.Variant):
         self._lock = threading.Lock()
         self._state = library.State()
         library.check(
-            library.mac_init(self._VARIANT, self._state, start, size, found, len(found))
+            library.mac_init(self._VARIANT, self._state, start, len(start), found, len(found))
         )
         if data is not None:
             self.update(data)
@@ -85,6 +85,11 @@ class Mac(variants.Variant):
         with self._lock:
             other._state = library.State.from_buffer_copy(self._state)
         return other
+
+    __copy__ = copy
+
+    def __deepcopy__(self, memo: dict[int, Any]) -> Mac:
+        return self.copy()
 
 
 class Aegis128LMac(variants.Aegis128L, Mac):

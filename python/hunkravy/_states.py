@@ -10,17 +10,27 @@ from . import _library as library
 
 if TYPE_CHECKING:
     from _typeshed import ReadableBuffer
+    from typing_extensions import Self
 
 
-class Chunks:
+class Chunks(library.Secret):
     """A state of the library, which is overwritten when it ends. One call at a time uses it."""
 
     __slots__ = ("_lock", "_state", "_tag_length")
+    _lock: threading.Lock
+    _state: Optional[library.State]
+    _tag_length: int
 
-    def __init__(self, state: library.State, tag_length: int) -> None:
-        self._lock = threading.Lock()
-        self._state: Optional[library.State] = state
-        self._tag_length = tag_length
+    def __init__(self) -> None:
+        raise TypeError("a cipher begins messages, by `encryptor` or `decryptor`")
+
+    @classmethod
+    def _of(cls, state: library.State, tag_length: int) -> Self:
+        chunks = cls.__new__(cls)
+        chunks._lock = threading.Lock()
+        chunks._state = state
+        chunks._tag_length = tag_length
+        return chunks
 
     def __del__(self) -> None:
         state = getattr(self, "_state", None)
@@ -82,10 +92,13 @@ class Decryptor(Chunks):
     """
 
     __slots__ = ("_message",)
+    _message: list[bytearray]
 
-    def __init__(self, state: library.State, tag_length: int) -> None:
-        super().__init__(state, tag_length)
-        self._message = bytearray()
+    @classmethod
+    def _of(cls, state: library.State, tag_length: int) -> Self:
+        chunks = super()._of(state, tag_length)
+        chunks._message = []
+        return chunks
 
     def __del__(self) -> None:
         super().__del__()
@@ -93,16 +106,14 @@ class Decryptor(Chunks):
 
     def update(self, data: ReadableBuffer) -> None:
         """Takes in the next chunk of the ciphertext, without its tag."""
+        chunk = bytearray(memoryview(data))
         with self._lock:
-            state = self._running()
-            start = len(self._message)
-            self._message += memoryview(data)
-            with memoryview(self._message)[start:] as chunk:
-                library.check(
-                    library.state_decrypt_in_place_unverified(
-                        state, library.pointer(chunk), len(chunk)
-                    )
+            library.check(
+                library.state_decrypt_in_place_unverified(
+                    self._running(), library.pointer(chunk), len(chunk)
                 )
+            )
+            self._message.append(chunk)
 
     def finalize(self, tag: ReadableBuffer) -> bytes:
         """Ends the ciphertext, and returns its message. Raises `InvalidTag`, and erases the message, if the tag is wrong."""
@@ -111,13 +122,12 @@ class Decryptor(Chunks):
             state = self._running()
             self._state = None
             code = library.state_decrypt_final(state, None, 0, expected, len(expected))
-            message = bytes(self._message) if code == library.OK else b""
+            message = b"".join(self._message) if code == library.OK else b""
             self._erase()
         library.check(code)
         return message
 
     def _erase(self) -> None:
-        message = getattr(self, "_message", None)
-        if message:
-            ctypes.memset(library.pointer(message), 0, len(message))
-        self._message = bytearray()
+        for chunk in getattr(self, "_message", []):
+            chunk[:] = bytes(len(chunk))
+        self._message = []

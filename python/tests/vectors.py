@@ -43,8 +43,11 @@ def written(data: bytes) -> str:
 def lines(command: str) -> Iterator[Line]:
     """The stored lines of a command whose answer is no fault of the line."""
     for source in sorted(FOLDER.glob("*.in")):
-        answers = source.with_suffix(".out").read_text().splitlines()
-        for line, answer in zip(source.read_text().splitlines(), answers):
+        # A line may have other characters at which `splitlines` would split it.
+        questions = source.read_bytes().decode().split("\n")
+        answers = source.with_suffix(".out").read_bytes().decode().split("\n")
+        assert len(questions) == len(answers) > 1, source
+        for line, answer in zip(questions, answers):
             fields = line.split(" ")
             if fields[0] == command and not answer.startswith("error"):
                 yield Line(fields, answer)

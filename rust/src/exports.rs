@@ -95,6 +95,16 @@ impl State {
         self.message_bytes = message_bytes;
     }
 
+    /// Returns whether each number of it is zero.
+    #[cfg(test)]
+    pub fn is_zero(&self) -> bool {
+        let numbers = [self.mark, self.data_bytes, self.message_bytes];
+        let blocks = self.rows.iter().chain([&self.block]);
+        numbers == [0; 3]
+            && blocks.flatten().all(|byte| *byte == 0)
+            && (self.variant, self.role) == (0, 0)
+    }
+
     /// Overwrites the state with zeros. The compiler keeps the write even if nothing reads the state again.
     pub fn wipe(&mut self) {
         // SAFETY: the pointer is that of an exclusive borrow of a state.

@@ -80,9 +80,10 @@ pub const MAX_SIZE: u64 = 1 << 60;
 
 /// An encrypted file. [`RafBuilder`] has all ways to create and to open one.
 ///
-/// Changes are kept in memory until a commit: [`commit`](Raf::commit), [`sync`](Raf::sync), dropping, and a write after which they
-/// are more than the [limit](RafBuilder::buffer_limit). **Dropping ignores the error of its commit**, so call `commit` first. A
-/// thread that panics drops without a commit.
+/// Changes are kept in memory until a commit: [`commit`](Raf::commit), [`sync`](Raf::sync), dropping, and a write after
+/// which they are more than the [limit](RafBuilder::buffer_limit). **Dropping ignores the error of its commit**, so
+/// call `commit` first. No drop commits a part of what was to be committed: neither after a change or a commit that has
+/// failed, until the next `commit` that succeeds or [`discard`](Raf::discard), nor while the thread panics.
 ///
 /// After an error in the middle of a commit the file is broken: each later call returns [`Error::Broken`], and opening the file
 /// again gives the text of before the commit or the one after it.
@@ -101,6 +102,9 @@ pub struct Raf<A: Algorithm, I: RafIo = FileIo, R: RafRng = OsRng, J: RafIo = Jo
     /// The page that was last read or written, with its nonce in front of it and its tag after it.
     page: Vec<u8>,
     is_broken: bool,
+    /// Whether a change has failed since the last commit, so that those in memory may be a part of what was to be
+    /// committed.
+    is_cut_short: bool,
 }
 
 impl<A: Algorithm> Raf<A> {
@@ -170,6 +174,12 @@ impl<A: Algorithm, I: RafIo, R: RafRng, J: RafIo> Raf<A, I, R, J> {
     /// [`Error::TooLong`], [`Error::Damaged`], [`Error::Io`] or [`Error::Broken`], and nothing has changed; or an error of the
     /// commit, and the change is in memory as it is after an error of [`commit`](Raf::commit).
     pub fn write(&mut self, data: &[u8], offset: u64) -> Result<usize> {
+        let written = self.write_each(data, offset);
+        self.is_cut_short |= written.is_err();
+        written
+    }
+
+    fn write_each(&mut self, data: &[u8], offset: u64) -> Result<usize> {
         self.check_is_whole()?;
         let end = offset
             .checked_add(data.len() as u64)
@@ -218,14 +228,23 @@ impl<A: Algorithm, I: RafIo, R: RafRng, J: RafIo> Raf<A, I, R, J> {
     ///
     /// # Errors
     ///
-    /// [`Error::Broken`], [`Error::TooLong`], [`Error::Io`] of a read, or one of the source of random bytes, before anything is
-    /// written: the changes are still in memory. After any other [`Error::Io`] the file is broken. Open it again, which gives
-    /// the text of before the changes or the one after them.
+    /// [`Error::Broken`], [`Error::Moved`], [`Error::TooLong`], [`Error::Io`] of a read, or one of the source of random
+    /// bytes, before anything is written: the changes are still in memory. After any other [`Error::Io`] the file is
+    /// broken. Open it again, which gives the text of before the changes or the one after them.
     pub fn commit(&mut self) -> Result<()> {
+        self.is_cut_short = true;
+        self.commit_all()?;
+        self.is_cut_short = false;
+        Ok(())
+    }
+
+    fn commit_all(&mut self) -> Result<()> {
         self.check_is_whole()?;
         if self.changes.is_empty() && self.size == self.stored {
             return Ok(());
         }
+        self.io.check_path()?;
+        self.journal.check_path()?;
         let counter = self.counter.checked_add(1).ok_or(Error::TooLong)?;
         let sector = recovery::read_sector(&mut self.io)?
             .ok_or(Error::Io(ErrorKind::UnexpectedEof.into()))?;
@@ -254,6 +273,7 @@ impl<A: Algorithm, I: RafIo, R: RafRng, J: RafIo> Raf<A, I, R, J> {
     pub fn discard(&mut self) {
         self.changes.clear();
         self.size = self.stored;
+        self.is_cut_short = false;
     }
 
     /// Returns a cursor at the start of the text, which reads, writes and seeks as a file does.
@@ -342,10 +362,10 @@ impl<A: Algorithm, I: RafIo, R: RafRng, J: RafIo> Raf<A, I, R, J> {
     }
 }
 
-/// Commits the changes, and ignores the error, unless the thread panics.
+/// Commits the changes, and ignores the error, unless a change has failed or the thread panics.
 impl<A: Algorithm, I: RafIo, R: RafRng, J: RafIo> Drop for Raf<A, I, R, J> {
     fn drop(&mut self) {
-        if !std::thread::panicking() {
+        if !self.is_cut_short && !std::thread::panicking() {
             let _ = self.commit();
         }
         wipe(&mut self.page);

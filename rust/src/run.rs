@@ -103,7 +103,21 @@ impl<V: Variant> Drop for Run<V> {
 mod tests {
     use super::Run;
     use crate::aegis256x2::{Decryptor, Encryptor, Error, Marker};
+    use crate::wipe::tests::left_of;
     use crate::{MAX_AEAD_BYTES, Mac};
+
+    /// Nothing of a state is left.
+    #[test]
+    fn a_run_that_was_dropped() {
+        let state = left_of(Run::<Marker>::new(&[1; 32], &[2; 32], b"header"), |run| {
+            &run.state
+        });
+        assert!(state.is_zero());
+        let mac = Run::<Marker>::of_mac(&[1; 32], &[2; 32]);
+        assert!(!mac.state.is_zero());
+        assert!(left_of(mac.clone(), |run| &run.state).is_zero());
+        assert!(!mac.state.is_zero());
+    }
 
     /// A run that has room for one more byte.
     fn nearly_full() -> Run<Marker> {

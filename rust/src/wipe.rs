@@ -7,3 +7,26 @@ pub(crate) fn wipe(bytes: &mut [u8]) {
         unsafe { core::ptr::write_volatile(byte, 0) }
     }
 }
+
+#[cfg(test)]
+pub(crate) mod tests {
+    use core::mem::MaybeUninit;
+
+    /// Drops a value, and returns what is left in the place of a field, which is of numbers alone.
+    pub(crate) fn left_of<T, F>(value: T, field: fn(&T) -> &F) -> F {
+        let offset = field(&value) as *const F as usize - &raw const value as usize;
+        let mut place = MaybeUninit::new(value);
+        // SAFETY: the value is dropped once, and the field lies in its place, where dropping leaves numbers.
+        unsafe {
+            place.as_mut_ptr().drop_in_place();
+            place.as_ptr().byte_add(offset).cast::<F>().read()
+        }
+    }
+
+    #[test]
+    fn bytes() {
+        let mut bytes = [1; 5];
+        super::wipe(&mut bytes[1..]);
+        assert_eq!(bytes, [1, 0, 0, 0, 0]);
+    }
+}

@@ -5,6 +5,7 @@ use super::{
     Variant,
 };
 use crate::MAX_AEAD_BYTES;
+use crate::wipe::tests::left_of;
 use alloc::vec;
 use alloc::vec::Vec;
 
@@ -396,4 +397,15 @@ fn records_open_in_their_order() {
     assert_eq!(first[RECORD_HEAD_BYTES..10], *b"first");
     assert_eq!(records.open(&mut last), Ok(true));
     assert_eq!(records.open(&mut last), Err(Refusal::WrongState));
+}
+
+/// Nothing of a stream's key is left.
+#[test]
+fn records_that_were_dropped() {
+    let opaque = |records| left_of(records, |records: &Records| &records.opaque);
+    let (records, header) = Records::begin(&[1; 32], &[2; 24]);
+    assert_ne!(records.opaque, [0; 11]);
+    assert_eq!(opaque(records), [0; 11]);
+    let records = Records::begin_open(&[1; 32], &[2; 24], &header).unwrap();
+    assert_eq!(opaque(records), [0; 11]);
 }

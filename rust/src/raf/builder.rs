@@ -1,7 +1,7 @@
 //! How a file is created or opened.
 
 use super::changes::Changes;
-use super::io::{Beside, FileIo, JournalChoice, JournalFile, RafIo, journal_path, sync_folder};
+use super::io::{Beside, FileIo, JournalChoice, JournalFile, RafIo, journal_path};
 use super::layout::{ID_BYTES, Layout, is_chunk_size};
 use super::recovery::recover;
 use super::rng::{OsRng, RafRng};
@@ -53,7 +53,7 @@ impl<A: Algorithm, R: RafRng, J: JournalChoice> RafBuilder<A, R, J> {
         self
     }
 
-    /// Sets whether a file that exists is overwritten by a new one.
+    /// Sets whether a file that exists is overwritten by a new one. A crash in between may leave neither.
     pub fn truncate(mut self, truncate: bool) -> Self {
         self.truncate = truncate;
         self
@@ -92,13 +92,14 @@ impl<A: Algorithm, R: RafRng, J: JournalChoice> RafBuilder<A, R, J> {
         }
     }
 
-    /// Makes the bytes of `io` a file with no text, and syncs it.
+    /// Makes the bytes of `io` a file with no text, and syncs it. A crash before it returns may leave one that does not
+    /// open.
     ///
     /// # Errors
     ///
-    /// [`Error::ChunkSize`], an error of the source of random bytes, [`Error::Locked`], [`Error::Journal`] if the journal is not
-    /// empty, or [`io::ErrorKind::AlreadyExists`] if `io` is not and [`truncate`](Self::truncate) was not set. Nothing was
-    /// changed then. Or [`Error::Io`].
+    /// [`Error::ChunkSize`], an error of the source of random bytes, [`Error::Locked`], [`Error::Moved`],
+    /// [`Error::Journal`] if the journal is not empty, or [`io::ErrorKind::AlreadyExists`] if `io` is not and
+    /// [`truncate`](Self::truncate) was not set. Nothing was changed then. Or [`Error::Io`].
     pub fn create<I: RafIo>(mut self, io: I, key: &A::Key) -> Result<Raf<A, I, R, J::Journal>> {
         let draws = self.draw()?;
         self.begin(io, key, &draws)
@@ -108,9 +109,9 @@ impl<A: Algorithm, R: RafRng, J: JournalChoice> RafBuilder<A, R, J> {
     ///
     /// # Errors
     ///
-    /// [`Error::Locked`]; [`Error::Header`] if there is no header of this algorithm and key; or [`Error::Journal`] if the
-    /// journal is that of another file, or of another state of this one. Nothing was changed then. Or [`Error::Io`]: nothing is
-    /// lost, so open it again.
+    /// [`Error::Locked`]; [`Error::Moved`]; [`Error::Header`] if there is no header of this algorithm and key; or
+    /// [`Error::Journal`] if the journal is that of another file, or of another state of this one, or none. Nothing was
+    /// changed then. Or [`Error::Io`]: nothing is lost, so open it again.
     pub fn open<I: RafIo>(self, mut io: I, key: &A::Key) -> Result<Raf<A, I, R, J::Journal>> {
         io.lock()?;
         let mut builder = self.choose(&io);
@@ -140,9 +141,7 @@ impl<A: Algorithm, R: RafRng, J: JournalChoice> RafBuilder<A, R, J> {
         } else {
             FileIo::create_new(path)?
         };
-        let file = self.begin(io, key, &draws)?;
-        sync_folder(&path.canonicalize()?)?;
-        Ok(file)
+        self.begin(io, key, &draws)
     }
 
     /// Opens the file at a path, and completes a commit that was cut short, or leaves out all of it. The errors are those of
@@ -226,6 +225,7 @@ impl<A: Algorithm, R: RafRng, J: RafIo> RafBuilder<A, R, J> {
             changes: Changes::default(),
             buffer_limit: self.buffer_limit,
             is_broken: false,
+            is_cut_short: false,
         }
     }
 }

@@ -12,7 +12,7 @@ pub enum Error {
     Io(io::Error),
     /// There is no header that was written by this algorithm and under this key.
     Header,
-    /// The journal is that of another file, or of another state of this one.
+    /// The journal is that of another file, or of another state of this one, or the file of that name is no journal.
     Journal,
     /// The page of this number was not written under the key for its place in this file.
     Damaged(u64),
@@ -26,6 +26,9 @@ pub enum Error {
     Commitment,
     /// The file is open elsewhere, in this program or in another.
     Locked,
+    /// The file was renamed, removed or replaced while it was open, or it has several names (hard links): its journal
+    /// would not be found.
+    Moved,
     /// A commit has failed while it was written. Open the file again.
     Broken,
 }
@@ -45,6 +48,7 @@ impl fmt::Display for Error {
             Error::ContextTooLong => "the context is too long",
             Error::Commitment => "not the file that was committed to",
             Error::Locked => "the file is open elsewhere",
+            Error::Moved => "the file is not, or not only, at the path by which it was opened",
             Error::Broken => "a commit has failed: open the file again",
         };
         f.write_str(text)

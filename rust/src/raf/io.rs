@@ -1,11 +1,11 @@
 //! Where the bytes of a file and of its journal are kept.
 
-use super::Result;
+use super::{Error, Result};
 use alloc::vec::Vec;
 use std::ffi::OsString;
-use std::fs::{self, File, OpenOptions};
+use std::fs::{self, File, Metadata, OpenOptions};
 use std::io;
-use std::os::unix::fs::FileExt;
+use std::os::unix::fs::{FileExt, MetadataExt};
 use std::path::{Path, PathBuf};
 
 /// Bytes that are read and written at any place.
@@ -34,7 +34,7 @@ pub trait RafIo {
     }
 
     /// Refuses all others that would write the bytes, until this is dropped. Called once, before anything is read or written;
-    /// [`Error::Locked`](super::Error::Locked) if another one came first.
+    /// [`Error::Locked`] if another one came first.
     ///
     /// The default does nothing: the caller then has to see that nothing else writes the bytes.
     fn lock(&mut self) -> Result<()> {
@@ -47,45 +47,58 @@ pub trait RafIo {
     fn journal_path(&self) -> Option<PathBuf> {
         None
     }
+
+    /// Returns [`Error::Moved`] if whoever opens these bytes later would not find the journal at
+    /// [`journal_path`](RafIo::journal_path). Called before each commit writes anything.
+    ///
+    /// The default does nothing.
+    fn check_path(&mut self) -> Result<()> {
+        Ok(())
+    }
 }
 
 /// A file of the system, which is locked (as by `flock`) while a [`Raf`](super::Raf) is over it, and whose journal lies beside
-/// it: [`JournalFile`].
+/// it: [`JournalFile`]. A file with several names (hard links) is refused, since each of them would have a journal.
 #[derive(Debug)]
 pub struct FileIo {
     file: File,
-    journal: Option<PathBuf>,
+    /// With no links in it.
+    path: Option<PathBuf>,
+    is_name_synced: bool,
 }
 
 impl FileIo {
-    /// The bytes of a file that is open for reading and writing. Its path is not known, so it has no journal but one that
-    /// [`RafBuilder::journal`](super::RafBuilder::journal) sets.
+    /// The bytes of a file that is open for reading and writing, but not for appending, with which Linux writes at no
+    /// other place than the end. Its path is not known, so it has no journal but one that
+    /// [`RafBuilder::journal`](super::RafBuilder::journal) sets: a commit that was cut short is not completed.
     pub fn new(file: File) -> Self {
         FileIo {
             file,
-            journal: None,
+            path: None,
+            is_name_synced: true,
         }
     }
 
     /// Opens the file at a path, and makes it if there is none. What it holds is kept.
     pub fn create(path: impl AsRef<Path>) -> Result<Self> {
-        Self::with(File::options().create(true), path.as_ref())
+        Self::with(File::options().create(true), path.as_ref(), false)
     }
 
     /// Opens the file at a path.
     pub fn open(path: impl AsRef<Path>) -> Result<Self> {
-        Self::with(&mut File::options(), path.as_ref())
+        Self::with(&mut File::options(), path.as_ref(), true)
     }
 
     /// Makes a file at a path where there is none.
     pub(super) fn create_new(path: &Path) -> Result<Self> {
-        Self::with(File::options().create_new(true), path)
+        Self::with(File::options().create_new(true), path, false)
     }
 
-    fn with(options: &mut OpenOptions, path: &Path) -> Result<Self> {
+    fn with(options: &mut OpenOptions, path: &Path, is_name_synced: bool) -> Result<Self> {
         Ok(FileIo {
             file: options.read(true).write(true).open(path)?,
-            journal: Some(journal_path(path)?),
+            path: Some(resolved(path)?),
+            is_name_synced,
         })
     }
 }
@@ -107,16 +120,41 @@ impl RafIo for FileIo {
         self.file.set_len(size)
     }
 
+    /// Syncs the file, and the name of one that may be new.
     fn sync(&mut self) -> io::Result<()> {
-        self.file.sync_all()
+        self.file.sync_all()?;
+        if let (Some(path), false) = (&self.path, self.is_name_synced) {
+            sync_folder(path)?;
+            self.is_name_synced = true;
+        }
+        Ok(())
     }
 
     fn lock(&mut self) -> Result<()> {
-        Ok(self.file.try_lock()?)
+        self.file.try_lock()?;
+        self.check_path()
     }
 
     fn journal_path(&self) -> Option<PathBuf> {
-        self.journal.clone()
+        self.path.as_deref().map(with_journal)
+    }
+
+    fn check_path(&mut self) -> Result<()> {
+        let Some(path) = &self.path else {
+            return Ok(());
+        };
+        let own = self.file.metadata()?;
+        match found_at(path)? {
+            Some(found) if is_same(&found, &own) && own.nlink() == 1 => Ok(()),
+            _ => Err(Error::Moved),
+        }
+    }
+}
+
+/// Unlocks the file, also if another descriptor of it is open, as in a process that is being started.
+impl Drop for FileIo {
+    fn drop(&mut self) {
+        let _ = self.file.unlock();
     }
 }
 
@@ -148,18 +186,24 @@ impl RafIo for NoJournal {
 
 /// The journal of a file at a path: a file beside it, whose name has `.journal` after that of the file. There is one only
 /// while a commit is written, and after one that was cut short. Symbolic links are followed, so that a file has one journal by
-/// whichever of them it is named; but not so for the names of a file that has several.
+/// whichever of them it is named. A journal that is itself a link, or no file, is refused, with
+/// [`io::ErrorKind::InvalidData`], and nothing is changed.
 ///
 /// If there is no path, as for a storage in memory, it is as [`NoJournal`].
 #[derive(Debug)]
 pub struct JournalFile {
     path: Option<PathBuf>,
     file: Option<File>,
+    is_name_synced: bool,
 }
 
 impl JournalFile {
     pub(super) fn at(path: Option<PathBuf>) -> Self {
-        JournalFile { path, file: None }
+        JournalFile {
+            path,
+            file: None,
+            is_name_synced: false,
+        }
     }
 
     /// Opens the file, or returns `None` if there is none and none is to be made.
@@ -169,36 +213,86 @@ impl JournalFile {
         };
         if self.file.is_none() {
             let mut options = File::options();
-            match options.read(true).write(true).create(create).open(path) {
-                Ok(file) => self.file = Some(file),
-                Err(error) if !create && error.kind() == io::ErrorKind::NotFound => (),
-                Err(error) => return Err(error),
-            }
+            options.read(true).write(true);
+            self.file = match journal_at(path)? {
+                Some(found) => Some(open_same(&options, path, &found)?),
+                // It follows no link.
+                None if create => Some(options.create_new(true).open(path)?),
+                None => None,
+            };
         }
         Ok(self.file.as_mut())
     }
 }
 
-/// Returns the path of the journal of a file. There need not be such a file yet.
-pub(super) fn journal_path(path: &Path) -> io::Result<PathBuf> {
-    let mut name = OsString::from(resolved(path)?);
-    name.push(".journal");
-    Ok(name.into())
+/// Opens the file that was found at a path.
+fn open_same(options: &OpenOptions, path: &Path, found: &Metadata) -> io::Result<File> {
+    let file = options.open(path)?;
+    if is_same(&file.metadata()?, found) {
+        Ok(file)
+    } else {
+        Err(no_journal())
+    }
 }
 
-/// The path of a file with no links in it.
+/// Returns what is at the path of a journal. An error if it is no file.
+fn journal_at(path: &Path) -> io::Result<Option<Metadata>> {
+    match found_at(path)? {
+        Some(found) if !found.is_file() => Err(no_journal()),
+        found => Ok(found),
+    }
+}
+
+fn no_journal() -> io::Error {
+    io::Error::new(
+        io::ErrorKind::InvalidData,
+        "what is at the path of the journal is no file",
+    )
+}
+
+/// Returns what is at a path, which is not followed if it is a link, or `None` if there is nothing.
+fn found_at(path: &Path) -> io::Result<Option<Metadata>> {
+    match fs::symlink_metadata(path) {
+        Ok(found) => Ok(Some(found)),
+        Err(error) if error.kind() == io::ErrorKind::NotFound => Ok(None),
+        Err(error) => Err(error),
+    }
+}
+
+/// Returns whether two names are of one file.
+fn is_same(one: &Metadata, other: &Metadata) -> bool {
+    (one.dev(), one.ino()) == (other.dev(), other.ino())
+}
+
+/// Returns the path of the journal of a file, of which there need not be one yet.
+pub(super) fn journal_path(path: &Path) -> io::Result<PathBuf> {
+    Ok(with_journal(&resolved(path)?))
+}
+
+/// Returns the path of the journal of the file at a path that has no links in it.
+fn with_journal(path: &Path) -> PathBuf {
+    let mut name = OsString::from(path);
+    name.push(".journal");
+    name.into()
+}
+
+/// The path of a file with no links in it. There need not be such a file yet.
 fn resolved(path: &Path) -> io::Result<PathBuf> {
     match (path.canonicalize(), path.file_name()) {
         (Err(error), Some(name)) if error.kind() == io::ErrorKind::NotFound => {
             let folder = path.parent().filter(|folder| *folder != Path::new(""));
-            Ok(folder.unwrap_or(Path::new(".")).canonicalize()?.join(name))
+            let folder = folder.unwrap_or(Path::new(".")).canonicalize()?;
+            match fs::read_link(path) {
+                Ok(target) => resolved(&folder.join(target)),
+                Err(_) => Ok(folder.join(name)),
+            }
         }
         (found, _) => found,
     }
 }
 
 /// Returns once the name of a file outlasts a loss of power.
-pub(super) fn sync_folder(path: &Path) -> io::Result<()> {
+fn sync_folder(path: &Path) -> io::Result<()> {
     match path.parent() {
         Some(folder) => File::open(folder)?.sync_all(),
         None => Ok(()),
@@ -222,11 +316,10 @@ impl RafIo for JournalFile {
     }
 
     fn get_size(&mut self) -> io::Result<u64> {
-        match self.path.as_ref().map(fs::metadata) {
-            Some(Ok(found)) => Ok(found.len()),
-            Some(Err(error)) if error.kind() != io::ErrorKind::NotFound => Err(error),
-            _ => Ok(0),
-        }
+        let Some(path) = &self.path else {
+            return Ok(0);
+        };
+        Ok(journal_at(path)?.map_or(0, |found| found.len()))
     }
 
     fn set_size(&mut self, size: u64) -> io::Result<()> {
@@ -242,11 +335,14 @@ impl RafIo for JournalFile {
             return Ok(());
         };
         file.sync_all()?;
-        if file.metadata()?.len() > 0 {
-            return sync_folder(path);
+        if file.metadata()?.len() == 0 {
+            let _ = fs::remove_file(path);
+            self.file = None;
+            self.is_name_synced = false;
+        } else if !self.is_name_synced {
+            sync_folder(path)?;
+            self.is_name_synced = true;
         }
-        self.file = None;
-        let _ = fs::remove_file(path);
         Ok(())
     }
 }
@@ -289,4 +385,51 @@ pub(super) fn read_all(io: &mut impl RafIo) -> io::Result<Vec<u8>> {
     bytes.resize(size, 0);
     io.read_at(&mut bytes, 0)?;
     Ok(bytes)
+}
+
+#[cfg(test)]
+mod tests {
+    use super::{FileIo, JournalFile, RafIo, sync_folder};
+    use alloc::format;
+    use std::fs::File;
+    use std::path::Path;
+
+    /// A device, which the system can neither sync nor cut: so each of these calls reaches the system.
+    fn device() -> File {
+        let mut options = File::options();
+        options.read(true).write(true).open("/dev/null").unwrap()
+    }
+
+    #[test]
+    fn what_cannot_be_synced_or_cut() {
+        let mut io = FileIo::new(device());
+        assert!(io.sync().is_err() && io.set_size(0).is_err());
+        // There is nothing at its path, so that no fault can remove anything.
+        let mut journal = JournalFile::at(Some(std::env::temp_dir().join("hunkravy-none/none")));
+        journal.file = Some(device());
+        assert!(journal.sync().is_err() && journal.set_size(0).is_err());
+        assert!(sync_folder(Path::new("/proc/file")).is_err());
+    }
+
+    /// The name of a new file is synced with it, once.
+    #[test]
+    fn names() {
+        let path = std::env::temp_dir().join(format!("hunkravy-names-{}", std::process::id()));
+        let mut created = FileIo::create(&path).unwrap();
+        let mut opened = FileIo::open(&path).unwrap();
+        std::fs::remove_file(&path).unwrap();
+        for io in [&mut created, &mut opened] {
+            io.path = Some("/proc/file".into());
+        }
+        assert!(created.sync().is_err() && opened.sync().is_ok());
+        // So is that of a journal that is not empty.
+        let mut journal = JournalFile::at(Some("/proc/file".into()));
+        opened.set_size(1).unwrap();
+        journal.file = Some(opened.file.try_clone().unwrap());
+        assert!(journal.sync().is_err());
+        journal.is_name_synced = true;
+        assert!(journal.sync().is_ok());
+        created.path = Some(path);
+        assert!(created.sync().is_ok() && created.is_name_synced);
+    }
 }

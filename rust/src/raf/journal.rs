@@ -47,10 +47,19 @@ pub fn commit(
     if journal.get_size()? != 0 {
         return Err(io::ErrorKind::AlreadyExists.into());
     }
-    journal.write_at(&journal_bytes(seal, writes), 0)?;
-    journal.sync()?;
+    write_journal(journal, &journal_bytes(seal, writes))?;
     write_and_sync(io, writes)?;
     empty(journal)
+}
+
+/// Writes a journal, and syncs it: the front first, so that a longer journal begins with all of it, whatever a crash
+/// leaves.
+fn write_journal(journal: &mut impl RafIo, bytes: &[u8]) -> io::Result<()> {
+    let (front, rest) = bytes.split_at(CLEAR_BYTES);
+    journal.write_at(front, 0)?;
+    journal.sync()?;
+    journal.write_at(rest, CLEAR_BYTES as u64)?;
+    journal.sync()
 }
 
 /// Makes the writes, and syncs them.
@@ -126,7 +135,19 @@ mod tests {
     use super::{
         CLEAR_BYTES, JournalSeal, PREFIX_BYTES, PendingWrite, journal_bytes, journaled_writes,
     };
+    use crate::wipe::tests::left_of;
     use alloc::vec;
+
+    /// Nothing of the key is left.
+    #[test]
+    fn a_seal_that_was_dropped() {
+        let seal = JournalSeal {
+            key: [1; 32],
+            front: [2; CLEAR_BYTES],
+            prefix: [3; PREFIX_BYTES],
+        };
+        assert_eq!(left_of(seal, |seal| &seal.key), [0; 32]);
+    }
 
     /// What is sealed is opened, but for a write past the last byte that a file may have.
     #[test]

@@ -150,8 +150,30 @@ pub fn commitment_nonce<A: Algorithm>() -> A::Nonce {
     nonce
 }
 
-/// Returns whether a journal begins as that of another file than the one of this front.
+/// Returns whether these bytes are not what a crash may leave of a journal of the file of this front. The front is
+/// certain before anything is written after it, so a longer journal begins with it.
 pub fn is_of_another(front: &[u8; CLEAR_BYTES], journal: &[u8]) -> bool {
-    let first = journal.get(..CLEAR_BYTES);
-    first.is_some_and(|first| first[..4] == JOURNAL_MAGIC && first != front)
+    journal.len() > CLEAR_BYTES && !journal.starts_with(front)
+}
+
+#[cfg(test)]
+mod tests {
+    use super::Layout;
+    use crate::exports::PageHeader;
+    use crate::raf::{Aegis128L, Aegis256};
+    use crate::wipe::tests::left_of;
+
+    /// Nothing of the key is left.
+    #[test]
+    fn a_layout_that_was_dropped() {
+        let header = PageHeader::default();
+        let key = left_of(Layout::<Aegis256>::of(&[7; 32], &header), |layout| {
+            &layout.key
+        });
+        assert_eq!(key, [0; 32]);
+        let key = left_of(Layout::<Aegis128L>::of(&[7; 16], &header), |layout| {
+            &layout.key
+        });
+        assert_eq!(key, [0; 16]);
+    }
 }

@@ -10,9 +10,10 @@ use std::io;
 
 /// Completes a commit that a crash or an error cut short, or leaves out all of it, and returns the file's header.
 ///
-/// A journal that is whole under this key, and whose commit began or ended with the file's header, byte for byte, is made
-/// again and emptied; so it is also if the file has no header. A torn one is emptied if the file has a header. Otherwise
-/// nothing is changed: the error is [`Error::Journal`] or [`Error::Header`].
+/// A journal that is whole under this key, and whose commit began or ended with the file's header, byte for byte, is
+/// made again and emptied; so it is also if the file has no header. A torn one, which begins as this file's journals do
+/// or has no record, is emptied if the file has a header. Otherwise nothing is changed: the error is [`Error::Journal`]
+/// or [`Error::Header`].
 pub fn recover<A: Algorithm>(
     io: &mut impl RafIo,
     journal: &mut impl RafIo,

@@ -1,6 +1,6 @@
 //! What single calls do: drops, the limit on changes in memory, sources of random bytes that fail, and numbers out of range.
 
-use crate::support::{Bytes, Call, Disk, FailingRandom, KEY, Part, Random, disks};
+use crate::support::{Bytes, Call, Disk, FailingRandom, JOURNAL_CALLS, KEY, Part, Random, disks};
 use hunkravy::raf::*;
 use std::io;
 
@@ -57,6 +57,37 @@ fn a_panic_commits_nothing() {
     }));
     assert!(unwound.is_err());
     assert_eq!(opened(&disks).size(), 0);
+}
+
+/// A change that has failed may be one of several that belong together: the others are not committed by a drop.
+#[test]
+fn a_drop_after_an_error_commits_nothing() {
+    let cut_short: [fn(&mut File) -> Result<()>; 2] = [
+        |file| file.write(b"too far", MAX_SIZE).map(|_| ()),
+        |file| file.truncate(MAX_SIZE + 1),
+    ];
+    for cut_short in cut_short {
+        let disks = disks(Bytes::default());
+        let mut file = created(&disks, usize::MAX);
+        file.write(b"the first of two", 0).unwrap();
+        assert!(cut_short(&mut file).is_err());
+        drop(file);
+        assert_eq!(opened(&disks).size(), 0);
+        // But those after a discard are, and those after a commit.
+        let mut file = opened(&disks);
+        assert!(cut_short(&mut file).is_err());
+        file.discard();
+        file.write(b"kept", 0).unwrap();
+        drop(file);
+        assert_eq!(opened(&disks).size(), 4);
+        let mut file = opened(&disks);
+        assert!(cut_short(&mut file).is_err());
+        file.write(b"more", 4).unwrap();
+        file.commit().unwrap();
+        file.write(b"too", 8).unwrap();
+        drop(file);
+        assert_eq!(opened(&disks).size(), 11);
+    }
 }
 
 #[test]
@@ -157,7 +188,8 @@ fn the_calls_of_an_opening() {
     assert_eq!(places(&disks), expected);
 }
 
-/// Each commit writes the journal and syncs it, then the file and syncs it, and then empties the journal and syncs it.
+/// Each commit writes the front of the journal and syncs it, the rest of it and syncs it, then the file and syncs it,
+/// and then empties the journal and syncs it.
 #[test]
 fn the_calls_of_a_commit() {
     let disks = disks(Bytes::default());
@@ -170,6 +202,8 @@ fn the_calls_of_a_commit() {
     let expected = [
         (journal, Some(0)),
         (journal, None),
+        (journal, Some(33)),
+        (journal, None),
         (file, Some(0)),
         (file, Some(4096)),
         (file, Some(4416)),
@@ -181,7 +215,11 @@ fn the_calls_of_a_commit() {
     ];
     assert_eq!(places(&disks), expected);
     let log = disks.0.log.borrow();
-    assert_eq!(log.calls[2].1, Call::Write(0, first[..512].to_vec()));
+    assert!(matches!(&log.calls[0].1, Call::Write(0, front) if front.len() == 33));
+    assert_eq!(
+        log.calls[JOURNAL_CALLS].1,
+        Call::Write(0, first[..512].to_vec())
+    );
 }
 
 /// A source that fails keeps what is there, and the changes.

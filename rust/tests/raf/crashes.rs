@@ -1,6 +1,8 @@
 //! Crashes at each call of commits and of openings, with anything where something was to be written.
 
-use crate::support::{Bytes, Call, Disk, KEY, Part, Random, changed, crashed, disks};
+use crate::support::{
+    Bytes, Call, Disk, JOURNAL_CALLS, KEY, Part, Random, changed, crashed, disks, front_of_another,
+};
 use hunkravy::raf::{Aegis256, Error, Raf, RafBuilder};
 
 /// How often each crash is tried.
@@ -49,30 +51,23 @@ fn change(file: &mut File, kind: usize) {
             file.truncate(2500).unwrap();
             file.write(&[3; 1], 1099).unwrap();
         }
-        _ => file.truncate(0).unwrap(),
-    }
-}
-
-/// Opens what a crash has left. A journal that is torn in its first 33 bytes may look like that of another file: then nothing
-/// is changed, and the file without it has the text of before.
-fn open_left(bytes: &Bytes) -> (File, (Disk, Disk)) {
-    let opening = disks(bytes.clone());
-    match open(&opening) {
-        Ok(file) => (file, opening),
-        Err(Error::Journal) => {
-            assert!(bytes.1[..4] == *b"AGPJ" && bytes.1[4..33] != bytes.0[4..33]);
-            let left = (opening.0.bytes.take(), opening.1.bytes.take());
-            assert_eq!(left, *bytes);
-            let opening = disks((left.0, Vec::new()));
-            (open(&opening).unwrap(), opening)
+        3 => file.truncate(0).unwrap(),
+        // Shorter and longer again, so that zeros are in the place of what was cut off.
+        _ => {
+            file.truncate(300).unwrap();
+            file.write(&[4; 20], 900).unwrap();
+            file.truncate(1000).unwrap();
         }
-        Err(error) => panic!("{error:?}"),
     }
 }
 
-/// What opens is the text of before or the one after, can be changed, and opens to the changed text.
+const KINDS: usize = 5;
+
+/// What a crash has left opens, to the text of before or the one after, can be changed, and opens to the changed text.
+/// Returns whether it was the one after.
 fn check_opens(bytes: &Bytes, before: &[u8], after: &[u8]) -> bool {
-    let (mut file, disks) = open_left(bytes);
+    let disks = disks(bytes.clone());
+    let mut file = open(&disks).unwrap();
     let text = text_of(&mut file);
     assert!(text == before || text == after);
     assert!(disks.1.bytes.borrow().is_empty());
@@ -87,9 +82,7 @@ fn check_opens(bytes: &Bytes, before: &[u8], after: &[u8]) -> bool {
 /// Opening crashes too, at each of its calls: what it leaves opens to the text of before or the one after.
 fn check_opening_crashes(bytes: &Bytes, before: &[u8], after: &[u8], random: &mut Random) {
     let opening = disks(bytes.clone());
-    if open(&opening).is_err() {
-        return;
-    }
+    drop(open(&opening).unwrap());
     let log = opening.0.log.borrow();
     for count in 0..=log.calls.len() {
         let left = crashed(bytes, &log.calls[..count], random);
@@ -115,7 +108,7 @@ fn each_call_of_a_commit() {
     let (bytes, before) = begun();
     let mut random = Random(77);
     let mut seen = [0; 2];
-    for kind in 0..4 {
+    for kind in 0..KINDS {
         let (calls, after) = committed(&bytes, kind);
         for count in 0..=calls.len() {
             for _ in 0..TRIES {
@@ -131,13 +124,53 @@ fn each_call_of_a_commit() {
     assert!(seen[0] > 50 && seen[1] > 50, "{seen:?}");
 }
 
+/// Returns the journals that a crash may leave of a pending write of its first bytes: as many of them as `cut` are
+/// those of `front`, the others are new or are none yet, and it is cut off anywhere.
+fn torn_fronts(journal: &[u8], front: &[u8], cut: usize) -> Vec<Vec<u8>> {
+    let mut written = journal.to_vec();
+    written[..cut].copy_from_slice(&front[..cut]);
+    let mut unwritten = written.clone();
+    unwritten[cut..33].fill(0);
+    let sizes = [0, cut, 33, 34, journal.len() - 1, journal.len()];
+    let cut_off = |journal: &[u8], size: usize| journal[..size.min(journal.len())].to_vec();
+    let of_sizes = |journal: Vec<u8>| sizes.map(|size| cut_off(&journal, size));
+    [of_sizes(written), of_sizes(unwritten)].concat()
+}
+
+/// Whatever is left of the first bytes of a journal, be it what the journal of another file begins with, the file
+/// opens.
+#[test]
+fn each_torn_front_of_a_journal() {
+    let (bytes, before) = begun();
+    let (calls, after) = committed(&bytes, 0);
+    let mut tries = 0;
+    for count in 0..=JOURNAL_CALLS {
+        let synced = calls[..count].iter().rposition(|call| call.1 == Call::Sync);
+        let pending = &calls[synced.map_or(0, |at| at + 1)..count];
+        if !pending
+            .iter()
+            .any(|call| matches!(call.1, Call::Write(0, _)))
+        {
+            continue;
+        }
+        let (file, journal) = changed(&bytes, &calls[..count]);
+        for front in [front_of_another(), [0; 33], [0xff; 33]] {
+            for journal in (0..=33).flat_map(|cut| torn_fronts(&journal, &front, cut)) {
+                check_opens(&(file.clone(), journal), &before, &after);
+                tries += 1;
+            }
+        }
+    }
+    assert!(tries > 1000, "{tries}");
+}
+
 /// A program that ends in the middle of a commit loses nothing that it has written, though not all of it is synced. Then power
 /// is lost while the file is opened again.
 #[test]
 fn each_call_of_a_commit_and_of_an_opening_after_it() {
     let (bytes, before) = begun();
     let mut random = Random(79);
-    for kind in 0..4 {
+    for kind in 0..KINDS {
         let (calls, after) = committed(&bytes, kind);
         for count in 0..=calls.len() {
             let opening = disks(changed(&bytes, &calls[..count]));
@@ -154,6 +187,29 @@ fn each_call_of_a_commit_and_of_an_opening_after_it() {
     }
 }
 
+/// A crash while a file is created leaves none, or an empty one. Once it is created, it opens.
+#[test]
+fn each_call_of_a_creation() {
+    let creating = disks(Bytes::default());
+    let builder = RafBuilder::<Aegis256>::with_rng(Random(6)).journal(creating.1.clone());
+    drop(builder.create(creating.0.clone(), &KEY).unwrap());
+    let calls = creating.0.log.borrow().calls.clone();
+    let mut random = Random(80);
+    let mut seen = [0; 2];
+    for count in 0..=calls.len() {
+        for _ in 0..20 {
+            let left = crashed(&Bytes::default(), &calls[..count], &mut random);
+            match open(&disks(left)) {
+                Ok(file) => assert_eq!(file.size(), 0),
+                Err(Error::Header) => assert!(count < calls.len()),
+                Err(error) => panic!("{error:?}"),
+            }
+            seen[usize::from(count == calls.len())] += 1;
+        }
+    }
+    assert!(seen[0] >= 60 && seen[1] == 20, "{seen:?}");
+}
+
 /// Several commits in a row: a crash in one of them gives the text of before it or the one after it, and no older one.
 #[test]
 fn each_call_of_several_commits() {
@@ -164,7 +220,7 @@ fn each_call_of_several_commits() {
     disks.0.log.borrow_mut().calls.clear();
     let (mut texts, mut ends) = (vec![first], vec![0]);
     for turn in 0..6 {
-        change(&mut file, turn % 3);
+        change(&mut file, (turn + 4) % KINDS);
         file.commit().unwrap();
         texts.push(text_of(&mut file));
         ends.push(disks.0.log.borrow().calls.len());
@@ -184,7 +240,7 @@ fn each_call_of_several_commits() {
 #[test]
 fn each_call_that_fails() {
     let (bytes, before) = begun();
-    for kind in 0..4 {
+    for kind in 0..KINDS {
         for left in 0..100 {
             let disks = disks(bytes.clone());
             let mut file = open(&disks).unwrap();
@@ -229,7 +285,7 @@ fn each_call_of_an_opening_that_fails() {
     change(&mut file, 0);
     let after = text_of(&mut file);
     // The journal is whole, and nothing is written to the file.
-    writing.0.log.borrow_mut().left = 2;
+    writing.0.log.borrow_mut().left = JOURNAL_CALLS;
     assert!(file.commit().is_err());
     drop(file);
     let bytes = (bytes.0, writing.1.bytes.take());

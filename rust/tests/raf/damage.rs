@@ -1,6 +1,6 @@
 //! Files and journals that are not those that were written.
 
-use crate::support::{Bytes, Disk, KEY, Random, disks};
+use crate::support::{Bytes, Disk, JOURNAL_CALLS, KEY, Random, disks};
 use hunkravy::raf::*;
 
 /// Where the header ends, and the pages begin, each of 320 bytes.
@@ -91,7 +91,7 @@ fn each_changed_byte_of_a_file() {
 fn each_changed_byte_of_a_file_with_a_journal() {
     let (bytes, _) = file(1);
     // The journal is whole, and the file is as it was; or all but the journal's end is done.
-    for calls in [2, 7] {
+    for calls in [JOURNAL_CALLS, JOURNAL_CALLS + 5] {
         let (cut, after) = cut_short(&bytes, calls);
         assert!(!cut.1.is_empty());
         for at in (0..600).chain(FIRST_PAGE..cut.0.len()) {
@@ -108,21 +108,31 @@ fn each_changed_byte_of_a_file_with_a_journal() {
     }
 }
 
-/// A changed or cut journal over a file that was not changed yet: it is another file's, or left out.
+/// A changed or cut journal over a file that was not changed yet is left out, or refused if it does not begin as the
+/// file's own.
 #[test]
 fn each_changed_byte_of_a_journal() {
     let (bytes, before) = file(1);
-    let (cut, after) = cut_short(&bytes, 2);
+    let (cut, after) = cut_short(&bytes, JOURNAL_CALLS);
     for at in 0..cut.1.len() {
         let mut changed = cut.clone();
         changed.1[at] ^= 1 << (at % 8);
-        if (4..33).contains(&at) {
-            check_refused_or_after(&changed, &after);
-        } else {
-            let (file, disks) = open_by(&changed, &KEY);
-            let text = text_of(&mut file.unwrap()).unwrap();
-            assert!(text == before || (text == after && at < 4), "byte {at}");
-            assert!(disks.1.bytes.borrow().is_empty());
+        let (file, disks) = open_by(&changed, &KEY);
+        let text = text_of(&mut file.unwrap()).unwrap();
+        // The front is not sealed: a whole journal is that of this file by the headers in it.
+        assert_eq!(
+            text,
+            if at < 33 {
+                after.clone()
+            } else {
+                before.clone()
+            },
+            "byte {at}"
+        );
+        assert!(disks.1.bytes.borrow().is_empty());
+        changed.1.pop();
+        if at < 33 {
+            check_refused(&changed, &KEY, is_journal);
         }
         let mut short = cut.clone();
         short.1.truncate(at);
@@ -140,22 +150,11 @@ fn each_changed_byte_of_a_journal() {
     assert_eq!(text_of(&mut open_by(&cut, &KEY).0.unwrap()).unwrap(), after);
 }
 
-/// The front is not sealed: a whole journal is that of this file by the header in it.
-fn check_refused_or_after(bytes: &Bytes, after: &[u8]) {
-    match open_by(bytes, &KEY).0 {
-        Ok(mut file) => assert_eq!(text_of(&mut file).unwrap(), after),
-        Err(error) => {
-            assert!(is_journal(&error));
-            check_refused(bytes, &KEY, is_journal);
-        }
-    }
-}
-
 /// Without a header a journal that is not whole changes nothing.
 #[test]
 fn a_torn_header_and_a_torn_journal() {
     let (bytes, _) = file(1);
-    let (mut cut, after) = cut_short(&bytes, 2);
+    let (mut cut, after) = cut_short(&bytes, JOURNAL_CALLS);
     cut.0[40] ^= 1;
     assert_eq!(text_of(&mut open_by(&cut, &KEY).0.unwrap()).unwrap(), after);
     for size in [0, 20, 56, 57, 61, 70, cut.1.len() - 1] {
@@ -169,7 +168,7 @@ fn a_torn_header_and_a_torn_journal() {
 fn another_key() {
     let (bytes, _) = file(1);
     check_refused(&bytes, &[8; 32], is_header);
-    for calls in [0, 1, 2, 4, 7] {
+    for calls in 0..JOURNAL_CALLS + 6 {
         let (cut, _) = cut_short(&bytes, calls);
         check_refused(&cut, &[8; 32], is_header);
     }
@@ -178,7 +177,7 @@ fn another_key() {
 #[test]
 fn another_algorithm() {
     let (bytes, _) = file(1);
-    let (cut, _) = cut_short(&bytes, 2);
+    let (cut, _) = cut_short(&bytes, JOURNAL_CALLS);
     for bytes in [bytes, cut] {
         let disks = disks(bytes.clone());
         let builder = RafBuilder::<Aegis256X2>::with_rng(Random(5)).journal(disks.1.clone());
@@ -194,11 +193,27 @@ fn another_algorithm() {
 /// The journal of another file, whole or torn, changes nothing.
 #[test]
 fn the_journal_of_another_file() {
-    let (bytes, _) = file(1);
-    let (other, _) = cut_short(&file(100).0, 2);
-    for size in [33, 57, 500, other.1.len()] {
+    let (bytes, text) = file(1);
+    let (other, _) = cut_short(&file(100).0, JOURNAL_CALLS);
+    for size in [34, 57, 500, other.1.len()] {
         let journal = other.1[..size].to_vec();
         check_refused(&(bytes.0.clone(), journal), &KEY, is_journal);
+    }
+    // One with no record is of use to no file.
+    for size in 0..=33 {
+        let (file, disks) = open_by(&(bytes.0.clone(), other.1[..size].to_vec()), &KEY);
+        assert_eq!(text_of(&mut file.unwrap()).unwrap(), text);
+        assert!(disks.1.bytes.borrow().is_empty());
+    }
+}
+
+/// Bytes that are no journal, such as a text of that name, change nothing and are kept.
+#[test]
+fn bytes_that_are_no_journal() {
+    let (bytes, _) = file(1);
+    let own = bytes.0[..400].to_vec();
+    for other in [vec![b'a'; 34], vec![0; 5000], own, bytes.0.clone()] {
+        check_refused(&(bytes.0.clone(), other), &KEY, is_journal);
     }
 }
 
@@ -206,7 +221,7 @@ fn the_journal_of_another_file() {
 #[test]
 fn an_older_journal() {
     let (bytes, _) = file(1);
-    let (cut, _) = cut_short(&bytes, 2);
+    let (cut, _) = cut_short(&bytes, JOURNAL_CALLS);
     let (mut opened, disks) = {
         let (file, disks) = open_by(&cut, &KEY);
         (file.unwrap(), disks)
@@ -214,7 +229,7 @@ fn an_older_journal() {
     opened.write(b"later", 10).unwrap();
     drop(opened);
     check_refused(&(disks.0.bytes.take(), cut.1.clone()), &KEY, is_journal);
-    let (next, _) = cut_short(&(cut.0, Vec::new()), 2);
+    let (next, _) = cut_short(&(cut.0, Vec::new()), JOURNAL_CALLS);
     assert!(open_by(&next, &KEY).0.is_ok());
 }
 

@@ -91,7 +91,7 @@ fn a_commit_of_the_small_file() {
         .unwrap();
     file.write(&[6; 1300], 0).unwrap();
     // All is done but to empty the journal.
-    disks.0.log.borrow_mut().left = 11;
+    disks.0.log.borrow_mut().left = 13;
     assert!(file.commit().is_err());
     let journal = [
         55, 245, 17, 208, 239, 20, 183, 147, 133, 253, 42, 194, 186, 95, 208, 106,

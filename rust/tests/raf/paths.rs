@@ -1,7 +1,8 @@
 //! Files at paths: their journals, locks and cursors.
 
-use crate::support::{FailingRandom, KEY, Random};
+use crate::support::{FailingRandom, JOURNAL_CALLS, KEY, Random};
 use hunkravy::raf::*;
+use std::collections::HashSet;
 use std::fs;
 use std::io::{self, Read, Seek, SeekFrom, Write};
 use std::path::{Path, PathBuf};
@@ -22,7 +23,7 @@ impl Folder {
     }
 
     /// The names of the files in it.
-    fn names(&self) -> Vec<String> {
+    pub fn names(&self) -> Vec<String> {
         let mut names: Vec<String> = fs::read_dir(&self.0)
             .unwrap()
             .map(|entry| entry.unwrap().file_name().into_string().unwrap())
@@ -38,15 +39,15 @@ impl Drop for Folder {
     }
 }
 
-fn create(path: &Path) -> Result<Raf<Aegis256>> {
+pub fn create(path: &Path) -> Result<Raf<Aegis256>> {
     Raf::<Aegis256>::create_file(path, &KEY)
 }
 
-fn open(path: &Path) -> Result<Raf<Aegis256>> {
+pub fn open(path: &Path) -> Result<Raf<Aegis256>> {
     Raf::<Aegis256>::open_file(path, &KEY)
 }
 
-fn read(file: &mut Raf<Aegis256>) -> Vec<u8> {
+pub fn read(file: &mut Raf<Aegis256>) -> Vec<u8> {
     let mut text = vec![0; file.size() as usize];
     file.read(&mut text, 0).unwrap();
     text
@@ -103,7 +104,7 @@ fn journals_beside_a_file() {
         .open(disks.0.clone(), &KEY)
         .unwrap();
     copy.write(b"after!", 0).unwrap();
-    disks.0.log.borrow_mut().left = 2;
+    disks.0.log.borrow_mut().left = JOURNAL_CALLS;
     assert!(copy.commit().is_err());
     let whole = disks.1.bytes.borrow().clone();
     for (bytes, text) in [
@@ -168,6 +169,23 @@ fn a_second_writer_is_refused() {
     assert!(open(&path).is_ok());
 }
 
+/// A lock ends with its file, even if a descriptor of it is still open, as one is in a process that is being started.
+#[test]
+fn a_lock_ends() {
+    let folder = Folder::new("unlocked");
+    let path = folder.path("file");
+    drop(create(&path).unwrap());
+    let mut options = fs::File::options();
+    let file = options.read(true).write(true).open(&path).unwrap();
+    let descriptor = file.try_clone().unwrap();
+    let builder = RafBuilder::<Aegis256>::new();
+    let file = builder.open(FileIo::new(file), &KEY).unwrap();
+    assert!(matches!(open(&path), Err(Error::Locked)));
+    drop(file);
+    drop(open(&path).unwrap());
+    drop(descriptor);
+}
+
 /// A link to a file and the file itself have one journal.
 #[test]
 fn links_to_a_file() {
@@ -207,6 +225,41 @@ fn each_way_to_create_a_file() {
     fs::create_dir(folder.path("file.journal")).unwrap();
     file.write(b"text", 0).unwrap();
     file.commit().unwrap();
+}
+
+/// The system's bytes differ from draw to draw, at each place. The chance of fewer values is below 2^-100.
+#[test]
+fn the_bytes_of_the_system() {
+    let mut rng = OsRng::default();
+    let draws: Vec<[u8; 32]> = std::iter::repeat_with(|| {
+        let mut drawn = [0; 32];
+        rng.fill(&mut drawn).unwrap();
+        drawn
+    })
+    .take(64)
+    .collect();
+    for place in 0..32 {
+        let values: HashSet<u8> = draws.iter().map(|drawn| drawn[place]).collect();
+        assert!(values.len() > 20, "{place}: {values:?}");
+    }
+}
+
+/// The id of a file, and the nonce of each header and page, are drawn.
+#[test]
+fn files_differ() {
+    let folder = Folder::new("differ");
+    let mut seen = HashSet::new();
+    for number in 0..4 {
+        let path = folder.path(&number.to_string());
+        let mut file = create(&path).unwrap();
+        for _ in 0..3 {
+            file.write(b"same", 0).unwrap();
+            file.commit().unwrap();
+            let bytes = fs::read(&path).unwrap();
+            assert!(seen.insert(bytes[33..65].to_vec()) && seen.insert(bytes[4096..4128].to_vec()));
+        }
+        assert!(seen.insert(fs::read(&path).unwrap()[9..33].to_vec()));
+    }
 }
 
 /// What is refused before a file is made makes none, and keeps one that is there.

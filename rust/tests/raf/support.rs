@@ -7,6 +7,16 @@ use std::rc::Rc;
 
 pub const KEY: [u8; 32] = [7; 32];
 
+/// How many calls a commit makes until its journal is certain, before it writes anything to the file.
+pub const JOURNAL_CALLS: usize = 4;
+
+/// Returns what the journals of another file begin with, whose pages have 256 bytes.
+pub fn front_of_another() -> [u8; 33] {
+    let mut front = [0x6d; 33];
+    front[..9].copy_from_slice(b"AGPJ\x21\0\x01\0\0");
+    front
+}
+
 /// Numbers that look random, from a fixed seed.
 #[derive(Clone)]
 pub struct Random(pub u64);
@@ -58,10 +68,12 @@ pub enum Call {
     Sync,
 }
 
-/// What the disks of a file and of its journal have in common: their calls, in order, and how many of them still succeed.
+/// What the disks of a file and of its journal have in common: their calls, in order, and how many of them and how many
+/// reads still succeed.
 pub struct Log {
     pub calls: Vec<(Part, Call)>,
     pub left: usize,
+    pub reads_left: usize,
 }
 
 /// The file, or its journal.
@@ -87,6 +99,7 @@ pub fn disks((file, journal): Bytes) -> (Disk, Disk) {
     let log = Rc::new(RefCell::new(Log {
         calls: Vec::new(),
         left: usize::MAX,
+        reads_left: usize::MAX,
     }));
     let disk = |bytes, part| Disk {
         bytes: Rc::new(RefCell::new(bytes)),
@@ -107,11 +120,16 @@ impl Disk {
 }
 
 impl RafIo for Disk {
+    /// If it fails, half of the bytes are read.
     fn read_at(&mut self, buf: &mut [u8], offset: u64) -> io::Result<()> {
         let bytes = self.bytes.borrow();
         let rest = bytes.get(offset as usize..).unwrap_or(&[]);
         let part = rest.get(..buf.len()).ok_or(io::ErrorKind::UnexpectedEof)?;
-        buf.copy_from_slice(part);
+        let half = part.len() / 2;
+        buf[..half].copy_from_slice(&part[..half]);
+        let mut log = self.log.borrow_mut();
+        log.reads_left = log.reads_left.checked_sub(1).ok_or(io::ErrorKind::Other)?;
+        buf[half..].copy_from_slice(&part[half..]);
         Ok(())
     }
 
@@ -184,11 +202,12 @@ fn apply(bytes: &mut Vec<u8>, change: &Call) {
     }
 }
 
-/// Leaves any bytes where a write was to be: those of before, those of after, or garbage, in pieces of some length.
+/// Leaves any bytes where a write was to be: those of before, those of after, garbage, or what another file's journal
+/// begins with, in pieces of some length.
 fn tear(bytes: &mut Vec<u8>, offset: u64, data: &[u8], random: &mut Random) {
     let piece = [1, 16, 100, 512, 4096, usize::MAX][random.below(6) as usize];
-    let kinds = 1 + random.below(3);
-    let first = random.below(3);
+    let kinds = 1 + random.below(4);
+    let first = random.below(4);
     let pieces = data.len().div_ceil(piece.min(data.len().max(1)));
     // A tail that is torn, as well as pieces here and there.
     let cut = random.below(pieces as u64 + 1) as usize;
@@ -198,14 +217,25 @@ fn tear(bytes: &mut Vec<u8>, offset: u64, data: &[u8], random: &mut Random) {
         let kind = if is_tail && number < cut {
             1
         } else {
-            (first + random.below(kinds)) % 3
+            (first + random.below(kinds)) % 4
         };
         match kind {
             0 => (),
             1 => put(bytes, place, part),
-            _ => put(bytes, place, &random.bytes(part.len())),
+            2 => put(bytes, place, &random.bytes(part.len())),
+            _ => put(bytes, place, &bytes_of_another(place, part.len(), random)),
         }
     }
+}
+
+/// Returns the bytes of another file's journal at a place, of which those after its front are garbage.
+fn bytes_of_another(place: u64, count: usize, random: &mut Random) -> Vec<u8> {
+    let mut bytes = random.bytes(count);
+    let front = front_of_another();
+    let rest = front.get(place as usize..).unwrap_or(&[]);
+    let common = rest.len().min(count);
+    bytes[..common].copy_from_slice(&rest[..common]);
+    bytes
 }
 
 /// Returns a file and its journal after these calls, if there is no crash.
