@@ -7,7 +7,8 @@ check-rust: $(addprefix check-rust-,both $(RUNNABLE))
 
 check-rust-%: $(OUT)/%/libhunkravy.a $(OUT)/%/driver
 	cd rust && export HUNKRAVY_LIB_DIR="$(CURDIR)/$(<D)" CARGO_TARGET_DIR="$(CURDIR)/$(<D)/cargo" && \
-		cargo test --offline && cargo run --offline --example seal
+		cargo test --offline && \
+		for example in seal records store; do cargo run --offline --example $$example || exit 1; done
 	$(OUT)/$*/driver
 
 # ---- Files in place
