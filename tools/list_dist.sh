@@ -6,11 +6,11 @@ version=$1 dist=$2
 cd "$dist"
 for archive in *.tar.gz; do
     echo "== $archive"
-    tar --numeric-owner -tvzf "$archive" | awk '{ print $1, $2, $6, $7, $8 }'
+    tar --numeric-owner -tvzf "$archive" | awk '{ print $1, $2, $6 ($7 ? " " $7 " " $8 : "") }'
 done
 for package in *.deb; do
     echo "== $package"
-    dpkg-deb -c "$package" | awk '{ print $1, $2, $6, $7, $8 }'
+    dpkg-deb -c "$package" | awk '{ print $1, $2, $6 ($7 ? " " $7 " " $8 : "") }'
     dpkg-deb -f "$package" Package Version Architecture Depends Section | sed 's/^/   /'
 done
 for wheel in *.whl; do
