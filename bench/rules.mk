@@ -1,5 +1,5 @@
 # The measurements, which write the tables of bench/.
-.PHONY: bench bench-peers bench-states bench-tool bench-pages
+.PHONY: bench bench-peers bench-states bench-tool bench-pages bench-python
 
 # One level is measured, x86-64-v2 unless CPU gives another, and the code that the library is compared with is built for
 # it too. Without `no-vectorize-slp` the compiler gathers look-ups into vectors, which makes the four tables a third
@@ -15,7 +15,7 @@ $(OUT)/%/driver: $(wildcard bench/*.rs $(STORED_LINES)/*) rust/src/exports.rs $(
 # Compares the library with look-up tables and AES instructions, with libsodium if it is installed, the chunked calls and
 # record streams with the one-shot calls, and sealed pages with a plain file. Writes the tables of BENCH_FOLDER and of
 # bench/.
-bench: $(OUT)/$(BENCH_CPU)/driver bench-peers bench-states bench-tool bench-pages
+bench: $(OUT)/$(BENCH_CPU)/driver bench-peers bench-states bench-tool bench-pages bench-python
 	mkdir -p $(BENCH_FOLDER)
 	$< $(BENCH_FOLDER)
 	cd crates/bench_calls && rt run -- bench > ../../$(OUT)/speeds
@@ -53,3 +53,8 @@ bench-peers: $(OUT)/$(BENCH_CPU)/libhunkravy.a
 	else \
 		echo 'libsodium is not installed, so it is not measured'; \
 	fi
+
+bench-python: $(WHEEL)
+	rm -rf $(OUT)/python && mkdir $(OUT)/python && python3 -m zipfile -e $(WHEEL) $(OUT)/python
+	(cat bench/python.md.in; PYTHONPATH=$(OUT)/python python3 bench/python.py) > $(OUT)/python.md
+	cp $(OUT)/python.md bench/PYTHON.md
