@@ -4,7 +4,9 @@
 set -euo pipefail
 version=$1 out=$2
 . tools/revision.sh
-export SOURCE_DATE_EPOCH=${SOURCE_DATE_EPOCH:-$(revision_time)}
+SOURCE_DATE_EPOCH=${SOURCE_DATE_EPOCH:-$(revision_time)}
+COMMIT=${COMMIT:-$(revision)}
+export SOURCE_DATE_EPOCH
 export LC_ALL=C TZ=UTC
 umask 022
 work=$out/dist/work
@@ -22,7 +24,7 @@ install_to() {
 proved() {
     cat dist/PROVED.md
     echo
-    echo "- Commit: ${COMMIT:-$(revision)}"
+    echo "- Commit: $COMMIT"
     echo "- Proved by: $(rt version 2> /dev/null || echo 'not by this machine')"
     if [ -z "${GATE_LINE-}" ] && python3 tools/proved.py check 2> /dev/null; then
         GATE_LINE=$(cat out/proved-line)
