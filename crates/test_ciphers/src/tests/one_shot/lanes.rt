@@ -9,16 +9,18 @@ use std::process::Abort;
 use std::test::Fail;
 use test_tools::calls::{LONG_KEY, LONG_NONCE, SHORT_KEY, SHORT_NONCE};
 
-// The first byte of a message belongs to the first of four lanes.
+// The first byte of a message belongs to the first of four lanes, whose keystream it changes from the third rate block on.
+// A rate block that is cut lane after lane would show it in the places of other lanes.
 #[test]
 fn other_lanes_stay(rt: HostRuntime) {
-    let mut first = [7; 256];
+    let mut first = [7; 512];
     let mut second = first;
     second[0] = 200;
     Aegis128X4::<16>::new(&[0; 16], &[0; 16]).encrypt_in_place(&mut first, &[]);
     Aegis128X4::<16>::new(&[0; 16], &[0; 16]).encrypt_in_place(&mut second, &[]);
     assert_eq!(rt; first[0] ^ second[0], 7 ^ 200);
-    for i in 0..256usize {
+    assert_ne!(rt; first[256..272], second[256..272]);
+    for i in 0..512usize {
         if i / 16 % 4 != 0 {
             assert_eq!(rt; first[i], second[i], "at {i}");
         }
