@@ -157,3 +157,17 @@ left_refused variant key o PageSize is none = absurd is
 left_refused variant key o Commitment is none = absurd is
 left_refused variant key o Journal is none = tt
 left_refused variant key o Broken is none = absurd is
+
+-- reading failed, which does not say that the file was left alone
+pub reads_only : (e : PagesError) → IsReadError e → IsLeftAlone e → ⊥
+reads_only (Read e) is alone = absurd alone
+reads_only (Write e) is alone = absurd is
+reads_only (Nonce e) is alone = absurd is
+reads_only Header is alone = absurd is
+reads_only (Damaged k) is alone = absurd is
+reads_only TooLong is alone = absurd is
+reads_only OutOfMemory is alone = absurd is
+reads_only PageSize is alone = absurd is
+reads_only Commitment is alone = absurd is
+reads_only Journal is alone = absurd is
+reads_only Broken is alone = absurd is

@@ -1,12 +1,12 @@
 //! Laws: functions that do nothing, and whose contracts are facts about the definitions that the other contracts cite.
 
-ghost use Rattle.std.specs.Prelude.{◌≡◌, ◌+◌, ◌≤◌, IfSome, List, Option, length, ℕ};
+ghost use Rattle.std.specs.Prelude.{◌≡◌, ◌+◌, ◌≤◌, IfSome, List, Option, Some, length, ℕ};
 ghost use Rattle.aegis_aes.specs.Lanes.{IsLaneCount};
 ghost use Rattle.aegis_base.specs.Variant.{Variant};
 ghost use Rattle.aegis_storage.specs.Bytes.{overwritten, part_at};
 ghost use Rattle.aegis_pages.specs.Commitments.{HasOneCommitment, commitment};
 ghost use Rattle.aegis_pages.specs.Headers.{IsHeader};
-ghost use Rattle.aegis_storage.specs.Disk.{Disk};
+ghost use Rattle.aegis_storage.specs.Disk.{Crashed, Disk, certain};
 ghost use Rattle.aegis_pages.specs.Commits.{RecoversText};
 ghost use Rattle.aegis_pages.specs.History.{AreCommits, Step, last_of};
 ghost use Rattle.aegis_pages.specs.OpenFile.{HasCommitted, HasText, IsStoredAs, IsUnchanged, OpenFile};
@@ -54,6 +54,14 @@ pub fn stored_is_committed()
         → HasCommitted old text → HasCommitted new text }
     ensures unchanged { (old new : OpenFile) (text : List ℕ) → IsUnchanged old new
         → HasCommitted old text → HasCommitted new text }
+{}
+
+/// A text that is recovered before a crash is recovered after it.
+pub fn recovers_after_a_crash()
+    ensures { (variant : Variant) (key before now : List ℕ) (storage journal : Disk)
+        (ys js : List ℕ) → RecoversText variant key before now (Some storage) (Some journal)
+        → Crashed storage ys → Crashed journal js
+        → RecoversText variant key before now (Some (certain ys)) (Some (certain js)) }
 {}
 
 /// A committed text is recovered, whatever was to come next.

@@ -6,8 +6,8 @@ ghost use Rattle.aegis_storage.specs.Bytes.{overwritten, part_at, resized};
 ghost use Rattle.aegis_storage.specs.Disk.{Disk, certain};
 ghost use Rattle.aegis_pages.specs.Changed.{text_at};
 ghost use Rattle.aegis_pages.specs.Commitments.{commitment};
-ghost use Rattle.aegis_pages.specs.Commits.{Fits, IsHonest, RecoversText};
-ghost use Rattle.aegis_pages.specs.Errors.{IsBeginError, IsCommitRefusal, IsCommitmentRefusal, IsCreateRefusal, IsOpenRefusal, IsReadRefusal, IsVerifyRefusal, IsWriteRefusal};
+ghost use Rattle.aegis_pages.specs.Commits.{Fits, HasHonestHeader, IsHonest, RecoversText};
+ghost use Rattle.aegis_pages.specs.Errors.{IsBeginError, IsCommitRefusal, IsCommitmentRefusal, IsCreateRefusal, IsLeftAlone, IsOpenRefusal, IsReadRefusal, IsVerifyRefusal, IsWriteRefusal};
 ghost use Rattle.aegis_pages.specs.Headers.{IsHeader};
 ghost use Rattle.aegis_pages.specs.Layouts.{IsPageSize};
 ghost use Rattle.aegis_pages.specs.OpenFile.{BreaksOrKeeps, HasCommitted, HasText, IsCertain, IsKnown, IsStoredAs, IsUnchanged, OpensAtOne, Reads};
@@ -200,7 +200,8 @@ impl<
     }
 
     /// Opens the file that the storage holds, and completes a commit that was cut short, or leaves out all of it, as
-    /// [`crate::recover_file`] does, whose errors it returns.
+    /// [`crate::recover_file`] does, whose errors it returns. So it returns neither [`PagesError::Journal`] nor
+    /// [`PagesError::Header`] for what a commit and a crash left, unless that is a forgery.
     pub fn open(
         alloc: A,
         mut storage: S,
@@ -220,6 +221,11 @@ impl<
             → (batch : RecoversText L.VARIANT key.now before now (S.disk storage) (J.disk journal))
             → IfSome (J.bytes journal) (IsHonest batch)
             → OpensAtOne pages before now) }
+        ensures accepts { (before now : List ℕ)
+            → (batch : RecoversText L.VARIANT key.now before now (S.disk storage) (J.disk journal))
+            → IfSome (J.bytes journal) (IsHonest batch)
+            → IfSome (S.bytes storage) (HasHonestHeader batch)
+            → IfErr result (λ error. IsLeftAlone error → ⊥) }
         ensures fits { OnOk result (IfSome (S.bytes storage) (λ file.
             IfSome (J.bytes journal) (Fits L.VARIANT key.now file))) }
         ensures refused { IfErr result (IsOpenRefusal L.VARIANT key.now (S.bytes storage)) }

@@ -1,4 +1,5 @@
-use Rattle.std.proofs.Common.{◌≡◌, ◌+◌, ◌∙◌, false, IfSome, List, ap, subst, sym, ℕ}
+use Rattle.std.proofs.Common.{◌+◌, ◌∙◌, false, IfSome, List, ap, subst, sym, ℕ}
+use Rattle.std.proofs.lemmas.Result.{err_from_is_err_and}
 use Rattle.aegis_pages.specs.Layouts.{Layout}
 use Rattle.aegis_pages.specs.OpenFile.{HasIn, HasText, OpensAtOne}
 use Rattle.aegis_pages.specs.Reading.{layout_of}
@@ -36,3 +37,7 @@ returns-clause-recovered g c before now batch honest =
     }) before now) (sym c.new-layout.ensures)
     (opens_at_one (layout_of g.L.LaneState.VARIANT c.args.key.now header) header.counter header.len c.new.result.entries _ _ _ before now g.met.L.LaneState.one_two_or_four c.new.ensures.none
     c.in_ok-header.ensures.header (g.met.S.Storage.possible c.recover_file.new.storage) (c.in_ok-header.ensures.rests before now batch honest))
+
+pub returns-in_err-header-clause-accepts : goal.returns-in_err-header-clause-accepts
+returns-in_err-header-clause-accepts g c before now batch honest header =
+    let p = err_from_is_err_and c.from_residual.result c.from_residual.ensures.1 in rw (p.1, p.2) (c.in_err-header.ensures.accepts before now batch honest header)
