@@ -151,12 +151,14 @@ committed_file_recovers file before now has =
 
 -- ---- a crash
 
-pub crashed_text : (variant : Variant) (key before now : List ℕ) (storage journal : Disk) (ys js : List ℕ) → RecoversText variant key before now (Some storage) (Some journal)
-    → Crashed storage ys → Crashed journal js → RecoversText variant key before now (Some (certain ys)) (Some (certain js))
-crashed_text variant key before now storage journal ys js batch p q =
-    recovers_again variant key before now (journal_key variant key) (Some storage) (Some journal) (Some (certain ys)) (Some (certain js)) refl batch
-    (λ recovers. crashed_recovers (journal_key variant key) [] batch.file batch.writes storage journal ys js recovers p q)
-    (λ keeps. crashed_front (journal_front batch.layout) journal js keeps q)
+pub crashed_text : (variant : Variant) (key before now : List ℕ) (storage journal : Option Disk) (disk journal_disk : Disk) (ys js : List ℕ) → RecoversText variant key before now storage journal
+    → storage ≡ Some disk → journal ≡ Some journal_disk → Crashed disk ys → Crashed journal_disk js → RecoversText variant key before now (Some (certain ys)) (Some (certain js))
+crashed_text variant key before now storage journal disk journal_disk ys js batch is journal_is p q =
+    recovers_again variant key before now (journal_key variant key) storage journal (Some (certain ys)) (Some (certain js)) refl batch
+    (λ recovers. crashed_recovers (journal_key variant key) [] batch.file batch.writes disk journal_disk ys js
+    (subst (λ (o : Option Disk). Recovers (journal_key variant key) [] batch.file batch.writes o (Some journal_disk)) is
+    (subst (Recovers (journal_key variant key) [] batch.file batch.writes storage) journal_is recovers)) p q)
+    (λ keeps. crashed_front (journal_front batch.layout) journal_disk js (subst (KeepsFront (journal_front batch.layout)) journal_is keeps) q)
 
 -- ---- a journal that fits
 

@@ -1,5 +1,5 @@
 -- Commits, before a crash and after it.
-use Rattle.std.specs.Prelude.{◌≡◌, ℕ, ◌+◌, ◌⊎◌, List, [], ◌∷◌, ◌++◌, Option, None, Some, ⊤, length, replicate, take}
+use Rattle.std.specs.Prelude.{◌≡◌, ℕ, ◌+◌, ◌⊎◌, List, [], ◌∷◌, ◌++◌, IfSome, Option, None, Some, ⊤, length, replicate, take}
 use Rattle.aegis_base.specs.Mac.{mac}
 use Rattle.aegis_base.specs.Variant.{Variant, key_length}
 use Rattle.aegis_storage.specs.Bytes.{part_at}
@@ -58,6 +58,12 @@ IsHonest {variant} {key} batch bytes = IsNoForgery (journal_key variant key) [] 
 abbrev pub HasHonestHeader : {variant : Variant} {key before now : List ℕ} {storage journal : Option Disk} → RecoversText variant key before now storage journal → List ℕ → Type 0
 HasHonestHeader {variant} {key} batch bytes = (layout : Layout) (counter len : ℕ) → layout.variant ≡ variant → layout.key ≡ key → IsHeader layout counter len bytes
     → IsOneOf (head_of variant batch.file) (head_of variant (written batch.writes batch.file)) (head_of variant bytes)
+
+-- What can be read of the storage and of the journal is what a commit left, whatever it returned and whatever a crash and
+-- openings that were cut short did since, and no forgery.
+unfoldable pub IsLeftByCommit : Variant → (key : List ℕ) → (bytes content : Option (List ℕ)) → (storage journal : Option Disk) → Type 0
+IsLeftByCommit variant key bytes content storage journal =
+    (before : List ℕ) × (now : List ℕ) × (batch : RecoversText variant key before now storage journal) × IfSome content (IsHonest batch) × IfSome bytes (HasHonestHeader batch)
 
 -- The storage and the journal are synced, the journal is empty, and the file holds one of the two texts.
 pub record RestsAtText (variant : Variant) (key before now : List ℕ) (storage journal : Option Disk) : Type 0 where

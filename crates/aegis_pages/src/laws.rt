@@ -7,7 +7,7 @@ ghost use Rattle.aegis_storage.specs.Bytes.{overwritten, part_at};
 ghost use Rattle.aegis_pages.specs.Commitments.{HasOneCommitment, commitment};
 ghost use Rattle.aegis_pages.specs.Headers.{IsHeader};
 ghost use Rattle.aegis_storage.specs.Disk.{Crashed, Disk, certain};
-ghost use Rattle.aegis_pages.specs.Commits.{RecoversText};
+ghost use Rattle.aegis_pages.specs.Commits.{HasHonestHeader, IsHonest, IsLeftByCommit, RecoversText};
 ghost use Rattle.aegis_pages.specs.History.{AreCommits, Step, last_of};
 ghost use Rattle.aegis_pages.specs.OpenFile.{HasCommitted, HasText, IsStoredAs, IsUnchanged, OpenFile};
 
@@ -58,10 +58,21 @@ pub fn stored_is_committed()
 
 /// A text that is recovered before a crash is recovered after it.
 pub fn recovers_after_a_crash()
-    ensures { (variant : Variant) (key before now : List ℕ) (storage journal : Disk)
-        (ys js : List ℕ) → RecoversText variant key before now (Some storage) (Some journal)
-        → Crashed storage ys → Crashed journal js
+    ensures { (variant : Variant) (key before now : List ℕ) (storage journal : Option Disk)
+        (disk journal_disk : Disk) (ys js : List ℕ)
+        → RecoversText variant key before now storage journal
+        → storage ≡ Some disk → journal ≡ Some journal_disk
+        → Crashed disk ys → Crashed journal_disk js
         → RecoversText variant key before now (Some (certain ys)) (Some (certain js)) }
+{}
+
+/// What is recovered, and is no forgery, is left by a commit: so [`crate::Pages::open`] accepts it.
+pub fn recovered_is_left_by_a_commit()
+    ensures { (variant : Variant) (key before now : List ℕ) (bytes content : Option (List ℕ))
+        (storage journal : Option Disk)
+        → (batch : RecoversText variant key before now storage journal)
+        → IfSome content (IsHonest batch) → IfSome bytes (HasHonestHeader batch)
+        → IsLeftByCommit variant key bytes content storage journal }
 {}
 
 /// A committed text is recovered, whatever was to come next.

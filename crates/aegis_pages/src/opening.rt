@@ -1,10 +1,10 @@
 //! Opening a file: whether its journal is its own, and what recovery makes of both.
 
-ghost use Rattle.std.specs.Prelude.{◌≡◌, ◌+◌, ◌≤◌, ◌↔◌, [], Err, IfErr, IfNone, IfOk, IfSome, IsOk, IsSome, IsTrue, List, None, OnOk, Some, length, take, ℕ};
+ghost use Rattle.std.specs.Prelude.{◌≡◌, ◌≢◌, ◌+◌, ◌≤◌, ◌↔◌, [], Err, IfErr, IfNone, IfOk, IfSome, IsOk, IsSome, IsTrue, List, None, OnOk, Some, length, take, ℕ};
 ghost use Rattle.aegis_base.specs.Variant.{key_length};
 ghost use Rattle.aegis_storage.specs.Journal.{HasFront};
 ghost use Rattle.aegis_storage.specs.Pending.{writes_of};
-ghost use Rattle.aegis_pages.specs.Commits.{Fits, HasHonestHeader, IsHonest, IsOfCommit, KnownSame, RecoversText, RestsAtText, head_bytes, journal_key};
+ghost use Rattle.aegis_pages.specs.Commits.{Fits, IsHonest, IsLeftByCommit, IsOfCommit, KnownSame, RecoversText, RestsAtText, head_bytes, journal_key};
 ghost use Rattle.aegis_pages.specs.Errors.{IsLeftAlone, IsOpenRefusal};
 ghost use Rattle.aegis_pages.specs.Headers.{IsHeader};
 ghost use Rattle.aegis_pages.specs.Layouts.{IsPageSize, journal_front};
@@ -164,12 +164,9 @@ pub fn recover_file<
         → RestsAtText L.VARIANT key.now before now (S.disk storage.new) (J.disk journal.new)) }
     ensures fits { OnOk result (IfSome (S.bytes storage.old) (λ file.
         IfSome (J.bytes journal.old) (Fits L.VARIANT key.now file))) }
-    ensures accepts { (before now : List ℕ)
-        → (batch : RecoversText L.VARIANT key.now before now
-        (S.disk storage.old) (J.disk journal.old))
-        → IfSome (J.bytes journal.old) (IsHonest batch)
-        → IfSome (S.bytes storage.old) (HasHonestHeader batch)
-        → IfErr result (λ error. IsLeftAlone error → ⊥) }
+    ensures accepts { IsLeftByCommit L.VARIANT key.now (S.bytes storage.old) (J.bytes journal.old)
+        (S.disk storage.old) (J.disk journal.old)
+        → (result ≢ Err PagesError.Journal) × (result ≢ Err PagesError.Header) }
     ensures alone { IfErr result (λ error. IsLeftAlone error
         → (storage.new ≡ storage.old) × (journal.new ≡ journal.old)) }
     ensures refused { IfErr result (IsOpenRefusal L.VARIANT key.now (S.bytes storage.old)) }

@@ -2,4 +2,4 @@ use Rattle.aegis_pages.proofs.Recovering.{crashed_text}
 use Rattle.aegis_pages.proofs.laws.recovers_after_a_crash.Goals as goal
 
 pub returns : goal.returns
-returns c variant key before now storage journal ys js recovers p q = crashed_text variant key before now storage journal ys js recovers p q
+returns c = crashed_text

@@ -1,8 +1,9 @@
-use Rattle.std.proofs.Common.{◌≡◌, Err, IsOk, Result, rules}
+use Rattle.std.proofs.Common.{◌≡◌, ◌∙◌, ap, Err, IsOk, Result, rules}
 use Rattle.std.proofs.lemmas.Result.{err_from_is_err_and}
 use Rattle.aegis_storage.specs.Pending.{writes_of}
+use Rattle.aegis_pages.specs.Commits.{IsLeftByCommit}
 use Rattle.aegis_pages.proofs.Accepting.{accepts_all}
-use Rattle.aegis_pages.proofs.Known.{reads_only}
+use Rattle.aegis_pages.proofs.Known.{only_error, reads_only}
 use Rattle.aegis_pages.proofs.Recovering.{fits_all, honest_as, kept_by_empty, recovers_again, recovers_as, rests_at_text}
 use Rattle.aegis_pages.proofs.opening.recover_file.Goals as goal
 
@@ -50,24 +51,28 @@ returns-in-Some-clause-fits g c =
     c.in-Ok-journaled_writes.ensures.some c.in-Ok-journaled_writes.ensures.none c.in_ok-check_journal.ensures.of_commit c.in_ok-check_journal.ensures.whole
 
 pub returns-in_err-sector-clause-accepts : goal.returns-in_err-sector-clause-accepts
-returns-in_err-sector-clause-accepts g c before now batch honest header =
-    let p = err_from_is_err_and c.from_residual.result c.from_residual.ensures.1 in rw (p.1, p.2) (reads_only _ c.in_err-sector.ensures.refused)
+returns-in_err-sector-clause-accepts g c _ =
+    let p = err_from_is_err_and c.from_residual.result c.from_residual.ensures.1 in
+    let other = reads_only _ c.in_err-sector.ensures.refused in (only_error _ _ _ (p.1 ∙ ap Err p.2) other.0, only_error _ _ _ (p.1 ∙ ap Err p.2) other.1)
 
 pub returns-in_err-header-clause-accepts : goal.returns-in_err-header-clause-accepts
-returns-in_err-header-clause-accepts g c before now batch honest header =
-    let p = err_from_is_err_and c.from_residual-in_err-header.result c.from_residual-in_err-header.ensures.1 in rw (p.1, p.2) (reads_only _ c.in_err-header.ensures.refused)
+returns-in_err-header-clause-accepts g c _ =
+    let p = err_from_is_err_and c.from_residual-in_err-header.result c.from_residual-in_err-header.ensures.1 in
+    let other = reads_only _ c.in_err-header.ensures.refused in (only_error _ _ _ (p.1 ∙ ap Err p.2) other.0, only_error _ _ _ (p.1 ∙ ap Err p.2) other.1)
 
 pub returns-in_err-header-2-clause-accepts : goal.returns-in_err-header-2-clause-accepts
-returns-in_err-header-2-clause-accepts g c before now batch honest header =
-    let p = err_from_is_err_and c.from_residual-in_err-header-2.result c.from_residual-in_err-header-2.ensures.1 in rw (p.1, p.2) (reads_only _ c.in_err-header-2.ensures.refused)
+returns-in_err-header-2-clause-accepts g c _ =
+    let p = err_from_is_err_and c.from_residual-in_err-header-2.result c.from_residual-in_err-header-2.ensures.1 in
+    let other = reads_only _ c.in_err-header-2.ensures.refused in (only_error _ _ _ (p.1 ∙ ap Err p.2) other.0, only_error _ _ _ (p.1 ∙ ap Err p.2) other.1)
 
 pub returns-in_err-check_journal-clause-accepts : goal.returns-in_err-check_journal-clause-accepts
-returns-in_err-check_journal-clause-accepts g c before now batch honest header =
+unfolding IsLeftByCommit
+returns-in_err-check_journal-clause-accepts g c is =
     absurd (refused _ _ c.in_err-check_journal.was (
-    accepts_all (λ w. writes_of w.items) g.L.LaneState.VARIANT c.args.key.now c.journal_key-journal_key.result before now (g.S.Storage.bytes c.args.storage.now) (g.J.Storage.bytes c.args.journal.now) _ _
+    accepts_all (λ w. writes_of w.items) g.L.LaneState.VARIANT c.args.key.now c.journal_key-journal_key.result is.0 is.1 (g.S.Storage.bytes c.args.storage.now) (g.J.Storage.bytes c.args.journal.now) _ _
     c.in-Ok.content.items c.in_ok-sector.sector c.in_ok-header.header c.in-Ok-journaled_writes.writes (IsOk c.check_journal.result) g.met.L.LaneState.one_two_or_four c.journal_key-journal_key.ensures
     c.in-Ok.ensures c.in_ok-header.ensures.found c.in_ok-header.ensures.none c.in_ok-sector.ensures.read c.in_ok-sector.ensures.short
     (rw c.deref.ensures.value at c.in-Ok-journaled_writes.ensures.some) (rw c.deref.ensures.value at c.in-Ok-journaled_writes.ensures.none) c.check_journal.ensures.lost
     (rw c.deref-2.ensures.value at c.check_journal.ensures.torn) c.check_journal.ensures.own
-    (g.met.S.Storage.possible c.args.storage.now) (g.met.J.Storage.possible c.args.journal.now) batch honest header
+    (g.met.S.Storage.possible c.args.storage.now) (g.met.J.Storage.possible c.args.journal.now) is.2 is.3 is.4
     ))
