@@ -18,6 +18,7 @@ pub mod record_log;
 pub mod record_protocol;
 pub mod record_steps;
 pub mod records;
+pub mod reopened_file;
 pub mod replaced_value;
 pub mod sealed_file;
 pub mod session_token;

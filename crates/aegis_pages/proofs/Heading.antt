@@ -1,15 +1,15 @@
 -- The headers of a file.
-use Rattle.std.proofs.Common.{◌≡◌, ℕ, ◌+◌, ◌-◌, ◌^◌, ◌<◌, ◌≤◌, inl, List, [], ◌∷◌, ◌++◌, drop, length, take, refl, sym, ap, subst, ◌∙◌, arith}
+use Rattle.std.proofs.Common.{◌≡◌, ℕ, ◌+◌, ◌-◌, ◌^◌, ◌<◌, ◌≤◌, inl, List, [], ◌∷◌, ◌++◌, drop, length, replicate, take, refl, sym, ap, subst, ◌∙◌, arith}
 use Rattle.std.proofs.lemmas.List.{drop-drop, drop-take, drop_at, length-drop, length-take, take-append-le, take-take, take_all, take_at}
 use Rattle.std.proofs.Math.Seq.{take-add}
 use Rattle.std.proofs.lemmas.Nat.{from_le_bytes-to_le_bytes_4, from_le_bytes-to_le_bytes_8}
 use Rattle.std.specs.Int.{from_le_bytes, to_le_bytes, w32, w64}
 use Rattle.aegis_aes.specs.Lanes.{IsLaneCount}
 use Rattle.aegis_base.specs.Variant.{Variant}
-use Rattle.aegis_pages.specs.declared.layout.TheConstants.{HEADER_NUMBER, MAGIC, MAX_TEXT_BYTES}
+use Rattle.aegis_pages.specs.declared.layout.TheConstants.{HEADER_NUMBER, JOURNAL_MAGIC, MAGIC, MAX_TEXT_BYTES}
 use Rattle.aegis_storage.specs.Bytes.{overwritten, part_at}
 use Rattle.aegis_pages.specs.Headers.{IsHeader, IsSector, header_text}
-use Rattle.aegis_pages.specs.Layouts.{IsPageSize, Layout, OpensAt, box_bytes, clear_part, inner, nonce_bytes, variant_byte}
+use Rattle.aegis_pages.specs.Layouts.{IsPageSize, Layout, OpensAt, box_bytes, clear_part, inner, journal_front, nonce_bytes, variant_byte}
 use Rattle.aegis_pages.proofs.Boxes.{opens_one}
 use Rattle.aegis_storage.proofs.Overwriting.{filled_front, kept_part, length-part, put_part}
 
@@ -39,6 +39,12 @@ clear_same a b variant size id =
     ap (λ (v : Variant). MAGIC ++ (variant_byte v ∷ (to_le_bytes w32 a.page_bytes ++ a.id))) variant
     ∙ ap (λ (p : ℕ). MAGIC ++ (variant_byte b.variant ∷ (to_le_bytes w32 p ++ a.id))) size
     ∙ ap (λ (i : List ℕ). MAGIC ++ (variant_byte b.variant ∷ (to_le_bytes w32 b.page_bytes ++ i))) id
+
+pub front_put : (layout : Layout) → overwritten (clear_part layout) 0 JOURNAL_MAGIC ≡ journal_front layout
+unfolding clear_part journal_front
+front_put layout =
+    let none : 0 - length (clear_part layout) ≡ 0 = omega arith in
+    ap (λ (n : ℕ). replicate n 0 ++ (JOURNAL_MAGIC ++ drop 4 (clear_part layout))) none
 
 pub read_size : (a : Layout) (clear bytes : List ℕ) (n : ℕ) → clear ≡ clear_part a → bytes ≡ take 4 (drop 5 clear) → n ≡ from_le_bytes w32 bytes → IsPageSize a.page_bytes → n ≡ a.page_bytes
 read_size a clear bytes n is cut read size =

@@ -1,5 +1,5 @@
 -- Bytes that are known, or not, and errors.
-use Rattle.std.proofs.Common.{◌≡◌, ℕ, ◌*◌, ◌<◌, ◌≤◌, Bool, false, List, Option, None, Some, IfSome, refl, sym, subst, arith}
+use Rattle.std.proofs.Common.{◌≡◌, ℕ, ◌*◌, ◌<◌, ◌≤◌, ◌≢◌, ◌∙◌, Bool, false, Err, Result, List, Option, None, Some, IfSome, refl, sym, subst, arith, rules}
 use Rattle.aegis_pages.specs.declared.error.PagesError.{PagesError}
 use Rattle.aegis_pages.specs.declared.error.PagesError.TheVariants.{Read, Write, Nonce, Header, Damaged, TooLong, OutOfMemory, PageSize, Commitment, Journal, Broken}
 use Rattle.aegis_base.specs.Variant.{Variant}
@@ -157,3 +157,21 @@ left_refused variant key o PageSize is none = absurd is
 left_refused variant key o Commitment is none = absurd is
 left_refused variant key o Journal is none = tt
 left_refused variant key o Broken is none = absurd is
+
+-- reading failed, and so the file was not left alone
+pub reads_only : (e : PagesError) → IsReadError e → (e ≢ Journal) × (e ≢ Header)
+reads_only (Read e) is = (search rules, search rules)
+reads_only (Write e) is = absurd is
+reads_only (Nonce e) is = absurd is
+reads_only Header is = absurd is
+reads_only (Damaged k) is = absurd is
+reads_only TooLong is = absurd is
+reads_only OutOfMemory is = absurd is
+reads_only PageSize is = absurd is
+reads_only Commitment is = absurd is
+reads_only Journal is = absurd is
+reads_only Broken is = absurd is
+
+-- a result that is this error, and no other one
+pub only_error : {T : Type 0} (r : Result T PagesError) (e k : PagesError) → r ≡ Err e → e ≢ k → r ≢ Err k
+only_error r e k is other same = other (let both : Err e ≡ Err k = sym is ∙ same in cc)

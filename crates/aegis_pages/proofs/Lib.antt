@@ -1,3 +1,4 @@
+pub mod Accepting
 pub mod Boxes
 pub mod Commits
 pub mod Committing

@@ -1,23 +1,24 @@
 -- The text of a file after a commit that was cut short.
-use Rattle.std.proofs.Common.{◌≡◌, ℕ, ◌⊎◌, inl, inr, Bool, false, List, [], ◌∷◌, Option, None, Some, IfNone, IfSome, IsSome, drop, length, take, refl, sym, ap, subst, ◌∙◌, ◌≤◌, arith}
-use Rattle.std.proofs.lemmas.List.{take-take}
+use Rattle.std.proofs.Common.{◌≡◌, ℕ, ◌⊎◌, inl, inr, Bool, false, List, [], ◌∷◌, Option, None, Some, IfNone, IfSome, IsSome, length, take, refl, sym, ap, subst, ◌∙◌, ◌≤◌}
 use Rattle.aegis_aes.specs.Lanes.{IsLaneCount}
-use Rattle.aegis_base.specs.Variant.{Variant, key_length}
-use Rattle.aegis_storage.specs.Bytes.{part_at}
-use Rattle.aegis_storage.specs.Disk.{Disk, IsPossible, Writes, WritesAll, written}
-use Rattle.aegis_storage.specs.Journal.{IsAtRest, IsJournal, IsNoForgery, IsOneOf, Recovers, RecoversKnown, RestsAtEither}
+use Rattle.aegis_base.specs.Variant.{Variant}
+use Rattle.aegis_storage.specs.Bytes.{overwritten, part_at}
+use Rattle.aegis_storage.specs.Disk.{Crashed, Disk, IsPossible, Writes, WritesAll, certain, written}
+use Rattle.aegis_storage.specs.Journal.{IsAtRest, IsJournal, IsNoForgery, IsOneOf, KeepsFront, Recovers, RecoversKnown, RestsAtEither}
 use Rattle.aegis_storage.proofs.Disks.{readable_certain}
-use Rattle.aegis_storage.proofs.Journals.{empty_is_none, one_journal, rest_recovers}
+use Rattle.aegis_storage.proofs.Fronts.{crashed_front, empty_front}
+use Rattle.aegis_storage.proofs.Journals.{crashed_recovers, empty_is_none, one_journal, rest_recovers}
 use Rattle.aegis_pages.specs.Changed.{Texts, text_at}
-use Rattle.aegis_pages.specs.Commits.{Fits, IsOfCommit, KnownSame, RecoversText, RestsAtText, head_bytes, journal_key}
+use Rattle.aegis_pages.specs.Commits.{Fits, IsOfCommit, KnownSame, RecoversText, RestsAtText, head_bytes, head_of, journal_key}
 use Rattle.aegis_pages.specs.Errors.{HasNoHeader}
 use Rattle.aegis_pages.specs.Headers.{IsHeader}
 use Rattle.aegis_pages.specs.History.{AreCommits, Step, last_of}
-use Rattle.aegis_pages.specs.Layouts.{Layout}
+use Rattle.aegis_pages.specs.Layouts.{Layout, journal_front}
 use Rattle.aegis_pages.specs.Reading.{layout_of}
 use Rattle.aegis_pages.specs.declared.header.FileHeader.{FileHeader}
 use Rattle.aegis_pages.specs.OpenFile.{Has, HasCommitted, HasIn, HasText, IsStoredAs, OpenFile, OpensAtOne}
-use Rattle.aegis_pages.specs.SealedPages.{ArePages, Holds, IsSealed}
+use Rattle.aegis_pages.specs.SealedPages.{ArePages, Holds, HoldsUnder, IsSealed}
+use Rattle.aegis_pages.proofs.Commits.{first_again, head_read, take_own}
 use Rattle.aegis_pages.proofs.Standing.{holds_has, holds_sealed, sealed_has}
 
 -- ---- a commit
@@ -48,35 +49,47 @@ commit_sealed_at layout counter stored len next changes broken writes now file a
     let has = has_known layout counter stored len changes broken now file a (readable_certain a disk file possible rests.storage_is) s in
     commits now file has.size has.pages
 
-pub commit_recovers : (layout : Layout) (counter stored len next : ℕ) (changes : Texts) (broken : Bool) (writes : Writes) (key before now file : List ℕ) (a : Option (List ℕ)) (disk journal disk' journal' : Option Disk)
-    → key ≡ journal_key layout.variant layout.key → IsPossible a disk → Commits layout len next changes writes → IsAtRest disk journal file → IsSealed layout counter before file
-    → HasIn layout counter stored len changes broken now a → Recovers key [] file writes disk' journal' → RecoversText layout.variant layout.key before now disk' journal'
-commit_recovers layout counter stored len next changes broken writes key before now file a disk journal disk' journal' is possible commits rests sealed s recovers = record {
+pub commit_recovers : (layout : Layout) (counter stored len next : ℕ) (changes : Texts) (broken : Bool) (writes : Writes) (key front before now file sector : List ℕ) (a : Option (List ℕ)) (disk journal disk' journal' : Option Disk)
+    → key ≡ journal_key layout.variant layout.key → front ≡ journal_front layout → IsPossible a disk → Commits layout len next changes writes
+    → IfSome a (λ file. (512 ≤ length file) × (sector ≡ part_at file 0 512)) → IsOfCommit (take (head_bytes layout.variant) sector) writes
+    → ((file : List ℕ) → IsOfCommit (head_of layout.variant (written writes file)) writes) → IsAtRest disk journal file → IsSealed layout counter before file
+    → HasIn layout counter stored len changes broken now a → Recovers key [] file writes disk' journal' → KeepsFront front journal' → RecoversText layout.variant layout.key before now disk' journal'
+commit_recovers layout counter stored len next changes broken writes key front before now file sector a disk journal disk' journal' is names possible commits read old_head new_head rests sealed s recovers keeps = record {
+  layout = layout;
   file = file;
   writes = writes;
+  variant_is = refl;
+  key_is = refl;
   recovers = subst (λ (k : List ℕ). Recovers k [] file writes disk' journal') is recovers;
-  without = record { layout = layout; counter = counter; variant_is = refl; key_is = refl; is = sealed };
-  with_writes = inr (record {
-    layout = layout;
-    counter = next;
-    variant_is = refl;
-    key_is = refl;
-    is = commit_sealed_at layout counter stored len next changes broken writes now file a disk journal possible commits rests s;
-  });
+  without = (counter, sealed);
+  with_writes = inr (next, commit_sealed_at layout counter stored len next changes broken writes now file a disk journal possible commits rests s);
+  old_head = subst (λ (l : List ℕ). IsOfCommit l writes) (head_read layout.variant file sector (found.1)) old_head;
+  new_head = new_head file;
+  front = subst (λ (l : List ℕ). KeepsFront l journal') names keeps;
 }
+  where
+    found : (512 ≤ length file) × (sector ≡ part_at file 0 512)
+    found = subst (λ (o : Option (List ℕ)). IfSome o (λ file. (512 ≤ length file) × (sector ≡ part_at file 0 512))) (readable_certain a disk file possible rests.storage_is) read
 
 -- ---- an opening
 
 pub recovers_again : (variant : Variant) (key before now k : List ℕ) (storage journal storage' journal' : Option Disk) → k ≡ journal_key variant key
     → (batch : RecoversText variant key before now storage journal)
-    → (Recovers k [] batch.file batch.writes storage journal → Recovers k [] batch.file batch.writes storage' journal') → RecoversText variant key before now storage' journal'
-recovers_again variant key before now k storage journal storage' journal' is batch next = record {
+    → (Recovers k [] batch.file batch.writes storage journal → Recovers k [] batch.file batch.writes storage' journal')
+    → (KeepsFront (journal_front batch.layout) journal → KeepsFront (journal_front batch.layout) journal') → RecoversText variant key before now storage' journal'
+recovers_again variant key before now k storage journal storage' journal' is batch next front = record {
+  layout = batch.layout;
   file = batch.file;
   writes = batch.writes;
+  variant_is = batch.variant_is;
+  key_is = batch.key_is;
   recovers = subst (λ (l : List ℕ). Recovers l [] batch.file batch.writes storage' journal') is
       (next (subst (λ (l : List ℕ). Recovers l [] batch.file batch.writes storage journal) (sym is) batch.recovers));
   without = batch.without;
   with_writes = batch.with_writes;
+  old_head = batch.old_head;
+  new_head = batch.new_head;
+  front = front batch.front;
 }
 
 pub honest_as : (variant : Variant) (key k : List ℕ) (writes : Writes) (o : Option (List ℕ)) → k ≡ journal_key variant key → IfSome o (IsNoForgery (journal_key variant key) [] writes)
@@ -87,9 +100,16 @@ pub rests_at_text : (variant : Variant) (key before now : List ℕ) (storage jou
     → (batch : RecoversText variant key before now storage journal) → RestsAtEither storage' journal' batch.file batch.writes → RestsAtText variant key before now storage' journal'
 rests_at_text variant key before now storage journal storage' journal' batch rests = record { file = rests.bytes; rests = rests.rests; holds = cases rests.one }
   where
+    holds : (text bytes : List ℕ) → HoldsUnder batch.layout text bytes → Holds variant key text bytes
+    holds text bytes h = record { layout = batch.layout; counter = h.0; variant_is = batch.variant_is; key_is = batch.key_is; is = h.1 }
+
+    after : HoldsUnder batch.layout before rests.bytes ⊎ HoldsUnder batch.layout now rests.bytes → Holds variant key before rests.bytes ⊎ Holds variant key now rests.bytes
+    after (inl h) = inl (holds before rests.bytes h)
+    after (inr h) = inr (holds now rests.bytes h)
+
     cases : IsOneOf batch.file (written batch.writes batch.file) rests.bytes → Holds variant key before rests.bytes ⊎ Holds variant key now rests.bytes
-    cases (inl same) = inl (subst (Holds variant key before) (sym same) batch.without)
-    cases (inr same) = subst (λ (l : List ℕ). Holds variant key before l ⊎ Holds variant key now l) (sym same) batch.with_writes
+    cases (inl same) = inl (holds before rests.bytes (subst (HoldsUnder batch.layout before) (sym same) batch.without))
+    cases (inr same) = after (subst (λ (l : List ℕ). HoldsUnder batch.layout before l ⊎ HoldsUnder batch.layout now l) (sym same) batch.with_writes)
 
 pub kept_by_empty : (key context : List ℕ) (j a b : Option (List ℕ)) → RecoversKnown key context j a b → j ≡ Some [] → KnownSame a b
 kept_by_empty key context j a b recovers none = cases a b (subst (λ (o : Option (List ℕ)). RecoversKnown key context o a b) none recovers)
@@ -108,22 +128,45 @@ stored_committed old new text s has = record {
   is = subst (λ (l : Layout). IsSealed l new.counter text has.bytes) (sym s.layout) (subst (λ (k : ℕ). IsSealed old.layout k text has.bytes) (sym s.counter) has.is);
 }
 
+-- writing the sector over itself, which no journal does, stands for a commit that did not begin
 pub committed_file_recovers : (file : OpenFile) (before now : List ℕ) → HasCommitted file before → RecoversText file.layout.variant file.layout.key before now file.disk file.journal
-committed_file_recovers file before now has = record {
-  file = has.bytes;
-  writes = [];
-  recovers = rest_recovers (journal_key file.layout.variant file.layout.key) [] has.bytes [] file.disk file.journal has.bytes (inl refl) has.rests;
-  without = record { layout = file.layout; counter = file.counter; variant_is = refl; key_is = refl; is = has.is };
-  with_writes = inl (record { layout = file.layout; counter = file.counter; variant_is = refl; key_is = refl; is = has.is });
-}
+committed_file_recovers file before now has =
+    let itself : List ℕ = part_at has.bytes 0 512 in
+    let same : overwritten has.bytes 0 itself ≡ has.bytes = first_again has.bytes 512 in
+    let head = head_read file.layout.variant has.bytes itself refl in
+    let begins : IsOfCommit (head_of file.layout.variant has.bytes) ((0, itself) ∷ []) =
+    subst (λ (l : List ℕ). IsOfCommit l ((0, itself) ∷ [])) head (inl (itself, [], refl, take_own (head_bytes file.layout.variant) itself)) in record {
+      layout = file.layout;
+      file = has.bytes;
+      writes = (0, itself) ∷ [];
+      variant_is = refl;
+      key_is = refl;
+      recovers = rest_recovers (journal_key file.layout.variant file.layout.key) [] has.bytes ((0, itself) ∷ []) file.disk file.journal has.bytes (inl refl) has.rests;
+      without = (file.counter, has.is);
+      with_writes = inl (file.counter, subst (IsSealed file.layout file.counter before) (sym same) has.is);
+      old_head = begins;
+      new_head = subst (λ (l : List ℕ). IsOfCommit (head_of file.layout.variant l) ((0, itself) ∷ [])) (sym same) begins;
+      front = empty_front (journal_front file.layout) file.journal has.rests.journal_is;
+    }
+
+-- ---- a crash
+
+pub crashed_text : (variant : Variant) (key before now : List ℕ) (storage journal : Option Disk) (disk journal_disk : Disk) (ys js : List ℕ) → RecoversText variant key before now storage journal
+    → storage ≡ Some disk → journal ≡ Some journal_disk → Crashed disk ys → Crashed journal_disk js → RecoversText variant key before now (Some (certain ys)) (Some (certain js))
+crashed_text variant key before now storage journal disk journal_disk ys js batch is journal_is p q =
+    recovers_again variant key before now (journal_key variant key) storage journal (Some (certain ys)) (Some (certain js)) refl batch
+    (λ recovers. crashed_recovers (journal_key variant key) [] batch.file batch.writes disk journal_disk ys js
+    (subst (λ (o : Option Disk). Recovers (journal_key variant key) [] batch.file batch.writes o (Some journal_disk)) is
+    (subst (Recovers (journal_key variant key) [] batch.file batch.writes storage) journal_is recovers)) p q)
+    (λ keeps. crashed_front (journal_front batch.layout) journal_disk js (subst (KeepsFront (journal_front batch.layout)) journal_is keeps) q)
 
 -- ---- a journal that fits
 
-pub fits_whole : (variant : Variant) (key file journal sector : List ℕ) (writes : Writes) → key_length variant.family ≤ 32 → sector ≡ part_at file 0 512 → IsJournal (journal_key variant key) [] writes journal
+pub fits_whole : (variant : Variant) (key file journal sector : List ℕ) (writes : Writes) → sector ≡ part_at file 0 512 → IsJournal (journal_key variant key) [] writes journal
     → IsOfCommit (take (head_bytes variant) sector) writes → Fits variant key file journal
-fits_whole variant key file journal sector writes most is whole of_commit = record {
-  whole = λ found found_is has. subst (IsOfCommit (part_at file 0 (head_bytes variant))) (one_journal (journal_key variant key) [] writes found journal whole found_is)
-      (subst (λ (l : List ℕ). IsOfCommit l writes) (ap (take (head_bytes variant)) is ∙ take-take (head_bytes variant) 512 (drop 0 file) (omega (arith, most))) of_commit);
+fits_whole variant key file journal sector writes is whole of_commit = record {
+  whole = λ found found_is has. subst (IsOfCommit (head_of variant file)) (one_journal (journal_key variant key) [] writes found journal whole found_is)
+      (subst (λ (l : List ℕ). IsOfCommit l writes) (head_read variant file sector is) of_commit);
   other = λ not none. not writes whole;
 }
 
@@ -192,20 +235,20 @@ recovers_as variant key k file writes storage journal is r = subst (λ (l : List
 
 -- what was checked of a journal before it was made again or emptied
 pub fits_all : {W : Type 0} (of : W → Writes) (variant : Variant) (key k : List ℕ) (a b : Option (List ℕ)) (read : List ℕ) (sector : Option (List ℕ)) (header : Option FileHeader) (writes : Option W)
-    → key_length variant.family ≤ 32 → k ≡ journal_key variant key → IfSome b (λ js. read ≡ js)
+    → k ≡ journal_key variant key → IfSome b (λ js. read ≡ js)
     → IfSome header (λ h. IfSome a (IsHeader (layout_of variant key h) h.counter h.len)) → IfNone header (IfSome a (HasNoHeader variant key))
     → IfSome sector (λ s. IfSome a (λ file. (512 ≤ length file) × (s ≡ part_at file 0 512)))
     → IfSome writes (λ ws. IsJournal k [] (of ws) read) → IfNone writes ((ws : Writes) → IsJournal k [] ws read → ⊥)
     → (IsSome header → IfSome writes (λ ws. IsSome sector × IfSome sector (λ s. IsOfCommit (take (head_bytes variant) s) (of ws)))) → IfNone header (IsSome writes)
     → IfSome a (λ file. IfSome b (Fits variant key file))
-fits_all of variant key k a b read sector None None most is same found none first whole torn of_commit some = absurd (cc)
-fits_all of variant key k a b read sector None (Some ws) most is same found none first whole torn of_commit some =
+fits_all of variant key k a b read sector None None is same found none first whole torn of_commit some = absurd (cc)
+fits_all of variant key k a b read sector None (Some ws) is same found none first whole torn of_commit some =
     fits_known variant key a b read (HasNoHeader variant key) none same
     (λ file no. fits_lost variant key file read (of ws) no (subst (λ (l : List ℕ). IsJournal l [] (of ws) read) is whole))
-fits_all of variant key k a b read sector (Some h) None most is same found none first whole torn of_commit some =
+fits_all of variant key k a b read sector (Some h) None is same found none first whole torn of_commit some =
     fits_known variant key a b read (IsHeader (layout_of variant key h) h.counter h.len) found same
     (λ file header. fits_torn variant key file read h header (λ ws journal. torn ws (subst (λ (l : List ℕ). IsJournal l [] ws read) (sym is) journal)))
-fits_all of variant key k a b read None (Some h) (Some ws) most is same found none first whole torn of_commit some = let no = (of_commit refl).0 in absurd (cc)
-fits_all of variant key k a b read (Some s) (Some h) (Some ws) most is same found none first whole torn of_commit some =
+fits_all of variant key k a b read None (Some h) (Some ws) is same found none first whole torn of_commit some = let no = (of_commit refl).0 in absurd (cc)
+fits_all of variant key k a b read (Some s) (Some h) (Some ws) is same found none first whole torn of_commit some =
     fits_known variant key a b read (λ file. (512 ≤ length file) × (s ≡ part_at file 0 512)) first same
-    (λ file at. fits_whole variant key file read s (of ws) most at.1 (subst (λ (l : List ℕ). IsJournal l [] (of ws) read) is whole) (of_commit refl).1)
+    (λ file at. fits_whole variant key file read s (of ws) at.1 (subst (λ (l : List ℕ). IsJournal l [] (of ws) read) is whole) (of_commit refl).1)

@@ -1,21 +1,23 @@
 -- Pages that a commit writes.
-use Rattle.std.proofs.Common.{Equal, Greater, Less, Ordering, is_eq, nat_cmp, ◌≡◌, ℕ, ◌+◌, ◌<◌, ◌≤◌, ◌⊎◌, inl, inr, Bool, true, false, cond, List, [], ◌∷◌, ◌++◌, Option, None, Some, length, refl, sym, ap, subst, ◌∙◌, arith}
+use Rattle.std.proofs.Common.{Equal, Greater, Less, Ordering, is_eq, nat_cmp, ◌≡◌, ℕ, ◌+◌, ◌<◌, ◌≤◌, ◌⊎◌, inl, inr, Bool, true, false, cond, List, [], ◌∷◌, ◌++◌, Option, None, Some, length, take, refl, sym, ap, subst, ◌∙◌, arith}
 use Rattle.std.proofs.lemmas.Bool.{cases_lt}
 use Rattle.std.proofs.lemmas.Cmp.{ranked}
 use Rattle.std.specs.BTreeMap.{is_at}
 use Rattle.std.specs.List.{AllByRecursion}
-use Rattle.std.specs.Map.{lookup}
 use Rattle.std.specs.Ordering.{MatchOrdering}
 use Rattle.std.proofs.Math.Nat.{mul-le-mul_right}
 use Rattle.aegis_storage.specs.Bytes.{overwritten, part_at}
 use Rattle.aegis_storage.specs.Disk.{Writes, written}
 use Rattle.aegis_storage.proofs.Disks.{written_more}
 use Rattle.aegis_storage.proofs.Overwriting.{kept_part, length-overwritten, put_part}
+use Rattle.aegis_base.specs.Variant.{Variant}
 use Rattle.aegis_pages.specs.Changed.{Texts, text_at}
+use Rattle.aegis_pages.specs.Commits.{IsOfCommit, head_bytes, head_of}
 use Rattle.aegis_pages.specs.Headers.{IsHeader, IsSector}
 use Rattle.aegis_pages.specs.Layouts.{Layout, OpensAt, box_bytes, page_at, page_place}
 use Rattle.aegis_pages.specs.SealedPages.{ArePages, Changes, IsSealed, Shows, unchanged}
 use Rattle.aegis_pages.specs.Sealing.{HaveOneText, IsSealOf, Seals}
+use Rattle.aegis_pages.proofs.Commits.{head_read, take_own}
 
 -- ---- places
 
@@ -182,3 +184,26 @@ commit_sealed layout counter len texts first more made all start place before se
       header = subst (λ (n : ℕ). IsHeader layout counter n (overwritten (written more begun) 0 sector)) (sym len_is) (header_written layout counter len sector (written more begun) size header);
       pages = header_pages layout unchanged sector text (written more begun) size pages;
     })
+
+-- ---- the headers of a commit
+
+pub starts_commit : (variant : Variant) (first more made all : Writes) (before : List ℕ) (place : ℕ) (sector : List ℕ) → first ≡ (0, before) ∷ [] → made ≡ first ++ more → all ≡ made ++ (place, sector) ∷ []
+    → IsOfCommit (take (head_bytes variant) before) all
+starts_commit variant first more made all before place sector begins long ends =
+    inl (
+      before,
+      more ++ (place, sector) ∷ [],
+      ends ∙ ap (λ (l : Writes). l ++ (place, sector) ∷ []) (long ∙ ap (λ (l : Writes). l ++ more) begins),
+      take_own (head_bytes variant) before,
+    )
+
+pub ends_commit : (variant : Variant) (made all : Writes) (place : ℕ) (sector file : List ℕ) → all ≡ made ++ (place, sector) ∷ [] → place ≡ 0 → length sector ≡ 512
+    → IsOfCommit (head_of variant (written all file)) all
+ends_commit variant made all place sector file ends zero long =
+    let last : all ≡ made ++ (0, sector) ∷ [] = ends ∙ ap (λ (n : ℕ). made ++ (n, sector) ∷ []) zero in
+    let there : sector ≡ part_at (written all file) 0 512 =
+    sym (
+    ap (λ (l : Writes). part_at (written l file) 0 512) last ∙ ap (λ (l : List ℕ). part_at l 0 512) (written_more made 0 sector file)
+    ∙ ap (part_at (overwritten (written made file) 0 sector) 0) (sym long) ∙ put_part (written made file) 0 sector
+    ) in
+    subst (λ (l : List ℕ). IsOfCommit l all) (head_read variant (written all file) sector there) (inr (sector, made, last, take_own (head_bytes variant) sector))

@@ -1,31 +1,69 @@
 -- Commits, before a crash and after it.
-use Rattle.std.specs.Prelude.{◌≡◌, ℕ, ◌+◌, ◌⊎◌, List, [], ◌∷◌, ◌++◌, Option, None, Some, ⊤, length, replicate, take}
+use Rattle.std.specs.Prelude.{◌≡◌, ℕ, ◌+◌, ◌⊎◌, List, [], ◌∷◌, ◌++◌, IfSome, Option, None, Some, ⊤, length, replicate, take}
 use Rattle.aegis_base.specs.Mac.{mac}
 use Rattle.aegis_base.specs.Variant.{Variant, key_length}
 use Rattle.aegis_storage.specs.Bytes.{part_at}
 use Rattle.aegis_storage.specs.Disk.{Disk, Writes, written}
-use Rattle.aegis_storage.specs.Journal.{IsAtRest, IsJournal, IsNoForgery, Recovers}
+use Rattle.aegis_storage.specs.Journal.{IsAtRest, IsJournal, IsNoForgery, IsOneOf, KeepsFront, Recovers}
 use Rattle.aegis_pages.specs.declared.layout.TheConstants.{JOURNAL_MAGIC}
 use Rattle.aegis_pages.specs.Errors.{HasNoHeader}
-use Rattle.aegis_pages.specs.SealedPages.{Holds}
+use Rattle.aegis_pages.specs.Headers.{IsHeader}
+use Rattle.aegis_pages.specs.Layouts.{Layout, journal_front}
+use Rattle.aegis_pages.specs.SealedPages.{Holds, HoldsUnder}
 
 -- the key of the journals of files under a key: a MAC of 32 bytes of the journals' magic number, under the nonce of all
 -- bytes 255
 abbrev pub journal_key : Variant → List ℕ → List ℕ
 journal_key variant key = mac variant 32 key (replicate (key_length variant.family) 255) JOURNAL_MAGIC
 
+-- how many bytes a header has
+abbrev pub head_bytes : Variant → ℕ
+head_bytes variant = 33 + (16 + (key_length variant.family + 32))
+
+-- as many bytes as a header has, with which the file begins
+abbrev pub head_of : Variant → (file : List ℕ) → List ℕ
+head_of variant file = part_at file 0 (head_bytes variant)
+
+-- the first of the writes, or the last, makes a file begin with these bytes of a header
+abbrev pub IsOfCommit : (head : List ℕ) → Writes → Type 0
+IsOfCommit head writes =
+    ((sector : List ℕ) × (rest : Writes) × (writes ≡ (0, sector) ∷ rest) × (take (length head) sector ≡ head))
+    ⊎ ((sector : List ℕ) × (before : Writes) × (writes ≡ before ++ (0, sector) ∷ []) × (take (length head) sector ≡ head))
+
+-- ---- crashes
+
 -- Whatever a crash now leaves of the storage and of the journal, unless it leaves a forgery, opening gives the text
 -- `before` or the text `now`.
 pub record RecoversText (variant : Variant) (key before now : List ℕ) (storage journal : Option Disk) : Type 0 where
+  pub layout : Layout
   pub file : List ℕ
   pub writes : Writes
+  pub variant_is : layout.variant ≡ variant
+  pub key_is : layout.key ≡ key
   pub recovers : Recovers (journal_key variant key) [] file writes storage journal
-  pub without : Holds variant key before file
-  pub with_writes : Holds variant key before (written writes file) ⊎ Holds variant key now (written writes file)
+  pub without : HoldsUnder layout before file
+  pub with_writes : HoldsUnder layout before (written writes file) ⊎ HoldsUnder layout now (written writes file)
+  -- the writes begin or end with the header of the file, and so they do with the one that they make of it
+  pub old_head : IsOfCommit (head_of variant file) writes
+  pub new_head : IsOfCommit (head_of variant (written writes file)) writes
+  -- a journal that is longer than its front begins with that of the file
+  pub front : KeepsFront (journal_front layout) journal
 
 -- The journal's content is no forgery.
 abbrev pub IsHonest : {variant : Variant} {key before now : List ℕ} {storage journal : Option Disk} → RecoversText variant key before now storage journal → List ℕ → Type 0
 IsHonest {variant} {key} batch bytes = IsNoForgery (journal_key variant key) [] batch.writes bytes
+
+-- The header of the storage's content is no forgery: if there is one, it is that of before the commit or of after it.
+-- A torn header that opens all the same would be another.
+abbrev pub HasHonestHeader : {variant : Variant} {key before now : List ℕ} {storage journal : Option Disk} → RecoversText variant key before now storage journal → List ℕ → Type 0
+HasHonestHeader {variant} {key} batch bytes = (layout : Layout) (counter len : ℕ) → layout.variant ≡ variant → layout.key ≡ key → IsHeader layout counter len bytes
+    → IsOneOf (head_of variant batch.file) (head_of variant (written batch.writes batch.file)) (head_of variant bytes)
+
+-- What can be read of the storage and of the journal is what a commit left, whatever it returned and whatever a crash and
+-- openings that were cut short did since, and no forgery.
+unfoldable pub IsLeftByCommit : Variant → (key : List ℕ) → (bytes content : Option (List ℕ)) → (storage journal : Option Disk) → Type 0
+IsLeftByCommit variant key bytes content storage journal =
+    (before : List ℕ) × (now : List ℕ) × (batch : RecoversText variant key before now storage journal) × IfSome content (IsHonest batch) × IfSome bytes (HasHonestHeader batch)
 
 -- The storage and the journal are synced, the journal is empty, and the file holds one of the two texts.
 pub record RestsAtText (variant : Variant) (key before now : List ℕ) (storage journal : Option Disk) : Type 0 where
@@ -40,19 +78,9 @@ KnownSame (Some xs) new = new ≡ Some xs
 
 -- ---- what a journal is to a file
 
--- how many bytes a header has
-abbrev pub head_bytes : Variant → ℕ
-head_bytes variant = 33 + (16 + (key_length variant.family + 32))
-
--- the first of the writes, or the last, makes a file begin with these bytes of a header
-abbrev pub IsOfCommit : (head : List ℕ) → Writes → Type 0
-IsOfCommit head writes =
-    ((sector : List ℕ) × (rest : Writes) × (writes ≡ (0, sector) ∷ rest) × (take (length head) sector ≡ head))
-    ⊎ ((sector : List ℕ) × (before : Writes) × (writes ≡ before ++ (0, sector) ∷ []) × (take (length head) sector ≡ head))
-
 -- The journal may be made again, or emptied: if it is whole, and the file has a header, its commit began or ended with
 -- that one; and if it is not whole the file has a header.
 pub record Fits (variant : Variant) (key file journal : List ℕ) : Type 0 where
   pub whole : (writes : Writes) → IsJournal (journal_key variant key) [] writes journal
-      → (HasNoHeader variant key file → ⊥) → IsOfCommit (part_at file 0 (head_bytes variant)) writes
+      → (HasNoHeader variant key file → ⊥) → IsOfCommit (head_of variant file) writes
   pub other : ((writes : Writes) → IsJournal (journal_key variant key) [] writes journal → ⊥) → HasNoHeader variant key file → ⊥

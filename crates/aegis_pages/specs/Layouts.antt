@@ -3,7 +3,7 @@ use Rattle.std.specs.Prelude.{ℕ, ◌+◌, ◌-◌, ◌*◌, ◌≤◌, List, �
 use Rattle.std.specs.Int.{to_le_bytes, w32, w64}
 use Rattle.aegis_base.specs.Variant.{Variant, key_length}
 use Rattle.aegis_base.specs.Message.{Opens}
-use Rattle.aegis_pages.specs.declared.layout.TheConstants.{MAGIC, MAX_PAGE_BYTES, MIN_PAGE_BYTES}
+use Rattle.aegis_pages.specs.declared.layout.TheConstants.{JOURNAL_MAGIC, MAGIC, MAX_PAGE_BYTES, MIN_PAGE_BYTES}
 use Rattle.aegis_storage.specs.Bytes.{part_at}
 
 -- what all boxes of a file are sealed under
@@ -23,6 +23,10 @@ variant_byte variant = key_length variant.family + variant.lanes
 -- magic number, variant, page size and id: the first 33 bytes of a header, and of the associated data of each box
 unfoldable pub clear_part : Layout → List ℕ
 clear_part layout = MAGIC ++ (variant_byte layout.variant ∷ (to_le_bytes w32 layout.page_bytes ++ layout.id))
+
+-- the front of the file's journals, which has another magic number
+unfoldable pub journal_front : Layout → List ℕ
+journal_front layout = JOURNAL_MAGIC ++ (variant_byte layout.variant ∷ (to_le_bytes w32 layout.page_bytes ++ layout.id))
 
 -- the associated data of the box of a number
 unfoldable pub associated_data : Layout → ℕ → List ℕ

@@ -1,13 +1,13 @@
 //! Laws: functions that do nothing, and whose contracts are facts about the definitions that the other contracts cite.
 
-ghost use Rattle.std.specs.Prelude.{◌≡◌, ◌+◌, ◌≤◌, IfSome, List, Option, length, ℕ};
+ghost use Rattle.std.specs.Prelude.{◌≡◌, ◌+◌, ◌≤◌, IfSome, List, Option, Some, length, ℕ};
 ghost use Rattle.aegis_aes.specs.Lanes.{IsLaneCount};
 ghost use Rattle.aegis_base.specs.Variant.{Variant};
 ghost use Rattle.aegis_storage.specs.Bytes.{overwritten, part_at};
 ghost use Rattle.aegis_pages.specs.Commitments.{HasOneCommitment, commitment};
 ghost use Rattle.aegis_pages.specs.Headers.{IsHeader};
-ghost use Rattle.aegis_storage.specs.Disk.{Disk};
-ghost use Rattle.aegis_pages.specs.Commits.{RecoversText};
+ghost use Rattle.aegis_storage.specs.Disk.{Crashed, Disk, certain};
+ghost use Rattle.aegis_pages.specs.Commits.{HasHonestHeader, IsHonest, IsLeftByCommit, RecoversText};
 ghost use Rattle.aegis_pages.specs.History.{AreCommits, Step, last_of};
 ghost use Rattle.aegis_pages.specs.OpenFile.{HasCommitted, HasText, IsStoredAs, IsUnchanged, OpenFile};
 
@@ -54,6 +54,25 @@ pub fn stored_is_committed()
         → HasCommitted old text → HasCommitted new text }
     ensures unchanged { (old new : OpenFile) (text : List ℕ) → IsUnchanged old new
         → HasCommitted old text → HasCommitted new text }
+{}
+
+/// A text that is recovered before a crash is recovered after it.
+pub fn recovers_after_a_crash()
+    ensures { (variant : Variant) (key before now : List ℕ) (storage journal : Option Disk)
+        (disk journal_disk : Disk) (ys js : List ℕ)
+        → RecoversText variant key before now storage journal
+        → storage ≡ Some disk → journal ≡ Some journal_disk
+        → Crashed disk ys → Crashed journal_disk js
+        → RecoversText variant key before now (Some (certain ys)) (Some (certain js)) }
+{}
+
+/// What is recovered, and is no forgery, is left by a commit: so [`crate::Pages::open`] accepts it.
+pub fn recovered_is_left_by_a_commit()
+    ensures { (variant : Variant) (key before now : List ℕ) (bytes content : Option (List ℕ))
+        (storage journal : Option Disk)
+        → (batch : RecoversText variant key before now storage journal)
+        → IfSome content (IsHonest batch) → IfSome bytes (HasHonestHeader batch)
+        → IsLeftByCommit variant key bytes content storage journal }
 {}
 
 /// A committed text is recovered, whatever was to come next.

@@ -3,7 +3,7 @@
 ghost use Rattle.std.specs.Prelude.{◌≡◌, ◌+◌, ◌*◌, ◌<◌, ◌≤◌, ◌↔◌, IfSome, IsSome, IsTrue, length, ℕ};
 ghost use Rattle.aegis_base.specs.Variant.{key_length};
 ghost use Rattle.aegis_pages.specs.Commitments.{page_count};
-ghost use Rattle.aegis_pages.specs.Layouts.{IsPageSize, Layout, associated_data, box_bytes, clear_part, nonce_bytes, page_place, variant_byte};
+ghost use Rattle.aegis_pages.specs.Layouts.{IsPageSize, Layout, associated_data, box_bytes, clear_part, journal_front, nonce_bytes, page_place, variant_byte};
 
 use aegis_aes::Row;
 use aegis_base::LaneState;
@@ -160,7 +160,9 @@ impl<L: LaneState, const KEY_BYTES: usize> FileLayout<L, KEY_BYTES> {
     }
 
     /// Returns the front of the file's journals, which names the file.
-    pub fn journal_front(&self) -> [u8; CLEAR_BYTES] {
+    pub fn journal_front(&self) -> [u8; CLEAR_BYTES]
+        ensures { result ≡ journal_front self.now }
+    {
         let mut front = self.clear();
         put(&mut front, 0, &JOURNAL_MAGIC);
         front

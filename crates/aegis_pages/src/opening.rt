@@ -1,12 +1,13 @@
 //! Opening a file: whether its journal is its own, and what recovery makes of both.
 
-ghost use Rattle.std.specs.Prelude.{◌≡◌, ◌+◌, ◌≤◌, [], Err, IfErr, IfNone, IfOk, IfSome, IsSome, IsTrue, List, None, OnOk, Some, length, take, ℕ};
+ghost use Rattle.std.specs.Prelude.{◌≡◌, ◌≢◌, ◌+◌, ◌≤◌, ◌↔◌, [], Err, IfErr, IfNone, IfOk, IfSome, IsOk, IsSome, IsTrue, List, None, OnOk, Some, length, take, ℕ};
 ghost use Rattle.aegis_base.specs.Variant.{key_length};
+ghost use Rattle.aegis_storage.specs.Journal.{HasFront};
 ghost use Rattle.aegis_storage.specs.Pending.{writes_of};
-ghost use Rattle.aegis_pages.specs.Commits.{Fits, IsHonest, IsOfCommit, KnownSame, head_bytes, RecoversText, RestsAtText, journal_key};
+ghost use Rattle.aegis_pages.specs.Commits.{Fits, IsHonest, IsLeftByCommit, IsOfCommit, KnownSame, RecoversText, RestsAtText, head_bytes, journal_key};
 ghost use Rattle.aegis_pages.specs.Errors.{IsLeftAlone, IsOpenRefusal};
 ghost use Rattle.aegis_pages.specs.Headers.{IsHeader};
-ghost use Rattle.aegis_pages.specs.Layouts.{IsPageSize};
+ghost use Rattle.aegis_pages.specs.Layouts.{IsPageSize, journal_front};
 ghost use Rattle.aegis_pages.specs.Reading.{layout_of};
 
 use crate::error::PagesError;
@@ -33,8 +34,8 @@ pub fn journal_key<L: LaneState, const KEY_BYTES: usize>(key: &[u8; KEY_BYTES]) 
 
 // Returns whether a write makes a file begin with these bytes.
 fn begins_with<A: Allocator>(write: &PendingWrite<A>, head: &[u8]) -> bool
-    ensures place { IsTrue result → write.now.place ≡ 0 }
-    ensures head { IsTrue result → take (length head.now) write.now.bytes.items ≡ head.now }
+    ensures { IsTrue result ↔ (write.now.place ≡ 0)
+        × (take (length head.now) write.now.bytes.items ≡ head.now) }
 {
     if write.place != 0 || write.bytes.len() < head.len() {
         return false;
@@ -45,7 +46,7 @@ fn begins_with<A: Allocator>(write: &PendingWrite<A>, head: &[u8]) -> bool
 /// Returns whether a file that begins with this header is that of before a commit, whose first write is of the header of
 /// before, or that of after it, whose last write is of the next header.
 pub fn is_of_commit<A: Allocator>(head: &[u8], writes: &[PendingWrite<A>]) -> bool
-    ensures { IsTrue result → IsOfCommit head.now (writes_of writes.now) }
+    ensures { IsTrue result ↔ IsOfCommit head.now (writes_of writes.now) }
 {
     let count = writes.len();
     if count == 0 {
@@ -54,12 +55,16 @@ pub fn is_of_commit<A: Allocator>(head: &[u8], writes: &[PendingWrite<A>]) -> bo
     begins_with(&writes[0], head) || begins_with(&writes[count - 1], head)
 }
 
-/// Returns whether a journal begins with the front of another file's.
-pub fn is_of_another(front: &[u8; CLEAR_BYTES], journal: &[u8]) -> bool {
-    if journal.len() < CLEAR_BYTES {
+/// Returns whether a journal begins with the front of another file's, and has more than a front. One that has no more is
+/// of use to nobody.
+pub fn is_of_another(front: &[u8; CLEAR_BYTES], journal: &[u8]) -> bool
+    ensures { IsTrue result → HasFront front.now journal.now → ⊥ }
+{
+    if journal.len() <= CLEAR_BYTES {
         return false;
     }
-    journal[..4] == JOURNAL_MAGIC[..] && journal[..CLEAR_BYTES] != front[..]
+    let (start, _) = journal.split_at(CLEAR_BYTES);
+    start[..4] == JOURNAL_MAGIC[..] && start[..] != front[..]
 }
 
 /// Returns an error if a journal must not be made again or emptied: [`PagesError::Journal`] if the file has a header and
@@ -78,6 +83,12 @@ pub fn check_journal<L: LaneState, const KEY_BYTES: usize, A: Allocator + Copy>(
         × IfSome sector (λ sector. IsOfCommit (take (head_bytes L.VARIANT) sector)
         (writes_of writes.items)))) }
     ensures whole { OnOk result (IfNone header (IsSome writes.now)) }
+    ensures lost { IfNone header (IsSome writes.now → IsOk result) }
+    ensures torn { IfSome header (λ header. IfNone writes.now
+        (HasFront (journal_front (layout_of L.VARIANT key.now header)) journal.now
+        → IsOk result)) }
+    ensures own { IsSome header → IfSome writes.now (λ writes. IfSome sector (λ sector.
+        IsOfCommit (take (head_bytes L.VARIANT) sector) (writes_of writes.items) → IsOk result)) }
     ensures alone { IfErr result IsLeftAlone }
     ensures none { result ≡ Err PagesError.Header → header ≡ None }
 {
@@ -117,7 +128,8 @@ pub fn check_journal<L: LaneState, const KEY_BYTES: usize, A: Allocator + Copy>(
 /// A journal that is whole under this key, and whose commit began or ended with the file's header, byte for byte, is made
 /// again and emptied; so it is also if the file has no header. A torn one is emptied if the file has a header. Otherwise
 /// nothing is changed: the error is [`PagesError::Journal`] for a whole journal of another commit, or one that is plainly
-/// of another file, and [`PagesError::Header`] if the file has no header and the journal is not whole.
+/// of another file, and [`PagesError::Header`] if the file has no header and the journal is not whole. Neither is returned
+/// for what a commit and a crash left, unless that is a forgery.
 ///
 /// The others are [`PagesError::Read`], [`PagesError::Write`] and [`PagesError::OutOfMemory`]. Nothing is then lost: call
 /// it again.
@@ -152,6 +164,9 @@ pub fn recover_file<
         → RestsAtText L.VARIANT key.now before now (S.disk storage.new) (J.disk journal.new)) }
     ensures fits { OnOk result (IfSome (S.bytes storage.old) (λ file.
         IfSome (J.bytes journal.old) (Fits L.VARIANT key.now file))) }
+    ensures accepts { IsLeftByCommit L.VARIANT key.now (S.bytes storage.old) (J.bytes journal.old)
+        (S.disk storage.old) (J.disk journal.old)
+        → (result ≢ Err PagesError.Journal) × (result ≢ Err PagesError.Header) }
     ensures alone { IfErr result (λ error. IsLeftAlone error
         → (storage.new ≡ storage.old) × (journal.new ≡ journal.old)) }
     ensures refused { IfErr result (IsOpenRefusal L.VARIANT key.now (S.bytes storage.old)) }

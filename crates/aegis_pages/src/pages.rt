@@ -1,12 +1,12 @@
 //! A text that is read and written at any place, and committed.
 
-ghost use Rattle.std.specs.Prelude.{◌≡◌, ◌+◌, ◌-◌, ◌<◌, ◌≤◌, ◌^◌, ◌↔◌, [], Err, IfErr, IfOk, IfSome, IsTrue, List, None, OnErr, OnOk, Some, if◌then◌else◌, false, is_ok, length, max, min, replicate, true, ℕ};
+ghost use Rattle.std.specs.Prelude.{◌≡◌, ◌≢◌, ◌+◌, ◌-◌, ◌<◌, ◌≤◌, ◌^◌, ◌↔◌, [], Err, IfErr, IfOk, IfSome, IsTrue, List, None, OnErr, OnOk, Some, if◌then◌else◌, false, is_ok, length, max, min, replicate, true, ℕ};
 ghost use Rattle.aegis_base.specs.Variant.{key_length};
 ghost use Rattle.aegis_storage.specs.Bytes.{overwritten, part_at, resized};
 ghost use Rattle.aegis_storage.specs.Disk.{Disk, certain};
 ghost use Rattle.aegis_pages.specs.Changed.{text_at};
 ghost use Rattle.aegis_pages.specs.Commitments.{commitment};
-ghost use Rattle.aegis_pages.specs.Commits.{Fits, IsHonest, RecoversText};
+ghost use Rattle.aegis_pages.specs.Commits.{Fits, IsHonest, IsLeftByCommit, RecoversText};
 ghost use Rattle.aegis_pages.specs.Errors.{IsBeginError, IsCommitRefusal, IsCommitmentRefusal, IsCreateRefusal, IsOpenRefusal, IsReadRefusal, IsVerifyRefusal, IsWriteRefusal};
 ghost use Rattle.aegis_pages.specs.Headers.{IsHeader};
 ghost use Rattle.aegis_pages.specs.Layouts.{IsPageSize};
@@ -200,7 +200,8 @@ impl<
     }
 
     /// Opens the file that the storage holds, and completes a commit that was cut short, or leaves out all of it, as
-    /// [`crate::recover_file`] does, whose errors it returns.
+    /// [`crate::recover_file`] does, whose errors it returns. So it returns neither [`PagesError::Journal`] nor
+    /// [`PagesError::Header`] for what a commit and a crash left, unless that is a forgery.
     pub fn open(
         alloc: A,
         mut storage: S,
@@ -220,6 +221,9 @@ impl<
             → (batch : RecoversText L.VARIANT key.now before now (S.disk storage) (J.disk journal))
             → IfSome (J.bytes journal) (IsHonest batch)
             → OpensAtOne pages before now) }
+        ensures accepts { IsLeftByCommit L.VARIANT key.now (S.bytes storage) (J.bytes journal)
+            (S.disk storage) (J.disk journal)
+            → (result ≢ Err PagesError.Journal) × (result ≢ Err PagesError.Header) }
         ensures fits { OnOk result (IfSome (S.bytes storage) (λ file.
             IfSome (J.bytes journal) (Fits L.VARIANT key.now file))) }
         ensures refused { IfErr result (IsOpenRefusal L.VARIANT key.now (S.bytes storage)) }

@@ -1,9 +1,10 @@
 //! The writes of a commit: each changed page, sealed, and the header.
 
-ghost use Rattle.std.specs.Prelude.{◌≡◌, ◌≤◌, ◌++◌, IfErr, IfOk, List, OnOk, length, ℕ};
+ghost use Rattle.std.specs.Prelude.{◌≡◌, ◌≤◌, ◌++◌, IfErr, IfOk, List, OnOk, length, take, ℕ};
 ghost use Rattle.aegis_storage.specs.Disk.{Writes, written};
 ghost use Rattle.aegis_storage.specs.Pending.{writes_of};
 ghost use Rattle.aegis_pages.specs.Changed.{text_at, texts_in};
+ghost use Rattle.aegis_pages.specs.Commits.{IsOfCommit, head_bytes, head_of};
 ghost use Rattle.aegis_pages.specs.Errors.{IsSealError};
 ghost use Rattle.aegis_pages.specs.Headers.{IsSector};
 ghost use Rattle.aegis_pages.specs.Sealing.{FitPages, HaveOneText, Seals};
@@ -87,6 +88,11 @@ pub fn sealed_commit<N: Nonces, L: LaneState, const KEY_BYTES: usize, A: Allocat
     ensures sealed { IfOk result (λ writes. (text file : List ℕ) → length text ≡ len
         → ArePages layout.now (text_at changes.now.entries) text file
         → IsSealed layout.now counter text (written (writes_of writes.items) file)) }
+    ensures old_head { IfOk result (λ writes.
+        IsOfCommit (take (head_bytes layout.now.variant) sector.now) (writes_of writes.items)) }
+    ensures new_head { IfOk result (λ writes. (file : List ℕ)
+        → IsOfCommit (head_of layout.now.variant (written (writes_of writes.items) file))
+        (writes_of writes.items)) }
     ensures refused { IfErr result IsSealError }
 {
     let Ok(first) = PendingWrite::new(alloc, 0, sector) else {

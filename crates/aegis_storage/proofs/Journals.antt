@@ -1,15 +1,14 @@
 -- Journals, and the states of a commit and of a recovery.
 use Rattle.std.proofs.Common.{◌≡◌, ℕ, ◌+◌, ◌≤◌, ◌⊎◌, inl, inr, IfNone, IfSome, List, [], ◌∷◌, ◌++◌, None, Some, Option, drop, length, map, take, refl, sym, ap, subst, ◌∙◌, arith}
-use Rattle.std.proofs.lemmas.List.{append-nil, drop_at, length-append, take_at}
+use Rattle.std.proofs.lemmas.List.{drop_at, length-append, take_at}
 use Rattle.std.proofs.lemmas.Nat.{from_le_bytes-to_le_bytes_8}
 use Rattle.std.specs.Int.{from_le_bytes, to_le_bytes, w64}
 use Rattle.aegis.specs.Records.{AreRecords, sealed}
 use Rattle.aegis.proofs.Sealed.{sealed-is}
 use Rattle.aegis.proofs.Streams.{one_record_stream}
 use Rattle.aegis_storage.specs.declared.store.TheConstants.{MAX_STORAGE_BYTES}
-use Rattle.aegis_storage.specs.Bytes.{WritesAt, overwritten}
 use Rattle.aegis_storage.specs.Calls.{GivesFrom, IsWholeOrEmpty, IsWrittenOver}
-use Rattle.aegis_storage.specs.Disk.{Adds, Crashed, Disk, IsPossible, KeepsDisk, MakesCertain, MayAdd, Write, Writes, WritesAll, after, certain, written}
+use Rattle.aegis_storage.specs.Disk.{Crashed, Disk, IsPossible, KeepsDisk, MakesCertain, Writes, WritesAll, certain, written}
 use Rattle.aegis_storage.specs.Journal.{AreWithin, GivesOneOf, IsAtRest, IsJournal, IsOneOf, IsNoForgery, Recovers, RecoversKnown, place_and_bytes}
 use Rattle.aegis_storage.proofs.Disks.{certain_only, readable, readable_certain}
 
@@ -93,12 +92,6 @@ torn_journal key context writes torn storage journal xs storage_is journal_is = 
   };
 }
 
--- the journal's first write failed: it is pending, or it is not
-pub failed_journal : (key context : List ℕ) (writes : Writes) (js : List ℕ) (storage old journal : Option Disk) (xs : List ℕ) → storage ≡ Some (certain xs) → old ≡ Some (certain [])
-    → MayAdd old journal (Write 0 js) → Recovers key context xs writes storage journal
-failed_journal key context writes js storage old journal xs storage_is is (inl keeps) = torn_journal key context writes (certain []) storage journal xs storage_is (keeps (certain []) is)
-failed_journal key context writes js storage old journal xs storage_is is (inr adds) = torn_journal key context writes (after (certain []) (Write 0 js)) storage journal xs storage_is (adds (certain []) is)
-
 -- once the journal is certain, and while the writes are made
 pub over_gives : (key context : List ℕ) (writes : Writes) (a b js xs : List ℕ) (state : Option Disk) → IsJournal key context writes js → IsOneOf a b (written writes xs)
     → IsWrittenOver writes xs state → GivesFrom key context a b js state
@@ -146,23 +139,6 @@ finish key context xs writes js zs storage journal from is one cut = record {
     cases : (ys ks : List ℕ) → Crashed (certain zs) ys → (ks ≡ js) ⊎ (ks ≡ []) → GivesOneOf key context xs (written writes xs) ks ys
     cases ys ks p (inl whole) = gives_same key context xs (written writes xs) js ks ys ys whole refl (from.gives ys (subst (λ (d : Disk). Crashed d ys) (sym same_disk) p))
     cases ys ks p (inr none) = gives_same key context xs (written writes xs) [] ks zs ys none (certain_only zs ys p) (by_empty key context xs (written writes xs) zs one)
-
--- ---- the journal's first write
-
-pub whole_journal : (js : List ℕ) (a b : Option (List ℕ)) (old over new : Option Disk) → IsPossible a old → old ≡ Some (certain []) → WritesAt a b 0 js → Adds old over (Write 0 js) → MakesCertain b over new
-    → new ≡ Some (certain js)
-whole_journal js a b old over new possible is wrote adds certainly =
-    certainly (after (certain []) (Write 0 js)) js (adds (certain []) is) (cases b (subst (λ (o : Option (List ℕ)). WritesAt o b 0 js) (readable_certain a old [] possible is) wrote))
-  where
-    none_after : (n : ℕ) → drop {A = ℕ} n [] ≡ []
-    none_after n = search (arith)
-
-    all : overwritten [] 0 js ≡ js
-    all = ap (λ (l : List ℕ). js ++ l) (none_after (0 + length js)) ∙ append-nil js
-
-    cases : (b : Option (List ℕ)) → WritesAt (Some []) b 0 js → b ≡ Some js
-    cases None w = absurd w
-    cases (Some ys) w = ap Some (w ∙ all)
 
 -- ---- syncs
 

@@ -1,5 +1,5 @@
 -- What the calls below `commit` and `recover` leave.
-use Rattle.std.specs.Prelude.{◌≡◌, ℕ, ◌⊎◌, List, [], ◌++◌, Option, Some}
+use Rattle.std.specs.Prelude.{◌≡◌, ℕ, ◌+◌, ◌≤◌, ◌⊎◌, List, [], ◌++◌, Option, Some, length, take}
 use Rattle.aegis_storage.specs.Disk.{Crashed, Disk, Writes, certain, changes, written}
 use Rattle.aegis_storage.specs.Journal.{GivesOneOf, IsOneOf}
 
@@ -13,6 +13,13 @@ pub record IsWrittenOver (writes : Writes) (xs : List ℕ) (state : Option Disk)
   pub disk : Disk
   pub is : state ≡ Some disk
   pub again : (ys : List ℕ) → Crashed disk ys → written writes ys ≡ written writes xs
+
+-- A crash now leaves xs, and at most n bytes after them.
+pub record IsAppended (xs : List ℕ) (n : ℕ) (state : Option Disk) : Type 0 where
+  pub disk : Disk
+  pub is : state ≡ Some disk
+  pub first : (ys : List ℕ) → Crashed disk ys → take (length xs) ys ≡ xs
+  pub most : (ys : List ℕ) → Crashed disk ys → length ys ≤ length xs + n
 
 -- A crash now leaves xs, or nothing.
 pub record IsWholeOrEmpty (xs : List ℕ) (state : Option Disk) : Type 0 where

@@ -1,5 +1,5 @@
 -- The journal of writes, and what recovery makes of a storage by it.
-use Rattle.std.specs.Prelude.{◌≡◌, ℕ, ◌+◌, ◌≤◌, ◌⊎◌, List, [], ◌++◌, Option, None, Some, ⊤, length, map}
+use Rattle.std.specs.Prelude.{◌≡◌, ℕ, ◌+◌, ◌≤◌, ◌⊎◌, List, [], ◌++◌, Option, None, Some, ⊤, length, map, take}
 use Rattle.std.specs.Int.{to_le_bytes, w64}
 use Rattle.std.specs.List.{AllByRecursion}
 use Rattle.aegis.specs.declared.record.version.Version.{Version}
@@ -69,6 +69,17 @@ pub record Recovers (key context xs : List ℕ) (writes : Writes) (storage journ
   pub journal_is : journal ≡ Some journal_disk
   pub gives : (ys js : List ℕ) → Crashed storage_disk ys → Crashed journal_disk js → IsNoForgery key context writes js
       → GivesOneOf key context xs (written writes xs) js ys
+
+-- the bytes are no longer than a front, or begin with this one
+abbrev pub HasFront : (front bytes : List ℕ) → Type 0
+HasFront front bytes = (length bytes ≤ 33) ⊎ (take 33 bytes ≡ front)
+
+-- Whatever a crash now leaves of the journal, it is no longer than a front, or begins with this one: so a journal that
+-- has more than a front is known by it, also if it is torn.
+pub record KeepsFront (front : List ℕ) (journal : Option Disk) : Type 0 where
+  pub disk : Disk
+  pub is : journal ≡ Some disk
+  pub has : (js : List ℕ) → Crashed disk js → HasFront front js
 
 -- The storage holds xs and the journal is empty, and both are certain.
 pub record IsAtRest (storage journal : Option Disk) (xs : List ℕ) : Type 0 where

@@ -1,11 +1,11 @@
 //! Writes that are all there after a crash, or none of them.
 
-ghost use Rattle.std.specs.Prelude.{◌≡◌, ◌<◌, ◌≤◌, IfSome, List, OnOk, length, ℕ};
-ghost use Rattle.aegis_storage.specs.Disk.{WritesAll};
-ghost use Rattle.aegis_storage.specs.Journal.{IsAtRest, Recovers, RestsWritten};
+ghost use Rattle.std.specs.Prelude.{◌≡◌, ◌<◌, ◌≤◌, [], IfSome, List, OnOk, Some, length, ℕ};
+ghost use Rattle.aegis_storage.specs.Disk.{WritesAll, certain};
+ghost use Rattle.aegis_storage.specs.Journal.{IsAtRest, KeepsFront, Recovers, RestsWritten};
 ghost use Rattle.aegis_storage.specs.Pending.{writes_of};
 
-use crate::calls::{empty, write_and_sync};
+use crate::calls::{empty, write_and_sync, write_journal};
 use crate::journal::{FRONT_BYTES, PREFIX_BYTES, journal_bytes};
 use crate::pending::PendingWrite;
 use crate::store::Storage;
@@ -18,16 +18,19 @@ use std::io::ErrorKind;
 /// Makes the writes, the first of them first, so that after a crash [`crate::recover`] makes all of them or none.
 ///
 /// The storage and the journal must be at rest: all that they hold is synced, and the journal is empty, as `commit` and
-/// `recover` leave them with `Ok`. The writes are sealed into the journal, which is synced, then made and synced, and
-/// then the journal is emptied and synced. With no writes nothing is called.
+/// `recover` leave them with `Ok`. The writes are sealed into the journal, of which the front is written and synced first,
+/// and then the rest; then they are made and synced, and then the journal is emptied and synced. With no writes nothing
+/// is called.
 ///
 /// Under one key a prefix must be used for one journal only. The context names the storage; it has at most
-/// [`MAX_CONTEXT_BYTES`]. The front is what the journal begins with, in the clear.
+/// [`MAX_CONTEXT_BYTES`]. The front is what the journal begins with, in the clear. Whatever a crash leaves, a journal with
+/// more than [`FRONT_BYTES`] begins with it.
 ///
 /// After an error, call `recover` before anything else. The error is that of a call, or `AlreadyExists` if the journal
 /// is not empty, which changes nothing, or `InvalidInput` if a write has more than
 /// [`aegis::record::MAX_MESSAGE_BYTES`] less 8 bytes or the journal would be longer than a record stream may be, or
 /// `OutOfMemory`. Memory is taken for a journal three times over.
+#[tactic(auto, using(crate::proofs::Fronts::empty_front))]
 pub fn commit<S: Storage, J: Storage, A: Allocator + Copy>(
     alloc: A,
     storage: &mut S,
@@ -46,6 +49,8 @@ pub fn commit<S: Storage, J: Storage, A: Allocator + Copy>(
     ensures recovers { (xs : List ℕ) → IsAtRest (S.disk storage.old) (J.disk journal.old) xs
         → Recovers key.now context.now xs (writes_of writes.now)
         (S.disk storage.new) (J.disk journal.new) }
+    ensures front { J.disk journal.old ≡ Some (certain [])
+        → KeepsFront front.now (J.disk journal.new) }
     ensures at_rest { OnOk result ((xs : List ℕ)
         → IsAtRest (S.disk storage.old) (J.disk journal.old) xs
         → RestsWritten (S.disk storage.new) (J.disk journal.new) xs (writes_of writes.now)) }
@@ -57,8 +62,7 @@ pub fn commit<S: Storage, J: Storage, A: Allocator + Copy>(
         return Err(io::Error::from(ErrorKind::AlreadyExists));
     }
     let content = journal_bytes(alloc, key, front, prefix, context, writes)?;
-    journal.write_at(0, &content)?;
-    journal.sync()?;
+    write_journal(journal, &content)?;
     write_and_sync(storage, writes)?;
     empty(journal)
 }

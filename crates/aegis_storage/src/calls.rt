@@ -1,11 +1,13 @@
 //! Several calls of a storage in a row.
 
-ghost use Rattle.std.specs.Prelude.{◌≡◌, [], IfOk, IfSome, List, None, OnErr, OnOk, Option, Some, length, ℕ};
+ghost use Rattle.std.specs.Prelude.{◌≡◌, ◌+◌, ◌≤◌, ◌++◌, [], IfOk, IfSome, List, None, OnErr, OnOk, Option, Some, length, take, ℕ};
 ghost use Rattle.aegis_storage.specs.Bytes.{ResizesTo};
-ghost use Rattle.aegis_storage.specs.Calls.{AddsSome, IsWholeOrEmpty, IsWrittenOver};
+ghost use Rattle.aegis_storage.specs.Calls.{AddsSome, IsAppended, IsWholeOrEmpty, IsWrittenOver};
 ghost use Rattle.aegis_storage.specs.Disk.{WritesAll, certain, written};
+ghost use Rattle.aegis_storage.specs.Journal.{KeepsFront};
 ghost use Rattle.aegis_storage.specs.Pending.{writes_of};
 
+use crate::journal::FRONT_BYTES;
 use crate::pending::PendingWrite;
 use crate::store::{MAX_STORAGE_BYTES, Storage};
 use std::alloc::Allocator;
@@ -54,6 +56,32 @@ pub fn write_and_sync<S: Storage, A: Allocator>(
 {
     write_all(storage, writes)?;
     storage.sync()
+}
+
+// Writes bytes after the last one, which is in front of place `at`, and syncs them.
+fn append<J: Storage>(journal: &mut J, at: u64, part: &[u8]) -> io::Result<()>
+    requires { at + length part.now ≤ MAX_STORAGE_BYTES }
+    ensures torn { (xs : List ℕ) → J.disk journal.old ≡ Some (certain xs) → length xs ≡ at
+        → IsAppended xs (length part.now) (J.disk journal.new) }
+    ensures certain { OnOk result ((xs : List ℕ) → J.disk journal.old ≡ Some (certain xs)
+        → length xs ≡ at → J.disk journal.new ≡ Some (certain (xs ++ part.now))) }
+{
+    journal.write_at(at, part)?;
+    journal.sync()
+}
+
+/// Writes a journal, first its front, which is synced, and then the rest, and syncs that.
+pub fn write_journal<J: Storage>(journal: &mut J, content: &[u8]) -> io::Result<()>
+    requires front { FRONT_BYTES ≤ length content.now }
+    requires within { length content.now ≤ MAX_STORAGE_BYTES }
+    ensures torn { J.disk journal.old ≡ Some (certain [])
+        → KeepsFront (take FRONT_BYTES content.now) (J.disk journal.new) }
+    ensures certain { OnOk result (J.disk journal.old ≡ Some (certain [])
+        → J.disk journal.new ≡ Some (certain content.now)) }
+{
+    let (front, rest) = content.split_at(FRONT_BYTES);
+    append(journal, 0, front)?;
+    append(journal, FRONT_BYTES as u64, rest)
 }
 
 /// Empties the journal, and syncs that.

@@ -3,7 +3,7 @@
 
 ghost use Rattle.std.specs.Prelude.{◌≡◌, List, Option, Some, ℕ};
 ghost use Rattle.aegis_storage.specs.Disk.{AreParts, Change, Crashed, Disk, Writes, applied, certain, changes, written};
-ghost use Rattle.aegis_storage.specs.Journal.{IsAtRest, Recovers};
+ghost use Rattle.aegis_storage.specs.Journal.{IsAtRest, KeepsFront, Recovers};
 
 /// After any parts of writes, in any order, all of the writes give what they give without these.
 pub fn written_again()
@@ -21,6 +21,12 @@ pub fn certain_bytes()
 pub fn recovers_at_rest()
     ensures { (key context xs : List ℕ) (writes : Writes) (storage journal : Option Disk)
         → IsAtRest storage journal xs → Recovers key context xs writes storage journal }
+{}
+
+/// What keeps its front before a crash does so after it.
+pub fn front_after_a_crash()
+    ensures { (front : List ℕ) (journal : Disk) (js : List ℕ) → KeepsFront front (Some journal)
+        → Crashed journal js → KeepsFront front (Some (certain js)) }
 {}
 
 /// What recovers before a crash does so after it.

@@ -3,7 +3,7 @@
 ghost use Rattle.std.specs.Prelude.{◌≡◌, ◌≤◌, IfSome, List, OnOk, Some, length, ℕ};
 ghost use Rattle.aegis_storage.specs.Calls.{GivesFrom, IsRedone};
 ghost use Rattle.aegis_storage.specs.Disk.{Writes, certain};
-ghost use Rattle.aegis_storage.specs.Journal.{GivesOneOf, IsNoForgery, Recovers, RecoversKnown, RestsAtEither};
+ghost use Rattle.aegis_storage.specs.Journal.{GivesOneOf, IsNoForgery, KeepsFront, Recovers, RecoversKnown, RestsAtEither};
 
 use crate::calls::{empty, read_all, write_and_sync};
 use crate::journal::journaled_writes;
@@ -58,6 +58,8 @@ pub fn recover<S: Storage, J: Storage, A: Allocator + Copy>(
         → IfSome (J.bytes journal.old) (IsNoForgery key.now context.now writes)
         → Recovers key.now context.now xs writes (S.disk storage.old) (J.disk journal.old)
         → Recovers key.now context.now xs writes (S.disk storage.new) (J.disk journal.new) }
+    ensures front { (front : List ℕ) → KeepsFront front (J.disk journal.old)
+        → KeepsFront front (J.disk journal.new) }
     ensures at_rest { OnOk result ((xs : List ℕ) (writes : Writes)
         → IfSome (J.bytes journal.old) (IsNoForgery key.now context.now writes)
         → Recovers key.now context.now xs writes (S.disk storage.old) (J.disk journal.old)

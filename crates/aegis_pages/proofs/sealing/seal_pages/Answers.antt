@@ -1,4 +1,4 @@
-use Rattle.std.proofs.Common.{◌≡◌, ◌++◌, ◌∷◌, [], ◌∙◌, ap, append-nil, append_assoc, length, refl, rules, subst, sym, List, ℕ}
+use Rattle.std.proofs.Common.{◌≡◌, ◌++◌, ◌∷◌, [], ◌∙◌, ap, append-nil, append_assoc, length, refl, rules, subst, sym}
 use Rattle.aegis_storage.specs.Pending.{writes_of}
 use Rattle.aegis_storage.specs.Disk.{Writes}
 use Rattle.aegis_storage.proofs.Lists.{writes_pushed}

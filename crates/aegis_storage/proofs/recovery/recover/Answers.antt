@@ -1,5 +1,7 @@
+use Rattle.std.proofs.Common.{inl}
 use Rattle.aegis_storage.specs.Disk.{written}
 use Rattle.aegis_storage.proofs.Disks.{on_ok_map, sync_either}
+use Rattle.aegis_storage.proofs.Fronts.{emptied_front, front_synced, synced_front}
 use Rattle.aegis_storage.proofs.Journals.{finish, journal_synced, middle, settled, storage_synced}
 use Rattle.aegis_storage.proofs.recovery.recover.Goals as goal
 
@@ -40,3 +42,14 @@ returns-clause-at_rest g c =
     let redone = c.in_ok-redo.ensures.certain s.now s.storage_is in
     record { bytes = redone.bytes; one = redone.one xs (written writes xs) s.gives; rests = record { storage_is = redone.is; journal_is = certainly c.deref.result.now s.journal_is } })
     c.empty.ensures.certain
+
+pub returns-in_err-content-clause-front : goal.returns-in_err-content-clause-front
+returns-in_err-content-clause-front g c front keeps = front_synced front _ _ _ (g.met.J.Storage.possible c.args.journal.now) keeps (inl c.in_ok-sync-2.ensures.certain)
+
+pub returns-in_err-redo-clause-front : goal.returns-in_err-redo-clause-front
+returns-in_err-redo-clause-front g c front keeps = front_synced front _ _ _ (g.met.J.Storage.possible c.args.journal.now) keeps (inl c.in_ok-sync-2.ensures.certain)
+
+pub returns-clause-front : goal.returns-clause-front
+returns-clause-front g c front keeps =
+    let s = synced_front front _ _ _ (g.met.J.Storage.possible c.args.journal.now) keeps c.in_ok-sync-2.ensures.certain in
+    emptied_front front s.bytes _ s.has (c.empty.ensures.torn s.bytes s.is)

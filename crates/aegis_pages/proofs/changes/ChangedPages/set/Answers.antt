@@ -1,6 +1,6 @@
-use Rattle.std.proofs.Common.{◌≡◌, ◌*◌, ◌≤◌, ◌∙◌, ℕ, ap, rules, length, nat_cmp, refl, subst, sym, Some, None}
+use Rattle.std.proofs.Common.{◌≡◌, ◌*◌, ◌≤◌, ◌∙◌, ℕ, ap, rules, length, subst, sym, Some}
 use Rattle.aegis_pages.specs.declared.layout.TheConstants.{MAX_TEXT_BYTES}
-use Rattle.aegis_pages.specs.Changed.{ChangedTexts, text_at, texts_in}
+use Rattle.aegis_pages.specs.Changed.{ChangedTexts}
 use Rattle.aegis_pages.specs.Sealing.{FitPages}
 use Rattle.aegis_pages.proofs.Texts.{fit_inserted, found_in, other_in, texts_of}
 use Rattle.aegis_pages.proofs.changes.ChangedPages.set.Goals as goal

@@ -44,8 +44,10 @@ returns-in-Ok-committed-clause-crash g c =
     let key : c.journal_key-key.result ≡ journal_key c.self.inside.layout.variant c.self.inside.layout.key =
     c.journal_key-key.ensures ∙ ap (journal_key g.L.LaneState.VARIANT) c.key.ensures.key ∙ ap (λ (v : Variant). journal_key v c.self.inside.layout.key) (sym c.key.ensures.variant) in
     rw (← c.self.view_is) (λ before now has text.
-    commit_recovers inside.layout inside.counter inside.stored inside.len c.in_ok-counter.counter inside.changes.entries inside.is_broken (writes_of c.deref.result.now) c.journal_key-key.result before now
-    has.bytes _ _ _ _ _ key (g.met.S.Storage.possible inside.storage) commits has.rests has.is text (c.commit-committed.ensures.recovers has.bytes has.rests))
+    commit_recovers inside.layout inside.counter inside.stored inside.len c.in_ok-counter.counter inside.changes.entries inside.is_broken (writes_of c.deref.result.now) c.journal_key-key.result c.journal_front.result before now
+    has.bytes c.in-Some.sector _ _ _ _ _ key c.journal_front.ensures (g.met.S.Storage.possible inside.storage) commits (rw c.in-Some.is at c.in_ok-sector.ensures.read)
+    (rw c.deref.ensures.value c.in_ok-writes.ensures.old_head) (rw c.deref.ensures.value c.in_ok-writes.ensures.new_head) has.rests has.is text (c.commit-committed.ensures.recovers has.bytes has.rests)
+    (c.commit-committed.ensures.front has.rests.journal_is))
 
 pub returns-clause-crash : goal.returns-clause-crash
 unfolding HasText
@@ -56,8 +58,10 @@ returns-clause-crash g c =
     let key : c.journal_key-key.result ≡ journal_key c.self.inside.layout.variant c.self.inside.layout.key =
     c.journal_key-key.ensures ∙ ap (journal_key g.L.LaneState.VARIANT) c.key.ensures.key ∙ ap (λ (v : Variant). journal_key v c.self.inside.layout.key) (sym c.key.ensures.variant) in
     rw (← c.self.view_is) (λ before now has text.
-    commit_recovers inside.layout inside.counter inside.stored inside.len c.in_ok-counter.counter inside.changes.entries inside.is_broken (writes_of c.deref.result.now) c.journal_key-key.result before now
-    has.bytes _ _ _ _ _ key (g.met.S.Storage.possible inside.storage) commits has.rests has.is text (c.commit-committed.ensures.recovers has.bytes has.rests))
+    commit_recovers inside.layout inside.counter inside.stored inside.len c.in_ok-counter.counter inside.changes.entries inside.is_broken (writes_of c.deref.result.now) c.journal_key-key.result c.journal_front.result before now
+    has.bytes c.in-Some.sector _ _ _ _ _ key c.journal_front.ensures (g.met.S.Storage.possible inside.storage) commits (rw c.in-Some.is at c.in_ok-sector.ensures.read)
+    (rw c.deref.ensures.value c.in_ok-writes.ensures.old_head) (rw c.deref.ensures.value c.in_ok-writes.ensures.new_head) has.rests has.is text (c.commit-committed.ensures.recovers has.bytes has.rests)
+    (c.commit-committed.ensures.front has.rests.journal_is))
 
 pub returns-in-Ok-committed-clause-certain : goal.returns-in-Ok-committed-clause-certain
 unfolding HasText

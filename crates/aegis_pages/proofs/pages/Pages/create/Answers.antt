@@ -1,4 +1,4 @@
-use Rattle.std.proofs.Common.{◌≡◌, ◌+◌, ◌∙◌, ap, arith, rules, ℕ}
+use Rattle.std.proofs.Common.{◌+◌, ◌∙◌, ap, arith, rules, ℕ}
 use Rattle.std.proofs.lemmas.Result.{err_from_is_err_and}
 use Rattle.aegis_pages.specs.Layouts.{IsPageSize}
 use Rattle.aegis_pages.specs.OpenFile.{HasText}

@@ -1,8 +1,10 @@
-use Rattle.std.proofs.Common.{◌≡◌, ◌+◌, ◌∙◌, false, IfSome, List, ap, subst, sym, ℕ}
+use Rattle.std.proofs.Common.{◌+◌, ◌∙◌, Err, false, IfSome, List, ap, subst, sym, ℕ}
+use Rattle.std.proofs.lemmas.Result.{err_from_is_err_and}
 use Rattle.aegis_pages.specs.Layouts.{Layout}
 use Rattle.aegis_pages.specs.OpenFile.{HasIn, HasText, OpensAtOne}
 use Rattle.aegis_pages.specs.Reading.{layout_of}
 use Rattle.aegis_pages.specs.SealedPages.{Holds}
+use Rattle.aegis_pages.proofs.Known.{only_error}
 use Rattle.aegis_pages.proofs.Recovering.{opens_at_one, opens_held}
 use Rattle.aegis_pages.proofs.pages.Pages.open.Goals as goal
 
@@ -36,3 +38,9 @@ returns-clause-recovered g c before now batch honest =
     }) before now) (sym c.new-layout.ensures)
     (opens_at_one (layout_of g.L.LaneState.VARIANT c.args.key.now header) header.counter header.len c.new.result.entries _ _ _ before now g.met.L.LaneState.one_two_or_four c.new.ensures.none
     c.in_ok-header.ensures.header (g.met.S.Storage.possible c.recover_file.new.storage) (c.in_ok-header.ensures.rests before now batch honest))
+
+pub returns-in_err-header-clause-accepts : goal.returns-in_err-header-clause-accepts
+returns-in_err-header-clause-accepts g c left =
+    let p = err_from_is_err_and c.from_residual.result c.from_residual.ensures.1 in
+    let other = c.in_err-header.ensures.accepts left in
+    (only_error _ _ _ (p.1 ∙ ap Err p.2) (λ is. other.0 (ap Err is)), only_error _ _ _ (p.1 ∙ ap Err p.2) (λ is. other.1 (ap Err is)))

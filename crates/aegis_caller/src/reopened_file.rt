@@ -1,0 +1,50 @@
+//! A sealed file that is opened again after a commit, whatever that returned, and whatever a crash then left.
+
+ghost use Rattle.std.specs.Prelude.{◌≢◌, Err, IfOk, IsSome};
+ghost use Rattle.aegis_base.specs.Variant.{Aegis256};
+ghost use Rattle.aegis_pages.specs.Commits.{IsLeftByCommit};
+
+use aegis_pages::{Nonces, PagesError, SealedPages};
+use aegis_storage::Storage;
+use std::alloc::Allocator;
+
+/// Opens what a commit and a crash left. The error is never that the journal is another file's, nor that the key is another
+/// one, unless they left a forgery.
+pub fn reopened<S: Storage + Drop, J: Storage + Drop, N: Nonces + Drop, A: Allocator + Copy>(
+    alloc: A,
+    storage: S,
+    journal: J,
+    nonces: N,
+    key: &[u8; 32],
+) -> Result<SealedPages<S, J, N, A>, PagesError>
+    ensures { IsLeftByCommit Aegis256 key.now (S.bytes storage) (J.bytes journal)
+        (S.disk storage) (J.disk journal)
+        → (result ≢ Err PagesError.Journal) × (result ≢ Err PagesError.Header) }
+{
+    SealedPages::open(alloc, storage, journal, nonces, key)
+}
+
+/// Opens a file, or returns `None` if a person has to find out whose journal or which key this is. After a commit and a
+/// crash it is never `None`.
+pub fn reopened_or_asked<
+    S: Storage + Drop,
+    J: Storage + Drop,
+    N: Nonces + Drop,
+    A: Allocator + Copy,
+>(
+    alloc: A,
+    storage: S,
+    journal: J,
+    nonces: N,
+    key: &[u8; 32],
+) -> Result<Option<SealedPages<S, J, N, A>>, PagesError>
+    ensures { IsLeftByCommit Aegis256 key.now (S.bytes storage) (J.bytes journal)
+        (S.disk storage) (J.disk journal) → IfOk result IsSome }
+{
+    match reopened(alloc, storage, journal, nonces, key) {
+        Ok(pages) => Ok(Some(pages)),
+        Err(PagesError::Journal) => Ok(None),
+        Err(PagesError::Header) => Ok(None),
+        Err(error) => Err(error),
+    }
+}
