@@ -16,7 +16,7 @@ use Rattle.aegis_pages.specs.History.{AreCommits, Step, last_of}
 use Rattle.aegis_pages.specs.Layouts.{Layout}
 use Rattle.aegis_pages.specs.Reading.{layout_of}
 use Rattle.aegis_pages.specs.declared.header.FileHeader.{FileHeader}
-use Rattle.aegis_pages.specs.OpenFile.{Has, HasCommitted, HasIn, HasText, IsStoredAs, OpenFile, OpensAtOne}
+use Rattle.aegis_pages.specs.OpenFile.{Has, HasCommitted, HasIn, HasText, IsCommitted, IsStoredAs, OpenFile, OpensAtOne}
 use Rattle.aegis_pages.specs.SealedPages.{ArePages, Holds, IsSealed}
 use Rattle.aegis_pages.proofs.Standing.{holds_has, holds_sealed, sealed_has}
 
@@ -102,19 +102,21 @@ kept_by_empty key context j a b recovers none = cases a b (subst (λ (o : Option
 -- ---- a text that is committed
 
 pub stored_committed : (old new : OpenFile) (text : List ℕ) → IsStoredAs old new → HasCommitted old text → HasCommitted new text
+unfolding IsCommitted
 stored_committed old new text s has = record {
   bytes = has.bytes;
   rests = record { storage_is = s.disk ∙ has.rests.storage_is; journal_is = s.journal ∙ has.rests.journal_is };
   is = subst (λ (l : Layout). IsSealed l new.counter text has.bytes) (sym s.layout) (subst (λ (k : ℕ). IsSealed old.layout k text has.bytes) (sym s.counter) has.is);
 }
 
-pub committed_file_recovers : (file : OpenFile) (before now : List ℕ) → HasCommitted file before → RecoversText file.layout.variant file.layout.key before now file.disk file.journal
-committed_file_recovers file before now has = record {
+pub committed_recovers : (layout : Layout) (counter : ℕ) (disk journal : Option Disk) (before now : List ℕ) → IsCommitted layout counter disk journal before → RecoversText layout.variant layout.key before now disk journal
+unfolding IsCommitted
+committed_recovers layout counter disk journal before now has = record {
   file = has.bytes;
   writes = [];
-  recovers = rest_recovers (journal_key file.layout.variant file.layout.key) [] has.bytes [] file.disk file.journal has.bytes (inl refl) has.rests;
-  without = record { layout = file.layout; counter = file.counter; variant_is = refl; key_is = refl; is = has.is };
-  with_writes = inl (record { layout = file.layout; counter = file.counter; variant_is = refl; key_is = refl; is = has.is });
+  recovers = rest_recovers (journal_key layout.variant layout.key) [] has.bytes [] disk journal has.bytes (inl refl) has.rests;
+  without = record { layout = layout; counter = counter; variant_is = refl; key_is = refl; is = has.is };
+  with_writes = inl (record { layout = layout; counter = counter; variant_is = refl; key_is = refl; is = has.is });
 }
 
 -- ---- a journal that fits
@@ -152,7 +154,7 @@ fits_known variant key (Some file) (Some js) read P p q f = subst (Fits variant 
 pub opens_at_one : (layout : Layout) (counter len : ℕ) (changes : Texts) (a : Option (List ℕ)) (disk journal : Option Disk) (before now : List ℕ) → IsLaneCount layout.variant.lanes
     → ((k : ℕ) → text_at changes k ≡ None) → IfSome a (IsHeader layout counter len) → IsPossible a disk → RestsAtText layout.variant layout.key before now disk journal
     → OpensAtOne (record { layout = layout; counter = counter; stored = len; len = len; changes = changes; bytes = a; disk = disk; journal = journal; broken = false }) before now
-unfolding HasText
+unfolding HasText IsCommitted
 opens_at_one layout counter len changes a disk journal before now count none header possible rest = cases rest.holds
   where
     known : a ≡ Some rest.file
