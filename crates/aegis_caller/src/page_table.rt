@@ -5,6 +5,7 @@ ghost use Rattle.aegis_storage.specs.Bytes.{overwritten, part_at};
 ghost use Rattle.aegis_base.specs.Variant.{Aegis256};
 ghost use Rattle.aegis_pages.specs.Commits.{IsHonest, RecoversText};
 ghost use Rattle.aegis_pages.specs.OpenFile.{HasCommitted, HasText, OpensAtOne};
+ghost use Rattle.aegis_pages.specs.Recovery.{RecoversOne};
 
 use aegis_pages::laws::others_are_kept;
 use aegis_pages::{Nonces, PagesError, SealedPages};
@@ -70,8 +71,7 @@ pub fn commit_rows<S: Storage + Drop, J: Storage + Drop, N: Nonces + Drop, A: Al
     pages: &mut SealedPages<S, J, N, A>,
 ) -> Result<(), PagesError>
     ensures crash { (before now : List ℕ) → HasCommitted pages.old before
-        → HasText pages.old now → RecoversText pages.old.layout.variant pages.old.layout.key
-        before now pages.new.disk pages.new.journal }
+        → HasText pages.old now → RecoversOne pages.new before now }
     ensures next { OnOk result ((before now : List ℕ) → HasCommitted pages.old before
         → HasText pages.old now → HasCommitted pages.new now) }
 {

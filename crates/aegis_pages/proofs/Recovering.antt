@@ -16,7 +16,7 @@ use Rattle.aegis_pages.specs.History.{AreCommits, Step, last_of}
 use Rattle.aegis_pages.specs.Layouts.{Layout, journal_front}
 use Rattle.aegis_pages.specs.Reading.{layout_of}
 use Rattle.aegis_pages.specs.declared.header.FileHeader.{FileHeader}
-use Rattle.aegis_pages.specs.OpenFile.{Has, HasCommitted, HasIn, HasText, IsStoredAs, OpenFile, OpensAtOne}
+use Rattle.aegis_pages.specs.OpenFile.{Has, HasCommitted, HasIn, HasText, IsCommitted, IsStoredAs, OpenFile, OpensAtOne}
 use Rattle.aegis_pages.specs.SealedPages.{ArePages, Holds, HoldsUnder, IsSealed}
 use Rattle.aegis_pages.proofs.Commits.{first_again, head_read, take_own}
 use Rattle.aegis_pages.proofs.Standing.{holds_has, holds_sealed, sealed_has}
@@ -122,6 +122,7 @@ kept_by_empty key context j a b recovers none = cases a b (subst (λ (o : Option
 -- ---- a text that is committed
 
 pub stored_committed : (old new : OpenFile) (text : List ℕ) → IsStoredAs old new → HasCommitted old text → HasCommitted new text
+unfolding IsCommitted
 stored_committed old new text s has = record {
   bytes = has.bytes;
   rests = record { storage_is = s.disk ∙ has.rests.storage_is; journal_is = s.journal ∙ has.rests.journal_is };
@@ -129,24 +130,25 @@ stored_committed old new text s has = record {
 }
 
 -- writing the sector over itself, which no journal does, stands for a commit that did not begin
-pub committed_file_recovers : (file : OpenFile) (before now : List ℕ) → HasCommitted file before → RecoversText file.layout.variant file.layout.key before now file.disk file.journal
-committed_file_recovers file before now has =
+pub committed_recovers : (layout : Layout) (counter : ℕ) (disk journal : Option Disk) (before now : List ℕ) → IsCommitted layout counter disk journal before → RecoversText layout.variant layout.key before now disk journal
+unfolding IsCommitted
+committed_recovers layout counter disk journal before now has =
     let itself : List ℕ = part_at has.bytes 0 512 in
     let same : overwritten has.bytes 0 itself ≡ has.bytes = first_again has.bytes 512 in
-    let head = head_read file.layout.variant has.bytes itself refl in
-    let begins : IsOfCommit (head_of file.layout.variant has.bytes) ((0, itself) ∷ []) =
-    subst (λ (l : List ℕ). IsOfCommit l ((0, itself) ∷ [])) head (inl (itself, [], refl, take_own (head_bytes file.layout.variant) itself)) in record {
-      layout = file.layout;
+    let head = head_read layout.variant has.bytes itself refl in
+    let begins : IsOfCommit (head_of layout.variant has.bytes) ((0, itself) ∷ []) =
+    subst (λ (l : List ℕ). IsOfCommit l ((0, itself) ∷ [])) head (inl (itself, [], refl, take_own (head_bytes layout.variant) itself)) in record {
+      layout = layout;
       file = has.bytes;
       writes = (0, itself) ∷ [];
       variant_is = refl;
       key_is = refl;
-      recovers = rest_recovers (journal_key file.layout.variant file.layout.key) [] has.bytes ((0, itself) ∷ []) file.disk file.journal has.bytes (inl refl) has.rests;
-      without = (file.counter, has.is);
-      with_writes = inl (file.counter, subst (IsSealed file.layout file.counter before) (sym same) has.is);
+      recovers = rest_recovers (journal_key layout.variant layout.key) [] has.bytes ((0, itself) ∷ []) disk journal has.bytes (inl refl) has.rests;
+      without = (counter, has.is);
+      with_writes = inl (counter, subst (IsSealed layout counter before) (sym same) has.is);
       old_head = begins;
-      new_head = subst (λ (l : List ℕ). IsOfCommit (head_of file.layout.variant l) ((0, itself) ∷ [])) (sym same) begins;
-      front = empty_front (journal_front file.layout) file.journal has.rests.journal_is;
+      new_head = subst (λ (l : List ℕ). IsOfCommit (head_of layout.variant l) ((0, itself) ∷ [])) (sym same) begins;
+      front = empty_front (journal_front layout) journal has.rests.journal_is;
     }
 
 -- ---- a crash
@@ -195,7 +197,7 @@ fits_known variant key (Some file) (Some js) read P p q f = subst (Fits variant 
 pub opens_at_one : (layout : Layout) (counter len : ℕ) (changes : Texts) (a : Option (List ℕ)) (disk journal : Option Disk) (before now : List ℕ) → IsLaneCount layout.variant.lanes
     → ((k : ℕ) → text_at changes k ≡ None) → IfSome a (IsHeader layout counter len) → IsPossible a disk → RestsAtText layout.variant layout.key before now disk journal
     → OpensAtOne (record { layout = layout; counter = counter; stored = len; len = len; changes = changes; bytes = a; disk = disk; journal = journal; broken = false }) before now
-unfolding HasText
+unfolding HasText IsCommitted
 opens_at_one layout counter len changes a disk journal before now count none header possible rest = cases rest.holds
   where
     known : a ≡ Some rest.file

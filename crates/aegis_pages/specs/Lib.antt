@@ -7,5 +7,6 @@ pub mod History
 pub mod Layouts
 pub mod OpenFile
 pub mod Reading
+pub mod Recovery
 pub mod SealedPages
 pub mod Sealing

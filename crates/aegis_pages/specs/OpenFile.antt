@@ -39,11 +39,19 @@ HasIn layout counter stored len changes broken text (Some bytes) = Has layout co
 unfoldable pub HasText : OpenFile → List ℕ → Type 0
 HasText file text = HasIn file.layout file.counter file.stored file.len file.changes file.broken text file.bytes
 
--- The storage holds the text and the journal is empty, and both are certain.
-pub record HasCommitted (file : OpenFile) (text : List ℕ) : Type 0 where
+-- The storage holds the text, under a layout and with a counter in its header, and the journal is empty; both are certain.
+pub record Committed (layout : Layout) (counter : ℕ) (disk journal : Option Disk) (text : List ℕ) : Type 0 where
   pub bytes : List ℕ
-  pub rests : IsAtRest file.disk file.journal bytes
-  pub is : IsSealed file.layout file.counter text bytes
+  pub rests : IsAtRest disk journal bytes
+  pub is : IsSealed layout counter text bytes
+
+-- the same as one word, which the proofs of callers take from one call to the next
+unfoldable pub IsCommitted : Layout → (counter : ℕ) → (disk journal : Option Disk) → (text : List ℕ) → Type 0
+IsCommitted layout counter disk journal text = Committed layout counter disk journal text
+
+-- the file's storage holds the text, and its journal is empty
+abbrev pub HasCommitted : OpenFile → List ℕ → Type 0
+HasCommitted file text = IsCommitted file.layout file.counter file.disk file.journal text
 
 -- the file is as it was
 pub record IsUnchanged (old new : OpenFile) : Type 0 where

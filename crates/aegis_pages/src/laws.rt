@@ -9,7 +9,8 @@ ghost use Rattle.aegis_pages.specs.Headers.{IsHeader};
 ghost use Rattle.aegis_storage.specs.Disk.{Crashed, Disk, certain};
 ghost use Rattle.aegis_pages.specs.Commits.{HasHonestHeader, IsHonest, IsLeftByCommit, RecoversText};
 ghost use Rattle.aegis_pages.specs.History.{AreCommits, Step, last_of};
-ghost use Rattle.aegis_pages.specs.OpenFile.{HasCommitted, HasText, IsStoredAs, IsUnchanged, OpenFile};
+ghost use Rattle.aegis_pages.specs.OpenFile.{HasCommitted, IsStoredAs, IsUnchanged, OpenFile};
+ghost use Rattle.aegis_pages.specs.Recovery.{RecoversOne};
 
 /// A part that was written is what is read at its place.
 pub fn written_is_read()
@@ -42,12 +43,6 @@ pub fn opened_has_its_commitment()
         → IfSome file.bytes (HasOneCommitment variant key c) }
 {}
 
-/// A file that is as it was has the same text.
-pub fn unchanged_has_its_text()
-    ensures { (old new : OpenFile) (text : List ℕ) → IsUnchanged old new → HasText old text
-        → HasText new text }
-{}
-
 /// Changes in memory leave the text that is committed.
 pub fn stored_is_committed()
     ensures stored { (old new : OpenFile) (text : List ℕ) → IsStoredAs old new
@@ -78,6 +73,12 @@ pub fn recovered_is_left_by_a_commit()
 /// A committed text is recovered, whatever was to come next.
 pub fn committed_recovers()
     ensures { (file : OpenFile) (before now : List ℕ) → HasCommitted file before
+        → RecoversOne file before now }
+{}
+
+/// What a crash may leave, by its parts, as `open` takes it.
+pub fn recovers_text()
+    ensures { (file : OpenFile) (before now : List ℕ) → RecoversOne file before now
         → RecoversText file.layout.variant file.layout.key before now file.disk file.journal }
 {}
 

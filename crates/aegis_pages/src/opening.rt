@@ -55,20 +55,19 @@ pub fn is_of_commit<A: Allocator>(head: &[u8], writes: &[PendingWrite<A>]) -> bo
     begins_with(&writes[0], head) || begins_with(&writes[count - 1], head)
 }
 
-/// Returns whether a journal begins with the front of another file's, and has more than a front. One that has no more is
-/// of use to nobody.
+/// Returns whether a journal has more than a front, and does not begin with that of this file: it is that of another one,
+/// or no journal. One that has no more is of use to nobody.
 pub fn is_of_another(front: &[u8; CLEAR_BYTES], journal: &[u8]) -> bool
     ensures { IsTrue result → HasFront front.now journal.now → ⊥ }
 {
     if journal.len() <= CLEAR_BYTES {
         return false;
     }
-    let (start, _) = journal.split_at(CLEAR_BYTES);
-    start[..4] == JOURNAL_MAGIC[..] && start[..] != front[..]
+    journal[..CLEAR_BYTES] != front[..]
 }
 
 /// Returns an error if a journal must not be made again or emptied: [`PagesError::Journal`] if the file has a header and
-/// the journal is whole but of another commit, or is plainly that of another file, and [`PagesError::Header`] if the file
+/// the journal is whole but of another commit, or begins as that of no commit of this file, and [`PagesError::Header`] if the file
 /// has no header and the journal is not whole.
 pub fn check_journal<L: LaneState, const KEY_BYTES: usize, A: Allocator + Copy>(
     key: &[u8; KEY_BYTES],

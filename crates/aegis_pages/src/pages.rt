@@ -11,6 +11,7 @@ ghost use Rattle.aegis_pages.specs.Errors.{IsBeginError, IsCommitRefusal, IsComm
 ghost use Rattle.aegis_pages.specs.Headers.{IsHeader};
 ghost use Rattle.aegis_pages.specs.Layouts.{IsPageSize};
 ghost use Rattle.aegis_pages.specs.OpenFile.{BreaksOrKeeps, HasCommitted, HasText, IsCertain, IsKnown, IsStoredAs, IsUnchanged, OpensAtOne, Reads};
+ghost use Rattle.aegis_pages.specs.Recovery.{RecoversOne};
 ghost use Rattle.aegis_pages.specs.SealedPages.{Holds, KeepsOthers};
 
 use crate::changes::{ChangedPages, PageText, empty_text};
@@ -383,8 +384,7 @@ impl<
         ensures committed { OnOk result ((text : List ℕ) → HasText self.old text
             → HasText self.new text) }
         ensures crash { (before now : List ℕ) → HasCommitted self.old before
-            → HasText self.old now → RecoversText self.old.layout.variant self.old.layout.key
-            before now self.new.disk self.new.journal }
+            → HasText self.old now → RecoversOne self.new before now }
         ensures certain { OnOk result ((before now : List ℕ) → HasCommitted self.old before
             → HasText self.old now → HasCommitted self.new now) }
         ensures broken { self.old.broken ≡ true → result ≡ Err PagesError.Broken }

@@ -1,5 +1,7 @@
-use Rattle.aegis_pages.proofs.Recovering.{committed_file_recovers}
+use Rattle.aegis_pages.specs.Recovery.{RecoversUnder}
+use Rattle.aegis_pages.proofs.Recovering.{committed_recovers as recovers}
 use Rattle.aegis_pages.proofs.laws.committed_recovers.Goals as goal
 
 pub returns : goal.returns
-returns c file before now has = committed_file_recovers file before now has
+unfolding RecoversUnder
+returns c file before now has = recovers file.layout file.counter file.disk file.journal before now has

@@ -3,27 +3,34 @@ use Rattle.aegis_base.specs.Variant.{Variant}
 use Rattle.aegis_storage.specs.Disk.{written}
 use Rattle.aegis_storage.specs.Pending.{writes_of}
 use Rattle.aegis_pages.specs.Commits.{journal_key}
-use Rattle.aegis_pages.specs.OpenFile.{HasText}
-use Rattle.aegis_pages.proofs.Recovering.{Commits, commit_has, commit_recovers, commit_sealed_at, committed_file_recovers}
+use Rattle.aegis_pages.specs.OpenFile.{HasText, IsCommitted}
+use Rattle.aegis_pages.specs.Recovery.{RecoversUnder}
+use Rattle.aegis_pages.proofs.Recovering.{Commits, commit_has, commit_recovers, commit_sealed_at, committed_recovers}
 use Rattle.aegis_pages.proofs.pages.Pages.commit.Goals as goal
 
 pub returns-then-self-clause-crash : goal.returns-then-self-clause-crash
-returns-then-self-clause-crash g c = rw (← c.self.view_is) (λ before now has text. committed_file_recovers _ before now has)
+unfolding RecoversUnder
+returns-then-self-clause-crash g c = rw (← c.self.view_is) (λ before now has text. committed_recovers c.self.inside.layout c.self.inside.counter _ _ before now has)
 
 pub returns-in_err-counter-clause-crash : goal.returns-in_err-counter-clause-crash
-returns-in_err-counter-clause-crash g c = rw (← c.self.view_is) (λ before now has text. committed_file_recovers _ before now has)
+unfolding RecoversUnder
+returns-in_err-counter-clause-crash g c = rw (← c.self.view_is) (λ before now has text. committed_recovers c.self.inside.layout c.self.inside.counter _ _ before now has)
 
 pub returns-in_err-sector-clause-crash : goal.returns-in_err-sector-clause-crash
-returns-in_err-sector-clause-crash g c = rw (← c.self.view_is) (λ before now has text. committed_file_recovers _ before now has)
+unfolding RecoversUnder
+returns-in_err-sector-clause-crash g c = rw (← c.self.view_is) (λ before now has text. committed_recovers c.self.inside.layout c.self.inside.counter _ _ before now has)
 
 pub returns-in_default-clause-crash : goal.returns-in_default-clause-crash
-returns-in_default-clause-crash g c = rw (← c.self.view_is) (λ before now has text. committed_file_recovers _ before now has)
+unfolding RecoversUnder
+returns-in_default-clause-crash g c = rw (← c.self.view_is) (λ before now has text. committed_recovers c.self.inside.layout c.self.inside.counter _ _ before now has)
 
 pub returns-in_err-writes-clause-crash : goal.returns-in_err-writes-clause-crash
-returns-in_err-writes-clause-crash g c = rw (← c.self.view_is) (λ before now has text. committed_file_recovers _ before now has)
+unfolding RecoversUnder
+returns-in_err-writes-clause-crash g c = rw (← c.self.view_is) (λ before now has text. committed_recovers c.self.inside.layout c.self.inside.counter _ _ before now has)
 
 pub returns-in-Err-clause-crash : goal.returns-in-Err-clause-crash
-returns-in-Err-clause-crash g c = rw (← c.self.view_is) (λ before now has text. committed_file_recovers _ before now has)
+unfolding RecoversUnder
+returns-in-Err-clause-crash g c = rw (← c.self.view_is) (λ before now has text. committed_recovers c.self.inside.layout c.self.inside.counter _ _ before now has)
 
 pub returns-in-Ok-committed-clause-committed : goal.returns-in-Ok-committed-clause-committed
 unfolding HasText
@@ -36,7 +43,7 @@ returns-in-Ok-committed-clause-committed g c =
     commits c.clear.ensures.none c.in-Ok-committed.ensures.written has)
 
 pub returns-in-Ok-committed-clause-crash : goal.returns-in-Ok-committed-clause-crash
-unfolding HasText
+unfolding HasText IsCommitted RecoversUnder
 returns-in-Ok-committed-clause-crash g c =
     let inside = c.self.inside in
     let commits : Commits c.self.inside.layout c.self.inside.len c.in_ok-counter.counter c.self.inside.changes.entries (writes_of c.deref.result.now) =
@@ -50,7 +57,7 @@ returns-in-Ok-committed-clause-crash g c =
     (c.commit-committed.ensures.front has.rests.journal_is))
 
 pub returns-clause-crash : goal.returns-clause-crash
-unfolding HasText
+unfolding HasText IsCommitted RecoversUnder
 returns-clause-crash g c =
     let inside = c.self.inside in
     let commits : Commits c.self.inside.layout c.self.inside.len c.in_ok-counter.counter c.self.inside.changes.entries (writes_of c.deref.result.now) =
@@ -64,7 +71,7 @@ returns-clause-crash g c =
     (c.commit-committed.ensures.front has.rests.journal_is))
 
 pub returns-in-Ok-committed-clause-certain : goal.returns-in-Ok-committed-clause-certain
-unfolding HasText
+unfolding HasText IsCommitted
 returns-in-Ok-committed-clause-certain g c =
     let inside = c.self.inside in
     let commits : Commits c.self.inside.layout c.self.inside.len c.in_ok-counter.counter c.self.inside.changes.entries (writes_of c.deref.result.now) =

@@ -1,7 +1,7 @@
 use Rattle.std.proofs.Common.{◌+◌, ◌∙◌, ap, arith, rules, ℕ}
 use Rattle.std.proofs.lemmas.Result.{err_from_is_err_and}
 use Rattle.aegis_pages.specs.Layouts.{IsPageSize}
-use Rattle.aegis_pages.specs.OpenFile.{HasText}
+use Rattle.aegis_pages.specs.OpenFile.{HasText, IsCommitted}
 use Rattle.aegis_pages.proofs.Known.{create_begins, known_map}
 use Rattle.aegis_pages.proofs.Standing.{created_has, sealed_empty}
 use Rattle.aegis_pages.proofs.pages.Pages.create.Goals as goal
@@ -23,6 +23,7 @@ returns-clause-created g c =
     known_map (g.S.Storage.bytes c.args.storage) _ _ (λ xs known. created_has c.new-layout.result c.new.result.entries _ c.new.ensures.none known) c.in_ok-begin_file.ensures.known
 
 pub returns-clause-certain : goal.returns-clause-certain
+unfolding IsCommitted
 returns-clause-certain g c disk journal_disk storage_is journal_is =
     let begun = c.in_ok-begin_file.ensures.certain disk storage_is in record {
       bytes = begun.bytes;

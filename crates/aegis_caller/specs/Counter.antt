@@ -1,0 +1,7 @@
+-- A counter that is kept in a sealed file.
+use Rattle.std.specs.Prelude.{ℕ, List}
+use Rattle.std.specs.Int.{to_le_bytes, w64}
+
+-- a number in 8 bytes, the lowest first
+unfoldable pub counter_text : ℕ → List ℕ
+counter_text n = to_le_bytes w64 n
