@@ -1,5 +1,5 @@
-//! The whole promise, from the contracts alone, for each of the six variants and both lengths of a tag: what is sealed in
-//! any chunks opens in others, and with no other tag. Keystreams and MACs are those of the definitions.
+//! The whole promise, from the contracts alone, for each of the six variants and both lengths of a tag: what is sealed
+//! in any chunks opens in others, and with no other tag. Keystreams and MACs are those of the definitions.
 
 ghost use Rattle.std.specs.Prelude.{◌≡◌, ◌≢◌, ◌+◌, ◌≤◌, ◌++◌, IsOk, length};
 ghost use Rattle.aegis_base.specs.Chunks.{erased, joined};

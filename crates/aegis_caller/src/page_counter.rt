@@ -55,8 +55,8 @@ pub fn add_one<S: Storage + Drop, J: Storage + Drop, N: Nonces + Drop, A: Alloca
     Ok(next)
 }
 
-/// Adds one to the counter, commits it, and returns its new number. Whatever it returns, a crash leaves the number or the
-/// next one.
+/// Adds one to the counter, commits it, and returns its new number. Whatever it returns, a crash leaves the number or
+/// the next one.
 pub fn count<S: Storage + Drop, J: Storage + Drop, N: Nonces + Drop, A: Allocator + Copy>(
     pages: &mut SealedPages<S, J, N, A>,
 ) -> Result<u64, PagesError>

@@ -19,8 +19,8 @@ pub struct Entry<'b> {
     pub is_last: bool,
 }
 
-/// Reads the next entry of a log in its place, from a buffer that begins with its record. No memory is taken: the only errors
-/// are faults of the buffer.
+/// Reads the next entry of a log in its place, from a buffer that begins with its record. No memory is taken: the only
+/// errors are faults of the buffer.
 pub fn next_entry<'b>(
     opener: &mut RecordOpener<'_>,
     buffer: &'b mut [u8],
@@ -70,8 +70,8 @@ pub fn seal_reading(
     packet
 }
 
-/// Seals an entry in the buffer that holds it, and appends its record to a log. Room is made first: after an error nothing was
-/// sealed.
+/// Seals an entry in the buffer that holds it, and appends its record to a log. Room is made first: after an error
+/// nothing was sealed.
 pub fn append_entry<A: Allocator>(
     sealer: &mut RecordSealer<'_>,
     buffer: &mut [u8],

@@ -11,7 +11,8 @@ use aegis::record::{
 };
 use std::alloc::Allocator;
 
-/// Appends three records to a log, and reads it from the place of the second on: what is read first is the second message.
+/// Appends three records to a log, and reads it from the place of the second on: what is read first is the second
+/// message.
 pub fn appended_and_read<A: Allocator + Copy>(
     alloc: A,
     key: &[u8; 32],
@@ -39,8 +40,8 @@ pub fn appended_and_read<A: Allocator + Copy>(
     Ok(opened.message)
 }
 
-/// Reads the record at a place of a log of which nothing else is known: the bytes begin with the record of the message that is
-/// returned, or the error is their fault.
+/// Reads the record at a place of a log of which nothing else is known: the bytes begin with the record of the message
+/// that is returned, or the error is their fault.
 pub fn read_at<'b, A: Allocator + Copy>(
     alloc: A,
     key: &[u8; 32],
@@ -61,8 +62,8 @@ pub fn read_at<'b, A: Allocator + Copy>(
     opener.open_at(alloc, position, bytes)
 }
 
-/// Reads two records of a log from a position on: the first message, and what [`RecordOpener::open_next`] returns after it. It
-/// is `None` if the log ends with the first.
+/// Reads two records of a log from a position on: the first message, and what [`RecordOpener::open_next`] returns after
+/// it. It is `None` if the log ends with the first.
 pub fn read_on<'b, A: Allocator + Copy>(
     alloc: A,
     key: &[u8; 32],
@@ -94,8 +95,8 @@ pub fn read_on<'b, A: Allocator + Copy>(
     Ok(Some((first.message, second)))
 }
 
-/// Reads one record of a stream, keeps the position alone, and goes on there with another opener: if the stream ends with the
-/// second record, the two messages are all of its list.
+/// Reads one record of a stream, keeps the position alone, and goes on there with another opener: if the stream ends
+/// with the second record, the two messages are all of its list.
 pub fn stopped_and_read_on<A: Allocator + Copy>(
     alloc: A,
     key: &[u8; 32],

@@ -91,7 +91,8 @@ pub fn sealed_and_opened<A: Allocator + Copy>(
     Ok(opened.message)
 }
 
-/// A stream that grows by a record for each message, in a loop of its user: what its calls say holds of any list of messages.
+/// A stream that grows by a record for each message, in a loop of its user: what its calls say holds of any list of
+/// messages.
 #[derive(Drop)]
 pub struct GrowingStream<'a, A: Allocator> {
     pub sealer: RecordSealer<'a>,

@@ -43,8 +43,8 @@ fn begins_with<A: Allocator>(write: &PendingWrite<A>, head: &[u8]) -> bool
     write.bytes[..head.len()] == head[..]
 }
 
-/// Returns whether a file that begins with this header is that of before a commit, whose first write is of the header of
-/// before, or that of after it, whose last write is of the next header.
+/// Returns whether a file that begins with this header is that of before a commit, whose first write is of the header
+/// of before, or that of after it, whose last write is of the next header.
 pub fn is_of_commit<A: Allocator>(head: &[u8], writes: &[PendingWrite<A>]) -> bool
     ensures { IsTrue result ↔ IsOfCommit head.now (writes_of writes.now) }
 {
@@ -55,20 +55,21 @@ pub fn is_of_commit<A: Allocator>(head: &[u8], writes: &[PendingWrite<A>]) -> bo
     begins_with(&writes[0], head) || begins_with(&writes[count - 1], head)
 }
 
-/// Returns whether a journal has more than a front, and does not begin with that of this file: it is that of another one,
-/// or no journal. One that has no more is of use to nobody.
+/// Returns whether a journal has more than a front, and does not begin with that of this file: it is that of another
+/// one, or no journal. One that has no more is of use to nobody.
 pub fn is_of_another(front: &[u8; CLEAR_BYTES], journal: &[u8]) -> bool
     ensures { IsTrue result → HasFront front.now journal.now → ⊥ }
 {
     if journal.len() <= CLEAR_BYTES {
         return false;
     }
-    journal[..CLEAR_BYTES] != front[..]
+    let (start, _) = journal.split_at(CLEAR_BYTES);
+    start[..] != front[..]
 }
 
-/// Returns an error if a journal must not be made again or emptied: [`PagesError::Journal`] if the file has a header and
-/// the journal is whole but of another commit, or begins as that of no commit of this file, and [`PagesError::Header`] if the file
-/// has no header and the journal is not whole.
+/// Returns an error if a journal must not be made again or emptied: [`PagesError::Journal`] if the file has a header
+/// and the journal is whole but of another commit, or does not begin with the front of this file's journals, and
+/// [`PagesError::Header`] if the file has no header and the journal is not whole.
 pub fn check_journal<L: LaneState, const KEY_BYTES: usize, A: Allocator + Copy>(
     key: &[u8; KEY_BYTES],
     sector: Option<[u8; SECTOR_BYTES]>,
@@ -124,14 +125,14 @@ pub fn check_journal<L: LaneState, const KEY_BYTES: usize, A: Allocator + Copy>(
 /// Completes a commit that a crash or an error cut short, or leaves out all of it, and returns the file's header. To be
 /// called on a file that is opened.
 ///
-/// A journal that is whole under this key, and whose commit began or ended with the file's header, byte for byte, is made
-/// again and emptied; so it is also if the file has no header. A torn one is emptied if the file has a header. Otherwise
-/// nothing is changed: the error is [`PagesError::Journal`] for a whole journal of another commit, or one that is plainly
-/// of another file, and [`PagesError::Header`] if the file has no header and the journal is not whole. Neither is returned
-/// for what a commit and a crash left, unless that is a forgery.
+/// A journal that is whole under this key, and whose commit began or ended with the file's header, byte for byte, is
+/// made again and emptied; so it is also if the file has no header. A torn one is emptied if the file has a header.
+/// Otherwise nothing is changed: the error is [`PagesError::Journal`] for a whole journal of another commit, or one
+/// that does not begin with the front of this file's, and [`PagesError::Header`] if the file has no header and the
+/// journal is not whole. Neither is returned for what a commit and a crash left, unless that is a forgery.
 ///
-/// The others are [`PagesError::Read`], [`PagesError::Write`] and [`PagesError::OutOfMemory`]. Nothing is then lost: call
-/// it again.
+/// The others are [`PagesError::Read`], [`PagesError::Write`] and [`PagesError::OutOfMemory`]. Nothing is then lost:
+/// call it again.
 pub fn recover_file<
     S: Storage,
     J: Storage,

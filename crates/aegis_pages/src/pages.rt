@@ -32,8 +32,8 @@ use std::marker::Model;
 
 /// A text in sealed pages, over a storage and its journal.
 ///
-/// Changes are kept in memory until they are committed: then all of them are there after a crash, or none. Each page and
-/// header that a commit writes takes one nonce, and each commit one prefix. The contracts name the text where the
+/// Changes are kept in memory until they are committed: then all of them are there after a crash, or none. Each page
+/// and header that a commit writes takes one nonce, and each commit one prefix. The contracts name the text where the
 /// storage's bytes are known: they and the changes are then the file of a text (`HasText`).
 #[derive(Drop)]
 pub struct Pages<L: LaneState, const KEY_BYTES: usize, S: Storage, J: Storage, N, A: Allocator> {
@@ -149,9 +149,9 @@ impl<
     /// Makes the storage a file of an empty text, under a key, an id of the file's own and a page size in bytes. What
     /// it held before is lost. The journal must be empty.
     ///
-    /// Returns [`PagesError::PageSize`], [`PagesError::OutOfMemory`], [`PagesError::Journal`] if the journal is not empty,
-    /// or [`PagesError::Nonce`] before the storage is changed, and [`PagesError::Write`] after it may have been. If a crash
-    /// interrupts it, create the file again.
+    /// Returns [`PagesError::PageSize`], [`PagesError::OutOfMemory`], [`PagesError::Journal`] if the journal is not
+    /// empty, or [`PagesError::Nonce`] before the storage is changed, and [`PagesError::Write`] after it may have been.
+    /// If a crash interrupts it, create the file again.
     pub fn create(
         alloc: A,
         mut storage: S,
@@ -309,9 +309,9 @@ impl<
     /// gap is filled with zeros, also if `part` is empty. A page of which some bytes are kept is read first.
     ///
     /// Returns [`PagesError::Broken`] or [`PagesError::TooLong`] before anything is changed, and otherwise
-    /// [`PagesError::Read`], [`PagesError::Damaged`] or [`PagesError::OutOfMemory`]. The length is then as it was, and so
-    /// are the pages that have no byte of the part or of a gap before it. Each of the others is as before, or as it was
-    /// to be.
+    /// [`PagesError::Read`], [`PagesError::Damaged`] or [`PagesError::OutOfMemory`]. The length is then as it was, and
+    /// so are the pages that have no byte of the part or of a gap before it. Each of the others is as before, or as it
+    /// was to be.
     pub fn write_at(&mut self, at: u64, part: &[u8]) -> Result<(), PagesError>
         ensures stored { IsStoredAs self.old self.new }
         ensures len { self.new.len ≡ (if is_ok result
@@ -346,8 +346,9 @@ impl<
         Ok(())
     }
 
-    /// Cuts the text off at `len` bytes, or fills it up to `len` with zeros, in memory. The errors, and what they leave,
-    /// are those of `write_at`. A commit leaves the bytes past a new end in the storage, sealed, and its size as it was.
+    /// Cuts the text off at `len` bytes, or fills it up to `len` with zeros, in memory. The errors, and what they
+    /// leave, are those of `write_at`. A commit leaves the bytes past a new end in the storage, sealed, and its size as
+    /// it was.
     pub fn set_len(&mut self, len: u64) -> Result<(), PagesError>
         ensures stored { IsStoredAs self.old self.new }
         ensures len { self.new.len ≡ (if is_ok result then len else self.old.len) }
@@ -371,13 +372,14 @@ impl<
         Ok(())
     }
 
-    /// Writes all changes since the last commit, so that all of them are there after a crash, or none; with `Ok` they are
-    /// certain to be. By [`aegis_storage::commit`]: the changed pages and the next header are sealed into the journal,
-    /// then written to their places, and then the journal is emptied, each with a sync.
+    /// Writes all changes since the last commit, so that all of them are there after a crash, or none; with `Ok` they
+    /// are certain to be. By [`aegis_storage::commit`]: the changed pages and the next header are sealed into the
+    /// journal, then written to their places, and then the journal is emptied, each with a sync.
     ///
     /// Returns [`PagesError::Broken`], [`PagesError::TooLong`], [`PagesError::Read`], [`PagesError::Nonce`] or
-    /// [`PagesError::OutOfMemory`] before anything is written. After [`PagesError::Write`] the file is broken: each later call returns
-    /// [`PagesError::Broken`]. Open it again, which gives the text before the changes or the one after them.
+    /// [`PagesError::OutOfMemory`] before anything is written. After [`PagesError::Write`] the file is broken: each
+    /// later call returns [`PagesError::Broken`]. Open it again, which gives the text before the changes or the one
+    /// after them.
     pub fn commit(&mut self) -> Result<(), PagesError>
         ensures layout { self.new.layout ≡ self.old.layout }
         ensures len { self.new.len ≡ self.old.len }
@@ -469,10 +471,10 @@ impl<
         (storage, journal)
     }
 
-    /// Returns the file's commitment: a MAC of 32 bytes over the counter and the length in the header, and the tag of each
-    /// page of the text, as they were at the last commit. It is taken under the file's key and the nonce of all bytes 255,
-    /// which `N` must never draw. A file whose header or page is an older one has another commitment, unless two MACs are
-    /// equal by chance.
+    /// Returns the file's commitment: a MAC of 32 bytes over the counter and the length in the header, and the tag of
+    /// each page of the text, as they were at the last commit. It is taken under the file's key and the nonce of all
+    /// bytes 255, which `N` must never draw. A file whose header or page is an older one has another commitment, unless
+    /// two MACs are equal by chance.
     ///
     /// Returns [`PagesError::Read`] if the storage could not be read, or ends before the last page does, or
     /// [`PagesError::Broken`].
@@ -487,8 +489,8 @@ impl<
         file_commitment(&self.storage, &self.layout, self.counter, self.stored)
     }
 
-    /// Returns `Ok` if the file's commitment is `expected`, which a call of [`Pages::commitment`] returned. All bytes are
-    /// compared, whether they are equal or not.
+    /// Returns `Ok` if the file's commitment is `expected`, which a call of [`Pages::commitment`] returned. All bytes
+    /// are compared, whether they are equal or not.
     ///
     /// Returns [`PagesError::Commitment`] if it is another, and the errors of `commitment`.
     pub fn verify(&self, expected: &[u8; 32]) -> Result<(), PagesError>

@@ -71,8 +71,8 @@ pub fn seal_pages<N: Nonces, L: LaneState, const KEY_BYTES: usize, A: Allocator 
     Ok(())
 }
 
-/// Returns the writes of a commit: that of the sector that the file begins with, which changes nothing but tells of which
-/// file the journal is, those of the changed pages, and that of the next header. Returns [`PagesError::Nonce`] or
+/// Returns the writes of a commit: that of the sector that the file begins with, which changes nothing but tells of
+/// which file the journal is, those of the changed pages, and that of the next header. Returns [`PagesError::Nonce`] or
 /// [`PagesError::OutOfMemory`].
 pub fn sealed_commit<N: Nonces, L: LaneState, const KEY_BYTES: usize, A: Allocator + Copy>(
     alloc: A,

@@ -19,8 +19,8 @@ use std::alloc::{AllocError, Allocator};
 use std::io;
 use std::io::ErrorKind;
 
-/// How many bytes the front has, with which a journal begins. It is the caller's, and in the clear, so that a journal can be
-/// told from that of another storage also if it is torn.
+/// How many bytes the front has, with which a journal begins. It is the caller's, and in the clear, so that a journal
+/// can be told from that of another storage also if it is torn.
 pub const FRONT_BYTES: usize = 33;
 
 /// How many bytes the prefix has, which comes next.

@@ -37,8 +37,8 @@ fn write_others(
     Ok(())
 }
 
-// Leaves what a crash may of a change: none of it, a front and other bytes after it, other bytes in every other sector, or
-// all.
+// Leaves what a crash may of a change: none of it, a front and other bytes after it, other bytes in every other sector,
+// or all.
 fn tear(alloc: Global, bytes: &mut Vec<u8>, pending: &PendingChange, part: u32) -> io::Result<()> {
     let PendingChange::Write(write) = pending else {
         return if part % 2 == 0 {

@@ -55,8 +55,8 @@ fn cut(
     Ok((storage, journal, is_done))
 }
 
-// Whether the file opens to one of the texts, or to the one after the commit if it is done, and again after it was closed;
-// and with an empty journal then.
+// Whether the file opens to one of the texts, or to the one after the commit if it is done, and again after it was
+// closed; and with an empty journal then.
 fn opens(
     alloc: Global,
     file: Vec<u8>,

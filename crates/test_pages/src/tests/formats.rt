@@ -34,7 +34,8 @@ const CHANGED_MAC: [u8; 16] = [
 // How many calls of the journal succeed: 7 of opening, and 3 of the commit, which then fails to empty it.
 const JOURNAL_CALLS: u64 = 10;
 
-// The Cargo package writes the same journal by the same nonces, and then the same file: its tests compare with these MACs too.
+// The Cargo package writes the same journal by the same nonces, and then the same file: its tests compare with these
+// MACs too.
 #[test]
 fn a_commit_of_the_small_file(rt: HostRuntime) -> Result<(), Fail> {
     let alloc = rt.alloc();

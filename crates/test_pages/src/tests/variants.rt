@@ -1,5 +1,5 @@
-//! A file of a variant with short keys, and one of four lanes, are written, closed, opened and read. The code is one for
-//! all six, and the other tests have AEGIS-256.
+//! A file of a variant with short keys, and one of four lanes, are written, closed, opened and read. The code is one
+//! for all six, and the other tests have AEGIS-256.
 
 use super::{Counter, ID, KEY, SHORT_KEY};
 use aegis_pages::{SealedPages128L, SealedPages256X4};
