@@ -9,8 +9,8 @@ use std::process::Abort;
 use std::test::Fail;
 use test_tools::calls::{LONG_KEY, LONG_NONCE, SHORT_KEY, SHORT_NONCE};
 
-// The first byte of a message belongs to the first of four lanes, whose keystream it changes from the third rate block on.
-// A rate block that is cut lane after lane would show it in the places of other lanes.
+// The first byte of a message belongs to the first of four lanes, whose keystream it changes from the third rate block
+// on. A rate block that is cut lane after lane would show it in the places of other lanes.
 #[test]
 fn other_lanes_stay(rt: HostRuntime) {
     let mut first = [7; 512];
