@@ -1,6 +1,6 @@
 #!/bin/sh
 # check_time.sh PROGRAM: runs c/tests/check_time.c under valgrind's memcheck, which must report both controls, and
-# otherwise nothing but what c/tests/check_time.supp names: at most one jump for each opening, of which there are for a
+# otherwise nothing but what c/tests/check_time.supp names: at most one branch for each opening, of which there are for a
 # message three at once, three on a state, three of records, three of pages and two of headers, and those few of a page and
 # of a header that are named there.
 set -eu
@@ -14,7 +14,7 @@ memcheck() {
     valgrind -s --error-limit=no --error-exitcode=99 --suppressions="$suppressions" "$program" "$@" 2> "$log"
 }
 
-for control in jump address; do
+for control in branch address; do
     status=0
     memcheck "$control" || status=$?
     [ "$status" = 99 ] || { echo "memcheck does not report the control '$control'" >&2; exit 1; }
@@ -28,7 +28,7 @@ awk -v messages="$((openings / 3))" '
     / used_suppression: / && sub(/^accepted-or-refused-/, "", $4) { count[$4] += $3 }
     END {
         for (kind in count) {
-            print kind ": " count[kind] " jumps"
+            print kind ": " count[kind] " branches"
             many += count[kind] > messages * most[kind]
         }
         # A call at once and a box are opened by one function, which is inlined into some of its callers.

@@ -1,11 +1,11 @@
 /*
- * Whether a jump or an address depends on a secret, for valgrind's memcheck. Each call of hunkravy.h,
+ * Whether a branch or an address depends on a secret, for valgrind's memcheck. Each call of hunkravy.h,
  * hunkravy_records.h and hunkravy_pages.h runs on keys, nonces, associated data and messages that are
- * marked as undefined: memcheck reports each conditional jump and each address that depends on such
+ * marked as undefined: memcheck reports each conditional branch and each address that depends on such
  * bytes. Lengths and returned codes are public. tools/check_time.sh runs it.
  *
  * The last word of its output is the number of openings at once, which is that of openings on a
- * state, of records, and of pages too. With the parameter `jump` or `address` it only does what
+ * state, of records, and of pages too. With the parameter `branch` or `address` it only does what
  * memcheck has to report.
  */
 #include "check.h"
