@@ -61,6 +61,15 @@ for licence in "$work"/empty/*/LICENSE "$work"/system/usr/share/doc/*/copyright 
     [ "$(grep -ihoE 'copyright:? (\(c\) )?2026 .*' "$licence" | sed 's/.*2026 //')" = 'The Hunkravy authors' ] || fail "$licence has another holder"
 done
 
+# The library runs on glibc 2.17, and the tool on 2.34.
+newest() {
+    objdump -T "$1" | grep -o 'GLIBC_[0-9.]*' | sed 's/GLIBC_//' | sort -V | tail -n 1
+}
+[ "$(printf '%s\n' 2.17 "$(newest "$work/empty/$name/lib/libhunkravy.so.0")" | sort -V | tail -n 1)" = 2.17 ] ||
+    fail 'the library needs a glibc newer than 2.17'
+[ "$(printf '%s\n' 2.34 "$(newest "$work/empty/$name/lib/hunkravy/x86-64-v2/hunkravy")" | sort -V | tail -n 1)" = 2.34 ] ||
+    fail 'the tool needs a glibc newer than 2.34'
+
 # No link of a page that is shipped leads nowhere.
 for folder in "$work"/empty/*; do
     (cd "$folder" && python3 - << 'END') || fail 'a page has a dead link'
