@@ -88,3 +88,33 @@ pub fn left_of(disk: &TestDisk, parts: u32, order: usize) -> io::Result<Vec<u8>>
     }
     Ok(bytes)
 }
+
+// Writes the bytes of `front` over the first bytes of a disk, as far as the first `len` bytes of a write lie there.
+fn write_front(
+    bytes: &mut Vec<u8>,
+    write: &PendingWrite<Global>,
+    len: usize,
+    front: &[u8],
+) -> io::Result<()> {
+    let place = write.place as usize;
+    let end = front
+        .len()
+        .min(place.saturating_add(len.min(write.bytes.len())));
+    if place < end {
+        bytes.write_at(place as u64, &front[place..end])?;
+    }
+    Ok(())
+}
+
+/// What a crash leaves of a disk if the first `len` bytes of each pending write are there, but where one was to come
+/// within the first bytes of the disk there are those of `front`.
+pub fn left_with_front(disk: &TestDisk, len: usize, front: &[u8]) -> io::Result<Vec<u8>> {
+    let mut bytes = disk.synced.to_vec(disk.alloc)?;
+    for pending in &disk.pending {
+        if let PendingChange::Write(write) = pending {
+            write_part(&mut bytes, write, 0, len.min(write.bytes.len()))?;
+            write_front(&mut bytes, write, len, front)?;
+        }
+    }
+    Ok(bytes)
+}

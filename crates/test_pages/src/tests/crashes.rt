@@ -6,7 +6,7 @@ use aegis_pages::{PagesError, SealedPages, recover_file};
 use std::alloc::Global;
 use std::test::Fail;
 use test_storage::disk::TestDisk;
-use test_storage::tears::left_of;
+use test_storage::tears::{left_of, left_with_front};
 
 // More calls than are made.
 const ALL_CALLS: u64 = 1000;
@@ -146,6 +146,57 @@ fn a_commit_that_is_cut_at_each_call(rt: HostRuntime) -> Result<(), Fail> {
     Ok(())
 }
 
+// The front of the file's journals.
+fn own_front() -> [u8; 33] {
+    let mut front = [0; 33];
+    front[..9].copy_from_slice(b"AGPJ\x21\x00\x01\x00\x00");
+    front[9..].copy_from_slice(&ID);
+    front
+}
+
+// What a torn front may be: its first `own` bytes are the file's, and the others are `other`, or those of another file.
+fn torn_front(own: usize, other: Option<u8>) -> [u8; 33] {
+    let mut front = [1; 33];
+    front[..9].copy_from_slice(b"AGPJ\x21\x00\x01\x00\x00");
+    if let Some(byte) = other {
+        front = [byte; 33];
+    }
+    for (torn, byte) in front.iter_mut().zip(&own_front()).take(own) {
+        *torn = *byte;
+    }
+    front
+}
+
+// Whether the file opens to a text, whatever a crash leaves of the front of the journal after a commit that was cut.
+fn any_front_opens(alloc: Global, journal_calls: u64) -> Result<bool, PagesError> {
+    let (storage, journal, is_done) = cut(alloc, ALL_CALLS, journal_calls)?;
+    if journal.pending.is_empty() {
+        return Ok(true);
+    }
+    for own in [0, 4, 20, 33] {
+        for other in [None, Some(0), Some(0xee)] {
+            for len in [1, 20, 33, 34, 200, 5000] {
+                let Ok(torn) = left_with_front(&journal, len, &torn_front(own, other)) else {
+                    return Err(PagesError::OutOfMemory);
+                };
+                if !opens(alloc, left(&storage, 0, 0)?, torn, is_done)? {
+                    return Ok(false);
+                }
+            }
+        }
+    }
+    Ok(true)
+}
+
+// A journal that is torn within its first bytes, also to what looks like that of another file.
+#[test]
+fn a_torn_front(rt: HostRuntime) -> Result<(), Fail> {
+    for calls in 0..CALLS {
+        assert!(rt; any_front_opens(rt.alloc(), calls)?, "{calls} calls");
+    }
+    Ok(())
+}
+
 // After a commit that failed each call returns an error that says so.
 #[test]
 fn a_broken_file(rt: HostRuntime) -> Result<(), Fail> {
@@ -216,11 +267,15 @@ fn journals_of_others(rt: HostRuntime) -> Result<(), Fail> {
     let (left, opened) = tried(alloc, other.clone()?, journal.clone()?, &KEY)?;
     assert!(rt; left == journal && matches!(opened, Err(PagesError::Journal)));
 
-    // of another file, and torn
+    // of another file, and torn: with no more than a front it is of use to nobody
     let mut torn = journal.clone()?;
     torn.truncate(200);
-    let (left, opened) = tried(alloc, other, torn.clone()?, &KEY)?;
+    let (left, opened) = tried(alloc, other.clone()?, torn.clone()?, &KEY)?;
     assert!(rt; left == torn && matches!(opened, Err(PagesError::Journal)));
+    let mut front = journal.clone()?;
+    front.truncate(33);
+    let (left, opened) = tried(alloc, other, front, &KEY)?;
+    assert!(rt; left.is_empty() && matches!(opened, Ok(0)));
 
     // of this file, and torn
     let (left, opened) = tried(alloc, file.clone()?, torn, &KEY)?;

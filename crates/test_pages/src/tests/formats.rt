@@ -31,8 +31,8 @@ const CHANGED_MAC: [u8; 16] = [
     193, 200, 198, 72, 90, 10, 43, 29, 250, 173, 233, 197, 240, 242, 78, 241,
 ];
 
-// How many calls of the journal succeed: 7 of opening, and 3 of the commit, which then fails to empty it.
-const JOURNAL_CALLS: u64 = 10;
+// How many calls of the journal succeed: 7 of opening, and 5 of the commit, which then fails to empty it.
+const JOURNAL_CALLS: u64 = 12;
 
 // The Cargo package writes the same journal by the same nonces, and then the same file: its tests compare with these
 // MACs too.

@@ -91,7 +91,13 @@ fn recovers_when_cut(
     Ok(true)
 }
 
-// Whether recovery gives what is wanted, however a crash leaves the pending changes of both.
+// Whether a journal has no more than a front, or begins with the one of the tests.
+fn keeps_front(journal: &[u8]) -> bool {
+    journal.len() <= FRONT.len() || journal[..FRONT.len()] == FRONT[..]
+}
+
+// Whether the journal keeps its front and recovery gives what is wanted, however a crash leaves the pending changes of
+// both.
 fn recovers_from_all(storage: &TestDisk, journal: &TestDisk, wanted: &Wanted) -> io::Result<bool> {
     let alloc = storage.alloc;
     for order in 0..ORDERS {
@@ -99,6 +105,9 @@ fn recovers_from_all(storage: &TestDisk, journal: &TestDisk, wanted: &Wanted) ->
             for journal_parts in 0..combinations(journal) {
                 let left = left_of(storage, parts, order)?;
                 let journal_left = left_of(journal, journal_parts, order)?;
+                if !keeps_front(&journal_left) {
+                    return Ok(false);
+                }
                 if parts % 3 == 0 && !recovers_when_cut(alloc, &left, &journal_left, wanted)? {
                     return Ok(false);
                 }
