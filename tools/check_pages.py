@@ -109,7 +109,7 @@ def long_lines(path):
     for number, line in enumerate(read(path).splitlines(), 1):
         inside = path.suffix == ".rt" and (inside or CLAUSE.match(line) is not None)
         most = 100 if inside else 120
-        if len(line) > most and not line.lstrip().startswith(("ghost use", "use ", "#[", "#![", "|", '"', 'b"')) and "](" not in line:
+        if len(line) > most and not line.lstrip().startswith(("ghost use", "use ", "#[", "#![", "|", '"', 'b"', '*b"')) and "](" not in line:
             yield f"{path}:{number}: {len(line)} columns"
         if line.rstrip().endswith(("}", "};", "{")):
             inside = False
