@@ -28,4 +28,5 @@ for _ in $(seq 200); do
     last=$found
 done
 [ "$last" -gt 0 ]
+[ "$recovered" -gt 0 ] || { echo 'check_batches.sh: no kill left a journal' >&2; exit 1; }
 echo "killed 200 times, $recovered times with a journal: $last batches, each whole or not there"

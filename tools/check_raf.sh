@@ -58,4 +58,5 @@ while read -r name before after; do
     count=$((count + 1))
 done < "$left/list"
 [ "$count" -gt 0 ]
+[ "$recovered" -gt 0 ] || { echo 'check_raf.sh: no kill left a journal' >&2; exit 1; }
 echo "killed 200 times, $recovered times with a journal: $last batches by two programs; $count files that crashes left"

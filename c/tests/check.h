@@ -233,6 +233,7 @@ static inline size_t for_each_line(const char *folder, const char *name,
     }
     fclose(lines);
     fclose(answers);
+    HOLDS(count > 0);
     return count;
 }
 

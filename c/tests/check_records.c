@@ -223,6 +223,7 @@ static size_t check_lines(const char *folder, const char *name)
     }
     fclose(lines);
     fclose(answers);
+    HOLDS(count > 0);
     return count;
 }
 
