@@ -8,8 +8,8 @@ use aegis_pages::{Nonces, PagesError, SealedPages};
 use aegis_storage::Storage;
 use std::alloc::Allocator;
 
-/// Opens what a commit and a crash left. The error is never that the journal is another file's, nor that the key is another
-/// one, unless they left a forgery.
+/// Opens what a commit and a crash left. The error is never that the journal is another file's, nor that the key is
+/// another one, unless they left a forgery.
 pub fn reopened<S: Storage + Drop, J: Storage + Drop, N: Nonces + Drop, A: Allocator + Copy>(
     alloc: A,
     storage: S,

@@ -59,8 +59,8 @@ abbrev pub HasHonestHeader : {variant : Variant} {key before now : List ℕ} {st
 HasHonestHeader {variant} {key} batch bytes = (layout : Layout) (counter len : ℕ) → layout.variant ≡ variant → layout.key ≡ key → IsHeader layout counter len bytes
     → IsOneOf (head_of variant batch.file) (head_of variant (written batch.writes batch.file)) (head_of variant bytes)
 
--- What can be read of the storage and of the journal is what a commit left, whatever it returned and whatever a crash and
--- openings that were cut short did since, and no forgery.
+-- What can be read of the storage and of the journal is what a commit left, whatever it returned and whatever a crash
+-- and openings that were cut short did since, and no forgery.
 unfoldable pub IsLeftByCommit : Variant → (key : List ℕ) → (bytes content : Option (List ℕ)) → (storage journal : Option Disk) → Type 0
 IsLeftByCommit variant key bytes content storage journal =
     (before : List ℕ) × (now : List ℕ) × (batch : RecoversText variant key before now storage journal) × IfSome content (IsHonest batch) × IfSome bytes (HasHonestHeader batch)

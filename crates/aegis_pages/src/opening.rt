@@ -55,8 +55,8 @@ pub fn is_of_commit<A: Allocator>(head: &[u8], writes: &[PendingWrite<A>]) -> bo
     begins_with(&writes[0], head) || begins_with(&writes[count - 1], head)
 }
 
-/// Returns whether a journal begins with the front of another file's, and has more than a front. One that has no more is
-/// of use to nobody.
+/// Returns whether a journal begins with the front of another file's, and has more than a front. One that has no more
+/// is of use to nobody.
 pub fn is_of_another(front: &[u8; CLEAR_BYTES], journal: &[u8]) -> bool
     ensures { IsTrue result → HasFront front.now journal.now → ⊥ }
 {
@@ -128,8 +128,8 @@ pub fn check_journal<L: LaneState, const KEY_BYTES: usize, A: Allocator + Copy>(
 /// A journal that is whole under this key, and whose commit began or ended with the file's header, byte for byte, is made
 /// again and emptied; so it is also if the file has no header. A torn one is emptied if the file has a header. Otherwise
 /// nothing is changed: the error is [`PagesError::Journal`] for a whole journal of another commit, or one that is plainly
-/// of another file, and [`PagesError::Header`] if the file has no header and the journal is not whole. Neither is returned
-/// for what a commit and a crash left, unless that is a forgery.
+/// of another file, and [`PagesError::Header`] if the file has no header and the journal is not whole. Neither is
+/// returned for what a commit and a crash left, unless that is a forgery.
 ///
 /// The others are [`PagesError::Read`], [`PagesError::Write`] and [`PagesError::OutOfMemory`]. Nothing is then lost: call
 /// it again.

@@ -18,13 +18,13 @@ use std::io::ErrorKind;
 /// Makes the writes, the first of them first, so that after a crash [`crate::recover`] makes all of them or none.
 ///
 /// The storage and the journal must be at rest: all that they hold is synced, and the journal is empty, as `commit` and
-/// `recover` leave them with `Ok`. The writes are sealed into the journal, of which the front is written and synced first,
-/// and then the rest; then they are made and synced, and then the journal is emptied and synced. With no writes nothing
-/// is called.
+/// `recover` leave them with `Ok`. The writes are sealed into the journal, of which first the front is written and
+/// synced, and then the rest; then they are made and synced, and then the journal is emptied and synced. With no writes
+/// nothing is called.
 ///
 /// Under one key a prefix must be used for one journal only. The context names the storage; it has at most
-/// [`MAX_CONTEXT_BYTES`]. The front is what the journal begins with, in the clear. Whatever a crash leaves, a journal with
-/// more than [`FRONT_BYTES`] begins with it.
+/// [`MAX_CONTEXT_BYTES`]. The front is what the journal begins with, in the clear. Whatever a crash leaves, a journal
+/// with more than [`FRONT_BYTES`] begins with it.
 ///
 /// After an error, call `recover` before anything else. The error is that of a call, or `AlreadyExists` if the journal
 /// is not empty, which changes nothing, or `InvalidInput` if a write has more than
