@@ -1,5 +1,5 @@
 -- Commits, before a crash and after it.
-use Rattle.std.specs.Prelude.{◌≡◌, ℕ, ◌+◌, ◌⊎◌, List, [], ◌∷◌, ◌++◌, IfSome, Option, None, Some, ⊤, length, replicate, take}
+use Rattle.std.specs.Prelude.{◌≡◌, ◌≢◌, ℕ, ◌+◌, ◌<◌, ◌⊎◌, List, [], ◌∷◌, ◌++◌, IfSome, Option, None, Some, ⊤, length, replicate, take}
 use Rattle.aegis_base.specs.Mac.{mac}
 use Rattle.aegis_base.specs.Variant.{Variant, key_length}
 use Rattle.aegis_storage.specs.Bytes.{part_at}
@@ -78,9 +78,15 @@ KnownSame (Some xs) new = new ≡ Some xs
 
 -- ---- what a journal is to a file
 
+-- the bytes begin as a journal does, with another front than this one, and have more than a front
+abbrev pub IsOfAnother : (front bytes : List ℕ) → Type 0
+IsOfAnother front bytes = (33 < length bytes) × (take 4 bytes ≡ JOURNAL_MAGIC) × (take 33 bytes ≢ front)
+
 -- The journal may be made again, or emptied: if it is whole, and the file has a header, its commit began or ended with
--- that one; and if it is not whole the file has a header.
+-- that one; and if it is not whole the file has a header, and it does not begin as the journal of another file.
 pub record Fits (variant : Variant) (key file journal : List ℕ) : Type 0 where
   pub whole : (writes : Writes) → IsJournal (journal_key variant key) [] writes journal
       → (HasNoHeader variant key file → ⊥) → IsOfCommit (head_of variant file) writes
   pub other : ((writes : Writes) → IsJournal (journal_key variant key) [] writes journal → ⊥) → HasNoHeader variant key file → ⊥
+  pub own : ((writes : Writes) → IsJournal (journal_key variant key) [] writes journal → ⊥) → (layout : Layout) (counter len : ℕ) → layout.variant ≡ variant → layout.key ≡ key
+      → IsHeader layout counter len file → IsOfAnother (journal_front layout) journal → ⊥
