@@ -7,7 +7,7 @@ use Rattle.aegis_storage.specs.Disk.{Disk, IsPossible, Writes, written}
 use Rattle.aegis_storage.specs.Journal.{GivesOneOf, HasFront, IsJournal, IsOneOf}
 use Rattle.aegis_storage.proofs.Disks.{readable}
 use Rattle.aegis_pages.specs.declared.header.FileHeader.{FileHeader}
-use Rattle.aegis_pages.specs.Commits.{HasHonestHeader, IsHonest, IsOfCommit, RecoversText, head_bytes, head_of, journal_key}
+use Rattle.aegis_pages.specs.Commits.{HasHonestHeader, IsHonest, IsOfAnother, IsOfCommit, RecoversText, head_bytes, head_of, journal_key}
 use Rattle.aegis_pages.specs.Errors.{HasNoHeader}
 use Rattle.aegis_pages.specs.Headers.{IsHeader}
 use Rattle.aegis_pages.specs.Layouts.{Layout, journal_front}
@@ -79,6 +79,10 @@ own_commit variant key before now storage journal batch a b it layout counter le
     cases (inl same) = subst (λ (l : List ℕ). IsOfCommit l batch.writes) (sym same) batch.old_head
     cases (inr same) = subst (λ (l : List ℕ). IsOfCommit l batch.writes) (sym same) batch.new_head
 
+own_front : (front bytes : List ℕ) → HasFront front bytes → IsOfAnother front bytes → ⊥
+own_front front bytes (inl short) another = let long = another.0 in omega (arith, short, long)
+own_front front bytes (inr same) another = another.1 same
+
 if_some_at : (P : List ℕ → Type 0) (xs : List ℕ) (o : Option (List ℕ)) → o ≡ Some xs → IfSome o P → P xs
 if_some_at P xs o is found = subst (λ (o : Option (List ℕ)). IfSome o P) is found
 
@@ -90,7 +94,7 @@ pub accepts_all : {W : Type 0} (of : W → Writes) (variant : Variant) (key k be
     → IfSome sector (λ s. IfSome a (λ file. (512 ≤ length file) × (s ≡ part_at file 0 512))) → IfNone sector (IfSome a (λ file. length file < 512))
     → IfSome writes (λ ws. IsJournal k [] (of ws) read) → IfNone writes ((ws : Writes) → IsJournal k [] ws read → ⊥)
     → IfNone header (IsSome writes → Accepted)
-    → IfSome header (λ h. IfNone writes (HasFront (journal_front (layout_of variant key h)) read → Accepted))
+    → IfSome header (λ h. IfNone writes ((IsOfAnother (journal_front (layout_of variant key h)) read → ⊥) → Accepted))
     → (IsSome header → IfSome writes (λ ws. IfSome sector (λ s. IsOfCommit (take (head_bytes variant) s) (of ws) → Accepted)))
     → IsPossible a storage → IsPossible b journal
     → (batch : RecoversText variant key before now storage journal) → IfSome b (IsHonest batch) → IfSome a (HasHonestHeader batch) → Accepted
@@ -114,7 +118,7 @@ accepts_all {W} of variant key k before now a b storage journal read sector head
         → IfSome sector (λ s. IfSome a (λ file. (512 ≤ length file) × (s ≡ part_at file 0 512))) → IfNone sector (IfSome a (λ file. length file < 512))
         → IfSome writes (λ ws. IsJournal k [] (of ws) read) → IfNone writes ((ws : Writes) → IsJournal k [] ws read → ⊥)
         → IfNone header (IsSome writes → Accepted)
-        → IfSome header (λ h. IfNone writes (HasFront (journal_front (layout_of variant key h)) read → Accepted))
+        → IfSome header (λ h. IfNone writes ((IsOfAnother (journal_front (layout_of variant key h)) read → ⊥) → Accepted))
         → (IsSome header → IfSome writes (λ ws. IfSome sector (λ s. IsOfCommit (take (head_bytes variant) s) (of ws) → Accepted)))
         → Accepted
     cases sector None None found none first short whole torn lost front own =
@@ -124,7 +128,7 @@ accepts_all {W} of variant key k before now a b storage journal read sector head
     cases sector (Some h) None found none first short whole torn lost front own =
         let header_is = if_some_at (IsHeader (layout_of variant key h) h.counter h.len) it.file a it.file_is found in
         let layout_is = same_layout variant key before now storage journal batch a b it count (not_whole torn) (layout_of variant key h) h.counter h.len refl refl header_is in
-        front (subst (λ (l : Layout). HasFront (journal_front l) read) layout_is (subst (HasFront (journal_front batch.layout)) (sym content) it.front))
+        front (own_front (journal_front (layout_of variant key h)) read (subst (λ (l : Layout). HasFront (journal_front l) read) layout_is (subst (HasFront (journal_front batch.layout)) (sym content) it.front)))
     cases None (Some h) (Some ws) found none first short whole torn lost front own =
         let header_is = if_some_at (IsHeader (layout_of variant key h) h.counter h.len) it.file a it.file_is found in
         let long = header_is.whole in

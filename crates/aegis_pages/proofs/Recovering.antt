@@ -9,7 +9,7 @@ use Rattle.aegis_storage.proofs.Disks.{readable_certain}
 use Rattle.aegis_storage.proofs.Fronts.{crashed_front, empty_front}
 use Rattle.aegis_storage.proofs.Journals.{crashed_recovers, empty_is_none, one_journal, rest_recovers}
 use Rattle.aegis_pages.specs.Changed.{Texts, text_at}
-use Rattle.aegis_pages.specs.Commits.{Fits, IsOfCommit, KnownSame, RecoversText, RestsAtText, head_bytes, head_of, journal_key}
+use Rattle.aegis_pages.specs.Commits.{Fits, IsOfCommit, KnownSame, IsOfAnother, RecoversText, RestsAtText, head_bytes, head_of, journal_key}
 use Rattle.aegis_pages.specs.Errors.{HasNoHeader}
 use Rattle.aegis_pages.specs.Headers.{IsHeader}
 use Rattle.aegis_pages.specs.History.{AreCommits, Step, last_of}
@@ -19,6 +19,7 @@ use Rattle.aegis_pages.specs.declared.header.FileHeader.{FileHeader}
 use Rattle.aegis_pages.specs.OpenFile.{Has, HasCommitted, HasIn, HasText, IsCommitted, IsStoredAs, OpenFile, OpensAtOne}
 use Rattle.aegis_pages.specs.SealedPages.{ArePages, Holds, HoldsUnder, IsSealed}
 use Rattle.aegis_pages.proofs.Commits.{first_again, head_read, take_own}
+use Rattle.aegis_pages.proofs.Heading.{one_in_file}
 use Rattle.aegis_pages.proofs.Standing.{holds_has, holds_sealed, sealed_has}
 
 -- ---- a commit
@@ -170,19 +171,24 @@ fits_whole variant key file journal sector writes is whole of_commit = record {
   whole = λ found found_is has. subst (IsOfCommit (head_of variant file)) (one_journal (journal_key variant key) [] writes found journal whole found_is)
       (subst (λ (l : List ℕ). IsOfCommit l writes) (head_read variant file sector is) of_commit);
   other = λ not none. not writes whole;
+  own = λ not. absurd (not writes whole);
 }
 
 pub fits_lost : (variant : Variant) (key file journal : List ℕ) (writes : Writes) → HasNoHeader variant key file → IsJournal (journal_key variant key) [] writes journal → Fits variant key file journal
 fits_lost variant key file journal writes none whole = record {
   whole = λ found found_is has. absurd (has none);
   other = λ not no_header. not writes whole;
+  own = λ not. absurd (not writes whole);
 }
 
-pub fits_torn : (variant : Variant) (key file journal : List ℕ) (header : FileHeader) → IsHeader (layout_of variant key header) header.counter header.len file
-    → ((writes : Writes) → IsJournal (journal_key variant key) [] writes journal → ⊥) → Fits variant key file journal
-fits_torn variant key file journal header is torn = record {
+pub fits_torn : (variant : Variant) (key file journal : List ℕ) (header : FileHeader) → IsLaneCount variant.lanes → IsHeader (layout_of variant key header) header.counter header.len file
+    → ((writes : Writes) → IsJournal (journal_key variant key) [] writes journal → ⊥) → (IsOfAnother (journal_front (layout_of variant key header)) journal → ⊥) → Fits variant key file journal
+fits_torn variant key file journal header count is torn own = record {
   whole = λ found found_is has. absurd (torn found found_is);
   other = λ not none. none (layout_of variant key header) header.counter header.len refl refl is;
+  own = λ not layout counter len v k other another.
+      let same = one_in_file (layout_of variant key header) layout header.counter counter header.len len file count v k is other in
+      own (subst (λ (l : Layout). IsOfAnother (journal_front l) journal) same.0 another);
 }
 
 -- what is known of both
@@ -237,20 +243,21 @@ recovers_as variant key k file writes storage journal is r = subst (λ (l : List
 
 -- what was checked of a journal before it was made again or emptied
 pub fits_all : {W : Type 0} (of : W → Writes) (variant : Variant) (key k : List ℕ) (a b : Option (List ℕ)) (read : List ℕ) (sector : Option (List ℕ)) (header : Option FileHeader) (writes : Option W)
-    → k ≡ journal_key variant key → IfSome b (λ js. read ≡ js)
+    → IsLaneCount variant.lanes → k ≡ journal_key variant key → IfSome b (λ js. read ≡ js)
     → IfSome header (λ h. IfSome a (IsHeader (layout_of variant key h) h.counter h.len)) → IfNone header (IfSome a (HasNoHeader variant key))
     → IfSome sector (λ s. IfSome a (λ file. (512 ≤ length file) × (s ≡ part_at file 0 512)))
     → IfSome writes (λ ws. IsJournal k [] (of ws) read) → IfNone writes ((ws : Writes) → IsJournal k [] ws read → ⊥)
     → (IsSome header → IfSome writes (λ ws. IsSome sector × IfSome sector (λ s. IsOfCommit (take (head_bytes variant) s) (of ws)))) → IfNone header (IsSome writes)
+    → IfSome header (λ h. IfNone writes (IsOfAnother (journal_front (layout_of variant key h)) read → ⊥))
     → IfSome a (λ file. IfSome b (Fits variant key file))
-fits_all of variant key k a b read sector None None is same found none first whole torn of_commit some = absurd (cc)
-fits_all of variant key k a b read sector None (Some ws) is same found none first whole torn of_commit some =
+fits_all of variant key k a b read sector None None count is same found none first whole torn of_commit some another = absurd (cc)
+fits_all of variant key k a b read sector None (Some ws) count is same found none first whole torn of_commit some another =
     fits_known variant key a b read (HasNoHeader variant key) none same
     (λ file no. fits_lost variant key file read (of ws) no (subst (λ (l : List ℕ). IsJournal l [] (of ws) read) is whole))
-fits_all of variant key k a b read sector (Some h) None is same found none first whole torn of_commit some =
+fits_all of variant key k a b read sector (Some h) None count is same found none first whole torn of_commit some another =
     fits_known variant key a b read (IsHeader (layout_of variant key h) h.counter h.len) found same
-    (λ file header. fits_torn variant key file read h header (λ ws journal. torn ws (subst (λ (l : List ℕ). IsJournal l [] ws read) (sym is) journal)))
-fits_all of variant key k a b read None (Some h) (Some ws) is same found none first whole torn of_commit some = let no = (of_commit refl).0 in absurd (cc)
-fits_all of variant key k a b read (Some s) (Some h) (Some ws) is same found none first whole torn of_commit some =
+    (λ file header. fits_torn variant key file read h count header (λ ws journal. torn ws (subst (λ (l : List ℕ). IsJournal l [] ws read) (sym is) journal)) another)
+fits_all of variant key k a b read None (Some h) (Some ws) count is same found none first whole torn of_commit some another = let no = (of_commit refl).0 in absurd (cc)
+fits_all of variant key k a b read (Some s) (Some h) (Some ws) count is same found none first whole torn of_commit some another =
     fits_known variant key a b read (λ file. (512 ≤ length file) × (s ≡ part_at file 0 512)) first same
     (λ file at. fits_whole variant key file read s (of ws) at.1 (subst (λ (l : List ℕ). IsJournal l [] (of ws) read) is whole) (of_commit refl).1)

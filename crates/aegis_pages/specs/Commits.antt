@@ -1,5 +1,5 @@
 -- Commits, before a crash and after it.
-use Rattle.std.specs.Prelude.{◌≡◌, ℕ, ◌+◌, ◌⊎◌, List, [], ◌∷◌, ◌++◌, IfSome, Option, None, Some, ⊤, length, replicate, take}
+use Rattle.std.specs.Prelude.{◌≡◌, ◌≢◌, ℕ, ◌+◌, ◌<◌, ◌⊎◌, List, [], ◌∷◌, ◌++◌, IfSome, Option, None, Some, ⊤, length, replicate, take}
 use Rattle.aegis_base.specs.Mac.{mac}
 use Rattle.aegis_base.specs.Variant.{Variant, key_length}
 use Rattle.aegis_storage.specs.Bytes.{part_at}
@@ -59,8 +59,8 @@ abbrev pub HasHonestHeader : {variant : Variant} {key before now : List ℕ} {st
 HasHonestHeader {variant} {key} batch bytes = (layout : Layout) (counter len : ℕ) → layout.variant ≡ variant → layout.key ≡ key → IsHeader layout counter len bytes
     → IsOneOf (head_of variant batch.file) (head_of variant (written batch.writes batch.file)) (head_of variant bytes)
 
--- What can be read of the storage and of the journal is what a commit left, whatever it returned and whatever a crash and
--- openings that were cut short did since, and no forgery.
+-- What can be read of the storage and of the journal is what a commit left, whatever it returned and whatever a crash
+-- and openings that were cut short did since, and no forgery.
 unfoldable pub IsLeftByCommit : Variant → (key : List ℕ) → (bytes content : Option (List ℕ)) → (storage journal : Option Disk) → Type 0
 IsLeftByCommit variant key bytes content storage journal =
     (before : List ℕ) × (now : List ℕ) × (batch : RecoversText variant key before now storage journal) × IfSome content (IsHonest batch) × IfSome bytes (HasHonestHeader batch)
@@ -78,9 +78,15 @@ KnownSame (Some xs) new = new ≡ Some xs
 
 -- ---- what a journal is to a file
 
+-- the bytes have more than a front, and do not begin with this one
+abbrev pub IsOfAnother : (front bytes : List ℕ) → Type 0
+IsOfAnother front bytes = (33 < length bytes) × (take 33 bytes ≢ front)
+
 -- The journal may be made again, or emptied: if it is whole, and the file has a header, its commit began or ended with
--- that one; and if it is not whole the file has a header.
+-- that one; and if it is not whole the file has a header, and it has no more than a front, or begins with that of the file.
 pub record Fits (variant : Variant) (key file journal : List ℕ) : Type 0 where
   pub whole : (writes : Writes) → IsJournal (journal_key variant key) [] writes journal
       → (HasNoHeader variant key file → ⊥) → IsOfCommit (head_of variant file) writes
   pub other : ((writes : Writes) → IsJournal (journal_key variant key) [] writes journal → ⊥) → HasNoHeader variant key file → ⊥
+  pub own : ((writes : Writes) → IsJournal (journal_key variant key) [] writes journal → ⊥) → (layout : Layout) (counter len : ℕ) → layout.variant ≡ variant → layout.key ≡ key
+      → IsHeader layout counter len file → IsOfAnother (journal_front layout) journal → ⊥

@@ -2,9 +2,8 @@
 
 ghost use Rattle.std.specs.Prelude.{◌≡◌, ◌≢◌, ◌+◌, ◌≤◌, ◌↔◌, [], Err, IfErr, IfNone, IfOk, IfSome, IsOk, IsSome, IsTrue, List, None, OnOk, Some, length, take, ℕ};
 ghost use Rattle.aegis_base.specs.Variant.{key_length};
-ghost use Rattle.aegis_storage.specs.Journal.{HasFront};
 ghost use Rattle.aegis_storage.specs.Pending.{writes_of};
-ghost use Rattle.aegis_pages.specs.Commits.{Fits, IsHonest, IsLeftByCommit, IsOfCommit, KnownSame, RecoversText, RestsAtText, head_bytes, journal_key};
+ghost use Rattle.aegis_pages.specs.Commits.{Fits, IsHonest, IsLeftByCommit, IsOfAnother, IsOfCommit, KnownSame, RecoversText, RestsAtText, head_bytes, journal_key};
 ghost use Rattle.aegis_pages.specs.Errors.{IsLeftAlone, IsOpenRefusal};
 ghost use Rattle.aegis_pages.specs.Headers.{IsHeader};
 ghost use Rattle.aegis_pages.specs.Layouts.{IsPageSize, journal_front};
@@ -58,7 +57,7 @@ pub fn is_of_commit<A: Allocator>(head: &[u8], writes: &[PendingWrite<A>]) -> bo
 /// Returns whether a journal has more than a front, and does not begin with that of this file: it is that of another
 /// one, or no journal. One that has no more is of use to nobody.
 pub fn is_of_another(front: &[u8; CLEAR_BYTES], journal: &[u8]) -> bool
-    ensures { IsTrue result → HasFront front.now journal.now → ⊥ }
+    ensures { IsTrue result ↔ IsOfAnother front.now journal.now }
 {
     if journal.len() <= CLEAR_BYTES {
         return false;
@@ -84,8 +83,10 @@ pub fn check_journal<L: LaneState, const KEY_BYTES: usize, A: Allocator + Copy>(
         (writes_of writes.items)))) }
     ensures whole { OnOk result (IfNone header (IsSome writes.now)) }
     ensures lost { IfNone header (IsSome writes.now → IsOk result) }
+    ensures another { OnOk result (IfSome header (λ header. IfNone writes.now
+        (IsOfAnother (journal_front (layout_of L.VARIANT key.now header)) journal.now → ⊥))) }
     ensures torn { IfSome header (λ header. IfNone writes.now
-        (HasFront (journal_front (layout_of L.VARIANT key.now header)) journal.now
+        ((IsOfAnother (journal_front (layout_of L.VARIANT key.now header)) journal.now → ⊥)
         → IsOk result)) }
     ensures own { IsSome header → IfSome writes.now (λ writes. IfSome sector (λ sector.
         IsOfCommit (take (head_bytes L.VARIANT) sector) (writes_of writes.items) → IsOk result)) }

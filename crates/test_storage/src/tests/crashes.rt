@@ -93,7 +93,7 @@ fn recovers_when_cut(
 
 // Whether a journal has no more than a front, or begins with the one of the tests.
 fn keeps_front(journal: &[u8]) -> bool {
-    journal.len() <= FRONT.len() || journal[..FRONT.len()] == FRONT[..]
+    journal.len() <= FRONT.len() || journal.starts_with(&FRONT)
 }
 
 // Whether the journal keeps its front and recovery gives what is wanted, however a crash leaves the pending changes of

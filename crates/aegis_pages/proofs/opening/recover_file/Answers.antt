@@ -45,10 +45,11 @@ returns-in-Some-clause-rests g c before now batch honest =
 
 pub returns-in-Some-clause-fits : goal.returns-in-Some-clause-fits
 returns-in-Some-clause-fits g c =
-    fits_all (λ w. writes_of w.items) g.L.LaneState.VARIANT c.args.key.now c.journal_key-journal_key.result (g.S.Storage.bytes c.args.storage.now) (g.J.Storage.bytes c.args.journal.now) c.deref.result.now
-    c.in_ok-sector.sector c.in_ok-header.header c.in-Ok-journaled_writes.writes c.journal_key-journal_key.ensures
-    (rw c.deref.ensures.value c.in-Ok.ensures) c.in_ok-header.ensures.found c.in_ok-header.ensures.none c.in_ok-sector.ensures.read
-    c.in-Ok-journaled_writes.ensures.some c.in-Ok-journaled_writes.ensures.none c.in_ok-check_journal.ensures.of_commit c.in_ok-check_journal.ensures.whole
+    fits_all (λ w. writes_of w.items) g.L.LaneState.VARIANT c.args.key.now c.journal_key-journal_key.result (g.S.Storage.bytes c.args.storage.now) (g.J.Storage.bytes c.args.journal.now)
+    c.in-Ok.content.items c.in_ok-sector.sector c.in_ok-header.header c.in-Ok-journaled_writes.writes g.met.L.LaneState.one_two_or_four c.journal_key-journal_key.ensures
+    c.in-Ok.ensures c.in_ok-header.ensures.found c.in_ok-header.ensures.none c.in_ok-sector.ensures.read
+    (rw c.deref.ensures.value at c.in-Ok-journaled_writes.ensures.some) (rw c.deref.ensures.value at c.in-Ok-journaled_writes.ensures.none) c.in_ok-check_journal.ensures.of_commit c.in_ok-check_journal.ensures.whole
+    (rw c.deref-2.ensures.value at c.in_ok-check_journal.ensures.another)
 
 pub returns-in_err-sector-clause-accepts : goal.returns-in_err-sector-clause-accepts
 returns-in_err-sector-clause-accepts g c _ =
