@@ -667,14 +667,6 @@ if "${CC:-gcc}" -shared -fPIC -O1 "$calls" -ldl -o calls.so 2> said; then
 fi
 
 echo 'standard files that are closed or full'
-mkfifo told
-cat told > told-text &
-found=0
-"$tool" open -k key - told < changed 2>&- || found=$?
-wait $!
-[ "$found" = 1 ] || fail "status $found, not 1, with no standard error"
-cmp told-text <(head -c 131072 text-before) || fail 'a message is in a pipe'
-rm told told-text
 for closed in '2> /dev/full' '2>&-'; do
     status 0 sh -c "'$tool' check -k key sealed $closed"
     status 0 sh -c "'$tool' seal --force -k open-key small small.told $closed"
