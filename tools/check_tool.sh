@@ -61,6 +61,13 @@ put() {
     printf "$3" | dd of="$1" bs=1 seek="$2" conv=notrunc status=none
 }
 
+# flip FILE BYTE: changes a bit of this byte of a file.
+flip() {
+    local byte
+    byte=$(od -An -tu1 -j "$2" -N 1 "$1")
+    put "$1" "$2" "$(printf '\\x%02x' $((byte ^ 1)))"
+}
+
 echo 'help and the version'
 status 0 "$tool" --version
 says "^hunkravy $version$"
@@ -147,8 +154,7 @@ status 1 "$tool" open -k key small text
 says 'small is not a sealed file'
 for at in 0 24 28 29 33 1000 65565 65601 200000; do
     cp sealed changed
-    printf '\xff' | dd of=changed bs=1 seek="$at" conv=notrunc status=none
-    cmp -s sealed changed && continue
+    flip changed "$at"
     refuses changed
 done
 cat sealed sealed > twice
@@ -156,11 +162,12 @@ refuses twice
 status 1 "$tool" open -k other sealed text
 says 'the key is not the one it was sealed under'
 cp sealed changed
-printf '\xff' | dd of=changed bs=1 seek=140000 conv=notrunc status=none
+flip changed 140000
 status 1 "$tool" open -k key changed text
 says 'damaged from record 2; the first 131072 bytes of the text are right'
 [ ! -e text ] || fail 'text of a damaged file is left'
-status 1 sh -c "'$tool' open -k key changed > /dev/null"
+status 1 sh -c "'$tool' open -k key changed > front"
+cmp front <(head -c 131072 text-before)
 tail -n 1 said | grep -q 'the output is incomplete: discard it' || fail "the last line is not that the output is incomplete: $(cat said)"
 
 echo 'parts of a text'
@@ -277,6 +284,87 @@ put shifted 29 '\x05'
 status 1 "$tool" open -k first-key --from 5 --length 3 shifted text
 [ ! -e text ] || fail 'a part was opened at another byte'
 
+echo 'each record damaged, in both versions'
+# part_or_none TEXT FROM LENGTH OPTIONS..: `hurt` gives this part of the text, or is refused.
+part_or_none() {
+    local text=$1 from=$2 length=$3
+    shift 3
+    rm -f out
+    found=0
+    "$tool" open -k "$hurt_key" "$@" hurt out > said 2>&1 || found=$?
+    case $found in
+        0) cmp out <(tail -c +$((from + 1)) "$text" | head -c "$length") || fail "another text: $*" ;;
+        1) [ ! -e out ] || fail "refused, and something is left: $*" ;;
+        *) fail "status $found: $*: $(cat said)" ;;
+    esac
+    no_parts
+}
+
+# is_refused TEXT BYTES..: `hurt` is refused, and each part of it is refused or the right one. TEXT is the text, and each record
+# begins at one of these bytes of it.
+is_refused() {
+    local text=$1 record=0 from
+    shift
+    rm -f out
+    for command in open check rekey; do
+        case $command in
+            open) status 1 "$tool" open -k "$hurt_key" hurt out ;;
+            check) status 1 "$tool" check -k "$hurt_key" hurt ;;
+            rekey) status 1 "$tool" rekey -k "$hurt_key" -n other hurt out ;;
+        esac
+        [ ! -e out ] || fail "$command of a damaged file left something"
+    done
+    found=0
+    "$tool" info hurt > said 2>&1 || found=$?
+    [ "$found" = 1 ] || { [ "$found" = 0 ] && says 'not verified'; }
+    for from in "$@"; do
+        part_or_none "$text" "$from" 2 --from "$from" --length 2
+        part_or_none "$text" $((from + 1)) 300000 --from $((from + 1))
+        part_or_none "$text" "$from" 300000 --records "$record..$#"
+        record=$((record + 1))
+    done
+}
+
+# hurt_each SOUND KEY TEXT RECORDS BYTES: damages each record of a sound file in turn. RECORDS are the bytes of the file at
+# which they begin, and BYTES those of the text.
+hurt_each() {
+    local sound=$1 text=$3 starts=($4) before=($5) length at kind
+    hurt_key=$2
+    length=$(stat -c %s "$sound")
+    starts+=("$length")
+    for ((at = 0; at < ${#before[@]}; at++)); do
+        local start=${starts[at]} end=${starts[at + 1]}
+        for kind in 0 1 2 3 4 5 $((end - start - 33)) $((end - start - 1)); do
+            cp "$sound" hurt
+            flip hurt $((start + kind))
+            is_refused "$text" "${before[@]}"
+        done
+        for kind in "$start" $((start + 3)) $((start + 5)) $((end - 1)); do
+            head -c "$kind" "$sound" > hurt
+            is_refused "$text" "${before[@]}"
+        done
+        # A record that is there twice, or not at all.
+        { head -c "$end" "$sound"; tail -c +$((start + 1)) "$sound"; } > hurt
+        is_refused "$text" "${before[@]}"
+        { head -c "$start" "$sound"; tail -c +$((end + 1)) "$sound"; } > hurt
+        is_refused "$text" "${before[@]}"
+    done
+    cp "$sound" hurt
+    hurt_key=other
+    is_refused "$text" "${before[@]}"
+    [ "$found" = 1 ] || fail 'a part was opened under another key'
+}
+printf 'oneand twothree' > first-text
+hurt_each first first-key first-text '28 68 112' '0 3 10'
+hurt_each sealed key text-before '28 65601 131174 196747 200176' '0 65536 131072 196608 200000'
+for version in 1 2; do
+    { head -c 24 /dev/zero; printf 'AGR%s\x01\x03\x00\x00\x00' $version; head -c 35 /dev/zero; } > hurt
+    hurt_key=key
+    is_refused first-text 0 3
+    [ "$found" = 1 ] || fail 'a file that was made with no key opens'
+done
+rm -f hurt out
+
 echo 'another key'
 status 0 "$tool" rekey -k key -n other sealed moved
 status 0 "$tool" open -k other moved text
@@ -345,7 +433,7 @@ no_parts far
 
 echo 'files of others'
 # A run removes, opens and replaces no file that it did not create, whatever its name.
-for name in backup.part backup.tmp backup~ .backup.part .backup.hunkravy-0123456789abcdef; do
+for name in backup.part backup.tmp backup~ .backup.part .backup.hunkravy-0123456789abcdef .backup.hunkravy-; do
     cp key "$name"
     status 0 "$tool" seal -k "$name" small backup
     cmp key "$name"
@@ -354,6 +442,18 @@ for name in backup.part backup.tmp backup~ .backup.part .backup.hunkravy-0123456
     status 1 "$tool" open -k key cut backup
     cmp sealed "$name"
     [ ! -e backup ] || fail 'a damaged file was opened'
+    # As the input, as the key and as OUT itself.
+    cp cut "$name"
+    status 1 "$tool" open -k key "$name" backup
+    cmp cut "$name"
+    status 3 "$tool" seal -k "$name" small backup
+    cmp cut "$name"
+    status 3 "$tool" seal -k key small "$name"
+    cmp cut "$name"
+    status 3 "$tool" rekey -k key -n "$name" sealed backup
+    cmp cut "$name"
+    [ ! -e backup ] || fail 'something is left'
+    cp sealed "$name"
     status 0 "$tool" seal -k key small backup
     status 0 "$tool" seal --force -k key small backup
     cmp sealed "$name"
@@ -432,80 +532,261 @@ if "${CC:-gcc}" -shared -fPIC -O1 "$calls" -ldl -o calls.so 2> said; then
     [ ! -s raced ] || fail 'a file was replaced where there are no links'
     no_parts
 
+    # A look at the name OUT that fails does not show that there is no such file.
+    rm raced
+    status 3 env LD_PRELOAD="$PWD/calls.so" LINK_FAILS=1 HIDES=1 RACES=raced "$tool" seal -k key small raced
+    says 'raced cannot be written'
+    [ -e raced ] && [ ! -s raced ] || fail 'a file was replaced that could not be looked at'
+    rm raced
+    no_parts
+
+    # run_at NUMBER COMMAND..: runs the command with its call of this number failing, or killed there, and sets `found` to its
+    # status. Its standard output goes to the file `printed`. It is false if there is no such call.
+    run_at() {
+        local number=$1
+        shift
+        rm -f noted
+        found=0
+        {
+            env LD_PRELOAD="$PWD/calls.so" CALLS="$PWD/noted" AT="$number" $how "$@" > printed 2> said || found=$?
+        } 2> killed
+        [ -e noted ] && grep -q '^here$' noted
+    }
+
     # at_each_call WHAT OLD NEW COMMAND..: runs the command, whose output is `out`, with each of its calls failing in turn, or
     # killed there. Before it `out` is a copy of OLD, or is not there; after it, it is as before, or complete: what NEW prints.
     at_each_call() {
-        local what=$1 old=$2 new=$3 number=0 found
+        local what=$1 old=$2 new=$3 number=1 complete
         shift 3
-        while number=$((number + 1)); do
-            rm -f noted out .out.hunkravy-*
-            [ "$old" = none ] || cp "$old" out
-            found=0
-            env LD_PRELOAD="$PWD/calls.so" CALLS="$PWD/noted" AT=$number $how "$@" > said 2>&1 || found=$?
-            grep -q '^here$' noted || break
+        while rm -f out .out.hunkravy-* && { [ "$old" = none ] || cp "$old" out; } && run_at $number "$@"; do
+            complete=0
             if [ -e out ] && { [ "$old" = none ] || ! cmp -s "$old" out; }; then
                 $new | cmp - text-before || fail "$what, call $number ($how): a part of the output is left"
+                complete=1
             elif [ "$old" != none ] && [ ! -e out ]; then
                 fail "$what, call $number ($how): the output of before is gone"
-            elif [ "$found" = 0 ]; then
-                fail "$what, call $number ($how): status 0, and no output"
             fi
-            if [ -z "$how" ] && [ "$found" != 0 ] && [ "$found" != 3 ]; then
-                fail "$what, call $number: status $found, not 3: $(cat said)"
+            if [ -n "$how" ]; then
+                [ "$found" = 137 ] || fail "$what, call $number: status $found of a run that was killed"
+                [ "$(find . -name '.out.hunkravy-*' | wc -l)" -le 1 ] || fail "$what, call $number: several parts"
+                [ -z "$(find . -name '.out.hunkravy-*' ! -perm 600)" ] || fail "$what, call $number: others can read the part"
+            else
+                no_parts
+                if [ "$found" = 0 ]; then
+                    [ "$complete" = 1 ] || fail "$what, call $number: status 0, and no output"
+                    grep -B 1 '^here$' noted | grep -q '^link$' || fail "$what, call $number failed, with status 0"
+                    says 'out is renamed to, and not linked'
+                else
+                    [ "$found" = 3 ] || fail "$what, call $number: status $found, not 3: $(cat said)"
+                    [ "$complete" = 0 ] || says 'out is complete, but'
+                fi
             fi
+            number=$((number + 1))
         done
-        [ "$found" = 0 ] && [ "$number" -gt 4 ] || fail "$what: $number calls were noted, and status $found at the end"
-        echo "    $what: $((number - 1)) calls ${how:-fail}"
+        [ "$found" = 0 ] && [ "$number" -gt 15 ] || fail "$what: $number calls were noted, and status $found at the end"
+        echo "    $what: $((number - 1)) calls"
     }
     opened() { "$tool" open -k key out -; }
     reopened() { "$tool" open -k other out -; }
     rm -f sealed && head -c 200000 /dev/urandom > text-before
     status 0 "$tool" seal -k key text-before sealed
     for how in '' KILLS=1; do
-        echo "each call ${how:-fails}"
+        if [ -z "$how" ]; then echo 'each call fails'; else echo 'killed at each call'; fi
         at_each_call seal none opened "$tool" seal -k key text-before out
         at_each_call 'seal --force' small opened "$tool" seal --force -k key text-before out
         at_each_call open none 'cat out' "$tool" open -k key sealed out
         at_each_call 'open --force' small 'cat out' "$tool" open --force -k key sealed out
+        at_each_call 'open --from' small 'cat out' "$tool" open --force -k key --from 0 sealed out
         at_each_call rekey none reopened "$tool" rekey -k key -n other sealed out
         [ "$(cat key)" = "$(cat key-before)" ] || fail 'the key was changed'
         cmp <("$tool" open -k key sealed -) text-before || fail 'the input was changed'
     done
-    rm -f out .out.hunkravy-* noted
+    rm -f out .out.hunkravy-*
+
+    echo 'each read fails on standard output'
+    how='' number=1
+    while run_at $number "$tool" seal -k key text-before; do
+        [ "$found" = 3 ] || fail "seal, call $number: status $found, not 3"
+        mv printed out
+        status 1 "$tool" check -k key out
+        number=$((number + 1))
+    done
+    [ "$number" -gt 8 ] || fail "seal: $number calls were noted"
+    number=1
+    while run_at $number "$tool" open -k key sealed; do
+        [ "$found" = 3 ] || fail "open, call $number: status $found, not 3"
+        cmp -n "$(stat -c %s printed)" printed text-before || fail "open, call $number: no front of the text"
+        [ ! -s printed ] || says 'the output is incomplete: discard it'
+        number=$((number + 1))
+    done
+    [ "$number" -gt 8 ] || fail "open: $number calls were noted"
+
+    echo 'reads and writes that take less than they are given'
+    short() { status 0 env LD_PRELOAD="$PWD/calls.so" SHORT=1 "$tool" "$@"; }
+    rm -f out text
+    short seal -k key text-before out
+    short open -k key out text
+    cmp text text-before
+    short rekey --force -k key -n other sealed out
+    short open --force -k other --from 65530 --length 70000 out text
+    cmp text <(part 65530 70000)
+    short keygen short-key
+    short seal -k short-key small small.short
+    status 0 "$tool" check -k short-key small.short
+    rm -f out text
+
+    echo 'each allocation fails'
+    number=1
+    while rm -f noted out && found=0 && { LD_PRELOAD=$PWD/calls.so CALLS=$PWD/noted NO_MEMORY=$number "$tool" open -k key sealed \
+        out > said 2>&1 || found=$?; } && grep -q '^here$' noted 2> /dev/null; do
+        if [ "$found" = 0 ]; then
+            cmp out text-before
+        else
+            [ "$found" = 3 ] || fail "allocation $number: status $found, not 3: $(cat said)"
+            says memory
+            [ ! -e out ] || fail "allocation $number: something is left"
+        fi
+        no_parts
+        number=$((number + 1))
+    done
+    [ "$number" -gt 50 ] || fail "$number allocations were noted"
+    rm -f out noted
+
+    echo 'no message in an output'
+    # If the caller has closed standard error, the next file that is opened could get its descriptor, and a message.
+    note_link() { env LD_PRELOAD="$PWD/calls.so" LINK_FAILS=1 "$tool" "$@"; }
+    for closed in '2>&-' '>&- 2>&-' '<sealed >&- 2>&-'; do
+        rm -f out
+        eval "note_link open -k key sealed out $closed" || fail "open $closed"
+        cmp out text-before || fail "a message is in the output: $closed"
+        rm -f out
+        eval "note_link open -k key - out <sealed $closed" || fail "open - $closed"
+        cmp out text-before || fail "a message is in the output: - $closed"
+    done
+    rm -f out
 fi
 
+echo 'standard files that are closed or full'
+for closed in '2> /dev/full' '2>&-'; do
+    status 0 sh -c "'$tool' check -k key sealed $closed"
+    status 0 sh -c "'$tool' seal --force -k open-key small small.told $closed"
+    status 1 sh -c "'$tool' check -k other sealed $closed"
+    status 2 sh -c "'$tool' frobnicate $closed"
+    status 2 sh -c "'$tool' open -k key --records 2..2 sealed $closed"
+    status 2 sh -c "'$tool' check -k key \$(printf 'x\377') $closed"
+    status 3 sh -c "'$tool' check -k nowhere sealed $closed"
+done
+for output in /dev/full '&-'; do
+    for command in '--help' '--version' 'help seal' 'manual man' 'manual bash' 'keygen' 'seal -k key small' 'open -k key sealed' \
+        'rekey -k key -n other sealed' 'check -k key sealed' 'info sealed' 'open -k key --from 3 sealed'; do
+        status 3 sh -c "'$tool' $command >$output"
+        says 'hunkravy: standard output cannot be written'
+    done
+done
+status 3 sh -c "'$tool' seal -k key - closed <&-"
+[ ! -e closed ] || fail 'standard input was closed, and something is left'
+no_parts
+
 echo 'folders that are read-only or renamed meanwhile'
-mkdir moved
+# meanwhile COMMAND: starts to seal `slow-text` to place/out, runs the command after the first piece, and sets `found` to the
+# status and `there` to the part's name.
 mkfifo slow-text
-"$tool" seal -k key slow-text moved/out > said 2>&1 &
-exec 9> slow-text
-head -c 70000 text-before >&9
-sleep 0.3
-mv moved elsewhere
-tail -c +70001 text-before >&9
-exec 9>&-
-found=0
-wait $! || found=$?
+meanwhile() {
+    ${sealing:-"$tool"} seal ${force:-} -k "${key:-key}" slow-text place/out > said 2>&1 &
+    exec 9> slow-text
+    head -c 70000 text-before >&9
+    for wait in $(seq 100); do
+        there=$(cd place && find . -name '.out.hunkravy-*')
+        [ -z "$there" ] || break
+        sleep 0.05
+    done
+    eval "$1"
+    tail -c +70001 text-before >&9
+    exec 9>&-
+    found=0
+    wait $! || found=$?
+}
+mkdir place
+meanwhile 'mv place elsewhere'
 [ "$found" = 3 ] || fail "status $found, not 3, of an output whose folder was renamed: $(cat said)"
-[ ! -e elsewhere/out ] && [ ! -e moved ] || fail 'an output was given a name in a folder that was renamed'
-rm -r elsewhere slow-text
-if [ "$(id -u)" = 0 ]; then
-    # Root may write anywhere, so the folder is one of another file system that is read-only.
+says 'was renamed or removed meanwhile'
+[ ! -e elsewhere/out ] && [ ! -e place ] || fail 'an output was given a name in a folder that was renamed'
+rm -r elsewhere
+# Another folder in its place, with a key of the part's name.
+mkdir place
+meanwhile 'mv place elsewhere && mkdir place && cp key "place/$there"'
+[ "$found" = 3 ] || fail "status $found, not 3, of an output whose folder was exchanged: $(cat said)"
+cmp key "place/$there"
+[ ! -e place/out ] && [ ! -e elsewhere/out ] || fail 'an output was given a name in a folder that was exchanged'
+rm -r place elsewhere
+# Another file in the part's place.
+for force in '' --force; do
+    mkdir place
+    meanwhile 'mv "place/$there" place/aside && cp key "place/$there"'
+    [ "$found" = 3 ] || fail "status $found, not 3, of a part that was exchanged: $(cat said)"
+    cmp key "place/$there"
+    [ ! -e place/out ] || fail 'a file of another program was given the name OUT'
+    rm -r place
+done
+force=
+# A folder, and a file, in the place of OUT.
+mkdir place
+force=--force meanwhile 'mkdir place/out'
+[ "$found" = 3 ] || fail "status $found, not 3, of an output that became a folder: $(cat said)"
+[ -d place/out ] || fail 'a folder was replaced'
+no_parts place
+rmdir place/out
+for created in 'ln -s nowhere place/out' 'mkfifo place/out'; do
+    meanwhile "$created"
+    [ "$found" = 3 ] || fail "status $found, not 3, after $created: $(cat said)"
+    says 'exists'
+    [ -L place/out ] || [ -p place/out ] || fail "replaced: $created"
+    no_parts place
+    rm place/out
+done
+# A folder that cannot be written, or cannot be written any more. Root may write anywhere, so the run is another user's.
+as='' user=$(id -u)
+if [ "$user" = 0 ]; then
     status 3 "$tool" seal -k key small /proc/sys/out
-else
-    mkdir fixed && chmod 555 fixed
-    status 3 "$tool" seal -k key small fixed/out
-    chmod 755 fixed && rmdir fixed
+    user=65534
+    as="setpriv --reuid=$user --regid=$user --clear-groups"
 fi
+if $as true 2> said; then
+    cp "$tool" users-tool
+    cp key users-key
+    chmod 711 .
+    [ -z "$as" ] || chown "$user" place users-key
+    chmod 555 place
+    status 3 $as ./users-tool keygen place/out
+    chmod 755 place
+    status 0 $as ./users-tool keygen place/out
+    rm place/out
+    for force in '' --force; do
+        sealing="$as ./users-tool" key=users-key meanwhile 'chmod 555 place'
+        [ "$found" = 3 ] || fail "status $found, not 3, of a folder that became read-only: $(cat said)"
+        says 'out cannot be written'
+        [ ! -e place/out ] || fail 'an output is in a folder that is read-only'
+        chmod 755 place
+        rm "place/$there"
+    done
+    force=
+else
+    echo 'left out: folders that are read-only, since there is no setpriv, or no other user'
+fi
+rm -r place slow-text
 status 3 "$tool" seal -k key small .
-for name in $'line\nfeed' $'\ttab' '-' '--force' ' ' '*'; do
+for name in $'line\nfeed' $'\ttab' '-' '--force' ' ' '*' $'\033[2J' $'\u009b2J' $'\r'; do
     status 0 "$tool" seal -k key small "./$name"
     status 0 "$tool" check -k key "./$name"
+    status 3 "$tool" seal -k key small "./$name"
+    [ "$(wc -l < said)" = 1 ] || fail "a name with a line feed: $(cat said)"
+    ! LC_ALL=C grep -q "$(printf '[\033\302\015\011]')" said || fail "a name was printed as it is: $(od -c said)"
     rm "./$name"
 done
 name=$(printf 'n%.0s' $(seq 255))
 status 0 "$tool" seal -k key small "$name"
 status 0 "$tool" check -k key "$name"
+status 0 "$tool" seal --force -k key small "$name"
 rm "$name"
 status 3 "$tool" seal -k key small "${name}n"
 no_parts

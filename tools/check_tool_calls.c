@@ -3,7 +3,10 @@
 //   CALLS=FILE      appends the name of each call to the file
 //   LINK_FAILS=1    link fails, as on a file system that has no links
 //   RACES=FILE      creates the file just before that
-//   AT=N            the Nth of all calls that write, name, remove or sync fails, as on a full disk, and CALLS ends with "here"
+//   HIDES=1         the first look at a name after a link that failed fails, as on a file system with a fault
+//   SHORT=1         reads and writes take no more than half of what they are given
+//   NO_MEMORY=N     the Nth allocation fails, and CALLS ends with "here"
+//   AT=N            the Nth of all calls that open, read, write, name, remove or sync fails, and CALLS ends with "here"
 //   KILLS=1         kills the program at that call in place of that
 
 #define _GNU_SOURCE
@@ -11,6 +14,7 @@
 #include <errno.h>
 #include <fcntl.h>
 #include <signal.h>
+#include <stdarg.h>
 #include <stdio.h>
 #include <stdlib.h>
 #include <string.h>
@@ -23,7 +27,7 @@ static void note(const char *call)
     const char *file = getenv("CALLS");
     if (!file)
         return;
-    int out = open(file, O_WRONLY | O_CREAT | O_APPEND, 0600);
+    int out = (int)syscall(SYS_openat, AT_FDCWD, file, O_WRONLY | O_CREAT | O_APPEND, 0600);
     if (out < 0)
         return;
     char line[32];
@@ -33,8 +37,8 @@ static void note(const char *call)
     close(out);
 }
 
-// Returns whether a call is the one that has to fail.
-static int fails(void)
+// Returns whether a call is the one that has to fail, with this error.
+static int fails(int error)
 {
     static int count;
     const char *at = getenv("AT");
@@ -43,46 +47,121 @@ static int fails(void)
     note("here");
     if (getenv("KILLS"))
         kill(getpid(), SIGKILL);
-    errno = ENOSPC;
+    errno = error;
     return 1;
+}
+
+extern void *__libc_malloc(size_t size);
+extern void *__libc_realloc(void *old, size_t size);
+
+// Returns whether memory has run out.
+static int no_memory(void)
+{
+    static int count;
+    const char *at = getenv("NO_MEMORY");
+    if (!at || ++count != atoi(at))
+        return 0;
+    note("here");
+    errno = ENOMEM;
+    return 1;
+}
+
+void *malloc(size_t size)
+{
+    return no_memory() ? NULL : __libc_malloc(size);
+}
+
+void *realloc(void *old, size_t size)
+{
+    return no_memory() ? NULL : __libc_realloc(old, size);
+}
+
+// Returns how many of so many bytes a read or a write takes.
+static size_t taken(size_t count)
+{
+    return getenv("SHORT") && count > 1 ? count / 2 : count;
 }
 
 // Messages, on the first three files, do not count.
 ssize_t write(int file, const void *bytes, size_t count)
 {
-    if (file > 2 && fails())
+    if (file > 2 && fails(ENOSPC))
         return -1;
-    return syscall(SYS_write, file, bytes, count);
+    return syscall(SYS_write, file, bytes, taken(count));
 }
+
+ssize_t read(int file, void *bytes, size_t count)
+{
+    return fails(EIO) ? -1 : syscall(SYS_read, file, bytes, taken(count));
+}
+
+int open(const char *name, int flags, ...)
+{
+    va_list rest;
+    va_start(rest, flags);
+    unsigned mode = flags & O_CREAT ? va_arg(rest, unsigned) : 0;
+    va_end(rest);
+    return fails(EMFILE) ? -1 : (int)syscall(SYS_openat, AT_FDCWD, name, flags, mode);
+}
+
+// The program calls it for a descriptor of an open file alone.
+int fcntl(int file, int command, ...)
+{
+    va_list rest;
+    va_start(rest, command);
+    long argument = va_arg(rest, long);
+    va_end(rest);
+    return fails(EMFILE) ? -1 : (int)syscall(SYS_fcntl, file, command, argument);
+}
+
+int getentropy(void *bytes, size_t count)
+{
+    if (fails(ENOSYS))
+        return -1;
+    return syscall(SYS_getrandom, bytes, count, 0) == (long)count ? 0 : -1;
+}
+
+static int link_failed;
 
 int link(const char *from, const char *to)
 {
     int (*next)(const char *, const char *) = dlsym(RTLD_NEXT, "link");
     const char *raced = getenv("RACES");
     note("link");
-    if (fails())
+    if (fails(ENOSPC))
         return -1;
     if (raced)
         close(open(raced, O_WRONLY | O_CREAT | O_EXCL, 0600));
     if (getenv("LINK_FAILS")) {
+        link_failed = 1;
         errno = EPERM;
         return -1;
     }
     return next(from, to);
 }
 
+int statx(int folder, const char *name, int flags, unsigned mask, struct statx *found)
+{
+    if (link_failed && getenv("HIDES")) {
+        link_failed = 0;
+        errno = EIO;
+        return -1;
+    }
+    return (int)syscall(SYS_statx, folder, name, flags, mask, found);
+}
+
 int rename(const char *from, const char *to)
 {
     int (*next)(const char *, const char *) = dlsym(RTLD_NEXT, "rename");
     note("rename");
-    return fails() ? -1 : next(from, to);
+    return fails(ENOSPC) ? -1 : next(from, to);
 }
 
 int unlink(const char *name)
 {
     int (*next)(const char *) = dlsym(RTLD_NEXT, "unlink");
     note("unlink");
-    return fails() ? -1 : next(name);
+    return fails(ENOSPC) ? -1 : next(name);
 }
 
 int fsync(int file)
@@ -90,5 +169,5 @@ int fsync(int file)
     int (*next)(int) = dlsym(RTLD_NEXT, "fsync");
     struct stat found;
     note(fstat(file, &found) == 0 && S_ISDIR(found.st_mode) ? "fsync-folder" : "fsync-file");
-    return fails() ? -1 : next(file);
+    return fails(ENOSPC) ? -1 : next(file);
 }

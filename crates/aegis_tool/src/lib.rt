@@ -15,7 +15,7 @@ mod transfer;
 mod version;
 
 use command::{Action, command, parse};
-use failure::{FAILED, Failure, MISUSED, Stopped};
+use failure::{FAILED, Failure, MISUSED, Stopped, printed};
 use manual::notes;
 use shown::Lines;
 use std::io::ErrorKind;
@@ -35,49 +35,67 @@ fn act<'a>(rt: &HostRuntime, action: Option<Action<'a>>) -> Result<(), Stopped<'
     }
 }
 
-// Carries out the command line, and returns the exit status.
+// Says what failed, if anything did, and returns the exit status. It is the same if standard error cannot be written.
+fn end(rt: &HostRuntime, ended: Result<(), Stopped<'_>>) -> u8 {
+    let Err(stopped) = ended else {
+        return 0;
+    };
+    let _ = eprintln!(rt; "hunkravy: {}", stopped.failure);
+    if stopped.incomplete {
+        let _ = eprintln!(rt; "hunkravy: the output is incomplete: discard it");
+    }
+    stopped.failure.status()
+}
+
+// Prints help or the version, or the error of a command line that is not understood, and returns the exit status.
+fn answer(rt: &HostRuntime, error: &clap::Error) -> anyhow::Result<u8> {
+    if !error.use_stderr() {
+        return Ok(match printed(error.print(rt)) {
+            Ok(()) => 0,
+            Err(failure) => end(rt, Err(Stopped::from(failure))),
+        });
+    }
+    if matches!(error.kind(), clap::error::ErrorKind::OutOfMemory) {
+        return Ok(end(rt, Err(Stopped::from(Failure::OutOfMemory))));
+    }
+    let message = format!(in rt.alloc(); "{error}")?;
+    let _ = eprint!(rt; "{}", Lines(message.as_str()));
+    Ok(MISUSED)
+}
+
+// Carries out the command line, and returns the exit status. It is an error if memory runs out.
 fn carry_out(rt: &HostRuntime, words: &[String]) -> anyhow::Result<u8> {
     let version = version::text(rt)?;
     let notes = notes(rt.alloc())?;
-    let matches = match command(rt.alloc(), version.as_str(), notes.as_str())?.try_get_matches_from(
-        words,
-    ) {
-        Ok(matches) => matches,
-        Err(error) => {
-            if !error.use_stderr() {
-                error.print(rt)?;
-                return Ok(0);
-            }
-            let message = format!(in rt.alloc(); "{error}")?;
-            eprint!(rt; "{}", Lines(message.as_str()))?;
-            return Ok(MISUSED);
-        }
-    };
-    match act(rt, parse(&matches)) {
-        Ok(()) => Ok(0),
-        Err(stopped) => {
-            eprintln!(rt; "hunkravy: {}", stopped.failure)?;
-            if stopped.incomplete {
-                eprintln!(rt; "hunkravy: the output is incomplete: discard it")?;
-            }
-            Ok(stopped.failure.status())
-        }
+    let commands = command(rt.alloc(), version.as_str(), notes.as_str())?;
+    match commands.try_get_matches_from(words) {
+        Ok(matches) => Ok(end(rt, act(rt, parse(&matches)))),
+        Err(error) => answer(rt, &error),
     }
 }
 
-/// Carries out the command line that the program was called with, and returns the exit status.
-pub fn run(rt: &HostRuntime) -> anyhow::Result<u8> {
+// Reads the command line and carries it out.
+fn carry_out_words(rt: &HostRuntime) -> anyhow::Result<u8> {
     let words: Vec<String> = match std::env::args(rt) {
         Ok(words) => words.collect(rt.alloc())?,
-        Err(error) => {
-            eprintln!(rt;
+        Err(error) if error.kind() == ErrorKind::InvalidData => {
+            let _ = eprintln!(rt;
                 "hunkravy: the command line is not UTF-8: give such a file another name"
-            )?;
-            return Ok(match error.kind() {
-                ErrorKind::InvalidData => MISUSED,
-                _ => FAILED,
-            });
+            );
+            return Ok(MISUSED);
         }
+        Err(error) => return Err(anyhow::Error::from(error)),
     };
     carry_out(rt, words.as_slice())
+}
+
+/// Carries out the command line that the program was called with, and returns the exit status.
+pub fn run(rt: &HostRuntime) -> u8 {
+    match carry_out_words(rt) {
+        Ok(status) => status,
+        Err(error) => {
+            let _ = eprintln!(rt; "hunkravy: {error}");
+            FAILED
+        }
+    }
 }

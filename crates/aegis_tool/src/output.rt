@@ -5,6 +5,9 @@
 //! replace one it is renamed. Then the folder is synced. So OUT is the complete file, or as it was before, and no file
 //! that another created is opened, removed or replaced, but OUT by `--force`. If OUT is a link, all this happens beside
 //! the file that it leads to. A device, a pipe or a socket is written directly.
+//!
+//! No output has one of the three standard descriptors, which are free if the caller has closed them: a message would be
+//! written into it. `try_clone` takes the lowest descriptor after those.
 
 use crate::command::Place;
 use crate::failure::Failure;
@@ -123,10 +126,11 @@ fn followed<'a>(rt: &HostRuntime, name: &'a str) -> Result<String, Failure<'a>> 
 // Opens a device, a pipe or a socket. It is an error if a file has taken its place.
 fn open_stream<'a>(rt: &HostRuntime, name: &'a str, target: &str) -> Result<File, Failure<'a>> {
     let failed = |error| Failure::Output(Name(name), error);
-    let file = OpenOptions::new()
+    let opened = OpenOptions::new()
         .write(true)
         .open(rt, target)
         .map_err(failed)?;
+    let file = opened.try_clone().map_err(failed)?;
     if file.metadata().map_err(failed)?.is_file() {
         return Err(Failure::Exists(Name(name)));
     }
@@ -215,16 +219,26 @@ impl<'a> Part<'a> {
             .create_new(true)
             .mode(OWNER_ONLY)
             .open(rt, name.as_str());
-        match created {
-            Ok(file) => Ok(Part {
+        let mut part = match created {
+            Ok(file) => Part {
                 file,
                 name,
                 target,
                 output,
                 replace,
                 quiet,
-            }),
-            Err(error) => Err(Failure::Output(output, error)),
+            },
+            Err(error) => return Err(Failure::Output(output, error)),
+        };
+        match part.file.try_clone() {
+            Ok(file) => {
+                part.file = file;
+                Ok(part)
+            }
+            Err(error) => {
+                part.remove(rt);
+                Err(Failure::Output(output, error))
+            }
         }
     }
 
@@ -239,6 +253,13 @@ impl<'a> Part<'a> {
         }
     }
 
+    // Removes the file, if it still has the name that it was created under.
+    fn remove(&self, rt: &HostRuntime) {
+        if self.is_there(rt) {
+            let _ = fs::remove_file(rt, self.name.as_str());
+        }
+    }
+
     fn failed(&self, error: io::Error) -> Failure<'a> {
         match error.kind() {
             ErrorKind::AlreadyExists => Failure::Exists(self.output),
@@ -247,18 +268,35 @@ impl<'a> Part<'a> {
     }
 
     // Gives the file the name of the output too, if no file has it.
-    fn link(&self, rt: &HostRuntime) -> io::Result<()> {
+    fn link(&self, rt: &HostRuntime) -> Result<(), Failure<'a>> {
         let (name, target) = (self.name.as_str(), self.target.as_str());
         match fs::hard_link(rt, name, target) {
-            Ok(()) => fs::remove_file(rt, name),
-            Err(error) if error.kind() == ErrorKind::AlreadyExists => Err(error),
+            Ok(()) => match fs::remove_file(rt, name) {
+                Ok(()) => Ok(()),
+                Err(error) => Err(Failure::SecondName(self.output, error)),
+            },
+            Err(error) if error.kind() == ErrorKind::AlreadyExists => Err(self.failed(error)),
             Err(error) => {
                 self.say_renamed(rt, &error);
-                if fs::symlink_metadata(rt, target).is_ok() {
-                    return Err(io::Error::from(ErrorKind::AlreadyExists));
-                }
-                fs::rename(rt, name, target)
+                self.rename_unless_there(rt)
             }
+        }
+    }
+
+    // Renames the file to the output, if no file of that name is found.
+    fn rename_unless_there(&self, rt: &HostRuntime) -> Result<(), Failure<'a>> {
+        match fs::symlink_metadata(rt, self.target.as_str()) {
+            Ok(_) => Err(Failure::Exists(self.output)),
+            Err(error) if error.kind() == ErrorKind::NotFound => self.rename(rt),
+            Err(error) => Err(self.failed(error)),
+        }
+    }
+
+    // Renames the file to the output, and replaces a file of that name.
+    fn rename(&self, rt: &HostRuntime) -> Result<(), Failure<'a>> {
+        match fs::rename(rt, self.name.as_str(), self.target.as_str()) {
+            Ok(()) => Ok(()),
+            Err(error) => Err(self.failed(error)),
         }
     }
 
@@ -273,13 +311,15 @@ impl<'a> Part<'a> {
     }
 
     // Syncs the file, and gives it the name of the output.
-    fn place(&self, rt: &HostRuntime) -> io::Result<()> {
-        self.file.sync_all()?;
+    fn place(&self, rt: &HostRuntime) -> Result<(), Failure<'a>> {
+        if let Err(error) = self.file.sync_all() {
+            return Err(self.failed(error));
+        }
         if !self.is_there(rt) {
-            return Err(io::Error::from(ErrorKind::NotFound));
+            return Err(Failure::Moved(self.output));
         }
         if self.replace {
-            fs::rename(rt, self.name.as_str(), self.target.as_str())
+            self.rename(rt)
         } else {
             self.link(rt)
         }
@@ -292,7 +332,7 @@ impl<'a> Part<'a> {
         written: Result<(), Failure<'a>>,
     ) -> Result<(), Failure<'a>> {
         let placed = match written {
-            Ok(()) => self.place(rt).map_err(|error| self.failed(error)),
+            Ok(()) => self.place(rt),
             Err(failure) => Err(failure),
         };
         match placed {
@@ -301,9 +341,7 @@ impl<'a> Part<'a> {
                 Err(error) => Err(Failure::Unsynced(self.output, error)),
             },
             Err(failure) => {
-                if self.is_there(rt) {
-                    let _ = fs::remove_file(rt, self.name.as_str());
-                }
+                self.remove(rt);
                 Err(failure)
             }
         }

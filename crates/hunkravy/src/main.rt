@@ -6,6 +6,6 @@
 
 use std::process::ExitCode;
 
-fn main(rt: HostRuntime) -> anyhow::Result<ExitCode> {
-    Ok(ExitCode::from(aegis_tool::run(&rt)?))
+fn main(rt: HostRuntime) -> ExitCode {
+    ExitCode::from(aegis_tool::run(&rt))
 }
