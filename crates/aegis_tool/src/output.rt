@@ -6,8 +6,8 @@
 //! that another created is opened, removed or replaced, but OUT by `--force`. If OUT is a link, all this happens beside
 //! the file that it leads to. A device, a pipe or a socket is written directly.
 //!
-//! No output has one of the three standard descriptors, which are free if the caller has closed them: a message would be
-//! written into it. `try_clone` takes the lowest descriptor after those.
+//! No output has one of the three standard descriptors, which are free if the caller has closed them: a message would
+//! be written into it. `try_clone` takes the lowest descriptor after those.
 
 use crate::command::Place;
 use crate::failure::Failure;
