@@ -300,8 +300,8 @@ part_or_none() {
     no_parts
 }
 
-# is_refused TEXT BYTES..: `hurt` is refused, and each part of it is refused or the right one. TEXT is the text, and each record
-# begins at one of these bytes of it.
+# is_refused TEXT BYTES..: `hurt` is refused, and each part of it is refused or the right one. TEXT is the text, and
+# each record begins at one of these bytes of it.
 is_refused() {
     local text=$1 record=0 from
     shift
@@ -325,8 +325,8 @@ is_refused() {
     done
 }
 
-# hurt_each SOUND KEY TEXT RECORDS BYTES: damages each record of a sound file in turn. RECORDS are the bytes of the file at
-# which they begin, and BYTES those of the text.
+# hurt_each SOUND KEY TEXT RECORDS BYTES: damages each record of a sound file in turn. RECORDS are the bytes of the file
+# at which they begin, and BYTES those of the text.
 hurt_each() {
     local sound=$1 text=$3 starts=($4) before=($5) length at kind
     hurt_key=$2
@@ -419,9 +419,23 @@ ln -s nowhere dangling
 status 3 "$tool" seal --force -k key small dangling
 says 'a link to a file that does not exist'
 [ -L dangling ] || fail 'a dangling link was replaced'
-status 3 "$tool" seal --force -k key small /dev/full
-[ -c /dev/full ] || fail '/dev/full was replaced'
-status 0 "$tool" seal -k key small /dev/null
+# A fault of the tool must not reach the system's own devices, so root makes others. Who is not root cannot replace any.
+full=/dev/full empty=/dev/null
+if [ "$(id -u)" = 0 ]; then
+    full=$PWD/far/full empty=$PWD/far/null
+    { mknod "$full" c 1 7 && mknod "$empty" c 1 3 && true > "$empty"; } 2> said || full=
+fi
+if [ -n "$full" ]; then
+    status 3 "$tool" seal --force -k key small "$full"
+    says 'o space left'
+    [ -c "$full" ] || fail "$full was replaced"
+    status 0 "$tool" seal -k key small "$empty"
+    status 0 "$tool" seal --force -k key small "$empty"
+    [ -c "$empty" ] || fail "$empty was replaced"
+    no_parts far
+else
+    echo 'left out: devices as outputs, since root can make none here'
+fi
 mkfifo pipe
 cat pipe > piped &
 status 0 "$tool" seal --force -k key small pipe
@@ -540,8 +554,8 @@ if "${CC:-gcc}" -shared -fPIC -O1 "$calls" -ldl -o calls.so 2> said; then
     rm raced
     no_parts
 
-    # run_at NUMBER COMMAND..: runs the command with its call of this number failing, or killed there, and sets `found` to its
-    # status. Its standard output goes to the file `printed`. It is false if there is no such call.
+    # run_at NUMBER COMMAND..: runs the command with its call of this number failing, or killed there, and sets `found`
+    # to its status. Its standard output goes to the file `printed`. It is false if there is no such call.
     run_at() {
         local number=$1
         shift
@@ -569,7 +583,7 @@ if "${CC:-gcc}" -shared -fPIC -O1 "$calls" -ldl -o calls.so 2> said; then
             if [ -n "$how" ]; then
                 [ "$found" = 137 ] || fail "$what, call $number: status $found of a run that was killed"
                 [ "$(find . -name '.out.hunkravy-*' | wc -l)" -le 1 ] || fail "$what, call $number: several parts"
-                [ -z "$(find . -name '.out.hunkravy-*' ! -perm 600)" ] || fail "$what, call $number: others can read the part"
+                [ -z "$(find . -name '.out.hunkravy-*' ! -perm 600)" ] || fail "$what, call $number: mode of the part"
             else
                 no_parts
                 if [ "$found" = 0 ]; then
@@ -636,9 +650,16 @@ if "${CC:-gcc}" -shared -fPIC -O1 "$calls" -ldl -o calls.so 2> said; then
     rm -f out text
 
     echo 'each allocation fails'
+    # short_of_memory NUMBER: opens a file with this allocation failing, if there is such a one.
+    short_of_memory() {
+        rm -f noted out
+        found=0
+        env LD_PRELOAD="$PWD/calls.so" CALLS="$PWD/noted" NO_MEMORY="$1" "$tool" open -k key sealed out > said 2>&1 ||
+            found=$?
+        [ -e noted ] && grep -q '^here$' noted
+    }
     number=1
-    while rm -f noted out && found=0 && { LD_PRELOAD=$PWD/calls.so CALLS=$PWD/noted NO_MEMORY=$number "$tool" open -k key sealed \
-        out > said 2>&1 || found=$?; } && grep -q '^here$' noted 2> /dev/null; do
+    while short_of_memory $number; do
         if [ "$found" = 0 ]; then
             cmp out text-before
         else
@@ -677,8 +698,9 @@ for closed in '2> /dev/full' '2>&-'; do
     status 3 sh -c "'$tool' check -k nowhere sealed $closed"
 done
 for output in /dev/full '&-'; do
-    for command in '--help' '--version' 'help seal' 'manual man' 'manual bash' 'keygen' 'seal -k key small' 'open -k key sealed' \
-        'rekey -k key -n other sealed' 'check -k key sealed' 'info sealed' 'open -k key --from 3 sealed'; do
+    for command in '--help' '--version' 'help seal' 'manual man' 'manual bash' 'keygen' 'seal -k key small' \
+        'open -k key sealed' 'open -k key --from 3 sealed' 'rekey -k key -n other sealed' 'check -k key sealed' \
+        'info sealed'; do
         status 3 sh -c "'$tool' $command >$output"
         says 'hunkravy: standard output cannot be written'
     done
@@ -688,8 +710,8 @@ status 3 sh -c "'$tool' seal -k key - closed <&-"
 no_parts
 
 echo 'folders that are read-only or renamed meanwhile'
-# meanwhile COMMAND: starts to seal `slow-text` to place/out, runs the command after the first piece, and sets `found` to the
-# status and `there` to the part's name.
+# meanwhile COMMAND: starts to seal `slow-text` to place/out, runs the command after the first piece, and sets `found`
+# to the status and `there` to the part's name.
 mkfifo slow-text
 meanwhile() {
     ${sealing:-"$tool"} seal ${force:-} -k "${key:-key}" slow-text place/out > said 2>&1 &
