@@ -440,6 +440,11 @@ if [ -n "$full" ]; then
     status 0 "$tool" seal -k key small "$empty"
     status 0 "$tool" seal --force -k key small "$empty"
     [ -c "$empty" ] || fail "$empty was replaced"
+    # A block device of a number that no driver has.
+    if mknod far/block b 240 77 2> said; then
+        status 3 "$tool" seal --force -k key small far/block
+        [ -b far/block ] || fail 'a block device was replaced'
+    fi
     no_parts far
 else
     echo 'left out: devices as outputs, since root can make none here'
