@@ -89,7 +89,7 @@ status 2 "$tool" manual nothing
 echo 'keys'
 status 0 "$tool" keygen key
 [ "$(stat -c %a key)" = 600 ] || fail 'others can read the key'
-[ "$(wc -c < key)" = 65 ] || fail 'the key file is not 64 digits and a line feed'
+[ "$(wc -c < key)" = 65 ] && [[ $(cat key) =~ ^[0-9a-f]{64}$ ]] || fail 'the key file is not 64 digits and a line feed'
 cp key key-before
 status 3 "$tool" keygen key
 cmp key key-before
@@ -137,6 +137,10 @@ for length in 0 1 65535 65536 65537 200000; do
     "$tool" seal -k key - - < text-before | "$tool" open -k key > text
     cmp text-before text
 done
+# Each file has a prefix of its own.
+status 0 "$tool" seal --force -k key text-before sealed
+status 0 "$tool" seal --force -k key text-before text
+! cmp -s -n 24 sealed text || fail 'two files have the same prefix'
 
 echo 'faults'
 rm -f text sealed
@@ -161,6 +165,10 @@ cat sealed sealed > twice
 refuses twice
 status 1 "$tool" open -k other sealed text
 says 'the key is not the one it was sealed under'
+cp sealed changed
+flip changed 40
+status 1 "$tool" open -k key changed text
+says 'the key is not the one it was sealed under, or the file is damaged from its first record'
 cp sealed changed
 flip changed 140000
 status 1 "$tool" open -k key changed text
@@ -432,6 +440,11 @@ if [ -n "$full" ]; then
     status 0 "$tool" seal -k key small "$empty"
     status 0 "$tool" seal --force -k key small "$empty"
     [ -c "$empty" ] || fail "$empty was replaced"
+    # A block device of a number that no driver has.
+    if mknod far/block b 240 77 2> said; then
+        status 3 "$tool" seal --force -k key small far/block
+        [ -b far/block ] || fail 'a block device was replaced'
+    fi
     no_parts far
 else
     echo 'left out: devices as outputs, since root can make none here'
@@ -442,6 +455,9 @@ status 0 "$tool" seal --force -k key small pipe
 wait $!
 [ -p pipe ] || fail 'a pipe was replaced'
 status 0 "$tool" check -k key piped
+python3 -c 'import socket; socket.socket(socket.AF_UNIX).bind("socket")'
+status 3 "$tool" seal --force -k key small socket
+[ -S socket ] || fail 'a socket was replaced'
 status 3 "$tool" seal -k key small far
 no_parts far
 
@@ -534,6 +550,9 @@ if "${CC:-gcc}" -shared -fPIC -O1 "$calls" -ldl -o calls.so 2> said; then
     [ "$(order "$tool" seal -k key small far/synced)" = 'fsync-file link unlink fsync-folder ' ] || fail "seal: $(cat noted)"
     [ "$(order "$tool" seal --force -k key small far/synced)" = 'fsync-file rename fsync-folder ' ] || fail "seal --force: $(cat noted)"
     rm synced far/synced
+    # A file system that cannot sync folders.
+    SYNCLESS=1 order "$tool" keygen synced > printed
+    rm synced
     # A file system with no links: LINK_FAILS has link fail, and RACES creates a file just before.
     [ "$(LINK_FAILS=1 order "$tool" seal -k key small linkless)" = 'fsync-file link rename fsync-folder ' ] || fail "no links: $(cat noted)"
     says 'linkless is renamed to, and not linked'
@@ -855,6 +874,7 @@ if command -v script > /dev/null; then
         says 'not one that a terminal can show'
         ! LC_ALL=C grep -q "$(printf '[\033\177-\377]')" said || fail "bytes of $bad were printed: $(od -c said)"
         terminal 0 "'$tool' open -k key letter.sealed -"
+        terminal 0 "'$tool' open -k key letter.sealed \"\$(tty)\""
     done
     # Characters of several bytes at the end of a piece.
     for before in 65533 65534 65535; do
@@ -916,5 +936,6 @@ echo '8 GiB, in less than 8 MB of memory'
 truncate -s 8G sparse
 limited() { (ulimit -v 8000; exec "$tool" "$@"); }
 limited seal -k key sparse - | limited open -k key - - | cmp - sparse
+limited seal -k key long - | limited rekey -k key -n other - - | limited open -k other - - | cmp - long
 
 echo 'hunkravy does what it says'

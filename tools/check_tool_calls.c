@@ -4,6 +4,7 @@
 //   LINK_FAILS=1    link fails, as on a file system that has no links
 //   RACES=FILE      creates the file just before that
 //   HIDES=1         the first look at a name after a link that failed fails, as on a file system with a fault
+//   SYNCLESS=1      folders cannot be synced, as on some file systems
 //   SHORT=1         reads and writes take no more than half of what they are given
 //   NO_MEMORY=N     the Nth allocation fails, and CALLS ends with "here"
 //   AT=N            the Nth of all calls that open, read, write, name, remove or sync fails, and CALLS ends with "here"
@@ -168,6 +169,11 @@ int fsync(int file)
 {
     int (*next)(int) = dlsym(RTLD_NEXT, "fsync");
     struct stat found;
-    note(fstat(file, &found) == 0 && S_ISDIR(found.st_mode) ? "fsync-folder" : "fsync-file");
+    int is_folder = fstat(file, &found) == 0 && S_ISDIR(found.st_mode);
+    note(is_folder ? "fsync-folder" : "fsync-file");
+    if (is_folder && getenv("SYNCLESS")) {
+        errno = EINVAL;
+        return -1;
+    }
     return fails(ENOSPC) ? -1 : next(file);
 }
