@@ -4,7 +4,7 @@ ghost use Rattle.std.specs.Prelude.{◌≡◌, ◌+◌, ◌*◌, ◌<◌, ◌≤
 ghost use Rattle.aegis_storage.specs.Bytes.{overwritten, part_at};
 ghost use Rattle.aegis_base.specs.Variant.{Aegis256};
 ghost use Rattle.aegis_pages.specs.Commits.{IsHonest, RecoversText};
-ghost use Rattle.aegis_pages.specs.OpenFile.{HasCommitted, HasText, OpensAtOne};
+ghost use Rattle.aegis_pages.specs.OpenFile.{HasCommitted, HasText, IsStoredAs, OpensAtOne};
 ghost use Rattle.aegis_pages.specs.Recovery.{RecoversOne};
 
 use aegis_pages::laws::others_are_kept;
@@ -25,6 +25,7 @@ pub fn write_row<S: Storage + Drop, J: Storage + Drop, N: Nonces + Drop, A: Allo
     row: &[u8; 64],
 ) -> Result<(), PagesError>
     requires { k < MAX_ROWS }
+    ensures stored { IsStoredAs pages.old pages.new }
     ensures len { OnOk result (pages.old.len ≤ pages.new.len) }
     ensures written { OnOk result ((table : List ℕ) → HasText pages.old table
         → HasText pages.new (overwritten table (ROW_BYTES * k) row.now)) }

@@ -6,14 +6,13 @@
 
 mod target;
 
-use aegis_pages::SealedPages;
 use aegis_storage::NoJournal;
 use std::alloc::Global;
 use std::fs::File;
 use std::rt::Runtime;
 use std::time::{Duration, Instant};
 use std::{env, fs, io};
-use target::{Access, Counter, ID, InMemory, KEY, PAGE_BYTES, Target, timed};
+use target::{Access, InMemory, Target, commit_len, new_pages, timed};
 
 // How many bytes are written and read in a turn: a power of two of pages.
 const TEXT_BYTES: u64 = 4032 << 14;
@@ -105,12 +104,9 @@ fn new_file(rt: &HostRuntime, path: &str) -> io::Result<File> {
 
 // Prints a line for the commitment of a longer text.
 fn print_commitment(rt: &HostRuntime, alloc: Global, path: &str) -> anyhow::Result<()> {
-    let file = new_file(rt, path)?;
-    let size = PAGE_BYTES as u32;
-    let mut pages = SealedPages::create(alloc, file, NoJournal, Counter(0), &KEY, &ID, size)?;
+    let mut pages = new_pages(alloc, new_file(rt, path)?, NoJournal)?;
     for len in (0..=COMMITTED_BYTES).step_by(STEP_BYTES) {
-        pages.set_len(len)?;
-        pages.commit()?;
+        commit_len(&mut pages, len)?;
     }
     let start = Instant::now(rt)?;
     let commitment = pages.commitment()?;
@@ -120,26 +116,82 @@ fn print_commitment(rt: &HostRuntime, alloc: Global, path: &str) -> anyhow::Resu
     Ok(())
 }
 
+// Measures sealed pages in a file, with a journal in another.
+fn pages_times(
+    rt: &HostRuntime,
+    alloc: Global,
+    path: &str,
+    journal_path: &str,
+    order: Order,
+    piece: &mut [u8],
+) -> anyhow::Result<Times> {
+    let mut pages = new_pages(alloc, new_file(rt, path)?, new_file(rt, journal_path)?)?;
+    best(rt, &mut pages, order, piece)
+}
+
+// Measures sealed pages in a file, with no journal.
+fn unjournaled_times(
+    rt: &HostRuntime,
+    alloc: Global,
+    path: &str,
+    order: Order,
+    piece: &mut [u8],
+) -> anyhow::Result<Times> {
+    let mut pages = new_pages(alloc, new_file(rt, path)?, NoJournal)?;
+    best(rt, &mut pages, order, piece)
+}
+
+// Measures a plain file.
+fn file_times(
+    rt: &HostRuntime,
+    path: &str,
+    order: Order,
+    piece: &mut [u8],
+) -> anyhow::Result<Times> {
+    let mut file = new_file(rt, path)?;
+    best(rt, &mut file, order, piece)
+}
+
+// Measures in one form, in files at two paths.
+fn measure_form(
+    rt: &HostRuntime,
+    alloc: Global,
+    path: &str,
+    journal_path: &str,
+    order: Order,
+    piece: &mut [u8],
+    form: &str,
+) -> anyhow::Result<()> {
+    let times = pages_times(rt, alloc, path, journal_path, order, piece)?;
+    print_line(rt, "sealed pages", form, times)?;
+    let times = unjournaled_times(rt, alloc, path, order, piece)?;
+    print_line(rt, "sealed pages with no journal", form, times)?;
+    print_line(
+        rt,
+        "a plain file",
+        form,
+        file_times(rt, path, order, piece)?,
+    )?;
+    let times = best(rt, &mut InMemory, order, piece)?;
+    print_line(rt, "AEGIS-256 in memory", form, times)?;
+    Ok(())
+}
+
 // Measures in a file at a path.
 fn measure(rt: &HostRuntime, alloc: Global, path: &str) -> anyhow::Result<()> {
     let journal_path = format!(in alloc; "{path}.journal")?;
     let mut piece = vec![in alloc; 0x5a; 65_536]?;
     for (order, bytes, form) in FORMS {
         let count = bytes.min(piece.len());
-        let part = &mut piece[..count];
-        let size = PAGE_BYTES as u32;
-        let file = new_file(rt, path)?;
-        let journal = new_file(rt, &journal_path)?;
-        let mut pages = SealedPages::create(alloc, file, journal, Counter(0), &KEY, &ID, size)?;
-        print_line(rt, "sealed pages", form, best(rt, &mut pages, order, part)?)?;
-        let file = new_file(rt, path)?;
-        let mut pages = SealedPages::create(alloc, file, NoJournal, Counter(0), &KEY, &ID, size)?;
-        let times = best(rt, &mut pages, order, part)?;
-        print_line(rt, "sealed pages with no journal", form, times)?;
-        let mut file = new_file(rt, path)?;
-        print_line(rt, "a plain file", form, best(rt, &mut file, order, part)?)?;
-        let times = best(rt, &mut InMemory, order, part)?;
-        print_line(rt, "AEGIS-256 in memory", form, times)?;
+        measure_form(
+            rt,
+            alloc,
+            path,
+            &journal_path,
+            order,
+            &mut piece[..count],
+            form,
+        )?;
     }
     print_commitment(rt, alloc, path)?;
     fs::remove_file(rt, path)?;
@@ -154,7 +206,7 @@ fn main(rt: HostRuntime) -> anyhow::Result<()> {
     let alloc = rt.alloc();
     let mut piece = [0x5a; 8192];
     let (file, journal): (Vec<u8>, Vec<u8>) = (Vec::new(alloc), Vec::new(alloc));
-    let mut pages = SealedPages::create(alloc, file, journal, Counter(0), &KEY, &ID, 4096)?;
+    let mut pages = new_pages(alloc, file, journal)?;
     for order in [Order::Sequential, Order::Random] {
         for access in [Access::Write, Access::Read] {
             timed(&rt, &mut pages, access, order, &mut piece, 1 << 16)?;

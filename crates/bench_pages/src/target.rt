@@ -32,6 +32,26 @@ impl Nonces for Counter {
     }
 }
 
+/// Makes a storage a file of an empty text. A measurement rests on nothing that it ensures, so it promises nothing.
+pub fn new_pages<S: Storage + Drop, J: Storage + Drop>(
+    alloc: Global,
+    storage: S,
+    journal: J,
+) -> anyhow::Result<SealedPages<S, J, Counter, Global>> {
+    let size = PAGE_BYTES as u32;
+    Ok(SealedPages::create(alloc, storage, journal, Counter(0), &KEY, &ID, size)?)
+}
+
+/// Makes the text so many bytes long, and commits.
+pub fn commit_len<S: Storage + Drop, J: Storage + Drop>(
+    pages: &mut SealedPages<S, J, Counter, Global>,
+    len: u64,
+) -> anyhow::Result<()> {
+    pages.set_len(len)?;
+    pages.commit()?;
+    Ok(())
+}
+
 /// What is measured. A piece may hold other bytes after it was written.
 pub trait Target {
     fn write(&mut self, at: u64, piece: &mut [u8]) -> anyhow::Result<()>;
