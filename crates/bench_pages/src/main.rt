@@ -1,7 +1,7 @@
 //! Measures sealed pages in a file beside the same calls on a plain file, and beside AEGIS-256 in memory.
 //!
-//! With the path of a file as its argument it prints a table, which `make bench` writes to `bench/PAGES.md`, and removes
-//! the file. Without an argument it makes each call once, in memory.
+//! With the path of a file as its argument it prints a table, which `make bench` writes to `bench/PAGES.md`, and
+//! removes the file. Without an argument it makes each call once, in memory.
 #![tactic(auto)]
 
 mod target;
