@@ -1,8 +1,8 @@
 //! The variants as types.
 
-/// Returns the code of a call of `aegis_c_calls` for the lanes of the variant that has this number, and that of the refusal
-/// `$none` if none has it. With `::<N>` the call is also for the length of its keys. A call after `chunk` returns its code
-/// itself.
+/// Returns the code of a call of `aegis_c_calls` for the lanes of the variant that has this number, and that of the
+/// refusal `$none` if none has it. With `::<N>` the call is also for the length of its keys. A call after `chunk`
+/// returns its code itself.
 macro_rules! by_variant {
     ($number:expr, $none:expr, chunk $call:ident($($argument:expr),*)) => {
         match $number {

@@ -1,5 +1,5 @@
-//! Sequences of calls on pages and headers: what was sealed is opened. These functions are not exported. They are proved
-//! from the contracts of the exports alone.
+//! Sequences of calls on pages and headers: what was sealed is opened. These functions are not exported. They are
+//! proved from the contracts of the exports alone.
 
 ghost use Rattle.std.specs.Prelude.{◌≡◌, length, true};
 ghost use Rattle.aegis_c_calls.specs.declared.refusal.TheConstants.{DONE};

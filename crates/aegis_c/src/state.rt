@@ -1,7 +1,8 @@
 //! The exports on a state. The state itself says of which variant it is, and whether it is a message that is encrypted,
 //! one that is decrypted, or a MAC; a call of another role is refused.
 //!
-//! Each returns a code of `aegis_c_calls::refusal`. After a code for a variant, a length or a state, nothing has changed.
+//! Each returns a code of `aegis_c_calls::refusal`. After a code for a variant, a length or a state, nothing has
+//! changed.
 
 ghost use Rattle.std.specs.Prelude.{◌≡◌};
 ghost use Rattle.aegis_c_calls.specs.Calls.{MacFinal, MacFinalVerify, MacInit, MacUpdate, StateDecryptCheck, StateDecryptFinal, StateDecryptInPlaceUnverified, StateEncryptFinal, StateEncryptInPlace, StateInit};
@@ -16,8 +17,8 @@ use aegis_c_calls::refusal::{Refusal, code};
 use aegis_c_calls::state::*;
 use aegis_c_calls::variant::*;
 
-// The calls on a chunk for one variant, each with its code, so that its export jumps to it and does nothing after it: a chunk
-// of 64 bytes then takes a twentieth less time.
+// The calls on a chunk for one variant, each with its code, so that its export branches to it and does nothing after
+// it: a chunk of 64 bytes then takes a twentieth less time.
 
 #[inline(never)]
 fn encrypted<S: SavedLanes>(st: &mut State, mc: &mut [u8]) -> i32

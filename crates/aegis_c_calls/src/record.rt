@@ -1,9 +1,10 @@
-//! The calls on a record stream. It is sealed and opened a record at a time, in the buffer that holds the record, and no
-//! call allocates memory.
+//! The calls on a record stream. It is sealed and opened a record at a time, in the buffer that holds the record, and
+//! no call allocates memory.
 //!
 //! C owns the `state` between two calls, and passes the stream's context to each call again. C may pass a state that no
 //! call has begun, or one that it has changed. So `check` looks at its mark and its two numbers, and each call is safe
-//! for any other bytes. `cipher` seals and opens the bytes of a record, and `data` has its associated data and its nonce.
+//! for any other bytes. `cipher` seals and opens the bytes of a record, and `data` has its associated data and its
+//! nonce.
 
 ghost use Rattle.std.specs.Prelude.{◌≡◌, ◌+◌, ◌≤◌};
 ghost use Rattle.aegis_base.specs.declared.error.TheConstants.{MAX_AEAD_BYTES};

@@ -18,8 +18,8 @@ pub enum Refusal {
     DataTooLong,
     /// The tag has neither 16 nor 32 bytes.
     WrongTagLength,
-    /// The state lacks the mark, has the number of no variant, another role, or a count past its limit. A state that has
-    /// ended is one of these; one that C has changed need not be.
+    /// The state lacks the mark, has the number of no variant, another role, or a count past its limit. A state that
+    /// has ended is one of these; one that C has changed need not be.
     WrongState,
     /// No variant has this number.
     WrongVariant,

@@ -1,5 +1,5 @@
-//! The calls on a state that C owns between them. C may pass a state that no call has begun, or one that it has changed.
-//! So the mark, the role and the two numbers of bytes are checked, and each body is safe for any other bytes.
+//! The calls on a state that C owns between them. C may pass a state that no call has begun, or one that it has
+//! changed. So the mark, the role and the two numbers of bytes are checked, and each body is safe for any other bytes.
 
 ghost use Rattle.std.specs.Prelude.{◌≡◌, ◌≢◌, ◌+◌, ◌≤◌, ℤ, IfErr, OnOk};
 ghost use Rattle.aegis_base.specs.Variant.{key_length};

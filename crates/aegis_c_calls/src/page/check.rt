@@ -12,8 +12,8 @@ use aegis_pages::{MAX_PAGE_BYTES, MAX_TEXT_BYTES, MIN_PAGE_BYTES};
 /// The length of a tag.
 pub const TAG_BYTES: usize = 32;
 
-/// Returns the page size of a page that has so many bytes, with a nonce of `N`. Refuses what is no page size, and a page
-/// whose number lets it begin too far in the text.
+/// Returns the page size of a page that has so many bytes, with a nonce of `N`. Refuses what is no page size, and a
+/// page whose number lets it begin too far in the text.
 pub fn check_page<const N: usize>(bytes: usize, number: u64) -> Result<u32, Refusal>
     requires { N ≤ 32 }
     ensures value { IfOk result (λ n. n ≡ bytes - (N + TAG_BYTES)) }
