@@ -128,7 +128,20 @@ fn is_no_file(refused: &Result<()>) -> bool {
     }
 }
 
-/// What lies at the journal's path and is no journal is left alone, and so is the file.
+/// Opening keeps a file of 34 bytes that is no journal, and removes one of 33.
+#[test]
+fn short_files_that_are_no_journal() {
+    for (length, is_kept) in [(1, false), (33, false), (34, true)] {
+        let folder = Folder::new("short-no-journal");
+        with_text(&folder.path("file"), b"before");
+        fs::write(folder.path("file.journal"), vec![b'a'; length]).unwrap();
+        assert_eq!(open(&folder.path("file")).is_err(), is_kept, "{length}");
+        assert_eq!(folder.names().len(), 1 + usize::from(is_kept), "{length}");
+    }
+}
+
+/// What lies at the journal's path and is no journal is left alone, and so is the file. But one of up to 33 bytes may be
+/// what a crash has left of a journal, and is removed.
 #[test]
 fn what_is_no_journal() {
     type Put = fn(&Folder) -> io::Result<()>;
