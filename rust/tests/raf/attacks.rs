@@ -128,6 +128,25 @@ fn is_no_file(refused: &Result<()>) -> bool {
     }
 }
 
+/// Whoever creates a file over one that is open elsewhere is told so, also while its journal is written, which is not
+/// to be taken for a stray one.
+#[test]
+fn a_file_that_is_created_over_one_in_a_commit() {
+    let folder = Folder::new("create-in-commit");
+    let path = folder.path("file");
+    with_text(&path, b"before");
+    let file = open(&path).unwrap();
+    fs::write(folder.path("file.journal"), [1; 40]).unwrap();
+    for truncate in [false, true] {
+        let builder = RafBuilder::<Aegis256>::new().truncate(truncate);
+        let created = builder.create_file(&path, &KEY);
+        assert!(matches!(created, Err(Error::Locked)), "{created:?}");
+    }
+    drop(file);
+    let created = RafBuilder::<Aegis256>::new().create_file(&path, &KEY);
+    assert!(matches!(created, Err(Error::Journal)), "{created:?}");
+}
+
 /// Opening keeps a file of 34 bytes that is no journal, and removes one of 33.
 #[test]
 fn short_files_that_are_no_journal() {
