@@ -39,7 +39,8 @@ class Mac(variants.Variant, library.Secret):
         start = library.exactly("nonce", bytes(size) if nonce is None else nonce, size)
         found = library.exactly("key", key, self.KEY_BYTES)
         self.digest_size = library.tag_length_of(tag_length)
-        self._lock = threading.Lock()
+        # A signal handler that uses the MAC that it interrupts must not wait for itself.
+        self._lock = threading.RLock()
         self._state = library.State()
         library.check(
             library.mac_init(self._VARIANT, self._state, start, len(start), found, len(found))
@@ -81,7 +82,7 @@ class Mac(variants.Variant, library.Secret):
         """Returns a MAC that has taken in the same input."""
         other = type(self).__new__(type(self))
         other.digest_size = self.digest_size
-        other._lock = threading.Lock()
+        other._lock = threading.RLock()
         with self._lock:
             other._state = library.State.from_buffer_copy(self._state)
         return other

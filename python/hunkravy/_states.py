@@ -4,7 +4,7 @@ from __future__ import annotations
 
 import ctypes
 import threading
-from typing import TYPE_CHECKING, Optional
+from typing import TYPE_CHECKING, Any, Callable, TypeVar
 
 from . import _library as library
 
@@ -12,13 +12,20 @@ if TYPE_CHECKING:
     from _typeshed import ReadableBuffer
     from typing_extensions import Self
 
+Kept = TypeVar("Kept")
+
 
 class Chunks(library.Secret):
-    """A state of the library, which is overwritten when it ends. One call at a time uses it."""
+    """A state of the library, which is overwritten when it ends. One call at a time uses it.
 
-    __slots__ = ("_lock", "_state", "_tag_length")
-    _lock: threading.Lock
-    _state: Optional[library.State]
+    A call that an exception interrupts, as that of a signal handler, ends the message, since nobody knows whether its chunk
+    was taken in.
+    """
+
+    __slots__ = ("_has_ended", "_lock", "_state", "_tag_length")
+    _has_ended: bool
+    _lock: Any
+    _state: library.State
     _tag_length: int
 
     def __init__(self) -> None:
@@ -27,7 +34,9 @@ class Chunks(library.Secret):
     @classmethod
     def _of(cls, state: library.State, tag_length: int) -> Self:
         chunks = cls.__new__(cls)
-        chunks._lock = threading.Lock()
+        # A signal handler that uses what it interrupts must not wait for itself.
+        chunks._lock = threading.RLock()
+        chunks._has_ended = False
         chunks._state = state
         chunks._tag_length = tag_length
         return chunks
@@ -37,10 +46,25 @@ class Chunks(library.Secret):
         if state is not None:
             ctypes.memset(state, 0, library.STATE_BYTES)
 
-    def _running(self) -> library.State:
-        if self._state is None:
+    def _ending(self) -> library.State:
+        """The state of a message that has not ended. It has from now on."""
+        if self._has_ended:
             raise RuntimeError("the message has ended")
+        self._has_ended = True
         return self._state
+
+    def _next(self, call: Any, data: ReadableBuffer, keep: Callable[[bytearray], Kept]) -> Kept:
+        """Encrypts or decrypts the next chunk, and returns what `keep` makes of it. Only then may more follow."""
+        chunk = bytearray(memoryview(data))
+        try:
+            with self._lock:
+                library.check(call(self._ending(), library.pointer(chunk), len(chunk)))
+                kept = keep(chunk)
+                self._has_ended = False
+        except BaseException:
+            self._has_ended = True
+            raise
+        return kept
 
 
 class Encryptor(Chunks):
@@ -58,21 +82,15 @@ class Encryptor(Chunks):
 
     def update(self, data: ReadableBuffer) -> bytes:
         """Encrypts the next chunk."""
-        chunk = bytearray(memoryview(data))
-        with self._lock:
-            library.check(
-                library.state_encrypt_in_place(self._running(), library.pointer(chunk), len(chunk))
-            )
-        return bytes(chunk)
+        return self._next(library.state_encrypt_in_place, data, bytes)
 
     def finalize(self) -> bytes:
         """Ends the message, and returns its tag."""
         tag = bytearray(self._tag_length)
         with self._lock:
             library.check(
-                library.state_encrypt_final(self._running(), library.pointer(tag), len(tag))
+                library.state_encrypt_final(self._ending(), library.pointer(tag), len(tag))
             )
-            self._state = None
         return bytes(tag)
 
 
@@ -106,22 +124,13 @@ class Decryptor(Chunks):
 
     def update(self, data: ReadableBuffer) -> None:
         """Takes in the next chunk of the ciphertext, without its tag."""
-        chunk = bytearray(memoryview(data))
-        with self._lock:
-            library.check(
-                library.state_decrypt_in_place_unverified(
-                    self._running(), library.pointer(chunk), len(chunk)
-                )
-            )
-            self._message.append(chunk)
+        self._next(library.state_decrypt_in_place_unverified, data, self._message.append)
 
     def finalize(self, tag: ReadableBuffer) -> bytes:
         """Ends the ciphertext, and returns its message. Raises `InvalidTag`, and erases the message, if the tag is wrong."""
         expected = library.exactly("tag", tag, self._tag_length)
         with self._lock:
-            state = self._running()
-            self._state = None
-            code = library.state_decrypt_final(state, None, 0, expected, len(expected))
+            code = library.state_decrypt_final(self._ending(), None, 0, expected, len(expected))
             message = b"".join(self._message) if code == library.OK else b""
             self._erase()
         library.check(code)

@@ -83,7 +83,7 @@ pub const MAX_SIZE: u64 = 1 << 60;
 /// Changes are kept in memory until a commit: [`commit`](Raf::commit), [`sync`](Raf::sync), dropping, and a write after
 /// which they are more than the [limit](RafBuilder::buffer_limit). **Dropping ignores the error of its commit**, so
 /// call `commit` first. No drop commits a part of what was to be committed: neither after a change or a commit that has
-/// failed, until the next `commit` that succeeds or [`discard`](Raf::discard), nor while the thread panics.
+/// failed or panicked, until the next `commit` that succeeds or [`discard`](Raf::discard), nor while the thread panics.
 ///
 /// After an error in the middle of a commit the file is broken: each later call returns [`Error::Broken`], and opening the file
 /// again gives the text of before the commit or the one after it.
@@ -174,19 +174,29 @@ impl<A: Algorithm, I: RafIo, R: RafRng, J: RafIo> Raf<A, I, R, J> {
     /// [`Error::TooLong`], [`Error::Damaged`], [`Error::Io`] or [`Error::Broken`], and nothing has changed; or an error of the
     /// commit, and the change is in memory as it is after an error of [`commit`](Raf::commit).
     pub fn write(&mut self, data: &[u8], offset: u64) -> Result<usize> {
-        let written = self.write_each(data, offset);
-        self.is_cut_short |= written.is_err();
-        written
+        // It stays so if the change fails, or if a panic ends it.
+        let was_cut_short = core::mem::replace(&mut self.is_cut_short, true);
+        self.change(data, offset)?;
+        self.is_cut_short = was_cut_short;
+        let changed = self
+            .changes
+            .len()
+            .saturating_mul(self.layout.chunk_size as usize);
+        if changed > self.buffer_limit {
+            self.commit()?;
+        }
+        Ok(data.len())
     }
 
-    fn write_each(&mut self, data: &[u8], offset: u64) -> Result<usize> {
+    /// Makes the change of a write, in memory.
+    fn change(&mut self, data: &[u8], offset: u64) -> Result<()> {
         self.check_is_whole()?;
         let end = offset
             .checked_add(data.len() as u64)
             .filter(|end| *end <= MAX_SIZE)
             .ok_or(Error::TooLong)?;
         if data.is_empty() && offset <= self.size {
-            return Ok(0);
+            return Ok(());
         }
         let chunk_size = u64::from(self.layout.chunk_size);
         let mut changes = Changes::default();
@@ -196,15 +206,7 @@ impl<A: Algorithm, I: RafIo, R: RafRng, J: RafIo> Raf<A, I, R, J> {
         }
         self.changes.append(changes);
         self.size = self.size.max(end);
-        if self
-            .changes
-            .len()
-            .saturating_mul(self.layout.chunk_size as usize)
-            > self.buffer_limit
-        {
-            self.commit()?;
-        }
-        Ok(data.len())
+        Ok(())
     }
 
     /// Cuts the text off at `size`, or fills it up to it with zeros, in memory. The errors, and what they leave, are those of

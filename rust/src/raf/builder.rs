@@ -133,9 +133,7 @@ impl<A: Algorithm, R: RafRng, J: JournalChoice> RafBuilder<A, R, J> {
     ) -> Result<Raf<A, FileIo, R, J::Journal>> {
         let path = path.as_ref();
         let draws = self.draw()?;
-        if JournalFile::at(Some(journal_path(path)?)).get_size()? != 0 {
-            return Err(Error::Journal);
-        }
+        check_no_journal(path)?;
         let io = if self.truncate {
             FileIo::create(path)?
         } else {
@@ -227,6 +225,23 @@ impl<A: Algorithm, R: RafRng, J: RafIo> RafBuilder<A, R, J> {
             is_broken: false,
             is_cut_short: false,
         }
+    }
+}
+
+/// Returns an error if there is a journal of the file at a path that is to be created: [`Error::Locked`] if the file is
+/// open elsewhere, since the journal is then that of a commit that is being written.
+fn check_no_journal(path: &Path) -> Result<()> {
+    let mut journal = JournalFile::at(Some(journal_path(path)?));
+    if journal.get_size()? == 0 {
+        return Ok(());
+    }
+    if let Ok(mut io) = FileIo::open(path) {
+        io.lock()?;
+    }
+    if journal.get_size()? == 0 {
+        Ok(())
+    } else {
+        Err(Error::Journal)
     }
 }
 

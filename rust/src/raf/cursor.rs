@@ -24,7 +24,11 @@ impl<A: Algorithm, I: RafIo, R: RafRng, J: RafIo> Read for RafCursor<'_, A, I, R
 }
 
 impl<A: Algorithm, I: RafIo, R: RafRng, J: RafIo> Write for RafCursor<'_, A, I, R, J> {
+    /// Writes as [`Raf::write`] does. No bytes past the end do not make the text longer.
     fn write(&mut self, data: &[u8]) -> io::Result<usize> {
+        if data.is_empty() {
+            return Ok(0);
+        }
         let count = self.file.write(data, self.offset)?;
         self.offset += count as u64;
         Ok(count)

@@ -70,7 +70,8 @@ pub struct FileIo {
 impl FileIo {
     /// The bytes of a file that is open for reading and writing, but not for appending, with which Linux writes at no
     /// other place than the end. Its path is not known, so it has no journal but one that
-    /// [`RafBuilder::journal`](super::RafBuilder::journal) sets: a commit that was cut short is not completed.
+    /// [`RafBuilder::journal`](super::RafBuilder::journal) sets: a commit that was cut short is not completed. A copy of
+    /// the descriptor, as by [`File::try_clone`], has the same lock: open no second [`Raf`](super::Raf) over one.
     pub fn new(file: File) -> Self {
         FileIo {
             file,
@@ -187,7 +188,8 @@ impl RafIo for NoJournal {
 /// The journal of a file at a path: a file beside it, whose name has `.journal` after that of the file. There is one only
 /// while a commit is written, and after one that was cut short. Symbolic links are followed, so that a file has one journal by
 /// whichever of them it is named. A journal that is itself a link, or no file, is refused, with
-/// [`io::ErrorKind::InvalidData`], and nothing is changed.
+/// [`io::ErrorKind::InvalidData`], and nothing is changed. A file of that name with up to 33 bytes may be what a crash
+/// has left of a journal: opening removes it, whatever it holds.
 ///
 /// If there is no path, as for a storage in memory, it is as [`NoJournal`].
 #[derive(Debug)]

@@ -128,7 +128,39 @@ fn is_no_file(refused: &Result<()>) -> bool {
     }
 }
 
-/// What lies at the journal's path and is no journal is left alone, and so is the file.
+/// Whoever creates a file over one that is open elsewhere is told so, also while its journal is written, which is not
+/// to be taken for a stray one.
+#[test]
+fn a_file_that_is_created_over_one_in_a_commit() {
+    let folder = Folder::new("create-in-commit");
+    let path = folder.path("file");
+    with_text(&path, b"before");
+    let file = open(&path).unwrap();
+    fs::write(folder.path("file.journal"), [1; 40]).unwrap();
+    for truncate in [false, true] {
+        let builder = RafBuilder::<Aegis256>::new().truncate(truncate);
+        let created = builder.create_file(&path, &KEY);
+        assert!(matches!(created, Err(Error::Locked)), "{created:?}");
+    }
+    drop(file);
+    let created = RafBuilder::<Aegis256>::new().create_file(&path, &KEY);
+    assert!(matches!(created, Err(Error::Journal)), "{created:?}");
+}
+
+/// Opening keeps a file of 34 bytes that is no journal, and removes one of 33.
+#[test]
+fn short_files_that_are_no_journal() {
+    for (length, is_kept) in [(1, false), (33, false), (34, true)] {
+        let folder = Folder::new("short-no-journal");
+        with_text(&folder.path("file"), b"before");
+        fs::write(folder.path("file.journal"), vec![b'a'; length]).unwrap();
+        assert_eq!(open(&folder.path("file")).is_err(), is_kept, "{length}");
+        assert_eq!(folder.names().len(), 1 + usize::from(is_kept), "{length}");
+    }
+}
+
+/// What lies at the journal's path and is no journal is left alone, and so is the file. But one of up to 33 bytes may be
+/// what a crash has left of a journal, and is removed.
 #[test]
 fn what_is_no_journal() {
     type Put = fn(&Folder) -> io::Result<()>;

@@ -319,6 +319,10 @@ fn cursors() {
     assert_eq!(fs::metadata(&path).unwrap().len(), 4096 + 4096);
     cursor.seek(SeekFrom::Start(20)).unwrap();
     assert_eq!(cursor.read(&mut [0; 9]).unwrap(), 0);
+    // As with a file of the system, no bytes that are written past the end change nothing.
+    assert_eq!(cursor.write(b"").unwrap(), 0);
+    cursor.seek(SeekFrom::Start(u64::MAX)).unwrap();
+    assert_eq!(cursor.write(b"").unwrap(), 0);
     drop(file);
     assert_eq!(read(&mut open(&path).unwrap()), b"one two three");
 }
