@@ -51,7 +51,8 @@ class Tokens:
             content = json.loads(cipher.decrypt(nonce, sealed, PURPOSE + key_id))
         except InvalidTag:
             raise Refused from None
-        if (time.time() if now is None else now) >= content["until"]:
+        # A time that is no number is late too.
+        if not (time.time() if now is None else now) < content["until"]:
             raise Refused
         return content["payload"]
 

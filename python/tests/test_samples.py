@@ -57,6 +57,8 @@ class Example(unittest.TestCase):
     def test_late_altered_and_of_another_key(self) -> None:
         old, new = Aegis256.generate_key(), Aegis256.generate_key()
         before, after = self.tokens({b"1___": old}), self.tokens({b"1___": old, b"2___": new})
+        with self.assertRaises(self.refused):
+            before.read(before.issue(["ada"], float("nan"), now=1000), now=1000)
         token = before.issue(["ada"], 60, now=1000)
         for tokens in (before, after):
             self.assertEqual(tokens.read(token, now=1059), ["ada"])
