@@ -16,11 +16,11 @@
  * - Never ignore a returned code: after any but HUNKRAVY_OK a buffer may still hold the message, unencrypted.
  * - Never use the key of a MAC for anything but MACs.
  *
- * POINTERS. The library is proved, but nothing checks its callers. In each call:
+ * POINTERS. No call checks that:
  *
- * - A pointer points to as many bytes as its length, which comes after it or is in the call's comment: initialised if the
- *   call reads them, writable if the pointer is not const. If a length that is passed is 0, its pointer may be null. What
- *   is only written to need not be initialised.
+ * - A pointer points to as many bytes as its length, which comes after it or is in the call's comment: initialised if
+ *   the call reads them, writable if the pointer is not const. If a length that is passed is 0, its pointer may be
+ *   null. What is only written to need not be initialised.
  * - An output overlaps no other argument, unless the call's comment says that they may be the same pointer.
  * - No other thread reads or writes an output or a state, or writes an input, until the call returns.
  *
@@ -28,9 +28,10 @@
  * the call and the other after it, `ad` the associated data, `npub` the nonce, `k` the key, and `mac` a tag or a MAC of
  * `maclen` bytes, 16 or 32.
  *
- * CODES. Each call that returns an int returns a code: HUNKRAVY_OK, or why it was refused (at the end of this file). The
- * variant or the state is checked first, then the lengths of the nonce, the key, the message, the associated data and the
- * tag; the first that is wrong gives the code. A call that is refused writes nothing, unless its comment says more.
+ * CODES. A call that is marked HUNKRAVY_MUST_USE returns HUNKRAVY_OK, or why it was refused: a code at the end of this
+ * file. The variant or the state is checked first, then the lengths of the nonce, the key, the message, the associated
+ * data and the tag; the first that is wrong gives the code. A call that is refused writes nothing, unless its comment
+ * names what it writes.
  */
 #ifndef HUNKRAVY_H
 #define HUNKRAVY_H
@@ -132,9 +133,8 @@ HUNKRAVY_MUST_USE int hunkravy_verify(uint32_t variant, const uint8_t *c, size_t
 /* ---- A message in chunks of any lengths, 0 too */
 
 /*
- * A message or a MAC between two calls. It has its variant, and says whether it is a message that is encrypted, one
- * that is decrypted, or a MAC. Do not write to it: the calls are safe on any bytes, but what they then write is not
- * specified.
+ * A message or a MAC between two calls. It has its variant, and its role: a message that is encrypted, one that is
+ * decrypted, or a MAC. Do not write to it: the calls are safe on any bytes, but what they then write is not specified.
  *
  * A state may be copied by `=`, and dropped at any time; nothing has to be freed. Each call but an init refuses a state
  * of zeros. Until it has ended, a state is as secret as the key: call hunkravy_wipe before you drop it.
@@ -145,8 +145,7 @@ typedef struct hunkravy_state {
 
 /*
  * Begins a message with `adlen` bytes of associated data. `st` may hold anything before. The next call on it decides
- * whether it is a message that is encrypted or one that is decrypted. After any code but HUNKRAVY_OK the state is one of
- * zeros.
+ * whether the message is encrypted or decrypted. After any code but HUNKRAVY_OK the state is one of zeros.
  */
 HUNKRAVY_MUST_USE int hunkravy_state_init(uint32_t variant, hunkravy_state *st,
     const uint8_t *ad, size_t adlen, const uint8_t *npub, size_t npublen, const uint8_t *k, size_t klen);
@@ -251,7 +250,7 @@ enum hunkravy_code {
     HUNKRAVY_DATA_TOO_LONG = -5,
     /* The tag, or the MAC, has neither 16 nor 32 bytes. */
     HUNKRAVY_WRONG_TAG_LENGTH = -6,
-    /* The state is zeros (it has ended, or was not begun), or is for other calls: the other direction, a MAC, no MAC. */
+    /* The state is zeros (it has ended, or was not begun), or has another role. */
     HUNKRAVY_WRONG_STATE = -7,
     /* The variant is none of the six. */
     HUNKRAVY_WRONG_VARIANT = -8,

@@ -9,19 +9,19 @@
  * are those of `aegis_pages` and `raf`, of the format in docs/PAGES.md of their repository.
  *
  * A file begins with a sector of HUNKRAVY_PAGE_SECTOR_BYTES that has its header: the variant, the page size, the file's
- * id, a counter, and the length of the text. The pages begin at byte HUNKRAVY_PAGE_FIRST, each whole, the last one too: a
- * nonce of hunkravy_key_bytes(variant) bytes, the encrypted text, and the tag.
+ * id, a counter, and the length of the text. The pages begin at byte HUNKRAVY_PAGE_FIRST, each whole, the last one too:
+ * a nonce of hunkravy_key_bytes(variant) bytes, the encrypted text, and the tag.
  *
- * A crash may tear whatever was not synced, and a file whose header is torn is lost: so it is with the example pages.c,
- * which has no journal. docs/PAGES.md defines the journal, which the calls of hunkravy_records.h seal and open. If one
- * that is not empty lies beside a file, complete it before you open the file: `aegis_pages` and `raf` do.
+ * A crash may tear what was not synced, and a file whose header is torn is lost: the example pages.c has no journal.
+ * docs/PAGES.md defines the journal, which the calls of hunkravy_records.h seal and open. If one that is not empty lies
+ * beside a file, complete it before you open the file: `aegis_pages` and `raf` do.
  *
  * To change some bytes of a page: read the page, open it, change its text, seal it with a fresh nonce, and write it. To
  * change the length: write the pages that are new, and then the header with the next counter.
  *
  * `k` is a key and `npub` a nonce, of hunkravy_key_bytes(variant) bytes each: A FRESH NONCE EACH TIME that a page or a
- * header is sealed, drawn at random. With nonces of 16 bytes seal at most 2^48 pages and headers under one key. `id` is 24
- * bytes that are the file's own: they may be drawn at random, and need not be secret.
+ * header is sealed, drawn at random. With nonces of 16 bytes seal at most 2^48 pages and headers under one key. `id` is
+ * 24 bytes that are the file's own: they may be drawn at random, and need not be secret.
  *
  * What hunkravy.h says of pointers and codes holds here too. The pointers without a length are never null.
  */
@@ -88,8 +88,8 @@ HUNKRAVY_MUST_USE int hunkravy_page_header_seal(uint32_t variant, uint8_t *secto
  * Opens the header in the HUNKRAVY_PAGE_SECTOR_BYTES at `sector`, and writes what it has to the four parameters after
  * `klen`.
  *
- * Returns HUNKRAVY_OK, a code for a wrong variant or a wrong length of `k`, or HUNKRAVY_INVALID_TAG if the sector has no
- * header of this variant and key. After any code but HUNKRAVY_OK nothing is written.
+ * Returns HUNKRAVY_OK, a code for a wrong variant or a wrong length of `k`, or HUNKRAVY_INVALID_TAG if the sector has
+ * no header of this variant and key. After any code but HUNKRAVY_OK nothing is written.
  */
 HUNKRAVY_MUST_USE int hunkravy_page_header_open(uint32_t variant, const uint8_t *sector, const uint8_t *k, size_t klen,
     uint32_t *page_size, uint8_t *id, uint64_t *counter, uint64_t *textlen);

@@ -1,7 +1,7 @@
 /*
  * Record streams: a list of messages, each of which is encrypted and decrypted on its own, in the buffer that holds it,
- * by AEGIS-256 with a tag of 32 bytes. No byte of a message comes out before its tag is verified, and a record opens only
- * at its place in its stream. The last record is marked: a stream is whole only if its last record was opened.
+ * by AEGIS-256 with a tag of 32 bytes. No byte of a message comes out before its tag is verified, and a record opens
+ * only at its place in its stream. The last record is marked: a stream is whole only if its last record was opened.
  *
  * The bytes of a stream are a header of 4 bytes and a record for each message, one after the other. A record is a head
  * of 5 bytes, the ciphertext, and the tag. They are the streams of the Rattle library's `aegis::record`, so its limits
@@ -56,8 +56,8 @@ HUNKRAVY_MUST_USE int hunkravy_record_begin(hunkravy_record_stream *st, const ui
 
 /*
  * Begins to open a stream whose first HUNKRAVY_RECORD_HEADER_BYTES are at `header`. `st` may hold anything before.
- * Returns HUNKRAVY_OK, HUNKRAVY_UNKNOWN_HEADER or HUNKRAVY_CONTEXT_TOO_LONG. After any code but HUNKRAVY_OK the stream is
- * zeros.
+ * Returns HUNKRAVY_OK, HUNKRAVY_UNKNOWN_HEADER or HUNKRAVY_CONTEXT_TOO_LONG. After any code but HUNKRAVY_OK the stream
+ * is zeros.
  */
 HUNKRAVY_MUST_USE int hunkravy_record_begin_open(hunkravy_record_stream *st, const uint8_t *k,
     const uint8_t *prefix, const uint8_t *context, size_t contextlen, const uint8_t *header);
@@ -77,7 +77,7 @@ HUNKRAVY_MUST_USE int hunkravy_record_seal_last(hunkravy_record_stream *st, uint
 
 /*
  * Writes to `recordlen` how many bytes the next record has, whose first HUNKRAVY_RECORD_HEAD_BYTES are at `head`. They
- * ARE NOT VERIFIED: the number, which is at most 16 MiB and 37 bytes, says how many bytes to read, and no more.
+ * ARE NOT VERIFIED: use the number, at most 16 MiB and 37 bytes, only to read so many bytes.
  *
  * Returns HUNKRAVY_OK; HUNKRAVY_WRONG_STATE if the stream is not one that is opened; HUNKRAVY_INVALID_TAG if no record
  * begins with these bytes; or HUNKRAVY_MESSAGE_TOO_LONG if the record would have too long a message. After any code but
@@ -92,7 +92,7 @@ HUNKRAVY_MUST_USE int hunkravy_record_len(const hunkravy_record_stream *st, cons
  * record the stream has ended: it is zeros. Check that no bytes follow.
  *
  * Returns HUNKRAVY_OK; HUNKRAVY_INVALID_TAG if the bytes are not the next record of the stream; HUNKRAVY_WRONG_STATE if
- * the stream is not one that is opened; HUNKRAVY_WRONG_RECORD_LENGTH if a record has no so few bytes; or
+ * the stream is not one that is opened; HUNKRAVY_WRONG_RECORD_LENGTH if there are too few bytes for a record; or
  * HUNKRAVY_MESSAGE_TOO_LONG if the record or the stream would be too long. After HUNKRAVY_INVALID_TAG each of the
  * `recordlen` bytes is 0xaa. After any code but HUNKRAVY_OK nothing else is written, and the stream is as it was.
  */

@@ -16,7 +16,7 @@ refused
 
 Never use a nonce twice under one key. No call detects it.
 
-The work is done by a C library whose calls are proved. This package around it is tested, and not proved. All objects may be
+The work is done by a C library over proved exports. This package around it is tested, and not proved. All objects may be
 used by several threads. While the library works, other threads run.
 """
 
