@@ -1,5 +1,5 @@
 # The C library, for Linux, and its tests. What follows builds with stock gcc, and proves nothing but that library.
-.PHONY: c-library install check-c check-c-aarch64 check-header check-c++ check-shared check-level check-sodium check-time check-install \
+.PHONY: c-library install check-c check-header check-c++ check-shared check-level check-sodium check-time check-install \
 	gcc-aarch64-linux-gnu qemu-user
 
 CC = gcc
