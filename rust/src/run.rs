@@ -102,25 +102,26 @@ impl<V: Variant> Drop for Run<V> {
 #[cfg(test)]
 mod tests {
     use super::Run;
-    use crate::aegis256x2::{Decryptor, Encryptor, Error, Marker};
+    use crate::aegis256x2::{Algorithm, Decryptor, Encryptor, Error};
     use crate::wipe::tests::left_of;
     use crate::{MAX_AEAD_BYTES, Mac};
 
     /// Nothing of a state is left.
     #[test]
     fn a_run_that_was_dropped() {
-        let state = left_of(Run::<Marker>::new(&[1; 32], &[2; 32], b"header"), |run| {
-            &run.state
-        });
+        let state = left_of(
+            Run::<Algorithm>::new(&[1; 32], &[2; 32], b"header"),
+            |run| &run.state,
+        );
         assert!(state.is_zero());
-        let mac = Run::<Marker>::of_mac(&[1; 32], &[2; 32]);
+        let mac = Run::<Algorithm>::of_mac(&[1; 32], &[2; 32]);
         assert!(!mac.state.is_zero());
         assert!(left_of(mac.clone(), |run| &run.state).is_zero());
         assert!(!mac.state.is_zero());
     }
 
     /// A run that has room for one more byte.
-    fn nearly_full() -> Run<Marker> {
+    fn nearly_full() -> Run<Algorithm> {
         let mut run = Run::new(&[1; 32], &[2; 32], &[]);
         run.state.set_message_bytes(MAX_AEAD_BYTES - 1);
         run
@@ -164,7 +165,7 @@ mod tests {
     fn a_mac_panics() {
         let mut run = Run::of_mac(&[1; 32], &[2; 32]);
         run.state.set_message_bytes(MAX_AEAD_BYTES - 1);
-        let mut mac = Mac::<Marker, 16>::of(run);
+        let mut mac = Mac::<Algorithm, 16>::of(run);
         assert_eq!(mac.remaining(), 1);
         mac.update(&[0; 2]);
     }

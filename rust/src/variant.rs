@@ -26,14 +26,14 @@ pub trait Variant: sealed::Sealed {
     /// A key.
     ///
     /// ```
-    /// let key: <hunkravy::aegis256::Marker as hunkravy::Variant>::Key = [0; 32];
+    /// let key: <hunkravy::aegis256::Algorithm as hunkravy::Variant>::Key = [0; 32];
     /// ```
     type Key: AsRef<[u8]> + AsMut<[u8]> + Copy + Default;
 
     /// A nonce, which has the length of a key.
     ///
     /// ```
-    /// let nonce: <hunkravy::aegis256::Marker as hunkravy::Variant>::Nonce = [0; 32];
+    /// let nonce: <hunkravy::aegis256::Algorithm as hunkravy::Variant>::Nonce = [0; 32];
     /// ```
     type Nonce: AsRef<[u8]> + AsMut<[u8]> + Copy + Default;
 }
@@ -99,24 +99,24 @@ macro_rules! module {
             /// ```
             pub type Nonce = [u8; $bytes];
 
-            #[doc = concat!("The marker of ", $standard, ".")]
+            #[doc = concat!("The type that stands for ", $standard, ".")]
             ///
             /// ```
-            #[doc = concat!("use hunkravy::{Cipher, ", stringify!($module), "::Marker};")]
+            #[doc = concat!("use hunkravy::{Cipher, ", stringify!($module), "::Algorithm};")]
             ///
-            #[doc = concat!("let cipher = Cipher::<Marker, 16>::new(&[1; ", $bytes, "], &[2; ", $bytes, "]);")]
+            #[doc = concat!("let cipher = Cipher::<Algorithm, 16>::new(&[1; ", $bytes, "], &[2; ", $bytes, "]);")]
             #[doc = concat!("assert_eq!(format!(\"{cipher:?}\"), \"", stringify!($cipher), " { .. }\");")]
             /// ```
             $(#[$copy])?
             #[derive(Debug)]
-            pub struct Marker;
+            pub struct Algorithm;
 
-            impl crate::Variant for Marker {
+            impl crate::Variant for Algorithm {
                 type Key = Key;
                 type Nonce = Nonce;
             }
 
-            impl super::sealed::Sealed for Marker {
+            impl super::sealed::Sealed for Algorithm {
                 const EXPORTS: crate::exports::Variant = crate::exports::$exports;
                 const MODULE: &'static str = stringify!($module);
                 const CIPHER: &'static str = stringify!($cipher);
@@ -130,7 +130,7 @@ macro_rules! module {
             #[doc = concat!("let cipher = ", stringify!($cipher), "::<32>::new(&[1; ", $bytes, "], &[2; ", $bytes, "]);")]
             /// let (ciphertext, tag) = cipher.encrypt(b"a message", b"header");
             /// ```
-            pub type $cipher<const TAG_BYTES: usize> = crate::Cipher<Marker, TAG_BYTES>;
+            pub type $cipher<const TAG_BYTES: usize> = crate::Cipher<Algorithm, TAG_BYTES>;
 
             #[doc = concat!("Seals a message of ", $standard, " that comes in chunks.")]
             ///
@@ -143,7 +143,7 @@ macro_rules! module {
             /// encryptor.update_in_place(&mut chunk);
             /// let tag = encryptor.finalize();
             /// ```
-            pub type Encryptor<const TAG_BYTES: usize> = crate::Encryptor<Marker, TAG_BYTES>;
+            pub type Encryptor<const TAG_BYTES: usize> = crate::Encryptor<Algorithm, TAG_BYTES>;
 
             #[doc = concat!("Opens a message of ", $standard, " that comes in chunks.")]
             ///
@@ -160,7 +160,7 @@ macro_rules! module {
             /// assert_eq!(decryptor.finalize(&tag)?, b"a chunk");
             /// # Ok::<(), Error>(())
             /// ```
-            pub type Decryptor<'a, const TAG_BYTES: usize> = crate::Decryptor<'a, Marker, TAG_BYTES>;
+            pub type Decryptor<'a, const TAG_BYTES: usize> = crate::Decryptor<'a, Algorithm, TAG_BYTES>;
 
             #[doc = concat!("The MAC of ", $standard, ". [`Mac`](crate::Mac) has its calls.")]
             ///
@@ -173,7 +173,7 @@ macro_rules! module {
             /// again.verify(&mac.finalize())?;
             /// # Ok::<(), Error>(())
             /// ```
-            pub type $mac<const TAG_BYTES: usize> = crate::Mac<Marker, TAG_BYTES>;
+            pub type $mac<const TAG_BYTES: usize> = crate::Mac<Algorithm, TAG_BYTES>;
         }
     };
 }

@@ -26,12 +26,12 @@ macro_rules! in_each_variant {
     ($($check:ident)*) => {$(
         #[test]
         fn $check() {
-            checks::$check::<aegis128l::Marker>();
-            checks::$check::<aegis128x2::Marker>();
-            checks::$check::<aegis128x4::Marker>();
-            checks::$check::<aegis256::Marker>();
-            checks::$check::<aegis256x2::Marker>();
-            checks::$check::<aegis256x4::Marker>();
+            checks::$check::<aegis128l::Algorithm>();
+            checks::$check::<aegis128x2::Algorithm>();
+            checks::$check::<aegis128x4::Algorithm>();
+            checks::$check::<aegis256::Algorithm>();
+            checks::$check::<aegis256x2::Algorithm>();
+            checks::$check::<aegis256x4::Algorithm>();
         }
     )*};
 }

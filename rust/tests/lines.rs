@@ -235,12 +235,12 @@ fn answers<V: Variant>(long_tag: bool) -> fn(&[&str]) -> String {
 fn line_answer(line: &str) -> String {
     let fields: Vec<&str> = line.split(' ').collect();
     let of_variant = match fields[1] {
-        "aegis128l" => answers::<aegis128l::Marker>,
-        "aegis128x2" => answers::<aegis128x2::Marker>,
-        "aegis128x4" => answers::<aegis128x4::Marker>,
-        "aegis256" => answers::<aegis256::Marker>,
-        "aegis256x2" => answers::<aegis256x2::Marker>,
-        "aegis256x4" => answers::<aegis256x4::Marker>,
+        "aegis128l" => answers::<aegis128l::Algorithm>,
+        "aegis128x2" => answers::<aegis128x2::Algorithm>,
+        "aegis128x4" => answers::<aegis128x4::Algorithm>,
+        "aegis256" => answers::<aegis256::Algorithm>,
+        "aegis256x2" => answers::<aegis256x2::Algorithm>,
+        "aegis256x4" => answers::<aegis256x4::Algorithm>,
         name => panic!("{name} is no variant"),
     };
     if matches!(fields[0], "stream" | "xor") {

@@ -1,12 +1,12 @@
 //! The algorithm of a file, as a type and as a value.
 
 pub use crate::Variant as Algorithm;
-pub use crate::aegis128l::Marker as Aegis128L;
-pub use crate::aegis128x2::Marker as Aegis128X2;
-pub use crate::aegis128x4::Marker as Aegis128X4;
-pub use crate::aegis256::Marker as Aegis256;
-pub use crate::aegis256x2::Marker as Aegis256X2;
-pub use crate::aegis256x4::Marker as Aegis256X4;
+pub use crate::aegis128l::Algorithm as Aegis128L;
+pub use crate::aegis128x2::Algorithm as Aegis128X2;
+pub use crate::aegis128x4::Algorithm as Aegis128X4;
+pub use crate::aegis256::Algorithm as Aegis256;
+pub use crate::aegis256x2::Algorithm as Aegis256X2;
+pub use crate::aegis256x4::Algorithm as Aegis256X4;
 
 /// The algorithm that a header names.
 #[derive(Clone, Copy, Debug, PartialEq, Eq, Hash)]
