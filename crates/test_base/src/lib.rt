@@ -1,0 +1,5 @@
+//! Tests of the limit on lengths.
+#![tactic(auto)]
+
+#[cfg(test)]
+mod tests;
