@@ -443,6 +443,7 @@ if [ -n "$full" ]; then
     # A block device of a number that no driver has.
     if mknod far/block b 240 77 2> said; then
         status 3 "$tool" seal --force -k key small far/block
+        says 'is a folder or a block device'
         [ -b far/block ] || fail 'a block device was replaced'
     fi
     no_parts far
@@ -459,6 +460,7 @@ python3 -c 'import socket; socket.socket(socket.AF_UNIX).bind("socket")'
 status 3 "$tool" seal --force -k key small socket
 [ -S socket ] || fail 'a socket was replaced'
 status 3 "$tool" seal -k key small far
+says 'is a folder or a block device'
 no_parts far
 
 echo 'files of others'

@@ -53,6 +53,8 @@ pub enum Failure<'a> {
     Exists(Name<'a>),
     #[error("{0} is a link to a file that does not exist: name that file")]
     DanglingLink(Name<'a>),
+    #[error("{0} is a folder or a block device: name a file")]
+    NoOutput(Name<'a>),
     #[error("{0} is the input too: input and output must be different files")]
     SameFile(Name<'a>),
     #[error("{0} is the key file {1}: it would be lost")]
@@ -85,7 +87,7 @@ impl From<AllocError> for Failure<'_> {
     }
 }
 
-/// The exit status for a file that is refused.
+/// The exit status for a file that is rejected.
 const REFUSED: u8 = 1;
 
 /// The exit status for a command line that is not understood.

@@ -42,7 +42,7 @@ const EXAMPLES: [(&str, &str); 8] = [
 // The exit statuses.
 const STATUSES: [(u8, &str); 4] = [
     (0, "all went well"),
-    (1, "a sealed file is refused, or the part is not in it"),
+    (1, "a sealed file is rejected, or the part is not in it"),
     (2, "the command line is not understood"),
     (3, "I/O error, out of memory, or a file that is no key"),
 ];

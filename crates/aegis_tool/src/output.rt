@@ -89,23 +89,17 @@ enum Found {
     Stream,
 }
 
-// Looks at an output file. It is an error if it is a folder.
-fn find(rt: &HostRuntime, name: &str) -> io::Result<Found> {
-    let found = match fs::metadata(rt, name) {
-        Ok(found) => found,
-        Err(error) => {
-            return match error.kind() {
-                ErrorKind::NotFound => Ok(Found::Nothing),
-                _ => Err(error),
-            };
-        }
+// Looks at the file that an output's name leads to. It is an error if that is a folder or a block device.
+fn find<'a>(rt: &HostRuntime, name: &'a str, target: &str) -> Result<Found, Failure<'a>> {
+    let kind = match fs::metadata(rt, target) {
+        Ok(found) => found.file_type(),
+        Err(error) if error.kind() == ErrorKind::NotFound => return Ok(Found::Nothing),
+        Err(error) => return Err(Failure::Output(Name(name), error)),
     };
     // A block device keeps what is written, as a file does.
-    let kind = found.file_type();
-    if found.is_dir() || kind.is_block_device() {
-        return Err(io::Error::from(ErrorKind::IsADirectory));
-    }
-    if found.is_file() {
+    if kind.is_dir() || kind.is_block_device() {
+        Err(Failure::NoOutput(Name(name)))
+    } else if kind.is_file() {
         Ok(Found::File)
     } else {
         Ok(Found::Stream)
@@ -145,14 +139,10 @@ pub fn open_target<'a>(
     quiet: bool,
 ) -> Result<Target<'a>, Failure<'a>> {
     let target = followed(rt, name)?;
-    match find(rt, target.as_str()) {
-        Err(error) => Err(Failure::Output(Name(name), error)),
-        Ok(Found::File) if !replace => Err(Failure::Exists(Name(name))),
-        Ok(Found::Stream) => Ok(Target::Direct(open_stream(rt, name, target.as_str())?)),
-        Ok(_) => {
-            let part = Part::new(rt, Name(name), target, replace, quiet)?;
-            Ok(Target::Part(part))
-        }
+    match find(rt, name, target.as_str())? {
+        Found::File if !replace => Err(Failure::Exists(Name(name))),
+        Found::Stream => Ok(Target::Direct(open_stream(rt, name, target.as_str())?)),
+        _ => Ok(Target::Part(Part::new(rt, Name(name), target, replace, quiet)?)),
     }
 }
 
