@@ -10,31 +10,31 @@ use Rattle.aegis_base.specs.Run.{Held, Stands}
 use Rattle.aegis.specs.Calls.{sealed_at}
 use Rattle.aegis.specs.Records.{associated_data, nonce, sealed}
 use Rattle.aegis.specs.RecordStream.{limit}
-use Rattle.aegis.specs.declared.record.record_cipher.RecordPlace.{RecordPlace}
+use Rattle.aegis.specs.declared.record.position.RecordPosition.{RecordPosition}
 use Rattle.aegis.specs.declared.record.record_cipher.RecordCipher.{RecordCipher}
 use Rattle.aegis.specs.declared.record.version.Version.{Version}
 use Rattle.aegis.specs.declared.record.version.Version.TheVariants.{First, Second}
 use Rattle.aegis.proofs.Sealed.{drop-past}
 
 -- the nonce and the associated data of a record
-abbrev pub nonce_of : RecordCipher → RecordPlace → List ℕ
-nonce_of cipher place = nonce cipher.prefix.now place.number
+abbrev pub nonce_of : RecordCipher → RecordPosition → List ℕ
+nonce_of cipher position = nonce cipher.prefix.now position.number
 
-abbrev pub data_of : RecordCipher → RecordPlace → List ℕ
-data_of cipher place = associated_data place.version place.number place.before place.flag cipher.context.now
+abbrev pub data_of : RecordCipher → RecordPosition → ℕ → List ℕ
+data_of cipher position flag = associated_data position.version position.number position.before flag cipher.context.now
 
 -- an encryptor stands for this front of a record's message
-abbrev pub StandsFor : RecordCipher → RecordPlace → Held → List ℕ → Type 0
-StandsFor cipher place encryptor m =
-    Stands Aegis256 encryptor cipher.key.now (nonce_of cipher place) (data_of cipher place) m
+abbrev pub StandsFor : RecordCipher → RecordPosition → ℕ → Held → List ℕ → Type 0
+StandsFor cipher position flag encryptor m =
+    Stands Aegis256 encryptor cipher.key.now (nonce_of cipher position) (data_of cipher position flag) m
 
 -- of a record's message `rest` is to be sealed yet, and the ciphertext of the bytes before it follows what the stream held
-pub record HasSealed (cipher : RecordCipher) (place : RecordPlace) (message rest : List ℕ) (encryptor : Held) (before out : List ℕ) : Type 0 where
+pub record HasSealed (cipher : RecordCipher) (position : RecordPosition) (flag : ℕ) (message rest : List ℕ) (encryptor : Held) (before out : List ℕ) : Type 0 where
   pub done : List ℕ
   pub parts : done ++ rest ≡ message
-  pub stands : StandsFor cipher place encryptor done
+  pub stands : StandsFor cipher position flag encryptor done
   pub bytes : encryptor.message_bytes ≡ length done
-  pub items : out ≡ before ++ ciphertext Aegis256 cipher.key.now (nonce_of cipher place) (data_of cipher place) done
+  pub items : out ≡ before ++ ciphertext Aegis256 cipher.key.now (nonce_of cipher position) (data_of cipher position flag) done
 
 pub limit-within : (v : Version) → limit v ≤ 16777216
 limit-within First = omega arith
@@ -59,14 +59,14 @@ piece_sealed stream n all out piece sealed is e long same =
         refl
 
 -- the ciphertext and the tag of all of a message
-pub all_sealed : (cipher : RecordCipher) (place : RecordPlace) (message rest : List ℕ) (encryptor : Held) (before out t all : List ℕ)
-    → HasSealed cipher place message rest encryptor before out → length rest ≡ 0
-    → ((m : List ℕ) → StandsFor cipher place encryptor m → t ≡ tag Aegis256 32 cipher.key.now (nonce_of cipher place) (data_of cipher place) m)
-    → all ≡ out ++ t → all ≡ before ++ sealed_at cipher place message
+pub all_sealed : (cipher : RecordCipher) (position : RecordPosition) (flag : ℕ) (message rest : List ℕ) (encryptor : Held) (before out t all : List ℕ)
+    → HasSealed cipher position flag message rest encryptor before out → length rest ≡ 0
+    → ((m : List ℕ) → StandsFor cipher position flag encryptor m → t ≡ tag Aegis256 32 cipher.key.now (nonce_of cipher position) (data_of cipher position flag) m)
+    → all ≡ out ++ t → all ≡ before ++ sealed_at cipher position flag message
 unfolding sealed
-all_sealed cipher place message rest encryptor before out t all has none is e =
+all_sealed cipher position flag message rest encryptor before out t all has none is e =
     let whole : has.done ≡ message = sym (append-nil has.done) ∙ ap (λ (l : List ℕ). has.done ++ l) (sym (nil_from_length rest none)) ∙ has.parts in
     e ∙ ap (λ (l : List ℕ). l ++ t) has.items
-    ∙ append_assoc before (ciphertext Aegis256 cipher.key.now (nonce_of cipher place) (data_of cipher place) has.done) t
-    ∙ ap (λ (l : List ℕ). before ++ (ciphertext Aegis256 cipher.key.now (nonce_of cipher place) (data_of cipher place) has.done ++ l)) (is has.done has.stands)
-    ∙ ap (λ (m : List ℕ). before ++ sealed_at cipher place m) whole
+    ∙ append_assoc before (ciphertext Aegis256 cipher.key.now (nonce_of cipher position) (data_of cipher position flag) has.done) t
+    ∙ ap (λ (l : List ℕ). before ++ (ciphertext Aegis256 cipher.key.now (nonce_of cipher position) (data_of cipher position flag) has.done ++ l)) (is has.done has.stands)
+    ∙ ap (λ (m : List ℕ). before ++ sealed_at cipher position flag m) whole

@@ -5,7 +5,7 @@ use Rattle.std.specs.declared.vec.Vec.{Vec}
 use Rattle.aegis.specs.declared.record.error.RecordError.{RecordError}
 use Rattle.aegis.specs.declared.record.error.RecordError.TheVariants as errors
 use Rattle.aegis.specs.declared.record.frame.Frame.{Frame}
-use Rattle.aegis.specs.declared.record.record_cipher.RecordPlace.{RecordPlace}
+use Rattle.aegis.specs.declared.record.position.RecordPosition.{RecordPosition}
 use Rattle.aegis.specs.declared.record.record_cipher.RecordCipher.{RecordCipher}
 use Rattle.aegis.specs.declared.record.record_opener.Opened.{Opened}
 use Rattle.aegis.specs.declared.record.record_opener.in_place.OpenedInPlace.{OpenedInPlace}
@@ -82,12 +82,12 @@ AreParts (Err e) found = found ≡ Err e
 abbrev pub sealing_of : RecordCipher → Sealing
 sealing_of cipher = sealed cipher.key.now cipher.prefix.now cipher.context.now
 
-abbrev pub sealed_at : RecordCipher → RecordPlace → List ℕ → List ℕ
-sealed_at cipher place m = sealing_of cipher place.version place.number place.before place.flag m
+abbrev pub sealed_at : RecordCipher → RecordPosition → (flag : ℕ) → (m : List ℕ) → List ℕ
+sealed_at cipher position flag m = sealing_of cipher position.version position.number position.before flag m
 
--- the whole record of a message at a place
-abbrev pub frame_at : RecordCipher → RecordPlace → List ℕ → List ℕ
-frame_at cipher place m = frame (sealing_of cipher) place.version place.number place.before place.flag m
+-- the whole record of a message at a position
+abbrev pub frame_at : RecordCipher → RecordPosition → (flag : ℕ) → (m : List ℕ) → List ℕ
+frame_at cipher position flag m = frame (sealing_of cipher) position.version position.number position.before flag m
 
 -- the bytes begin with record k, after messages of o bytes: it is message m with this flag, and `rest` follows it
 pub record IsRecord (sealing : Sealing) (v : Version) (k o flag : ℕ) (m rest bytes : List ℕ) : Type 0 where

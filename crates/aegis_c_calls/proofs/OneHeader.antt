@@ -6,8 +6,8 @@ use Rattle.aegis_pages.specs.Headers.{header_text}
 use Rattle.aegis_pages.specs.Layouts.{Layout, OpensAt, box_bytes}
 use Rattle.aegis_pages.specs.declared.header.FileHeader.{FileHeader}
 use Rattle.aegis_pages.specs.declared.layout.TheConstants.{HEADER_NUMBER}
-use Rattle.aegis_pages.proofs.Boxes.{opens_one}
-use Rattle.aegis_pages.proofs.Heading.{one_layout, one_text}
+use Rattle.aegis_pages.proofs.BoxFacts.{opens_one}
+use Rattle.aegis_pages.proofs.HeaderFacts.{one_layout, one_text}
 use Rattle.aegis_storage.specs.Bytes.{part_at}
 use Rattle.aegis_c_calls.specs.PageCalls.{HasHeader, file_of, header_of}
 

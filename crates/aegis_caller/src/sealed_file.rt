@@ -3,7 +3,7 @@
 ghost use Rattle.std.specs.Prelude.{◌≡◌, ◌<◌, ◌≤◌, IfErr, IfOk, List, length, take, ℕ};
 ghost use Rattle.aegis_base.specs.declared.error.TheConstants.{MAX_AEAD_BYTES};
 ghost use Rattle.aegis.specs.Progress.{start_at};
-ghost use Rattle.aegis_files.specs.Range.{AreFrom, IsTextFrom, part_of};
+ghost use Rattle.aegis_files.specs.Range.{AreFrom, IsTextFrom, most_records, part_of};
 ghost use Rattle.aegis_files.specs.SealedFile.{IfRefused, IsFileOf, IsSealedFile};
 
 use aegis::aegis256::Key;
@@ -62,14 +62,13 @@ pub fn open_part<A: Allocator + Copy>(
 ) -> Result<Vec<u8, A>, FileError>
     requires context_within { length context.now ≤ MAX_CONTEXT_BYTES }
     requires start_within { start_at range.position.number range.position.before ≤ MAX_AEAD_BYTES }
-    requires some_records { 0 < range.records }
     ensures opened { IfOk result (λ part. (flag : ℕ) × (messages : List (List ℕ))
         × (rest : List ℕ) × (0 < length messages)
         × AreFrom key.now prefix.now context.now range.position flag messages rest records.now
         × (part.items ≡ part_of range messages)
         × ((following : List (List ℕ)) (text : List ℕ)
         → IsTextFrom key.now prefix.now context.now range.position following text records.now
-        → part_of range messages ≡ part_of range (take range.records following))) }
+        → part_of range messages ≡ part_of range (take (most_records range) following))) }
     ensures accepted { IfErr result (λ e. (following : List (List ℕ)) (text : List ℕ)
         → IsTextFrom key.now prefix.now context.now range.position following text records.now
         → IfRefused e (λ why. why ≡ RecordError.OutOfMemory)) }

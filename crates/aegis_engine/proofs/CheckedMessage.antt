@@ -51,31 +51,31 @@ module _ {M : Type 1} {𝓤 : Ura M} (𝓛 : Logic 𝓤) (𝓜 : Model 𝓤 𝓛
     abbrev pub at : Row.Denot → Val → Call.Ghost
     at r v = (((κ, tt), (q, tt), tt, (r, tt), (v ∷ [], tt)), tt)
 
-    -- what the lender has at the end: what is written to the message or, without one, zeros, and then the rest
+    -- what the lender has at the end: what is filled to the message or, without one, zeros, and then the rest
     abbrev pub Ends : GName → ℕ → List ℕ → Out.Denot → Fml
     Ends γ n rest o = follows_if (Array u8 0) (Array u8 0) γ (name_if_ok (λ x. x.ghost_name) o) (λ w. w ++ rest) (replicate n 0 ++ rest)
 
     abbrev pub Cases : Row.Denot → Out.Denot → Type 0
-    Cases r o = MatchResult o (λ x. (r.accepted ≡ true) × (x.now ≡ take r.written r.dst.now) × (x.ref_ptr ≡ r.dst.ref_ptr)) (λ e. (r.accepted ≡ false) × (e ≡ Error.InvalidTag))
+    Cases r o = MatchResult o (λ x. (r.accepted ≡ true) × (x.now ≡ take r.filled r.dst.now) × (x.ref_ptr ≡ r.dst.ref_ptr)) (λ e. (r.accepted ≡ false) × (e ≡ Error.InvalidTag))
 
     module _ {K : Type 0} {Γ : List (Item 𝓤)} {G : Goal 𝓤 𝓛.H} where
       -- what is checked, with its lifetime's token, is what the call asks
-      pub asks : K → (r : Row.Denot) (v : Val) → r.written ≤ length r.dst.now → (r.accepted ≡ false → r.dst.now ≡ replicate r.written 0 ++ drop_list r.written r.dst.now)
+      pub asks : K → (r : Row.Denot) (v : Val) → r.filled ≤ length r.dst.now → (r.accepted ≡ false → r.dst.now ≡ replicate r.filled 0 ++ drop_list r.filled r.dst.now)
           → Step K 𝓛 (raw (Call.pre (at r v)) ∷ Γ) G (‵ (flft κ q) ∷ ‵ (Row.own_val r (v ∷ [])) ∷ Γ) G
       asks t r v within gone = step (λ s.
           nothing t $ move t (1 ∷ 0 ∷ []) $ join t $ move t (1 ∷ []) $ nothing t $ move t (1 ∷ 0 ∷ []) $ join t $ move t (1 ∷ []) $ join t $
-          use0 𝓛 (raw (fact 𝓤 (r.accepted ≡ false → r.dst.now ≡ replicate r.written 0 ++ drop_list r.written r.dst.now))) (fact_i 𝓤 _ (emp 𝓤) gone) $
-          use0 𝓛 (raw (fact 𝓤 (r.written ≤ length r.dst.now))) (fact_i 𝓤 _ (emp 𝓤) within) $ join t $ move t (1 ∷ 0 ∷ []) $ use2 𝓛 (raw (Call.pre (at r v))) (id⊢ 𝓤 _) $ s)
+          use0 𝓛 (raw (fact 𝓤 (r.accepted ≡ false → r.dst.now ≡ replicate r.filled 0 ++ drop_list r.filled r.dst.now))) (fact_i 𝓤 _ (emp 𝓤) gone) $
+          use0 𝓛 (raw (fact 𝓤 (r.filled ≤ length r.dst.now))) (fact_i 𝓤 _ (emp 𝓤) within) $ join t $ move t (1 ∷ 0 ∷ []) $ use2 𝓛 (raw (Call.pre (at r v))) (id⊢ 𝓤 _) $ s)
 
       -- what the call returns: the name, the count and the rest are those of the walk's own destination
-      pub returned : K → Soaks G → (r : Row.Denot) (v u : Val) {γ : GName} {n : ℕ} {rest : List ℕ} → r.dst.ghost_name ≡ γ → r.written ≡ n → drop_list r.written r.dst.now ≡ rest
+      pub returned : K → Soaks G → (r : Row.Denot) (v u : Val) {γ : GName} {n : ℕ} {rest : List ℕ} → r.dst.ghost_name ≡ γ → r.filled ≡ n → drop_list r.filled r.dst.now ≡ rest
           → ((o : Out.Denot) → Cases r o → Typed Out.mir (u ∷ []) → Seq K 𝓛 (‵ (Out.own_val o (u ∷ [])) ∷ ‵ (Ends γ n rest o) ∷ (‵ (flft κ q) ⊛ ‵ ftrue) ∷ Γ) G)
           → Seq K 𝓛 (raw (Call.post (at r v) u) ∷ Γ) G
       returned t soaks r v u {γ} {n} {rest} name count left k =
           use1 𝓛 (later (some (λ (o : Out.Denot). ((‵ (flft κ q) ⊛ ‵ ftrue) ⊛ ‵ (Out.own_val o (u ∷ []))) ⊛ some (λ (ws : Lasts h.ended (κ, tt) (r, tt)). ‵ (lasts h.ended (κ, tt) (r, tt) ws)
-          ⊛ (‵ (Ends r.dst.ghost_name r.written (drop_list r.written r.dst.now) o) ⊛ raw (fact 𝓤 (Cases r o))))))) (id⊢ 𝓤 (Call.post (at r v) u)) $
+          ⊛ (‵ (Ends r.dst.ghost_name r.filled (drop_list r.filled r.dst.now) o) ⊛ raw (fact 𝓤 (Cases r o))))))) (id⊢ 𝓤 (Call.post (at r v) u)) $
           await t soaks $ pick t (λ o. split t $ split t $ move t (2 ∷ []) $ pick t (λ ws. split t $ drop t $ split t $ move t (1 ∷ []) $ heard t _ (λ cases.
-          rewrite t 0 (λ (l : List ℕ). ‵ (Ends r.dst.ghost_name r.written l o)) left refl $
+          rewrite t 0 (λ (l : List ℕ). ‵ (Ends r.dst.ghost_name r.filled l o)) left refl $
           rewrite t 0 (λ (m : ℕ). ‵ (Ends r.dst.ghost_name m rest o)) count refl $
           rewrite t 0 (λ (g : GName). ‵ (Ends g n rest o)) name refl $
           move t (2 ∷ []) $ peeks t Out _ (shows 𝓛 Out) o (u ∷ []) (λ is. k o cases (((result_laws (MutSlice ℓ κ u8) ER.the_row (slice_laws ℓ κ) error_laws).lawful 𝓛).typed o _ is)))))

@@ -6,11 +6,11 @@ use Rattle.aegis_base.specs.declared.state.LaneState as lane_state
 use Rattle.aegis_engine.specs.declared.decryptor.Decryptor.{Decryptor}
 
 module _ {S R : Type 0} {n : ℕ} {L : lane_state.Ghosts S R} {r : row.Ghosts R} where
-  abbrev pub holds : Decryptor S n R L r → Held
-  holds d = d.run
+  abbrev pub held : Decryptor S n R L r → Held
+  held d = d.run
 
-  abbrev pub written : Decryptor S n R L r → ℕ
-  written d = d.run.message_bytes
+  abbrev pub filled : Decryptor S n R L r → ℕ
+  filled d = d.run.message_bytes
 
   abbrev pub front : Decryptor S n R L r → List ℕ
   front d = take d.run.message_bytes d.dst.now

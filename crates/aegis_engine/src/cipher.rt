@@ -9,7 +9,7 @@ ghost use Rattle.std.specs.Borrow.{Array, LendsIfOk, sem, u8};
 ghost use Rattle.aegis_base.specs.Chunks.{OpensChunks, accepted, erased, joined};
 ghost use Rattle.aegis_base.specs.Message.{Opens, ciphertext, seal, keystream, tag, xor_keystream};
 ghost use Rattle.aegis_base.specs.Run.{Stands};
-ghost use Rattle.aegis_engine.specs.Front.{front, holds, written};
+ghost use Rattle.aegis_engine.specs.Front.{front, held, filled};
 ghost use Rattle.aegis_base.specs.Variant.{cipher_name, key_length};
 
 use crate::decryptor::Decryptor;
@@ -352,8 +352,8 @@ impl<S: LaneState, U, const KEY_BYTES: usize, const TAG_BYTES: usize> Cipher<
         ensures same_reference { result.dst.ghost_name ≡ plaintext.entry.ghost_name }
         ensures same_place { result.dst.ref_ptr ≡ plaintext.entry.ref_ptr }
         ensures unchanged { result.dst.now ≡ plaintext.old }
-        ensures written { written result ≡ 0 }
-        ensures stands { Stands S.VARIANT (holds result) self.now.key self.now.nonce ad.now
+        ensures filled { filled result ≡ 0 }
+        ensures stands { Stands S.VARIANT (held result) self.now.key self.now.nonce ad.now
             (front result) }
         ensures empty { ciphertext S.VARIANT self.now.key self.now.nonce ad.now (front result)
             ≡ [] }
@@ -374,7 +374,7 @@ impl<S: LaneState, U, const KEY_BYTES: usize, const TAG_BYTES: usize> Cipher<
         dst: &mut [u8],
     ) -> (usize, bool)
         requires { length ad.now ≤ MAX_AEAD_BYTES }
-        ensures written { result.0 ≡ length (accepted (length dst.old) chunks.now) }
+        ensures filled { result.0 ≡ length (accepted (length dst.old) chunks.now) }
         ensures within { result.0 ≤ length dst.new }
         ensures rest { drop result.0 dst.new ≡ drop result.0 dst.old }
         ensures opened { result.1 ≡ true
@@ -405,14 +405,14 @@ impl<S: LaneState, U, const KEY_BYTES: usize, const TAG_BYTES: usize> Cipher<
         requires { length ad.now ≤ MAX_AEAD_BYTES }
         ensures same_reference { result.dst.ghost_name ≡ dst.entry.ghost_name }
         ensures same_place { result.dst.ref_ptr ≡ dst.entry.ref_ptr }
-        ensures within { result.written ≤ length result.dst.now }
-        ensures written { result.written ≡ length (accepted (length dst.old) chunks.now) }
+        ensures within { result.filled ≤ length result.dst.now }
+        ensures filled { result.filled ≡ length (accepted (length dst.old) chunks.now) }
         ensures erased { result.accepted ≡ false
-            → result.dst.now ≡ erased result.written result.dst.now }
-        ensures rest { drop result.written result.dst.now ≡ drop result.written dst.old }
+            → result.dst.now ≡ erased result.filled result.dst.now }
+        ensures rest { drop result.filled result.dst.now ≡ drop result.filled dst.old }
         ensures opened { result.accepted ≡ true
             → OpensChunks S.VARIANT TAG_BYTES self.now ad.now (length dst.old) chunks.now
-            tag.now (take result.written result.dst.now) }
+            tag.now (take result.filled result.dst.now) }
         ensures accepted { (m : List ℕ)
             → OpensChunks S.VARIANT TAG_BYTES self.now ad.now (length dst.old) chunks.now
             tag.now m
@@ -420,13 +420,13 @@ impl<S: LaneState, U, const KEY_BYTES: usize, const TAG_BYTES: usize> Cipher<
         ensures only { (m : List ℕ)
             → OpensChunks S.VARIANT TAG_BYTES self.now ad.now (length dst.old) chunks.now
             tag.now m
-            → take result.written result.dst.now ≡ m }
+            → take result.filled result.dst.now ≡ m }
     {
-        let (written, is_right) = self.open_chunks_unchecked(ad, chunks, tag, dst);
-        erase_unless(dst, written, is_right);
+        let (filled, is_right) = self.open_chunks_unchecked(ad, chunks, tag, dst);
+        erase_unless(dst, filled, is_right);
         Checked {
             dst,
-            written,
+            filled,
             accepted: is_right,
         }
     }
@@ -498,7 +498,7 @@ impl<S: LaneState, U, const KEY_BYTES: usize, const TAG_BYTES: usize> Cipher<
             (dst.new ≡ erased (length (accepted (length dst.old) chunks.now)) dst.old) }
         ensures error { IfErr result (λ e. e ≡ Error.InvalidTag) }
     {
-        let (written, is_right) = self.open_chunks_unchecked(ad, chunks, tag, dst);
-        accepted_len(dst, written, is_right)
+        let (filled, is_right) = self.open_chunks_unchecked(ad, chunks, tag, dst);
+        accepted_len(dst, filled, is_right)
     }
 }

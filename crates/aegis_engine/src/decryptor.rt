@@ -29,10 +29,10 @@ pub struct Decryptor<'a, S: LaneState, const TAG_BYTES: usize> {
 }
 
 impl<S: LaneState, const TAG_BYTES: usize> Drop for Decryptor<'_, S, TAG_BYTES> {
-    ghost use Rattle.aegis_engine.specs.Front.{written};
+    ghost use Rattle.aegis_engine.specs.Front.{filled};
 
     fn drop(self)
-        ensures { self.exit.0.now ≡ erased (written self.entry) self.entry.dst.now }
+        ensures { self.exit.0.now ≡ erased (filled self.entry) self.entry.dst.now }
     {
         let Decryptor { dst, run } = self;
         erase(dst, run.message_bytes() as usize);
@@ -49,7 +49,7 @@ impl<S: LaneState, const TAG_BYTES: usize> fmt::Debug for Decryptor<'_, S, TAG_B
 }
 
 impl<'a, S: LaneState, const TAG_BYTES: usize> Decryptor<'a, S, TAG_BYTES> {
-    ghost use Rattle.aegis_engine.specs.Front.{front, holds, written};
+    ghost use Rattle.aegis_engine.specs.Front.{front, held, filled};
 
     /// Opens the next chunk of the ciphertext, and writes it to the destination after the previous chunks.
     ///
@@ -60,25 +60,25 @@ impl<'a, S: LaneState, const TAG_BYTES: usize> Decryptor<'a, S, TAG_BYTES> {
         ensures same_reference { self.new.dst.ghost_name ≡ self.old.dst.ghost_name }
         ensures same_place { self.new.dst.ref_ptr ≡ self.old.dst.ref_ptr }
         ensures too_small { (result ≡ Err Error.OutputBufferTooSmall)
-            ↔ (length self.old.dst.now < written self.old + length chunk.now) }
+            ↔ (length self.old.dst.now < filled self.old + length chunk.now) }
         ensures too_long { (result ≡ Err Error.MessageTooLong)
-            ↔ ((written self.old + length chunk.now ≤ length self.old.dst.now)
-            × (MAX_AEAD_BYTES < written self.old + length chunk.now)) }
+            ↔ ((filled self.old + length chunk.now ≤ length self.old.dst.now)
+            × (MAX_AEAD_BYTES < filled self.old + length chunk.now)) }
         ensures accepted { IsOk result
-            ↔ ((written self.old + length chunk.now ≤ length self.old.dst.now)
-            × (written self.old + length chunk.now ≤ MAX_AEAD_BYTES)) }
+            ↔ ((filled self.old + length chunk.now ≤ length self.old.dst.now)
+            × (filled self.old + length chunk.now ≤ MAX_AEAD_BYTES)) }
         ensures stands { Continues S.VARIANT
-            (holds self.old) (front self.old) (holds self.new) (front self.new) }
+            (held self.old) (front self.old) (held self.new) (front self.new) }
         ensures ciphertext { OnOk result
-            (Decrypts S.VARIANT (holds self.old) (front self.old) chunk.now (front self.new)) }
-        ensures written { OnOk result (written self.new ≡ written self.old + length chunk.now) }
+            (Decrypts S.VARIANT (held self.old) (front self.old) chunk.now (front self.new)) }
+        ensures filled { OnOk result (filled self.new ≡ filled self.old + length chunk.now) }
         ensures room { length self.new.dst.now ≡ length self.old.dst.now }
-        ensures front { take (written self.old) self.new.dst.now
-            ≡ take (written self.old) self.old.dst.now }
-        ensures rest { (n : ℕ) → written self.new ≤ n
+        ensures front { take (filled self.old) self.new.dst.now
+            ≡ take (filled self.old) self.old.dst.now }
+        ensures rest { (n : ℕ) → filled self.new ≤ n
             → drop n self.new.dst.now ≡ drop n self.old.dst.now }
         ensures unchanged { OnErr result ((self.new.dst.now ≡ self.old.dst.now)
-            × (holds self.new ≡ holds self.old)) }
+            × (held self.new ≡ held self.old)) }
     {
         self.run.open_chunk(self.dst, chunk)
     }
@@ -87,25 +87,25 @@ impl<'a, S: LaneState, const TAG_BYTES: usize> Decryptor<'a, S, TAG_BYTES> {
     fn check_tag(self, tag: &[u8; TAG_BYTES]) -> Checked<'a>
         ensures same_reference { result.dst.ghost_name ≡ self.entry.dst.ghost_name }
         ensures same_place { result.dst.ref_ptr ≡ self.entry.dst.ref_ptr }
-        ensures written { result.written ≡ written self.entry }
-        ensures within { result.written ≤ length result.dst.now }
+        ensures filled { result.filled ≡ filled self.entry }
+        ensures within { result.filled ≤ length result.dst.now }
         ensures kept { result.accepted ≡ true → result.dst.now ≡ self.entry.dst.now }
         ensures erased { result.accepted ≡ false
-            → result.dst.now ≡ erased result.written result.dst.now }
-        ensures rest { drop result.written result.dst.now
-            ≡ drop (written self.entry) self.entry.dst.now }
+            → result.dst.now ≡ erased result.filled result.dst.now }
+        ensures rest { drop result.filled result.dst.now
+            ≡ drop (filled self.entry) self.entry.dst.now }
         ensures tag { IsTagged S.VARIANT TAG_BYTES
-            (holds self.entry) (front self.entry) tag.now (result.accepted ≡ true) }
+            (held self.entry) (front self.entry) tag.now (result.accepted ≡ true) }
         ensures accepted { IsAccepted S.VARIANT TAG_BYTES
-            (holds self.entry) (front self.entry) tag.now (result.accepted ≡ true) }
+            (held self.entry) (front self.entry) tag.now (result.accepted ≡ true) }
     {
         let Decryptor { dst, run } = self;
         let accepted = run.has_tag(tag);
-        let written = run.message_bytes() as usize;
-        erase_unless(dst, written, accepted);
+        let filled = run.message_bytes() as usize;
+        erase_unless(dst, filled, accepted);
         Checked {
             dst,
-            written,
+            filled,
             accepted,
         }
     }
@@ -114,16 +114,16 @@ impl<'a, S: LaneState, const TAG_BYTES: usize> Decryptor<'a, S, TAG_BYTES> {
     /// [`Error::InvalidTag`], and the bytes of the message are zeros. The bytes after it are unchanged.
     pub fn finalize(self, tag: &[u8; TAG_BYTES]) -> Result<&'a mut [u8], Error>
         ensures* writes_back { sem 𝓛 (LendsIfOk (Array u8 0) (Array u8 0) self.entry.dst result
-            (λ w. w ++ drop (written self.entry) self.entry.dst.now)
-            (erased (written self.entry) self.entry.dst.now)) }
+            (λ w. w ++ drop (filled self.entry) self.entry.dst.now)
+            (erased (filled self.entry) self.entry.dst.now)) }
         ensures cases { MatchResult result
             (λ message. message.now ≡ front self.entry)
             (λ e. e ≡ Error.InvalidTag) }
         ensures place { IfOk result (λ message. message.ref_ptr ≡ self.entry.dst.ref_ptr) }
         ensures tag { IsTagged S.VARIANT TAG_BYTES
-            (holds self.entry) (front self.entry) tag.now (IsOk result) }
+            (held self.entry) (front self.entry) tag.now (IsOk result) }
         ensures accepted { IsAccepted S.VARIANT TAG_BYTES
-            (holds self.entry) (front self.entry) tag.now (IsOk result) }
+            (held self.entry) (front self.entry) tag.now (IsOk result) }
     {
         accepted_message(self.check_tag(tag))
     }
@@ -132,15 +132,15 @@ impl<'a, S: LaneState, const TAG_BYTES: usize> Decryptor<'a, S, TAG_BYTES> {
     /// Otherwise returns [`Error::InvalidTag`], and the bytes of the message are zeros. The bytes after it are
     /// unchanged.
     pub fn finalize_len(self, tag: &[u8; TAG_BYTES]) -> Result<usize, Error>
-        ensures written { OnOk result (result ≡ Ok (written self.entry)) }
+        ensures filled { OnOk result (result ≡ Ok (filled self.entry)) }
         ensures message { OnOk result (self.exit.0.now ≡ self.entry.dst.now) }
         ensures erased { OnErr result (self.exit.0.now
-            ≡ erased (written self.entry) self.entry.dst.now) }
+            ≡ erased (filled self.entry) self.entry.dst.now) }
         ensures error { IfErr result (λ e. e ≡ Error.InvalidTag) }
         ensures tag { IsTagged S.VARIANT TAG_BYTES
-            (holds self.entry) (front self.entry) tag.now (IsOk result) }
+            (held self.entry) (front self.entry) tag.now (IsOk result) }
         ensures accepted { IsAccepted S.VARIANT TAG_BYTES
-            (holds self.entry) (front self.entry) tag.now (IsOk result) }
+            (held self.entry) (front self.entry) tag.now (IsOk result) }
         ensures only { (key nonce ad m : List ℕ)
             → ciphertext S.VARIANT key nonce ad m
             ≡ ciphertext S.VARIANT key nonce ad (front self.entry)

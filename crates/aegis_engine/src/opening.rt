@@ -30,7 +30,7 @@ impl<S: LaneState> Run<S> {
         ensures ciphertext { OnOk result
             (Decrypts S.VARIANT self.old (take self.old.message_bytes dst.old) chunk.now
             (take self.new.message_bytes dst.new)) }
-        ensures written { OnOk result
+        ensures message_bytes { OnOk result
             (self.new.message_bytes ≡ self.old.message_bytes + length chunk.now) }
         ensures grows { self.old.message_bytes ≤ self.new.message_bytes }
         ensures within { self.new.message_bytes ≤ length dst.new }
@@ -61,7 +61,7 @@ impl<S: LaneState> Run<S> {
             → ciphertext S.VARIANT key nonce ad (take self.new.message_bytes dst.new)
             ≡ accepted_after (length dst.old)
             (ciphertext S.VARIANT key nonce ad (take self.old.message_bytes dst.old)) chunks.now }
-        ensures written { (kept : List ℕ) → length kept ≡ self.old.message_bytes
+        ensures message_bytes { (kept : List ℕ) → length kept ≡ self.old.message_bytes
             → self.new.message_bytes ≡ length (accepted_after (length dst.old) kept chunks.now) }
         ensures within { self.new.message_bytes ≤ length dst.new }
         ensures message_within { self.new.message_bytes ≤ MAX_AEAD_BYTES }

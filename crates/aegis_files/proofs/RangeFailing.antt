@@ -14,7 +14,7 @@ use Rattle.aegis.proofs.Streams.{one_fault}
 use Rattle.aegis_files.specs.declared.error.FileError.{FileError}
 use Rattle.aegis_files.specs.declared.error.FileError.TheVariants.{Read, Write, Stream, TooLong}
 use Rattle.aegis_files.specs.declared.range.TextRange.{TextRange}
-use Rattle.aegis_files.specs.Range.{IsFaultFrom, IsTextFrom, StopsRange, part_of}
+use Rattle.aegis_files.specs.Range.{IsFaultFrom, IsTextFrom, StopsRange, most_records, part_of}
 use Rattle.aegis_files.specs.Reading.{FailsNext, ReadsNext}
 use Rattle.aegis_files.specs.SealedFile.{IfRefused, IfTooLong, IsWriteError}
 use Rattle.aegis_files.proofs.Errors.{in_time, so_refused, unwritten, write_in_time}
@@ -23,7 +23,7 @@ use Rattle.aegis_files.proofs.Ranges.{RangeMore, RangeSome, ReadsFrom, are_from,
 use Rattle.aegis_files.proofs.Sealing.{split}
 
 stopped : (key prefix context : List ℕ) (range : TextRange) (p : Progress) (is_last : Bool) (messages : List (List ℕ)) (taken f begun more : List ℕ) (left old new : Option (List ℕ)) (e : FileError)
-    → ReadsFrom key prefix context range.position p is_last messages taken → length messages ≤ range.records → Consumes (Some f) left taken → Appends old new begun
+    → ReadsFrom key prefix context range.position p is_last messages taken → length messages ≤ most_records range → Consumes (Some f) left taken → Appends old new begun
     → part_of range messages ≡ begun ++ more → (more ≡ []) ⊎ IsWriteError e
     → IfRefused e (λ why. (why ≡ errors.OutOfMemory) ⊎ IsFaultFrom key prefix context range.position f why)
     → IfTooLong e (MAX_AEAD_BYTES < start_at range.position.number range.position.before + length f)

@@ -18,7 +18,7 @@ use Rattle.aegis.proofs.Stepwise.{length-record_of}
 use Rattle.aegis.proofs.Streams.{one_record_stream}
 use Rattle.aegis_files.specs.declared.range.OpenedRange.{OpenedRange}
 use Rattle.aegis_files.specs.declared.range.TextRange.{TextRange}
-use Rattle.aegis_files.specs.Range.{AreFrom, IsTextFrom, OpensRange, part_of, part_of_text}
+use Rattle.aegis_files.specs.Range.{AreFrom, IsTextFrom, OpensRange, most_records, part_of, part_of_text}
 use Rattle.aegis_files.specs.Reading.{ReadsNext}
 use Rattle.aegis_files.proofs.Pieces.{concat-append, concat-push, part-append, part_nil, total-concat}
 use Rattle.aegis_files.proofs.Sealing.{counted, split}
@@ -146,29 +146,29 @@ after_them a x y e = sym (drop_at a x (length a) refl) ∙ ap (drop (length a)) 
 -- the records asked for are those of the messages, and others if their last record is not the stream's and more are asked for
 pub record GoesOn (range : TextRange) (is_last : Bool) (messages following : List (List ℕ)) : Type 0 where
   pub others : List ℕ
-  pub part_is : part_of range (take range.records following) ≡ take range.length (drop range.skip (concat messages ++ others))
+  pub part_is : part_of range (take (most_records range) following) ≡ take range.length (drop range.skip (concat messages ++ others))
   pub ends : OnTrue is_last (others ≡ [])
-  pub full : length messages ≡ range.records → others ≡ []
+  pub full : length messages ≡ most_records range → others ≡ []
 
 pub goes_on : (key prefix context : List ℕ) (range : TextRange) (p : Progress) (is_last : Bool) (messages : List (List ℕ)) (taken rest stream : List ℕ) (following : List (List ℕ)) (text : List ℕ)
-    → ReadsFrom key prefix context range.position p is_last messages taken → stream ≡ taken ++ rest → length messages ≤ range.records
+    → ReadsFrom key prefix context range.position p is_last messages taken → stream ≡ taken ++ rest → length messages ≤ most_records range
     → (t : IsTextFrom key prefix context range.position following text stream) → GoesOn range is_last messages following
 goes_on key prefix context range p is_last messages taken rest stream following text r is within t = go is_last r
   where
     left : ℕ
-    left = range.records - length messages
+    left = most_records range - length messages
 
     part_is : (others : List (List ℕ)) → t.messages ++ following ≡ t.messages ++ (messages ++ others)
-        → part_of range (take range.records following) ≡ take range.length (drop range.skip (concat messages ++ concat (take left others)))
+        → part_of range (take (most_records range) following) ≡ take range.length (drop range.skip (concat messages ++ concat (take left others)))
     part_is others e =
-        let size : range.records ≡ length messages + left = omega (arith, within) in
-        let all : take range.records following ≡ messages ++ take left others =
-        ap (take range.records) (after_them t.messages following (messages ++ others) e)
+        let size : most_records range ≡ length messages + left = omega (arith, within) in
+        let all : take (most_records range) following ≡ messages ++ take left others =
+        ap (take (most_records range)) (after_them t.messages following (messages ++ others) e)
         ∙ ap (λ (n : ℕ). take n (messages ++ others)) size ∙ take-append-add messages others left in
         ap (λ (l : List (List ℕ)). part_of range l) all
         ∙ ap (λ (l : List ℕ). take range.length (drop range.skip l)) (concat-append messages (take left others))
 
-    full : (others : List (List ℕ)) → length messages ≡ range.records → concat (take left others) ≡ []
+    full : (others : List (List ℕ)) → length messages ≡ most_records range → concat (take left others) ≡ []
     full others e = let none : left ≡ 0 = omega (arith, e) in rw none refl
 
     go : (is_last : Bool) → ReadsFrom key prefix context range.position p is_last messages taken → GoesOn range is_last messages following
@@ -215,7 +215,7 @@ pub record RangeSome (key prefix context : List ℕ) (range : TextRange) (p : Pr
   pub written : Appends old new (part_of range messages)
   pub skip_is : skip ≡ range.skip - length (concat messages)
   pub more_is : more ≡ range.length - length (part_of range messages)
-  pub records_is : length messages + records ≡ range.records
+  pub records_is : length messages + records ≡ most_records range
   pub needed : (ms : List (List ℕ)) (m : List ℕ) → messages ≡ ms ++ m ∷ [] → 0 < length ms
       → (length (part_of range ms) < range.length) ⊎ (length (concat ms) < range.skip)
 
@@ -228,8 +228,8 @@ pub record RangeMore (key prefix context : List ℕ) (range : TextRange) (p : Pr
 pub part_none : (range : TextRange) → part_of range [] ≡ []
 part_none range = part_nil range.skip range.length
 
-pub range_begin : (key prefix context : List ℕ) (range : TextRange) (p : Progress) (stream old : Option (List ℕ)) → p ≡ progress_at key prefix context range.position → 0 < range.records
-    → RangeMore key prefix context range p range.skip range.length range.records stream stream old old
+pub range_begin : (key prefix context : List ℕ) (range : TextRange) (p : Progress) (stream old : Option (List ℕ)) → p ≡ progress_at key prefix context range.position → 0 < most_records range
+    → RangeMore key prefix context range p range.skip range.length (most_records range) stream stream old old
 range_begin key prefix context range p stream old is asked = record {
   some = record {
     messages = [];
@@ -285,9 +285,9 @@ range_more key prefix context range p q is_last skip skip' more more' records re
 
 -- the part so far is the text's, if no more is asked for or the last record was opened
 part_whole : (key prefix context : List ℕ) (range : TextRange) (p : Progress) (is_last : Bool) (messages : List (List ℕ)) (taken rest stream : List ℕ) (following : List (List ℕ)) (text : List ℕ)
-    → ReadsFrom key prefix context range.position p is_last messages taken → stream ≡ taken ++ rest → length messages ≤ range.records
-    → (is_last ≡ true) ⊎ ((length messages ≡ range.records) ⊎ (range.length - length (part_of range messages) ≡ 0))
-    → (t : IsTextFrom key prefix context range.position following text stream) → part_of range messages ≡ part_of range (take range.records following)
+    → ReadsFrom key prefix context range.position p is_last messages taken → stream ≡ taken ++ rest → length messages ≤ most_records range
+    → (is_last ≡ true) ⊎ ((length messages ≡ most_records range) ⊎ (range.length - length (part_of range messages) ≡ 0))
+    → (t : IsTextFrom key prefix context range.position following text stream) → part_of range messages ≡ part_of range (take (most_records range) following)
 part_whole key prefix context range p is_last messages taken rest stream following text r is within whole t =
     let on = goes_on key prefix context range p is_last messages taken rest stream following text r is within t in
     sym (on.part_is ∙ part-append range.skip range.length (concat messages) on.others ∙ ap (λ (l : List ℕ). part_of range messages ++ l) (no_more is_last on.others on.ends on.full whole)
@@ -298,8 +298,8 @@ part_whole key prefix context range p is_last messages taken rest stream followi
         ap (λ (l : List ℕ). take (range.length - length (part_of range messages)) (drop (range.skip - length (concat messages)) l)) is
         ∙ part_nil (range.skip - length (concat messages)) (range.length - length (part_of range messages))
 
-    no_more : (is_last : Bool) (others : List ℕ) → OnTrue is_last (others ≡ []) → (length messages ≡ range.records → others ≡ [])
-        → (is_last ≡ true) ⊎ ((length messages ≡ range.records) ⊎ (range.length - length (part_of range messages) ≡ 0))
+    no_more : (is_last : Bool) (others : List ℕ) → OnTrue is_last (others ≡ []) → (length messages ≡ most_records range → others ≡ [])
+        → (is_last ≡ true) ⊎ ((length messages ≡ most_records range) ⊎ (range.length - length (part_of range messages) ≡ 0))
         → take (range.length - length (part_of range messages)) (drop (range.skip - length (concat messages)) others) ≡ []
     no_more is_last others ends full (inl last) = none others (rw last at ends)
     no_more is_last others ends full (inr (inl all)) = none others (full all)
@@ -308,12 +308,12 @@ part_whole key prefix context range p is_last messages taken rest stream followi
 pub range_end : (key prefix context : List ℕ) (range : TextRange) (p : Progress) (is_last : Bool) (skip more records : ℕ) (opened : OpenedRange) (stream left old new new' : Option (List ℕ))
     → (s : RangeSome key prefix context range p is_last skip more records stream left old new) → 0 < length s.messages
     → (is_last ≡ true) ⊎ ((records ≡ 0) ⊎ ((more ≡ 0) × (skip ≡ 0)))
-    → opened.written ≡ range.length - more → opened.end ≡ position_of p → opened.is_last ≡ is_last → Keeps new new'
+    → opened.length ≡ range.length - more → opened.end ≡ position_of p → opened.is_last ≡ is_last → Keeps new new'
     → IfSome stream (λ f. OpensRange key prefix context range opened f left old new')
 range_end key prefix context range p is_last skip more records opened None left old new new' s some done written_is end_is last_is kept = tt
 range_end key prefix context range p is_last skip more records opened (Some f) left old new new' s some done written_is end_is last_is kept =
     let parts = split f s.taken left s.read in
-    let within : length s.messages ≤ range.records = omega (arith, s.records_is) in
+    let within : length s.messages ≤ most_records range = omega (arith, s.records_is) in
     let part_is = λ (following : List (List ℕ)) (text : List ℕ) (t : IsTextFrom key prefix context range.position following text f).
     part_whole key prefix context range p is_last s.messages s.taken parts.0 f following text s.reads parts.1 within (full done) t in
     record {
@@ -330,18 +330,18 @@ range_end key prefix context range p is_last skip more records opened (Some f) l
       read = parts.2;
       needed = s.needed;
       of_text = part_is;
-      of_bytes = λ following text t all. part_is following text t ∙ ap (λ (l : List (List ℕ)). part_of range l) (take_all range.records following all)
+      of_bytes = λ following text t all. part_is following text t ∙ ap (λ (l : List (List ℕ)). part_of range l) (take_all (most_records range) following all)
           ∙ sym (text_from key prefix context range following text f t);
     }
   where
     whole : (is_last ≡ true) ⊎ ((records ≡ 0) ⊎ ((more ≡ 0) × (skip ≡ 0)))
-        → (length s.messages ≡ range.records) ⊎ ((opened.is_last ≡ true) ⊎ ((opened.written ≡ range.length) × (range.skip ≤ length (concat s.messages))))
+        → (length s.messages ≡ most_records range) ⊎ ((opened.is_last ≡ true) ⊎ ((opened.length ≡ range.length) × (range.skip ≤ length (concat s.messages))))
     whole (inl last) = inr (inl (last_is ∙ last))
     whole (inr (inl none)) = inl (omega (arith, none, s.records_is))
     whole (inr (inr (none, in_it))) = inr (inr (omega (arith, written_is, none), omega (arith, in_it, s.skip_is)))
 
     full : (is_last ≡ true) ⊎ ((records ≡ 0) ⊎ ((more ≡ 0) × (skip ≡ 0)))
-        → (is_last ≡ true) ⊎ ((length s.messages ≡ range.records) ⊎ (range.length - length (part_of range s.messages) ≡ 0))
+        → (is_last ≡ true) ⊎ ((length s.messages ≡ most_records range) ⊎ (range.length - length (part_of range s.messages) ≡ 0))
     full (inl last) = inl last
     full (inr (inl none)) = inr (inl (omega (arith, none, s.records_is)))
     full (inr (inr (none, in_it))) = inr (inr (sym s.more_is ∙ none))

@@ -2,6 +2,7 @@
 use Rattle.std.specs.Prelude.{◌≡◌, ℕ, ◌+◌, ◌<◌, ◌≤◌, ◌⊎◌, true, List, [], ◌∷◌, ◌++◌, Option, Some, drop, length, take}
 use Rattle.std.specs.Io.KnownBytes.{Appends}
 use Rattle.std.specs.List.{concat}
+use Rattle.std.specs.NonZero.{non_zero_u64_get}
 use Rattle.aegis_base.specs.declared.error.TheConstants.{MAX_AEAD_BYTES}
 use Rattle.aegis_files.specs.declared.error.FileError.{FileError}
 use Rattle.aegis_files.specs.declared.range.OpenedRange.{OpenedRange}
@@ -13,6 +14,10 @@ use Rattle.aegis.specs.declared.record.position.RecordPosition.{RecordPosition}
 use Rattle.aegis.specs.Progress.{AreRecordsOfSomeVersion, Begun, last_flag, progress_at, start_at}
 use Rattle.aegis.specs.Records.{IsFault, sealed}
 use Rattle.aegis.specs.RecordStream.{AreWithin, frames, total}
+
+-- how many records are opened at most
+abbrev pub most_records : TextRange → ℕ
+most_records range = non_zero_u64_get range.records
 
 -- the range's part of messages from its record on: `skip` bytes after that record begins, and at most `length` bytes
 abbrev pub part_of : TextRange → List (List ℕ) → List ℕ
@@ -63,20 +68,20 @@ pub record OpensRange (key prefix context : List ℕ) (range : TextRange) (opene
   pub records : AreFrom key prefix context range.position (last_flag opened.is_last) messages rest stream
   -- at least one record was opened, and at most as many as asked for
   pub some : 0 < length messages
-  pub within : length messages ≤ range.records
+  pub within : length messages ≤ most_records range
   pub written : Appends old new (part_of range messages)
-  pub count : opened.written ≡ length (part_of range messages)
+  pub count : opened.length ≡ length (part_of range messages)
   pub ended : opened.end ≡ position_after range.position messages
   -- it ends with as many records as asked for, with the last one, so that the text ends there, or with as many bytes as asked for
-  pub whole : (length messages ≡ range.records) ⊎ ((opened.is_last ≡ true) ⊎ ((opened.written ≡ range.length) × (range.skip ≤ length (concat messages))))
+  pub whole : (length messages ≡ most_records range) ⊎ ((opened.is_last ≡ true) ⊎ ((opened.length ≡ range.length) × (range.skip ≤ length (concat messages))))
   -- no other records were read, and each but the first is needed: without the last of them there are fewer bytes
   pub read : left ≡ Some rest
   pub needed : (ms : List (List ℕ)) (m : List ℕ) → messages ≡ ms ++ m ∷ [] → 0 < length ms
       → (length (part_of range ms) < range.length) ⊎ (length (concat ms) < range.skip)
   -- so it is the part of the first records of the text from the position on, if there is one, and of the text if they have it all
   pub of_text : (following : List (List ℕ)) (text : List ℕ) → IsTextFrom key prefix context range.position following text stream
-      → part_of range messages ≡ part_of range (take range.records following)
-  pub of_bytes : (following : List (List ℕ)) (text : List ℕ) → IsTextFrom key prefix context range.position following text stream → length following ≤ range.records
+      → part_of range messages ≡ part_of range (take (most_records range) following)
+  pub of_bytes : (following : List (List ℕ)) (text : List ℕ) → IsTextFrom key prefix context range.position following text stream → length following ≤ most_records range
       → part_of range messages ≡ part_of_text range text
 
 -- Opening the range failed. The part of the records that were opened was written, or a front of it if a write failed.
@@ -85,13 +90,13 @@ pub record StopsRange (key prefix context : List ℕ) (range : TextRange) (strea
   pub flag : ℕ
   pub rest : List ℕ
   pub records : AreFrom key prefix context range.position flag messages rest stream
-  pub within : length messages ≤ range.records
+  pub within : length messages ≤ most_records range
   pub begun : List ℕ
   pub written : Appends old new begun
   pub of_messages : (more : List ℕ) × (part_of range messages ≡ begun ++ more) × ((more ≡ []) ⊎ IsWriteError e)
   -- so it is a front of the part of the first records of the text from the position on, if there is one
   pub of_text : (following : List (List ℕ)) (text : List ℕ) → IsTextFrom key prefix context range.position following text stream
-      → (more : List ℕ) × (part_of range (take range.records following) ≡ begun ++ more)
+      → (more : List ℕ) × (part_of range (take (most_records range) following) ≡ begun ++ more)
   -- the stream is refused for its fault, or memory ran out, and that of a text only for the second
   pub refused : IfRefused e (λ why. (why ≡ errors.OutOfMemory) ⊎ IsFaultFrom key prefix context range.position stream why)
   pub accepted : (following : List (List ℕ)) (text : List ℕ) → IsTextFrom key prefix context range.position following text stream → IfRefused e (λ why. why ≡ errors.OutOfMemory)

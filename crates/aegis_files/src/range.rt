@@ -13,6 +13,7 @@ use aegis::aegis256::Key;
 use aegis::record::{MAX_CONTEXT_BYTES, RecordOpener, RecordPosition};
 use std::alloc::Allocator;
 use std::io::{Read, Write};
+use std::num::NonZeroU64;
 
 /// A part of a text, from one of its records on. It ends after so many bytes or so many records, whichever come first.
 #[derive(Clone, Copy, Debug, PartialEq, Eq)]
@@ -23,15 +24,15 @@ pub struct TextRange {
     pub skip: u64,
     /// How many bytes the part has at most.
     pub length: u64,
-    /// How many records are opened at most, at least 1.
-    pub records: u64,
+    /// How many records are opened at most.
+    pub records: NonZeroU64,
 }
 
 /// What was opened of a part of a text.
 #[derive(Clone, Copy, Debug, PartialEq, Eq)]
 pub struct OpenedRange {
-    /// How many bytes were written.
-    pub written: u64,
+    /// How many bytes of the text were written.
+    pub length: u64,
     /// The position after the last of the records that were opened.
     pub end: RecordPosition,
     /// Whether that is the last record of the file, so that `end` has the number of all its records and of all bytes of
@@ -77,8 +78,8 @@ fn is_done(is_last: bool, records: u64, left: u64, skip: u64) -> bool
 /// file of a text is refused only if memory runs out. The error is [`FileError::TooLong`] only if the record stream
 /// has more than [`aegis::MAX_AEAD_BYTES`].
 ///
-/// The context must have at most [`MAX_CONTEXT_BYTES`], the record must start at byte [`aegis::MAX_AEAD_BYTES`] of the
-/// stream at most, and at least one record must be asked for. Memory is allocated for one record, as its bytes come.
+/// The context must have at most [`MAX_CONTEXT_BYTES`], and the record must start at byte [`aegis::MAX_AEAD_BYTES`] of
+/// the stream at most. Memory is allocated for one record, as its bytes come.
 pub fn open_range<R: Read, W: Write, A: Allocator + Copy>(
     alloc: A,
     key: &Key,
@@ -90,7 +91,6 @@ pub fn open_range<R: Read, W: Write, A: Allocator + Copy>(
 ) -> Result<OpenedRange, FileError>
     requires context_within { length context.now ≤ MAX_CONTEXT_BYTES }
     requires start_within { start_at range.position.number range.position.before ≤ MAX_AEAD_BYTES }
-    requires some_records { 0 < range.records }
     ensures opened { IfOk result (λ opened. IfSome (R.remaining input.old) (λ stream.
         OpensRange key.now prefix.now context.now range opened stream (R.remaining input.new)
         (W.contents output.old) (W.contents output.new))) }
@@ -102,7 +102,7 @@ pub fn open_range<R: Read, W: Write, A: Allocator + Copy>(
     let mut buffer = Vec::new(alloc);
     let mut skip = range.skip;
     let mut left = range.length;
-    let mut records = range.records;
+    let mut records = range.records.get();
     'records: loop {
         let opened = next_message(input, &mut opener, &mut buffer)?;
         let piece = part(message(&buffer, opened), skip, left);
@@ -113,7 +113,7 @@ pub fn open_range<R: Read, W: Write, A: Allocator + Copy>(
         if is_done(opened.is_last, records, left, skip) {
             flush(output)?;
             return Ok(OpenedRange {
-                written: range.length - left,
+                length: range.length - left,
                 end: opener.position(),
                 is_last: opened.is_last,
             });

@@ -3,13 +3,13 @@ use Rattle.std.specs.Prelude.{◌≡◌, ◌≢◌, ℕ, ◌+◌, ◌<◌, ◌�
 use Rattle.aegis_base.specs.Mac.{mac}
 use Rattle.aegis_base.specs.Variant.{Variant, key_length}
 use Rattle.aegis_storage.specs.Bytes.{part_at}
-use Rattle.aegis_storage.specs.Disk.{Disk, Writes, written}
+use Rattle.aegis_storage.specs.Disk.{Disk, Writes, after_writes}
 use Rattle.aegis_storage.specs.Journal.{IsAtRest, IsJournal, IsNoForgery, IsOneOf, KeepsFront, Recovers}
 use Rattle.aegis_pages.specs.declared.layout.TheConstants.{JOURNAL_MAGIC}
 use Rattle.aegis_pages.specs.Errors.{HasNoHeader}
 use Rattle.aegis_pages.specs.Headers.{IsHeader}
 use Rattle.aegis_pages.specs.Layouts.{Layout, journal_front}
-use Rattle.aegis_pages.specs.SealedPages.{Holds, HoldsUnder}
+use Rattle.aegis_pages.specs.SealedPages.{IsFileOf, IsFileUnder}
 
 -- the key of the journals of files under a key: a MAC of 32 bytes of the journals' magic number, under the nonce of all
 -- bytes 255
@@ -41,11 +41,11 @@ pub record RecoversText (variant : Variant) (key before now : List ℕ) (storage
   pub variant_is : layout.variant ≡ variant
   pub key_is : layout.key ≡ key
   pub recovers : Recovers (journal_key variant key) [] file writes storage journal
-  pub without : HoldsUnder layout before file
-  pub with_writes : HoldsUnder layout before (written writes file) ⊎ HoldsUnder layout now (written writes file)
+  pub without : IsFileUnder layout before file
+  pub with_writes : IsFileUnder layout before (after_writes writes file) ⊎ IsFileUnder layout now (after_writes writes file)
   -- the writes begin or end with the header of the file, and so they do with the one that they make of it
   pub old_head : IsOfCommit (head_of variant file) writes
-  pub new_head : IsOfCommit (head_of variant (written writes file)) writes
+  pub new_head : IsOfCommit (head_of variant (after_writes writes file)) writes
   -- a journal that is longer than its front begins with that of the file
   pub front : KeepsFront (journal_front layout) journal
 
@@ -57,7 +57,7 @@ IsHonest {variant} {key} batch bytes = IsNoForgery (journal_key variant key) [] 
 -- A torn header that opens all the same would be another.
 abbrev pub HasHonestHeader : {variant : Variant} {key before now : List ℕ} {storage journal : Option Disk} → RecoversText variant key before now storage journal → List ℕ → Type 0
 HasHonestHeader {variant} {key} batch bytes = (layout : Layout) (counter len : ℕ) → layout.variant ≡ variant → layout.key ≡ key → IsHeader layout counter len bytes
-    → IsOneOf (head_of variant batch.file) (head_of variant (written batch.writes batch.file)) (head_of variant bytes)
+    → IsOneOf (head_of variant batch.file) (head_of variant (after_writes batch.writes batch.file)) (head_of variant bytes)
 
 -- What can be read of the storage and of the journal is what a commit left, whatever it returned and whatever a crash
 -- and openings that were cut short did since, and no forgery.
@@ -69,7 +69,7 @@ IsLeftByCommit variant key bytes content storage journal =
 pub record RestsAtText (variant : Variant) (key before now : List ℕ) (storage journal : Option Disk) : Type 0 where
   pub file : List ℕ
   pub rests : IsAtRest storage journal file
-  pub holds : Holds variant key before file ⊎ Holds variant key now file
+  pub one : IsFileOf variant key before file ⊎ IsFileOf variant key now file
 
 -- known bytes are the same as before
 abbrev pub KnownSame : Option (List ℕ) → Option (List ℕ) → Type 0

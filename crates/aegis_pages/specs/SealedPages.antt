@@ -33,12 +33,12 @@ pub record IsSealed (layout : Layout) (counter : ℕ) (text file : List ℕ) : T
   pub header : IsHeader layout counter (length text) file
   pub pages : ArePages layout unchanged text file
 
--- the file holds the text, under the layout
-abbrev pub HoldsUnder : Layout → (text file : List ℕ) → Type 0
-HoldsUnder layout text file = (counter : ℕ) × IsSealed layout counter text file
+-- the bytes are a file of the text under the layout
+abbrev pub IsFileUnder : Layout → (text file : List ℕ) → Type 0
+IsFileUnder layout text file = (counter : ℕ) × IsSealed layout counter text file
 
--- the file holds the text, under the variant and the key
-pub record Holds (variant : Variant) (key text file : List ℕ) : Type 0 where
+-- the bytes are a file of the text under the variant and the key
+pub record IsFileOf (variant : Variant) (key text file : List ℕ) : Type 0 where
   pub layout : Layout
   pub counter : ℕ
   pub variant_is : layout.variant ≡ variant

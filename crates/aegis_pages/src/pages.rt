@@ -12,7 +12,7 @@ ghost use Rattle.aegis_pages.specs.Headers.{IsHeader};
 ghost use Rattle.aegis_pages.specs.Layouts.{IsPageSize};
 ghost use Rattle.aegis_pages.specs.OpenFile.{BreaksOrKeeps, HasCommitted, HasText, IsCertain, IsKnown, IsStoredAs, IsUnchanged, OpensAtOne, Reads};
 ghost use Rattle.aegis_pages.specs.Recovery.{RecoversOne};
-ghost use Rattle.aegis_pages.specs.SealedPages.{Holds, KeepsOthers};
+ghost use Rattle.aegis_pages.specs.SealedPages.{IsFileOf, KeepsOthers};
 
 use crate::changes::{ChangedPages, PageText, empty_text};
 use crate::commitment::{file_commitment, verify_commitment};
@@ -215,9 +215,9 @@ impl<
         ensures key { IfOk result (λ pages. pages.layout.key ≡ key.now) }
         ensures header { IfOk result (λ pages. IfSome pages.bytes
             (IsHeader pages.layout pages.counter pages.stored)) }
-        ensures holds { IfOk result (λ pages. J.bytes journal ≡ Some []
+        ensures text { IfOk result (λ pages. J.bytes journal ≡ Some []
             → IfSome (S.bytes storage) (λ file. (text : List ℕ)
-            → Holds L.VARIANT key.now text file → HasText pages text)) }
+            → IsFileOf L.VARIANT key.now text file → HasText pages text)) }
         ensures recovered { IfOk result (λ pages. (before now : List ℕ)
             → (batch : RecoversText L.VARIANT key.now before now (S.disk storage) (J.disk journal))
             → IfSome (J.bytes journal) (IsHonest batch)

@@ -1,7 +1,7 @@
 //! The writes of a commit: each changed page, sealed, and the header.
 
 ghost use Rattle.std.specs.Prelude.{◌≡◌, ◌≤◌, ◌++◌, IfErr, IfOk, List, OnOk, length, take, ℕ};
-ghost use Rattle.aegis_storage.specs.Disk.{Writes, written};
+ghost use Rattle.aegis_storage.specs.Disk.{Writes, after_writes};
 ghost use Rattle.aegis_storage.specs.Pending.{writes_of};
 ghost use Rattle.aegis_pages.specs.Changed.{text_at, texts_in};
 ghost use Rattle.aegis_pages.specs.Commits.{IsOfCommit, head_bytes, head_of};
@@ -87,11 +87,11 @@ pub fn sealed_commit<N: Nonces, L: LaneState, const KEY_BYTES: usize, A: Allocat
     requires within { len ≤ MAX_TEXT_BYTES }
     ensures sealed { IfOk result (λ writes. (text file : List ℕ) → length text ≡ len
         → ArePages layout.now (text_at changes.now.entries) text file
-        → IsSealed layout.now counter text (written (writes_of writes.items) file)) }
+        → IsSealed layout.now counter text (after_writes (writes_of writes.items) file)) }
     ensures old_head { IfOk result (λ writes.
         IsOfCommit (take (head_bytes layout.now.variant) sector.now) (writes_of writes.items)) }
     ensures new_head { IfOk result (λ writes. (file : List ℕ)
-        → IsOfCommit (head_of layout.now.variant (written (writes_of writes.items) file))
+        → IsOfCommit (head_of layout.now.variant (after_writes (writes_of writes.items) file))
         (writes_of writes.items)) }
     ensures refused { IfErr result IsSealError }
 {

@@ -4,7 +4,7 @@ use Rattle.std.proofs.Common.{◌≡◌, ℕ, ◌+◌, ◌<◌, ◌≤◌, ◌�
 use Rattle.std.proofs.lemmas.Bool.{cases_lt}
 use Rattle.std.proofs.lemmas.List.{ext_get_or}
 use Rattle.aegis_storage.specs.Bytes.{overwritten}
-use Rattle.aegis_storage.specs.Disk.{AreParts, Change, IsPartOfOne, Size, Write, Writes, applied, changed, changes, written}
+use Rattle.aegis_storage.specs.Disk.{AreParts, Change, IsPartOfOne, Size, Write, Writes, applied, changed, changes, after_writes}
 use Rattle.aegis_storage.proofs.Overwriting.{after_part, before_part, length-overwritten, within_part}
 
 -- byte i is none of those that the writes write
@@ -35,7 +35,7 @@ alike_next at bs writes xs ys alike = record {
 }
 
 -- the writes make them the same
-pub alike_written : (writes : Writes) (xs ys : List ℕ) → Alike writes xs ys → written writes xs ≡ written writes ys
+pub alike_written : (writes : Writes) (xs ys : List ℕ) → Alike writes xs ys → after_writes writes xs ≡ after_writes writes ys
 alike_written [] xs ys alike = ext_get_or 0 xs ys (let long = alike.size in omega (arith, long)) (λ i h. alike.bytes i tt)
 alike_written (write ∷ writes) xs ys alike = alike_written writes (overwritten xs write.0 write.1) (overwritten ys write.0 write.1) (alike_next write.0 write.1 writes xs ys alike)
 
@@ -90,5 +90,5 @@ alike_parts writes (part ∷ parts) xs are =
     }
 
 -- The key: after any parts of the writes, in any order, the writes give what they give without these.
-pub written_again : (writes : Writes) (parts : List Change) (xs : List ℕ) → AreParts (changes writes) parts → written writes (applied parts xs) ≡ written writes xs
+pub written_again : (writes : Writes) (parts : List Change) (xs : List ℕ) → AreParts (changes writes) parts → after_writes writes (applied parts xs) ≡ after_writes writes xs
 written_again writes parts xs are = alike_written writes (applied parts xs) xs (alike_parts writes parts xs are)

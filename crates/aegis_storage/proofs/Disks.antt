@@ -3,7 +3,7 @@ use Rattle.std.proofs.lemmas.List.{append_assoc}
 use Rattle.std.proofs.Common.{◌≡◌, ℕ, ◌-◌, ◌⊎◌, inl, inr, List, [], ◌∷◌, ◌++◌, None, Some, OnErr, OnOk, Option, Result, Ok, Err, length, replicate, refl, sym, ap, subst, ◌∙◌, arith}
 use Rattle.aegis_storage.specs.Bytes.{ResizesTo, WritesAt, overwritten, resized}
 use Rattle.aegis_storage.specs.Calls.{AddsSome, IsWholeOrEmpty, IsWrittenOver}
-use Rattle.aegis_storage.specs.Disk.{Adds, AreParts, Change, Crashed, Disk, IsPartOfOne, IsPossible, KeepsDisk, MakesCertain, MayAdd, Size, Write, Writes, WritesAll, after, applied, certain, changes, written}
+use Rattle.aegis_storage.specs.Disk.{Adds, AreParts, Change, Crashed, Disk, IsPartOfOne, IsPossible, KeepsDisk, MakesCertain, MayAdd, Size, Write, Writes, WritesAll, after, applied, certain, changes, after_writes}
 use Rattle.aegis_storage.proofs.Crashing.{written_again}
 
 -- ---- certain bytes
@@ -130,8 +130,8 @@ some_written writes xs old new is adds =
     let some = adds (certain xs) is in record {
       disk = record { synced = xs; pending = changes some.0 };
       is = some.3;
-      again = λ ys crashed. subst (λ (l : Writes). written l ys ≡ written l xs) (sym some.2)
-          (ap (written (some.0 ++ some.1)) crashed.are ∙ written_again (some.0 ++ some.1) crashed.parts xs (parts_more some.0 some.1 crashed.parts crashed.of_pending));
+      again = λ ys crashed. subst (λ (l : Writes). after_writes l ys ≡ after_writes l xs) (sym some.2)
+          (ap (after_writes (some.0 ++ some.1)) crashed.are ∙ written_again (some.0 ++ some.1) crashed.parts xs (parts_more some.0 some.1 crashed.parts crashed.of_pending));
     }
 
 pub over_synced : (writes : Writes) (xs : List ℕ) (bytes : Option (List ℕ)) (old new : Option Disk) → IsPossible bytes old → IsWrittenOver writes xs old
@@ -140,27 +140,27 @@ over_synced writes xs bytes old new possible over (inl certainly) =
     let r = readable bytes old over.disk possible over.is in record {
       disk = certain r.xs;
       is = certainly over.disk r.xs over.is r.is;
-      again = λ ys crashed. ap (written writes) (certain_only r.xs ys crashed) ∙ over.again r.xs r.possible;
+      again = λ ys crashed. ap (after_writes writes) (certain_only r.xs ys crashed) ∙ over.again r.xs r.possible;
     }
 over_synced writes xs bytes old new possible over (inr keeps) = record { disk = over.disk; is = keeps over.disk over.is; again = over.again }
 
-pub writes_all : (writes : Writes) (xs : List ℕ) (a b : Option (List ℕ)) → a ≡ Some xs → WritesAll a b writes → b ≡ Some (written writes xs)
+pub writes_all : (writes : Writes) (xs : List ℕ) (a b : Option (List ℕ)) → a ≡ Some xs → WritesAll a b writes → b ≡ Some (after_writes writes xs)
 writes_all writes xs a b is all = cases b (subst (λ (o : Option (List ℕ)). WritesAll o b writes) is all)
   where
-    cases : (b : Option (List ℕ)) → WritesAll (Some xs) b writes → b ≡ Some (written writes xs)
+    cases : (b : Option (List ℕ)) → WritesAll (Some xs) b writes → b ≡ Some (after_writes writes xs)
     cases None w = absurd w
     cases (Some ys) w = ap Some w
 
 -- before the writes, after them, and after the sync
 pub written_certain : (writes : Writes) (xs : List ℕ) (a b : Option (List ℕ)) (old over new : Option Disk) → IsPossible a old → old ≡ Some (certain xs) → AddsSome old over writes → WritesAll a b writes
-    → MakesCertain b over new → new ≡ Some (certain (written writes xs))
+    → MakesCertain b over new → new ≡ Some (certain (after_writes writes xs))
 written_certain writes xs a b old over new possible is adds all certainly =
     let torn = some_written writes xs old over is adds in
-    certainly torn.disk (written writes xs) torn.is (writes_all writes xs a b (readable_certain a old xs possible is) all)
+    certainly torn.disk (after_writes writes xs) torn.is (writes_all writes xs a b (readable_certain a old xs possible is) all)
 
 -- ---- one write after the other
 
-pub written_more : (writes : Writes) (at : ℕ) (bs xs : List ℕ) → written (writes ++ (at, bs) ∷ []) xs ≡ overwritten (written writes xs) at bs
+pub written_more : (writes : Writes) (at : ℕ) (bs xs : List ℕ) → after_writes (writes ++ (at, bs) ∷ []) xs ≡ overwritten (after_writes writes xs) at bs
 written_more [] at bs xs = refl
 written_more (write ∷ writes) at bs xs = written_more writes at bs (overwritten xs write.0 write.1)
 

@@ -8,7 +8,7 @@ use Rattle.aegis.proofs.Sealed.{sealed-is}
 use Rattle.aegis.proofs.Streams.{one_record_stream}
 use Rattle.aegis_storage.specs.declared.store.TheConstants.{MAX_STORAGE_BYTES}
 use Rattle.aegis_storage.specs.Calls.{GivesFrom, IsWholeOrEmpty, IsWrittenOver}
-use Rattle.aegis_storage.specs.Disk.{Crashed, Disk, IsPossible, KeepsDisk, MakesCertain, Writes, WritesAll, certain, written}
+use Rattle.aegis_storage.specs.Disk.{Crashed, Disk, IsPossible, KeepsDisk, MakesCertain, Writes, WritesAll, certain, after_writes}
 use Rattle.aegis_storage.specs.Journal.{AreWithin, GivesOneOf, IsAtRest, IsJournal, IsOneOf, IsNoForgery, Recovers, RecoversKnown, place_and_bytes}
 use Rattle.aegis_storage.proofs.Disks.{certain_only, readable, readable_certain}
 
@@ -68,14 +68,14 @@ gives_same key context a b js ks xs ys same also gives =
 by_empty : (key context a b xs : List ℕ) → IsOneOf a b xs → GivesOneOf key context a b [] xs
 by_empty key context a b xs one = record { whole = λ writes is. absurd (empty_is_none key context writes is); other = λ not. one }
 
-pub rest_recovers : (key context xs : List ℕ) (writes : Writes) (storage journal : Option Disk) (zs : List ℕ) → IsOneOf xs (written writes xs) zs → IsAtRest storage journal zs
+pub rest_recovers : (key context xs : List ℕ) (writes : Writes) (storage journal : Option Disk) (zs : List ℕ) → IsOneOf xs (after_writes writes xs) zs → IsAtRest storage journal zs
     → Recovers key context xs writes storage journal
 rest_recovers key context xs writes storage journal zs one rest = record {
   storage_disk = certain zs;
   journal_disk = certain [];
   storage_is = rest.storage_is;
   journal_is = rest.journal_is;
-  gives = λ ys js p q _. gives_same key context xs (written writes xs) [] js zs ys (certain_only [] js q) (certain_only zs ys p) (by_empty key context xs (written writes xs) zs one);
+  gives = λ ys js p q _. gives_same key context xs (after_writes writes xs) [] js zs ys (certain_only [] js q) (certain_only zs ys p) (by_empty key context xs (after_writes writes xs) zs one);
 }
 
 -- while the journal is written
@@ -87,20 +87,20 @@ torn_journal key context writes torn storage journal xs storage_is journal_is = 
   storage_is = storage_is;
   journal_is = journal_is;
   gives = λ ys ks p q no_forgery. record {
-    whole = λ found is. inr (ap (written found) (certain_only xs ys p) ∙ ap (λ (l : Writes). written l xs) (no_forgery found is));
+    whole = λ found is. inr (ap (after_writes found) (certain_only xs ys p) ∙ ap (λ (l : Writes). after_writes l xs) (no_forgery found is));
     other = λ not. inl (certain_only xs ys p);
   };
 }
 
 -- once the journal is certain, and while the writes are made
-pub over_gives : (key context : List ℕ) (writes : Writes) (a b js xs : List ℕ) (state : Option Disk) → IsJournal key context writes js → IsOneOf a b (written writes xs)
+pub over_gives : (key context : List ℕ) (writes : Writes) (a b js xs : List ℕ) (state : Option Disk) → IsJournal key context writes js → IsOneOf a b (after_writes writes xs)
     → IsWrittenOver writes xs state → GivesFrom key context a b js state
 over_gives key context writes a b js xs state is one over = record {
   disk = over.disk;
   is = over.is;
   gives = λ ys p. record {
     whole = λ found found_is.
-        one_of a b (written writes xs) (written found ys) (ap (λ (l : Writes). written l ys) (one_journal key context found writes js found_is is) ∙ over.again ys p) one;
+        one_of a b (after_writes writes xs) (after_writes found ys) (ap (λ (l : Writes). after_writes l ys) (one_journal key context found writes js found_is is) ∙ over.again ys p) one;
     other = λ not. absurd (not writes is);
   };
 }
@@ -112,19 +112,19 @@ certain_gives key context a b js xs state is gives = record {
   gives = λ ys p. gives_same key context a b js js xs ys refl (certain_only xs ys p) gives;
 }
 
-pub middle : (key context xs : List ℕ) (writes : Writes) (js : List ℕ) (storage journal : Option Disk) → GivesFrom key context xs (written writes xs) js storage → journal ≡ Some (certain js)
+pub middle : (key context xs : List ℕ) (writes : Writes) (js : List ℕ) (storage journal : Option Disk) → GivesFrom key context xs (after_writes writes xs) js storage → journal ≡ Some (certain js)
     → Recovers key context xs writes storage journal
 middle key context xs writes js storage journal from is = record {
   storage_disk = from.disk;
   journal_disk = certain js;
   storage_is = from.is;
   journal_is = is;
-  gives = λ ys ks p q _. gives_same key context xs (written writes xs) js ks ys ys (certain_only js ks q) refl (from.gives ys p);
+  gives = λ ys ks p q _. gives_same key context xs (after_writes writes xs) js ks ys ys (certain_only js ks q) refl (from.gives ys p);
 }
 
 -- while the journal is emptied
-pub finish : (key context xs : List ℕ) (writes : Writes) (js zs : List ℕ) (storage journal : Option Disk) → GivesFrom key context xs (written writes xs) js storage → storage ≡ Some (certain zs)
-    → IsOneOf xs (written writes xs) zs → IsWholeOrEmpty js journal → Recovers key context xs writes storage journal
+pub finish : (key context xs : List ℕ) (writes : Writes) (js zs : List ℕ) (storage journal : Option Disk) → GivesFrom key context xs (after_writes writes xs) js storage → storage ≡ Some (certain zs)
+    → IsOneOf xs (after_writes writes xs) zs → IsWholeOrEmpty js journal → Recovers key context xs writes storage journal
 finish key context xs writes js zs storage journal from is one cut = record {
   storage_disk = certain zs;
   journal_disk = cut.disk;
@@ -136,9 +136,9 @@ finish key context xs writes js zs storage journal from is one cut = record {
     same_disk : from.disk ≡ certain zs
     same_disk = let both : Some from.disk ≡ Some (certain zs) = sym from.is ∙ is in cc
 
-    cases : (ys ks : List ℕ) → Crashed (certain zs) ys → (ks ≡ js) ⊎ (ks ≡ []) → GivesOneOf key context xs (written writes xs) ks ys
-    cases ys ks p (inl whole) = gives_same key context xs (written writes xs) js ks ys ys whole refl (from.gives ys (subst (λ (d : Disk). Crashed d ys) (sym same_disk) p))
-    cases ys ks p (inr none) = gives_same key context xs (written writes xs) [] ks zs ys none (certain_only zs ys p) (by_empty key context xs (written writes xs) zs one)
+    cases : (ys ks : List ℕ) → Crashed (certain zs) ys → (ks ≡ js) ⊎ (ks ≡ []) → GivesOneOf key context xs (after_writes writes xs) ks ys
+    cases ys ks p (inl whole) = gives_same key context xs (after_writes writes xs) js ks ys ys whole refl (from.gives ys (subst (λ (d : Disk). Crashed d ys) (sym same_disk) p))
+    cases ys ks p (inr none) = gives_same key context xs (after_writes writes xs) [] ks zs ys none (certain_only zs ys p) (by_empty key context xs (after_writes writes xs) zs one)
 
 -- ---- syncs
 
@@ -151,7 +151,7 @@ storage_synced key context xs writes bytes old new journal possible recovers (in
       journal_disk = recovers.journal_disk;
       storage_is = certainly recovers.storage_disk r.xs recovers.storage_is r.is;
       journal_is = recovers.journal_is;
-      gives = λ ys js p q nf. gives_same key context xs (written writes xs) js js r.xs ys refl (certain_only r.xs ys p) (recovers.gives r.xs js r.possible q nf);
+      gives = λ ys js p q nf. gives_same key context xs (after_writes writes xs) js js r.xs ys refl (certain_only r.xs ys p) (recovers.gives r.xs js r.possible q nf);
     }
 storage_synced key context xs writes bytes old new journal possible recovers (inr keeps) = record {
   storage_disk = recovers.storage_disk;
@@ -169,7 +169,7 @@ journal_synced key context xs writes bytes storage old new possible recovers (in
       journal_disk = certain r.xs;
       storage_is = recovers.storage_is;
       journal_is = certainly recovers.journal_disk r.xs recovers.journal_is r.is;
-      gives = λ ys js p q nf. gives_same key context xs (written writes xs) r.xs js ys ys (certain_only r.xs js q) refl
+      gives = λ ys js p q nf. gives_same key context xs (after_writes writes xs) r.xs js ys ys (certain_only r.xs js q) refl
           (recovers.gives ys r.xs p r.possible (subst (IsNoForgery key context writes) (certain_only r.xs js q) nf));
     }
 journal_synced key context xs writes bytes storage old new possible recovers (inr keeps) = record {
@@ -194,7 +194,7 @@ if_some_is P js bytes is found = subst (λ (o : Option (List ℕ)). IfSome o P) 
 pub settled : (key context xs : List ℕ) (writes : Writes) (a_bytes b_bytes c_bytes : Option (List ℕ)) (storage storage' journal journal' : Option Disk) (read js : List ℕ)
     → IsPossible a_bytes storage → IsPossible b_bytes journal → IsPossible c_bytes journal' → Recovers key context xs writes storage journal → IfSome b_bytes (IsNoForgery key context writes)
     → MakesCertain a_bytes storage storage' → MakesCertain b_bytes journal journal' → IfSome c_bytes (λ ys. read ≡ ys) → js ≡ read
-    → Settled key context storage' journal' xs (written writes xs) js
+    → Settled key context storage' journal' xs (after_writes writes xs) js
 settled key context xs writes a_bytes b_bytes c_bytes storage storage' journal journal' read js p q r recovers no_forgery s t found same =
     let x = readable a_bytes storage recovers.storage_disk p recovers.storage_is in
     let y = readable b_bytes journal recovers.journal_disk q recovers.journal_is in
@@ -203,7 +203,7 @@ settled key context xs writes a_bytes b_bytes c_bytes storage storage' journal j
       now = x.xs;
       storage_is = s recovers.storage_disk x.xs recovers.storage_is x.is;
       journal_is = synced ∙ ap (λ (l : List ℕ). Some (certain l)) (sym js_are);
-      gives = gives_same key context xs (written writes xs) y.xs js x.xs x.xs js_are refl
+      gives = gives_same key context xs (after_writes writes xs) y.xs js x.xs x.xs js_are refl
           (recovers.gives x.xs y.xs x.possible y.possible (if_some_is (IsNoForgery key context writes) y.xs b_bytes y.is no_forgery));
     }
 
@@ -217,7 +217,7 @@ pub known_whole : (key context : List ℕ) (writes : Writes) (js : List ℕ) (a 
 known_whole key context writes js None b is all = tt
 known_whole key context writes js (Some xs) None is all = absurd all
 known_whole key context writes js (Some xs) (Some ys) is all = record {
-  whole = λ found found_is. all ∙ ap (λ (l : Writes). written l xs) (sym (one_journal key context found writes js found_is is));
+  whole = λ found found_is. all ∙ ap (λ (l : Writes). after_writes l xs) (sym (one_journal key context found writes js found_is is));
   other = λ not. absurd (not writes is);
 }
 
@@ -236,6 +236,6 @@ crashed_recovers key context xs writes storage journal ys js recovers p q =
       journal_disk = certain js;
       storage_is = refl;
       journal_is = refl;
-      gives = λ zs ks a b nf. gives_same key context xs (written writes xs) js ks ys zs (certain_only js ks b) (certain_only ys zs a)
+      gives = λ zs ks a b nf. gives_same key context xs (after_writes writes xs) js ks ys zs (certain_only js ks b) (certain_only ys zs a)
           (recovers.gives ys js (subst (λ (d : Disk). Crashed d ys) s p) (subst (λ (d : Disk). Crashed d js) j q) (subst (IsNoForgery key context writes) (certain_only js ks b) nf));
     }

@@ -7,7 +7,7 @@ use Rattle.std.proofs.lemmas.List.{get_or-map, length-map, map-append, take-appe
 use Rattle.aegis_storage.specs.declared.pending.PendingWrite.{PendingWrite}
 use Rattle.aegis_storage.specs.declared.store.TheConstants.{MAX_STORAGE_BYTES}
 use Rattle.aegis_storage.specs.Bytes.{overwritten}
-use Rattle.aegis_storage.specs.Disk.{Writes, written}
+use Rattle.aegis_storage.specs.Disk.{Writes, after_writes}
 use Rattle.aegis_storage.specs.Journal.{AreWithin, place_and_bytes}
 use Rattle.aegis_storage.specs.Pending.{writes_of}
 use Rattle.aegis_storage.proofs.Disks.{written_more}
@@ -52,9 +52,9 @@ no_writes messages i message bs low is same none writes within all =
     none found.0 found.1 (item ∙ ap (λ (l : List (List ℕ)). get_or l i []) all ∙ found.2)
 
 pub written_taken : {A : Type 0} (writes : List (PendingWrite A)) (i : ℕ) (write : PendingWrite A) (bs xs : List ℕ) → i < length writes → write ≡ get_or writes i write → bs ≡ write.bytes.items
-    → written (writes_of (take (i + 1) writes)) xs ≡ overwritten (written (writes_of (take i writes)) xs) write.place bs
+    → after_writes (writes_of (take (i + 1) writes)) xs ≡ overwritten (after_writes (writes_of (take i writes)) xs) write.place bs
 written_taken writes i write bs xs low is same =
-    ap (λ (l : Writes). written l xs) (writes_taken writes i write bs low is same) ∙ written_more (writes_of (take i writes)) write.place bs xs
+    ap (λ (l : Writes). after_writes l xs) (writes_taken writes i write bs low is same) ∙ written_more (writes_of (take i writes)) write.place bs xs
 
 pub writes_pushed : {A : Type 0} (writes new : List (PendingWrite A)) (write : PendingWrite A) (at : ℕ) (bs : List ℕ) → new ≡ writes ++ write ∷ [] → write.place ≡ at → write.bytes.items ≡ bs
     → writes_of new ≡ writes_of writes ++ (at, bs) ∷ []

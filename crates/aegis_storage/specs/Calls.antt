@@ -1,6 +1,6 @@
 -- What the calls below `commit` and `recover` leave.
 use Rattle.std.specs.Prelude.{◌≡◌, ℕ, ◌+◌, ◌≤◌, ◌⊎◌, List, [], ◌++◌, Option, Some, length, take}
-use Rattle.aegis_storage.specs.Disk.{Crashed, Disk, Writes, certain, changes, written}
+use Rattle.aegis_storage.specs.Disk.{Crashed, Disk, Writes, certain, changes, after_writes}
 use Rattle.aegis_storage.specs.Journal.{GivesOneOf, IsOneOf}
 
 -- the first of the writes are pending, too: some of them, or all
@@ -12,7 +12,7 @@ AddsSome old new writes = (disk : Disk) → old ≡ Some disk
 pub record IsWrittenOver (writes : Writes) (xs : List ℕ) (state : Option Disk) : Type 0 where
   pub disk : Disk
   pub is : state ≡ Some disk
-  pub again : (ys : List ℕ) → Crashed disk ys → written writes ys ≡ written writes xs
+  pub again : (ys : List ℕ) → Crashed disk ys → after_writes writes ys ≡ after_writes writes xs
 
 -- A crash now leaves xs, and at most n bytes after them.
 pub record IsAppended (xs : List ℕ) (n : ℕ) (state : Option Disk) : Type 0 where

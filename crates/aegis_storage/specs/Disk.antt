@@ -26,14 +26,14 @@ changes [] = []
 changes (write ∷ writes) = Write write.0 write.1 ∷ changes writes
 
 -- the bytes after writes, the first of them first: later ones win
-abbrev pub written : Writes → List ℕ → List ℕ
-written writes xs = applied (changes writes) xs
+abbrev pub after_writes : Writes → List ℕ → List ℕ
+after_writes writes xs = applied (changes writes) xs
 
 -- known bytes are changed by writes
 abbrev pub WritesAll : Option (List ℕ) → Option (List ℕ) → Writes → Type 0
 WritesAll None new writes = ⊤
 WritesAll (Some xs) None writes = ⊥
-WritesAll (Some xs) (Some ys) writes = ys ≡ written writes xs
+WritesAll (Some xs) (Some ys) writes = ys ≡ after_writes writes xs
 
 -- What a sync has made certain, and the changes since then, the first of them first. A change whose call returned an
 -- error may be among them.

@@ -6,7 +6,7 @@ use Rattle.aegis.specs.declared.record.version.Version.{Version}
 use Rattle.aegis.specs.declared.record.version.Version.TheVariants.{Second}
 use Rattle.aegis.specs.Records.{AreRecords, records}
 use Rattle.aegis_storage.specs.declared.store.TheConstants.{MAX_STORAGE_BYTES}
-use Rattle.aegis_storage.specs.Disk.{Crashed, Disk, Writes, certain, written}
+use Rattle.aegis_storage.specs.Disk.{Crashed, Disk, Writes, certain, after_writes}
 
 -- the message of a write's record: its place, and then its bytes
 abbrev pub place_and_bytes : ℕ × List ℕ → List ℕ
@@ -36,7 +36,7 @@ pub record IsJournal (key context : List ℕ) (writes : Writes) (bytes : List �
 -- Recovery of a storage that holds `old`, by what the journal holds, gives `new`.
 pub record IsRecovered (key context journal old new : List ℕ) : Type 0 where
   -- the writes of a whole journal are made again
-  pub whole : (writes : Writes) → IsJournal key context writes journal → new ≡ written writes old
+  pub whole : (writes : Writes) → IsJournal key context writes journal → new ≡ after_writes writes old
   -- any other journal changes nothing
   pub other : ((writes : Writes) → IsJournal key context writes journal → ⊥) → new ≡ old
 
@@ -52,7 +52,7 @@ IsOneOf a b bytes = (bytes ≡ a) ⊎ (bytes ≡ b)
 
 -- Recovery of a storage that holds `old`, by what the journal holds, gives a or b.
 pub record GivesOneOf (key context a b journal old : List ℕ) : Type 0 where
-  pub whole : (writes : Writes) → IsJournal key context writes journal → IsOneOf a b (written writes old)
+  pub whole : (writes : Writes) → IsJournal key context writes journal → IsOneOf a b (after_writes writes old)
   pub other : ((writes : Writes) → IsJournal key context writes journal → ⊥) → IsOneOf a b old
 
 -- The premise on AEGIS: if the bytes are a journal under the key and the context, then of these writes. Bytes that are
@@ -68,7 +68,7 @@ pub record Recovers (key context xs : List ℕ) (writes : Writes) (storage journ
   pub storage_is : storage ≡ Some storage_disk
   pub journal_is : journal ≡ Some journal_disk
   pub gives : (ys js : List ℕ) → Crashed storage_disk ys → Crashed journal_disk js → IsNoForgery key context writes js
-      → GivesOneOf key context xs (written writes xs) js ys
+      → GivesOneOf key context xs (after_writes writes xs) js ys
 
 -- the bytes are no longer than a front, or begin with this one
 abbrev pub HasFront : (front bytes : List ℕ) → Type 0
@@ -88,10 +88,10 @@ pub record IsAtRest (storage journal : Option Disk) (xs : List ℕ) : Type 0 whe
 
 -- the same, with all the writes over xs
 pub record RestsWritten (storage journal : Option Disk) (xs : List ℕ) (writes : Writes) : Type 0 where
-  pub rests : IsAtRest storage journal (written writes xs)
+  pub rests : IsAtRest storage journal (after_writes writes xs)
 
 -- the same, with xs or with all the writes over it
 pub record RestsAtEither (storage journal : Option Disk) (xs : List ℕ) (writes : Writes) : Type 0 where
   pub bytes : List ℕ
-  pub one : IsOneOf xs (written writes xs) bytes
+  pub one : IsOneOf xs (after_writes writes xs) bytes
   pub rests : IsAtRest storage journal bytes

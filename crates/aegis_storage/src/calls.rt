@@ -3,7 +3,7 @@
 ghost use Rattle.std.specs.Prelude.{◌≡◌, ◌+◌, ◌≤◌, ◌++◌, [], IfOk, IfSome, List, None, OnErr, OnOk, Option, Some, length, take, ℕ};
 ghost use Rattle.aegis_storage.specs.Bytes.{ResizesTo};
 ghost use Rattle.aegis_storage.specs.Calls.{AddsSome, IsAppended, IsWholeOrEmpty, IsWrittenOver};
-ghost use Rattle.aegis_storage.specs.Disk.{WritesAll, certain, written};
+ghost use Rattle.aegis_storage.specs.Disk.{WritesAll, certain, after_writes};
 ghost use Rattle.aegis_storage.specs.Journal.{KeepsFront};
 ghost use Rattle.aegis_storage.specs.Pending.{writes_of};
 
@@ -52,7 +52,7 @@ pub fn write_and_sync<S: Storage, A: Allocator>(
     ensures torn { (xs : List ℕ) → S.disk storage.old ≡ Some (certain xs)
         → IsWrittenOver (writes_of writes.now) xs (S.disk storage.new) }
     ensures certain { OnOk result ((xs : List ℕ) → S.disk storage.old ≡ Some (certain xs)
-        → S.disk storage.new ≡ Some (certain (written (writes_of writes.now) xs))) }
+        → S.disk storage.new ≡ Some (certain (after_writes (writes_of writes.now) xs))) }
 {
     write_all(storage, writes)?;
     storage.sync()

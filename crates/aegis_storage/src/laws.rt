@@ -2,14 +2,14 @@
 //! other contracts cite.
 
 ghost use Rattle.std.specs.Prelude.{◌≡◌, List, Option, Some, ℕ};
-ghost use Rattle.aegis_storage.specs.Disk.{AreParts, Change, Crashed, Disk, Writes, applied, certain, changes, written};
+ghost use Rattle.aegis_storage.specs.Disk.{AreParts, Change, Crashed, Disk, Writes, applied, certain, changes, after_writes};
 ghost use Rattle.aegis_storage.specs.Journal.{IsAtRest, KeepsFront, Recovers};
 
 /// After any parts of writes, in any order, all of the writes give what they give without these.
 pub fn written_again()
     ensures { (writes : Writes) (parts : List Change) (xs : List ℕ)
         → AreParts (changes writes) parts
-        → written writes (applied parts xs) ≡ written writes xs }
+        → after_writes writes (applied parts xs) ≡ after_writes writes xs }
 {}
 
 /// Certain bytes are all that a crash may leave.

@@ -3,6 +3,7 @@
 use crate::shown::Name;
 use clap::{Arg, ArgAction, ArgMatches, Command, value_parser};
 use std::alloc::{AllocError, Global};
+use std::num::NonZeroU64;
 
 /// A file, or standard input or output.
 #[derive(Clone, Copy)]
@@ -50,8 +51,8 @@ pub struct Transfer<'a> {
 pub enum Span {
     /// So many bytes from a byte on.
     Bytes { from: u64, length: u64 },
-    /// The records from a number on, up to one that is not opened. There is at least one.
-    Records { first: u64, end: u64 },
+    /// So many records from a number on.
+    Records { first: u64, count: NonZeroU64 },
 }
 
 /// The action that a command line asks for.
@@ -270,12 +271,9 @@ fn transfer_of<'a>(matches: &ArgMatches<'a>) -> Transfer<'a> {
 // The records `A..B`, at least one.
 fn records_of(text: &str) -> Option<Span> {
     let (first, end) = text.split_once("..")?;
-    let (first, end) = (first.parse().ok()?, end.parse().ok()?);
-    if first < end {
-        Some(Span::Records { first, end })
-    } else {
-        None
-    }
+    let (first, end): (u64, u64) = (first.parse().ok()?, end.parse().ok()?);
+    let count = NonZeroU64::new(end.checked_sub(first)?)?;
+    Some(Span::Records { first, count })
 }
 
 // The action of `open`.

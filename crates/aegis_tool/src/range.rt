@@ -1,7 +1,7 @@
 //! A part of the text of a sealed file: the record in which it begins is found by the lengths of those before it, which
 //! are not verified. What is said of the part is said by the records that were opened.
 
-ghost use Rattle.std.specs.Prelude.{◌<◌, ◌≤◌};
+ghost use Rattle.std.specs.Prelude.{◌≤◌};
 ghost use Rattle.std.specs.Bool.{OnTrue};
 
 use crate::command::Span;
@@ -12,6 +12,7 @@ use aegis::record::{
 use aegis_files::{FileError, OpenedRange, TextRange, fill};
 use std::fs::File;
 use std::io::{Seek, SeekFrom};
+use std::num::NonZeroU64;
 
 /// Where a part of a text begins, and how long it is.
 #[derive(Clone, Copy)]
@@ -39,12 +40,12 @@ impl Start {
     }
 }
 
-/// Whether a file that a system holds can have a record where the range begins, and records are asked for.
+/// Whether a file that a system holds can have a record where the range begins.
 pub fn is_reachable(range: &TextRange) -> bool
     ensures { OnTrue result ((range.now.position.number ≤ MOST)
-        × (range.now.position.before ≤ MOST) × (0 < range.now.records)) }
+        × (range.now.position.before ≤ MOST)) }
 {
-    range.position.number <= MOST && range.position.before <= MOST && range.records > 0
+    range.position.number <= MOST && range.position.before <= MOST
 }
 
 // How many bytes a file has in front of its first record: the prefix and the header.
@@ -160,7 +161,7 @@ fn range_of_bytes(
         position,
         skip: from.saturating_sub(position.before),
         length,
-        records: u64::MAX,
+        records: NonZeroU64::MAX,
     })
 }
 
@@ -170,7 +171,7 @@ fn range_of_records(
     lengths: &RecordOpener<'_>,
     file: &mut File,
     first: u64,
-    end: u64,
+    count: NonZeroU64,
 ) -> Result<TextRange, FileError> {
     let found = find(lengths, file, Target::Record(first))?;
     if found.has(Target::Record(first)) {
@@ -178,14 +179,14 @@ fn range_of_records(
             position: found.position,
             skip: 0,
             length: u64::MAX,
-            records: end.saturating_sub(first),
+            records: count,
         })
     } else {
         Ok(TextRange {
             position: found.position,
             skip: u64::MAX,
             length: 0,
-            records: 1,
+            records: NonZeroU64::MIN,
         })
     }
 }
@@ -200,7 +201,7 @@ pub fn start_of(file: &mut File, span: Span) -> Result<Start, FileError> {
     let lengths = RecordOpener::new(&[0; 32], &[0; 24], &[], &header)?;
     let range = match span {
         Span::Bytes { from, length } => range_of_bytes(&lengths, file, from, length)?,
-        Span::Records { first, end } => range_of_records(&lengths, file, first, end)?,
+        Span::Records { first, count } => range_of_records(&lengths, file, first, count)?,
     };
     seek(file, byte_of(range.position))?;
     Ok(Start {

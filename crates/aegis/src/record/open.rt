@@ -9,7 +9,8 @@ ghost use Rattle.aegis.specs.RecordStream.{header};
 use crate::aegis256::Key;
 use crate::record::error::RecordError;
 use crate::record::frame::Frame;
-use crate::record::record_cipher::{MAX_CONTEXT_BYTES, RecordCipher, RecordPlace};
+use crate::record::position::RecordPosition;
+use crate::record::record_cipher::{MAX_CONTEXT_BYTES, RecordCipher};
 use crate::record::version::Version;
 use std::alloc::Allocator;
 
@@ -35,26 +36,19 @@ pub(crate) fn version_of(bytes: &[u8]) -> Option<(Version, &[u8])>
 pub(crate) fn open_record<'a, A: Allocator>(
     alloc: A,
     cipher: &RecordCipher<'_>,
-    version: Version,
-    number: u64,
-    before: u64,
+    position: RecordPosition,
     bytes: &'a [u8],
 ) -> Result<(Frame<'a>, Vec<u8, A>), RecordError>
     requires { length cipher.now.context.now ≤ MAX_CONTEXT_BYTES }
     ensures opened { IfOk result
-        (λ found. IsRecord (sealing_of cipher.now) version number before found.0.flag found.1.items
-        found.0.rest.now bytes.now) }
+        (λ found. IsRecord (sealing_of cipher.now) position.version position.number position.before
+        found.0.flag found.1.items found.0.rest.now bytes.now) }
     ensures refused { IfErr result (λ e. (e ≡ RecordError.OutOfMemory)
-        ⊎ HasFault (sealing_of cipher.now) version number before (parts version bytes.now) e) }
+        ⊎ HasFault (sealing_of cipher.now) position.version position.number position.before
+        (parts position.version bytes.now) e) }
 {
-    let frame = Frame::read(version, bytes)?;
-    let place = RecordPlace {
-        version,
-        number,
-        before,
-        flag: frame.flag,
-    };
-    let message = cipher.open(alloc, place, frame.sealed)?;
+    let frame = Frame::read(position.version, bytes)?;
+    let message = cipher.open(alloc, position, frame.flag, frame.sealed)?;
     Ok((frame, message))
 }
 
@@ -78,14 +72,12 @@ fn open_each<A: Allocator + Copy>(
     let mut found = Vec::new(alloc);
     let mut before: u64 = 0;
     'records: loop {
-        let (frame, message) = open_record(
-            alloc,
-            cipher,
+        let position = RecordPosition {
             version,
-            found.len() as u64,
+            number: found.len() as u64,
             before,
-            rest,
-        )?;
+        };
+        let (frame, message) = open_record(alloc, cipher, position, rest)?;
         before += message.len() as u64;
         found.push(message)?;
         rest = frame.rest;

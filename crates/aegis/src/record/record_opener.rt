@@ -16,7 +16,7 @@ use crate::record::frame::TAG_BYTES;
 use crate::record::length::{HEADER_BYTES, RECORD_BYTES};
 use crate::record::open::{open_record, version_of};
 use crate::record::position::RecordPosition;
-use crate::record::record_cipher::{MAX_CONTEXT_BYTES, RecordCipher, RecordPlace};
+use crate::record::record_cipher::{MAX_CONTEXT_BYTES, RecordCipher};
 use crate::record::version::{MAX_MESSAGE_BYTES, Version};
 use aegis_base::MAX_AEAD_BYTES;
 pub use in_place::{OpenedInPlace, open_record_in_place};
@@ -209,14 +209,7 @@ impl<'a> RecordOpener<'a> {
         if self.ended {
             return Err(RecordError::Trailing);
         }
-        let (frame, message) = open_record(
-            alloc,
-            &self.cipher,
-            self.version,
-            self.number,
-            self.before,
-            bytes,
-        )?;
+        let (frame, message) = open_record(alloc, &self.cipher, self.position(), bytes)?;
         self.number += 1;
         self.before += message.len() as u64;
         self.ended = frame.flag == 1;
@@ -257,14 +250,7 @@ impl<'a> RecordOpener<'a> {
             ⊎ IsRecordFault (progress_at self.now.key self.now.prefix self.now.context position)
             bytes.now e) }
     {
-        let (frame, message) = open_record(
-            alloc,
-            &self.cipher,
-            position.version,
-            position.number,
-            position.before,
-            bytes,
-        )?;
+        let (frame, message) = open_record(alloc, &self.cipher, position, bytes)?;
         Ok(Opened {
             message,
             is_last: frame.flag == 1,

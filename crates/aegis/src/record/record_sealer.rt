@@ -13,7 +13,7 @@ use crate::aegis256::Key;
 use crate::record::error::RecordError;
 use crate::record::length::{HEADER_BYTES, RECORD_BYTES};
 use crate::record::position::RecordPosition;
-use crate::record::record_cipher::{MAX_CONTEXT_BYTES, RecordCipher, RecordPlace};
+use crate::record::record_cipher::{MAX_CONTEXT_BYTES, RecordCipher};
 use crate::record::version::{MAX_MESSAGE_BYTES, Version};
 use aegis_base::MAX_AEAD_BYTES;
 pub use in_place::seal_record_in_place;
@@ -27,36 +27,38 @@ const WRITTEN: Version = Version::Second;
 fn append_record<A: Allocator>(
     out: &mut Vec<u8, A>,
     cipher: &RecordCipher<'_>,
-    place: RecordPlace,
+    position: RecordPosition,
+    flag: u8,
     message: &[u8],
 ) -> Result<(), RecordError>
     requires context { length cipher.now.context.now ≤ MAX_CONTEXT_BYTES }
-    requires within { length message.now ≤ limit place.version }
+    requires within { length message.now ≤ limit position.version }
     ensures ok { OnOk result
-        (out.new.items ≡ out.old.items ++ frame_at cipher.now place message.now) }
+        (out.new.items ≡ out.old.items ++ frame_at cipher.now position flag message.now) }
     ensures err { IfErr result (λ e. e ≡ RecordError.OutOfMemory) }
     ensures kept { OnErr result ((part : List ℕ) × (out.new.items ≡ out.old.items ++ part)) }
 {
-    out.extend_from_slice(&place.head(message.len()))?;
-    cipher.seal(out, place, message)
+    out.extend_from_slice(&position.version.head(flag, message.len()))?;
+    cipher.seal(out, position, flag, message)
 }
 
 // Appends a record to `out`, which is as it was after an error.
 fn seal_record<A: Allocator>(
     out: &mut Vec<u8, A>,
     cipher: &RecordCipher<'_>,
-    place: RecordPlace,
+    position: RecordPosition,
+    flag: u8,
     message: &[u8],
 ) -> Result<(), RecordError>
     requires context { length cipher.now.context.now ≤ MAX_CONTEXT_BYTES }
-    requires within { length message.now ≤ limit place.version }
+    requires within { length message.now ≤ limit position.version }
     ensures ok { OnOk result
-        (out.new.items ≡ out.old.items ++ frame_at cipher.now place message.now) }
+        (out.new.items ≡ out.old.items ++ frame_at cipher.now position flag message.now) }
     ensures err { IfErr result (λ e. e ≡ RecordError.OutOfMemory) }
     ensures kept { OnErr result (out.new.items ≡ out.old.items) }
 {
     let start = out.len();
-    let appended = append_record(out, cipher, place, message);
+    let appended = append_record(out, cipher, position, flag, message);
     if appended.is_err() {
         out.truncate(start);
     }
@@ -187,13 +189,7 @@ impl<'a> RecordSealer<'a> {
         ensures unchanged { OnErr result (self.new ≡ self.old) }
         ensures kept { OnErr result (out.new.items ≡ out.old.items) }
     {
-        let place = RecordPlace {
-            version: WRITTEN,
-            number: self.number,
-            before: self.before,
-            flag: 0,
-        };
-        seal_record(out, &self.cipher, place, message)?;
+        seal_record(out, &self.cipher, self.position(), 0, message)?;
         self.number += 1;
         self.before += message.len() as u64;
         Ok(())
@@ -223,18 +219,7 @@ impl<'a> RecordSealer<'a> {
         ensures err { IfErr result (λ e. e ≡ RecordError.OutOfMemory) }
         ensures kept { OnErr result (out.new.items ≡ out.old.items) }
     {
-        let RecordSealer {
-            cipher,
-            number,
-            before,
-        } = self;
-        let place = RecordPlace {
-            version: WRITTEN,
-            number,
-            before,
-            flag: 1,
-        };
-        seal_record(out, &cipher, place, message)?;
+        seal_record(out, &self.cipher, self.position(), 1, message)?;
         Ok(())
     }
 }

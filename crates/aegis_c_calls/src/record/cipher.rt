@@ -6,11 +6,9 @@ ghost use Rattle.aegis.specs.Progress.{record_of};
 ghost use Rattle.aegis.specs.RecordStream.{limit};
 ghost use Rattle.aegis_c_calls.specs.RecordStates.{progress_of, version_of};
 
-use crate::record::data::version;
+use crate::record::data::position;
 use crate::record::state::RecordState;
-use aegis::record::placed::{
-    RecordCipher, RecordPlace, open_record_in_place, seal_record_in_place,
-};
+use aegis::record::placed::{RecordCipher, open_record_in_place, seal_record_in_place};
 use aegis::record::{MAX_CONTEXT_BYTES, RECORD_BYTES};
 
 /// Seals the next message, with this flag, where it lies: `bytes` has 5 bytes for its head, the message, and 32 bytes
@@ -26,13 +24,7 @@ pub fn seal_record(st: &RecordState, flag: u8, context: &[u8], bytes: &mut [u8])
         prefix: &st.prefix,
         context,
     };
-    let place = RecordPlace {
-        version: version(st),
-        number: st.number,
-        before: st.before,
-        flag,
-    };
-    seal_record_in_place(&cipher, place, bytes);
+    seal_record_in_place(&cipher, position(st), flag, bytes);
 }
 
 /// Opens the next record in place, and returns its flag. Returns `None` if no message is sealed to `bytes`, which must
@@ -57,7 +49,7 @@ pub fn open_record(st: &RecordState, context: &[u8], bytes: &mut [u8]) -> Option
         prefix: &st.prefix,
         context,
     };
-    match open_record_in_place(&cipher, version(st), st.number, st.before, bytes) {
+    match open_record_in_place(&cipher, position(st), bytes) {
         Ok((flag, message_len)) => {
             if RECORD_BYTES as usize + message_len == bytes.len() {
                 Some(flag)

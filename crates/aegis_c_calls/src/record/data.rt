@@ -1,12 +1,12 @@
-//! The version of a state's stream.
+//! The version of a state's stream, and the position of its next record.
 
 ghost use Rattle.std.specs.Prelude.{◌≡◌, ◌≢◌, IfNone, IfSome};
 ghost use Rattle.aegis.specs.RecordStream.{header};
 ghost use Rattle.aegis.specs.declared.record.version.Version.{Version};
-ghost use Rattle.aegis_c_calls.specs.RecordStates.{version_of};
+ghost use Rattle.aegis_c_calls.specs.RecordStates.{next_position, version_of};
 
 use crate::record::state::{FIRST, RecordState, SECOND};
-use aegis::record::Version;
+use aegis::record::{RecordPosition, Version};
 
 /// Returns the version of a state's stream.
 pub fn version(st: &RecordState) -> Version
@@ -16,6 +16,17 @@ pub fn version(st: &RecordState) -> Version
         Version::First
     } else {
         Version::Second
+    }
+}
+
+/// Returns the position of the next record of a state's stream.
+pub fn position(st: &RecordState) -> RecordPosition
+    ensures { result ≡ next_position st.now }
+{
+    RecordPosition {
+        version: version(st),
+        number: st.number,
+        before: st.before,
     }
 }
 

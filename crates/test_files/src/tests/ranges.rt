@@ -1,12 +1,11 @@
 //! Parts of a text, each opened from a record on.
 
-ghost use Rattle.std.specs.Prelude.{◌<◌};
-
 use super::{CONTEXT, KEY, PREFIX, TEXT, three_records};
 use aegis::record::{RecordError, RecordPosition, Version};
 use aegis_files::{FileError, OpenedRange, TextRange, open_range};
 use std::alloc::Global;
 use std::io::{ErrorKind, Read, Write};
+use std::num::NonZeroU64;
 use std::test::Fail;
 use test_tools::ends::{CutOff, Narrow};
 
@@ -49,17 +48,15 @@ struct Part {
 struct Asked {
     skip: u64,
     length: u64,
-    records: u64,
+    records: NonZeroU64,
 }
 
 // A part that is bounded by bytes alone.
-fn bytes(skip: u64, length: u64) -> Asked
-    ensures { 0 < result.records }
-{
+fn bytes(skip: u64, length: u64) -> Asked {
     Asked {
         skip,
         length,
-        records: u64::MAX,
+        records: NonZeroU64::MAX,
     }
 }
 
@@ -70,9 +67,7 @@ fn open_part<R: Read, W: Write>(
     asked: Asked,
     input: &mut R,
     output: &mut W,
-) -> Result<OpenedRange, FileError>
-    requires { 0 < asked.records }
-{
+) -> Result<OpenedRange, FileError> {
     let position = RecordPosition {
         version: Version::Second,
         number: u64::from(place.number),
@@ -88,9 +83,7 @@ fn open_part<R: Read, W: Write>(
 }
 
 // Opens a part of a file from a record on.
-fn opened_part(alloc: Global, file: &[u8], place: Place, asked: Asked) -> Part
-    requires { 0 < asked.records }
-{
+fn opened_part(alloc: Global, file: &[u8], place: Place, asked: Asked) -> Part {
     let mut input = file.get(place.start..).unwrap_or(&[]);
     let mut written = Vec::new(alloc);
     let result = open_part(alloc, place, asked, &mut input, &mut written);
@@ -114,7 +107,7 @@ fn each_part_opens_from_each_record(rt: HostRuntime) -> Result<(), Fail> {
                 let asked = bytes(skip as u64, length as u64);
                 let part = opened_part(rt.alloc(), &file, place, asked);
                 assert!(rt;
-                    matches!(part.result, Ok(opened) if opened.written == wanted.len() as u64),
+                    matches!(part.result, Ok(opened) if opened.length == wanted.len() as u64),
                     "{skip}, {length}"
                 );
                 assert_eq!(rt; part.written.as_slice(), wanted, "{skip}, {length}");
@@ -136,8 +129,8 @@ fn a_part_has_the_whole_text_at_most(rt: HostRuntime) -> Result<(), Fail> {
     Ok(())
 }
 
-// Whether all records of the small file were opened, and so many bytes written.
-fn is_whole(opened: &OpenedRange, written: u64) -> bool {
+// Whether all records of the small file were opened, and so many bytes of its text were written.
+fn is_whole(opened: &OpenedRange, length: u64) -> bool {
     let end = RecordPosition {
         version: Version::Second,
         number: 3,
@@ -145,28 +138,28 @@ fn is_whole(opened: &OpenedRange, written: u64) -> bool {
     };
     *opened
         == OpenedRange {
-            written,
+            length,
             end,
             is_last: true,
         }
 }
 
-// From the first record, each number of records.
+// From the first record, one record and so many more.
 #[test]
 fn a_part_has_so_many_records_at_most(rt: HostRuntime) -> Result<(), Fail> {
     let file = three_records(rt.alloc(), &KEY, &PREFIX)?;
-    let parts = [(1, 3, false), (2, 10, false), (3, 15, true), (4, 15, true)];
-    for (records, length, is_last) in parts {
+    let parts = [(0, 3, false), (1, 10, false), (2, 15, true), (3, 15, true)];
+    for (more, length, is_last) in parts {
         let asked = Asked {
             skip: 0,
             length: u64::MAX,
-            records,
+            records: NonZeroU64::MIN.saturating_add(more),
         };
         let part = opened_part(rt.alloc(), &file, PLACES[0], asked);
-        assert_eq!(rt; part.written.as_slice(), &TEXT[..length], "{records}");
+        assert_eq!(rt; part.written.as_slice(), &TEXT[..length], "{more}");
         assert!(rt;
             matches!(part.result, Ok(opened) if opened.is_last == is_last),
-            "{records}"
+            "{more}"
         );
     }
     Ok(())
@@ -220,7 +213,7 @@ fn records_after_the_part_need_not_be_whole(rt: HostRuntime) -> Result<(), Fail>
         *byte ^= 1;
     }
     let part = opened_part(rt.alloc(), &file, PLACES[0], bytes(1, 9));
-    assert!(rt; matches!(part.result, Ok(opened) if opened.written == 9));
+    assert!(rt; matches!(part.result, Ok(opened) if opened.length == 9));
     assert_eq!(rt; part.written.as_slice(), b"neand two".as_slice());
     let damaged = opened_part(rt.alloc(), &file, PLACES[1], bytes(4, 9));
     assert!(rt;

@@ -10,7 +10,8 @@ ghost use Rattle.aegis.specs.Progress.{start_of};
 use crate::record::error::RecordError;
 use crate::record::frame::{Frame, TAG_BYTES};
 use crate::record::length::RECORD_HEAD_BYTES;
-use crate::record::record_cipher::{MAX_CONTEXT_BYTES, RecordCipher, RecordPlace};
+use crate::record::position::RecordPosition;
+use crate::record::record_cipher::{MAX_CONTEXT_BYTES, RecordCipher};
 use crate::record::record_opener::RecordOpener;
 use crate::record::version::Version;
 use aegis_base::MAX_AEAD_BYTES;
@@ -27,45 +28,38 @@ pub struct OpenedInPlace {
     pub is_last: bool,
 }
 
-/// Opens the record at its place that the bytes begin with, where it lies. Returns its flag, and how many bytes its
+/// Opens the record at a position, which the bytes begin with, where it lies. Returns its flag, and how many bytes its
 /// message has.
 ///
 /// The error is the fault of the record. If it is [`RecordError::Damaged`], every byte of the ciphertext is
 /// [`ERASED`](crate::ERASED), and after any other error the bytes are as they were.
 pub fn open_record_in_place(
     cipher: &RecordCipher<'_>,
-    version: Version,
-    number: u64,
-    before: u64,
+    position: RecordPosition,
     bytes: &mut [u8],
 ) -> Result<(u8, usize), RecordError>
     requires { length cipher.now.context.now ≤ MAX_CONTEXT_BYTES }
     ensures opened { IfOk result
-        (λ found. IsRecord (sealing_of cipher.now) version number before found.0
-        (message_at found.1 bytes.new) (rest_at found.1 bytes.new) bytes.old) }
+        (λ found. IsRecord (sealing_of cipher.now) position.version position.number position.before
+        found.0 (message_at found.1 bytes.new) (rest_at found.1 bytes.new) bytes.old) }
     ensures message_len { IfOk result
         (λ found. length (message_at found.1 bytes.new) ≡ found.1) }
     ensures written { IfOk result
         (λ found. bytes.new ≡ with_message bytes.old (message_at found.1 bytes.new)) }
     ensures refused { IfErr result
-        (λ e. HasFault (sealing_of cipher.now) version number before (parts version bytes.old) e) }
+        (λ e. HasFault (sealing_of cipher.now) position.version position.number position.before
+        (parts position.version bytes.old) e) }
     ensures erased { IfErr result
-        (λ e. e ≡ RecordError.Damaged number → bytes.new ≡ with_erased bytes.old) }
+        (λ e. e ≡ RecordError.Damaged position.number → bytes.new ≡ with_erased bytes.old) }
     ensures kept { IfErr result
-        (λ e. e ≢ RecordError.Damaged number → bytes.new ≡ bytes.old) }
+        (λ e. e ≢ RecordError.Damaged position.number → bytes.new ≡ bytes.old) }
 {
-    let frame = Frame::read(version, bytes)?;
+    let frame = Frame::read(position.version, bytes)?;
     let flag = frame.flag;
     let sealed_len = frame.sealed.len();
-    let place = RecordPlace {
-        version,
-        number,
-        before,
-        flag,
-    };
     let (_, body) = bytes.split_at_mut(RECORD_HEAD_BYTES);
     let (sealed, _) = body.split_at_mut(sealed_len);
-    match cipher.open_in_place(place, sealed) {
+    match cipher.open_in_place(position, flag, sealed) {
         Ok(()) => Ok((flag, sealed_len - TAG_BYTES)),
         Err(error) => Err(error),
     }
@@ -94,13 +88,7 @@ impl RecordOpener<'_> {
         if self.ended {
             return Err(RecordError::Trailing);
         }
-        let (flag, message_len) = open_record_in_place(
-            &self.cipher,
-            self.version,
-            self.number,
-            self.before,
-            bytes,
-        )?;
+        let (flag, message_len) = open_record_in_place(&self.cipher, self.position(), bytes)?;
         self.number += 1;
         self.before += message_len as u64;
         self.ended = flag == 1;

@@ -8,22 +8,28 @@ ghost use Rattle.aegis.specs.RecordStream.{limit};
 
 use crate::record::frame::TAG_BYTES;
 use crate::record::length::{RECORD_BYTES, RECORD_HEAD_BYTES};
-use crate::record::record_cipher::{MAX_CONTEXT_BYTES, RecordCipher, RecordPlace};
-use crate::record::record_sealer::{RecordSealer, WRITTEN};
+use crate::record::position::RecordPosition;
+use crate::record::record_cipher::{MAX_CONTEXT_BYTES, RecordCipher};
+use crate::record::record_sealer::RecordSealer;
 use crate::record::version::MAX_MESSAGE_BYTES;
 use aegis_base::MAX_AEAD_BYTES;
 
-/// Seals a record at its place where its message lies: `buffer` has [`RECORD_HEAD_BYTES`] for the head, the message,
+/// Seals the record at a position where its message lies: `buffer` has [`RECORD_HEAD_BYTES`] for the head, the message,
 /// and 32 bytes for the tag, and becomes the record.
-pub fn seal_record_in_place(cipher: &RecordCipher<'_>, place: RecordPlace, buffer: &mut [u8])
+pub fn seal_record_in_place(
+    cipher: &RecordCipher<'_>,
+    position: RecordPosition,
+    flag: u8,
+    buffer: &mut [u8],
+)
     requires context { length cipher.now.context.now ≤ MAX_CONTEXT_BYTES }
     requires room { RECORD_BYTES ≤ length buffer.old }
-    requires within { length buffer.old ≤ RECORD_BYTES + limit place.version }
-    ensures { buffer.new ≡ frame_at cipher.now place (message_in buffer.old) }
+    requires within { length buffer.old ≤ RECORD_BYTES + limit position.version }
+    ensures { buffer.new ≡ frame_at cipher.now position flag (message_in buffer.old) }
 {
     let (head, sealed) = buffer.split_at_mut(RECORD_HEAD_BYTES);
-    head.copy_from_slice(&place.head(sealed.len() - TAG_BYTES));
-    cipher.seal_in_place(place, sealed);
+    head.copy_from_slice(&position.version.head(flag, sealed.len() - TAG_BYTES));
+    cipher.seal_in_place(position, flag, sealed);
 }
 
 impl RecordSealer<'_> {
@@ -44,13 +50,7 @@ impl RecordSealer<'_> {
         ensures progress { self.new ≡ after self.old false (message_in buffer.old) }
         ensures taken { start_of self.new ≡ start_of self.old + length buffer.old }
     {
-        let place = RecordPlace {
-            version: WRITTEN,
-            number: self.number,
-            before: self.before,
-            flag: 0,
-        };
-        seal_record_in_place(&self.cipher, place, buffer);
+        seal_record_in_place(&self.cipher, self.position(), 0, buffer);
         self.number += 1;
         self.before += buffer.len() as u64 - RECORD_BYTES;
     }

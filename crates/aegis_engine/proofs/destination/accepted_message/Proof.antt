@@ -52,7 +52,7 @@ stayed = (stay_dropped (plain (λ κs. ST.the_row (named_lft 1 0 tt κs))) no, t
 
 -- how the machine stores one
 abbrev checked_vals : Checked → List Val
-checked_vals s = vstruct (vcons (slice_val s.dst.ref_ptr (length s.dst.now)) (vcons (vint w64 s.written) (vcons (vbool s.accepted) vnil))) ∷ []
+checked_vals s = vstruct (vcons (slice_val s.dst.ref_ptr (length s.dst.now)) (vcons (vint w64 s.filled) (vcons (vbool s.accepted) vnil))) ∷ []
 
 is_true : (t : Bool) → T t → t ≡ true
 is_true true y = refl
@@ -72,7 +72,7 @@ accepted_message_spec 𝓤 𝓛 𝓜 𝓡 wired =
     proved 𝓛 f.ended stayed c 𝓜 𝓡 ((λ κs x w vs ok. qed 𝓛 (‵ ftrue ∷ []) ∵ updating ! $ at_once ! $ nothing ! $ fjoin ! $ done !), tt)
     f.Key.name code.function (code.unfolded 𝓤 𝓛.H 𝓜 𝓡 wired)
     (λ κs. (checked_vals, tt)) (λ κs. ((λ s vs p. Struct-Tells (shape (ST.the_type (named_lft 1 0 tt κs))) (mut_slice_vals, (uint_vals w64, (bool_vals, tt))) (mut_slice_Tells (named 0) κs.0 u8, (uint_Tells w64, (bool_Tells, tt))) ((ST.the_type (named_lft 1 0 tt κs)).to s) vs p), tt)) (λ κs qs bounds a _ are.
-    let κ = κs.0 in let q = qs.0 in let s = a.0 in let r = s.dst in let b = r.ref_ptr.0 in let o = r.ref_ptr.1 in let xs = r.now in let m = s.written in
+    let κ = κs.0 in let q = qs.0 in let s = a.0 in let r = s.dst in let b = r.ref_ptr.0 in let o = r.ref_ptr.1 in let xs = r.now in let m = s.filled in
     let rm : Room u8 (length xs) = are.0.1.1.0.0.1 in
     let fm : m < 2 ^ 64 = are.0.1.1.1.0.1 in
     let y : W.Ghost = ((κs, qs, bounds, a, (checked_vals s, tt)), tt) in

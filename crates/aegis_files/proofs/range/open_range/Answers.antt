@@ -8,7 +8,7 @@ use Rattle.aegis_files.proofs.Ranges.{range_begin, range_end, range_more}
 use Rattle.aegis_files.proofs.range.open_range.Goals as goal
 
 pub records-init : goal.records-init
-records-init g c = range_begin _ _ _ _ _ _ _ c.begin_at-opener.ensures c.requires.some_records
+records-init g c = rw c.get-records.ensures.value (range_begin _ _ _ _ _ _ _ c.begin_at-opener.ensures (rw (← c.get-records.ensures.value) c.get-records.ensures.nonzero))
 
 pub returns-in_err-opened-clause-stopped : goal.returns-in_err-opened-clause-stopped
 returns-in_err-opened-clause-stopped g c =

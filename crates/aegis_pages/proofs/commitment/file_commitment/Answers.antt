@@ -3,8 +3,8 @@ use Rattle.std.proofs.lemmas.List.{length-append}
 use Rattle.std.specs.Int.{to_le_bytes, w64}
 use Rattle.aegis_pages.specs.Commitments.{page_count}
 use Rattle.aegis_pages.specs.Layouts.{clear_part, nonce_bytes}
-use Rattle.aegis_pages.proofs.Committing.{begun, committed_mac, length-begun, one_more, saved_data, saved_message, saved_so}
-use Rattle.aegis_pages.proofs.Known.{known_all, known_map, known_map2}
+use Rattle.aegis_pages.proofs.CommitmentFacts.{begun, committed_mac, length-begun, one_more, saved_data, saved_message, saved_so}
+use Rattle.aegis_pages.proofs.KnownFacts.{known_all, known_map, known_map2}
 use Rattle.aegis_pages.proofs.commitment.file_commitment.Goals as goal
 
 pub absorb-requires-clause-associated_data_within : goal.absorb-requires-clause-associated_data_within

@@ -1,7 +1,7 @@
 use Rattle.std.proofs.Common.{◌≡◌, ◌+◌, ℕ, ◌∙◌, ap, arith, drop, length, take}
 use Rattle.aegis_pages.specs.Layouts.{box_bytes, page_place}
-use Rattle.aegis_pages.proofs.Committing.{tag_end}
-use Rattle.aegis_pages.proofs.Known.{known_map}
+use Rattle.aegis_pages.proofs.CommitmentFacts.{tag_end}
+use Rattle.aegis_pages.proofs.KnownFacts.{known_map}
 use Rattle.aegis_pages.proofs.commitment.read_tag.Goals as goal
 
 pub returns-in-Ok-clause-tag : goal.returns-in-Ok-clause-tag

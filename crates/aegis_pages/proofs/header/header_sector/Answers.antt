@@ -1,6 +1,6 @@
 use Rattle.std.proofs.Common.{◌≡◌, ◌+◌, ◌<◌, ◌^◌, ◌∙◌, ap, arith, length, refl, replicate, sym}
 use Rattle.aegis_storage.specs.Bytes.{overwritten}
-use Rattle.aegis_pages.proofs.Heading.{made_nonce, made_sector}
+use Rattle.aegis_pages.proofs.HeaderFacts.{made_nonce, made_sector}
 use Rattle.aegis_pages.proofs.header.header_sector.Goals as goal
 
 pub returns-clause-header : goal.returns-clause-header

@@ -1,5 +1,5 @@
 use Rattle.std.proofs.Common.{◌∙◌, ap, is_some, sym}
-use Rattle.aegis_pages.proofs.Heading.{sector_opens}
+use Rattle.aegis_pages.proofs.HeaderFacts.{sector_opens}
 use Rattle.aegis_pages.proofs.header.open_sector.Goals as goal
 
 pub returns-in_err-counter-clause-found : goal.returns-in_err-counter-clause-found

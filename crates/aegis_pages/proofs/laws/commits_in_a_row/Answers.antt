@@ -1,4 +1,4 @@
-use Rattle.aegis_pages.proofs.Recovering.{last_committed}
+use Rattle.aegis_pages.proofs.RecoveryFacts.{last_committed}
 use Rattle.aegis_pages.proofs.laws.commits_in_a_row.Goals as goal
 
 pub returns-clause-certain : goal.returns-clause-certain

@@ -1,5 +1,5 @@
 use Rattle.aegis_pages.specs.Recovery.{RecoversUnder}
-use Rattle.aegis_pages.proofs.Recovering.{committed_recovers as recovers}
+use Rattle.aegis_pages.proofs.RecoveryFacts.{committed_recovers as recovers}
 use Rattle.aegis_pages.proofs.laws.committed_recovers.Goals as goal
 
 pub returns : goal.returns

@@ -1,4 +1,4 @@
-use Rattle.aegis_pages.proofs.Committing.{has_commitment}
+use Rattle.aegis_pages.proofs.CommitmentFacts.{has_commitment}
 use Rattle.aegis_pages.proofs.laws.opened_has_its_commitment.Goals as goal
 
 pub returns : goal.returns

@@ -1,4 +1,4 @@
-use Rattle.aegis_pages.proofs.Recovering.{crashed_text}
+use Rattle.aegis_pages.proofs.RecoveryFacts.{crashed_text}
 use Rattle.aegis_pages.proofs.laws.recovers_after_a_crash.Goals as goal
 
 pub returns : goal.returns

@@ -1,6 +1,6 @@
 use Rattle.std.proofs.Common.{subst, sym}
 use Rattle.aegis_pages.specs.OpenFile.{HasCommitted, OpenFile}
-use Rattle.aegis_pages.proofs.Recovering.{stored_committed}
+use Rattle.aegis_pages.proofs.RecoveryFacts.{stored_committed}
 use Rattle.aegis_pages.proofs.laws.stored_is_committed.Goals as goal
 
 pub returns-clause-stored : goal.returns-clause-stored

@@ -1,6 +1,6 @@
 use Rattle.std.proofs.Common.{◌≡◌, ◌+◌, ◌-◌, ◌<◌, ◌⊎◌, arith, inl, inr, length, rules}
 use Rattle.std.specs.Bool.{IsTrue}
-use Rattle.aegis_pages.proofs.Commits.{Begins, begins_first, begins_last, of_first_or_last, of_none}
+use Rattle.aegis_pages.proofs.CommitFacts.{Begins, begins_first, begins_last, of_first_or_last, of_none}
 use Rattle.aegis_pages.proofs.opening.is_of_commit.Goals as goal
 
 pub returns-then-count-eq0 : goal.returns-then-count-eq0

@@ -2,9 +2,9 @@ use Rattle.std.proofs.Common.{◌≡◌, ◌∙◌, ap, Err, IsOk, Result, rules
 use Rattle.std.proofs.lemmas.Result.{err_from_is_err_and}
 use Rattle.aegis_storage.specs.Pending.{writes_of}
 use Rattle.aegis_pages.specs.Commits.{IsLeftByCommit}
-use Rattle.aegis_pages.proofs.Accepting.{accepts_all}
-use Rattle.aegis_pages.proofs.Known.{only_error, reads_only}
-use Rattle.aegis_pages.proofs.Recovering.{fits_all, honest_as, kept_by_empty, recovers_again, recovers_as, rests_at_text}
+use Rattle.aegis_pages.proofs.AcceptFacts.{accepts_all}
+use Rattle.aegis_pages.proofs.KnownFacts.{only_error, reads_only}
+use Rattle.aegis_pages.proofs.RecoveryFacts.{fits_all, honest_as, kept_by_empty, recovers_again, recovers_as, rests_at_text}
 use Rattle.aegis_pages.proofs.opening.recover_file.Goals as goal
 
 refused : {T E : Type 0} (r : Result T E) (e : E) → r ≡ Err e → IsOk r → ⊥

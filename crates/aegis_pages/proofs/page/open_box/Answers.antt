@@ -1,6 +1,6 @@
 use Rattle.std.proofs.Common.{◌+◌, ◌-◌, ◌≤◌, ◌++◌, ◌∙◌, ℕ, ap, arith, drop, length, refl, sym, take}
 use Rattle.aegis_pages.specs.Layouts.{associated_data, inner, nonce_bytes}
-use Rattle.aegis_pages.proofs.Boxes.{end_is, inner_of, length-end, moved, on_ok}
+use Rattle.aegis_pages.proofs.BoxFacts.{end_is, inner_of, length-end, moved, on_ok}
 use Rattle.aegis_pages.proofs.page.open_box.Goals as goal
 
 pub returns-clause-opened : goal.returns-clause-opened

@@ -1,7 +1,7 @@
 use Rattle.std.proofs.Common.{◌+◌, ◌-◌, ◌≤◌, ◌++◌, ◌∙◌, ℕ, ap, arith, drop, length, refl, sym, take}
 use Rattle.std.proofs.lemmas.List.{take_at}
 use Rattle.aegis_pages.specs.Layouts.{associated_data, inner, nonce_bytes}
-use Rattle.aegis_pages.proofs.Boxes.{length-end, moved, opens_parts}
+use Rattle.aegis_pages.proofs.BoxFacts.{length-end, moved, opens_parts}
 use Rattle.aegis_pages.proofs.page.seal_box.Goals as goal
 
 pub returns-clause-opens : goal.returns-clause-opens

@@ -1,6 +1,6 @@
 use Rattle.std.proofs.Common.{arith, subst}
 use Rattle.aegis_pages.specs.Layouts.{OpensAt}
-use Rattle.aegis_pages.proofs.Composing.{inner_written}
+use Rattle.aegis_pages.proofs.ComposeFacts.{inner_written}
 use Rattle.aegis_pages.proofs.page.seal_text.Goals as goal
 
 pub seal_box-requires : goal.seal_box-requires

@@ -1,6 +1,6 @@
 use Rattle.std.proofs.Common.{◌∙◌, ap, length, List, subst, sym, ℕ}
 use Rattle.aegis_pages.specs.Headers.{IsHeader, IsSector}
-use Rattle.aegis_pages.proofs.Standing.{begun_certain, begun_known, known_kept}
+use Rattle.aegis_pages.proofs.OpenFileFacts.{begun_certain, begun_known, known_kept}
 use Rattle.aegis_pages.proofs.pages.begin_file.Goals as goal
 
 pub returns-in-Ok-sync-clause-known : goal.returns-in-Ok-sync-clause-known

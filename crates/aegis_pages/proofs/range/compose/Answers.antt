@@ -4,8 +4,8 @@ use Rattle.aegis_storage.specs.Bytes.{overwritten}
 use Rattle.aegis_pages.specs.Changed.{text_at}
 use Rattle.aegis_pages.specs.Layouts.{box_bytes}
 use Rattle.aegis_pages.specs.SealedPages.{IsPage}
-use Rattle.aegis_pages.proofs.Composing.{inner_put, lies_so, live_at}
-use Rattle.aegis_pages.proofs.Known.{known_all, known_map}
+use Rattle.aegis_pages.proofs.ComposeFacts.{inner_put, lies_so, live_at}
+use Rattle.aegis_pages.proofs.KnownFacts.{known_all, known_map}
 use Rattle.aegis_pages.proofs.range.compose.Goals.{then-live-gt0+in_ok-show_page, else-live-gt0}
 use Rattle.aegis_pages.proofs.range.compose.Goals as goal
 

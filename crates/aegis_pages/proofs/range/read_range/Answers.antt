@@ -2,8 +2,8 @@ use Rattle.std.proofs.Common.{◌≡◌, ◌+◌, ◌-◌, ◌%◌, ◌<◌, ◌
 use Rattle.std.proofs.lemmas.Nat.{mod_below}
 use Rattle.aegis_storage.specs.Bytes.{overwritten}
 use Rattle.aegis_pages.specs.Changed.{text_at}
-use Rattle.aegis_pages.proofs.Known.{known_map2}
-use Rattle.aegis_pages.proofs.Ranging.{Puts, bytes_more, text_more}
+use Rattle.aegis_pages.proofs.KnownFacts.{known_map2}
+use Rattle.aegis_pages.proofs.RangeFacts.{Puts, bytes_more, text_more}
 use Rattle.aegis_pages.proofs.range.read_range.Given.{Over}
 use Rattle.aegis_pages.proofs.range.read_range.Goals as goal
 

@@ -5,8 +5,8 @@ use Rattle.aegis_storage.proofs.Lists.{writes_pushed}
 use Rattle.aegis_pages.specs.Changed.{Texts, texts_in}
 use Rattle.aegis_pages.specs.Layouts.{OpensAt}
 use Rattle.aegis_pages.specs.Sealing.{FitPages, Seals}
-use Rattle.aegis_pages.proofs.Sealed.{seals_more}
-use Rattle.aegis_pages.proofs.Texts.{fit_item, have_one, texts_of}
+use Rattle.aegis_pages.proofs.SealingFacts.{seals_more}
+use Rattle.aegis_pages.proofs.ChangedFacts.{fit_item, have_one, texts_of}
 use Rattle.aegis_pages.proofs.sealing.seal_pages.Goals as goal
 
 pub loop-number-init : goal.loop-number-init

@@ -3,7 +3,7 @@ use Rattle.aegis_storage.specs.Disk.{Writes}
 use Rattle.aegis_storage.specs.Pending.{writes_of}
 use Rattle.aegis_pages.specs.Changed.{Texts, texts_in}
 use Rattle.aegis_pages.specs.Sealing.{Seals}
-use Rattle.aegis_pages.proofs.Texts.{texts_of}
+use Rattle.aegis_pages.proofs.ChangedFacts.{texts_of}
 use Rattle.aegis_pages.proofs.sealing.seal_pages.Given as goal
 
 -- the texts so far are sealed

@@ -1,4 +1,4 @@
-use Rattle.aegis_storage.specs.Disk.{written}
+use Rattle.aegis_storage.specs.Disk.{after_writes}
 use Rattle.aegis_storage.specs.Journal.{IsJournal}
 use Rattle.aegis_storage.specs.Pending.{writes_of}
 use Rattle.aegis_storage.proofs.Disks.{on_ok_map}
@@ -22,7 +22,7 @@ pub returns-in-Some-clause-certain : goal.returns-in-Some-clause-certain
 returns-in-Some-clause-certain g c =
     let whole : IsJournal c.args.key.now c.args.context.now (writes_of c.deref.result.now) c.args.journal.now = rw c.deref.ensures.value (rw c.in-Some.is at c.in_ok-writes.ensures.some) in
     on_ok_map c.write_and_sync.result
-    (λ certainly xs is. record { bytes = written (writes_of c.deref.result.now) xs; is = certainly xs is; one = λ a b gives. gives.whole _ whole })
+    (λ certainly xs is. record { bytes = after_writes (writes_of c.deref.result.now) xs; is = certainly xs is; one = λ a b gives. gives.whole _ whole })
     c.write_and_sync.ensures.certain
 
 pub returns-in-None-clause-recovered : goal.returns-in-None-clause-recovered

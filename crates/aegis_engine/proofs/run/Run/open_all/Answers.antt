@@ -43,7 +43,7 @@ loop-chunk-preserved g c =
           ∙ sym (accepted-more room (ciphertext V key nonce ad first) chunks i c.loop-chunk-test.true);
       count = λ kept long.
           counted-by r room w here c.open_chunk.new.self.message_bytes (accepted_after room kept (take i chunks)) chunk (sym (before.count kept long)) before.long said.accepted
-          said.written (on-err r said.unchanged (λ same. ap (λ (h : Held). h.message_bytes) same.0))
+          said.message_bytes (on-err r said.unchanged (λ same. ap (λ (h : Held). h.message_bytes) same.0))
           ∙ ap length (sym (accepted-more room kept chunks i c.loop-chunk-test.true));
       rest = λ n low. said.rest n low ∙ before.rest n (omega (arith, said.grows, low));
     }
@@ -52,5 +52,5 @@ loop-chunk-preserved g c =
 pub returns-clause-ciphertext : goal.returns-clause-ciphertext
 returns-clause-ciphertext g c = grind (arith, common_steps)
 
-pub returns-clause-written : goal.returns-clause-written
-returns-clause-written g c = grind (arith, common_steps)
+pub returns-clause-message_bytes : goal.returns-clause-message_bytes
+returns-clause-message_bytes g c = grind (arith, common_steps)

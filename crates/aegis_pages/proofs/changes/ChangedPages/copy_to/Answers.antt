@@ -2,7 +2,7 @@ use Rattle.std.proofs.Common.{◌≡◌, ◌∙◌, ap, length, nat_cmp, sym, So
 use Rattle.std.specs.Option.{option_copied}
 use Rattle.std.specs.BTreeMap.{is_at}
 use Rattle.aegis_pages.specs.Changed.{ChangedTexts, text_at, texts_in}
-use Rattle.aegis_pages.proofs.Texts.{fits_at, found_in, none_in}
+use Rattle.aegis_pages.proofs.ChangedFacts.{fits_at, found_in, none_in}
 use Rattle.aegis_pages.proofs.changes.ChangedPages.copy_to.Goals as goal
 
 pub copy_from_slice-requires : goal.copy_from_slice-requires

@@ -2,7 +2,7 @@ use Rattle.std.proofs.Common.{◌≡◌, ◌*◌, ◌≤◌, ◌∙◌, ℕ, ap,
 use Rattle.aegis_pages.specs.declared.layout.TheConstants.{MAX_TEXT_BYTES}
 use Rattle.aegis_pages.specs.Changed.{ChangedTexts}
 use Rattle.aegis_pages.specs.Sealing.{FitPages}
-use Rattle.aegis_pages.proofs.Texts.{fit_inserted, found_in, other_in, texts_of}
+use Rattle.aegis_pages.proofs.ChangedFacts.{fit_inserted, found_in, other_in, texts_of}
 use Rattle.aegis_pages.proofs.changes.ChangedPages.set.Goals as goal
 
 pub invariant_of-self-2 : goal.invariant_of-self-2

@@ -1,6 +1,6 @@
 use Rattle.std.proofs.Common.{◌≡◌, ◌∙◌, ◌++◌, List, ℕ, ap, arith, length, replicate}
 use Rattle.aegis_pages.specs.Layouts.{associated_data, clear_part}
-use Rattle.aegis_pages.proofs.Boxes.{data_filled}
+use Rattle.aegis_pages.proofs.BoxFacts.{data_filled}
 use Rattle.aegis_pages.proofs.layout.FileLayout.associated_data.Goals as goal
 
 pub returns : goal.returns

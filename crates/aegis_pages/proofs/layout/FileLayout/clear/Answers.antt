@@ -1,7 +1,7 @@
 use Rattle.std.proofs.Common.{◌≡◌, ◌∙◌, ◌++◌, ◌∷◌, [], List, ℕ, ap, arith, length, refl, replicate}
 use Rattle.aegis_pages.specs.declared.layout.TheConstants.{MAGIC}
 use Rattle.aegis_pages.specs.Layouts.{clear_part, variant_byte}
-use Rattle.aegis_pages.proofs.Boxes.{clear_filled}
+use Rattle.aegis_pages.proofs.BoxFacts.{clear_filled}
 use Rattle.aegis_pages.proofs.layout.FileLayout.clear.Goals as goal
 
 pub variant_byte-requires : goal.variant_byte-requires

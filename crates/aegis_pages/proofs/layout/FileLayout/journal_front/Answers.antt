@@ -1,7 +1,7 @@
 use Rattle.std.proofs.Common.{◌∙◌, List, ℕ, ap}
 use Rattle.aegis_pages.specs.declared.layout.TheConstants.{JOURNAL_MAGIC}
 use Rattle.aegis_storage.specs.Bytes.{overwritten}
-use Rattle.aegis_pages.proofs.Heading.{front_put}
+use Rattle.aegis_pages.proofs.HeaderFacts.{front_put}
 use Rattle.aegis_pages.proofs.layout.FileLayout.journal_front.Goals as goal
 
 pub returns : goal.returns

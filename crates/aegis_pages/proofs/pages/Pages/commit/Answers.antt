@@ -1,11 +1,11 @@
 use Rattle.std.proofs.Common.{◌≡◌, ◌∙◌, ap, sym}
 use Rattle.aegis_base.specs.Variant.{Variant}
-use Rattle.aegis_storage.specs.Disk.{written}
+use Rattle.aegis_storage.specs.Disk.{after_writes}
 use Rattle.aegis_storage.specs.Pending.{writes_of}
 use Rattle.aegis_pages.specs.Commits.{journal_key}
 use Rattle.aegis_pages.specs.OpenFile.{HasText, IsCommitted}
 use Rattle.aegis_pages.specs.Recovery.{RecoversUnder}
-use Rattle.aegis_pages.proofs.Recovering.{Commits, commit_has, commit_recovers, commit_sealed_at, committed_recovers}
+use Rattle.aegis_pages.proofs.RecoveryFacts.{Commits, commit_has, commit_recovers, commit_sealed_at, committed_recovers}
 use Rattle.aegis_pages.proofs.pages.Pages.commit.Goals as goal
 
 pub returns-then-self-clause-crash : goal.returns-then-self-clause-crash
@@ -77,7 +77,7 @@ returns-in-Ok-committed-clause-certain g c =
     let commits : Commits c.self.inside.layout c.self.inside.len c.in_ok-counter.counter c.self.inside.changes.entries (writes_of c.deref.result.now) =
     rw c.deref.ensures.value c.in_ok-writes.ensures.sealed in
     rw (← c.self.view_is) (λ before now has text. record {
-      bytes = written (writes_of c.deref.result.now) has.bytes;
+      bytes = after_writes (writes_of c.deref.result.now) has.bytes;
       rests = (c.in-Ok-committed.ensures.at_rest has.bytes has.rests).rests;
       is = commit_sealed_at inside.layout inside.counter inside.stored inside.len c.in_ok-counter.counter inside.changes.entries inside.is_broken (writes_of c.deref.result.now) now has.bytes _ _ _
           (g.met.S.Storage.possible inside.storage) commits has.rests text;

@@ -2,8 +2,8 @@ use Rattle.std.proofs.Common.{◌+◌, ◌∙◌, ap, arith, rules, ℕ}
 use Rattle.std.proofs.lemmas.Result.{err_from_is_err_and}
 use Rattle.aegis_pages.specs.Layouts.{IsPageSize}
 use Rattle.aegis_pages.specs.OpenFile.{HasText, IsCommitted}
-use Rattle.aegis_pages.proofs.Known.{create_begins, known_map}
-use Rattle.aegis_pages.proofs.Standing.{created_has, sealed_empty}
+use Rattle.aegis_pages.proofs.KnownFacts.{create_begins, known_map}
+use Rattle.aegis_pages.proofs.OpenFileFacts.{created_has, sealed_empty}
 use Rattle.aegis_pages.proofs.pages.Pages.create.Goals as goal
 
 pub returns-in_err-begin_journal-clause-refused : goal.returns-in_err-begin_journal-clause-refused

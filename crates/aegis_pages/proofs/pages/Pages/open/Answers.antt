@@ -3,9 +3,9 @@ use Rattle.std.proofs.lemmas.Result.{err_from_is_err_and}
 use Rattle.aegis_pages.specs.Layouts.{Layout}
 use Rattle.aegis_pages.specs.OpenFile.{HasIn, HasText, OpensAtOne}
 use Rattle.aegis_pages.specs.Reading.{layout_of}
-use Rattle.aegis_pages.specs.SealedPages.{Holds}
-use Rattle.aegis_pages.proofs.Known.{only_error}
-use Rattle.aegis_pages.proofs.Recovering.{opens_at_one, opens_held}
+use Rattle.aegis_pages.specs.SealedPages.{IsFileOf}
+use Rattle.aegis_pages.proofs.KnownFacts.{only_error}
+use Rattle.aegis_pages.proofs.RecoveryFacts.{opens_at_one, opens_held}
 use Rattle.aegis_pages.proofs.pages.Pages.open.Goals as goal
 
 pub invariant_of-result : goal.invariant_of-result
@@ -13,11 +13,11 @@ invariant_of-result g c =
     rw c.new-layout.ensures
     (c.in-Ok.ensures ∙ ap (λ (k : ℕ). c.in_ok-header.header.page_bytes + (k + 32)) c.requires, c.new.ensures.size, c.in_ok-header.ensures.sound.1, c.in_ok-header.ensures.sound.1, g.met.L.LaneState.one_two_or_four)
 
-pub returns-clause-holds : goal.returns-clause-holds
+pub returns-clause-text : goal.returns-clause-text
 unfolding HasText
-returns-clause-holds g c empty =
+returns-clause-text g c empty =
     let header = c.in_ok-header.header in
-    subst (λ (l : Layout). IfSome (g.S.Storage.bytes c.args.storage) (λ file. (text : List ℕ) → Holds g.L.LaneState.VARIANT c.args.key.now text file
+    subst (λ (l : Layout). IfSome (g.S.Storage.bytes c.args.storage) (λ file. (text : List ℕ) → IsFileOf g.L.LaneState.VARIANT c.args.key.now text file
     → HasIn l c.in_ok-header.header.counter c.in_ok-header.header.len c.in_ok-header.header.len c.new.result.entries false text (g.S.Storage.bytes c.recover_file.new.storage))) (sym c.new-layout.ensures)
     (opens_held (layout_of g.L.LaneState.VARIANT c.args.key.now header) header.counter header.len c.new.result.entries _ _ g.met.L.LaneState.one_two_or_four c.new.ensures.none
     c.in_ok-header.ensures.header (c.in_ok-header.ensures.kept empty))

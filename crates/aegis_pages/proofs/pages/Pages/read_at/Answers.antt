@@ -4,8 +4,8 @@ use Rattle.aegis_storage.specs.Bytes.{overwritten, part_at}
 use Rattle.aegis_pages.specs.Changed.{text_at}
 use Rattle.aegis_pages.specs.OpenFile.{HasIn, HasText}
 use Rattle.aegis_pages.specs.SealedPages.{IsByte}
-use Rattle.aegis_pages.proofs.Known.{known_all, known_map, read_within}
-use Rattle.aegis_pages.proofs.Standing.{has_len, has_use, read_so, written_none, written_read}
+use Rattle.aegis_pages.proofs.KnownFacts.{known_all, known_map, read_within}
+use Rattle.aegis_pages.proofs.OpenFileFacts.{has_len, has_use, read_so, written_none, written_read}
 use Rattle.aegis_pages.proofs.pages.Pages.read_at.Given.{Over}
 use Rattle.aegis_pages.proofs.pages.Pages.read_at.Goals as goal
 

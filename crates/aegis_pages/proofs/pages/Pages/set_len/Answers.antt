@@ -3,7 +3,7 @@ use Rattle.aegis_pages.specs.Changed.{text_at}
 use Rattle.aegis_pages.specs.Errors.{IsWriteRefusal}
 use Rattle.aegis_pages.specs.SealedPages.{KeepsOthers}
 use Rattle.aegis_pages.specs.OpenFile.{HasText, OpenFile}
-use Rattle.aegis_pages.proofs.Standing.{cut, grown, has_len, ok_map}
+use Rattle.aegis_pages.proofs.OpenFileFacts.{cut, grown, has_len, ok_map}
 use Rattle.aegis_pages.proofs.pages.Pages.set_len.Goals as goal
 
 pub returns-then-len-self-clause-resized : goal.returns-then-len-self-clause-resized

@@ -2,7 +2,7 @@ use Rattle.std.proofs.Common.{◌≡◌, ◌++◌, ◌∙◌, ap, arith, drop, l
 use Rattle.std.proofs.lemmas.List.{length-append, length-drop, length-take}
 use Rattle.std.proofs.lemmas.Result.{err_from_is_err_and}
 use Rattle.aegis_pages.specs.OpenFile.{HasText}
-use Rattle.aegis_pages.proofs.Standing.{wrote}
+use Rattle.aegis_pages.proofs.OpenFileFacts.{wrote}
 use Rattle.aegis_pages.proofs.pages.Pages.write_at.Goals as goal
 
 pub invariant_of-self : goal.invariant_of-self

@@ -1,9 +1,9 @@
-use Rattle.std.proofs.Common.{◌∙◌, ℕ, ◌+◌, ap, arith, false, inr, nat_eq, refl, rules, true}
+use Rattle.std.proofs.Common.{◌∙◌, ℕ, ◌+◌, ap, arith, false, inr, nat_eq, refl, rules, sym, true}
 use Rattle.std.proofs.lemmas.Bool.{true≢false}
 use Rattle.std.proofs.lemmas.Result.{err_from_is_err_and}
 use Rattle.aegis.specs.Calls.{sealing_of}
 use Rattle.aegis.specs.Fault.{parts}
-use Rattle.aegis.specs.Progress.{Progress}
+use Rattle.aegis.specs.Progress.{Progress, position_of}
 use Rattle.aegis.proofs.Places.{only_memory, read_one}
 use Rattle.aegis.proofs.Stepwise.{begun_ends, begun_fault_or, begun_next, begun_open, cut_of, last_are, next_are, read_of, record_long}
 use Rattle.aegis.proofs.record.record_opener.RecordOpener.open_next.Goals as goal
@@ -20,19 +20,21 @@ pub returns-in_err-frame-clause-refused : goal.returns-in_err-frame-clause-refus
 returns-in_err-frame-clause-refused g c =
     let p = err_from_is_err_and c.from_residual.result c.from_residual.ensures.1 in
     let s = c.self.inside in
+    let refused = rw (c.position.ensures ∙ ap position_of (sym c.self.view_is)) at c.in_err-frame.ensures.refused in
     rw (p.1, p.2, ← c.self.view_is) (record {
-      fault = λ going. c.in_err-frame.ensures.refused;
-      first = begun_fault_or _ c.args.bytes.now _ c.in_err-frame.ensures.refused;
-      cut = cut_of (sealing_of s.cipher) s.version s.number s.before (parts s.version c.args.bytes.now) c.in_err-frame.field-0.0 c.in_err-frame.ensures.refused;
+      fault = λ going. refused;
+      first = begun_fault_or _ c.args.bytes.now _ refused;
+      cut = cut_of (sealing_of s.cipher) s.version s.number s.before (parts s.version c.args.bytes.now) c.in_err-frame.field-0.0 refused;
       unchanged = search rules;
     })
 
 pub returns-in_err-frame-clause-accepted : goal.returns-in_err-frame-clause-accepted
 returns-in_err-frame-clause-accepted g c =
     let p = err_from_is_err_and c.from_residual.result c.from_residual.ensures.1 in
+    let refused = rw (c.position.ensures ∙ ap position_of (sym c.self.view_is)) at c.in_err-frame.ensures.refused in
     rw (p.1, p.2, ← c.self.view_is) (record {
-      next = λ going. only_memory _ c.args.bytes.now _ c.in_err-frame.ensures.refused false;
-      last = λ going. only_memory _ c.args.bytes.now _ c.in_err-frame.ensures.refused true;
+      next = λ going. only_memory _ c.args.bytes.now _ refused false;
+      last = λ going. only_memory _ c.args.bytes.now _ refused true;
     })
 
 pub invariant_of-self : goal.invariant_of-self
@@ -45,7 +47,8 @@ invariant_of-self g c =
 pub returns-clause-opened : goal.returns-clause-opened
 returns-clause-opened g c =
     let s = c.self.inside in
-    let read = read_of _ _ _ _ _ c.in_ok-frame.ensures.opened in
+    let opened = rw (c.position.ensures ∙ ap position_of (sym c.self.view_is)) at c.in_ok-frame.ensures.opened in
+    let read = read_of _ _ _ _ _ opened in
     let size = c.len.ensures ∙ c.in_ok-frame.message.ok.0 in
     let long = record_long _ _ _ _ _ _ _ _ _ _ c.in_ok-frame.ensures.opened in
     let at : ℕ → Progress = λ n. record {
@@ -65,12 +68,13 @@ returns-clause-opened g c =
       progress = ap at size;
       ended = refl;
       taken = omega (arith, long, size);
-      within = c.in_ok-frame.ensures.opened.within;
+      within = opened.within;
     })
 
 pub returns-clause-accepted : goal.returns-clause-accepted
 returns-clause-accepted g c =
-    let one = read_one _ _ _ _ _ (read_of _ _ _ _ _ c.in_ok-frame.ensures.opened) in
+    let opened = rw (c.position.ensures ∙ ap position_of (sym c.self.view_is)) at c.in_ok-frame.ensures.opened in
+    let one = read_one _ _ _ _ _ (read_of _ _ _ _ _ opened) in
     rw (← c.self.view_is) (record {
       next = λ going m rest low e. let found = one false m rest low e in (found.last, found.message, found.others);
       last = λ going m rest low e. let found = one true m rest low e in (found.last, found.message, found.others);

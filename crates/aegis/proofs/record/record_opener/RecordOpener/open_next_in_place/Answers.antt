@@ -1,6 +1,7 @@
 use Rattle.std.proofs.Common.{◌∙◌, ap, arith, false, length, refl, rules, sym, true}
 use Rattle.std.proofs.lemmas.Bool.{true≢false}
 use Rattle.std.proofs.lemmas.Result.{err_from_is_err_and}
+use Rattle.aegis.specs.Progress.{position_of}
 use Rattle.aegis.proofs.Places.{no_fault, read_one}
 use Rattle.aegis.proofs.Stepwise.{begun_ends, begun_fault, begun_next, begun_open, last_are, next_are, read_of, record_long}
 use Rattle.aegis.proofs.record.record_opener.RecordOpener.open_next_in_place.Goals as goal
@@ -18,21 +19,24 @@ returns-then-self-clause-refused c = record {
 pub returns-in_err-flag-clause-refused : goal.returns-in_err-flag-clause-refused
 returns-in_err-flag-clause-refused c =
     let p = err_from_is_err_and c.from_residual.result c.from_residual.ensures.1 in
+    let is = c.position.ensures ∙ ap position_of (sym c.self.view_is) in
+    let refused = rw is at c.in_err-flag.ensures.refused in
     rw (p.1, p.2, ← c.self.view_is) (record {
-      fault = λ going. c.in_err-flag.ensures.refused;
-      first = begun_fault _ c.args.bytes.now _ c.in_err-flag.ensures.refused;
+      fault = λ going. refused;
+      first = begun_fault _ c.args.bytes.now _ refused;
       cut = search rules;
       unchanged = search rules;
-      erased = c.in_err-flag.ensures.erased;
-      kept = c.in_err-flag.ensures.kept;
+      erased = rw is at c.in_err-flag.ensures.erased;
+      kept = rw is at c.in_err-flag.ensures.kept;
     })
 
 pub returns-in_err-flag-clause-accepted : goal.returns-in_err-flag-clause-accepted
 returns-in_err-flag-clause-accepted c =
     let p = err_from_is_err_and c.from_residual.result c.from_residual.ensures.1 in
+    let refused = rw (c.position.ensures ∙ ap position_of (sym c.self.view_is)) at c.in_err-flag.ensures.refused in
     rw (p.1, ← c.self.view_is) (record {
-      next = λ going. no_fault _ c.args.bytes.now _ c.in_err-flag.ensures.refused false;
-      last = λ going. no_fault _ c.args.bytes.now _ c.in_err-flag.ensures.refused true;
+      next = λ going. no_fault _ c.args.bytes.now _ refused false;
+      last = λ going. no_fault _ c.args.bytes.now _ refused true;
     })
 
 pub invariant_of-self : goal.invariant_of-self
@@ -44,7 +48,8 @@ invariant_of-self c =
 
 pub returns-clause-opened : goal.returns-clause-opened
 returns-clause-opened c =
-    let read = read_of _ _ _ _ _ c.in_ok-flag.ensures.opened in
+    let opened = rw (c.position.ensures ∙ ap position_of (sym c.self.view_is)) at c.in_ok-flag.ensures.opened in
+    let read = read_of _ _ _ _ _ opened in
     let size = c.in_ok-flag.ensures.message_len in
     let long = record_long _ _ _ _ _ _ _ _ _ _ c.in_ok-flag.ensures.opened in
     rw (← c.self.view_is) (record {
@@ -55,7 +60,7 @@ returns-clause-opened c =
       progress = search rules;
       ended = refl;
       taken = omega (arith, long, size);
-      within = c.in_ok-flag.ensures.opened.within;
+      within = opened.within;
     })
 
 pub returns-clause-written : goal.returns-clause-written
@@ -68,7 +73,8 @@ returns-clause-written c = record {
 pub returns-clause-accepted : goal.returns-clause-accepted
 returns-clause-accepted c =
     let size = sym c.in_ok-flag.ensures.message_len in
-    let one = read_one _ _ _ _ _ (read_of _ _ _ _ _ c.in_ok-flag.ensures.opened) in
+    let opened = rw (c.position.ensures ∙ ap position_of (sym c.self.view_is)) at c.in_ok-flag.ensures.opened in
+    let one = read_one _ _ _ _ _ (read_of _ _ _ _ _ opened) in
     rw (← c.self.view_is) (record {
       next = λ going m rest low e. let found = one false m rest low e in (found.last, size ∙ ap length found.message, found.message, found.others);
       last = λ going m rest low e. let found = one true m rest low e in (found.last, size ∙ ap length found.message, found.message, found.others);

@@ -1,12 +1,12 @@
-use Rattle.std.proofs.Common.{◌-◌, arith, drop, length, refl}
+use Rattle.std.proofs.Common.{◌-◌, ◌∙◌, ap, arith, drop, length, refl, sym}
 use Rattle.std.proofs.lemmas.List.{length-take}
-use Rattle.aegis.specs.Progress.{record_of}
+use Rattle.aegis.specs.Progress.{position_of, record_of}
 use Rattle.aegis.proofs.Stepwise.{begun_more, length-record_of}
 use Rattle.aegis.proofs.record.record_sealer.RecordSealer.seal_next_in_place.Goals as goal
 
 pub returns-clause-written : goal.returns-clause-written
 unfolding record_of
-returns-clause-written c = rw (← c.self.view_is) c.seal_record_in_place.ensures
+returns-clause-written c = rw (← c.self.view_is) (rw (c.position.ensures ∙ ap position_of (sym c.self.view_is)) at c.seal_record_in_place.ensures)
 
 pub returns-clause-begun : goal.returns-clause-begun
 returns-clause-begun c =

@@ -10,7 +10,7 @@ use Rattle.aegis_pages.specs.declared.layout.TheConstants.{HEADER_NUMBER, JOURNA
 use Rattle.aegis_storage.specs.Bytes.{overwritten, part_at}
 use Rattle.aegis_pages.specs.Headers.{IsHeader, IsSector, header_text}
 use Rattle.aegis_pages.specs.Layouts.{IsPageSize, Layout, OpensAt, box_bytes, clear_part, inner, journal_front, nonce_bytes, variant_byte}
-use Rattle.aegis_pages.proofs.Boxes.{opens_one}
+use Rattle.aegis_pages.proofs.BoxFacts.{opens_one}
 use Rattle.aegis_storage.proofs.Overwriting.{filled_front, kept_part, length-part, put_part}
 
 -- ---- one header in a sector

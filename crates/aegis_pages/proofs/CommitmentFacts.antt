@@ -10,7 +10,7 @@ use Rattle.aegis_engine.specs.declared.saved.SavedRun.{SavedRun}
 use Rattle.aegis_pages.specs.Commitments.{HasOneCommitment, commitment, committed, page_count, page_tag, page_tags}
 use Rattle.aegis_aes.specs.Lanes.{IsLaneCount}
 use Rattle.aegis_pages.specs.Headers.{IsHeader}
-use Rattle.aegis_pages.proofs.Heading.{one_in_file}
+use Rattle.aegis_pages.proofs.HeaderFacts.{one_in_file}
 use Rattle.aegis_pages.specs.Layouts.{Layout, clear_part, nonce_bytes}
 
 -- the last 32 bytes of a box of m + 32 bytes, if they are all there

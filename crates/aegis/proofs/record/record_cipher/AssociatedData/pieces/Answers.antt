@@ -5,7 +5,7 @@ use Rattle.aegis.specs.Records.{associated_data}
 use Rattle.aegis.specs.RecordStream.{header}
 use Rattle.aegis.specs.declared.record.version.Version.{Version}
 use Rattle.aegis.specs.declared.record.version.Version.TheVariants.{First, Second}
-use Rattle.aegis.proofs.record.record_cipher.PlaceBytes.pieces.Goals as goal
+use Rattle.aegis.proofs.record.record_cipher.AssociatedData.pieces.Goals as goal
 
 -- the pieces, one after the other
 are : (v : Version) (k o flag : ℕ) (h n b f context : List ℕ) → h ≡ header v → n ≡ to_le_bytes w64 k → (v ≡ First → b ≡ [])
@@ -20,10 +20,10 @@ short Second k o flag context = omega arith
 pub returns-clause-are : goal.returns-clause-are
 returns-clause-are c =
     let s = c.args.self.now in
-    are s.place.version s.place.number s.place.before s.place.flag _ _ _ _ c.args.context.now c.header-header.ensures (c.as_slice-number.ensures ∙ s.number_is)
+    are s.position.version s.position.number s.position.before s.flag _ _ _ _ c.args.context.now c.header-header.ensures (c.as_slice-number.ensures ∙ s.number_is)
     c.before-before.ensures.first c.before-before.ensures.second (c.as_slice-flag.ensures ∙ s.flag_is)
 
 pub returns-clause-short : goal.returns-clause-short
 returns-clause-short c =
     let s = c.args.self.now in
-    rw (returns-clause-are c) (short s.place.version s.place.number s.place.before s.place.flag c.args.context.now)
+    rw (returns-clause-are c) (short s.position.version s.position.number s.position.before s.flag c.args.context.now)

@@ -7,7 +7,7 @@ use Rattle.std.specs.List.{AllByRecursion}
 use Rattle.std.specs.Ordering.{MatchOrdering}
 use Rattle.std.proofs.Math.Nat.{mul-le-mul_right}
 use Rattle.aegis_storage.specs.Bytes.{overwritten, part_at}
-use Rattle.aegis_storage.specs.Disk.{Writes, written}
+use Rattle.aegis_storage.specs.Disk.{Writes, after_writes}
 use Rattle.aegis_storage.proofs.Disks.{written_more}
 use Rattle.aegis_storage.proofs.Overwriting.{kept_part, length-overwritten, put_part}
 use Rattle.aegis_base.specs.Variant.{Variant}
@@ -17,7 +17,7 @@ use Rattle.aegis_pages.specs.Headers.{IsHeader, IsSector}
 use Rattle.aegis_pages.specs.Layouts.{Layout, OpensAt, box_bytes, page_at, page_place}
 use Rattle.aegis_pages.specs.SealedPages.{ArePages, Changes, IsSealed, Shows, unchanged}
 use Rattle.aegis_pages.specs.Sealing.{HaveOneText, IsSealOf, Seals}
-use Rattle.aegis_pages.proofs.Commits.{head_read, take_own}
+use Rattle.aegis_pages.proofs.CommitFacts.{head_read, take_own}
 
 -- ---- places
 
@@ -75,7 +75,7 @@ abbrev OnlyShows : ℕ → List ℕ → Texts → Type 0
 OnlyShows k m texts = AllByRecursion (λ e. e.0 ≡ k → e.1 ≡ m) texts
 
 shows_still : (layout : Layout) (texts : Texts) (writes : Writes) (file : List ℕ) (k : ℕ) (m : List ℕ) → Seals layout texts writes → OnlyShows k m texts
-    → Shows layout None file k m → Shows layout None (written writes file) k m
+    → Shows layout None file k m → Shows layout None (after_writes writes file) k m
 shows_still layout [] [] file k m seals only shows = shows
 shows_still layout [] (w ∷ ws) file k m seals only shows = absurd seals
 shows_still layout (e ∷ es) [] file k m seals only shows = absurd seals
@@ -91,13 +91,13 @@ found_at x y is = cases (nat_cmp x y) (ranked x y (nat_cmp x y) refl) is
     cases Greater m h = absurd (cc)
 
 shows_found : (layout : Layout) (texts : Texts) (writes : Writes) (file : List ℕ) (k : ℕ) (m : List ℕ) → Seals layout texts writes → OnlyShows k m texts
-    → text_at texts k ≡ Some m → Shows layout None (written writes file) k m
+    → text_at texts k ≡ Some m → Shows layout None (after_writes writes file) k m
 shows_found layout [] writes file k m seals only is = absurd (cc)
 shows_found layout (e ∷ es) [] file k m seals only is = absurd seals
 shows_found layout (e ∷ es) (w ∷ ws) file k m seals only is =
     cases (is_at (nat_cmp k) e.0) refl (shows_found layout es ws (overwritten file w.0 w.1) k m seals.1 only.1) is
   where
-    cases : (b : Bool) → is_at (nat_cmp k) e.0 ≡ b → (text_at es k ≡ Some m → Shows layout None (written ws (overwritten file w.0 w.1)) k m) → cond b (Some e.1) (text_at es k) ≡ Some m → Shows layout None (written ws (overwritten file w.0 w.1)) k m
+    cases : (b : Bool) → is_at (nat_cmp k) e.0 ≡ b → (text_at es k ≡ Some m → Shows layout None (after_writes ws (overwritten file w.0 w.1)) k m) → cond b (Some e.1) (text_at es k) ≡ Some m → Shows layout None (after_writes ws (overwritten file w.0 w.1)) k m
     cases true at rest found =
         let here : e.0 ≡ k = found_at k e.0 at in
         shows_still layout es ws (overwritten file w.0 w.1) k m seals.1 only.1 (written_here layout e.0 e.1 w.0 w.1 file k m seals.0 here (only.0 here))
@@ -120,15 +120,15 @@ only_none all (e ∷ es) k m one is = (
 )
 
 pub shows_sealed : (layout : Layout) (texts : Texts) (writes : Writes) (file : List ℕ) (k : ℕ) (m : List ℕ) → Seals layout texts writes → HaveOneText texts
-    → Shows layout (text_at texts k) file k m → Shows layout None (written writes file) k m
+    → Shows layout (text_at texts k) file k m → Shows layout None (after_writes writes file) k m
 shows_sealed layout texts writes file k m seals one shows = cases (text_at texts k) refl shows
   where
-    cases : (o : Option (List ℕ)) → text_at texts k ≡ o → Shows layout o file k m → Shows layout None (written writes file) k m
+    cases : (o : Option (List ℕ)) → text_at texts k ≡ o → Shows layout o file k m → Shows layout None (after_writes writes file) k m
     cases None is s = shows_still layout texts writes file k m seals (only_none texts texts k m one is) s
     cases (Some t) is s = shows_found layout texts writes file k m seals (only_one texts texts k m one (is ∙ ap Some (sym s))) (is ∙ ap Some (sym s))
 
 pub pages_sealed : (layout : Layout) (texts : Texts) (writes : Writes) (text file : List ℕ) → Seals layout texts writes → HaveOneText texts
-    → ArePages layout (text_at texts) text file → ArePages layout unchanged text (written writes file)
+    → ArePages layout (text_at texts) text file → ArePages layout unchanged text (after_writes writes file)
 pages_sealed layout texts writes text file seals one are = record {
   page = λ k low.
       let page = are.page k low in
@@ -172,17 +172,17 @@ header_pages layout changes sector text file long are = record {
 -- the sector of before, the pages, and the header
 pub commit_sealed : (layout : Layout) (counter len : ℕ) (texts : Texts) (first more made all : Writes) (start place : ℕ) (before sector text file : List ℕ) → Seals layout texts more → HaveOneText texts
     → first ≡ (start, before) ∷ [] → start ≡ 0 → length before ≡ 512 → made ≡ first ++ more → all ≡ made ++ (place, sector) ∷ [] → place ≡ 0 → length sector ≡ 512
-    → IsSector layout counter len sector → length text ≡ len → ArePages layout (text_at texts) text file → IsSealed layout counter text (written all file)
+    → IsSector layout counter len sector → length text ≡ len → ArePages layout (text_at texts) text file → IsSealed layout counter text (after_writes all file)
 commit_sealed layout counter len texts first more made all start place before sector text file seals one begins at long ends is zero size header len_is are =
     let begun : List ℕ = overwritten file 0 before in
-    let all_is : written all file ≡ overwritten (written more begun) 0 sector =
-    ap (λ (l : Writes). written l file) is ∙ written_more made place sector file ∙ ap (λ (p : ℕ). overwritten (written made file) p sector) zero
-    ∙ ap (λ (l : Writes). overwritten (written l file) 0 sector) (ends ∙ ap (λ (l : Writes). l ++ more) begins)
-    ∙ ap (λ (p : ℕ). overwritten (written more (overwritten file p before)) 0 sector) at in
+    let all_is : after_writes all file ≡ overwritten (after_writes more begun) 0 sector =
+    ap (λ (l : Writes). after_writes l file) is ∙ written_more made place sector file ∙ ap (λ (p : ℕ). overwritten (after_writes made file) p sector) zero
+    ∙ ap (λ (l : Writes). overwritten (after_writes l file) 0 sector) (ends ∙ ap (λ (l : Writes). l ++ more) begins)
+    ∙ ap (λ (p : ℕ). overwritten (after_writes more (overwritten file p before)) 0 sector) at in
     let pages = pages_sealed layout texts more text begun seals one (header_pages layout (text_at texts) before text file long are) in
     subst (IsSealed layout counter text) (sym all_is) (record {
-      header = subst (λ (n : ℕ). IsHeader layout counter n (overwritten (written more begun) 0 sector)) (sym len_is) (header_written layout counter len sector (written more begun) size header);
-      pages = header_pages layout unchanged sector text (written more begun) size pages;
+      header = subst (λ (n : ℕ). IsHeader layout counter n (overwritten (after_writes more begun) 0 sector)) (sym len_is) (header_written layout counter len sector (after_writes more begun) size header);
+      pages = header_pages layout unchanged sector text (after_writes more begun) size pages;
     })
 
 -- ---- the headers of a commit
@@ -198,12 +198,12 @@ starts_commit variant first more made all before place sector begins long ends =
     )
 
 pub ends_commit : (variant : Variant) (made all : Writes) (place : ℕ) (sector file : List ℕ) → all ≡ made ++ (place, sector) ∷ [] → place ≡ 0 → length sector ≡ 512
-    → IsOfCommit (head_of variant (written all file)) all
+    → IsOfCommit (head_of variant (after_writes all file)) all
 ends_commit variant made all place sector file ends zero long =
     let last : all ≡ made ++ (0, sector) ∷ [] = ends ∙ ap (λ (n : ℕ). made ++ (n, sector) ∷ []) zero in
-    let there : sector ≡ part_at (written all file) 0 512 =
+    let there : sector ≡ part_at (after_writes all file) 0 512 =
     sym (
-    ap (λ (l : Writes). part_at (written l file) 0 512) last ∙ ap (λ (l : List ℕ). part_at l 0 512) (written_more made 0 sector file)
-    ∙ ap (part_at (overwritten (written made file) 0 sector) 0) (sym long) ∙ put_part (written made file) 0 sector
+    ap (λ (l : Writes). part_at (after_writes l file) 0 512) last ∙ ap (λ (l : List ℕ). part_at l 0 512) (written_more made 0 sector file)
+    ∙ ap (part_at (overwritten (after_writes made file) 0 sector) 0) (sym long) ∙ put_part (after_writes made file) 0 sector
     ) in
-    subst (λ (l : List ℕ). IsOfCommit l all) (head_read variant (written all file) sector there) (inr (sector, made, last, take_own (head_bytes variant) sector))
+    subst (λ (l : List ℕ). IsOfCommit l all) (head_read variant (after_writes all file) sector there) (inr (sector, made, last, take_own (head_bytes variant) sector))

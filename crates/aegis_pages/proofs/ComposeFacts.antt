@@ -5,7 +5,7 @@ use Rattle.std.proofs.lemmas.List.{get_or-take, get_or_past, length-drop, length
 use Rattle.aegis_storage.specs.Bytes.{overwritten, part_at}
 use Rattle.aegis_pages.specs.Layouts.{Layout, box_bytes, inner, nonce_bytes}
 use Rattle.aegis_pages.specs.SealedPages.{IsPage, Shows}
-use Rattle.aegis_pages.proofs.Boxes.{inner_of}
+use Rattle.aegis_pages.proofs.BoxFacts.{inner_of}
 use Rattle.aegis_storage.proofs.Overwriting.{after_part, before_part, length-overwritten, put_part, within_part}
 
 -- The part was laid over the first `live` bytes of the page's text and zeros. Where it was not, the text has no byte past `live`.

@@ -3,7 +3,7 @@ use Rattle.std.proofs.Common.{◌≡◌, ℕ, ◌⊎◌, inl, inr, Bool, false, 
 use Rattle.aegis_aes.specs.Lanes.{IsLaneCount}
 use Rattle.aegis_base.specs.Variant.{Variant}
 use Rattle.aegis_storage.specs.Bytes.{overwritten, part_at}
-use Rattle.aegis_storage.specs.Disk.{Crashed, Disk, IsPossible, Writes, WritesAll, certain, written}
+use Rattle.aegis_storage.specs.Disk.{Crashed, Disk, IsPossible, Writes, WritesAll, certain, after_writes}
 use Rattle.aegis_storage.specs.Journal.{IsAtRest, IsJournal, IsNoForgery, IsOneOf, KeepsFront, Recovers, RecoversKnown, RestsAtEither}
 use Rattle.aegis_storage.proofs.Disks.{readable_certain}
 use Rattle.aegis_storage.proofs.Fronts.{crashed_front, empty_front}
@@ -17,16 +17,16 @@ use Rattle.aegis_pages.specs.Layouts.{Layout, journal_front}
 use Rattle.aegis_pages.specs.Reading.{layout_of}
 use Rattle.aegis_pages.specs.declared.header.FileHeader.{FileHeader}
 use Rattle.aegis_pages.specs.OpenFile.{Has, HasCommitted, HasIn, HasText, IsCommitted, IsStoredAs, OpenFile, OpensAtOne}
-use Rattle.aegis_pages.specs.SealedPages.{ArePages, Holds, HoldsUnder, IsSealed}
-use Rattle.aegis_pages.proofs.Commits.{first_again, head_read, take_own}
-use Rattle.aegis_pages.proofs.Heading.{one_in_file}
-use Rattle.aegis_pages.proofs.Standing.{holds_has, holds_sealed, sealed_has}
+use Rattle.aegis_pages.specs.SealedPages.{ArePages, IsFileOf, IsFileUnder, IsSealed}
+use Rattle.aegis_pages.proofs.CommitFacts.{first_again, head_read, take_own}
+use Rattle.aegis_pages.proofs.HeaderFacts.{one_in_file}
+use Rattle.aegis_pages.proofs.OpenFileFacts.{holds_has, holds_sealed, sealed_has}
 
 -- ---- a commit
 
 -- what the writes of a commit do to a file of any text
 abbrev pub Commits : Layout → (len next : ℕ) → Texts → Writes → Type 0
-Commits layout len next changes writes = (text file : List ℕ) → length text ≡ len → ArePages layout (text_at changes) text file → IsSealed layout next text (written writes file)
+Commits layout len next changes writes = (text file : List ℕ) → length text ≡ len → ArePages layout (text_at changes) text file → IsSealed layout next text (after_writes writes file)
 
 pub commit_has : (layout : Layout) (counter stored len next : ℕ) (changes none : Texts) (broken : Bool) (writes : Writes) (text : List ℕ) (a b : Option (List ℕ)) → Commits layout len next changes writes
     → ((k : ℕ) → text_at none k ≡ None) → WritesAll a b writes → HasIn layout counter stored len changes broken text a → HasIn layout next len len none broken text b
@@ -45,7 +45,7 @@ has_known : (layout : Layout) (counter stored len : ℕ) (changes : Texts) (brok
 has_known layout counter stored len changes broken text file a is s = subst (HasIn layout counter stored len changes broken text) is s
 
 pub commit_sealed_at : (layout : Layout) (counter stored len next : ℕ) (changes : Texts) (broken : Bool) (writes : Writes) (now file : List ℕ) (a : Option (List ℕ)) (disk journal : Option Disk)
-    → IsPossible a disk → Commits layout len next changes writes → IsAtRest disk journal file → HasIn layout counter stored len changes broken now a → IsSealed layout next now (written writes file)
+    → IsPossible a disk → Commits layout len next changes writes → IsAtRest disk journal file → HasIn layout counter stored len changes broken now a → IsSealed layout next now (after_writes writes file)
 commit_sealed_at layout counter stored len next changes broken writes now file a disk journal possible commits rests s =
     let has = has_known layout counter stored len changes broken now file a (readable_certain a disk file possible rests.storage_is) s in
     commits now file has.size has.pages
@@ -53,7 +53,7 @@ commit_sealed_at layout counter stored len next changes broken writes now file a
 pub commit_recovers : (layout : Layout) (counter stored len next : ℕ) (changes : Texts) (broken : Bool) (writes : Writes) (key front before now file sector : List ℕ) (a : Option (List ℕ)) (disk journal disk' journal' : Option Disk)
     → key ≡ journal_key layout.variant layout.key → front ≡ journal_front layout → IsPossible a disk → Commits layout len next changes writes
     → IfSome a (λ file. (512 ≤ length file) × (sector ≡ part_at file 0 512)) → IsOfCommit (take (head_bytes layout.variant) sector) writes
-    → ((file : List ℕ) → IsOfCommit (head_of layout.variant (written writes file)) writes) → IsAtRest disk journal file → IsSealed layout counter before file
+    → ((file : List ℕ) → IsOfCommit (head_of layout.variant (after_writes writes file)) writes) → IsAtRest disk journal file → IsSealed layout counter before file
     → HasIn layout counter stored len changes broken now a → Recovers key [] file writes disk' journal' → KeepsFront front journal' → RecoversText layout.variant layout.key before now disk' journal'
 commit_recovers layout counter stored len next changes broken writes key front before now file sector a disk journal disk' journal' is names possible commits read old_head new_head rests sealed s recovers keeps = record {
   layout = layout;
@@ -99,18 +99,18 @@ honest_as variant key k writes o is h = subst (λ (l : List ℕ). IfSome o (IsNo
 
 pub rests_at_text : (variant : Variant) (key before now : List ℕ) (storage journal storage' journal' : Option Disk)
     → (batch : RecoversText variant key before now storage journal) → RestsAtEither storage' journal' batch.file batch.writes → RestsAtText variant key before now storage' journal'
-rests_at_text variant key before now storage journal storage' journal' batch rests = record { file = rests.bytes; rests = rests.rests; holds = cases rests.one }
+rests_at_text variant key before now storage journal storage' journal' batch rests = record { file = rests.bytes; rests = rests.rests; one = cases rests.one }
   where
-    holds : (text bytes : List ℕ) → HoldsUnder batch.layout text bytes → Holds variant key text bytes
-    holds text bytes h = record { layout = batch.layout; counter = h.0; variant_is = batch.variant_is; key_is = batch.key_is; is = h.1 }
+    is_file : (text bytes : List ℕ) → IsFileUnder batch.layout text bytes → IsFileOf variant key text bytes
+    is_file text bytes h = record { layout = batch.layout; counter = h.0; variant_is = batch.variant_is; key_is = batch.key_is; is = h.1 }
 
-    after : HoldsUnder batch.layout before rests.bytes ⊎ HoldsUnder batch.layout now rests.bytes → Holds variant key before rests.bytes ⊎ Holds variant key now rests.bytes
-    after (inl h) = inl (holds before rests.bytes h)
-    after (inr h) = inr (holds now rests.bytes h)
+    after : IsFileUnder batch.layout before rests.bytes ⊎ IsFileUnder batch.layout now rests.bytes → IsFileOf variant key before rests.bytes ⊎ IsFileOf variant key now rests.bytes
+    after (inl h) = inl (is_file before rests.bytes h)
+    after (inr h) = inr (is_file now rests.bytes h)
 
-    cases : IsOneOf batch.file (written batch.writes batch.file) rests.bytes → Holds variant key before rests.bytes ⊎ Holds variant key now rests.bytes
-    cases (inl same) = inl (holds before rests.bytes (subst (HoldsUnder batch.layout before) (sym same) batch.without))
-    cases (inr same) = after (subst (λ (l : List ℕ). HoldsUnder batch.layout before l ⊎ HoldsUnder batch.layout now l) (sym same) batch.with_writes)
+    cases : IsOneOf batch.file (after_writes batch.writes batch.file) rests.bytes → IsFileOf variant key before rests.bytes ⊎ IsFileOf variant key now rests.bytes
+    cases (inl same) = inl (is_file before rests.bytes (subst (IsFileUnder batch.layout before) (sym same) batch.without))
+    cases (inr same) = after (subst (λ (l : List ℕ). IsFileUnder batch.layout before l ⊎ IsFileUnder batch.layout now l) (sym same) batch.with_writes)
 
 pub kept_by_empty : (key context : List ℕ) (j a b : Option (List ℕ)) → RecoversKnown key context j a b → j ≡ Some [] → KnownSame a b
 kept_by_empty key context j a b recovers none = cases a b (subst (λ (o : Option (List ℕ)). RecoversKnown key context o a b) none recovers)
@@ -204,7 +204,7 @@ pub opens_at_one : (layout : Layout) (counter len : ℕ) (changes : Texts) (a : 
     → ((k : ℕ) → text_at changes k ≡ None) → IfSome a (IsHeader layout counter len) → IsPossible a disk → RestsAtText layout.variant layout.key before now disk journal
     → OpensAtOne (record { layout = layout; counter = counter; stored = len; len = len; changes = changes; bytes = a; disk = disk; journal = journal; broken = false }) before now
 unfolding HasText IsCommitted
-opens_at_one layout counter len changes a disk journal before now count none header possible rest = cases rest.holds
+opens_at_one layout counter len changes a disk journal before now count none header possible rest = cases rest.one
   where
     known : a ≡ Some rest.file
     known = readable_certain a disk rest.file possible rest.rests.storage_is
@@ -212,20 +212,20 @@ opens_at_one layout counter len changes a disk journal before now count none hea
     is : IsHeader layout counter len rest.file
     is = subst (λ (o : Option (List ℕ)). IfSome o (IsHeader layout counter len)) known header
 
-    has : (text : List ℕ) → Holds layout.variant layout.key text rest.file → HasIn layout counter len len changes false text a
+    has : (text : List ℕ) → IsFileOf layout.variant layout.key text rest.file → HasIn layout counter len len changes false text a
     has text h = subst (HasIn layout counter len len changes false text) (sym known) (holds_has layout counter len changes text rest.file count none is h)
 
-    sealed : (text : List ℕ) → Holds layout.variant layout.key text rest.file
+    sealed : (text : List ℕ) → IsFileOf layout.variant layout.key text rest.file
         → HasCommitted (record { layout = layout; counter = counter; stored = len; len = len; changes = changes; bytes = a; disk = disk; journal = journal; broken = false }) text
     sealed text h = record { bytes = rest.file; rests = rest.rests; is = holds_sealed layout counter len text rest.file count is h }
 
-    cases : Holds layout.variant layout.key before rest.file ⊎ Holds layout.variant layout.key now rest.file
+    cases : IsFileOf layout.variant layout.key before rest.file ⊎ IsFileOf layout.variant layout.key now rest.file
         → OpensAtOne (record { layout = layout; counter = counter; stored = len; len = len; changes = changes; bytes = a; disk = disk; journal = journal; broken = false }) before now
     cases (inl h) = inl (has before h, sealed before h)
     cases (inr h) = inr (has now h, sealed now h)
 
 pub opens_held : (layout : Layout) (counter len : ℕ) (changes : Texts) (a b : Option (List ℕ)) → IsLaneCount layout.variant.lanes → ((k : ℕ) → text_at changes k ≡ None) → IfSome b (IsHeader layout counter len)
-    → KnownSame a b → IfSome a (λ file. (text : List ℕ) → Holds layout.variant layout.key text file → HasIn layout counter len len changes false text b)
+    → KnownSame a b → IfSome a (λ file. (text : List ℕ) → IsFileOf layout.variant layout.key text file → HasIn layout counter len len changes false text b)
 opens_held layout counter len changes None b count none header same = tt
 opens_held layout counter len changes (Some file) b count none header same = λ text h.
     subst (HasIn layout counter len len changes false text) (sym same)

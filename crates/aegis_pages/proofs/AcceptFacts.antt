@@ -3,7 +3,7 @@ use Rattle.std.proofs.Common.{◌≡◌, ℕ, ◌<◌, ◌≤◌, ◌⊎◌, inl
 use Rattle.aegis_aes.specs.Lanes.{IsLaneCount}
 use Rattle.aegis_base.specs.Variant.{Variant}
 use Rattle.aegis_storage.specs.Bytes.{part_at}
-use Rattle.aegis_storage.specs.Disk.{Disk, IsPossible, Writes, written}
+use Rattle.aegis_storage.specs.Disk.{Disk, IsPossible, Writes, after_writes}
 use Rattle.aegis_storage.specs.Journal.{GivesOneOf, HasFront, IsJournal, IsOneOf}
 use Rattle.aegis_storage.proofs.Disks.{readable}
 use Rattle.aegis_pages.specs.declared.header.FileHeader.{FileHeader}
@@ -12,9 +12,9 @@ use Rattle.aegis_pages.specs.Errors.{HasNoHeader}
 use Rattle.aegis_pages.specs.Headers.{IsHeader}
 use Rattle.aegis_pages.specs.Layouts.{Layout, journal_front}
 use Rattle.aegis_pages.specs.Reading.{layout_of}
-use Rattle.aegis_pages.specs.SealedPages.{HoldsUnder}
-use Rattle.aegis_pages.proofs.Commits.{head_read}
-use Rattle.aegis_pages.proofs.Heading.{one_in_file}
+use Rattle.aegis_pages.specs.SealedPages.{IsFileUnder}
+use Rattle.aegis_pages.proofs.CommitFacts.{head_read}
+use Rattle.aegis_pages.proofs.HeaderFacts.{one_in_file}
 
 -- What is read of the storage and of the journal is what a crash may leave of them.
 record Left (variant : Variant) (key before now : List ℕ) (storage journal : Option Disk) (batch : RecoversText variant key before now storage journal) (a b : Option (List ℕ)) : Type 0 where
@@ -22,7 +22,7 @@ record Left (variant : Variant) (key before now : List ℕ) (storage journal : O
   content : List ℕ
   file_is : a ≡ Some file
   content_is : b ≡ Some content
-  gives : GivesOneOf (journal_key variant key) [] batch.file (written batch.writes batch.file) content file
+  gives : GivesOneOf (journal_key variant key) [] batch.file (after_writes batch.writes batch.file) content file
   front : HasFront (journal_front batch.layout) content
   honest : IsHonest batch content
   header : HasHonestHeader batch file
@@ -45,7 +45,7 @@ left variant key before now storage journal batch a b p q honest header =
       header = subst (λ (o : Option (List ℕ)). IfSome o (HasHonestHeader batch)) x.is header;
     }
 
-held : (layout : Layout) (before now file : List ℕ) → HoldsUnder layout before file ⊎ HoldsUnder layout now file → (counter : ℕ) × (len : ℕ) × IsHeader layout counter len file
+held : (layout : Layout) (before now file : List ℕ) → IsFileUnder layout before file ⊎ IsFileUnder layout now file → (counter : ℕ) × (len : ℕ) × IsHeader layout counter len file
 held layout before now file (inl h) = (h.0, length before, h.1.header)
 held layout before now file (inr h) = (h.0, length now, h.1.header)
 
@@ -55,9 +55,9 @@ has_header : (variant : Variant) (key before now : List ℕ) (storage journal : 
     → (counter : ℕ) × (len : ℕ) × IsHeader batch.layout counter len it.file
 has_header variant key before now storage journal batch a b it not = cases (it.gives.other not)
   where
-    cases : IsOneOf batch.file (written batch.writes batch.file) it.file → (counter : ℕ) × (len : ℕ) × IsHeader batch.layout counter len it.file
-    cases (inl same) = held batch.layout before now it.file (inl (subst (HoldsUnder batch.layout before) (sym same) batch.without))
-    cases (inr same) = held batch.layout before now it.file (subst (λ (l : List ℕ). HoldsUnder batch.layout before l ⊎ HoldsUnder batch.layout now l) (sym same) batch.with_writes)
+    cases : IsOneOf batch.file (after_writes batch.writes batch.file) it.file → (counter : ℕ) × (len : ℕ) × IsHeader batch.layout counter len it.file
+    cases (inl same) = held batch.layout before now it.file (inl (subst (IsFileUnder batch.layout before) (sym same) batch.without))
+    cases (inr same) = held batch.layout before now it.file (subst (λ (l : List ℕ). IsFileUnder batch.layout before l ⊎ IsFileUnder batch.layout now l) (sym same) batch.with_writes)
 
 -- a header that is read is then that of the batch's layout
 same_layout : (variant : Variant) (key before now : List ℕ) (storage journal : Option Disk) (batch : RecoversText variant key before now storage journal) (a b : Option (List ℕ))
@@ -75,7 +75,7 @@ own_commit variant key before now storage journal batch a b it layout counter le
     subst (λ (l : List ℕ). IsOfCommit l writes) (sym (head_read variant it.file sector read))
     (subst (IsOfCommit (head_of variant it.file)) (sym (it.honest writes whole)) (cases (it.header layout counter len v k header)))
   where
-    cases : IsOneOf (head_of variant batch.file) (head_of variant (written batch.writes batch.file)) (head_of variant it.file) → IsOfCommit (head_of variant it.file) batch.writes
+    cases : IsOneOf (head_of variant batch.file) (head_of variant (after_writes batch.writes batch.file)) (head_of variant it.file) → IsOfCommit (head_of variant it.file) batch.writes
     cases (inl same) = subst (λ (l : List ℕ). IsOfCommit l batch.writes) (sym same) batch.old_head
     cases (inr same) = subst (λ (l : List ℕ). IsOfCommit l batch.writes) (sym same) batch.new_head
 

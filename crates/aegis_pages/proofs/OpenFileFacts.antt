@@ -11,9 +11,9 @@ use Rattle.aegis_pages.specs.Changed.{Texts, text_at}
 use Rattle.aegis_pages.specs.Headers.{IsHeader, IsSector}
 use Rattle.aegis_pages.specs.Layouts.{Layout}
 use Rattle.aegis_pages.specs.OpenFile.{Has, HasIn, IsCertain, IsKnown}
-use Rattle.aegis_pages.specs.SealedPages.{ArePages, Holds, IsPage, IsSealed, WritesText, unchanged}
-use Rattle.aegis_pages.proofs.Heading.{one_in_file}
-use Rattle.aegis_pages.proofs.Sealed.{header_written}
+use Rattle.aegis_pages.specs.SealedPages.{ArePages, IsFileOf, IsPage, IsSealed, WritesText, unchanged}
+use Rattle.aegis_pages.proofs.HeaderFacts.{one_in_file}
+use Rattle.aegis_pages.proofs.SealingFacts.{header_written}
 
 pub ok_map : {T E P Q : Type 0} (r : Result T E) → (P → Q) → OnOk r P → OnOk r Q
 ok_map (Ok x) f p = f p
@@ -106,7 +106,7 @@ sealed_empty layout file is = record { header = is; pages = record { page = λ k
 
 -- a file that holds a text, and whose header was read
 pub holds_has : (layout : Layout) (counter len : ℕ) (changes : Texts) (text file : List ℕ) → IsLaneCount layout.variant.lanes → ((k : ℕ) → text_at changes k ≡ None) → IsHeader layout counter len file
-    → Holds layout.variant layout.key text file → Has layout counter len len changes false text file
+    → IsFileOf layout.variant layout.key text file → Has layout counter len len changes false text file
 holds_has layout counter len changes text file count none is h =
     let same = one_in_file layout h.layout counter h.counter len (length text) file count h.variant_is h.key_is is h.is.header in record {
       size = same.2;
@@ -117,7 +117,7 @@ holds_has layout counter len changes text file count none is h =
 
 -- the same, as the file of that header
 pub holds_sealed : (layout : Layout) (counter len : ℕ) (text file : List ℕ) → IsLaneCount layout.variant.lanes → IsHeader layout counter len file
-    → Holds layout.variant layout.key text file → IsSealed layout counter text file
+    → IsFileOf layout.variant layout.key text file → IsSealed layout counter text file
 holds_sealed layout counter len text file count is h =
     let same = one_in_file layout h.layout counter h.counter len (length text) file count h.variant_is h.key_is is h.is.header in record {
       header = subst (λ (n : ℕ). IsHeader layout counter n file) (sym same.2) is;
