@@ -151,9 +151,9 @@ for length in 0 10 24 28 32 65000 65601 131174 199000 200175; do
     refuses cut
 done
 status 1 "$tool" info cut
-says 'cut off after 196608 bytes of the text: at least 1 bytes are missing'
+says 'cut is cut off: at least 1 bytes are missing$'
 status 1 "$tool" open -k key cut text
-says 'cut is cut off after 196608 bytes of the text: at least 1 bytes are missing'
+says 'cut is cut off: at least 1 bytes are missing; the first 196608 bytes of the text are right$'
 status 1 "$tool" open -k key small text
 says 'small is not a sealed file'
 for at in 0 24 28 29 33 1000 65565 65601 200000; do
@@ -380,6 +380,7 @@ cmp text text-before
 rm text
 status 1 "$tool" open -k key moved text
 status 1 "$tool" rekey -k key -n other changed not-moved
+says 'changed is damaged from record 2$'
 [ ! -e not-moved ] || fail 'a damaged file was sealed anew'
 no_parts
 
@@ -427,6 +428,15 @@ ln -s nowhere dangling
 status 3 "$tool" seal --force -k key small dangling
 says 'a link to a file that does not exist'
 [ -L dangling ] || fail 'a dangling link was replaced'
+# A link of /proc to a file that is gone, whose name there is that of another file.
+echo gone > gone
+exec 8<> gone
+rm gone
+cp key 'gone (deleted)'
+status 3 "$tool" seal --force -k other small /proc/self/fd/8
+says 'not found by its name'
+exec 8>&-
+cmp key 'gone (deleted)'
 # A fault of the tool must not reach the system's own devices, so root makes others. Who is not root cannot replace any.
 full=/dev/full empty=/dev/null
 if [ "$(id -u)" = 0 ]; then
@@ -455,6 +465,8 @@ cat pipe > piped &
 status 0 "$tool" seal --force -k key small pipe
 wait $!
 [ -p pipe ] || fail 'a pipe was replaced'
+status 0 "$tool" check -k key piped
+"$tool" seal -k key small /dev/stdout | cat > piped
 status 0 "$tool" check -k key piped
 python3 -c 'import socket; socket.socket(socket.AF_UNIX).bind("socket")'
 status 3 "$tool" seal --force -k key small socket
@@ -637,6 +649,20 @@ if "${CC:-gcc}" -shared -fPIC -O1 "$calls" -ldl -o calls.so 2> said; then
         cmp <("$tool" open -k key sealed -) text-before || fail 'the input was changed'
     done
     rm -f out .out.hunkravy-*
+
+    echo 'each call fails of a run whose output is its key or its input'
+    cp sealed sealed-before
+    how=''
+    for target in key sealed; do
+        number=1
+        while run_at $number "$tool" open --force -k key sealed $target; do
+            [ "$found" = 3 ] || fail "open to $target, call $number: status $found, not 3: $(cat said)"
+            number=$((number + 1))
+        done
+        [ "$found" = 3 ] && [ "$number" -gt 4 ] || fail "open to $target: $number calls were noted, and status $found at the end"
+    done
+    cmp key key-before
+    cmp sealed sealed-before
 
     echo 'each read fails on standard output'
     how='' number=1

@@ -7,7 +7,8 @@
 //   SYNCLESS=1      folders cannot be synced, as on some file systems
 //   SHORT=1         reads and writes take no more than half of what they are given
 //   NO_MEMORY=N     the Nth allocation fails, and CALLS ends with "here"
-//   AT=N            the Nth of all calls that open, read, write, name, remove or sync fails, and CALLS ends with "here"
+//   AT=N            the Nth of all calls that open, read, write, look at, name, remove or sync a file fails, and CALLS
+//                   ends with "here"
 //   KILLS=1         kills the program at that call in place of that
 
 #define _GNU_SOURCE
@@ -148,6 +149,8 @@ int statx(int folder, const char *name, int flags, unsigned mask, struct statx *
         errno = EIO;
         return -1;
     }
+    if (fails(EIO))
+        return -1;
     return (int)syscall(SYS_statx, folder, name, flags, mask, found);
 }
 

@@ -1,7 +1,7 @@
 //! The errors of commands, and the exit statuses.
 
 use crate::command::Place;
-use crate::shown::Name;
+use crate::shown::{Name, Verified};
 use aegis::record::RecordError;
 use aegis_files::FileError;
 use std::alloc::AllocError;
@@ -15,14 +15,14 @@ pub enum Failure<'a> {
     NotSealed(Name<'a>),
     #[error("{0}: the key is not the one it was sealed under, or the file is damaged from its first record")]
     Key(Name<'a>),
-    #[error("{0} is damaged from record {1}; the first {2} bytes of the text are right")]
-    Damaged(Name<'a>, u64, u64),
-    #[error("{0} is damaged: after {1} bytes of the text comes no record")]
-    NoRecord(Name<'a>, u64),
-    #[error("{0} is cut off after {1} bytes of the text")]
-    Truncated(Name<'a>, u64),
-    #[error("{0} is cut off after {1} bytes of the text: at least {2} bytes are missing")]
-    Missing(Name<'a>, u64, u64),
+    #[error("{0} is damaged from record {1}{2}")]
+    Damaged(Name<'a>, u64, Verified),
+    #[error("{0} is damaged: where a record should begin is none{1}")]
+    NoRecord(Name<'a>, Verified),
+    #[error("{0} is cut off{1}")]
+    Truncated(Name<'a>, Verified),
+    #[error("{0} is cut off: at least {2} bytes are missing{1}")]
+    Missing(Name<'a>, Verified, u64),
     #[error("{0} goes on after the end of its sealed file")]
     Trailing(Name<'a>),
     #[error("{0} is longer than a sealed file may be")]
@@ -53,6 +53,8 @@ pub enum Failure<'a> {
     Exists(Name<'a>),
     #[error("{0} is a link to a file that does not exist: name that file")]
     DanglingLink(Name<'a>),
+    #[error("{0} is a link, but the file that it leads to is not found by its name: name that file")]
+    NoNameHere(Name<'a>),
     #[error("{0} is a folder or a block device: name a file")]
     NoOutput(Name<'a>),
     #[error("{0} is the input too: input and output must be different files")]
@@ -119,12 +121,12 @@ impl<'a> Failure<'a> {
         }
     }
 
-    /// Returns the failure of reading `input` and writing `output`, after `text_bytes` of the text.
+    /// Returns the failure of reading `input` and writing `output`, after the verified bytes of the text.
     pub fn of_files(
         error: FileError,
         input: Place<'a>,
         output: Place<'a>,
-        text_bytes: u64,
+        verified: Verified,
     ) -> Self {
         let input = input.input_name();
         match error {
@@ -134,18 +136,18 @@ impl<'a> Failure<'a> {
                 _ => Failure::Output(output.output_name(), error),
             },
             FileError::TooLong => Failure::TooLong(input),
-            FileError::Stream(fault) => Failure::of_stream(fault, input, text_bytes),
+            FileError::Stream(fault) => Failure::of_stream(fault, input, verified),
         }
     }
 
-    // The failure of a sealed file with this fault, after `text_bytes` of its text.
-    fn of_stream(fault: RecordError, input: Name<'a>, text_bytes: u64) -> Self {
+    // The failure of a sealed file with this fault, after the verified bytes of its text.
+    fn of_stream(fault: RecordError, input: Name<'a>, verified: Verified) -> Self {
         match fault {
             RecordError::Header => Failure::NotSealed(input),
             RecordError::Damaged(0) => Failure::Key(input),
-            RecordError::Damaged(number) => Failure::Damaged(input, number, text_bytes),
-            RecordError::Flag | RecordError::TooLong => Failure::NoRecord(input, text_bytes),
-            RecordError::Truncated => Failure::Truncated(input, text_bytes),
+            RecordError::Damaged(number) => Failure::Damaged(input, number, verified),
+            RecordError::Flag | RecordError::TooLong => Failure::NoRecord(input, verified),
+            RecordError::Truncated => Failure::Truncated(input, verified),
             RecordError::Trailing => Failure::Trailing(input),
             RecordError::OutOfMemory => Failure::OutOfMemory,
         }
@@ -162,9 +164,9 @@ impl<'a> Failure<'a> {
                 RecordError::Damaged(number) => Failure::DamagedPart(name, number),
                 RecordError::Flag | RecordError::TooLong => Failure::NoPart(name),
                 RecordError::Truncated => Failure::TruncatedPart(name),
-                _ => Failure::of_stream(fault, name, 0),
+                _ => Failure::of_stream(fault, name, Verified(None)),
             },
-            PartError::File(error) => Failure::of_files(error, input, output, 0),
+            PartError::File(error) => Failure::of_files(error, input, output, Verified(None)),
         }
     }
 }

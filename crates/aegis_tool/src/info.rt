@@ -2,7 +2,7 @@
 
 use crate::command::Place;
 use crate::failure::{Failure, printed};
-use crate::shown::Name;
+use crate::shown::{Name, Verified};
 use aegis::record::{RECORD_BYTES, RECORD_HEAD_BYTES, RecordError, RecordOpener};
 use aegis_files::{FileError, fill};
 use std::fs::File;
@@ -76,17 +76,22 @@ fn outline_of_file<'a>(rt: &HostRuntime, name: &'a str) -> Result<Outline, Failu
     let mut file = File::open(rt, name).map_err(|error| Failure::Input(Name(name), error))?;
     match outline_of(&mut file) {
         Ok(seen) => Ok(seen),
-        Err(error) => Err(Failure::of_files(error, Place::File(name), Place::Standard, 0)),
+        Err(error) => Err(Failure::of_files(
+            error,
+            Place::File(name),
+            Place::Standard,
+            Verified(None),
+        )),
     }
 }
 
 /// Returns the failure, with how many bytes are missing in a file that is cut off.
 pub fn with_missing<'a>(rt: &HostRuntime, failure: Failure<'a>, input: Place<'a>) -> Failure<'a> {
-    let (Failure::Truncated(name, text_bytes), Place::File(file)) = (&failure, input) else {
+    let (Failure::Truncated(name, verified), Place::File(file)) = (&failure, input) else {
         return failure;
     };
     match outline_of_file(rt, file) {
-        Ok(seen) if seen.missing > 0 => Failure::Missing(*name, *text_bytes, seen.missing),
+        Ok(seen) if seen.missing > 0 => Failure::Missing(*name, *verified, seen.missing),
         _ => failure,
     }
 }
@@ -98,11 +103,16 @@ pub fn info<'a>(rt: &HostRuntime, input: Place<'a>, quiet: bool) -> Result<(), F
         Place::File(name) => outline_of_file(rt, name)?,
         _ => match outline_of(&mut rt.stdin()) {
             Ok(seen) => seen,
-            Err(error) => return Err(Failure::of_files(error, input, Place::Standard, 0)),
+            Err(error) => return Err(Failure::of_files(
+                error,
+                input,
+                Place::Standard,
+                Verified(None),
+            )),
         },
     };
     if seen.missing > 0 {
-        return Err(Failure::Missing(input.input_name(), seen.text_bytes, seen.missing));
+        return Err(Failure::Missing(input.input_name(), Verified(None), seen.missing));
     }
     if quiet {
         return Ok(());

@@ -1,6 +1,7 @@
 //! Key files: 64 hexadecimal digits and a line feed.
 
 use crate::failure::Failure;
+use crate::output::Identity;
 use crate::shown::Name;
 use aegis::aegis256::Key;
 use aegis_files::{FileError, fill};
@@ -46,8 +47,17 @@ fn read_key(file: &mut File) -> io::Result<Option<Key>> {
     }
 }
 
+/// A key, and the file that it was read from.
+#[derive(Clone, Copy)]
+pub struct KeyFile<'a> {
+    pub key: Key,
+    pub name: Name<'a>,
+    /// The file's identity, if it is a regular one.
+    pub identity: Option<Identity>,
+}
+
 /// Reads the key of a key file. Warns on standard error if it is a file whose mode lets others read it, unless `quiet`.
-pub fn read<'a>(rt: &HostRuntime, name: &'a str, quiet: bool) -> Result<Key, Failure<'a>> {
+pub fn read<'a>(rt: &HostRuntime, name: &'a str, quiet: bool) -> Result<KeyFile<'a>, Failure<'a>> {
     let unreadable = |error| Failure::KeyFile(Name(name), error);
     let mut file = File::open(rt, name).map_err(unreadable)?;
     let Some(key) = read_key(&mut file).map_err(unreadable)? else {
@@ -60,5 +70,9 @@ pub fn read<'a>(rt: &HostRuntime, name: &'a str, quiet: bool) -> Result<Key, Fai
             "hunkravy: the mode of {shown} lets others use this key: chmod 600 {shown}"
         );
     }
-    Ok(key)
+    Ok(KeyFile {
+        key,
+        name: Name(name),
+        identity: Identity::of(&found),
+    })
 }

@@ -9,8 +9,9 @@
 //! No output has one of the three standard descriptors, which are free if the caller has closed them: a message would
 //! be written into it. `try_clone` takes the lowest descriptor after those.
 
-use crate::command::Place;
+use crate::command::{Place, Transfer};
 use crate::failure::Failure;
+use crate::key::KeyFile;
 use crate::shown::Name;
 use std::fs::{File, Metadata, OpenOptions};
 use std::io::{ErrorKind, IsTerminal};
@@ -22,18 +23,32 @@ use std::{fs, io};
 // The mode of new files: only the owner can read and write them.
 const OWNER_ONLY: u32 = 0o600;
 
-// The device and the number of a file there, which all of its names share.
-fn identity(found: &Metadata) -> (u64, u64) {
-    (found.dev(), found.ino())
+/// The device and the number there of a regular file, which all of its names share.
+#[derive(Clone, Copy, PartialEq, Eq)]
+pub struct Identity {
+    device: u64,
+    number: u64,
 }
 
-// The identity of the file of this name, if it is a regular one.
-fn regular(rt: &HostRuntime, name: &str) -> Option<(u64, u64)> {
-    let found = fs::metadata(rt, name).ok()?;
-    if found.is_file() {
-        Some(identity(&found))
-    } else {
-        None
+impl Identity {
+    /// Returns the identity of a file, if it is a regular one.
+    pub fn of(found: &Metadata) -> Option<Self> {
+        if !found.is_file() {
+            return None;
+        }
+        Some(Identity {
+            device: found.dev(),
+            number: found.ino(),
+        })
+    }
+
+    // The identity of the file of this name, if there is one and it is a regular one.
+    fn at(rt: &HostRuntime, name: &str) -> io::Result<Option<Self>> {
+        match fs::metadata(rt, name) {
+            Ok(found) => Ok(Identity::of(&found)),
+            Err(error) if error.kind() == ErrorKind::NotFound => Ok(None),
+            Err(error) => Err(error),
+        }
     }
 }
 
@@ -45,20 +60,30 @@ fn name_or<'a>(place: Place<'a>, standard: &'a str) -> &'a str {
     }
 }
 
-/// Returns an error if the output is the input or the key file, by whatever names.
-pub fn look<'a>(
+/// Returns an error if the output is the input or one of the key files, by whatever names.
+pub fn refuse_inputs<'a>(
     rt: &HostRuntime,
-    input: Place<'a>,
-    key: &'a str,
-    output: Place<'a>,
+    paths: Transfer<'a>,
+    keys: &[&KeyFile<'a>],
 ) -> Result<(), Failure<'a>> {
-    let Some(written) = regular(rt, name_or(output, "/dev/stdout")) else {
+    let (input, output) = (paths.input, paths.output);
+    let written = Identity::at(rt, name_or(output, "/dev/stdout")).map_err(|error| Failure::Output(
+        output.output_name(),
+        error,
+    ))?;
+    if written.is_none() {
         return Ok(());
-    };
-    if regular(rt, key) == Some(written) {
-        return Err(Failure::OverKey(output.output_name(), Name(key)));
     }
-    if regular(rt, name_or(input, "/dev/stdin")) == Some(written) {
+    for key in keys {
+        if key.identity == written {
+            return Err(Failure::OverKey(output.output_name(), key.name));
+        }
+    }
+    let read = Identity::at(rt, name_or(input, "/dev/stdin")).map_err(|error| Failure::Input(
+        input.input_name(),
+        error,
+    ))?;
+    if read == written {
         return Err(Failure::SameFile(output.output_name()));
     }
     Ok(())
@@ -80,49 +105,63 @@ pub enum Target<'a> {
     Part(Part<'a>),
 }
 
-// What stands at the name of an output file.
-#[derive(Drop)]
+// What stands at the name of an output, or where that leads to.
+#[derive(Clone, Copy)]
 enum Found {
     Nothing,
-    File,
+    File(Identity),
     // A device, a pipe or a socket.
     Stream,
 }
 
-// Looks at the file that an output's name leads to. It is an error if that is a folder or a block device.
-fn find<'a>(rt: &HostRuntime, name: &'a str, target: &str) -> Result<Found, Failure<'a>> {
-    let kind = match fs::metadata(rt, target) {
-        Ok(found) => found.file_type(),
+// Looks at an output. It is an error if it is a folder or a block device.
+fn find<'a>(rt: &HostRuntime, name: &'a str) -> Result<Found, Failure<'a>> {
+    let found = match fs::metadata(rt, name) {
+        Ok(found) => found,
         Err(error) if error.kind() == ErrorKind::NotFound => return Ok(Found::Nothing),
         Err(error) => return Err(Failure::Output(Name(name), error)),
     };
     // A block device keeps what is written, as a file does.
-    if kind.is_dir() || kind.is_block_device() {
-        Err(Failure::NoOutput(Name(name)))
-    } else if kind.is_file() {
-        Ok(Found::File)
-    } else {
-        Ok(Found::Stream)
+    if found.is_dir() || found.file_type().is_block_device() {
+        return Err(Failure::NoOutput(Name(name)));
+    }
+    match Identity::of(&found) {
+        Some(identity) => Ok(Found::File(identity)),
+        None => Ok(Found::Stream),
     }
 }
 
-// The file that a link leads to, or the name itself if it is no link.
-fn followed<'a>(rt: &HostRuntime, name: &'a str) -> Result<String, Failure<'a>> {
+// The file that an output's name leads to, by a name of its own. A link of `/proc` may lead to one that has no name here.
+fn target_of<'a>(rt: &HostRuntime, name: &'a str, found: Found) -> Result<String, Failure<'a>> {
+    let failed = |error| Failure::Output(Name(name), error);
     match fs::symlink_metadata(rt, name) {
-        Ok(found) if found.is_symlink() => match fs::canonicalize(rt, name) {
-            Ok(target) => Ok(target.into_string()),
-            Err(_) => Err(Failure::DanglingLink(Name(name))),
-        },
-        _ => Ok(String::from_str(rt.alloc(), name)?),
+        Ok(entry) if entry.is_symlink() => (),
+        Err(error) if error.kind() != ErrorKind::NotFound => return Err(failed(error)),
+        _ => return Ok(String::from_str(rt.alloc(), name)?),
+    }
+    let Found::File(identity) = found else {
+        return Err(Failure::DanglingLink(Name(name)));
+    };
+    let target = match fs::canonicalize(rt, name) {
+        Ok(target) => target.into_string(),
+        Err(error) if error.kind() == ErrorKind::NotFound => return Err(Failure::NoNameHere(Name(
+            name,
+        ))),
+        Err(error) => return Err(failed(error)),
+    };
+    if Identity::at(rt, target.as_str()).map_err(failed)? == Some(identity) {
+        Ok(target)
+    } else {
+        Err(Failure::NoNameHere(Name(name)))
     }
 }
 
 // Opens a device, a pipe or a socket. It is an error if a file has taken its place.
-fn open_stream<'a>(rt: &HostRuntime, name: &'a str, target: &str) -> Result<File, Failure<'a>> {
+fn open_stream<'a>(rt: &HostRuntime, name: &'a str) -> Result<File, Failure<'a>> {
     let failed = |error| Failure::Output(Name(name), error);
     let opened = OpenOptions::new()
         .write(true)
-        .open(rt, target)
+        .open(rt, name)
         .map_err(failed)?;
     let file = opened.try_clone().map_err(failed)?;
     if file.metadata().map_err(failed)?.is_file() {
@@ -138,11 +177,13 @@ pub fn open_target<'a>(
     replace: bool,
     quiet: bool,
 ) -> Result<Target<'a>, Failure<'a>> {
-    let target = followed(rt, name)?;
-    match find(rt, name, target.as_str())? {
-        Found::File if !replace => Err(Failure::Exists(Name(name))),
-        Found::Stream => Ok(Target::Direct(open_stream(rt, name, target.as_str())?)),
-        _ => Ok(Target::Part(Part::new(rt, Name(name), target, replace, quiet)?)),
+    match find(rt, name)? {
+        Found::File(_) if !replace => Err(Failure::Exists(Name(name))),
+        Found::Stream => Ok(Target::Direct(open_stream(rt, name)?)),
+        found => {
+            let target = target_of(rt, name, found)?;
+            Ok(Target::Part(Part::new(rt, Name(name), target, replace, quiet)?))
+        }
     }
 }
 
@@ -233,19 +274,18 @@ impl<'a> Part<'a> {
     }
 
     // Whether the name that the file was created under still is its name.
-    fn is_there(&self, rt: &HostRuntime) -> bool {
-        match (
-            self.file.metadata(),
-            fs::symlink_metadata(rt, self.name.as_str()),
-        ) {
-            (Ok(written), Ok(there)) => identity(&written) == identity(&there),
-            _ => false,
+    fn is_there(&self, rt: &HostRuntime) -> io::Result<bool> {
+        let written = Identity::of(&self.file.metadata()?);
+        match fs::symlink_metadata(rt, self.name.as_str()) {
+            Ok(there) => Ok(Identity::of(&there) == written),
+            Err(error) if error.kind() == ErrorKind::NotFound => Ok(false),
+            Err(error) => Err(error),
         }
     }
 
     // Removes the file, if it still has the name that it was created under.
     fn remove(&self, rt: &HostRuntime) {
-        if self.is_there(rt) {
+        if matches!(self.is_there(rt), Ok(true)) {
             let _ = fs::remove_file(rt, self.name.as_str());
         }
     }
@@ -305,8 +345,10 @@ impl<'a> Part<'a> {
         if let Err(error) = self.file.sync_all() {
             return Err(self.failed(error));
         }
-        if !self.is_there(rt) {
-            return Err(Failure::Moved(self.output));
+        match self.is_there(rt) {
+            Ok(true) => (),
+            Ok(false) => return Err(Failure::Moved(self.output)),
+            Err(error) => return Err(self.failed(error)),
         }
         if self.replace {
             self.rename(rt)

@@ -18,6 +18,19 @@ impl fmt::Display for Name<'_> {
     }
 }
 
+/// How many bytes of a text were verified before a fault, if they were counted.
+#[derive(Clone, Copy, Debug)]
+pub struct Verified(pub Option<u64>);
+
+impl fmt::Display for Verified {
+    fn fmt<W: fmt::Write>(&self, f: &mut fmt::Formatter<W>) -> fmt::Result {
+        match self.0 {
+            Some(bytes) => write!(f, "; the first {bytes} bytes of the text are right"),
+            None => Ok(()),
+        }
+    }
+}
+
 /// The text of a message of several lines. Its control characters but line feeds are escaped.
 #[derive(Clone, Copy, Debug)]
 pub struct Lines<'a>(pub &'a str);

@@ -4,10 +4,10 @@ use crate::command::{Place, Span, Transfer};
 use crate::failure::{Failure, PartError, Stopped, printed};
 use crate::info::with_missing;
 use crate::key;
-use crate::output::{Target, look, open_target, refuse_terminal};
+use crate::output::{Target, open_target, refuse_inputs, refuse_terminal};
 use crate::progress::{Counted, Display, Measured};
 use crate::range::{Start, is_reachable, start_of};
-use crate::shown::Name;
+use crate::shown::{Name, Verified};
 use crate::terminal::TextOnly;
 use aegis::aegis256::Key;
 use aegis_files::{FileError, open_range, open_stream, rekey_stream, seal_stream};
@@ -90,11 +90,15 @@ fn carry_out<'a, R: Read, W: Write + Drop>(
     let Err(error) = carry(rt.alloc(), task, input, &mut output) else {
         return Ok(output.written);
     };
-    let failure = match error {
-        PartError::File(error) if !matches!(task, Task::OpenPart { .. }) => {
-            Failure::of_files(error, paths.input, paths.output, output.written)
+    let failure = match (task, error) {
+        (Task::Open { .. }, PartError::File(error)) => {
+            let verified = Verified(Some(output.written));
+            Failure::of_files(error, paths.input, paths.output, verified)
         }
-        _ => Failure::of_part(error, paths.input, paths.output),
+        (Task::Seal { .. } | Task::Rekey { .. }, PartError::File(error)) => {
+            Failure::of_files(error, paths.input, paths.output, Verified(None))
+        }
+        (_, error) => Failure::of_part(error, paths.input, paths.output),
     };
     Err(Stopped {
         failure: with_missing(rt, failure, paths.input),
@@ -187,9 +191,10 @@ fn draw_prefix<'a>(rt: &HostRuntime) -> Result<[u8; 24], Failure<'a>> {
 /// Seals a file under a prefix that is drawn at random.
 pub fn seal<'a>(rt: &HostRuntime, paths: Transfer<'a>) -> Result<(), Stopped<'a>> {
     let key = key::read(rt, paths.key, paths.quiet)?;
-    look(rt, paths.input, paths.key, paths.output)?;
+    refuse_inputs(rt, paths, &[&key])?;
     refuse_terminal(rt, paths.output)?;
     let prefix = draw_prefix(rt)?;
+    let key = key.key;
     transfer(rt, &Task::Seal { key, prefix }, paths)
 }
 
@@ -197,20 +202,23 @@ pub fn seal<'a>(rt: &HostRuntime, paths: Transfer<'a>) -> Result<(), Stopped<'a>
 /// before the text is used.
 pub fn open<'a>(rt: &HostRuntime, paths: Transfer<'a>) -> Result<(), Stopped<'a>> {
     let key = key::read(rt, paths.key, paths.quiet)?;
-    look(rt, paths.input, paths.key, paths.output)?;
-    transfer(rt, &Task::Open { key }, paths)
+    refuse_inputs(rt, paths, &[&key])?;
+    transfer(rt, &Task::Open { key: key.key }, paths)
 }
 
 /// Opens a part of the text of a sealed file, without the rest of it.
 pub fn open_part<'a>(rt: &HostRuntime, span: Span, paths: Transfer<'a>) -> Result<(), Stopped<'a>> {
     let key = key::read(rt, paths.key, paths.quiet)?;
-    look(rt, paths.input, paths.key, paths.output)?;
+    refuse_inputs(rt, paths, &[&key])?;
     let Place::File(name) = paths.input else {
         return Err(Stopped::from(Failure::NoFile));
     };
     let mut file = File::open(rt, name).map_err(|error| Failure::Input(Name(name), error))?;
     match start_of(&mut file, span) {
-        Ok(start) => write_to(rt, &Task::OpenPart { key, start }, paths, &mut file),
+        Ok(start) => {
+            let key = key.key;
+            write_to(rt, &Task::OpenPart { key, start }, paths, &mut file)
+        }
         Err(error) => {
             let error = PartError::File(error);
             let failure = Failure::of_part(error, paths.input, paths.output);
@@ -227,12 +235,11 @@ pub fn rekey<'a>(
 ) -> Result<(), Stopped<'a>> {
     let key = key::read(rt, paths.key, paths.quiet)?;
     let new = key::read(rt, new_key, paths.quiet)?;
-    look(rt, paths.input, paths.key, paths.output)?;
-    look(rt, paths.input, new_key, paths.output)?;
+    refuse_inputs(rt, paths, &[&key, &new])?;
     refuse_terminal(rt, paths.output)?;
     let task = Task::Rekey {
-        key,
-        new_key: new,
+        key: key.key,
+        new_key: new.key,
         prefix: draw_prefix(rt)?,
     };
     transfer(rt, &task, paths)
@@ -251,7 +258,7 @@ fn check_from<'a, R: Read>(
 /// Opens a sealed file without writing its text, and prints how many bytes it has.
 pub fn check<'a>(rt: &HostRuntime, paths: Transfer<'a>) -> Result<(), Failure<'a>> {
     let task = Task::Open {
-        key: key::read(rt, paths.key, paths.quiet)?,
+        key: key::read(rt, paths.key, paths.quiet)?.key,
     };
     let text_bytes = match paths.input {
         Place::File(name) => {
