@@ -131,7 +131,7 @@ fn find<'a>(rt: &HostRuntime, name: &'a str) -> Result<Found, Failure<'a>> {
     }
 }
 
-// The file that an output's name leads to, by a name of its own. A link of `/proc` may lead to one that has no name here.
+// The name of the file that an output's name leads to. A link of `/proc` may lead to a file that has none here.
 fn target_of<'a>(rt: &HostRuntime, name: &'a str, found: Found) -> Result<String, Failure<'a>> {
     let failed = |error| Failure::Output(Name(name), error);
     match fs::symlink_metadata(rt, name) {
