@@ -99,6 +99,11 @@ cp key open-key && chmod 644 open-key
 status 0 "$tool" seal -k open-key small small.open-key
 says 'chmod 600'
 status 3 "$tool" seal -k nowhere small small.nowhere
+# Standard error may go into the output.
+"$tool" seal -k open-key small > small.both 2>&1
+status 0 "$tool" check -q -k open-key small.both
+"$tool" seal -k open-key small 2>&1 | cat > small.both
+status 0 "$tool" check -q -k open-key small.both
 status 0 "$tool" seal -k open-key --quiet small small.quiet
 [ ! -s said ] || fail "--quiet printed $(cat said)"
 for bad in small /dev/null /dev/zero; do

@@ -17,17 +17,22 @@ mod version;
 use command::{Action, command, parse};
 use failure::{FAILED, Failure, MISUSED, Stopped, printed};
 use manual::notes;
+use output::quieted;
 use shown::Lines;
 use std::io::ErrorKind;
 
 fn act<'a>(rt: &HostRuntime, action: Option<Action<'a>>) -> Result<(), Stopped<'a>> {
     match action {
         Some(Action::Keygen { output }) => Ok(transfer::keygen(rt, output)?),
-        Some(Action::Seal(paths)) => transfer::seal(rt, paths),
-        Some(Action::Open(paths)) => transfer::open(rt, paths),
-        Some(Action::OpenPart { span, paths }) => transfer::open_part(rt, span, paths),
+        Some(Action::Seal(paths)) => transfer::seal(rt, quieted(rt, paths)),
+        Some(Action::Open(paths)) => transfer::open(rt, quieted(rt, paths)),
+        Some(Action::OpenPart { span, paths }) => {
+            transfer::open_part(rt, span, quieted(rt, paths))
+        }
         Some(Action::NoSpan) => Err(Stopped::from(Failure::NoSpan)),
-        Some(Action::Rekey { new_key, paths }) => transfer::rekey(rt, new_key, paths),
+        Some(Action::Rekey { new_key, paths }) => {
+            transfer::rekey(rt, new_key, quieted(rt, paths))
+        }
         Some(Action::Check(paths)) => Ok(transfer::check(rt, paths)?),
         Some(Action::Info { input, quiet }) => Ok(info::info(rt, input, quiet)?),
         Some(Action::Manual { form }) => Ok(manual::print(rt, form)?),

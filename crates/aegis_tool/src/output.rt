@@ -89,6 +89,25 @@ pub fn refuse_inputs<'a>(
     Ok(())
 }
 
+// Whether two names are of one file, of whatever kind.
+fn are_one(rt: &HostRuntime, name: &str, other: &str) -> bool {
+    match (fs::metadata(rt, name), fs::metadata(rt, other)) {
+        (Ok(one), Ok(two)) => (one.dev(), one.ino()) == (two.dev(), two.ino()),
+        _ => false,
+    }
+}
+
+/// Returns the paths, with only errors printed if standard error goes into the output.
+pub fn quieted<'a>(rt: &HostRuntime, paths: Transfer<'a>) -> Transfer<'a> {
+    let is_output = match paths.output {
+        Place::File(_) => false,
+        _ => !rt.stdout().is_terminal() && are_one(rt, "/dev/stdout", "/dev/stderr"),
+    };
+    let mut paths = paths;
+    paths.quiet = paths.quiet || is_output;
+    paths
+}
+
 /// Returns an error if nothing names the output and standard output is a terminal.
 pub fn refuse_terminal<'a>(rt: &HostRuntime, output: Place<'a>) -> Result<(), Failure<'a>> {
     match output {
