@@ -92,7 +92,22 @@ status 0 "$tool" keygen key
 [ "$(wc -c < key)" = 65 ] && [[ $(cat key) =~ ^[0-9a-f]{64}$ ]] || fail 'the key file is not 64 digits and a line feed'
 cp key key-before
 status 3 "$tool" keygen key
+says 'key exists, and keygen replaces no file'
 cmp key key-before
+for name in '' nothing/; do
+    status 3 "$tool" seal -k key key-before "$name"
+    lacks 'renamed to'
+done
+# What comes after the end of the input is not read.
+mkfifo twice
+"$tool" seal -k key twice sealed-once &
+(exec 9> twice; printf one >&9)
+sleep 0.5
+(printf two > twice) 2> said &
+wait %1 2> said || fail 'the input of a pipe has no end'
+kill %2 2> said || true
+[ "$("$tool" open -k key sealed-once -)" = one ] || fail 'more was read than a pipe had'
+rm twice sealed-once
 status 0 "$tool" keygen other
 head -c 1000 /dev/urandom > small
 cp key open-key && chmod 644 open-key

@@ -51,6 +51,8 @@ pub enum Failure<'a> {
     Moved(Name<'a>),
     #[error("{0} exists; --force replaces it")]
     Exists(Name<'a>),
+    #[error("{0} exists, and keygen replaces no file")]
+    KeyExists(Name<'a>),
     #[error("{0} is a link to a file that does not exist: name that file")]
     DanglingLink(Name<'a>),
     #[error("{0} is a link, but the file that it leads to is not found by its name: name that file")]

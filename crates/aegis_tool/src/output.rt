@@ -133,11 +133,18 @@ enum Found {
     Stream,
 }
 
+// Whether a name can be that of a new file.
+fn names_a_file(name: &str) -> bool {
+    !name.is_empty() && !name.ends_with('/')
+}
+
 // Looks at an output. It is an error if it is a folder or a block device.
 fn find<'a>(rt: &HostRuntime, name: &'a str) -> Result<Found, Failure<'a>> {
     let found = match fs::metadata(rt, name) {
         Ok(found) => found,
-        Err(error) if error.kind() == ErrorKind::NotFound => return Ok(Found::Nothing),
+        Err(error) if error.kind() == ErrorKind::NotFound && names_a_file(name) => {
+            return Ok(Found::Nothing);
+        }
         Err(error) => return Err(Failure::Output(Name(name), error)),
     };
     // A block device keeps what is written, as a file does.
@@ -302,11 +309,17 @@ impl<'a> Part<'a> {
         }
     }
 
-    // Removes the file, if it still has the name that it was created under.
+    // Removes the file, if it still has the name that it was created under, or says that it stays.
     fn remove(&self, rt: &HostRuntime) {
-        if matches!(self.is_there(rt), Ok(true)) {
-            let _ = fs::remove_file(rt, self.name.as_str());
+        if matches!(self.is_there(rt), Ok(true))
+            && fs::remove_file(rt, self.name.as_str()).is_ok()
+        {
+            return;
         }
+        let _ = eprintln!(rt;
+            "hunkravy: {} is not removed, and may hold plaintext",
+            Name(self.name.as_str())
+        );
     }
 
     fn failed(&self, error: io::Error) -> Failure<'a> {

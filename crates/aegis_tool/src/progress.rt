@@ -43,13 +43,15 @@ impl Display<'_> {
     }
 }
 
-/// A reader that shows how much was read from it.
+/// A reader that shows how much was read from it. Once it has ended, it is not read again: a terminal, a pipe or a file
+/// might go on.
 #[derive(Drop)]
 pub struct Counted<'a, R: Read + Drop> {
     inner: R,
     display: Option<Display<'a>>,
     read: u64,
     said: u64,
+    has_ended: bool,
 }
 
 impl<'a, R: Read + Drop> Counted<'a, R> {
@@ -60,6 +62,7 @@ impl<'a, R: Read + Drop> Counted<'a, R> {
             display,
             read: 0,
             said: 0,
+            has_ended: false,
         }
     }
 
@@ -77,7 +80,11 @@ impl<R: Read + Drop> Read for Counted<'_, R> {
     ghost remaining = { λ t. R.remaining t.inner };
 
     fn read(&mut self, buf: &mut [u8]) -> io::Result<usize> {
+        if self.has_ended {
+            return Ok(0);
+        }
         let count = self.inner.read(buf)?;
+        self.has_ended = count == 0;
         self.read = self.read.saturating_add(count as u64);
         if self.read.saturating_sub(self.said) >= STEP {
             self.said = self.read;

@@ -159,19 +159,24 @@ fn length_of(file: &File) -> Option<u64> {
     }
 }
 
-// Carries out a task on the input and the output that the paths name.
+// Carries out a task on the input and the output that the paths name. No progress is shown in an output on a terminal.
 fn transfer<'a>(rt: &HostRuntime, task: &Task, paths: Transfer<'a>) -> Result<(), Stopped<'a>> {
+    let is_shown = match paths.output {
+        Place::File(_) => false,
+        _ => rt.stdout().is_terminal(),
+    };
+    let quiet = paths.quiet || is_shown;
     match paths.input {
         Place::File(name) => {
             let file = File::open(rt, name).map_err(|error| Failure::Input(Name(name), error))?;
-            let shown = display(rt, paths.quiet, length_of(&file));
+            let shown = display(rt, quiet, length_of(&file));
             let mut input = Counted::new(file, shown);
             let written = write_to(rt, task, paths, &mut input);
             input.end();
             written
         }
         _ => {
-            let mut input = Counted::new(rt.stdin(), display(rt, paths.quiet, None));
+            let mut input = Counted::new(rt.stdin(), display(rt, quiet, None));
             let written = write_to(rt, task, paths, &mut input);
             input.end();
             written
@@ -291,7 +296,11 @@ pub fn keygen<'a>(rt: &HostRuntime, output: Place<'a>) -> Result<(), Failure<'a>
         Place::File(name) => name,
         _ => return rt.stdout().write_all(text.as_bytes()).map_err(failed),
     };
-    match open_target(rt, name, false, false)? {
+    let target = open_target(rt, name, false, false).map_err(|failure| match failure {
+        Failure::Exists(name) => Failure::KeyExists(name),
+        _ => failure,
+    })?;
+    match target {
         Target::Direct(mut file) => file.write_all(text.as_bytes()).map_err(failed),
         Target::Part(mut part) => {
             let written = part.file.write_all(text.as_bytes()).map_err(failed);
