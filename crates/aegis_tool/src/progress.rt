@@ -1,5 +1,7 @@
 //! Counted inputs and outputs, and the progress of a long input on a terminal.
 
+ghost use Rattle.std.specs.Prelude.{None};
+
 use std::io;
 use std::io::{ErrorKind, Read, Write};
 use std::time::Instant;
@@ -77,7 +79,8 @@ impl<'a, R: Read + Drop> Counted<'a, R> {
 }
 
 impl<R: Read + Drop> Read for Counted<'_, R> {
-    ghost remaining = { λ t. R.remaining t.inner };
+    // Of a file it is not known anyway.
+    ghost remaining = { λ _. None };
 
     fn read(&mut self, buf: &mut [u8]) -> io::Result<usize> {
         if self.has_ended {
