@@ -641,8 +641,11 @@ if "${CC:-gcc}" -shared -fPIC -O1 "$calls" -ldl -o calls.so 2> said; then
                 no_parts
                 if [ "$found" = 0 ]; then
                     [ "$complete" = 1 ] || fail "$what, call $number: status 0, and no output"
-                    grep -B 1 '^here$' noted | grep -q '^link$' || fail "$what, call $number failed, with status 0"
-                    says 'out is renamed to, and not linked'
+                    # With no look at the input's length no progress is shown.
+                    if ! grep -q '^open file$' noted; then
+                        grep -B 1 '^here$' noted | grep -q '^link$' || fail "$what, call $number failed, with status 0"
+                        says 'out is renamed to, and not linked'
+                    fi
                 else
                     [ "$found" = 3 ] || fail "$what, call $number: status $found, not 3: $(cat said)"
                     [ "$complete" = 0 ] || says 'out is complete, but'
@@ -687,17 +690,23 @@ if "${CC:-gcc}" -shared -fPIC -O1 "$calls" -ldl -o calls.so 2> said; then
     echo 'each read fails on standard output'
     how='' number=1
     while run_at $number "$tool" seal -k key text-before; do
-        [ "$found" = 3 ] || fail "seal, call $number: status $found, not 3"
+        # A look whose failure only leaves out a warning may end with 0.
+        [ "$found" = 3 ] || [ "$found" = 0 ] || fail "seal, call $number: status $found, not 3"
+        wanted=$((found == 0 ? 0 : 1))
         mv printed out
-        status 1 "$tool" check -k key out
+        status $wanted "$tool" check -k key out
         number=$((number + 1))
     done
     [ "$number" -gt 8 ] || fail "seal: $number calls were noted"
     number=1
     while run_at $number "$tool" open -k key sealed; do
-        [ "$found" = 3 ] || fail "open, call $number: status $found, not 3"
-        cmp -n "$(stat -c %s printed)" printed text-before || fail "open, call $number: no front of the text"
-        [ ! -s printed ] || says 'the output is incomplete: discard it'
+        [ "$found" = 3 ] || [ "$found" = 0 ] || fail "open, call $number: status $found, not 3"
+        if [ "$found" = 0 ]; then
+            cmp printed text-before || fail "open, call $number: status 0, and not the text"
+        else
+            cmp -n "$(stat -c %s printed)" printed text-before || fail "open, call $number: no front of the text"
+            [ ! -s printed ] || says 'the output is incomplete: discard it'
+        fi
         number=$((number + 1))
     done
     [ "$number" -gt 8 ] || fail "open: $number calls were noted"

@@ -149,8 +149,11 @@ int statx(int folder, const char *name, int flags, unsigned mask, struct statx *
         errno = EIO;
         return -1;
     }
-    if (fails(EIO))
+    if (fails(EIO)) {
+        if (!*name)
+            note("open file");
         return -1;
+    }
     return (int)syscall(SYS_statx, folder, name, flags, mask, found);
 }
 
