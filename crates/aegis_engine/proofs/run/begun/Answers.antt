@@ -1,5 +1,5 @@
 -- The associated data is first the input of a run without associated data, and its end is the beginning of the message.
-use Rattle.std.proofs.Common.{◌≡◌, ◌∙◌, ap, refl, ℕ, ◌+◌, [], List, get_or, length, take, arith}
+use Rattle.std.proofs.Common.{◌≡◌, ◌∙◌, ap, refl, ℕ, [], List, get_or, length, take, arith}
 use Rattle.std.proofs.Math.Nat.{div-eq_of_lt}
 use Rattle.std.proofs.lemmas.List.{length-append, take_all}
 use Rattle.aegis_base.specs.Chunks.{joined}

@@ -1,5 +1,4 @@
 -- One piece is all of the associated data.
-use Rattle.std.proofs.Common.{ap, length}
 use Rattle.std.proofs.lemmas.List.{append-nil}
 use Rattle.aegis_base.proofs.AppendFacts.{ciphertext-none}
 use Rattle.aegis_engine.proofs.run.Run.begin.Goals as goal
