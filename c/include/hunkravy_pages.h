@@ -17,7 +17,8 @@
  * beside a file, complete it before you open the file: `aegis_pages` and `raf` do.
  *
  * To change some bytes of a page: read the page, open it, change its text, seal it with a fresh nonce, and write it. To
- * change the length: write the pages that are new, and then the header with the next counter.
+ * change the length: write the pages that are new, and then the header with the next counter. What the last page has
+ * after the text may be what was cut off there: if the text grows, write that page too, with zeros in its place.
  *
  * `k` is a key and `npub` a nonce, of hunkravy_key_bytes(variant) bytes each: A FRESH NONCE EACH TIME that a page or a
  * header is sealed, drawn at random. With nonces of 16 bytes seal at most 2^48 pages and headers under one key. `id` is

@@ -61,10 +61,10 @@ class Chunks(library.Secret):
                 library.check(call(self._ending(), library.pointer(chunk), len(chunk)))
                 kept = keep(chunk)
                 self._has_ended = False
+                return kept
         except BaseException:
             self._has_ended = True
             raise
-        return kept
 
 
 class Encryptor(Chunks):

@@ -112,6 +112,9 @@ impl<A: Algorithm, R: RafRng, J: JournalChoice> RafBuilder<A, R, J> {
     /// [`Error::Locked`]; [`Error::Moved`]; [`Error::Header`] if there is no header of this algorithm and key; or
     /// [`Error::Journal`] if the journal is that of another file, or of another state of this one, or none. Nothing was
     /// changed then. Or [`Error::Io`]: nothing is lost, so open it again.
+    ///
+    /// If the file has no header that opens, as one that a crash has torn, a whole journal under the key is taken for its
+    /// own.
     pub fn open<I: RafIo>(self, mut io: I, key: &A::Key) -> Result<Raf<A, I, R, J::Journal>> {
         io.lock()?;
         let mut builder = self.choose(&io);
