@@ -82,8 +82,9 @@ pub const MAX_SIZE: u64 = 1 << 60;
 ///
 /// Changes are kept in memory until a commit: [`commit`](Raf::commit), [`sync`](Raf::sync), dropping, and a write after
 /// which they are more than the [limit](RafBuilder::buffer_limit). **Dropping ignores the error of its commit**, so
-/// call `commit` first. No drop commits a part of what was to be committed: neither after a change or a commit that has
-/// failed or panicked, until the next `commit` that succeeds or [`discard`](Raf::discard), nor while the thread panics.
+/// call `commit` first. No drop commits after a change or a commit that has failed or panicked, until the next `commit` that
+/// succeeds or [`discard`](Raf::discard), nor while its thread panics. A file that threads share by a mutex and in which one
+/// of them has panicked is dropped by another: call `discard` there.
 ///
 /// After an error in the middle of a commit the file is broken: each later call returns [`Error::Broken`], and opening the file
 /// again gives the text of before the commit or the one after it.
@@ -225,8 +226,8 @@ impl<A: Algorithm, I: RafIo, R: RafRng, J: RafIo> Raf<A, I, R, J> {
     /// Writes all changes since the last commit, so that after a crash all of them are there, or none; with `Ok` all of them
     /// are certain to be. If nothing has changed, nothing is written.
     ///
-    /// The changed pages and the next header are sealed into the journal, then written to their places, and then the journal
-    /// is emptied, each with a sync.
+    /// A file that becomes longer gets its size first. The changed pages and the next header are sealed into the journal, then
+    /// written to their places, and then the journal is emptied, each with a sync.
     ///
     /// # Errors
     ///
@@ -258,11 +259,23 @@ impl<A: Algorithm, I: RafIo, R: RafRng, J: RafIo> Raf<A, I, R, J> {
         };
         self.rng.fill(&mut seal.prefix)?;
         self.is_broken = true;
+        self.make_room(&writes)?;
         journal::commit(&mut self.io, &mut self.journal, &seal, &writes)?;
         self.is_broken = false;
         self.counter = counter;
         self.stored = self.size;
         self.changes.clear();
+        Ok(())
+    }
+
+    /// Makes the file as long as the writes make it. If it cannot be so long, this fails before there is a journal, whose
+    /// writes nobody could make, so that the file would not open.
+    fn make_room(&mut self, writes: &[PendingWrite]) -> Result<()> {
+        let end_of = |write: &PendingWrite| write.place + write.bytes.len() as u64;
+        let end = writes.iter().map(end_of).max().unwrap_or(0);
+        if end > self.io.get_size()? {
+            self.io.set_size(end)?;
+        }
         Ok(())
     }
 

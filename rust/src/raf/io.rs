@@ -187,8 +187,8 @@ impl RafIo for NoJournal {
 
 /// The journal of a file at a path: a file beside it, whose name has `.journal` after that of the file. There is one only
 /// while a commit is written, and after one that was cut short. Symbolic links are followed, so that a file has one journal by
-/// whichever of them it is named. A journal that is itself a link, or no file, is refused, with
-/// [`io::ErrorKind::InvalidData`], and nothing is changed. A file of that name with up to 33 bytes may be what a crash
+/// whichever of them it is named. A journal that is itself a link, or no file, or has other names (hard links), is refused,
+/// with [`io::ErrorKind::InvalidData`], and nothing is changed. A file of that name with up to 33 bytes may be what a crash
 /// has left of a journal: opening removes it, whatever it holds.
 ///
 /// If there is no path, as for a storage in memory, it is as [`NoJournal`].
@@ -237,10 +237,10 @@ fn open_same(options: &OpenOptions, path: &Path, found: &Metadata) -> io::Result
     }
 }
 
-/// Returns what is at the path of a journal. An error if it is no file.
+/// Returns what is at the path of a journal. An error if it is no file, or one that has other names too.
 fn journal_at(path: &Path) -> io::Result<Option<Metadata>> {
     match found_at(path)? {
-        Some(found) if !found.is_file() => Err(no_journal()),
+        Some(found) if !found.is_file() || found.nlink() > 1 => Err(no_journal()),
         found => Ok(found),
     }
 }
@@ -248,7 +248,7 @@ fn journal_at(path: &Path) -> io::Result<Option<Metadata>> {
 fn no_journal() -> io::Error {
     io::Error::new(
         io::ErrorKind::InvalidData,
-        "what is at the path of the journal is no file",
+        "what is at the path of the journal is no file, or has other names",
     )
 }
 

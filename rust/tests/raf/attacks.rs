@@ -164,11 +164,12 @@ fn short_files_that_are_no_journal() {
 #[test]
 fn what_is_no_journal() {
     type Put = fn(&Folder) -> io::Result<()>;
-    let puts: [Put; 6] = [
+    let puts: [Put; 7] = [
         |folder| symlink("file", folder.path("file.journal")),
         |folder| symlink("other", folder.path("file.journal")),
         |folder| symlink("none", folder.path("file.journal")),
         |folder| fs::create_dir(folder.path("file.journal")),
+        |folder| fs::hard_link(folder.path("other"), folder.path("file.journal")),
         |folder| fs::hard_link(folder.path("file"), folder.path("file.journal")),
         |folder| {
             fs::write(
@@ -187,13 +188,18 @@ fn what_is_no_journal() {
         let builder = RafBuilder::<Aegis256>::new().truncate(true);
         let created = builder.create_file(&path, &KEY);
         for refused in [open(&path), created] {
-            assert_eq!(is_no_file(&refused.map(|_| ())), number < 4, "{number}");
+            let refused = refused.map(|_| ());
+            assert!(refused.is_err(), "{number}");
+            // The file with two names is refused for these by one of the two.
+            if number != 5 {
+                assert_eq!(is_no_file(&refused), number < 5, "{number}");
+            }
         }
         assert_eq!(fs::read(&path).unwrap(), bytes, "{number}");
 
         // The file with two names cannot be opened without what is at that path either.
-        if number != 4 {
-            assert_eq!(is_no_file(&committed(&folder)), number < 4, "{number}");
+        if number != 5 {
+            assert_eq!(is_no_file(&committed(&folder)), number < 5, "{number}");
             assert_eq!(fs::read(&path).unwrap(), bytes, "{number}");
             assert_eq!(folder.names(), names, "{number}");
         }

@@ -203,12 +203,11 @@ fn the_default_limit() {
     assert!(calls(&disks) > count);
 }
 
-/// The calls of the disks: the place of a write, that of no byte for the journal's cut, and none for a sync.
+/// The calls of the disks: the place of a write, a place for a new size that no write has, and none for a sync.
 fn places(disks: &(Disk, Disk)) -> Vec<(Part, Option<u64>)> {
     let place = |call: &Call| match call {
         Call::Write(place, _) => Some(*place),
-        Call::Resize(0) => Some(u64::MAX),
-        Call::Resize(_) => panic!("only the journal is cut"),
+        Call::Resize(size) => Some(u64::MAX - size),
         Call::Sync => None,
     };
     let log = disks.0.log.borrow();
@@ -235,8 +234,8 @@ fn the_calls_of_an_opening() {
     assert_eq!(places(&disks), expected);
 }
 
-/// Each commit writes the front of the journal and syncs it, the rest of it and syncs it, then the file and syncs it,
-/// and then empties the journal and syncs it.
+/// Each commit that makes the file longer sets its size. Then it writes the front of the journal and syncs it, the rest of it
+/// and syncs it, then the file and syncs it, and then empties the journal and syncs it.
 #[test]
 fn the_calls_of_a_commit() {
     let disks = disks(Bytes::default());
@@ -247,6 +246,7 @@ fn the_calls_of_a_commit() {
     file.commit().unwrap();
     let (file, journal) = (Part::File, Part::Journal);
     let expected = [
+        (file, Some(u64::MAX - 5056)),
         (journal, Some(0)),
         (journal, None),
         (journal, Some(33)),
@@ -262,11 +262,64 @@ fn the_calls_of_a_commit() {
     ];
     assert_eq!(places(&disks), expected);
     let log = disks.0.log.borrow();
-    assert!(matches!(&log.calls[0].1, Call::Write(0, front) if front.len() == 33));
+    assert!(matches!(&log.calls[1].1, Call::Write(0, front) if front.len() == 33));
     assert_eq!(
-        log.calls[JOURNAL_CALLS].1,
+        log.calls[1 + JOURNAL_CALLS].1,
         Call::Write(0, first[..512].to_vec())
     );
+}
+
+/// A disk whose file can have no more bytes.
+struct SmallDisk(Disk, u64);
+
+impl RafIo for SmallDisk {
+    fn read_at(&mut self, buf: &mut [u8], offset: u64) -> io::Result<()> {
+        self.0.read_at(buf, offset)
+    }
+
+    fn write_at(&mut self, data: &[u8], offset: u64) -> io::Result<()> {
+        if offset + data.len() as u64 > self.1 {
+            return Err(io::ErrorKind::FileTooLarge.into());
+        }
+        self.0.write_at(data, offset)
+    }
+
+    fn get_size(&mut self) -> io::Result<u64> {
+        self.0.get_size()
+    }
+
+    fn set_size(&mut self, size: u64) -> io::Result<()> {
+        if size > self.1 {
+            return Err(io::ErrorKind::FileTooLarge.into());
+        }
+        self.0.set_size(size)
+    }
+
+    fn sync(&mut self) -> io::Result<()> {
+        self.0.sync()
+    }
+}
+
+/// A commit that the file has no room for leaves it as it was: it opens where there is no more room either.
+#[test]
+fn a_file_that_becomes_too_long() {
+    let disks = disks(Bytes::default());
+    created(&disks, usize::MAX).write(b"kept", 0).unwrap();
+    let small = || {
+        RafBuilder::<Aegis256, _>::with_rng(Random(50))
+            .buffer_limit(usize::MAX)
+            .journal(disks.1.clone())
+            .open(SmallDisk(disks.0.clone(), 5000), &KEY)
+    };
+    let mut file = small().unwrap();
+    file.write(&[1; 5000], 0).unwrap();
+    assert!(matches!(file.commit(), Err(Error::Io(_))));
+    assert!(matches!(file.commit(), Err(Error::Broken)));
+    drop(file);
+    let mut file = small().unwrap();
+    let mut text = [0; 4];
+    assert_eq!(file.read(&mut text, 0).unwrap(), 4);
+    assert_eq!((&text, file.size()), (b"kept", 4));
 }
 
 /// A source that fails keeps what is there, and the changes.
