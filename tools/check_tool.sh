@@ -119,6 +119,8 @@ status 3 "$tool" seal -k nowhere small small.nowhere
 status 0 "$tool" check -q -k open-key small.both
 "$tool" seal -k open-key small 2>&1 | cat > small.both
 status 0 "$tool" check -q -k open-key small.both
+"$tool" seal -k open-key small /dev/stdout 2>&1 | cat > small.both
+status 0 "$tool" check -q -k open-key small.both
 status 0 "$tool" seal -k open-key --quiet small small.quiet
 [ ! -s said ] || fail "--quiet printed $(cat said)"
 for bad in small /dev/null /dev/zero; do
@@ -435,6 +437,19 @@ for target in key key-link key-name; do
 done
 status 3 sh -c "'$tool' seal -k key small >> key"
 cmp key key-before
+# A link that leads to the key while the input is waited for.
+mkfifo late
+echo aside > aside
+ln -s aside turned
+"$tool" seal --force -k key late turned > said 2>&1 &
+sleep 0.5
+ln -sfn key turned
+printf late > late
+found=0
+wait $! || found=$?
+[ "$found" = 3 ] || fail "status $found, not 3, of an output that became a link to the key: $(cat said)"
+cmp key key-before
+rm late aside turned
 
 echo 'outputs that are links, devices and pipes'
 mkdir far
@@ -486,6 +501,8 @@ status 0 "$tool" seal --force -k key small pipe
 wait $!
 [ -p pipe ] || fail 'a pipe was replaced'
 status 0 "$tool" check -k key piped
+status 3 "$tool" seal -k key pipe pipe
+says 'is the input too'
 "$tool" seal -k key small /dev/stdout | cat > piped
 status 0 "$tool" check -k key piped
 python3 -c 'import socket; socket.socket(socket.AF_UNIX).bind("socket")'

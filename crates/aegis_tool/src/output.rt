@@ -23,7 +23,7 @@ use std::{fs, io};
 // The mode of new files: only the owner can read and write them.
 const OWNER_ONLY: u32 = 0o600;
 
-/// The device and the number there of a regular file, which all of its names share.
+/// The device and the number there of a file, which all of its names share.
 #[derive(Clone, Copy, PartialEq, Eq)]
 pub struct Identity {
     device: u64,
@@ -31,21 +31,30 @@ pub struct Identity {
 }
 
 impl Identity {
-    /// Returns the identity of a file, if it is a regular one.
-    pub fn of(found: &Metadata) -> Option<Self> {
-        if !found.is_file() {
-            return None;
-        }
-        Some(Identity {
+    fn new(found: &Metadata) -> Self {
+        Identity {
             device: found.dev(),
             number: found.ino(),
-        })
+        }
     }
 
-    // The identity of the file of this name, if there is one and it is a regular one.
+    /// Returns the identity of a file, if it is a regular one.
+    pub fn of(found: &Metadata) -> Option<Self> {
+        if found.is_file() {
+            Some(Identity::new(found))
+        } else {
+            None
+        }
+    }
+
+    // The identity of the file of this name, if there is one and it is a regular one or a pipe. What is written to a
+    // terminal or a socket is not read from it again.
     fn at(rt: &HostRuntime, name: &str) -> io::Result<Option<Self>> {
         match fs::metadata(rt, name) {
-            Ok(found) => Ok(Identity::of(&found)),
+            Ok(found) if found.is_file() || found.file_type().is_fifo() => {
+                Ok(Some(Identity::new(&found)))
+            }
+            Ok(_) => Ok(None),
             Err(error) if error.kind() == ErrorKind::NotFound => Ok(None),
             Err(error) => Err(error),
         }
@@ -89,20 +98,29 @@ pub fn refuse_inputs<'a>(
     Ok(())
 }
 
+/// Returns whether the output is a terminal.
+pub fn is_terminal(rt: &HostRuntime, output: Place<'_>) -> bool {
+    match output {
+        Place::File(name) => match fs::metadata(rt, name) {
+            Ok(found) => found.file_type().is_char_device(),
+            Err(_) => false,
+        },
+        _ => rt.stdout().is_terminal(),
+    }
+}
+
 // Whether two names are of one file, of whatever kind.
 fn are_one(rt: &HostRuntime, name: &str, other: &str) -> bool {
     match (fs::metadata(rt, name), fs::metadata(rt, other)) {
-        (Ok(one), Ok(two)) => (one.dev(), one.ino()) == (two.dev(), two.ino()),
+        (Ok(one), Ok(two)) => Identity::new(&one) == Identity::new(&two),
         _ => false,
     }
 }
 
-/// Returns the paths, with only errors printed if standard error goes into the output.
+/// Returns the paths, with only errors printed if standard error goes into the output and that is no terminal.
 pub fn quieted<'a>(rt: &HostRuntime, paths: Transfer<'a>) -> Transfer<'a> {
-    let is_output = match paths.output {
-        Place::File(_) => false,
-        _ => !rt.stdout().is_terminal() && are_one(rt, "/dev/stdout", "/dev/stderr"),
-    };
+    let output = name_or(paths.output, "/dev/stdout");
+    let is_output = !is_terminal(rt, paths.output) && are_one(rt, output, "/dev/stderr");
     let mut paths = paths;
     paths.quiet = paths.quiet || is_output;
     paths
@@ -317,7 +335,7 @@ impl<'a> Part<'a> {
             return;
         }
         let _ = eprintln!(rt;
-            "hunkravy: {} is not removed, and may hold plaintext",
+            "hunkravy: {} is not removed, and may hold plaintext or a key",
             Name(self.name.as_str())
         );
     }

@@ -4,7 +4,8 @@ use crate::command::{Place, Span, Transfer};
 use crate::failure::{Failure, PartError, Stopped, printed};
 use crate::info::with_missing;
 use crate::key;
-use crate::output::{Target, open_target, refuse_inputs, refuse_terminal};
+use crate::key::KeyFile;
+use crate::output::{Target, is_terminal, open_target, refuse_inputs, refuse_terminal};
 use crate::progress::{Counted, Display, Measured};
 use crate::range::{Start, is_reachable, start_of};
 use crate::shown::{Name, Verified};
@@ -160,15 +161,18 @@ fn length_of(file: &File) -> Option<u64> {
 }
 
 // Carries out a task on the input and the output that the paths name. No progress is shown in an output on a terminal.
-fn transfer<'a>(rt: &HostRuntime, task: &Task, paths: Transfer<'a>) -> Result<(), Stopped<'a>> {
-    let is_shown = match paths.output {
-        Place::File(_) => false,
-        _ => rt.stdout().is_terminal(),
-    };
-    let quiet = paths.quiet || is_shown;
+fn transfer<'a>(
+    rt: &HostRuntime,
+    task: &Task,
+    paths: Transfer<'a>,
+    keys: &[&KeyFile<'a>],
+) -> Result<(), Stopped<'a>> {
+    let quiet = paths.quiet || is_terminal(rt, paths.output);
     match paths.input {
         Place::File(name) => {
             let file = File::open(rt, name).map_err(|error| Failure::Input(Name(name), error))?;
+            // That may have taken long, if it is a pipe, and a link may lead elsewhere now.
+            refuse_inputs(rt, paths, keys)?;
             let shown = display(rt, quiet, length_of(&file));
             let mut input = Counted::new(file, shown);
             let written = write_to(rt, task, paths, &mut input);
@@ -199,8 +203,11 @@ pub fn seal<'a>(rt: &HostRuntime, paths: Transfer<'a>) -> Result<(), Stopped<'a>
     refuse_inputs(rt, paths, &[&key])?;
     refuse_terminal(rt, paths.output)?;
     let prefix = draw_prefix(rt)?;
-    let key = key.key;
-    transfer(rt, &Task::Seal { key, prefix }, paths)
+    let task = Task::Seal {
+        key: key.key,
+        prefix,
+    };
+    transfer(rt, &task, paths, &[&key])
 }
 
 /// Opens a sealed file. On standard output the text is written as it is opened, so the exit status must be checked
@@ -208,7 +215,7 @@ pub fn seal<'a>(rt: &HostRuntime, paths: Transfer<'a>) -> Result<(), Stopped<'a>
 pub fn open<'a>(rt: &HostRuntime, paths: Transfer<'a>) -> Result<(), Stopped<'a>> {
     let key = key::read(rt, paths.key, paths.quiet)?;
     refuse_inputs(rt, paths, &[&key])?;
-    transfer(rt, &Task::Open { key: key.key }, paths)
+    transfer(rt, &Task::Open { key: key.key }, paths, &[&key])
 }
 
 /// Opens a part of the text of a sealed file, without the rest of it.
@@ -247,7 +254,7 @@ pub fn rekey<'a>(
         new_key: new.key,
         prefix: draw_prefix(rt)?,
     };
-    transfer(rt, &task, paths)
+    transfer(rt, &task, paths, &[&key, &new])
 }
 
 // Reads a sealed file, and discards its text. Returns how many bytes it has.
