@@ -658,8 +658,8 @@ if "${CC:-gcc}" -shared -fPIC -O1 "$calls" -ldl -o calls.so 2> said; then
                 no_parts
                 if [ "$found" = 0 ]; then
                     [ "$complete" = 1 ] || fail "$what, call $number: status 0, and no output"
-                    # With no look at the input's length no progress is shown.
-                    if ! grep -q '^open file$' noted; then
+                    # A look that fails may leave out progress or a warning.
+                    if ! grep -q '^look$' noted; then
                         grep -B 1 '^here$' noted | grep -q '^link$' || fail "$what, call $number failed, with status 0"
                         says 'out is renamed to, and not linked'
                     fi

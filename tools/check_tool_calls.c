@@ -150,8 +150,7 @@ int statx(int folder, const char *name, int flags, unsigned mask, struct statx *
         return -1;
     }
     if (fails(EIO)) {
-        if (!*name)
-            note("open file");
+        note("look");
         return -1;
     }
     return (int)syscall(SYS_statx, folder, name, flags, mask, found);

@@ -171,8 +171,10 @@ fn transfer<'a>(
     match paths.input {
         Place::File(name) => {
             let file = File::open(rt, name).map_err(|error| Failure::Input(Name(name), error))?;
-            // That may have taken long, if it is a pipe, and a link may lead elsewhere now.
-            refuse_inputs(rt, paths, keys)?;
+            // That may have taken long, if it is a pipe, and a named output may lead elsewhere now.
+            if let Place::File(_) = paths.output {
+                refuse_inputs(rt, paths, keys)?;
+            }
             let shown = display(rt, quiet, length_of(&file));
             let mut input = Counted::new(file, shown);
             let written = write_to(rt, task, paths, &mut input);
