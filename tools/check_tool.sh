@@ -98,16 +98,6 @@ for name in '' nothing/; do
     status 3 "$tool" seal -k key key-before "$name"
     lacks 'renamed to'
 done
-# What comes after the end of the input is not read.
-mkfifo twice
-"$tool" seal -k key twice sealed-once &
-(exec 9> twice; printf one >&9)
-sleep 0.5
-(printf two > twice) 2> said &
-wait %1 2> said || fail 'the input of a pipe has no end'
-kill %2 2> said || true
-[ "$("$tool" open -k key sealed-once -)" = one ] || fail 'more was read than a pipe had'
-rm twice sealed-once
 status 0 "$tool" keygen other
 head -c 1000 /dev/urandom > small
 cp key open-key && chmod 644 open-key
@@ -742,6 +732,15 @@ if "${CC:-gcc}" -shared -fPIC -O1 "$calls" -ldl -o calls.so 2> said; then
     status 0 "$tool" check -k short-key small.short
     rm -f out text
 
+    echo 'an input that goes on after its end'
+    env LD_PRELOAD="$PWD/calls.so" GOES_ON=1 "$tool" seal -k key small goes-on
+    status 0 "$tool" open -k key goes-on text
+    cmp text small
+    env LD_PRELOAD="$PWD/calls.so" GOES_ON=1 "$tool" seal -k key - goes-on-too < small
+    status 0 "$tool" open --force -k key goes-on-too text
+    cmp text small
+    rm text
+
     echo 'each allocation fails'
     # short_of_memory NUMBER: opens a file with this allocation failing, if there is such a one.
     short_of_memory() {
@@ -880,6 +879,7 @@ if $as true 2> said; then
         sealing="$as ./users-tool" key=users-key meanwhile 'chmod 555 place'
         [ "$found" = 3 ] || fail "status $found, not 3, of a folder that became read-only: $(cat said)"
         says 'out cannot be written'
+        says 'is not removed, and may hold plaintext or a key'
         [ ! -e place/out ] || fail 'an output is in a folder that is read-only'
         chmod 755 place
         rm "place/$there"

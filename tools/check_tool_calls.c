@@ -6,6 +6,7 @@
 //   HIDES=1         the first look at a name after a link that failed fails, as on a file system with a fault
 //   SYNCLESS=1      folders cannot be synced, as on some file systems
 //   SHORT=1         reads and writes take no more than half of what they are given
+//   GOES_ON=1       the input that has ended has one more byte at the next read, as a terminal or a file may
 //   NO_MEMORY=N     the Nth allocation fails, and CALLS ends with "here"
 //   AT=N            the Nth of all calls that open, read, write, look at, name, remove or sync a file fails, and CALLS
 //                   ends with "here"
@@ -92,13 +93,26 @@ ssize_t write(int file, const void *bytes, size_t count)
     return syscall(SYS_write, file, bytes, taken(count));
 }
 
+// Whether the last read was at the end of a file that has not been closed since.
+static int ended;
+
 ssize_t read(int file, void *bytes, size_t count)
 {
-    return fails(EIO) ? -1 : syscall(SYS_read, file, bytes, taken(count));
+    if (fails(EIO))
+        return -1;
+    if (ended && getenv("GOES_ON")) {
+        ended = 0;
+        memset(bytes, 'x', 1);
+        return 1;
+    }
+    ssize_t got = syscall(SYS_read, file, bytes, taken(count));
+    ended = got == 0;
+    return got;
 }
 
 int open(const char *name, int flags, ...)
 {
+    ended = 0;
     va_list rest;
     va_start(rest, flags);
     unsigned mode = flags & O_CREAT ? va_arg(rest, unsigned) : 0;
