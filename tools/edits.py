@@ -1,7 +1,7 @@
 """The wrong bodies of the crates: those of the gate, in must-fail/, and the others, which wrong_bodies.txt lists.
 
-edits.py check: each can be applied, since every text that it replaces stands in its file once, and each has a name of
-its own in its crate. At least one is found.
+edits.py check: each can be applied, since every text that it replaces stands in its file once, names the clause that
+refuses it, and has a name of its own in its crate. At least one is found.
 edits.py split FOLDER [CRATE..]: writes those that are listed to FOLDER/crates/CRATE/must-fail, a file each.
 """
 
@@ -47,6 +47,8 @@ def fault(crate, lines):
             texts[path] = text.replace(old, rest)
         elif word != "clause:":
             return f"unknown line: {line}"
+    if not any(line.startswith("clause: ") for line in lines):
+        return "it names no clause"
     return None if texts else "it replaces nothing"
 
 
