@@ -22,7 +22,7 @@ def metadata(version: str) -> str:
 Metadata-Version: 2.1
 Name: hunkravy
 Version: {version}
-Summary: The AEGIS ciphers and their MACs, over a proved library
+Summary: The AEGIS ciphers and their MACs, over a library with a proved core
 License: MIT
 Requires-Python: >=3.9
 Classifier: Operating System :: POSIX :: Linux

@@ -108,7 +108,7 @@ if command -v dpkg-deb > /dev/null; then
     install_to "$work/hunkravy" install-tool PREFIX=/usr CPU=both ZSH_COMPLETIONS=/usr/share/zsh/vendor-completions
     strip "$work"/hunkravy/usr/lib/hunkravy/*/hunkravy
     package hunkravy 'libc6 (>= 2.34)' 'seals and opens files by AEGIS-256' \
-        'Nothing of a file that was changed comes out.'
+        'A changed file is rejected; what standard output gets before is verified.'
     library=usr/lib/x86_64-linux-gnu
     install_to "$work/libhunkravy-dev" install PREFIX=/usr LIBRARIES=/$library
     mkdir -p "$work/libhunkravy0/$library"
@@ -116,7 +116,7 @@ if command -v dpkg-deb > /dev/null; then
     mkdir "$work/libhunkravy0/DEBIAN"
     echo "libhunkravy 0 libhunkravy0 (>= $version)" > "$work/libhunkravy0/DEBIAN/shlibs"
     echo 'activate-noawait ldconfig' > "$work/libhunkravy0/DEBIAN/triggers"
-    package libhunkravy0 'libc6 (>= 2.17)' 'AEGIS ciphers and their MACs, proved' \
+    package libhunkravy0 'libc6 (>= 2.17)' 'AEGIS ciphers and their MACs with a proved core' \
         'The shared library. It uses no AES instructions and no look-up tables.' libs
     package libhunkravy-dev "libhunkravy0 (= $version)" 'AEGIS ciphers and their MACs, for development' \
         'Headers, the static library, and examples.' libdevel

@@ -1,6 +1,7 @@
 /*
  * Encrypts a message into a packet, and decrypts it again: AEGIS-256, a nonce drawn at random, a
- * tag of 32 bytes.
+ * tag of 32 bytes. A packet that is sent twice opens twice: put a number into the message, and
+ * reject a number that came before, if that matters.
  *
  * cc seal.c $(pkg-config --cflags --libs hunkravy)
  */

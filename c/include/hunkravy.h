@@ -3,7 +3,9 @@
  * hunkravy_records.h, and the pages of sealed files in hunkravy_pages.h. No call allocates memory.
  *
  * To build a program: `cc program.c $(pkg-config --cflags --libs hunkravy)`. If the library was installed by `make
- * install PREFIX=/some/where`, set PKG_CONFIG_PATH to /some/where/lib/pkgconfig first.
+ * install PREFIX=/some/where`, set PKG_CONFIG_PATH to /some/where/lib/pkgconfig first, and LD_LIBRARY_PATH to
+ * /some/where/lib to run the program (after an installation in /usr/local run ldconfig once); or write
+ * -l:libhunkravy.a in place of -lhunkravy. Examples to copy are installed in share/doc/hunkravy/examples.
  *
  * WHAT YOU MUST NEVER DO. No call detects it:
  *
@@ -77,7 +79,7 @@ extern "C" {
 /* Returns the length of the variant's keys, and of its nonces, in bytes; 0 if the variant is none of the six. */
 size_t hunkravy_key_bytes(uint32_t variant);
 
-/* ---- A message at once */
+/* ---- A message in one call */
 
 /* Encrypts the message of `mclen` bytes at `mc` in place, and writes its tag to `mac`. */
 HUNKRAVY_MUST_USE int hunkravy_encrypt_in_place(uint32_t variant, uint8_t *mc, size_t mclen,

@@ -20,7 +20,7 @@ struct Ciphers {
 }
 
 impl Ciphers {
-    fn next(&mut self) -> Aegis256<16> {
+    fn next(&mut self) -> Aegis256<32> {
         let cipher = Aegis256::new(&self.key, &self.next);
         let number = self.next.last_chunk_mut().expect("it has 32 bytes");
         *number = (u64::from_le_bytes(*number) + 1).to_le_bytes();

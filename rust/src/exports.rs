@@ -461,7 +461,7 @@ pub struct PageHeader {
 }
 
 impl Variant {
-    /// Seals page `number` of a file in place. Its text has as many bytes in front of it as a nonce, and 32 after it for the
+    /// Seals page `number` of a random-access file. Its text has as many bytes in front of it as a nonce, and 32 after it for the
     /// tag.
     pub fn page_seal(
         &self,
@@ -479,7 +479,7 @@ impl Variant {
         )
     }
 
-    /// Opens page `number` of a file in place. If it is not that page, each of its bytes is [`ERASED`].
+    /// Opens page `number` of a random-access file. If it is not that page, each of its bytes is [`ERASED`].
     pub fn page_open(&self, page: &mut [u8], id: &[u8; 24], number: u64, k: &[u8]) -> Answer {
         let (bytes, length) = (page.as_mut_ptr(), page.len());
         call!(

@@ -179,26 +179,26 @@ macro_rules! module {
 }
 
 module! {
-    /// For most messages.
+    /// Faster than AEGIS-256. At most 2^48 nonces may be drawn at random under one key.
     mod aegis128l, "AEGIS-128L", Aegis128L, Aegis128LMac, AEGIS128L, 16
 }
 module! {
-    /// For long messages on processors with vectors of 32 bytes.
+    /// For data that another program seals or opens by it.
     mod aegis128x2, "AEGIS-128X2", Aegis128X2, Aegis128X2Mac, AEGIS128X2, 16, derive(Clone, Copy)
 }
 module! {
-    /// For long messages on processors with vectors of 32 bytes.
+    /// For data that another program seals or opens by it.
     mod aegis128x4, "AEGIS-128X4", Aegis128X4, Aegis128X4Mac, AEGIS128X4, 16, derive(Clone, Copy)
 }
 module! {
-    /// For keys of 32 bytes. A nonce has room to be drawn at random.
+    /// Use this one, unless you have a reason for another. Nonces may be drawn at random.
     mod aegis256, "AEGIS-256", Aegis256, Aegis256Mac, AEGIS256, 32
 }
 module! {
-    /// For keys of 32 bytes and long messages. A nonce has room to be drawn at random.
+    /// For data that another program seals or opens by it. Nonces may be drawn at random.
     mod aegis256x2, "AEGIS-256X2", Aegis256X2, Aegis256X2Mac, AEGIS256X2, 32, derive(Clone, Copy)
 }
 module! {
-    /// For keys of 32 bytes and long messages. A nonce has room to be drawn at random.
+    /// For data that another program seals or opens by it. Nonces may be drawn at random.
     mod aegis256x4, "AEGIS-256X4", Aegis256X4, Aegis256X4Mac, AEGIS256X4, 32, derive(Clone, Copy)
 }
