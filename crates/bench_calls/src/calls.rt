@@ -67,10 +67,14 @@ fn seal_each<S: LaneState, const TAG_BYTES: usize>(
     out: &mut [u8],
 ) -> [u8; TAG_BYTES] {
     let mut encryptor = encryptor;
-    for (chunk, sealed) in message.chunks(CHUNK_BYTES).zip(out.chunks_mut(CHUNK_BYTES)) {
-        if chunk.len() == sealed.len() && encryptor.remaining() >= chunk.len() as u64 {
+    let mut rest = out;
+    for chunk in message.chunks(CHUNK_BYTES) {
+        let length = chunk.len().min(rest.len());
+        let (sealed, after) = rest.split_at_mut(length);
+        if chunk.len() == length && encryptor.remaining() >= length as u64 {
             encryptor.update(chunk, sealed);
         }
+        rest = after;
     }
     encryptor.finalize()
 }

@@ -35,20 +35,24 @@ const LONG_KEYS: Keys<32> = Keys {
     nonce: [7; 32],
 };
 
-/// The times of sealing, opening and the xor with a keystream.
+/// The times of sealing, opening and the xor with a keystream, in nanoseconds.
 #[derive(Clone, Copy)]
 struct Times {
-    seal: Duration,
-    open: Duration,
-    xor: Duration,
+    seal: u64,
+    open: u64,
+    xor: u64,
+}
+
+fn nanoseconds(time: Duration) -> u64 {
+    u64::try_from(time.as_nanos()).unwrap_or(u64::MAX)
 }
 
 impl Times {
     // Longer than any.
     const MAX: Times = Times {
-        seal: Duration::MAX,
-        open: Duration::MAX,
-        xor: Duration::MAX,
+        seal: u64::MAX,
+        open: u64::MAX,
+        xor: u64::MAX,
     };
 
     // The shorter of each.
@@ -63,9 +67,9 @@ impl Times {
     // Of records, which are not xored.
     fn of_records(seal: Duration, open: Duration) -> Times {
         Times {
-            seal,
-            open,
-            xor: Duration::ZERO,
+            seal: nanoseconds(seal),
+            open: nanoseconds(open),
+            xor: 0,
         }
     }
 }
@@ -100,9 +104,9 @@ fn turn<R: Runtime, A: Allocator + Copy>(
     let xored = start.elapsed(rt)?;
     if is_right && is_xored {
         Ok(Times {
-            seal: sealed,
-            open: opened,
-            xor: xored,
+            seal: nanoseconds(sealed),
+            open: nanoseconds(opened),
+            xor: nanoseconds(xored),
         })
     } else {
         Err(io::Error::from(io::ErrorKind::InvalidData))
@@ -138,9 +142,7 @@ fn print_call<R: Runtime>(
     words: &str,
     times: Times,
 ) -> io::Result<()> {
-    let seal = times.seal.as_nanos();
-    let open = times.open.as_nanos();
-    let xor = times.xor.as_nanos();
+    let Times { seal, open, xor } = times;
     println!(rt; "| {name} | {bytes} | {words} | {seal} | {open} | {xor} |")
 }
 
@@ -167,9 +169,11 @@ fn print_ways<R: Runtime, A: Allocator + Copy>(
 
 // Prints a line of the table of record streams: microseconds for sealing and opening.
 fn print_stream<R: Runtime>(rt: &R, name: &str, times: Times) -> io::Result<()> {
-    let seal = times.seal.as_micros();
-    let open = times.open.as_micros();
-    println!(rt; "| 16 MiB {name} | {seal} | {open} |")
+    println!(rt;
+        "| 16 MiB {name} | {} | {} |",
+        times.seal / 1000,
+        times.open / 1000
+    )
 }
 
 // Takes a turn with each form of a record stream, and keeps the shorter times.

@@ -11,10 +11,10 @@ use aegis_pages::{Nonces, PagesError, SealedPages};
 use std::alloc::Global;
 use std::io;
 
-/// The key of files under AEGIS-256 and AEGIS-256X4.
+/// The key of files under AEGIS-256 and its variants.
 const KEY: [u8; 32] = [7; 32];
 
-/// The key of files under AEGIS-128L.
+/// The key of files under AEGIS-128L and its variants.
 const SHORT_KEY: [u8; 16] = [7; 16];
 
 const ID: [u8; 24] = [9; 24];

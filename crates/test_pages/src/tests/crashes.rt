@@ -221,23 +221,21 @@ fn committing(alloc: Global) -> Result<(Vec<u8>, Vec<u8>), PagesError> {
     Ok((left(&storage, 0, 0)?, left(&journal, 0xfff, 0)?))
 }
 
-// Opens, and returns the file, the journal and whether it opened.
+// Opens, and returns the journal that is left, and the length of the text or why it did not open.
 fn tried(
     alloc: Global,
     file: Vec<u8>,
     journal: Vec<u8>,
     key: &[u8; 32],
-) -> Result<(Vec<u8>, Result<u64, PagesError>), PagesError> {
-    let mut storage = TestDisk::new(alloc, file, ALL_CALLS);
-    let mut journal = TestDisk::new(alloc, journal, ALL_CALLS);
-    let found = recover_file::<TestDisk, TestDisk, State256X1, 32, Global>(
+) -> (Vec<u8>, Result<u64, PagesError>) {
+    let (mut file, mut journal) = (file, journal);
+    let found = recover_file::<Vec<u8>, Vec<u8>, State256X1, 32, Global>(
         alloc,
-        &mut storage,
+        &mut file,
         &mut journal,
         key,
     );
-    let left = left(&journal, 0xfff, 0)?;
-    Ok((left, found.map(|header| header.len)))
+    (journal, found.map(|header| header.len))
 }
 
 // A journal that may be of use to someone is left as it is.
@@ -245,11 +243,11 @@ fn tried(
 fn journals_of_others(rt: HostRuntime) -> Result<(), Fail> {
     let alloc = rt.alloc();
     let (file, journal) = committing(alloc)?;
-    let (left, opened) = tried(alloc, file.clone()?, journal.clone()?, &KEY)?;
+    let (left, opened) = tried(alloc, file.clone()?, journal.clone()?, &KEY);
     assert!(rt; left.is_empty() && matches!(opened, Ok(1300)));
 
     // under a wrong key
-    let (left, opened) = tried(alloc, file.clone()?, journal.clone()?, &[8; 32])?;
+    let (left, opened) = tried(alloc, file.clone()?, journal.clone()?, &[8; 32]);
     assert!(rt; left == journal && matches!(opened, Err(PagesError::Header)));
 
     // of another file
@@ -264,21 +262,21 @@ fn journals_of_others(rt: HostRuntime) -> Result<(), Fail> {
         256,
     )?;
     let (other, _) = other.into_storages();
-    let (left, opened) = tried(alloc, other.clone()?, journal.clone()?, &KEY)?;
+    let (left, opened) = tried(alloc, other.clone()?, journal.clone()?, &KEY);
     assert!(rt; left == journal && matches!(opened, Err(PagesError::Journal)));
 
     // of another file, and torn: with no more than a front it is of use to nobody
     let mut torn = journal.clone()?;
     torn.truncate(200);
-    let (left, opened) = tried(alloc, other.clone()?, torn.clone()?, &KEY)?;
+    let (left, opened) = tried(alloc, other.clone()?, torn.clone()?, &KEY);
     assert!(rt; left == torn && matches!(opened, Err(PagesError::Journal)));
     let mut front = journal.clone()?;
     front.truncate(33);
-    let (left, opened) = tried(alloc, other, front, &KEY)?;
+    let (left, opened) = tried(alloc, other, front, &KEY);
     assert!(rt; left.is_empty() && matches!(opened, Ok(0)));
 
     // of this file, and torn
-    let (left, opened) = tried(alloc, file.clone()?, torn, &KEY)?;
+    let (left, opened) = tried(alloc, file.clone()?, torn, &KEY);
     assert!(rt; left.is_empty() && matches!(opened, Ok(1000)));
 
     // of an older state of the file
@@ -287,17 +285,17 @@ fn journals_of_others(rt: HostRuntime) -> Result<(), Fail> {
     pages.commit()?;
     pages.commit()?;
     let (newer, _) = pages.into_storages();
-    let (left, opened) = tried(alloc, newer, journal.clone()?, &KEY)?;
+    let (left, opened) = tried(alloc, newer, journal.clone()?, &KEY);
     assert!(rt; left == journal && matches!(opened, Err(PagesError::Journal)));
 
     // of a file with no header, whole and torn
     let mut lost = file;
     part_mut(&mut lost, 0, 512).fill(0);
-    let (left, opened) = tried(alloc, lost.clone()?, journal.clone()?, &KEY)?;
+    let (left, opened) = tried(alloc, lost.clone()?, journal.clone()?, &KEY);
     assert!(rt; left.is_empty() && matches!(opened, Ok(1300)));
     let mut torn = journal;
     torn.truncate(200);
-    let (left, opened) = tried(alloc, lost, torn.clone()?, &KEY)?;
+    let (left, opened) = tried(alloc, lost, torn.clone()?, &KEY);
     assert!(rt; left == torn && matches!(opened, Err(PagesError::Header)));
     Ok(())
 }

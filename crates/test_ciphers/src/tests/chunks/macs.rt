@@ -35,10 +35,12 @@ fn aegis128l_of_one_byte(rt: HostRuntime) -> Result<(), Fail> {
     Ok(())
 }
 
-fn finalize_all<S: LaneState, const KEY_BYTES: usize, const TAG_BYTES: usize>(
+// Takes pieces in, one after the other, and then finalizes the MAC, or verifies it if it should be this one.
+fn take_pieces<S: LaneState, const KEY_BYTES: usize, const TAG_BYTES: usize>(
     mac: Mac<S, KEY_BYTES, TAG_BYTES>,
     pieces: &[&[u8]],
-) -> ([u8; TAG_BYTES], u64) {
+    expected: Option<&[u8; TAG_BYTES]>,
+) -> Result<([u8; TAG_BYTES], u64), Error> {
     let mut mac = mac;
     for piece in pieces {
         if mac.remaining() > piece.len() as u64 {
@@ -46,17 +48,22 @@ fn finalize_all<S: LaneState, const KEY_BYTES: usize, const TAG_BYTES: usize>(
         }
     }
     let remaining = mac.remaining();
-    (mac.finalize(), remaining)
+    if let Some(expected) = expected {
+        mac.verify(expected)?;
+        return Ok((*expected, remaining));
+    }
+    Ok((mac.finalize(), remaining))
 }
 
-// The MAC of pieces, one after the other, and what `remaining` returns after them.
-fn update_all<const TAG_BYTES: usize>(
+// The MAC of pieces, and what `remaining` returns after them; or an error if it is not the expected one.
+fn mac_of<const TAG_BYTES: usize>(
     cipher: &AnyCipher,
     pieces: &[&[u8]],
-) -> ([u8; TAG_BYTES], u64)
+    expected: Option<&[u8; TAG_BYTES]>,
+) -> Result<([u8; TAG_BYTES], u64), Error>
     requires { IsTagLength TAG_BYTES }
 {
-    with_mac!(cipher, TAG_BYTES, mac => finalize_all(mac, pieces))
+    with_mac!(cipher, TAG_BYTES, mac => take_pieces(mac, pieces, expected))
 }
 
 // Asserts a MAC, and what `remaining` returns after its input.
@@ -77,23 +84,15 @@ fn check_pieces<R: Abort + AllocGlobal, const TAG_BYTES: usize>(
 ) -> Result<(), Fail>
     requires { IsTagLength TAG_BYTES }
 {
-    let (nothing, room) = update_all::<TAG_BYTES>(cipher, &[]);
+    let (nothing, room) = mac_of::<TAG_BYTES>(cipher, &[], None)?;
     assert_eq!(rt; room, MAX_AEAD_BYTES);
-    assert_mac(
-        rt,
-        update_all(cipher, &[&[], &[]]),
-        &nothing,
-        MAX_AEAD_BYTES,
-    );
-    let (whole, room) = update_all::<TAG_BYTES>(cipher, &[&MESSAGE]);
+    let found = mac_of(cipher, &[&[], &[]], None)?;
+    assert_mac(rt, found, &nothing, MAX_AEAD_BYTES);
+    let (whole, room) = mac_of::<TAG_BYTES>(cipher, &[&MESSAGE], None)?;
     assert_eq!(rt; room, MAX_AEAD_BYTES - 114);
     let chunks = pieces(rt.alloc(), &MESSAGE, &[31, 1, 32, 0, 33])?;
-    assert_mac(
-        rt,
-        update_all(cipher, &chunks),
-        &whole,
-        MAX_AEAD_BYTES - 114,
-    );
+    let found = mac_of(cipher, &chunks, None)?;
+    assert_mac(rt, found, &whole, MAX_AEAD_BYTES - 114);
     chunks_len(&chunks).ok_or("too long")?;
     assert_bytes(
         rt,
@@ -150,37 +149,17 @@ fn clones_go_their_own_way(rt: HostRuntime) -> Result<(), Fail> {
     Ok(())
 }
 
-fn verify_message<S: LaneState, const KEY_BYTES: usize, const TAG_BYTES: usize>(
-    mac: Mac<S, KEY_BYTES, TAG_BYTES>,
-    expected: &[u8; TAG_BYTES],
-) -> Result<(), Error>
-    requires { mac.message_bytes ≡ 0 }
-{
-    let mut mac = mac;
-    mac.update(&MESSAGE);
-    mac.verify(expected)
-}
-
-fn verify<const TAG_BYTES: usize>(
-    cipher: &AnyCipher,
-    expected: &[u8; TAG_BYTES],
-) -> Result<(), Error>
-    requires { IsTagLength TAG_BYTES }
-{
-    with_mac!(cipher, TAG_BYTES, mac => verify_message(mac, expected))
-}
-
 // A MAC with any one byte changed is refused.
 fn check_verify<R: Abort, const TAG_BYTES: usize>(rt: &R, cipher: &AnyCipher) -> Result<(), Fail>
     requires { IsTagLength TAG_BYTES }
 {
-    let (right, _) = update_all::<TAG_BYTES>(cipher, &[&MESSAGE]);
-    verify(cipher, &right)?;
+    let (right, _) = mac_of::<TAG_BYTES>(cipher, &[&MESSAGE], None)?;
+    mac_of(cipher, &[&MESSAGE], Some(&right))?;
     for index in 0..TAG_BYTES {
         let mut wrong = right;
         wrong[index] ^= 1;
         assert_eq!(rt;
-            verify(cipher, &wrong),
+            mac_of(cipher, &[&MESSAGE], Some(&wrong)),
             Err(Error::InvalidTag),
             "byte {index}"
         );

@@ -9,7 +9,6 @@ use crate::tests::hostile::is_all;
 use aegis::{Error, MAX_AEAD_BYTES};
 use aegis_variants::{AnyCipher, VARIANTS};
 use std::process::Abort;
-use std::test::Fail;
 use test_tools::calls::{counting, keyed};
 use test_tools::worked::ASSOCIATED_DATA;
 
@@ -23,21 +22,22 @@ const BEHIND: usize = 6;
 const FILLER: u8 = 0x5c;
 
 // Opens in place, which leaves 0xaa.
-fn check_in_place<R: Abort + AllocGlobal, const TAG_BYTES: usize>(
+fn check_in_place<R: Abort, const TAG_BYTES: usize>(
     rt: &R,
     cipher: &AnyCipher,
     sealed: &[u8],
     tag: &[u8; TAG_BYTES],
-) -> Result<(), Fail>
+)
     requires tag { IsTagLength TAG_BYTES }
-    requires sealed { length sealed.now ≤ MAX_AEAD_BYTES }
+    requires sealed { length sealed.now ≤ 257 }
 {
-    let mut buffer = Vec::from_slice(rt.alloc(), sealed)?;
-    let refused = cipher.decrypt_in_place(&mut buffer, tag, &ASSOCIATED_DATA);
+    let mut whole = [FILLER; 263];
+    let buffer = &mut whole[..sealed.len()];
+    buffer.copy_from_slice(sealed);
+    let refused = cipher.decrypt_in_place(buffer, tag, &ASSOCIATED_DATA);
     assert_error(rt, refused.err(), Error::InvalidTag);
-    assert_eq!(rt; buffer.len(), sealed.len());
-    assert!(rt; is_all(&buffer, 0xaa));
-    Ok(())
+    assert!(rt; is_all(&whole[..sealed.len()], 0xaa));
+    assert!(rt; is_all(&whole[sealed.len()..], FILLER));
 }
 
 // Opens into a vector.
@@ -84,7 +84,7 @@ fn check_tags<R: Abort + AllocGlobal, const TAG_BYTES: usize>(
     rt: &R,
     cipher: &AnyCipher,
     message: &[u8],
-) -> Result<(), Fail>
+)
     requires tag { IsTagLength TAG_BYTES }
     requires message { length message.now ≤ 257 }
 {
@@ -95,24 +95,22 @@ fn check_tags<R: Abort + AllocGlobal, const TAG_BYTES: usize>(
     for index in 0..TAG_BYTES {
         let mut wrong = right;
         wrong[index] ^= 1;
-        check_in_place(rt, cipher, sealed, &wrong)?;
+        check_in_place(rt, cipher, sealed, &wrong);
         check_into_a_vector(rt, cipher, sealed, &wrong);
         check_in_chunks(rt, cipher, sealed, &wrong);
     }
-    Ok(())
 }
 
 // An empty message too, whose destination is unchanged.
 #[test]
-fn wrong_tags_are_refused(rt: HostRuntime) -> Result<(), Fail> {
+fn wrong_tags_are_refused(rt: HostRuntime) {
     let message: [u8; LONGEST] = counting(1);
     for variant in VARIANTS {
         let rate = variant.rate();
         for length in [0, 1, rate, 2 * rate + 1] {
             assert!(rt; length <= LONGEST);
-            check_tags::<_, 16>(&rt, &keyed(variant), &message[..length])?;
-            check_tags::<_, 32>(&rt, &keyed(variant), &message[..length])?;
+            check_tags::<_, 16>(&rt, &keyed(variant), &message[..length]);
+            check_tags::<_, 32>(&rt, &keyed(variant), &message[..length]);
         }
     }
-    Ok(())
 }
