@@ -72,6 +72,9 @@ echo 'help and the version'
 status 0 "$tool" --version
 says "^hunkravy $version$"
 says 'proved by rattle-kit'
+if command -v rt > rt-found; then
+    says "^proved by $(rt version)$"
+fi
 status 0 "$tool" -V
 status 0 "$tool" --help
 says 'Exit status'
@@ -163,9 +166,9 @@ for length in 0 10 24 28 32 65000 65601 131174 199000 200175; do
     refuses cut
 done
 status 1 "$tool" info cut
-says 'cut is cut off: at least 1 bytes are missing$'
+says 'cut is cut off, or a length in it is damaged: at least 1 bytes are missing$'
 status 1 "$tool" open -k key cut text
-says 'cut is cut off: at least 1 bytes are missing; the first 196608 bytes of the text are right$'
+says 'at least 1 bytes are missing; the first 196608 bytes of the text are right$'
 status 1 "$tool" open -k key small text
 says 'small is not a sealed file'
 for at in 0 24 28 29 33 1000 65565 65601 200000; do
@@ -426,6 +429,25 @@ for target in key key-link key-name; do
     status 3 "$tool" open --force -k key sealed "$target"
 done
 status 3 sh -c "'$tool' seal -k key small >> key"
+# Neither the key nor the input is printed into.
+cp sealed sealed-before
+status 3 sh -c "'$tool' check -k key sealed >> key"
+says 'it would be lost'
+status 3 sh -c "'$tool' check -k key sealed >> sealed"
+status 3 sh -c "'$tool' info sealed >> sealed"
+says 'is the input too'
+# Nor is the input replaced if it gets the descriptor that the output names.
+for descriptor in /dev/fd/3 /proc/self/fd/3; do
+    for part in '--length 10' '--records 0..1' '--from 5' ''; do
+        status 3 sh -c "exec 3>&-; '$tool' open --force -k key $part sealed $descriptor"
+        says 'is the input too'
+    done
+    status 3 sh -c "exec 3>&-; '$tool' rekey --force -k key -n other sealed $descriptor"
+done
+status 3 sh -c "'$tool' open --force -k key --from 5 sealed /dev/stdout >&-"
+status 0 sh -c "'$tool' check --quiet -k key sealed >> sealed"
+status 0 sh -c "'$tool' info --quiet sealed >> sealed"
+cmp sealed sealed-before
 cmp key key-before
 # A link that leads to the key while the input is waited for.
 mkfifo late

@@ -18,7 +18,7 @@
  * - A decryption that is refused returns -1 and leaves zeros in the place of the message; if `m` is null, a
  *   decryption verifies the tag and writes nothing.
  * - On a wrong length a call returns -1 and writes nothing. errno is then EINVAL, or ERANGE for too little room
- *   in the form with `written`.
+ *   in the form with `written`. It is not set if `clen` is less than `maclen`.
  * - In NAME_stream and NAME_mac_init a null nonce stands for one of zeros.
  * - Never use what NAME_state_decrypt_update writes before NAME_state_decrypt_final has returned 0, and never
  *   encrypt two messages with the same key and nonce.

@@ -118,7 +118,8 @@ HUNKRAVY_MUST_USE int hunkravy_encrypt_combined(uint32_t variant, uint8_t *c, co
 
 /*
  * As hunkravy_decrypt, with the tag after the ciphertext: `clen` bytes at `c` in all, and `clen - maclen` at `m`. If
- * `clen` is less than `maclen`, there is no tag: it returns HUNKRAVY_INVALID_TAG, and writes nothing.
+ * `clen` is less than `maclen`, and the other lengths are right, there is no tag: it returns HUNKRAVY_INVALID_TAG, and
+ * writes nothing.
  */
 HUNKRAVY_MUST_USE int hunkravy_decrypt_combined(uint32_t variant, uint8_t *m, const uint8_t *c, size_t clen,
     const uint8_t *ad, size_t adlen, const uint8_t *npub, size_t npublen, const uint8_t *k, size_t klen,

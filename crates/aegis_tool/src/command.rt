@@ -75,11 +75,7 @@ pub enum Action<'a> {
         paths: Transfer<'a>,
     },
     Check(Transfer<'a>),
-    Info {
-        input: Place<'a>,
-        /// Whether only errors are printed.
-        quiet: bool,
-    },
+    Info(Transfer<'a>),
     /// Prints the manual page, or the completions for a shell.
     Manual {
         form: &'a str,
@@ -147,6 +143,14 @@ fn quiet_argument<'a>(alloc: Global) -> Arg<'a> {
         .help("Print nothing but errors")
 }
 
+// Adds the arguments that name a part of the text.
+fn with_part<'a>(alloc: Global, command: Command<'a>) -> Result<Command<'a>, AllocError> {
+    command
+        .arg(from_argument(alloc))?
+        .arg(length_argument(alloc))?
+        .arg(records_argument(alloc)?)
+}
+
 fn keygen<'a>(alloc: Global) -> Result<Command<'a>, AllocError> {
     Command::new(alloc, "keygen")
         .about("Draws a key at random")
@@ -172,11 +176,8 @@ fn seal<'a>(alloc: Global) -> Result<Command<'a>, AllocError> {
 fn open<'a>(alloc: Global) -> Result<Command<'a>, AllocError> {
     let command = Command::new(alloc, "open")
         .about("Opens a sealed file, or a part of it")
-        .arg(key_argument(alloc))?
-        .arg(from_argument(alloc))?
-        .arg(length_argument(alloc))?
-        .arg(records_argument(alloc)?)?;
-    with_files(alloc, command)
+        .arg(key_argument(alloc))?;
+    with_files(alloc, with_part(alloc, command)?)
 }
 
 fn rekey<'a>(alloc: Global) -> Result<Command<'a>, AllocError> {
@@ -311,10 +312,7 @@ pub fn parse<'a>(matches: &ArgMatches<'a>) -> Option<Action<'a>> {
             paths: transfer_of(found),
         }),
         "check" => Some(Action::Check(transfer_of(found))),
-        "info" => Some(Action::Info {
-            input: place_of(found, "IN"),
-            quiet: found.get_flag("quiet"),
-        }),
+        "info" => Some(Action::Info(transfer_of(found))),
         "manual" => Some(Action::Manual {
             form: name(found, "FORM"),
         }),

@@ -21,7 +21,7 @@ pub enum Failure<'a> {
     NoRecord(Name<'a>, Verified),
     #[error("{0} is cut off{1}")]
     Truncated(Name<'a>, Verified),
-    #[error("{0} is cut off: at least {2} bytes are missing{1}")]
+    #[error("{0} is cut off, or a length in it is damaged: at least {2} bytes are missing{1}")]
     Missing(Name<'a>, Verified, u64),
     #[error("{0} goes on after the end of its sealed file")]
     Trailing(Name<'a>),

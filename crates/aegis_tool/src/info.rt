@@ -1,7 +1,8 @@
 //! What can be seen of a sealed file without its key.
 
-use crate::command::Place;
+use crate::command::{Place, Transfer};
 use crate::failure::{Failure, printed};
+use crate::output::refuse_inputs;
 use crate::shown::{Name, Verified};
 use aegis::record::{RECORD_BYTES, RECORD_HEAD_BYTES, RecordError, RecordOpener};
 use aegis_files::{FileError, fill};
@@ -96,9 +97,13 @@ pub fn with_missing<'a>(rt: &HostRuntime, failure: Failure<'a>, input: Place<'a>
     }
 }
 
-/// Prints the number of records and of bytes of text of a sealed file, if it consists of whole records, or nothing if
-/// `quiet`. No tag is verified.
-pub fn info<'a>(rt: &HostRuntime, input: Place<'a>, quiet: bool) -> Result<(), Failure<'a>> {
+/// Prints the number of records and of bytes of text of a sealed file, if it consists of whole records. No tag is
+/// verified.
+pub fn info<'a>(rt: &HostRuntime, paths: Transfer<'a>) -> Result<(), Failure<'a>> {
+    if !paths.quiet {
+        refuse_inputs(rt, paths, &[])?;
+    }
+    let input = paths.input;
     let seen = match input {
         Place::File(name) => outline_of_file(rt, name)?,
         _ => match outline_of(&mut rt.stdin()) {
@@ -114,7 +119,7 @@ pub fn info<'a>(rt: &HostRuntime, input: Place<'a>, quiet: bool) -> Result<(), F
     if seen.missing > 0 {
         return Err(Failure::Missing(input.input_name(), Verified(None), seen.missing));
     }
-    if quiet {
+    if paths.quiet {
         return Ok(());
     }
     printed(println!(rt;

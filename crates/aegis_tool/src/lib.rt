@@ -34,7 +34,7 @@ fn act<'a>(rt: &HostRuntime, action: Option<Action<'a>>) -> Result<(), Stopped<'
             transfer::rekey(rt, new_key, quieted(rt, paths))
         }
         Some(Action::Check(paths)) => Ok(transfer::check(rt, paths)?),
-        Some(Action::Info { input, quiet }) => Ok(info::info(rt, input, quiet)?),
+        Some(Action::Info(paths)) => Ok(info::info(rt, paths)?),
         Some(Action::Manual { form }) => Ok(manual::print(rt, form)?),
         None => Err(Stopped::from(Failure::NoCommand)),
     }

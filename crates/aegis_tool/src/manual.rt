@@ -25,10 +25,10 @@ const EXAMPLES: [(&str, &str); 8] = [
     ("", "hunkravy check -k backup.key backup.sealed"),
     ("", "hunkravy open -k backup.key backup.sealed restored.tar"),
     (
-        "A backup to a pipe and back",
-        "tar -c docs | hunkravy seal -k backup.key > docs.sealed",
+        "A backup by a pipe, in a shell with set -o pipefail",
+        "tar -c docs | hunkravy seal -k backup.key - docs.sealed",
     ),
-    ("", "hunkravy open -k backup.key docs.sealed | tar -x"),
+    ("", "hunkravy open -k backup.key docs.sealed docs.tar"),
     (
         "A part of a file",
         "hunkravy open -k backup.key --from 1000000 --length 512 docs.sealed part",
@@ -44,15 +44,19 @@ const STATUSES: [(u8, &str); 4] = [
     (0, "all went well"),
     (1, "a sealed file is rejected, or the part is not in it"),
     (2, "the command line is not understood"),
-    (3, "I/O error, out of memory, or a file that is no key"),
+    (
+        3,
+        "any other failure: I/O, memory, no key, or an OUT that is rejected",
+    ),
 ];
 
 // What is said of files, a line for each.
-const FILES: [&str; 7] = [
+const FILES: [&str; 8] = [
     "Outputs get mode 0600. File names must be UTF-8.",
     "OUT is written as .OUT.hunkravy- and 16 hexadecimal digits beside it, and gets",
     "its name once it is complete. A run that is interrupted leaves that file. It may",
-    "hold plaintext, and may be deleted. Only --force replaces a file that exists.",
+    "hold plaintext; delete it once no run writes it. Only --force replaces a file.",
+    "seal cannot see that a command before a pipe failed.",
     "A key file has 64 hexadecimal digits and a line feed.",
     "On standard output a text is written as it is opened: use it only if the exit",
     "status is 0.",

@@ -4,7 +4,7 @@
 //! at random. It is created there, synced, and linked to the name OUT, which fails if there is such a file by then; to
 //! replace one it is renamed. Then the folder is synced. So OUT is the complete file, or as it was before, and no file
 //! that another created is opened, removed or replaced, but OUT by `--force`. If OUT is a link, all this happens beside
-//! the file that it leads to. A device, a pipe or a socket is written directly.
+//! the file that it leads to. A device or a pipe is written directly.
 //!
 //! No output has one of the three standard descriptors, which are free if the caller has closed them: a message would
 //! be written into it. `try_clone` takes the lowest descriptor after those.
@@ -98,7 +98,7 @@ pub fn refuse_inputs<'a>(
     Ok(())
 }
 
-/// Returns whether the output is a terminal.
+/// Returns whether the output is a terminal, or names a character device, as terminals are.
 pub fn is_terminal(rt: &HostRuntime, output: Place<'_>) -> bool {
     match output {
         Place::File(name) => match fs::metadata(rt, name) {
@@ -137,7 +137,7 @@ pub fn refuse_terminal<'a>(rt: &HostRuntime, output: Place<'a>) -> Result<(), Fa
 /// An output file that is open.
 #[derive(Drop)]
 pub enum Target<'a> {
-    /// A device, a pipe or a socket.
+    /// A device or a pipe.
     Direct(File),
     Part(Part<'a>),
 }
@@ -147,7 +147,7 @@ pub enum Target<'a> {
 enum Found {
     Nothing,
     File(Identity),
-    // A device, a pipe or a socket.
+    // A device or a pipe, or a socket, which cannot be opened.
     Stream,
 }
 
@@ -200,7 +200,7 @@ fn target_of<'a>(rt: &HostRuntime, name: &'a str, found: Found) -> Result<String
     }
 }
 
-// Opens a device, a pipe or a socket. It is an error if a file has taken its place.
+// Opens a device or a pipe. It is an error if a file has taken its place.
 fn open_stream<'a>(rt: &HostRuntime, name: &'a str) -> Result<File, Failure<'a>> {
     let failed = |error| Failure::Output(Name(name), error);
     let opened = OpenOptions::new()

@@ -160,6 +160,21 @@ fn length_of(file: &File) -> Option<u64> {
     }
 }
 
+// Opens an input of this name. A named output may lead elsewhere then: that may have taken long, if it is a pipe, or it
+// has the descriptor that the output names.
+fn open_input<'a>(
+    rt: &HostRuntime,
+    name: &'a str,
+    paths: Transfer<'a>,
+    keys: &[&KeyFile<'a>],
+) -> Result<File, Failure<'a>> {
+    let file = File::open(rt, name).map_err(|error| Failure::Input(Name(name), error))?;
+    if let Place::File(_) = paths.output {
+        refuse_inputs(rt, paths, keys)?;
+    }
+    Ok(file)
+}
+
 // Carries out a task on the input and the output that the paths name. No progress is shown in an output on a terminal.
 fn transfer<'a>(
     rt: &HostRuntime,
@@ -170,11 +185,7 @@ fn transfer<'a>(
     let quiet = paths.quiet || is_terminal(rt, paths.output);
     match paths.input {
         Place::File(name) => {
-            let file = File::open(rt, name).map_err(|error| Failure::Input(Name(name), error))?;
-            // That may have taken long, if it is a pipe, and a named output may lead elsewhere now.
-            if let Place::File(_) = paths.output {
-                refuse_inputs(rt, paths, keys)?;
-            }
+            let file = open_input(rt, name, paths, keys)?;
             let shown = display(rt, quiet, length_of(&file));
             let mut input = Counted::new(file, shown);
             let written = write_to(rt, task, paths, &mut input);
@@ -227,7 +238,7 @@ pub fn open_part<'a>(rt: &HostRuntime, span: Span, paths: Transfer<'a>) -> Resul
     let Place::File(name) = paths.input else {
         return Err(Stopped::from(Failure::NoFile));
     };
-    let mut file = File::open(rt, name).map_err(|error| Failure::Input(Name(name), error))?;
+    let mut file = open_input(rt, name, paths, &[&key])?;
     match start_of(&mut file, span) {
         Ok(start) => {
             let key = key.key;
@@ -271,9 +282,11 @@ fn check_from<'a, R: Read>(
 
 /// Opens a sealed file without writing its text, and prints how many bytes it has.
 pub fn check<'a>(rt: &HostRuntime, paths: Transfer<'a>) -> Result<(), Failure<'a>> {
-    let task = Task::Open {
-        key: key::read(rt, paths.key, paths.quiet)?.key,
-    };
+    let key = key::read(rt, paths.key, paths.quiet)?;
+    if !paths.quiet {
+        refuse_inputs(rt, paths, &[&key])?;
+    }
+    let task = Task::Open { key: key.key };
     let text_bytes = match paths.input {
         Place::File(name) => {
             let file = File::open(rt, name).map_err(|error| Failure::Input(Name(name), error))?;

@@ -128,7 +128,7 @@ impl<A: Algorithm, R: RafRng, J: JournalChoice> RafBuilder<A, R, J> {
     /// # Errors
     ///
     /// Those of [`create`](Self::create). If one of them says that nothing was changed, a file that was there is as it was, and
-    /// there is no new one.
+    /// there is no new one, unless a journal or another name of the file appeared just after it was made: it is then empty.
     pub fn create_file(
         mut self,
         path: impl AsRef<Path>,

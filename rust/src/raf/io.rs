@@ -3,9 +3,9 @@
 use super::{Error, Result};
 use alloc::vec::Vec;
 use std::ffi::OsString;
-use std::fs::{self, File, Metadata, OpenOptions};
+use std::fs::{self, File, Metadata, OpenOptions, Permissions};
 use std::io;
-use std::os::unix::fs::{FileExt, MetadataExt};
+use std::os::unix::fs::{FileExt, MetadataExt, OpenOptionsExt, PermissionsExt, fchown};
 use std::path::{Path, PathBuf};
 
 /// Bytes that are read and written at any place.
@@ -187,9 +187,11 @@ impl RafIo for NoJournal {
 
 /// The journal of a file at a path: a file beside it, whose name has `.journal` after that of the file. There is one only
 /// while a commit is written, and after one that was cut short. Symbolic links are followed, so that a file has one journal by
-/// whichever of them it is named. A journal that is itself a link, or no file, or has other names (hard links), is refused,
-/// with [`io::ErrorKind::InvalidData`], and nothing is changed. A file of that name with up to 33 bytes may be what a crash
-/// has left of a journal: opening removes it, whatever it holds.
+/// whichever of them it is named. It gets the mode of the file, and its owner and group where the system allows it, so that
+/// whoever may write the file can complete a commit that was cut short. A journal that is itself a link, or no file, or has
+/// other names (hard links), or that someone may write who may not write the file, is refused, with
+/// [`io::ErrorKind::InvalidData`], and nothing is changed. A file of that name with up to 33 bytes may be what a crash has
+/// left of a journal: opening removes it, whatever it holds.
 ///
 /// If there is no path, as for a storage in memory, it is as [`NoJournal`].
 #[derive(Debug)]
@@ -218,8 +220,7 @@ impl JournalFile {
             options.read(true).write(true);
             self.file = match journal_at(path)? {
                 Some(found) => Some(open_same(&options, path, &found)?),
-                // It follows no link.
-                None if create => Some(options.create_new(true).open(path)?),
+                None if create => Some(new_journal(&mut options, path)?),
                 None => None,
             };
         }
@@ -237,18 +238,57 @@ fn open_same(options: &OpenOptions, path: &Path, found: &Metadata) -> io::Result
     }
 }
 
-/// Returns what is at the path of a journal. An error if it is no file, or one that has other names too.
+/// Returns what is at the path of a journal. An error if it is no file, or one that has other names too, or that someone
+/// may write who may not write the file of the journal.
 fn journal_at(path: &Path) -> io::Result<Option<Metadata>> {
-    match found_at(path)? {
-        Some(found) if !found.is_file() || found.nlink() > 1 => Err(no_journal()),
-        found => Ok(found),
+    let Some(found) = found_at(path)? else {
+        return Ok(None);
+    };
+    let of = found_at(&file_of(path))?;
+    if found.is_file() && found.nlink() == 1 && of.is_none_or(|of| is_as_safe(&found, &of)) {
+        Ok(Some(found))
+    } else {
+        Err(no_journal())
     }
+}
+
+/// The path of the file that a journal is of.
+fn file_of(journal: &Path) -> PathBuf {
+    journal.with_extension("")
+}
+
+const GROUP: u32 = 0o060;
+const GROUP_WRITES: u32 = 0o020;
+const OTHERS_WRITE: u32 = 0o002;
+
+/// Returns whether nobody may write a journal, as its owner or by its mode, who may not write its file.
+fn is_as_safe(journal: &Metadata, of: &Metadata) -> bool {
+    let is_groups = journal.gid() == of.gid();
+    let group_may = is_groups && of.mode() & GROUP_WRITES != 0;
+    let others_may = of.mode() & OTHERS_WRITE != 0;
+    (journal.uid() == of.uid() || journal.uid() == 0 || group_may || others_may)
+        && (journal.mode() & GROUP_WRITES == 0 || group_may || others_may)
+        && (journal.mode() & OTHERS_WRITE == 0 || others_may)
+}
+
+/// Makes a journal, which follows no link. Whoever may write its file may complete its commit: it has the owner, the group and
+/// the mode of the file, as far as the system lets them be set.
+fn new_journal(options: &mut OpenOptions, path: &Path) -> io::Result<File> {
+    let of = fs::symlink_metadata(file_of(path))?;
+    let file = options.create_new(true).mode(0o600).open(path)?;
+    if fchown(&file, Some(of.uid()), Some(of.gid())).is_err() {
+        let _ = fchown(&file, None, Some(of.gid()));
+    }
+    let is_groups = file.metadata()?.gid() == of.gid();
+    let mode = of.mode() & if is_groups { 0o666 } else { 0o666 & !GROUP };
+    let _ = file.set_permissions(Permissions::from_mode(mode));
+    Ok(file)
 }
 
 fn no_journal() -> io::Error {
     io::Error::new(
         io::ErrorKind::InvalidData,
-        "what is at the path of the journal is no file, or has other names",
+        "what is at the path of the journal is no file, has other names, or may be written by others than the file",
     )
 }
 
@@ -391,9 +431,10 @@ pub(super) fn read_all(io: &mut impl RafIo) -> io::Result<Vec<u8>> {
 
 #[cfg(test)]
 mod tests {
-    use super::{FileIo, JournalFile, RafIo, sync_folder};
+    use super::{FileIo, JournalFile, RafIo, sync_folder, with_journal};
     use alloc::format;
-    use std::fs::File;
+    use std::fs::{self, File, Permissions};
+    use std::os::unix::fs::{PermissionsExt, chown};
     use std::path::Path;
 
     /// A device, which the system can neither sync nor cut: so each of these calls reaches the system.
@@ -411,6 +452,34 @@ mod tests {
         journal.file = Some(device());
         assert!(journal.sync().is_err() && journal.set_size(0).is_err());
         assert!(sync_folder(Path::new("/proc/file")).is_err());
+    }
+
+    /// A journal gets the mode of its file, and is refused if others may write it, or it is another user's.
+    #[test]
+    fn modes() {
+        let path = std::env::temp_dir().join(format!("hunkravy-modes-{}", std::process::id()));
+        let at = with_journal(&path);
+        let open = |create| JournalFile::at(Some(at.clone())).open(create).map(|_| ());
+        let set = |mode| fs::set_permissions(&at, Permissions::from_mode(mode)).unwrap();
+        for mode in [0o600, 0o644, 0o666] {
+            let file = File::create(&path).unwrap();
+            file.set_permissions(Permissions::from_mode(mode)).unwrap();
+            open(true).unwrap();
+            assert_eq!(at.metadata().unwrap().permissions().mode() & 0o777, mode);
+            open(false).unwrap();
+            let is_shared = mode == 0o666;
+            for of_others in [0o602, 0o620] {
+                set(of_others);
+                assert_eq!(open(false).is_ok(), is_shared, "{mode:o} {of_others:o}");
+            }
+            set(0o600);
+            // Only root can give it to another user.
+            if chown(&at, Some(65534), None).is_ok() {
+                assert_eq!(open(false).is_ok(), is_shared, "{mode:o}");
+            }
+            fs::remove_file(&at).unwrap();
+        }
+        fs::remove_file(&path).unwrap();
     }
 
     /// The name of a new file is synced with it, once.
