@@ -434,7 +434,7 @@ mod tests {
     use super::{FileIo, JournalFile, RafIo, sync_folder, with_journal};
     use alloc::format;
     use std::fs::{self, File, Permissions};
-    use std::os::unix::fs::{PermissionsExt, chown};
+    use std::os::unix::fs::{MetadataExt, PermissionsExt, chown};
     use std::path::Path;
 
     /// A device, which the system can neither sync nor cut: so each of these calls reaches the system.
@@ -454,7 +454,7 @@ mod tests {
         assert!(sync_folder(Path::new("/proc/file")).is_err());
     }
 
-    /// A journal gets the mode of its file, and is refused if others may write it, or it is another user's.
+    /// A journal gets the mode and the owner of its file, and is refused if others may write it, or it is another user's.
     #[test]
     fn modes() {
         let path = std::env::temp_dir().join(format!("hunkravy-modes-{}", std::process::id()));
@@ -464,8 +464,11 @@ mod tests {
         for mode in [0o600, 0o644, 0o666] {
             let file = File::create(&path).unwrap();
             file.set_permissions(Permissions::from_mode(mode)).unwrap();
+            // Only root can give files to another user.
+            let _ = chown(&path, Some(65533), None);
             open(true).unwrap();
-            assert_eq!(at.metadata().unwrap().permissions().mode() & 0o777, mode);
+            let (made, of) = (at.metadata().unwrap(), path.metadata().unwrap());
+            assert_eq!((made.mode() & 0o777, made.uid()), (mode, of.uid()));
             open(false).unwrap();
             let is_shared = mode == 0o666;
             for of_others in [0o602, 0o620] {
@@ -473,7 +476,6 @@ mod tests {
                 assert_eq!(open(false).is_ok(), is_shared, "{mode:o} {of_others:o}");
             }
             set(0o600);
-            // Only root can give it to another user.
             if chown(&at, Some(65534), None).is_ok() {
                 assert_eq!(open(false).is_ok(), is_shared, "{mode:o}");
             }
