@@ -4,6 +4,7 @@ from __future__ import annotations
 
 import ctypes
 import threading
+from copy import deepcopy
 from typing import TYPE_CHECKING, Any, Optional
 
 from . import _library as library
@@ -79,18 +80,28 @@ class Mac(variants.Variant, library.Secret):
             )
 
     def copy(self) -> Mac:
-        """Returns a MAC that has taken in the same input."""
+        """Returns a MAC that has taken in the same input.
+
+        It has the attributes of a subclass too, but for those in slots.
+        """
         other = type(self).__new__(type(self))
         other.digest_size = self.digest_size
         other._lock = threading.RLock()
         with self._lock:
             other._state = library.State.from_buffer_copy(self._state)
+        if hasattr(self, "__dict__"):
+            other.__dict__.update(self.__dict__)
         return other
 
     __copy__ = copy
 
     def __deepcopy__(self, memo: dict[int, Any]) -> Mac:
-        return self.copy()
+        other = self.copy()
+        # An attribute may lead back to the MAC.
+        memo[id(self)] = other
+        if hasattr(self, "__dict__"):
+            other.__dict__.update(deepcopy(self.__dict__, memo))
+        return other
 
 
 class Aegis128LMac(variants.Aegis128L, Mac):

@@ -3,11 +3,13 @@
 import os
 import subprocess
 import sys
+import threading
 import unittest
 from types import FrameType
-from typing import Any, Callable
+from typing import Any, Callable, Union
+from unittest import mock
 
-from hunkravy import Aegis256, Decryptor, Encryptor, InvalidTag
+from hunkravy import Aegis256, Decryptor, Encryptor, InvalidTag, _library, _states
 
 CIPHER, NONCE = Aegis256(bytes(32)), bytes(32)
 MESSAGE = bytes(range(100))
@@ -61,6 +63,185 @@ def times(call: Callable[[int], bool]) -> int:
     while call(number + 1):
         number += 1
     return number
+
+
+def interrupt(*_arguments: object) -> None:
+    raise Interrupt
+
+
+class Waiting:
+    """A lock that another thread has: who waits for it is interrupted."""
+
+    __enter__ = interrupt
+
+    def __exit__(self, *_arguments: object) -> None:
+        pass
+
+    def acquire(self, blocking: bool = True) -> bool:
+        if blocking:
+            raise Interrupt
+        return False
+
+
+class HandsOver:
+    """A lock that another thread's call gets when it is released first, before the thread that had it goes on."""
+
+    def __init__(self, lock: Any, *calls: Callable[[], object]) -> None:
+        self.lock, self.calls = lock, list(calls)
+        self.acquire, self.release = lock.acquire, lock.release
+
+    def __enter__(self) -> None:
+        self.acquire()
+
+    def __exit__(self, *_arguments: object) -> None:
+        self.release()
+        if self.calls:
+            in_a_thread(self.calls.pop())
+
+
+def in_a_thread(call: Callable[[], object]) -> None:
+    """Calls in another thread, and waits until it has returned, or was interrupted."""
+
+    def called() -> None:
+        try:
+            call()
+        except Interrupt:
+            pass
+
+    thread = threading.Thread(target=called)
+    thread.start()
+    thread.join()
+
+
+Message = Union[Encryptor, Decryptor]
+
+
+class Ends(unittest.TestCase):
+    """An exception in a call ends the message for ever, and what is kept is overwritten."""
+
+    def begun(self) -> "list[tuple[Message, Callable[[], object]]]":
+        """An encryptor and a decryptor that have taken in a message, and the last call of each."""
+        encryptor, decryptor = CIPHER.encryptor(NONCE), CIPHER.decryptor(NONCE)
+        encryptor.update(MESSAGE)
+        decryptor.update(SEALED[:100])
+        return [(encryptor, encryptor.finalize), (decryptor, lambda: decryptor.finalize(SEALED[100:]))]
+
+    def has_ended(self, message: Message, last: Callable[[], object], kept: "list[bytearray]") -> None:
+        found = b"".join([bytes(message._state), *kept])
+        for call in (lambda: message.update(b"more"), lambda: message.update(b""), last):
+            with self.assertRaisesRegex(RuntimeError, "the message has ended"):
+                call()
+        self.assertEqual(found, bytes(len(found)))
+
+    def test_at_each_place(self) -> None:
+        """Number 1 is the call itself, of which nothing has run."""
+        for which in (0, 1):
+            for is_last in (False, True):
+
+                def one(number: int) -> bool:
+                    message, last = self.begun()[which]
+                    kept = list(getattr(message, "_message", []))
+                    call = last if is_last else lambda: message.update(bytes(30))
+                    is_interrupted = interrupted(call, number)
+                    if is_interrupted:
+                        self.has_ended(message, last, kept)
+                    return is_interrupted
+
+                self.assertGreater(times(lambda number: one(number + 1)), 2)
+
+    def test_while_the_arguments_are_copied(self) -> None:
+        for which in (0, 1):
+            for is_last in (False, True):
+                message, last = self.begun()[which]
+                kept = list(getattr(message, "_message", []))
+                with mock.patch.object(_states, "bytearray", interrupt, create=True):
+                    with mock.patch.object(_library, "exactly", interrupt):
+                        with self.assertRaises(Interrupt):
+                            last() if is_last else message.update(b"a chunk")
+                self.has_ended(message, last, kept)
+
+    def test_while_it_waits_for_another_thread(self) -> None:
+        for which in (0, 1):
+            for is_last in (False, True):
+                message, last = self.begun()[which]
+                kept = list(getattr(message, "_message", []))
+                lock = message._lock
+                name = ("state_encrypt_in_place", "state_decrypt_in_place_unverified")[which]
+                work = getattr(_library, name)
+
+                def meanwhile(*arguments: Any) -> Any:
+                    message._lock = Waiting()
+                    in_a_thread(last if is_last else lambda: message.update(b"a chunk"))
+                    message._lock = lock
+                    return work(*arguments)
+
+                with mock.patch.object(_library, name, meanwhile):
+                    message.update(bytes(30))
+                self.has_ended(message, last, kept)
+
+    def test_while_another_thread_waits(self) -> None:
+        """It does not go on with the message, though it has the lock before the exception has left the call."""
+        for which in (0, 1):
+            message, last = self.begun()[which]
+            refused = []
+
+            def other() -> None:
+                with self.assertRaises(RuntimeError):
+                    message.update(b"a chunk")
+                refused.append(True)
+
+            message._lock = HandsOver(message._lock, other)
+            name = ("state_encrypt_in_place", "state_decrypt_in_place_unverified")[which]
+            with mock.patch.object(_library, name, mock.Mock(side_effect=[Interrupt, 0])):
+                with self.assertRaises(Interrupt):
+                    message.update(b"a chunk")
+            self.assertEqual(refused, [True])
+            self.has_ended(message, last, [])
+
+    def test_an_unverified_chunk(self) -> None:
+        """A chunk of a message, as it was decrypted, is overwritten if the call is interrupted then."""
+        places = []
+
+        def copied(data: memoryview) -> bytearray:
+            places.append(bytearray(data))
+            return places[-1]
+
+        def decrypted(*arguments: Any) -> None:
+            work(*arguments)
+            self.assertEqual(places, [MESSAGE[:30]])
+            raise Interrupt
+
+        decryptor, work = CIPHER.decryptor(NONCE), _library.state_decrypt_in_place_unverified
+        with mock.patch.object(_states, "bytearray", copied, create=True):
+            with mock.patch.object(_library, "state_decrypt_in_place_unverified", decrypted):
+                with self.assertRaises(Interrupt):
+                    decryptor.update(SEALED[:30])
+        self.assertEqual(places, [bytes(30)])
+
+    def test_a_handler_that_is_refused(self) -> None:
+        """A call in the middle of another one in the same thread does not overwrite the other's state."""
+        encryptor = CIPHER.encryptor(NONCE)
+        work = _library.state_encrypt_in_place
+
+        def handled(*arguments: Any) -> Any:
+            with self.assertRaises(RuntimeError):
+                encryptor.update(b"a chunk")
+            return work(*arguments)
+
+        with mock.patch.object(_library, "state_encrypt_in_place", handled):
+            self.assertEqual(encryptor.update(MESSAGE), SEALED[:100])
+        self.has_ended(encryptor, encryptor.finalize, [])
+
+    def test_a_wrong_argument(self) -> None:
+        for which in (0, 1):
+            message, last = self.begun()[which]
+            with self.assertRaises(TypeError):
+                message.update("text")  # type: ignore[arg-type]
+            self.has_ended(message, last, [])
+        decryptor, last = self.begun()[1]
+        with self.assertRaises(ValueError):
+            decryptor.finalize(b"short")  # type: ignore[call-arg]
+        self.has_ended(decryptor, last, [])
 
 
 class Interrupts(unittest.TestCase):

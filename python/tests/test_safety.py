@@ -151,6 +151,22 @@ class Copies(unittest.TestCase):
             del other
             self.assertEqual(mac.digest(), Aegis256Mac(KEY, b"the other input", tag_length=16).digest())
 
+    def test_attributes_of_a_subclass(self) -> None:
+        class Labelled(Aegis256Mac):
+            def __init__(self) -> None:
+                super().__init__(KEY)
+                self.labels, self.itself = ["a label"], self
+
+        mac = Labelled()
+        for copied in (mac.copy(), copy.copy(mac), copy.deepcopy(mac)):
+            assert isinstance(copied, Labelled)
+            self.assertEqual(copied.labels, ["a label"])
+            self.assertEqual(copied.digest(), mac.digest())
+        self.assertIs(copy.copy(mac).labels, mac.labels)
+        deep = copy.deepcopy(mac)
+        self.assertIsNot(deep.labels, mac.labels)
+        self.assertIs(deep.itself, deep)
+
     def test_nothing_else_is_copied_or_pickled(self) -> None:
         copiers: list[Callable[[Any], Any]] = [copy.copy, copy.deepcopy]
         secrets: list[Any] = [CIPHER, CIPHER.encryptor(NONCE), CIPHER.decryptor(NONCE), State()]
@@ -210,6 +226,13 @@ class Memory(unittest.TestCase):
         decryptor, chunks = self.decrypted()
         del decryptor
         self.zeros(*chunks)
+
+    def test_empty_chunks_are_not_kept(self) -> None:
+        decryptor = CIPHER.decryptor(NONCE)
+        for _ in range(3):
+            decryptor.update(b"")
+        self.assertEqual(decryptor._message, [])
+        self.assertEqual(decryptor.finalize(CIPHER.encrypt(NONCE, b"")), b"")
 
     def test_states(self) -> None:
         mac = Aegis256Mac(KEY)
