@@ -168,7 +168,13 @@ done
 status 1 "$tool" info cut
 says 'cut is cut off, or a length in it is damaged: at least 1 bytes are missing$'
 status 1 "$tool" open -k key cut text
-says 'at least 1 bytes are missing; the first 196608 bytes of the text are right$'
+says 'cut is cut off; the first 196608 bytes of the text are right$'
+# A pipe is read once.
+mkfifo broken
+cat cut > broken &
+status 1 timeout 20 "$tool" open -k key broken text
+says 'broken is cut off; the first 196608 bytes of the text are right$'
+rm broken
 status 1 "$tool" open -k key small text
 says 'small is not a sealed file'
 for at in 0 24 28 29 33 1000 65565 65601 200000; do
@@ -942,6 +948,8 @@ for command in 'check -k key vast' 'open -k key vast -' 'open -k key --from 1 va
 done
 
 echo 'names that a terminal acts on'
+status 2 "$tool" check -k key sealed $'one\u202etoo many'
+says 'one\\u{202e}too many'
 name=$'no\033[2J\u009b2Jsuch'
 status 3 "$tool" check -k key "$name"
 says 'no\\u{1b}\[2J\\u{9b}2Jsuch cannot be read'

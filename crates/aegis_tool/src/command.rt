@@ -190,7 +190,7 @@ fn rekey<'a>(alloc: Global) -> Result<Command<'a>, AllocError> {
 
 fn check<'a>(alloc: Global) -> Result<Command<'a>, AllocError> {
     Command::new(alloc, "check")
-        .about("Opens a sealed file and writes nothing")
+        .about("Opens a sealed file without writing its text")
         .arg(key_argument(alloc))?
         .arg(quiet_argument(alloc))?
         .arg(input_argument(alloc))

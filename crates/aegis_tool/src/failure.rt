@@ -21,8 +21,8 @@ pub enum Failure<'a> {
     NoRecord(Name<'a>, Verified),
     #[error("{0} is cut off{1}")]
     Truncated(Name<'a>, Verified),
-    #[error("{0} is cut off, or a length in it is damaged: at least {2} bytes are missing{1}")]
-    Missing(Name<'a>, Verified, u64),
+    #[error("{0} is cut off, or a length in it is damaged: at least {1} bytes are missing")]
+    Missing(Name<'a>, u64),
     #[error("{0} goes on after the end of its sealed file")]
     Trailing(Name<'a>),
     #[error("{0} is longer than a sealed file may be")]

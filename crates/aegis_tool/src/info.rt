@@ -86,17 +86,6 @@ fn outline_of_file<'a>(rt: &HostRuntime, name: &'a str) -> Result<Outline, Failu
     }
 }
 
-/// Returns the failure, with how many bytes are missing in a file that is cut off.
-pub fn with_missing<'a>(rt: &HostRuntime, failure: Failure<'a>, input: Place<'a>) -> Failure<'a> {
-    let (Failure::Truncated(name, verified), Place::File(file)) = (&failure, input) else {
-        return failure;
-    };
-    match outline_of_file(rt, file) {
-        Ok(seen) if seen.missing > 0 => Failure::Missing(*name, *verified, seen.missing),
-        _ => failure,
-    }
-}
-
 /// Prints the number of records and of bytes of text of a sealed file, if it consists of whole records. No tag is
 /// verified.
 pub fn info<'a>(rt: &HostRuntime, paths: Transfer<'a>) -> Result<(), Failure<'a>> {
@@ -117,7 +106,7 @@ pub fn info<'a>(rt: &HostRuntime, paths: Transfer<'a>) -> Result<(), Failure<'a>
         },
     };
     if seen.missing > 0 {
-        return Err(Failure::Missing(input.input_name(), Verified(None), seen.missing));
+        return Err(Failure::Missing(input.input_name(), seen.missing));
     }
     if paths.quiet {
         return Ok(());

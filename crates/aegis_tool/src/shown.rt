@@ -31,17 +31,16 @@ impl fmt::Display for Verified {
     }
 }
 
-/// The text of a message of several lines. Its control characters but line feeds are escaped.
+/// The text of a message of several lines, each with its characters escaped as those of a name.
 #[derive(Clone, Copy, Debug)]
 pub struct Lines<'a>(pub &'a str);
 
 impl fmt::Display for Lines<'_> {
     fn fmt<W: fmt::Write>(&self, f: &mut fmt::Formatter<W>) -> fmt::Result {
         for character in self.0.chars() {
-            if character.is_control() && character != '\n' {
-                write!(f, "{}", character.escape_debug())?;
-            } else {
-                write!(f, "{character}")?;
+            match character {
+                '\'' | '"' | '\n' => write!(f, "{character}")?,
+                _ => write!(f, "{}", character.escape_debug())?,
             }
         }
         Ok(())

@@ -2,7 +2,6 @@
 
 use crate::command::{Place, Span, Transfer};
 use crate::failure::{Failure, PartError, Stopped, printed};
-use crate::info::with_missing;
 use crate::key;
 use crate::key::KeyFile;
 use crate::output::{Target, is_terminal, open_target, refuse_inputs, refuse_terminal};
@@ -102,7 +101,7 @@ fn carry_out<'a, R: Read, W: Write + Drop>(
         (_, error) => Failure::of_part(error, paths.input, paths.output),
     };
     Err(Stopped {
-        failure: with_missing(rt, failure, paths.input),
+        failure,
         incomplete: output.written > 0,
     })
 }
