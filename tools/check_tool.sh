@@ -182,6 +182,12 @@ for at in 0 24 28 29 33 1000 65565 65601 200000; do
     flip changed "$at"
     refuses changed
 done
+# The records after a damaged one still open.
+cp sealed changed
+flip changed 70000
+status 0 "$tool" open -k key --records 2..4 changed text
+tail -c +131073 text-before | cmp - text
+rm text
 cat sealed sealed > twice
 refuses twice
 status 1 "$tool" open -k other sealed text

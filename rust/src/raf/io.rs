@@ -189,8 +189,8 @@ impl RafIo for NoJournal {
 /// while a commit is written, and after one that was cut short. Symbolic links are followed, so that a file has one journal by
 /// whichever of them it is named. It gets the mode of the file, and its owner and group where the system allows it, so that
 /// whoever may write the file can complete a commit that was cut short. A journal that is itself a link, or no file, or has
-/// other names (hard links), or that someone may write who may not write the file, is refused, with
-/// [`io::ErrorKind::InvalidData`], and nothing is changed. A file of that name with up to 33 bytes may be what a crash has
+/// other names (hard links), or that by its owner, group and mode someone may write who may not write the file, is refused,
+/// with [`io::ErrorKind::InvalidData`], and nothing is changed. A file of that name with up to 33 bytes may be what a crash has
 /// left of a journal: opening removes it, whatever it holds.
 ///
 /// If there is no path, as for a storage in memory, it is as [`NoJournal`].
@@ -261,7 +261,8 @@ const GROUP: u32 = 0o060;
 const GROUP_WRITES: u32 = 0o020;
 const OTHERS_WRITE: u32 = 0o002;
 
-/// Returns whether nobody may write a journal, as its owner or by its mode, who may not write its file.
+/// Returns whether nobody may write a journal who may not write its file, as far as their owners, groups and modes show. Who
+/// has put a file into a group counts as one of it.
 fn is_as_safe(journal: &Metadata, of: &Metadata) -> bool {
     let is_groups = journal.gid() == of.gid();
     let group_may = is_groups && of.mode() & GROUP_WRITES != 0;
@@ -288,7 +289,7 @@ fn new_journal(options: &mut OpenOptions, path: &Path) -> io::Result<File> {
 fn no_journal() -> io::Error {
     io::Error::new(
         io::ErrorKind::InvalidData,
-        "what is at the path of the journal is no file, has other names, or may be written by others than the file",
+        "what is at the path of the journal is no file, has other names, or can be written by others than its file",
     )
 }
 
