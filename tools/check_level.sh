@@ -15,48 +15,57 @@ fail() {
     exit 1
 }
 
-# The names of AVX's instructions begin with v; verr and verw are older.
+# The archive is one object. The sections of each build's functions have its level in their names. The names of AVX's
+# instructions begin with v; verr and verw are older.
 ar x "$archive"
 has_avx() {
-    objdump -d --no-show-raw-insn "$1" | awk -F '\t' '$2 ~ /^v/ && $2 !~ /^ver[rw]/ { found = 1 } END { exit !found }'
+    objdump -d --no-show-raw-insn hunkravy.o | awk -F '\t' -v level=".text.$1." '/^Disassembly/ { inside = index($0, level) }
+        inside && $2 ~ /^v/ && $2 !~ /^ver[rw]/ { found = 1 } END { exit !found }'
 }
-if has_avx v2.o; then fail 'the build for x86-64-v2 has instructions of AVX'; fi
-has_avx v3.o || fail 'the build for x86-64-v3 has no instruction of AVX'
-for object in v2.o v3.o; do
-    objdump -h $object | awk '$2 ~ /^\.text\./ { sections++; if ($NF != "2**6" || $3 == "00000000") bad = $2 }
+if has_avx v2; then fail 'the build for x86-64-v2 has instructions of AVX'; fi
+has_avx v3 || fail 'the build for x86-64-v3 has no instruction of AVX'
+for level in v2 v3; do
+    objdump -h hunkravy.o | awk -v level=".text.$level." 'index($2, level) == 1 {
+            sections++; if ($NF != "2**6" || $3 == "00000000") bad = $2 }
         END { if (sections < 40 || bad) { print "a function begins at no multiple of 64 bytes: " bad; exit 1 } }'
 done
 
-# Each call is bound to the build of this level.
-nm --defined-only -g v3.o | awk '$2 == "T" { sub(/^hunkravy_v3_/, "", $3); print "EXPORT(" $3 ")" }' > exports.h
-[ "$(wc -l < exports.h)" -ge 30 ] || fail 'the build for x86-64-v3 exports no calls'
+# Each call is bound to the build of this level: the program prints where each is, from its own start.
+nm hunkravy.o | awk 'sub(/^hunkravy_v3_/, "", $3) { print "EXPORT(" $3 ")" }' > exports.h
+[ "$(wc -l < exports.h)" -ge 30 ] || fail 'the build for x86-64-v3 has no calls'
 cat > level.c << 'END'
 #include <stdio.h>
-#include <stdlib.h>
-#define EXPORT(NAME) extern void hunkravy_##NAME(void), hunkravy_v2_##NAME(void), hunkravy_v3_##NAME(void);
+extern char __executable_start;
+extern int hunkravy_level(void);
+#define EXPORT(NAME) extern void hunkravy_##NAME(void);
 #include "exports.h"
 #undef EXPORT
-extern int hunkravy_level(void);
-int main(int count, char **words)
+#define EXPORT(NAME) printf("%016tx %s\n", (char *)hunkravy_##NAME - &__executable_start, #NAME);
+int main(void)
 {
-    int level = count > 1 ? atoi(words[1]) : 0, faults = hunkravy_level() != level;
-#define EXPORT(NAME) faults += hunkravy_##NAME != (level == 3 ? hunkravy_v3_##NAME : hunkravy_v2_##NAME);
 #include "exports.h"
-    if (faults) printf("%d calls are not bound to the build for x86-64-v%d\n", faults, level);
-    return faults != 0;
+    return hunkravy_level();
 }
 END
-gcc -O1 -fPIC -I. level.c "$archive" -o level
+gcc -O1 -fPIC -pie -I. level.c "$archive" -o level
+# is_bound LEVEL COMMAND: whether the program finds this level when it is run so.
+is_bound() {
+    found=0
+    "${@:2}" > found || found=$?
+    [ "$found" = "$1" ] || fail "the library finds level $found, not $1"
+    nm level | awk -v name="^hunkravy_v$1_" 'sub(name, "", $3) { print $1, $3 }' | diff <(sort found) <(sort) ||
+        fail "calls are not bound to the build for x86-64-v$1"
+}
 level=3
 for feature in avx2 bmi2 fma; do
     grep -m 1 -q -w "$feature" /proc/cpuinfo || level=2
 done
-./level $level
+is_bound $level ./level
 
 # On a processor of the lower level: the calls' bindings, and the tests over both libraries.
 if command -v qemu-x86_64 > /dev/null; then
     old='qemu-x86_64 -cpu Nehalem'
-    $old ./level 2
+    is_bound 2 $old ./level
     for library in "$archive" "$shared"; do
         gcc -std=c99 -O2 "-I$include" "$tests/check_states.c" "$library" -Wl,-rpath,"$(dirname "$shared")" -o states
         $old ./states "$lines"

@@ -630,13 +630,21 @@ if "${CC:-gcc}" -shared -fPIC -O1 "$calls" -ldl -o calls.so 2> said; then
     rm synced
     # A file system with no links: LINK_FAILS has link fail, and RACES creates a file just before.
     [ "$(LINK_FAILS=1 order "$tool" seal -k key small linkless)" = 'fsync-file link rename fsync-folder ' ] || fail "no links: $(cat noted)"
-    says 'linkless is renamed to, and not linked'
+    says 'linkless was renamed to, and not linked'
     status 0 "$tool" check -k key linkless
     rm linkless
     LINK_FAILS=1 order "$tool" seal --quiet -k key small linkless > noted
     [ ! -s said ] || fail "--quiet printed $(cat said)"
+    # A name that was given with an error.
+    status 0 env LD_PRELOAD="$PWD/calls.so" LIES=1 "$tool" seal -k key small lied
+    [ ! -s said ] || fail "a link that was made: $(cat said)"
+    status 0 env LD_PRELOAD="$PWD/calls.so" LIES=1 "$tool" seal --force -k key small lied
+    status 0 "$tool" check -k key lied
+    no_parts
+    rm lied
     status 3 env LD_PRELOAD="$PWD/calls.so" LINK_FAILS=1 RACES=raced "$tool" seal -k key small raced
     says 'raced exists'
+    lacks 'renamed'
     [ ! -s raced ] || fail 'a file was replaced where there are no links'
     no_parts
 
@@ -679,13 +687,20 @@ if "${CC:-gcc}" -shared -fPIC -O1 "$calls" -ldl -o calls.so 2> said; then
                 [ "$(find . -name '.out.hunkravy-*' | wc -l)" -le 1 ] || fail "$what, call $number: several parts"
                 [ -z "$(find . -name '.out.hunkravy-*' ! -perm 600)" ] || fail "$what, call $number: mode of the part"
             else
-                no_parts
+                # A name that cannot be removed stays, and is said to.
+                if ! grep -q 'is not removed' said; then
+                    no_parts
+                else
+                    [ "$complete" = 0 ] || says 'out is complete, but has a second name'
+                    there=$(sed -n 's/^hunkravy: \(.*\) is not removed.*/\1/p' said)
+                    [ -e "$there" ] || fail "$what, call $number: there is no $there"
+                fi
                 if [ "$found" = 0 ]; then
                     [ "$complete" = 1 ] || fail "$what, call $number: status 0, and no output"
                     # A look that fails may leave out progress or a warning.
                     if ! grep -q '^look$' noted; then
                         grep -B 1 '^here$' noted | grep -q '^link$' || fail "$what, call $number failed, with status 0"
-                        says 'out is renamed to, and not linked'
+                        says 'out was renamed to, and not linked'
                     fi
                 else
                     [ "$found" = 3 ] || fail "$what, call $number: status $found, not 3: $(cat said)"
@@ -773,6 +788,9 @@ if "${CC:-gcc}" -shared -fPIC -O1 "$calls" -ldl -o calls.so 2> said; then
     env LD_PRELOAD="$PWD/calls.so" GOES_ON=1 "$tool" seal -k key - goes-on-too < small
     status 0 "$tool" open --force -k key goes-on-too text
     cmp text small
+    head -c 140000 sealed > cut
+    status 1 env LD_PRELOAD="$PWD/calls.so" GOES_ON=1 "$tool" info cut
+    says 'at least 56747 bytes are missing$'
     rm text
 
     echo 'each allocation fails'
@@ -867,6 +885,13 @@ meanwhile 'mv place elsewhere && mkdir place && cp key "place/$there"'
 cmp key "place/$there"
 [ ! -e place/out ] && [ ! -e elsewhere/out ] || fail 'an output was given a name in a folder that was exchanged'
 rm -r place elsewhere
+# The part is removed.
+mkdir place
+meanwhile 'rm "place/$there"'
+[ "$found" = 3 ] || fail "status $found, not 3, of a part that was removed: $(cat said)"
+says 'was renamed or removed meanwhile'
+lacks 'is not removed'
+rmdir place
 # Another file in the part's place.
 for force in '' --force; do
     mkdir place

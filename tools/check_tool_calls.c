@@ -2,7 +2,8 @@
 //
 //   CALLS=FILE      appends the name of each call to the file
 //   LINK_FAILS=1    link fails, as on a file system that has no links
-//   RACES=FILE      creates the file just before that
+//   LIES=1          link and rename do their work and return an error, as on a network's file system
+//   RACES=FILE      creates the file just before link
 //   HIDES=1         the first look at a name after a link that failed fails, as on a file system with a fault
 //   SYNCLESS=1      folders cannot be synced, as on some file systems
 //   SHORT=1         reads and writes take no more than half of what they are given
@@ -137,6 +138,15 @@ int getentropy(void *bytes, size_t count)
     return syscall(SYS_getrandom, bytes, count, 0) == (long)count ? 0 : -1;
 }
 
+// Returns what a call has returned, or an error with LIES.
+static int answer(int returned)
+{
+    if (!getenv("LIES"))
+        return returned;
+    errno = EIO;
+    return -1;
+}
+
 static int link_failed;
 
 int link(const char *from, const char *to)
@@ -153,7 +163,7 @@ int link(const char *from, const char *to)
         errno = EPERM;
         return -1;
     }
-    return next(from, to);
+    return answer(next(from, to));
 }
 
 int statx(int folder, const char *name, int flags, unsigned mask, struct statx *found)
@@ -174,7 +184,7 @@ int rename(const char *from, const char *to)
 {
     int (*next)(const char *, const char *) = dlsym(RTLD_NEXT, "rename");
     note("rename");
-    return fails(ENOSPC) ? -1 : next(from, to);
+    return fails(ENOSPC) ? -1 : answer(next(from, to));
 }
 
 int unlink(const char *name)

@@ -32,8 +32,8 @@ int hunkravy_level(void)
 }
 
 #define LEVELS(NAME)                                                                               \
-    void hunkravy_v2_##NAME(void);                                                                 \
-    void hunkravy_v3_##NAME(void);
+    __attribute__((visibility("hidden"))) void hunkravy_v2_##NAME(void);                           \
+    __attribute__((visibility("hidden"))) void hunkravy_v3_##NAME(void);
 
 #ifdef __GLIBC__
 

@@ -4,7 +4,8 @@
 #
 # A build is one object, whose only global names are its proved exports. The calls of c/library are joined with it, and
 # then its exports are local, so that only the calls have names. For two builds each call hunkravy_NAME becomes
-# hunkravy_v2_NAME or hunkravy_v3_NAME, and choose.c has the calls' own names.
+# hunkravy_v2_NAME or hunkravy_v3_NAME, and choose.c has the calls' own names. At last all is joined, and those of the two
+# builds are local too.
 #
 # Each function begins at a multiple of 64 bytes, so that where its loops begin does not depend on the program: a loop of
 # a thousand instructions fits the processor's store of decoded instructions or not by that.
@@ -34,6 +35,16 @@ object() {
         "$work/$2.o"
 }
 
+# The options that put the level into the name of each section of a build's functions: .text.v2.NAME for .text.NAME. A comma
+# would end the name.
+sections() {
+    "${OBJDUMP:-objdump}" -h "$work/$1.o" | awk -v level="$1" '$2 ~ /^\.text\./ {
+        renamed = ".text." level substr($2, 6)
+        gsub(/,/, "_", renamed)
+        print "--rename-section=" $2 "=" renamed
+    }'
+}
+
 mkdir "$work/calls"
 for file in calls records pages; do
     compile -c "$here/../library/$file.c" -o "$work/calls/$file.o"
@@ -48,10 +59,12 @@ else
     exports "$work/v2.o" | sed 's/^hunkravy_\(.*\)/EXPORT(\1)/' > "$work/exports.h"
     for level in v2 v3; do
         exports "$work/$level.o" | sed "s/^hunkravy_\(.*\)/& hunkravy_${level}_\1/" > "$work/names"
-        "${OBJCOPY:-objcopy}" --redefine-syms="$work/names" "$work/$level.o"
+        "${OBJCOPY:-objcopy}" --redefine-syms="$work/names" $(sections $level) "$work/$level.o"
     done
     set -- "-I$work"
 fi
 compile "$@" -c "$here/choose.c" -o "$work/choose.o"
+"${CC:-gcc}" -r -nostdlib "$work"/*.o -o "$work/hunkravy.o"
+"${OBJCOPY:-objcopy}" --wildcard --localize-symbol='hunkravy_v[23]_*' "$work/hunkravy.o"
 rm -f "$out"
-"${AR:-ar}" rcs "$out" "$work"/*.o
+"${AR:-ar}" rcs "$out" "$work/hunkravy.o"

@@ -45,8 +45,8 @@ pub enum Failure<'a> {
     Output(Name<'a>, io::Error),
     #[error("{0} is complete, but its folder cannot be synced, so a power loss may remove it: {1}")]
     Unsynced(Name<'a>, io::Error),
-    #[error("{0} is complete, but its second name, .OUT.hunkravy- and 16 digits, cannot be removed: {1}")]
-    SecondName(Name<'a>, io::Error),
+    #[error("{0} is complete, but has a second name, which cannot be removed")]
+    SecondName(Name<'a>),
     #[error("{0} cannot be written: its folder, or its file .OUT.hunkravy- and 16 digits, was renamed or removed meanwhile")]
     Moved(Name<'a>),
     #[error("{0} exists; --force replaces it")]

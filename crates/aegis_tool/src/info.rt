@@ -3,6 +3,7 @@
 use crate::command::{Place, Transfer};
 use crate::failure::{Failure, printed};
 use crate::output::refuse_inputs;
+use crate::progress::Counted;
 use crate::shown::{Name, Verified};
 use aegis::record::{RECORD_BYTES, RECORD_HEAD_BYTES, RecordError, RecordOpener};
 use aegis_files::{FileError, fill};
@@ -74,8 +75,8 @@ fn outline_of<R: Read>(input: &mut R) -> Result<Outline, FileError> {
 
 // The outline of the file of this name.
 fn outline_of_file<'a>(rt: &HostRuntime, name: &'a str) -> Result<Outline, Failure<'a>> {
-    let mut file = File::open(rt, name).map_err(|error| Failure::Input(Name(name), error))?;
-    match outline_of(&mut file) {
+    let file = File::open(rt, name).map_err(|error| Failure::Input(Name(name), error))?;
+    match outline_of(&mut Counted::new(file, None)) {
         Ok(seen) => Ok(seen),
         Err(error) => Err(Failure::of_files(
             error,
@@ -95,7 +96,7 @@ pub fn info<'a>(rt: &HostRuntime, paths: Transfer<'a>) -> Result<(), Failure<'a>
     let input = paths.input;
     let seen = match input {
         Place::File(name) => outline_of_file(rt, name)?,
-        _ => match outline_of(&mut rt.stdin()) {
+        _ => match outline_of(&mut Counted::new(rt.stdin(), None)) {
             Ok(seen) => seen,
             Err(error) => return Err(Failure::of_files(
                 error,

@@ -317,27 +317,41 @@ impl<'a> Part<'a> {
         }
     }
 
-    // Whether the name that the file was created under still is its name.
-    fn is_there(&self, rt: &HostRuntime) -> io::Result<bool> {
+    // Whether this is a name of the file.
+    fn is_at(&self, rt: &HostRuntime, name: &str) -> io::Result<bool> {
         let written = Identity::of(&self.file.metadata()?);
-        match fs::symlink_metadata(rt, self.name.as_str()) {
+        match fs::symlink_metadata(rt, name) {
             Ok(there) => Ok(Identity::of(&there) == written),
             Err(error) if error.kind() == ErrorKind::NotFound => Ok(false),
             Err(error) => Err(error),
         }
     }
 
-    // Removes the file, if it still has the name that it was created under, or says that it stays.
-    fn remove(&self, rt: &HostRuntime) {
-        if matches!(self.is_there(rt), Ok(true))
-            && fs::remove_file(rt, self.name.as_str()).is_ok()
-        {
-            return;
-        }
+    fn say_it_stays(&self, rt: &HostRuntime) {
         let _ = eprintln!(rt;
             "hunkravy: {} is not removed, and may hold plaintext or a key",
             Name(self.name.as_str())
         );
+    }
+
+    // Removes the name that the file was created under, or says that it stays. Returns whether it is gone.
+    fn unlink(&self, rt: &HostRuntime) -> bool {
+        let is_gone = fs::remove_file(rt, self.name.as_str()).is_ok();
+        if !is_gone {
+            self.say_it_stays(rt);
+        }
+        is_gone
+    }
+
+    // Removes the file, if it still has the name that it was created under, or says that it stays, if it has any name.
+    fn remove(&self, rt: &HostRuntime) {
+        match self.is_at(rt, self.name.as_str()) {
+            Ok(true) => {
+                self.unlink(rt);
+            }
+            Ok(false) if matches!(self.file.metadata(), Ok(found) if found.nlink() == 0) => {}
+            _ => self.say_it_stays(rt),
+        }
     }
 
     fn failed(&self, error: io::Error) -> Failure<'a> {
@@ -347,19 +361,23 @@ impl<'a> Part<'a> {
         }
     }
 
-    // Gives the file the name of the output too, if no file has it.
-    fn link(&self, rt: &HostRuntime) -> Result<(), Failure<'a>> {
-        let (name, target) = (self.name.as_str(), self.target.as_str());
-        match fs::hard_link(rt, name, target) {
-            Ok(()) => match fs::remove_file(rt, name) {
-                Ok(()) => Ok(()),
-                Err(error) => Err(Failure::SecondName(self.output, error)),
-            },
-            Err(error) if error.kind() == ErrorKind::AlreadyExists => Err(self.failed(error)),
-            Err(error) => {
+    // Whether the file has the name of the output now. A network's file system may give a name and return an error.
+    fn is_placed(&self, rt: &HostRuntime) -> bool {
+        matches!(self.is_at(rt, self.target.as_str()), Ok(true))
+    }
+
+    // Gives the file the name of the output too, if no file has it. Returns whether it has two names then.
+    fn link(&self, rt: &HostRuntime) -> Result<bool, Failure<'a>> {
+        match fs::hard_link(rt, self.name.as_str(), self.target.as_str()) {
+            Err(error) if !self.is_placed(rt) => {
+                if error.kind() == ErrorKind::AlreadyExists {
+                    return Err(self.failed(error));
+                }
+                self.rename_unless_there(rt)?;
                 self.say_renamed(rt, &error);
-                self.rename_unless_there(rt)
+                Ok(false)
             }
+            _ => Ok(true),
         }
     }
 
@@ -375,33 +393,34 @@ impl<'a> Part<'a> {
     // Renames the file to the output, and replaces a file of that name.
     fn rename(&self, rt: &HostRuntime) -> Result<(), Failure<'a>> {
         match fs::rename(rt, self.name.as_str(), self.target.as_str()) {
-            Ok(()) => Ok(()),
-            Err(error) => Err(self.failed(error)),
+            Err(error) if !self.is_placed(rt) => Err(self.failed(error)),
+            _ => Ok(()),
         }
     }
 
-    // Says that a file of the output's name that is created at just this moment is replaced.
+    // Says that a file of the output's name that was created at just that moment is replaced.
     fn say_renamed(&self, rt: &HostRuntime, error: &io::Error) {
         if !self.quiet {
             let _ = eprintln!(rt;
-                "hunkravy: {} is renamed to, and not linked: {error}",
+                "hunkravy: {} was renamed to, and not linked: {error}",
                 self.output
             );
         }
     }
 
-    // Syncs the file, and gives it the name of the output.
-    fn place(&self, rt: &HostRuntime) -> Result<(), Failure<'a>> {
+    // Syncs the file, and gives it the name of the output. Returns whether it has two names then.
+    fn place(&self, rt: &HostRuntime) -> Result<bool, Failure<'a>> {
         if let Err(error) = self.file.sync_all() {
             return Err(self.failed(error));
         }
-        match self.is_there(rt) {
+        match self.is_at(rt, self.name.as_str()) {
             Ok(true) => (),
             Ok(false) => return Err(Failure::Moved(self.output)),
             Err(error) => return Err(self.failed(error)),
         }
         if self.replace {
-            self.rename(rt)
+            self.rename(rt)?;
+            Ok(false)
         } else {
             self.link(rt)
         }
@@ -418,7 +437,10 @@ impl<'a> Part<'a> {
             Err(failure) => Err(failure),
         };
         match placed {
-            Ok(()) => match sync_folder(rt, folder(self.target.as_str())) {
+            Ok(has_two_names) if has_two_names && !self.unlink(rt) => Err(Failure::SecondName(
+                self.output,
+            )),
+            Ok(_) => match sync_folder(rt, folder(self.target.as_str())) {
                 Ok(()) => Ok(()),
                 Err(error) => Err(Failure::Unsynced(self.output, error)),
             },
