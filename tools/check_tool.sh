@@ -648,13 +648,15 @@ if "${CC:-gcc}" -shared -fPIC -O1 "$calls" -ldl -o calls.so 2> said; then
     [ ! -s raced ] || fail 'a file was replaced where there are no links'
     no_parts
 
-    # A look at the name OUT that fails does not show that there is no such file.
-    rm raced
-    status 3 env LD_PRELOAD="$PWD/calls.so" LINK_FAILS=1 HIDES=1 RACES=raced "$tool" seal -k key small raced
+    # A look at a file that fails does not show that there is no file OUT.
+    for look in 1 2 3; do
+        rm raced
+        status 3 env LD_PRELOAD="$PWD/calls.so" LINK_FAILS=1 HIDES=$look RACES=raced "$tool" seal -k key small raced
+        [ -e raced ] && [ ! -s raced ] || fail "look $look: a file was replaced that could not be looked at"
+        no_parts
+    done
     says 'raced cannot be written'
-    [ -e raced ] && [ ! -s raced ] || fail 'a file was replaced that could not be looked at'
     rm raced
-    no_parts
 
     # run_at NUMBER COMMAND..: runs the command with its call of this number failing, or killed there, and sets `found`
     # to its status. Its standard output goes to the file `printed`. It is false if there is no such call.

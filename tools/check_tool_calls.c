@@ -4,7 +4,7 @@
 //   LINK_FAILS=1    link fails, as on a file system that has no links
 //   LIES=1          link and rename do their work and return an error, as on a network's file system
 //   RACES=FILE      creates the file just before link
-//   HIDES=1         the first look at a name after a link that failed fails, as on a file system with a fault
+//   HIDES=N         the Nth look at a file after a link that failed fails, as on a file system with a fault
 //   SYNCLESS=1      folders cannot be synced, as on some file systems
 //   SHORT=1         reads and writes take no more than half of what they are given
 //   GOES_ON=1       the input that has ended has one more byte at the next read, as a terminal or a file may
@@ -168,8 +168,8 @@ int link(const char *from, const char *to)
 
 int statx(int folder, const char *name, int flags, unsigned mask, struct statx *found)
 {
-    if (link_failed && getenv("HIDES")) {
-        link_failed = 0;
+    const char *hides = getenv("HIDES");
+    if (link_failed && hides && link_failed++ == atoi(hides)) {
         errno = EIO;
         return -1;
     }
