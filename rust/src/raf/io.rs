@@ -218,7 +218,12 @@ impl JournalFile {
         if self.file.is_none() {
             let mut options = File::options();
             options.read(true).write(true);
-            self.file = match journal_at(path)? {
+            let found = match journal_at(path)? {
+                // A crash may have left it before it got its owner and its mode.
+                Some(found) if found.len() == 0 && fs::remove_file(path).is_ok() => None,
+                found => found,
+            };
+            self.file = match found {
                 Some(found) => Some(open_same(&options, path, &found)?),
                 None if create => Some(new_journal(&mut options, path)?),
                 None => None,
@@ -378,8 +383,11 @@ impl RafIo for JournalFile {
             return Ok(());
         };
         file.sync_all()?;
-        if file.metadata()?.len() == 0 {
-            let _ = fs::remove_file(path);
+        let own = file.metadata()?;
+        if own.len() == 0 {
+            if matches!(found_at(path), Ok(Some(found)) if is_same(&found, &own)) {
+                let _ = fs::remove_file(path);
+            }
             self.file = None;
             self.is_name_synced = false;
         } else if !self.is_name_synced {
@@ -468,6 +476,7 @@ mod tests {
             // Only root can give files to another user.
             let _ = chown(&path, Some(65533), None);
             open(true).unwrap();
+            fs::write(&at, [1]).unwrap();
             let (made, of) = (at.metadata().unwrap(), path.metadata().unwrap());
             assert_eq!((made.mode() & 0o777, made.uid()), (mode, of.uid()));
             open(false).unwrap();
@@ -483,6 +492,23 @@ mod tests {
             fs::remove_file(&at).unwrap();
         }
         fs::remove_file(&path).unwrap();
+    }
+
+    /// An empty journal is removed when it is opened, whoever may open it, and another file of its name is not.
+    #[test]
+    fn empty_journals() {
+        let at = std::env::temp_dir().join(format!("hunkravy-empty-{}", std::process::id()));
+        File::create(&at).unwrap();
+        let mut journal = JournalFile::at(Some(at.clone()));
+        journal.set_size(0).unwrap();
+        assert!(!at.exists() && journal.file.is_none());
+        File::create(&at).unwrap();
+        journal.file = Some(File::options().read(true).write(true).open(&at).unwrap());
+        fs::remove_file(&at).unwrap();
+        fs::write(&at, "another").unwrap();
+        journal.sync().unwrap();
+        assert_eq!(fs::read(&at).unwrap(), b"another");
+        fs::remove_file(&at).unwrap();
     }
 
     /// The name of a new file is synced with it, once.
