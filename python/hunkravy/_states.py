@@ -192,5 +192,5 @@ class Decryptor(Chunks):
     def _overwrite(self) -> None:
         super()._overwrite()
         for chunk in getattr(self, "_message", []):
-            chunk[:] = bytes(len(chunk))
+            ctypes.memset(library.pointer(chunk), 0, len(chunk))
         self._message = []

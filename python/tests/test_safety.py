@@ -3,6 +3,7 @@
 import copy
 import ctypes
 import pickle
+import tracemalloc
 import unittest
 from typing import Any, Callable
 
@@ -225,6 +226,18 @@ class Memory(unittest.TestCase):
         self.zeros(*chunks)
         decryptor, chunks = self.decrypted()
         del decryptor
+        self.zeros(*chunks)
+
+    def test_overwriting_takes_no_memory(self) -> None:
+        decryptor = CIPHER.decryptor(NONCE)
+        decryptor.update(bytes(1 << 20))
+        chunks = list(decryptor._message)
+        tracemalloc.start()
+        with self.assertRaises(hunkravy.InvalidTag):
+            decryptor.finalize(bytes(32))
+        peak = tracemalloc.get_traced_memory()[1]
+        tracemalloc.stop()
+        self.assertLess(peak, 1 << 16)
         self.zeros(*chunks)
 
     def test_empty_chunks_are_not_kept(self) -> None:

@@ -116,8 +116,12 @@ impl<A: Algorithm, R: RafRng, J: JournalChoice> RafBuilder<A, R, J> {
     /// If the file has no header that opens, as one that a crash has torn, a whole journal under the key is taken for its
     /// own.
     pub fn open<I: RafIo>(self, mut io: I, key: &A::Key) -> Result<Raf<A, I, R, J::Journal>> {
-        io.lock()?;
         let mut builder = self.choose(&io);
+        // Whoever has just made a file locks it next, and must not find it locked.
+        if io.get_size()? == 0 && builder.journal.get_size()? == 0 {
+            return Err(Error::Header);
+        }
+        io.lock()?;
         builder.journal.lock()?;
         let header = recover::<A>(&mut io, &mut builder.journal, key)?;
         Ok(builder.over(io, key, &header))
@@ -238,9 +242,11 @@ fn check_no_journal(path: &Path) -> Result<()> {
     if journal.get_size()? == 0 {
         return Ok(());
     }
-    if let Ok(mut io) = FileIo::open(path) {
+    let mut io = FileIo::open(path).ok();
+    if let Some(io) = &mut io {
         io.lock()?;
     }
+    // Nobody else commits meanwhile.
     if journal.get_size()? == 0 {
         Ok(())
     } else {

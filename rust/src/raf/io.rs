@@ -33,15 +33,16 @@ pub trait RafIo {
         Ok(())
     }
 
-    /// Refuses all others that would write the bytes, until this is dropped. Called once, before anything is read or written;
-    /// [`Error::Locked`] if another one came first.
+    /// Refuses all others that would write the bytes, until this is dropped. Called once, before anything but the size is read,
+    /// and before anything is written; [`Error::Locked`] if another one came first.
     ///
     /// The default does nothing: the caller then has to see that nothing else writes the bytes.
     fn lock(&mut self) -> Result<()> {
         Ok(())
     }
 
-    /// Returns the path of the journal, which is used if [`RafBuilder::journal`](super::RafBuilder::journal) sets no other.
+    /// Returns the path of the journal, which is used if [`RafBuilder::journal`](super::RafBuilder::journal) sets no other. If
+    /// there is a file whose name it is without what follows the last dot, the journal gets the mode of that file.
     ///
     /// The default is none: a crash in a commit may then leave some of its changes, or damage the file.
     fn journal_path(&self) -> Option<PathBuf> {
@@ -49,7 +50,8 @@ pub trait RafIo {
     }
 
     /// Returns [`Error::Moved`] if whoever opens these bytes later would not find the journal at
-    /// [`journal_path`](RafIo::journal_path). Called before each commit writes anything.
+    /// [`journal_path`](RafIo::journal_path), or, of a journal, an error if it cannot be written. Called before each commit
+    /// writes anything.
     ///
     /// The default does nothing.
     fn check_path(&mut self) -> Result<()> {
@@ -188,10 +190,13 @@ impl RafIo for NoJournal {
 /// The journal of a file at a path: a file beside it, whose name has `.journal` after that of the file. There is one only
 /// while a commit is written, and after one that was cut short. Symbolic links are followed, so that a file has one journal by
 /// whichever of them it is named. It gets the mode of the file, and its owner and group where the system allows it, so that
-/// whoever may write the file can complete a commit that was cut short. A journal that is itself a link, or no file, or has
+/// whoever may write the file can complete a commit that was cut short. Where the group cannot be set, the group has the rights
+/// of all others; where the owner cannot be set and has more rights than those, the owner may have to wait until whoever made
+/// the journal, or root, opens the file. A journal that is itself a link, or no file, or has
 /// other names (hard links), or that by its owner, group and mode someone may write who may not write the file, is refused,
 /// with [`io::ErrorKind::InvalidData`], and nothing is changed. A file of that name with up to 33 bytes may be what a crash has
-/// left of a journal: opening removes it, whatever it holds.
+/// left of a journal: opening removes it, whatever it holds, but an empty one that the user may not remove. A commit needs a
+/// folder that the user may read and write.
 ///
 /// If there is no path, as for a storage in memory, it is as [`NoJournal`].
 #[derive(Debug)]
@@ -216,16 +221,9 @@ impl JournalFile {
             return Ok(None);
         };
         if self.file.is_none() {
-            let mut options = File::options();
-            options.read(true).write(true);
-            let found = match journal_at(path)? {
-                // A crash may have left it before it got its owner and its mode.
-                Some(found) if found.len() == 0 && fs::remove_file(path).is_ok() => None,
-                found => found,
-            };
-            self.file = match found {
-                Some(found) => Some(open_same(&options, path, &found)?),
-                None if create => Some(new_journal(&mut options, path)?),
+            self.file = match left_at(path, create)? {
+                Some(found) => Some(open_same(path, &found)?),
+                None if create => Some(new_journal(path)?),
                 None => None,
             };
         }
@@ -233,9 +231,16 @@ impl JournalFile {
     }
 }
 
+/// How a journal is opened.
+fn options() -> OpenOptions {
+    let mut options = File::options();
+    options.read(true).write(true);
+    options
+}
+
 /// Opens the file that was found at a path.
-fn open_same(options: &OpenOptions, path: &Path, found: &Metadata) -> io::Result<File> {
-    let file = options.open(path)?;
+fn open_same(path: &Path, found: &Metadata) -> io::Result<File> {
+    let file = options().open(path)?;
     if is_same(&file.metadata()?, found) {
         Ok(file)
     } else {
@@ -243,18 +248,40 @@ fn open_same(options: &OpenOptions, path: &Path, found: &Metadata) -> io::Result
     }
 }
 
-/// Returns what is at the path of a journal. An error if it is no file, or one that has other names too, or that someone
-/// may write who may not write the file of the journal.
+/// Returns what is at the path of a journal, if it has any bytes. An error if it is no file, or one that has other names too,
+/// or that someone may write who may not write the file of the journal. A crash may have left an empty one before it got its
+/// owner and its mode, so it counts as none.
 fn journal_at(path: &Path) -> io::Result<Option<Metadata>> {
-    let Some(found) = found_at(path)? else {
-        return Ok(None);
-    };
+    match found_at(path)? {
+        Some(found) if !is_empty(&found) => checked(path, found).map(Some),
+        _ => Ok(None),
+    }
+}
+
+/// Removes an empty journal, and returns what is then at the path: an empty one that cannot be removed too, if it is to be
+/// written. The file of the journal must be locked.
+fn left_at(path: &Path, is_written: bool) -> io::Result<Option<Metadata>> {
+    match found_at(path)? {
+        Some(found) if is_empty(&found) && (fs::remove_file(path).is_ok() || !is_written) => {
+            Ok(None)
+        }
+        Some(found) => checked(path, found).map(Some),
+        None => Ok(None),
+    }
+}
+
+/// Returns what was found at the path of a journal if it is one that is safe to use.
+fn checked(path: &Path, found: Metadata) -> io::Result<Metadata> {
     let of = found_at(&file_of(path))?;
     if found.is_file() && found.nlink() == 1 && of.is_none_or(|of| is_as_safe(&found, &of)) {
-        Ok(Some(found))
+        Ok(found)
     } else {
         Err(no_journal())
     }
+}
+
+fn is_empty(found: &Metadata) -> bool {
+    found.is_file() && found.nlink() == 1 && found.len() == 0
 }
 
 /// The path of the file that a journal is of.
@@ -262,7 +289,9 @@ fn file_of(journal: &Path) -> PathBuf {
     journal.with_extension("")
 }
 
+const OWNER: u32 = 0o600;
 const GROUP: u32 = 0o060;
+const OTHERS: u32 = 0o006;
 const GROUP_WRITES: u32 = 0o020;
 const OTHERS_WRITE: u32 = 0o002;
 
@@ -279,16 +308,23 @@ fn is_as_safe(journal: &Metadata, of: &Metadata) -> bool {
 
 /// Makes a journal, which follows no link. Whoever may write its file may complete its commit: it has the owner, the group and
 /// the mode of the file, as far as the system lets them be set.
-fn new_journal(options: &mut OpenOptions, path: &Path) -> io::Result<File> {
-    let of = fs::symlink_metadata(file_of(path))?;
-    let file = options.create_new(true).mode(0o600).open(path)?;
+fn new_journal(path: &Path) -> io::Result<File> {
+    let file = options().create_new(true).mode(OWNER).open(path)?;
+    let Some(of) = found_at(&file_of(path))? else {
+        return Ok(file);
+    };
     if fchown(&file, Some(of.uid()), Some(of.gid())).is_err() {
         let _ = fchown(&file, None, Some(of.gid()));
     }
-    let is_groups = file.metadata()?.gid() == of.gid();
-    let mode = of.mode() & if is_groups { 0o666 } else { 0o666 & !GROUP };
+    let mode = mode_beside(of.mode(), file.metadata()?.gid() == of.gid());
     let _ = file.set_permissions(Permissions::from_mode(mode));
     Ok(file)
+}
+
+/// The mode of the journal of a file of this mode. Whoever is in another group than the file's counts as all others do.
+fn mode_beside(of: u32, is_of_its_group: bool) -> u32 {
+    let group = if is_of_its_group { of } else { of << 3 };
+    OWNER | group & GROUP | of & OTHERS
 }
 
 fn no_journal() -> io::Error {
@@ -341,10 +377,12 @@ fn resolved(path: &Path) -> io::Result<PathBuf> {
 
 /// Returns once the name of a file outlasts a loss of power.
 fn sync_folder(path: &Path) -> io::Result<()> {
-    match path.parent() {
-        Some(folder) => File::open(folder)?.sync_all(),
-        None => Ok(()),
-    }
+    open_folder(path)?.map_or(Ok(()), |folder| folder.sync_all())
+}
+
+/// Opens the folder that a file is in, to sync it.
+fn open_folder(path: &Path) -> io::Result<Option<File>> {
+    path.parent().map(File::open).transpose()
 }
 
 impl RafIo for JournalFile {
@@ -375,6 +413,17 @@ impl RafIo for JournalFile {
             Some(file) => file.set_len(size),
             None => Ok(()),
         }
+    }
+
+    /// An error if there can be no journal, or its name cannot be synced.
+    fn check_path(&mut self) -> Result<()> {
+        if let Some(path) = &self.path {
+            open_folder(path)?;
+            if let Some(found) = left_at(path, true)? {
+                open_same(path, &found)?;
+            }
+        }
+        Ok(())
     }
 
     /// Syncs the file and its name. If it is empty it is then removed; one that cannot be removed does no harm.
@@ -440,7 +489,7 @@ pub(super) fn read_all(io: &mut impl RafIo) -> io::Result<Vec<u8>> {
 
 #[cfg(test)]
 mod tests {
-    use super::{FileIo, JournalFile, RafIo, sync_folder, with_journal};
+    use super::{FileIo, JournalFile, RafIo, mode_beside, sync_folder, with_journal};
     use alloc::format;
     use std::fs::{self, File, Permissions};
     use std::os::unix::fs::{MetadataExt, PermissionsExt, chown};
@@ -460,6 +509,7 @@ mod tests {
         let mut journal = JournalFile::at(Some(std::env::temp_dir().join("hunkravy-none/none")));
         journal.file = Some(device());
         assert!(journal.sync().is_err() && journal.set_size(0).is_err());
+        assert!(journal.check_path().is_err());
         assert!(sync_folder(Path::new("/proc/file")).is_err());
     }
 
@@ -492,6 +542,20 @@ mod tests {
             fs::remove_file(&at).unwrap();
         }
         fs::remove_file(&path).unwrap();
+    }
+
+    #[test]
+    fn modes_in_other_groups() {
+        for (of, in_its_group, in_another) in [
+            (0o600, 0o600, 0o600),
+            (0o660, 0o660, 0o600),
+            (0o666, 0o666, 0o666),
+            (0o464, 0o664, 0o644),
+            (0o4755, 0o644, 0o644),
+        ] {
+            assert_eq!(mode_beside(of, true), in_its_group, "{of:o}");
+            assert_eq!(mode_beside(of, false), in_another, "{of:o}");
+        }
     }
 
     /// An empty journal is removed when it is opened, whoever may open it, and another file of its name is not.
