@@ -189,14 +189,16 @@ impl RafIo for NoJournal {
 
 /// The journal of a file at a path: a file beside it, whose name has `.journal` after that of the file. There is one only
 /// while a commit is written, and after one that was cut short. Symbolic links are followed, so that a file has one journal by
-/// whichever of them it is named. It gets the mode of the file, and its owner and group where the system allows it, so that
-/// whoever may write the file can complete a commit that was cut short. Where the group cannot be set, the group has the rights
-/// of all others; where the owner cannot be set and has more rights than those, the owner may have to wait until whoever made
-/// the journal, or root, opens the file. A journal that is itself a link, or no file, or has
-/// other names (hard links), or that by its owner, group and mode someone may write who may not write the file, is refused,
-/// with [`io::ErrorKind::InvalidData`], and nothing is changed. A file of that name with up to 33 bytes may be what a crash has
-/// left of a journal: opening removes it, whatever it holds, but an empty one that the user may not remove. A commit needs a
-/// folder that the user may read and write.
+/// whichever of them it is named. A commit needs a folder that the user may read and write.
+///
+/// It gets the mode of the file, and its owner and group where the system allows it, so that whoever may write the file can
+/// complete a commit that was cut short. Where the group cannot be set, whoever is in its own has the rights of all others. Where
+/// the owner cannot be set, the file's owner, if others have fewer rights, waits until its maker or root opens the file.
+///
+/// A journal that is itself a link, or no file, or has other names (hard links), or that by its owner, group and mode someone
+/// may write who may not write the file, is refused, with [`io::ErrorKind::InvalidData`], and nothing is changed. A file of that
+/// name with up to 33 bytes may be what a crash has left of a journal: opening removes it, whatever it holds. An empty one that
+/// cannot be removed counts as none.
 ///
 /// If there is no path, as for a storage in memory, it is as [`NoJournal`].
 #[derive(Debug)]
