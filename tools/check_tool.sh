@@ -106,6 +106,9 @@ head -c 1000 /dev/urandom > small
 cp key open-key && chmod 644 open-key
 status 0 "$tool" seal -k open-key small small.open-key
 says 'chmod 600'
+chmod 711 open-key
+status 0 "$tool" seal -k open-key small small.run-key
+lacks 'chmod'
 status 3 "$tool" seal -k nowhere small small.nowhere
 # Standard error may go into the output.
 "$tool" seal -k open-key small > small.both 2>&1
@@ -608,6 +611,7 @@ for turn in $(seq 300); do
     wait
     [ "$(find . -name 'won-*' | wc -l)" = 1 ] || fail "in round $turn keys were drawn by: $(ls won-*)"
     [ "$(wc -c < race)" = 65 ] || fail 'no key won'
+    ! grep -q -e --force said-* || fail "keygen has no --force: $(cat said-*)"
     no_parts
     rm race
 done
@@ -854,6 +858,22 @@ done
 status 3 sh -c "'$tool' seal -k key - closed <&-"
 [ ! -e closed ] || fail 'standard input was closed, and something is left'
 no_parts
+
+echo 'descriptors that the program opens itself, and one of a file that was removed'
+for closed in '/dev/fd/3 3>&-' '/dev/stdout >&-'; do
+    status 3 sh -c "'$tool' seal -k key /dev/null $closed"
+    says 'is a device or a pipe that was not there when the run began'
+done
+echo gone > gone
+exec 9<> gone
+rm gone
+status 3 "$tool" open -k key sealed /dev/fd/9
+says 'not found by its name'
+exec 9>&-
+ln -s "$tool" $'\033[31m'
+$'./\033[31m' --help > printed
+! LC_ALL=C grep -q $'\033' printed || fail 'help prints the name that the program is called by'
+rm $'\033[31m'
 
 echo 'folders that are read-only or renamed meanwhile'
 # meanwhile COMMAND: starts to seal `slow-text` to place/out, runs the command after the first piece, and sets `found`

@@ -2,7 +2,7 @@
 //
 //   CALLS=FILE      appends the name of each call to the file
 //   LINK_FAILS=1    link fails, as on a file system that has no links
-//   LIES=1          link and rename do their work and return an error, as on a network's file system
+//   LIES=1          link, rename and unlink do their work and return an error, as on a network's file system
 //   RACES=FILE      creates the file just before link
 //   HIDES=N         the Nth look at a file after a link that failed fails, as on a file system with a fault
 //   SYNCLESS=1      folders cannot be synced, as on some file systems
@@ -191,7 +191,12 @@ int unlink(const char *name)
 {
     int (*next)(const char *) = dlsym(RTLD_NEXT, "unlink");
     note("unlink");
-    return fails(ENOSPC) ? -1 : next(name);
+    if (fails(ENOSPC))
+        return -1;
+    int returned = answer(next(name));
+    if (returned)
+        errno = ENOENT;
+    return returned;
 }
 
 int fsync(int file)

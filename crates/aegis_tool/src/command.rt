@@ -44,6 +44,8 @@ pub struct Transfer<'a> {
     pub force: bool,
     /// Whether only errors are printed.
     pub quiet: bool,
+    /// Whether there was nothing at the output's name when the run began.
+    pub is_new: bool,
 }
 
 /// The part of a text that is opened.
@@ -266,6 +268,7 @@ fn transfer_of<'a>(matches: &ArgMatches<'a>) -> Transfer<'a> {
         output: place_of(matches, "OUT"),
         force: matches.get_flag("force"),
         quiet: matches.get_flag("quiet"),
+        is_new: false,
     }
 }
 

@@ -59,6 +59,8 @@ pub enum Failure<'a> {
     NoNameHere(Name<'a>),
     #[error("{0} is a folder or a block device: name a file")]
     NoOutput(Name<'a>),
+    #[error("{0} is a device or a pipe that was not there when the run began")]
+    Appeared(Name<'a>),
     #[error("{0} is the input too: input and output must be different files")]
     SameFile(Name<'a>),
     #[error("{0} is the key file {1}: it would be lost")]

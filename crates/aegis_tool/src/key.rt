@@ -12,7 +12,7 @@ use std::random::RandomSource;
 use std::{io, str};
 
 // The bits of a file's mode that let others than its owner read or write it.
-const OTHERS: u32 = 0o077;
+const OTHERS: u32 = 0o066;
 
 // A key file has two more bytes at most: it ends with a line feed, or with a carriage return before it.
 const MOST_BYTES: usize = 66;

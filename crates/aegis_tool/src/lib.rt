@@ -17,21 +17,21 @@ mod version;
 use command::{Action, command, parse};
 use failure::{FAILED, Failure, MISUSED, Stopped, printed};
 use manual::notes;
-use output::quieted;
+use output::at_the_start;
 use shown::Lines;
 use std::io::ErrorKind;
 
 fn act<'a>(rt: &HostRuntime, action: Option<Action<'a>>) -> Result<(), Stopped<'a>> {
     match action {
         Some(Action::Keygen { output }) => Ok(transfer::keygen(rt, output)?),
-        Some(Action::Seal(paths)) => transfer::seal(rt, quieted(rt, paths)),
-        Some(Action::Open(paths)) => transfer::open(rt, quieted(rt, paths)),
+        Some(Action::Seal(paths)) => transfer::seal(rt, at_the_start(rt, paths)),
+        Some(Action::Open(paths)) => transfer::open(rt, at_the_start(rt, paths)),
         Some(Action::OpenPart { span, paths }) => {
-            transfer::open_part(rt, span, quieted(rt, paths))
+            transfer::open_part(rt, span, at_the_start(rt, paths))
         }
         Some(Action::NoSpan) => Err(Stopped::from(Failure::NoSpan)),
         Some(Action::Rekey { new_key, paths }) => {
-            transfer::rekey(rt, new_key, quieted(rt, paths))
+            transfer::rekey(rt, new_key, at_the_start(rt, paths))
         }
         Some(Action::Check(paths)) => Ok(transfer::check(rt, paths)?),
         Some(Action::Info(paths)) => Ok(info::info(rt, paths)?),
@@ -81,7 +81,7 @@ fn carry_out(rt: &HostRuntime, words: &[String]) -> anyhow::Result<u8> {
 
 // Reads the command line and carries it out.
 fn carry_out_words(rt: &HostRuntime) -> anyhow::Result<u8> {
-    let words: Vec<String> = match std::env::args(rt) {
+    let mut words: Vec<String> = match std::env::args(rt) {
         Ok(words) => words.collect(rt.alloc())?,
         Err(error) if error.kind() == ErrorKind::InvalidData => {
             let _ = eprintln!(rt;
@@ -91,6 +91,10 @@ fn carry_out_words(rt: &HostRuntime) -> anyhow::Result<u8> {
         }
         Err(error) => return Err(anyhow::Error::from(error)),
     };
+    // By whatever name it is called, which help would print as it is.
+    if !words.is_empty() {
+        words[0] = String::from_str(rt.alloc(), "hunkravy")?;
+    }
     carry_out(rt, words.as_slice())
 }
 

@@ -117,13 +117,28 @@ fn are_one(rt: &HostRuntime, name: &str, other: &str) -> bool {
     }
 }
 
-/// Returns the paths, with only errors printed if standard error goes into the output and that is no terminal.
-pub fn quieted<'a>(rt: &HostRuntime, paths: Transfer<'a>) -> Transfer<'a> {
+/// Returns the paths as they are when the run begins: with only errors printed if standard error goes into the output
+/// and that is no terminal, and whether the output is new.
+pub fn at_the_start<'a>(rt: &HostRuntime, paths: Transfer<'a>) -> Transfer<'a> {
     let output = name_or(paths.output, "/dev/stdout");
     let is_output = !is_terminal(rt, paths.output) && are_one(rt, output, "/dev/stderr");
     let mut paths = paths;
     paths.quiet = paths.quiet || is_output;
+    paths.is_new = matches!(
+        fs::metadata(rt, output),
+        Err(error) if error.kind() == ErrorKind::NotFound
+    );
     paths
+}
+
+/// Returns an error if the output is new and names a device or a pipe, which is then the input by its descriptor.
+pub fn refuse_own_descriptor<'a>(rt: &HostRuntime, paths: Transfer<'a>) -> Result<(), Failure<'a>> {
+    match fs::metadata(rt, name_or(paths.output, "/dev/stdout")) {
+        Ok(found) if paths.is_new && !found.is_file() => Err(Failure::Appeared(
+            paths.output.output_name(),
+        )),
+        _ => Ok(()),
+    }
 }
 
 /// Returns an error if nothing names the output and standard output is a terminal.
@@ -222,10 +237,12 @@ pub fn open_target<'a>(
     quiet: bool,
 ) -> Result<Target<'a>, Failure<'a>> {
     match find(rt, name)? {
-        Found::File(_) if !replace => Err(Failure::Exists(Name(name))),
         Found::Stream => Ok(Target::Direct(open_stream(rt, name)?)),
         found => {
             let target = target_of(rt, name, found)?;
+            if matches!(found, Found::File(_)) && !replace {
+                return Err(Failure::Exists(Name(name)));
+            }
             Ok(Target::Part(Part::new(rt, Name(name), target, replace, quiet)?))
         }
     }
@@ -336,7 +353,10 @@ impl<'a> Part<'a> {
 
     // Removes the name that the file was created under, or says that it stays. Returns whether it is gone.
     fn unlink(&self, rt: &HostRuntime) -> bool {
-        let is_gone = fs::remove_file(rt, self.name.as_str()).is_ok();
+        let is_gone = match fs::remove_file(rt, self.name.as_str()) {
+            Ok(()) => true,
+            Err(error) => error.kind() == ErrorKind::NotFound,
+        };
         if !is_gone {
             self.say_it_stays(rt);
         }

@@ -4,7 +4,9 @@ use crate::command::{Place, Span, Transfer};
 use crate::failure::{Failure, PartError, Stopped, printed};
 use crate::key;
 use crate::key::KeyFile;
-use crate::output::{Target, is_terminal, open_target, refuse_inputs, refuse_terminal};
+use crate::output::{
+    Target, is_terminal, open_target, refuse_inputs, refuse_own_descriptor, refuse_terminal,
+};
 use crate::progress::{Counted, Display, Measured};
 use crate::range::{Start, is_reachable, start_of};
 use crate::shown::{Name, Verified};
@@ -170,6 +172,7 @@ fn open_input<'a>(
     let file = File::open(rt, name).map_err(|error| Failure::Input(Name(name), error))?;
     if let Place::File(_) = paths.output {
         refuse_inputs(rt, paths, keys)?;
+        refuse_own_descriptor(rt, paths)?;
     }
     Ok(file)
 }
@@ -308,6 +311,14 @@ pub fn check<'a>(rt: &HostRuntime, paths: Transfer<'a>) -> Result<(), Failure<'a
     printed(println!(rt; "{text_bytes} bytes of text, all verified"))
 }
 
+// The failure of `keygen`, which has no `--force`.
+fn key_exists<'a>(failure: Failure<'a>) -> Failure<'a> {
+    match failure {
+        Failure::Exists(name) => Failure::KeyExists(name),
+        _ => failure,
+    }
+}
+
 /// Writes a key that is drawn at random.
 pub fn keygen<'a>(rt: &HostRuntime, output: Place<'a>) -> Result<(), Failure<'a>> {
     refuse_terminal(rt, output)?;
@@ -317,15 +328,11 @@ pub fn keygen<'a>(rt: &HostRuntime, output: Place<'a>) -> Result<(), Failure<'a>
         Place::File(name) => name,
         _ => return rt.stdout().write_all(text.as_bytes()).map_err(failed),
     };
-    let target = open_target(rt, name, false, false).map_err(|failure| match failure {
-        Failure::Exists(name) => Failure::KeyExists(name),
-        _ => failure,
-    })?;
-    match target {
+    match open_target(rt, name, false, false).map_err(key_exists)? {
         Target::Direct(mut file) => file.write_all(text.as_bytes()).map_err(failed),
         Target::Part(mut part) => {
             let written = part.file.write_all(text.as_bytes()).map_err(failed);
-            part.end(rt, written)
+            part.end(rt, written).map_err(key_exists)
         }
     }
 }
