@@ -24,7 +24,8 @@
  *   the call reads them, writable if the pointer is not const. If a length that is passed is 0, its pointer may be
  *   null. What is only written to need not be initialised.
  * - An output overlaps no other argument, unless the call's comment says that they may be the same pointer.
- * - No other thread reads or writes an output or a state, or writes an input, until the call returns.
+ * - No other thread or process reads or writes an output or a state, or writes an input, until the call returns. Until
+ *   then an output may hold the message, or one that is not verified, also if the process is killed.
  *
  * PARAMETERS. All lengths are in bytes. `m` is a message, `c` a ciphertext, `mc` a buffer that holds one of them before
  * the call and the other after it, `ad` the associated data, `npub` the nonce, `k` the key, and `mac` a tag or a MAC of

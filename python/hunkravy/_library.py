@@ -29,6 +29,9 @@ class Secret:
     def __reduce_ex__(self, protocol: SupportsIndex) -> NoReturn:
         raise TypeError(f"{type(self).__name__} has a secret, and is neither copied nor pickled")
 
+    def __getstate__(self) -> NoReturn:
+        raise TypeError(f"{type(self).__name__} has a secret, and does not show its state")
+
 
 class State(Secret, ctypes.Array[ctypes.c_uint64]):
     """`hunkravy_state` of the library's header: 672 bytes, aligned to 8."""

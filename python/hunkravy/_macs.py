@@ -72,7 +72,10 @@ class Mac(variants.Variant, library.Secret):
         return self.digest().hex()
 
     def verify(self, mac: ReadableBuffer) -> None:
-        """Raises `InvalidTag` unless this is the MAC of the input so far. The time does not tell where they differ."""
+        """Raises `InvalidTag` unless this is the MAC of the input so far. The time does not tell where they differ.
+
+        Bytes of another length are a `ValueError`.
+        """
         expected = library.exactly("MAC", mac, self.digest_size)
         with self._lock:
             library.check(

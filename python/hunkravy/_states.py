@@ -66,6 +66,9 @@ class Chunks(library.Secret):
 
     def _use(self, work: Callable[[library.State], Result], is_last: bool = False) -> Result:
         """Returns what the work of a call on the state returns. The state is overwritten if the message ends by it."""
+        # First: an exception that ended the message may have left it locked.
+        if self._has_ended:
+            raise RuntimeError("the message has ended")
         with self._lock:
             # The call that uses it is one that a signal handler has interrupted, in this thread.
             if self._is_used:

@@ -6,7 +6,7 @@ import sys
 import threading
 import unittest
 from types import FrameType
-from typing import Any, Callable, Union
+from typing import Any, Callable, Union, cast
 from unittest import mock
 
 from hunkravy import Aegis256, Decryptor, Encryptor, InvalidTag, _library, _states
@@ -159,6 +159,24 @@ class Ends(unittest.TestCase):
                         with self.assertRaises(Interrupt):
                             last() if is_last else message.update(b"a chunk")
                 self.has_ended(message, last, kept)
+
+    def test_a_lock_that_an_exception_has_left(self) -> None:
+        message = CIPHER.encryptor(NONCE)
+        with self.assertRaises(TypeError):
+            message.update(cast(Any, None))
+        said: list[str] = []
+
+        def go_on() -> None:
+            try:
+                message.update(b"more")
+            except RuntimeError as error:
+                said.append(str(error))
+
+        other = threading.Thread(target=go_on, daemon=True)
+        with message._lock:
+            other.start()
+            other.join(10)
+            self.assertEqual(said, ["the message has ended"])
 
     def test_while_it_waits_for_another_thread(self) -> None:
         for which in (0, 1):

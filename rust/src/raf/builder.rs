@@ -80,7 +80,8 @@ impl<A: Algorithm, R: RafRng, J: JournalChoice> RafBuilder<A, R, J> {
     }
 
     /// Sets where the journal is kept. The default is a [`JournalFile`](super::JournalFile) beside a file of the system, and none
-    /// for another storage: a crash in a commit may then leave some of its changes, or damage it.
+    /// for another storage: a crash in a commit may then leave some of its changes, or damage it. A file beside the file, which
+    /// a commit with the default journal has left, is then not looked at by opening: open it once with the default.
     pub fn journal<K: RafIo>(self, journal: K) -> RafBuilder<A, R, K> {
         RafBuilder {
             chunk_size: self.chunk_size,
@@ -111,7 +112,7 @@ impl<A: Algorithm, R: RafRng, J: JournalChoice> RafBuilder<A, R, J> {
     ///
     /// [`Error::Locked`]; [`Error::Moved`]; [`Error::Header`] if there is no header of this algorithm and key; or
     /// [`Error::Journal`] if the journal is that of another file, or of another state of this one, or none. Nothing was
-    /// changed then. Or [`Error::Io`]: nothing is lost, so open it again.
+    /// changed then, but an empty journal beside the file may be gone. Or [`Error::Io`]: nothing is lost, so open it again.
     ///
     /// If the file has no header that opens, as one that a crash has torn, a whole journal under the key is taken for its
     /// own.
@@ -132,7 +133,8 @@ impl<A: Algorithm, R: RafRng, J: JournalChoice> RafBuilder<A, R, J> {
     /// # Errors
     ///
     /// Those of [`create`](Self::create). If one of them says that nothing was changed, a file that was there is as it was, and
-    /// there is no new one, unless a journal or another name of the file appeared just after it was made: it is then empty.
+    /// there is no new one, unless a journal or another name of the file appeared just after it was made, or the journal that was
+    /// set is locked, not empty, or moved: it is then empty.
     pub fn create_file(
         mut self,
         path: impl AsRef<Path>,

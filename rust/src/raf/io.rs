@@ -192,8 +192,9 @@ impl RafIo for NoJournal {
 /// whichever of them it is named. A commit needs a folder that the user may read and write.
 ///
 /// It gets the mode of the file, and its owner and group where the system allows it, so that whoever may write the file can
-/// complete a commit that was cut short. Where the group cannot be set, whoever is in its own has the rights of all others. Where
-/// the owner cannot be set, the file's owner, if others have fewer rights, waits until its maker or root opens the file.
+/// complete a commit that was cut short. Where one of the two cannot be set, the file's owner or its group, if they have more
+/// rights than all others, may have to wait until the journal's maker or root opens the file. Others than the owner cannot commit
+/// to a file whose group may not write it and others may: the group could write their journal.
 ///
 /// A journal that is itself a link, or no file, or has other names (hard links), or that by its owner, group and mode someone
 /// may write who may not write the file, is refused, with [`io::ErrorKind::InvalidData`], and nothing is changed. A file of that
@@ -297,12 +298,18 @@ const OTHERS: u32 = 0o006;
 const GROUP_WRITES: u32 = 0o020;
 const OTHERS_WRITE: u32 = 0o002;
 
+/// The rights that all others have on a file of this mode, as far as its group has them too: whoever is in the group is not one
+/// of the others.
+fn others(of: u32) -> u32 {
+    of & (of >> 3) & OTHERS
+}
+
 /// Returns whether nobody may write a journal who may not write its file, as far as their owners, groups and modes show. Who
 /// has put a file into a group counts as one of it.
 fn is_as_safe(journal: &Metadata, of: &Metadata) -> bool {
     let is_groups = journal.gid() == of.gid();
     let group_may = is_groups && of.mode() & GROUP_WRITES != 0;
-    let others_may = of.mode() & OTHERS_WRITE != 0;
+    let others_may = others(of.mode()) & OTHERS_WRITE != 0;
     (journal.uid() == of.uid() || journal.uid() == 0 || group_may || others_may)
         && (journal.mode() & GROUP_WRITES == 0 || group_may || others_may)
         && (journal.mode() & OTHERS_WRITE == 0 || others_may)
@@ -320,13 +327,22 @@ fn new_journal(path: &Path) -> io::Result<File> {
     }
     let mode = mode_beside(of.mode(), file.metadata()?.gid() == of.gid());
     let _ = file.set_permissions(Permissions::from_mode(mode));
-    Ok(file)
+    if is_as_safe(&file.metadata()?, &of) {
+        Ok(file)
+    } else {
+        let _ = fs::remove_file(path);
+        Err(no_journal())
+    }
 }
 
 /// The mode of the journal of a file of this mode. Whoever is in another group than the file's counts as all others do.
 fn mode_beside(of: u32, is_of_its_group: bool) -> u32 {
-    let group = if is_of_its_group { of } else { of << 3 };
-    OWNER | group & GROUP | of & OTHERS
+    let group = if is_of_its_group {
+        of & GROUP
+    } else {
+        others(of) << 3
+    };
+    OWNER | group | others(of)
 }
 
 fn no_journal() -> io::Error {
@@ -522,7 +538,12 @@ mod tests {
         let at = with_journal(&path);
         let open = |create| JournalFile::at(Some(at.clone())).open(create).map(|_| ());
         let set = |mode| fs::set_permissions(&at, Permissions::from_mode(mode)).unwrap();
-        for mode in [0o600, 0o644, 0o666] {
+        for (mode, own) in [
+            (0o600, 0o600),
+            (0o644, 0o644),
+            (0o666, 0o666),
+            (0o606, 0o600),
+        ] {
             let file = File::create(&path).unwrap();
             file.set_permissions(Permissions::from_mode(mode)).unwrap();
             // Only root can give files to another user.
@@ -530,7 +551,7 @@ mod tests {
             open(true).unwrap();
             fs::write(&at, [1]).unwrap();
             let (made, of) = (at.metadata().unwrap(), path.metadata().unwrap());
-            assert_eq!((made.mode() & 0o777, made.uid()), (mode, of.uid()));
+            assert_eq!((made.mode() & 0o777, made.uid()), (own, of.uid()));
             open(false).unwrap();
             let is_shared = mode == 0o666;
             for of_others in [0o602, 0o620] {
@@ -554,6 +575,8 @@ mod tests {
             (0o666, 0o666, 0o666),
             (0o464, 0o664, 0o644),
             (0o4755, 0o644, 0o644),
+            (0o606, 0o600, 0o600),
+            (0o646, 0o644, 0o644),
         ] {
             assert_eq!(mode_beside(of, true), in_its_group, "{of:o}");
             assert_eq!(mode_beside(of, false), in_another, "{of:o}");
