@@ -182,6 +182,8 @@ class Copies(unittest.TestCase):
             for protocol in range(pickle.HIGHEST_PROTOCOL + 1):
                 with self.assertRaises(TypeError):
                     pickle.dumps(secret, protocol)
+            with self.assertRaises(TypeError):
+                secret.__getstate__()
 
 
 class Drawn(unittest.TestCase):
