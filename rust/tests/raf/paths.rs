@@ -1,6 +1,6 @@
 //! Files at paths: their journals, locks and cursors.
 
-use crate::support::{Disk, FailingRandom, JOURNAL_CALLS, KEY, Random, disks};
+use crate::support::{FailingRandom, JOURNAL_CALLS, KEY, Random, disks};
 use hunkravy::raf::*;
 use std::collections::HashSet;
 use std::fs;
@@ -327,55 +327,25 @@ fn cursors() {
     assert_eq!(read(&mut open(&path).unwrap()), b"one two three");
 }
 
-/// Bytes in memory whose journal is at a path, beside no file.
-struct BesideNone(Disk, PathBuf);
-
-impl RafIo for BesideNone {
-    fn read_at(&mut self, buf: &mut [u8], offset: u64) -> io::Result<()> {
-        self.0.read_at(buf, offset)
-    }
-
-    fn write_at(&mut self, data: &[u8], offset: u64) -> io::Result<()> {
-        self.0.write_at(data, offset)
-    }
-
-    fn get_size(&mut self) -> io::Result<u64> {
-        self.0.get_size()
-    }
-
-    fn set_size(&mut self, size: u64) -> io::Result<()> {
-        self.0.set_size(size)
-    }
-
-    fn lock(&mut self) -> Result<()> {
-        assert_ne!(self.get_size()?, 0, "whoever creates a file locks it");
-        Ok(())
-    }
-
-    fn journal_path(&self) -> Option<PathBuf> {
-        Some(self.1.clone())
-    }
-}
-
 /// Whoever opens a file that has only been made does not lock it, so that whoever has made it can.
 #[test]
 fn a_file_that_is_being_created() {
-    let folder = Folder::new("made");
-    let io = BesideNone(disks(Default::default()).0, folder.path("file.journal"));
-    let opened = RafBuilder::<Aegis256>::new().open(io, &KEY);
-    assert!(matches!(opened, Err(Error::Header)));
+    let disks = disks(Default::default());
+    let builder = RafBuilder::<Aegis256>::new().journal(disks.1.clone());
+    assert!(matches!(
+        builder.open(disks.0.clone(), &KEY),
+        Err(Error::Header)
+    ));
+    assert_eq!(disks.0.log.borrow().locks, 0);
 }
 
 #[test]
 fn a_journal_beside_no_file() {
     let folder = Folder::new("beside");
     for name in ["text.journal", "text.wal", "text"] {
-        let disk = disks((vec![0], vec![])).0;
-        let io = BesideNone(disk, folder.path(name));
-        let mut file = RafBuilder::<Aegis256>::new()
-            .truncate(true)
-            .create(io, &KEY)
-            .unwrap();
+        let mut disk = disks(Default::default()).0;
+        disk.journal = Some(folder.path(name));
+        let mut file = RafBuilder::<Aegis256>::new().create(disk, &KEY).unwrap();
         file.write(b"text", 0).unwrap();
         file.commit().unwrap();
         assert!(folder.names().is_empty());

@@ -3,6 +3,7 @@
 use hunkravy::raf::{Error, RafIo, RafRng, Result};
 use std::cell::RefCell;
 use std::io;
+use std::path::PathBuf;
 use std::rc::Rc;
 
 pub const KEY: [u8; 32] = [7; 32];
@@ -68,12 +69,13 @@ pub enum Call {
     Sync,
 }
 
-/// What the disks of a file and of its journal have in common: their calls, in order, and how many of them and how many
-/// reads still succeed.
+/// What the disks of a file and of its journal have in common: their calls, in order, how many of them and how many reads
+/// still succeed, and how often one was locked.
 pub struct Log {
     pub calls: Vec<(Part, Call)>,
     pub left: usize,
     pub reads_left: usize,
+    pub locks: usize,
 }
 
 /// The file, or its journal.
@@ -88,6 +90,8 @@ pub enum Part {
 pub struct Disk {
     pub bytes: Rc<RefCell<Vec<u8>>>,
     pub log: Rc<RefCell<Log>>,
+    /// Where the journal is, if there is none on a disk.
+    pub journal: Option<PathBuf>,
     part: Part,
 }
 
@@ -100,10 +104,12 @@ pub fn disks((file, journal): Bytes) -> (Disk, Disk) {
         calls: Vec::new(),
         left: usize::MAX,
         reads_left: usize::MAX,
+        locks: 0,
     }));
     let disk = |bytes, part| Disk {
         bytes: Rc::new(RefCell::new(bytes)),
         log: log.clone(),
+        journal: None,
         part,
     };
     (disk(file, Part::File), disk(journal, Part::Journal))
@@ -157,6 +163,15 @@ impl RafIo for Disk {
 
     fn sync(&mut self) -> io::Result<()> {
         self.log(Call::Sync)
+    }
+
+    fn lock(&mut self) -> Result<()> {
+        self.log.borrow_mut().locks += 1;
+        Ok(())
+    }
+
+    fn journal_path(&self) -> Option<PathBuf> {
+        self.journal.clone()
     }
 }
 
