@@ -231,10 +231,10 @@ impl<A: Algorithm, I: RafIo, R: RafRng, J: RafIo> Raf<A, I, R, J> {
     ///
     /// # Errors
     ///
-    /// [`Error::Broken`], [`Error::Moved`], [`Error::TooLong`], [`Error::Io`] of a read, or of a place where there can be no
-    /// journal, or an error of the source of random bytes, before anything is written: the changes are still in memory. After
-    /// any other [`Error::Io`] the file is broken. Open it again, which gives the text of before the changes or the one after
-    /// them.
+    /// [`Error::Broken`], [`Error::Moved`], [`Error::TooLong`], [`Error::Io`] of a read, of a look at the file's path, or of a
+    /// place where there can be no journal, or an error of the source of random bytes, before anything is written: the
+    /// changes are still in memory. After any other [`Error::Io`] the file is broken. Open it again, which gives the text of
+    /// before the changes or the one after them.
     pub fn commit(&mut self) -> Result<()> {
         self.is_cut_short = true;
         self.commit_all()?;
