@@ -231,10 +231,10 @@ impl<A: Algorithm, I: RafIo, R: RafRng, J: RafIo> Raf<A, I, R, J> {
     ///
     /// # Errors
     ///
-    /// [`Error::Broken`], [`Error::Moved`], [`Error::TooLong`], [`Error::Io`] of a read, of a look at the file's path, or of a
-    /// place where there can be no journal, or an error of the source of random bytes, before anything is written: the
-    /// changes are still in memory. After any other [`Error::Io`] the file is broken. Open it again, which gives the text of
-    /// before the changes or the one after them.
+    /// [`Error::Broken`], [`Error::Moved`], [`Error::TooLong`], [`Error::Io`] of a read, of a look at the file's path, of a size
+    /// that the file cannot have, or of a place where there can be no journal, or an error of the source of random bytes:
+    /// the changes are still in memory, and in the file nothing but its size may have changed. After any other
+    /// [`Error::Io`] the file is broken. Open it again, which gives the text of before the changes or the one after them.
     pub fn commit(&mut self) -> Result<()> {
         self.is_cut_short = true;
         self.commit_all()?;
@@ -248,7 +248,6 @@ impl<A: Algorithm, I: RafIo, R: RafRng, J: RafIo> Raf<A, I, R, J> {
             return Ok(());
         }
         self.io.check_path()?;
-        self.journal.check_path()?;
         let counter = self.counter.checked_add(1).ok_or(Error::TooLong)?;
         let sector = recovery::read_sector(&mut self.io)?
             .ok_or(Error::Io(ErrorKind::UnexpectedEof.into()))?;
@@ -259,8 +258,9 @@ impl<A: Algorithm, I: RafIo, R: RafRng, J: RafIo> Raf<A, I, R, J> {
             prefix: [0; PREFIX_BYTES],
         };
         self.rng.fill(&mut seal.prefix)?;
-        self.is_broken = true;
         self.make_room(&writes)?;
+        self.journal.check_path()?;
+        self.is_broken = true;
         journal::commit(&mut self.io, &mut self.journal, &seal, &writes)?;
         self.is_broken = false;
         self.counter = counter;

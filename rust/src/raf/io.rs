@@ -50,8 +50,8 @@ pub trait RafIo {
     }
 
     /// Returns [`Error::Moved`] if whoever opens these bytes later would not find the journal at
-    /// [`journal_path`](RafIo::journal_path), or, of a journal, an error if it cannot be written. Called before each commit
-    /// writes anything.
+    /// [`journal_path`](RafIo::journal_path), or, of a journal, an error if there can be none. Called in each commit before
+    /// it writes any bytes.
     ///
     /// The default does nothing.
     fn check_path(&mut self) -> Result<()> {
@@ -433,14 +433,12 @@ impl RafIo for JournalFile {
         }
     }
 
-    /// An error if there can be no journal, or its name cannot be synced.
+    /// Makes the journal, which is empty. An error if there can be none, or its name cannot be synced.
     fn check_path(&mut self) -> Result<()> {
         if let Some(path) = &self.path {
             open_folder(path)?;
-            if let Some(found) = left_at(path, true)? {
-                open_same(path, &found)?;
-            }
         }
+        self.open(true)?;
         Ok(())
     }
 
@@ -527,6 +525,9 @@ mod tests {
         let mut journal = JournalFile::at(Some(std::env::temp_dir().join("hunkravy-none/none")));
         journal.file = Some(device());
         assert!(journal.sync().is_err() && journal.set_size(0).is_err());
+        assert!(journal.check_path().is_err());
+        // A folder that can be read, but in which no file can be made.
+        let mut journal = JournalFile::at(Some("/proc/none.journal".into()));
         assert!(journal.check_path().is_err());
         assert!(sync_folder(Path::new("/proc/file")).is_err());
     }

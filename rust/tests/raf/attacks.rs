@@ -394,8 +394,11 @@ fn a_folder_that_may_not_be_written() {
         let mut file = open(path).unwrap();
         assert_eq!(read(&mut file), b"before");
         file.write(b"after!", 0).unwrap();
-        assert!(matches!(file.commit(), Err(Error::Io(error))
-            if error.kind() == io::ErrorKind::PermissionDenied));
+        for _ in 0..2 {
+            assert!(matches!(file.commit(), Err(Error::Io(error))
+                if error.kind() == io::ErrorKind::PermissionDenied));
+        }
+        assert_eq!(read(&mut file), b"after!");
         return;
     }
     let folder = Folder::new("read-only");

@@ -300,7 +300,8 @@ impl RafIo for SmallDisk {
     }
 }
 
-/// A commit that the file has no room for leaves it as it was: it opens where there is no more room either.
+/// A commit that the file has no room for leaves it as it was, and its changes in memory. It opens where there is no more
+/// room either.
 #[test]
 fn a_file_that_becomes_too_long() {
     let disks = disks(Bytes::default());
@@ -313,13 +314,21 @@ fn a_file_that_becomes_too_long() {
     };
     let mut file = small().unwrap();
     file.write(&[1; 5000], 0).unwrap();
-    assert!(matches!(file.commit(), Err(Error::Io(_))));
-    assert!(matches!(file.commit(), Err(Error::Broken)));
+    for _ in 0..2 {
+        assert!(matches!(file.commit(), Err(Error::Io(_))));
+        assert_eq!(file.size(), 5000);
+    }
     drop(file);
     let mut file = small().unwrap();
     let mut text = [0; 4];
     assert_eq!(file.read(&mut text, 0).unwrap(), 4);
     assert_eq!((&text, file.size()), (b"kept", 4));
+    file.write(&[1; 5000], 0).unwrap();
+    assert!(file.commit().is_err());
+    file.truncate(2).unwrap();
+    file.commit().unwrap();
+    drop(file);
+    assert_eq!(opened(&disks).size(), 2);
 }
 
 /// A source that fails keeps what is there, and the changes.

@@ -69,7 +69,7 @@ fn a_file_has_no_journal_between_commits() {
     assert_eq!(folder.names(), ["file"]);
 }
 
-/// A commit that cannot write its journal breaks the file, which opens as it was.
+/// A commit that cannot make its journal leaves the file as it was, and its changes in memory.
 #[test]
 fn a_journal_that_cannot_be_written() {
     let folder = Folder::new("unwritable");
@@ -79,11 +79,19 @@ fn a_journal_that_cannot_be_written() {
     file.commit().unwrap();
     file.write(b"after!", 0).unwrap();
     fs::create_dir(folder.path("file.journal")).unwrap();
-    assert!(file.commit().is_err());
-    assert!(matches!(file.size(), 6));
+    assert!(matches!(file.commit(), Err(Error::Io(_))));
     drop(file);
     fs::remove_dir(folder.path("file.journal")).unwrap();
-    assert_eq!(read(&mut open(&path).unwrap()), b"before");
+    let mut file = open(&path).unwrap();
+    assert_eq!(read(&mut file), b"before");
+    file.write(b"after!", 0).unwrap();
+    fs::create_dir(folder.path("file.journal")).unwrap();
+    assert!(file.commit().is_err());
+    fs::remove_dir(folder.path("file.journal")).unwrap();
+    file.commit().unwrap();
+    drop(file);
+    assert_eq!(read(&mut open(&path).unwrap()), b"after!");
+    assert_eq!(folder.names(), ["file"]);
 }
 
 /// A whole journal that lies beside a file is completed, and a torn one is left out; both are then gone.
