@@ -2,6 +2,7 @@
 
 use aegis_lines::run;
 use std::io::ErrorKind;
+use std::process::Abort;
 use std::test::Fail;
 use test_tools::ends::{CutOff, Narrow};
 
@@ -16,6 +17,14 @@ const STREAM: &str =
 
 const STREAM_ANSWER: &str = "-\n";
 
+// Asserts what the program answers to an input, and its status.
+fn assert_answers<R: Abort + AllocGlobal>(rt: &R, input: &[u8], wanted: &str, wanted_status: u8) {
+    let mut output = Vec::new(rt.alloc());
+    let status = run(rt.alloc(), &mut &*input, &mut output);
+    assert_eq!(rt; output.as_slice(), wanted.as_bytes(), "at {input:?}");
+    assert_eq!(rt; status, wanted_status, "at {input:?}");
+}
+
 #[test]
 fn answers_each_line(rt: HostRuntime) -> Result<(), Fail> {
     let cases = [
@@ -29,14 +38,12 @@ fn answers_each_line(rt: HostRuntime) -> Result<(), Fail> {
         ("a", 1),
     ];
     for (input, lines) in cases {
-        let mut output = Vec::new(rt.alloc());
-        let status = run(rt.alloc(), &mut input.as_bytes(), &mut output);
         let mut wanted = String::new(rt.alloc());
         for _ in 0..lines {
             wanted.push_str(ANSWER)?;
         }
-        assert_eq!(rt; output.as_slice(), wanted.as_bytes(), "at {input:?}");
-        assert_eq!(rt; status, if lines == 0 { 0 } else { 1 }, "at {input:?}");
+        let status = if lines == 0 { 0 } else { 1 };
+        assert_answers(&rt, input.as_bytes(), wanted.as_str(), status);
     }
     Ok(())
 }
@@ -55,19 +62,16 @@ fn takes_line_ends_off(rt: HostRuntime) -> Result<(), Fail> {
         ("\r", "\n", ANSWER, 1),
         (" ", " \n", ANSWER, 1),
     ];
-    for (before, after, wanted, wanted_status) in cases {
+    for (before, after, wanted, status) in cases {
         let input = format!(in rt.alloc(); "{before}{ROUND}{after}")?;
-        let mut output = Vec::new(rt.alloc());
-        let status = run(rt.alloc(), &mut input.as_bytes(), &mut output);
-        assert_eq!(rt; output.as_slice(), wanted.as_bytes(), "at {input:?}");
-        assert_eq!(rt; status, wanted_status, "at {input:?}");
+        assert_answers(&rt, input.as_bytes(), wanted, status);
     }
     Ok(())
 }
 
 // A wrong length of a tag, an odd number of digits, and a key of 15 bytes.
 #[test]
-fn faults_end_with_status_one(rt: HostRuntime) -> Result<(), Fail> {
+fn faults_end_with_status_one(rt: HostRuntime) {
     let cases = [
         (
             "seal aegis128l 24 59454c4c4f57205355424d4152494e45 00000000000000000000000000000000 - 61\n",
@@ -83,20 +87,13 @@ fn faults_end_with_status_one(rt: HostRuntime) -> Result<(), Fail> {
         ),
     ];
     for (input, wanted) in cases {
-        let mut output = Vec::new(rt.alloc());
-        let status = run(rt.alloc(), &mut input.as_bytes(), &mut output);
-        assert_eq!(rt; output.as_slice(), wanted.as_bytes(), "at {input:?}");
-        assert_eq!(rt; status, 1, "at {input:?}");
+        assert_answers(&rt, input.as_bytes(), wanted, 1);
     }
-    Ok(())
 }
 
 #[test]
 fn answers_a_byte_that_is_no_text(rt: HostRuntime) {
-    let mut output = Vec::new(rt.alloc());
-    let status = run(rt.alloc(), &mut &b"\xff\n"[..], &mut output);
-    assert_eq!(rt; output.as_slice(), ANSWER.as_bytes());
-    assert_eq!(rt; status, 1);
+    assert_answers(&rt, b"\xff\n", ANSWER, 1);
 }
 
 #[test]
@@ -108,10 +105,7 @@ fn answers_a_thousand_lines(rt: HostRuntime) -> Result<(), Fail> {
         input.push_str("\n")?;
         wanted.push_str(ROUND_ANSWER)?;
     }
-    let mut output = Vec::new(rt.alloc());
-    let status = run(rt.alloc(), &mut input.as_bytes(), &mut output);
-    assert_eq!(rt; status, 0);
-    assert_eq!(rt; output.as_slice(), wanted.as_bytes());
+    assert_answers(&rt, input.as_bytes(), wanted.as_str(), 0);
     Ok(())
 }
 
@@ -151,25 +145,34 @@ fn stops_where_a_read_fails(rt: HostRuntime) -> Result<(), Fail> {
     Ok(())
 }
 
+// Runs the program into a writer that takes a byte at a time while it has room. Returns the status and the bytes.
+fn run_into<R: AllocGlobal>(
+    rt: &R,
+    input: &str,
+    room: usize,
+    error: Option<ErrorKind>,
+    flushes: bool,
+) -> (u8, Vec<u8>) {
+    let mut output = Narrow {
+        written: Vec::new(rt.alloc()),
+        room,
+        error,
+        flushes,
+    };
+    let status = run(rt.alloc(), &mut input.as_bytes(), &mut output);
+    (status, output.written)
+}
+
 // A writer that has room for some bytes, and then fails or takes none, has exactly these.
 #[test]
 fn stops_where_a_write_fails(rt: HostRuntime) -> Result<(), Fail> {
     let (input, wanted) = three_lines(&rt)?;
     for room in 0..wanted.len() {
         for error in [None, Some(ErrorKind::Other), Some(ErrorKind::Interrupted)] {
-            let mut output = Narrow {
-                written: Vec::new(rt.alloc()),
-                room,
-                error,
-                flushes: true,
-            };
-            let status = run(rt.alloc(), &mut input.as_bytes(), &mut output);
+            let (status, written) = run_into(&rt, input.as_str(), room, error, true);
             assert_eq!(rt; status, 2, "with room {room}");
-            assert_eq!(rt; output.written.len(), room, "with room {room}");
-            assert!(rt;
-                wanted.as_bytes().starts_with(&output.written),
-                "with room {room}"
-            );
+            assert_eq!(rt; written.len(), room, "with room {room}");
+            assert!(rt; wanted.as_bytes().starts_with(&written), "with room {room}");
         }
     }
     Ok(())
@@ -180,15 +183,9 @@ fn stops_where_a_write_fails(rt: HostRuntime) -> Result<(), Fail> {
 fn writes_a_byte_at_a_time(rt: HostRuntime) -> Result<(), Fail> {
     let (input, wanted) = three_lines(&rt)?;
     for (flushes, expected) in [(true, 0), (false, 2)] {
-        let mut output = Narrow {
-            written: Vec::new(rt.alloc()),
-            room: wanted.len(),
-            error: None,
-            flushes,
-        };
-        let status = run(rt.alloc(), &mut input.as_bytes(), &mut output);
+        let (status, written) = run_into(&rt, input.as_str(), wanted.len(), None, flushes);
         assert_eq!(rt; status, expected);
-        assert_eq!(rt; output.written.as_slice(), wanted.as_bytes());
+        assert_eq!(rt; written.as_slice(), wanted.as_bytes());
     }
     Ok(())
 }
