@@ -28,7 +28,11 @@ fn main() {
             println!("cargo::rerun-if-changed={}", folder.join(ARCHIVE).display());
             println!("cargo::rustc-link-search=native={}", folder.display());
         }
-        Err(message) => println!("cargo::warning={message}"),
+        Err(message) => {
+            // There is no such file, so the next build looks again.
+            println!("cargo::rerun-if-changed=lib/{ARCHIVE}");
+            println!("cargo::warning={message}");
+        }
     }
     println!("cargo::rustc-link-lib=static=hunkravy");
 }

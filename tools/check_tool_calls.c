@@ -4,6 +4,7 @@
 //   LINK_FAILS=1    link fails, as on a file system that has no links
 //   LIES=1          link, rename and unlink do their work and return an error, as on a network's file system
 //   RACES=FILE      creates the file just before link
+//   MOVES=FOLDER    renames the folder to FOLDER.moved just before unlink
 //   HIDES=N         the Nth look at a file after a link that failed fails, as on a file system with a fault
 //   SYNCLESS=1      folders cannot be synced, as on some file systems
 //   SHORT=1         reads and writes take no more than half of what they are given
@@ -190,9 +191,15 @@ int rename(const char *from, const char *to)
 int unlink(const char *name)
 {
     int (*next)(const char *) = dlsym(RTLD_NEXT, "unlink");
+    const char *moves = getenv("MOVES");
     note("unlink");
     if (fails(ENOSPC))
         return -1;
+    if (moves) {
+        char moved[256];
+        snprintf(moved, sizeof moved, "%s.moved", moves);
+        syscall(SYS_rename, moves, moved);
+    }
     int returned = answer(next(name));
     if (returned)
         errno = ENOENT;

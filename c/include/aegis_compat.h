@@ -15,8 +15,8 @@
  * - A key has NAME_KEYBYTES bytes and a nonce NAME_NPUBBYTES; these lengths are not parameters, and nothing
  *   checks them. A tag has 16 or 32 bytes, by `maclen`.
  * - Message and ciphertext may be the same buffer, and must not overlap otherwise.
- * - A decryption that is refused returns -1 and leaves zeros in the place of the message; if `m` is null, a
- *   decryption verifies the tag and writes nothing.
+ * - A decryption in one call that is refused returns -1 and leaves zeros in the place of the message; if `m` is null,
+ *   a decryption verifies the tag and writes nothing.
  * - On a wrong length a call returns -1 and writes nothing. errno is then EINVAL, or ERANGE for too little room
  *   in the form with `written`. It is not set if `clen` is less than `maclen`.
  * - In NAME_stream and NAME_mac_init a null nonce stands for one of zeros.
@@ -101,7 +101,7 @@ static inline int hunkravy_compat_has_room(size_t room, size_t length)
     return room >= length;
 }
 
-/* Sets `*written`, unless it is null, to what a call that returns `result` wrote. Returns `result`. */
+/* Sets `*written`, unless it is null, to `length` if `result` is 0, and to 0 otherwise. Returns `result`. */
 static inline int hunkravy_compat_wrote(size_t *written, int result, size_t length)
 {
     if (written != NULL) {

@@ -58,7 +58,7 @@ uint64_t hunkravy_page_place(uint32_t variant, uint32_t page_size, uint64_t numb
  * which are those of a nonce, the page size and HUNKRAVY_PAGE_TAG_BYTES, become the page.
  *
  * Returns HUNKRAVY_OK, a code for a wrong variant or a wrong length of `npub` or `k`, HUNKRAVY_WRONG_PAGE_SIZE, or
- * HUNKRAVY_TEXT_TOO_LONG if the page would begin after HUNKRAVY_PAGE_MAX_TEXT_BYTES of the text. After any code but
+ * HUNKRAVY_TEXT_TOO_LONG if more than HUNKRAVY_PAGE_MAX_TEXT_BYTES of the text lie before the page. After any code but
  * HUNKRAVY_OK nothing is written, and `page` still holds the text, unencrypted.
  */
 HUNKRAVY_MUST_USE int hunkravy_page_seal(uint32_t variant, uint8_t *page, size_t pagelen, const uint8_t *id,
@@ -76,7 +76,8 @@ HUNKRAVY_MUST_USE int hunkravy_page_open(uint32_t variant, uint8_t *page, size_t
 
 /*
  * Writes the header of this counter, for a text of `textlen` bytes, to the HUNKRAVY_PAGE_SECTOR_BYTES at `sector`,
- * which are the first of the file. A new file has the header of the counter 0, and no text.
+ * which are the first of the file. A new file has the header of the counter 0, and no text. After the header the sector
+ * has zeros, which nothing looks at later.
  *
  * Returns HUNKRAVY_OK, a code for a wrong variant or a wrong length of `npub` or `k`, HUNKRAVY_WRONG_PAGE_SIZE or
  * HUNKRAVY_TEXT_TOO_LONG. After any code but HUNKRAVY_OK nothing is written.

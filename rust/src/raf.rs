@@ -4,8 +4,9 @@
 //! [`Raf::sync`] and dropping call too, and **after a crash all changes of a commit are there, or none**: they are sealed into a
 //! journal first, the file `PATH.journal` beside the file, which is removed at the end, and which opening completes.
 //!
-//! What is read was written at this place of this file, though perhaps not last: an older page, or an older file, is not
-//! detected, unless [`Raf::commitment`] was kept elsewhere.
+//! What is read was written at this place of this file, or is a zero, though perhaps not last: an older page, or an older
+//! file, is not detected, unless [`Raf::commitment`] was kept elsewhere. After its text an older page has zeros, or what
+//! was cut off there.
 //!
 //! ```
 //! use hunkravy::raf::{Aegis256, Raf};
@@ -86,8 +87,8 @@ pub const MAX_SIZE: u64 = 1 << 60;
 /// succeeds or [`discard`](Raf::discard), nor while its thread panics. A file that threads share by a mutex and in which one
 /// of them has panicked is dropped by another: call `discard` there.
 ///
-/// After an error in the middle of a commit the file is broken: each later call returns [`Error::Broken`], and opening the file
-/// again gives the text of before the commit or the one after it.
+/// After an error in the middle of a commit the file is broken: each later call that reads, changes or commits it returns
+/// [`Error::Broken`], and opening the file again gives the text of before the commit or the one after it.
 pub struct Raf<A: Algorithm, I: RafIo = FileIo, R: RafRng = OsRng, J: RafIo = JournalFile> {
     io: I,
     journal: J,
@@ -173,7 +174,8 @@ impl<A: Algorithm, I: RafIo, R: RafRng, J: RafIo> Raf<A, I, R, J> {
     /// # Errors
     ///
     /// [`Error::TooLong`], [`Error::Damaged`], [`Error::Io`] or [`Error::Broken`], and nothing has changed; or an error of the
-    /// commit, and the change is in memory as it is after an error of [`commit`](Raf::commit).
+    /// commit, and the change is in memory as it is after an error of [`commit`](Raf::commit). With a limit of `usize::MAX`
+    /// there is no such commit.
     pub fn write(&mut self, data: &[u8], offset: u64) -> Result<usize> {
         // It stays so if the change fails, or if a panic ends it.
         let was_cut_short = core::mem::replace(&mut self.is_cut_short, true);

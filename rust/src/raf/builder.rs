@@ -53,7 +53,7 @@ impl<A: Algorithm, R: RafRng, J: JournalChoice> RafBuilder<A, R, J> {
         self
     }
 
-    /// Sets whether a file that exists is overwritten by a new one. A crash in between may leave neither.
+    /// Sets whether a file that exists is overwritten by a new one. A crash or an error in between may leave neither.
     pub fn truncate(mut self, truncate: bool) -> Self {
         self.truncate = truncate;
         self
@@ -94,7 +94,7 @@ impl<A: Algorithm, R: RafRng, J: JournalChoice> RafBuilder<A, R, J> {
     }
 
     /// Makes the bytes of `io` a file with no text, and syncs it. A crash before it returns may leave one that does not
-    /// open.
+    /// open, and so may [`Error::Io`]: remove it then.
     ///
     /// # Errors
     ///
@@ -115,7 +115,7 @@ impl<A: Algorithm, R: RafRng, J: JournalChoice> RafBuilder<A, R, J> {
     /// changed then, but an empty journal beside the file may be gone. Or [`Error::Io`]: nothing is lost, so open it again.
     ///
     /// If the file has no header that opens, as one that a crash has torn, a whole journal under the key is taken for its
-    /// own.
+    /// own, and its writes are made over whatever the file is.
     pub fn open<I: RafIo>(self, mut io: I, key: &A::Key) -> Result<Raf<A, I, R, J::Journal>> {
         let mut builder = self.choose(&io);
         // Whoever has just made a file locks it next, and must not find it locked.

@@ -39,8 +39,9 @@ impl Changes {
     }
 
     /// Takes over other changes, in place of those of the same pages.
-    pub fn append(&mut self, mut other: Changes) {
-        self.0.append(&mut other.0);
+    pub fn append(&mut self, other: Changes) {
+        // `BTreeMap::append` would go through all pages.
+        self.0.extend(other.0);
     }
 
     /// Forgets the pages from this number on.

@@ -60,7 +60,8 @@ pub trait RafIo {
 }
 
 /// A file of the system, which is locked (as by `flock`) while a [`Raf`](super::Raf) is over it, and whose journal lies beside
-/// it: [`JournalFile`]. A file with several names (hard links) is refused, since each of them would have a journal.
+/// it: [`JournalFile`]. By its path a file with several names (hard links) is refused, since each of them would have a
+/// journal. Whoever may read the file can lock it too, by `flock`, and so keep all others out.
 #[derive(Debug)]
 pub struct FileIo {
     file: File,
@@ -382,8 +383,7 @@ fn with_journal(path: &Path) -> PathBuf {
 fn resolved(path: &Path) -> io::Result<PathBuf> {
     match (path.canonicalize(), path.file_name()) {
         (Err(error), Some(name)) if error.kind() == io::ErrorKind::NotFound => {
-            let folder = path.parent().filter(|folder| *folder != Path::new(""));
-            let folder = folder.unwrap_or(Path::new(".")).canonicalize()?;
+            let folder = folder_of(path).canonicalize()?;
             match fs::read_link(path) {
                 Ok(target) => resolved(&folder.join(target)),
                 Err(_) => Ok(folder.join(name)),
@@ -393,14 +393,17 @@ fn resolved(path: &Path) -> io::Result<PathBuf> {
     }
 }
 
-/// Returns once the name of a file outlasts a loss of power.
-fn sync_folder(path: &Path) -> io::Result<()> {
-    open_folder(path)?.map_or(Ok(()), |folder| folder.sync_all())
+/// The folder that a file is in.
+fn folder_of(path: &Path) -> &Path {
+    match path.parent() {
+        Some(folder) if folder != Path::new("") => folder,
+        _ => Path::new("."),
+    }
 }
 
-/// Opens the folder that a file is in, to sync it.
-fn open_folder(path: &Path) -> io::Result<Option<File>> {
-    path.parent().map(File::open).transpose()
+/// Returns once the name of a file outlasts a loss of power.
+fn sync_folder(path: &Path) -> io::Result<()> {
+    File::open(folder_of(path))?.sync_all()
 }
 
 impl RafIo for JournalFile {
@@ -436,7 +439,7 @@ impl RafIo for JournalFile {
     /// Makes the journal, which is empty. An error if there can be none, or its name cannot be synced.
     fn check_path(&mut self) -> Result<()> {
         if let Some(path) = &self.path {
-            open_folder(path)?;
+            File::open(folder_of(path))?;
         }
         self.open(true)?;
         Ok(())
@@ -530,6 +533,7 @@ mod tests {
         let mut journal = JournalFile::at(Some("/proc/none.journal".into()));
         assert!(journal.check_path().is_err());
         assert!(sync_folder(Path::new("/proc/file")).is_err());
+        assert!(sync_folder(Path::new("file")).is_ok());
     }
 
     /// A journal gets the mode and the owner of its file, and is refused if others may write it, or it is another user's.

@@ -5,6 +5,7 @@ use hunkravy::raf::*;
 use std::cell::Cell;
 use std::io;
 use std::rc::Rc;
+use std::time::Instant;
 
 type File = Raf<Aegis256, Disk, Random, Disk>;
 
@@ -201,6 +202,19 @@ fn the_default_limit() {
     assert_eq!(calls(&disks), count);
     file.write(&[1], 16 << 20).unwrap();
     assert!(calls(&disks) > count);
+}
+
+/// Each of many writes takes as long as the first: all of them take about a second, not a minute.
+#[test]
+fn many_changes() {
+    let disks = disks(Bytes::default());
+    let mut file = created(&disks, usize::MAX);
+    let begun = Instant::now();
+    for page in 0..30_000 {
+        file.write(&[1; 256], 256 * page).unwrap();
+    }
+    assert!(begun.elapsed().as_secs() < 10);
+    file.discard();
 }
 
 /// The calls of the disks: the place of a write, a place for a new size that no write has, and none for a sync.
