@@ -653,17 +653,17 @@ if "${CC:-gcc}" -shared -fPIC -O1 "$calls" -ldl -o calls.so 2> said; then
     no_parts
 
     # A folder that is renamed just before a name in it is removed: it is said that the file stays.
-    "$tool" seal -k key small cut
-    truncate -s -1 cut
+    "$tool" seal -k key small shorter
+    truncate -s -1 shorter
     mkdir moving
-    status 1 env LD_PRELOAD="$PWD/calls.so" MOVES=moving "$tool" open -k key cut moving/out
+    status 1 env LD_PRELOAD="$PWD/calls.so" MOVES=moving "$tool" open -k key shorter moving/out
     says 'is not removed, and may hold plaintext or a key'
     rm -r moving.moved
     mkdir moving
     status 3 env LD_PRELOAD="$PWD/calls.so" MOVES=moving "$tool" seal -k key small moving/out
     says 'is not removed, and may hold plaintext or a key'
     status 0 "$tool" check -k key moving.moved/out
-    rm -r moving.moved cut
+    rm -r moving.moved shorter
 
     # A look at a file that fails does not show that there is no file OUT.
     for look in 1 2 3; do

@@ -351,11 +351,17 @@ impl<'a> Part<'a> {
         );
     }
 
-    // Removes the name that the file was created under, or says that it stays. Returns whether it is gone.
-    fn unlink(&self, rt: &HostRuntime) -> bool {
+    // Whether the file has no more than so many names now.
+    fn has_at_most(&self, names: u64) -> bool {
+        matches!(self.file.metadata(), Ok(found) if found.nlink() <= names)
+    }
+
+    // Removes the name that the file was created under, or says that it stays. Returns whether it is gone, and the file
+    // has no more than so many other names. If its folder was renamed just now, it is found by no name.
+    fn unlink(&self, rt: &HostRuntime, others: u64) -> bool {
         let is_gone = match fs::remove_file(rt, self.name.as_str()) {
             Ok(()) => true,
-            Err(error) => error.kind() == ErrorKind::NotFound,
+            Err(error) => error.kind() == ErrorKind::NotFound && self.has_at_most(others),
         };
         if !is_gone {
             self.say_it_stays(rt);
@@ -367,9 +373,9 @@ impl<'a> Part<'a> {
     fn remove(&self, rt: &HostRuntime) {
         match self.is_at(rt, self.name.as_str()) {
             Ok(true) => {
-                self.unlink(rt);
+                self.unlink(rt, 0);
             }
-            Ok(false) if matches!(self.file.metadata(), Ok(found) if found.nlink() == 0) => {}
+            Ok(false) if self.has_at_most(0) => {}
             _ => self.say_it_stays(rt),
         }
     }
@@ -457,7 +463,7 @@ impl<'a> Part<'a> {
             Err(failure) => Err(failure),
         };
         match placed {
-            Ok(has_two_names) if has_two_names && !self.unlink(rt) => Err(Failure::SecondName(
+            Ok(has_two_names) if has_two_names && !self.unlink(rt, 1) => Err(Failure::SecondName(
                 self.output,
             )),
             Ok(_) => match sync_folder(rt, folder(self.target.as_str())) {
