@@ -190,8 +190,8 @@ HUNKRAVY_MUST_USE int hunkravy_state_decrypt_check(hunkravy_state *st, const uin
 
 /*
  * Verifies that `mac` is the tag of the chunks, and ends the state: it is one of zeros. `m` holds what all the chunks
- * were decrypted to, `mlen` bytes, which is not checked. If they are at several places, pass 0 bytes and erase them
- * yourself; if they were only checked, pass 0 bytes.
+ * were decrypted to, `mlen` bytes: nothing checks that length. If they are at several places, pass 0 bytes and erase
+ * them yourself; if they were only checked, pass 0 bytes.
  *
  * After HUNKRAVY_OK the chunks that were decrypted are the message. After HUNKRAVY_INVALID_TAG the state has ended too,
  * and each of the `mlen` bytes at `m` is 0xaa. After any other code the state is as it was, and the chunks are still

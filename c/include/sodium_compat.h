@@ -141,8 +141,8 @@ static inline int hunkravy_sodium_encrypt(uint32_t variant, unsigned char *c, un
 
 /*
  * Writes the message to `m`, sets `*mlen_p` to `clen - 32` and returns 0 if the last 32 of the `clen` bytes at
- * `c` are its tag. Otherwise sets `*mlen_p` to 0 and returns -1, and `clen - 32` bytes at `m` are zeros, unless a length
- * is one that no message has. If `m` is null, it only verifies.
+ * `c` are its tag. Otherwise sets `*mlen_p` to 0 and returns -1, and `clen - 32` bytes at `m` are zeros, unless a
+ * length is one that no message has. If `m` is null, it only verifies.
  */
 HUNKRAVY_MUST_USE static inline int hunkravy_sodium_decrypt(uint32_t variant, unsigned char *m,
     unsigned long long *mlen_p, const unsigned char *c, unsigned long long clen, const unsigned char *ad,

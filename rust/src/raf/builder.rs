@@ -53,7 +53,7 @@ impl<A: Algorithm, R: RafRng, J: JournalChoice> RafBuilder<A, R, J> {
         self
     }
 
-    /// Sets whether a file that exists is overwritten by a new one. A crash or an error in between may leave neither.
+    /// Sets whether a file that exists is overwritten by a new one. A crash or an error of writing in between may leave neither.
     pub fn truncate(mut self, truncate: bool) -> Self {
         self.truncate = truncate;
         self
@@ -93,8 +93,8 @@ impl<A: Algorithm, R: RafRng, J: JournalChoice> RafBuilder<A, R, J> {
         }
     }
 
-    /// Makes the bytes of `io` a file with no text, and syncs it. A crash before it returns may leave one that does not
-    /// open, and so may [`Error::Io`]: remove it then.
+    /// Makes the bytes of `io` a file with no text, and syncs it. A crash before it returns, or an error of writing, may
+    /// leave one that does not open.
     ///
     /// # Errors
     ///
