@@ -19,7 +19,8 @@ PUBLIC = [
     *(f"aegis_storage/src/{name}.rt" for name in ("atomic", "laws", "recovery", "store")),
     *(f"aegis_pages/src/{name}.rt" for name in ("draws", "header", "laws", "layout", "opening", "page", "pages")),
     *(f"aegis_variants/src/{name}.rt" for name in ("cipher", "variant")),
-    *(f"aegis_lines/src/{name}.rt" for name in ("answer", "session")),
+    "aegis_lines/src/answer.rt",
+    "aegis_session/src/session.rt",
     *(f"aegis_c/src/{name}.rt" for name in ("message", "page", "record", "state")),
 ]
 

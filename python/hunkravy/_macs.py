@@ -26,7 +26,7 @@ class Mac(variants.Variant, library.Secret):
     >>> mac.verify(Aegis128LMac(bytes(16), b"the input").digest())
     """
 
-    __slots__ = ("_lock", "_state", "digest_size")
+    __slots__ = ("_digest_size", "_lock", "_state")
 
     def __init__(
         self,
@@ -39,7 +39,7 @@ class Mac(variants.Variant, library.Secret):
         size = self.NONCE_BYTES
         start = library.exactly("nonce", bytes(size) if nonce is None else nonce, size)
         found = library.exactly("key", key, self.KEY_BYTES)
-        self.digest_size = library.tag_length_of(tag_length)
+        self._digest_size = library.tag_length_of(tag_length)
         # A signal handler that uses the MAC that it interrupts must not wait for itself.
         self._lock = threading.RLock()
         self._state = library.State()
@@ -54,6 +54,11 @@ class Mac(variants.Variant, library.Secret):
         if state is not None:
             ctypes.memset(state, 0, library.STATE_BYTES)
 
+    @property
+    def digest_size(self) -> int:
+        """The number of bytes of the MAC."""
+        return self._digest_size
+
     def update(self, data: ReadableBuffer) -> None:
         """Takes in the next bytes of the input."""
         chunk = library.readable(data)
@@ -62,7 +67,7 @@ class Mac(variants.Variant, library.Secret):
 
     def digest(self) -> bytes:
         """Returns the MAC of the input so far. More of it may follow."""
-        mac = bytearray(self.digest_size)
+        mac = bytearray(self._digest_size)
         with self._lock:
             library.check(library.mac_final(self._state, library.pointer(mac), len(mac)))
         return bytes(mac)
@@ -76,7 +81,7 @@ class Mac(variants.Variant, library.Secret):
 
         Bytes of another length are a `ValueError`.
         """
-        expected = library.exactly("MAC", mac, self.digest_size)
+        expected = library.exactly("MAC", mac, self._digest_size)
         with self._lock:
             library.check(
                 library.mac_final_verify(self._state, expected, len(expected))
@@ -88,7 +93,7 @@ class Mac(variants.Variant, library.Secret):
         It has the attributes of a subclass too, but for those in slots.
         """
         other = type(self).__new__(type(self))
-        other.digest_size = self.digest_size
+        other._digest_size = self._digest_size
         other._lock = threading.RLock()
         with self._lock:
             other._state = library.State.from_buffer_copy(self._state)

@@ -145,7 +145,8 @@ class Encryptor(Chunks):
 class Decryptor(Chunks):
     """A ciphertext that comes in chunks, by `Cipher.decryptor`.
 
-    The message is kept in memory, and none of it can be read before `finalize` has verified the tag.
+    The message is kept in memory, and none of it can be read before `finalize` has verified the tag. Each chunk takes
+    about 100 bytes besides its own.
 
     >>> from hunkravy import Aegis128L
     >>> cipher, nonce = Aegis128L(bytes(16)), bytes(16)

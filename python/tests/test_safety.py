@@ -152,6 +152,13 @@ class Copies(unittest.TestCase):
             del other
             self.assertEqual(mac.digest(), Aegis256Mac(KEY, b"the other input", tag_length=16).digest())
 
+    def test_the_length_of_a_mac_stays(self) -> None:
+        mac = Aegis256Mac(bytes(32), tag_length=16)
+        with self.assertRaises(AttributeError):
+            setattr(mac, "digest_size", 32)
+        self.assertEqual((mac.digest_size, len(mac.digest())), (16, 16))
+        self.assertEqual(mac.copy().digest_size, 16)
+
     def test_attributes_of_a_subclass(self) -> None:
         class Labelled(Aegis256Mac):
             def __init__(self) -> None:

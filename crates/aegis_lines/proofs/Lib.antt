@@ -1,7 +1,4 @@
 mod KeyFacts
-mod LinesFacts
-mod OutputFacts
 mod PieceFacts
-mod Reading
 mod RecordFacts
 mod RequestFacts

@@ -3,8 +3,6 @@ pub mod Command
 pub mod Fault
 pub mod Field
 pub mod Keys
-pub mod Lines
-pub mod Output
 pub mod Record
 pub mod Request
 pub mod Table

@@ -49,7 +49,7 @@ pub enum Failure<'a> {
     SecondName(Name<'a>),
     #[error("{0} cannot be written: its folder, or its file .OUT.hunkravy- and 16 digits, was renamed or removed meanwhile")]
     Moved(Name<'a>),
-    #[error("{0} exists; --force replaces it")]
+    #[error("{0} exists; --force replaces a file")]
     Exists(Name<'a>),
     #[error("{0} exists, and keygen replaces no file")]
     KeyExists(Name<'a>),

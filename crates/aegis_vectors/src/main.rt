@@ -7,6 +7,6 @@
 use std::process::ExitCode;
 
 fn main(rt: HostRuntime) -> ExitCode {
-    let status = aegis_lines::run(rt.alloc(), &mut rt.stdin(), &mut rt.stdout());
+    let status = aegis_session::run(rt.alloc(), &mut rt.stdin(), &mut rt.stdout());
     ExitCode::from(status)
 }

@@ -1,13 +1,13 @@
-//! The library beside the slow functions of `test_reference`, one lane at a time: ciphertexts, tags and MACs.
+//! The library beside the slow functions of `reference`, one lane at a time: ciphertexts, tags and MACs.
 
 ghost use Rattle.std.specs.Prelude.{◌≤◌};
 
 mod library;
 
+use crate::reference::{SubstitutionTable, slow_mac, slow_seal};
 use aegis_variants::{AnyCipher, AnyVariant, Keys, TAG_LENGTHS, TagLength, VARIANTS};
 use library::{library_mac, library_seal};
 use std::{fmt, io};
-use test_reference::{SubstitutionTable, slow_mac, slow_seal};
 
 // The longest message or associated data: one byte more than two rate blocks of 128 bytes.
 const LONGEST: usize = 257;

@@ -1,15 +1,16 @@
 //! The library and the line program, checked against stored answers and a slow reference.
 //!
 //! The lines of `data/` are run first, and the answers are compared with the stored ones. Then the library is
-//! compared with the slow functions of `test_reference`, one lane at a time. The exit status is 1 if an answer differs.
+//! compared with the slow functions of `reference`, one lane at a time. The exit status is 1 if an answer differs.
 #![tactic(auto)]
 
 mod lane_by_lane;
+mod reference;
 mod stored;
 
+use reference::SubstitutionTable;
 use std::io;
 use std::process::ExitCode;
-use test_reference::SubstitutionTable;
 
 fn main(rt: HostRuntime) -> io::Result<ExitCode> {
     let table = SubstitutionTable::new();

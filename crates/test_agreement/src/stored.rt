@@ -44,6 +44,6 @@ fn agrees(rt: &HostRuntime, name: &str, status: u8) -> io::Result<bool> {
     let lines = fs::read(rt, lines.as_str())?;
     let expected = fs::read(rt, answers.as_str())?;
     let mut output = Vec::new(rt.alloc());
-    let answered = aegis_lines::run(rt.alloc(), &mut lines.as_slice(), &mut output);
+    let answered = aegis_session::run(rt.alloc(), &mut lines.as_slice(), &mut output);
     Ok(answered == status && output.as_slice() == expected.as_slice())
 }

@@ -2,6 +2,7 @@
 
 mod chunks;
 mod hostile;
+mod limits;
 mod one_shot;
 
 use aegis::Error;

@@ -2,8 +2,8 @@
 
 ghost use Rattle.std.specs.Prelude.{◌<◌, ◌^◌, length};
 
+use crate::reference::{TwoBlocks, halves};
 use aegis_variants::{AnyCipher, TagLength};
-use test_reference::{TwoBlocks, halves};
 
 /// Seals a message in place. A tag of 16 bytes has zeros after it.
 pub fn library_seal(

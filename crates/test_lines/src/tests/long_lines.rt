@@ -1,7 +1,7 @@
 //! The memory that a long line takes, from the reader to the writer.
 
 use aegis::aegis128l::Aegis128L;
-use aegis_lines::run;
+use aegis_session::run;
 use linked_list_allocator::LocalHeap;
 use std::test::Fail;
 

@@ -1,7 +1,8 @@
 //! No memory in the line program: each allocation refused in turn.
 
 use aegis::Error;
-use aegis_lines::{answer_line, run};
+use aegis_lines::answer_line;
+use aegis_session::run;
 use std::test::Fail;
 use test_tools::memory::Rationed;
 

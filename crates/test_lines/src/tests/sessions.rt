@@ -1,6 +1,6 @@
 //! The line program with readers and writers in memory.
 
-use aegis_lines::run;
+use aegis_session::run;
 use std::io::ErrorKind;
 use std::process::Abort;
 use std::test::Fail;

@@ -1,0 +1,3 @@
+mod LinesFacts
+mod OutputFacts
+mod Reading

@@ -1,5 +1,0 @@
-//! Tests of the limit on lengths.
-#![tactic(auto)]
-
-#[cfg(test)]
-mod tests;
