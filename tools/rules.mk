@@ -37,9 +37,9 @@ install-tool: $(TOOL_LEVELS:%=$(OUT)/%/hunkravy)
 check-tool: $(OUT)/$(lastword $(TOOL_LEVELS))/hunkravy
 	tools/check_tool.sh $< $(VERSION)
 
-# Writes the manual page and the completions, which check-tool compares with what the program prints.
+# Writes the manual page and the completions by what the program's help says. check-tool compares them with it.
 tool-pages: $(OUT)/$(lastword $(TOOL_LEVELS))/hunkravy
-	for form in man bash zsh fish; do $< manual $$form > $(TOOL_PAGES)/$$form; done
+	tools/tool_pages.py $< $(VERSION) $(TOOL_PAGES)
 
 # ---- Batches of writes
 

@@ -78,10 +78,6 @@ pub enum Action<'a> {
     },
     Check(Transfer<'a>),
     Info(Transfer<'a>),
-    /// Prints the manual page, or the completions for a shell.
-    Manual {
-        form: &'a str,
-    },
 }
 
 fn key_argument<'a>(alloc: Global) -> Arg<'a> {
@@ -205,13 +201,6 @@ fn info<'a>(alloc: Global) -> Result<Command<'a>, AllocError> {
         .arg(input_argument(alloc))
 }
 
-fn manual<'a>(alloc: Global) -> Result<Command<'a>, AllocError> {
-    Command::new(alloc, "manual")
-        .about("Prints the manual page (man), or the completions for bash, zsh or fish")
-        .hide(true)
-        .arg(Arg::new(alloc, "FORM").required(true))
-}
-
 // Adds a command to the program's.
 fn with_command<'a>(
     program: Command<'a>,
@@ -220,8 +209,8 @@ fn with_command<'a>(
     program.subcommand(command?)
 }
 
-/// The commands that users call, and their arguments. `--help` ends with the notes.
-pub fn users_commands<'a>(
+/// The commands and their arguments. `--help` ends with the notes.
+pub fn command<'a>(
     alloc: Global,
     version: &'a str,
     notes: &'a str,
@@ -238,15 +227,6 @@ pub fn users_commands<'a>(
     let program = with_command(program, rekey(alloc))?;
     let program = with_command(program, check(alloc))?;
     with_command(program, info(alloc))
-}
-
-/// All commands: also the one that prints the manual page and completions.
-pub fn command<'a>(
-    alloc: Global,
-    version: &'a str,
-    notes: &'a str,
-) -> Result<Command<'a>, AllocError> {
-    with_command(users_commands(alloc, version, notes)?, manual(alloc))
 }
 
 fn name<'a>(matches: &ArgMatches<'a>, id: &str) -> &'a str {
@@ -316,9 +296,6 @@ pub fn parse<'a>(matches: &ArgMatches<'a>) -> Option<Action<'a>> {
         }),
         "check" => Some(Action::Check(transfer_of(found))),
         "info" => Some(Action::Info(transfer_of(found))),
-        "manual" => Some(Action::Manual {
-            form: name(found, "FORM"),
-        }),
         _ => None,
     }
 }

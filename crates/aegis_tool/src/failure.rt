@@ -79,8 +79,6 @@ pub enum Failure<'a> {
     NoFile,
     #[error("--records takes A..B, A less than B: the records A to B-1, from 0")]
     NoSpan,
-    #[error("there is no manual for {0}: man, bash, zsh or fish")]
-    NoManual(Name<'a>),
     #[error("there is no command; --help lists them")]
     NoCommand,
     #[error("out of memory")]
@@ -119,8 +117,7 @@ impl<'a> Failure<'a> {
             | Failure::TruncatedPart(_)
             | Failure::PastRecords(..)
             | Failure::PastBytes(..) => REFUSED,
-            Failure::NoCommand | Failure::NoManual(_) | Failure::NoFile | Failure::NoSpan =>
-                MISUSED,
+            Failure::NoCommand | Failure::NoFile | Failure::NoSpan => MISUSED,
             _ => FAILED,
         }
     }

@@ -5,7 +5,7 @@ mod command;
 mod failure;
 mod info;
 mod key;
-mod manual;
+mod notes;
 mod output;
 mod progress;
 mod range;
@@ -16,7 +16,7 @@ mod version;
 
 use command::{Action, command, parse};
 use failure::{FAILED, Failure, MISUSED, Stopped, printed};
-use manual::notes;
+use notes::NOTES;
 use output::at_the_start;
 use shown::Lines;
 use std::io::ErrorKind;
@@ -35,7 +35,6 @@ fn act<'a>(rt: &HostRuntime, action: Option<Action<'a>>) -> Result<(), Stopped<'
         }
         Some(Action::Check(paths)) => Ok(transfer::check(rt, paths)?),
         Some(Action::Info(paths)) => Ok(info::info(rt, paths)?),
-        Some(Action::Manual { form }) => Ok(manual::print(rt, form)?),
         None => Err(Stopped::from(Failure::NoCommand)),
     }
 }
@@ -71,8 +70,7 @@ fn answer(rt: &HostRuntime, error: &clap::Error) -> anyhow::Result<u8> {
 // Carries out the command line, and returns the exit status. It is an error if memory runs out.
 fn carry_out(rt: &HostRuntime, words: &[String]) -> anyhow::Result<u8> {
     let version = version::text(rt)?;
-    let notes = notes(rt.alloc())?;
-    let commands = command(rt.alloc(), version.as_str(), notes.as_str())?;
+    let commands = command(rt.alloc(), version.as_str(), NOTES)?;
     match commands.try_get_matches_from(words) {
         Ok(matches) => Ok(end(rt, act(rt, parse(&matches)))),
         Err(error) => answer(rt, &error),
