@@ -6,9 +6,9 @@ mod ranges;
 mod texts;
 
 use aegis::record::RecordSealer;
-use aegis_files::{FileError, open_stream, seal_stream};
+use aegis_files::{FileError, open_stream, rekey_stream, seal_stream};
 use std::alloc::{Allocator, Global};
-use std::io::Read;
+use std::io::{Read, Write};
 
 const KEY: [u8; 32] = [7; 32];
 
@@ -16,11 +16,41 @@ const PREFIX: [u8; 24] = [9; 24];
 
 const CONTEXT: [u8; 4] = *b"test";
 
+/// Seals a text.
+fn seal<A: Allocator + Copy, R: Read, W: Write>(
+    alloc: A,
+    input: &mut R,
+    file: &mut W,
+) -> Result<(), FileError> {
+    seal_stream(alloc, &KEY, &PREFIX, &CONTEXT, input, file)
+}
+
+/// Opens a file under a key.
+fn open<A: Allocator + Copy, R: Read, W: Write>(
+    alloc: A,
+    key: &[u8; 32],
+    input: &mut R,
+    text: &mut W,
+) -> Result<(), FileError> {
+    open_stream(alloc, key, &CONTEXT, input, text)
+}
+
+/// Seals a file anew under another key.
+fn rekey<A: Allocator + Copy, R: Read, W: Write>(
+    alloc: A,
+    key: &[u8; 32],
+    prefix: &[u8; 24],
+    input: &mut R,
+    file: &mut W,
+) -> Result<(), FileError> {
+    rekey_stream(alloc, &KEY, key, prefix, &CONTEXT, input, file)
+}
+
 /// The file of a text.
-fn sealed<A: Allocator + Copy>(alloc: A, text: &[u8]) -> Result<Vec<u8, A>, FileError> {
+fn sealed(alloc: Global, text: &[u8]) -> Result<Vec<u8>, FileError> {
     let mut file = Vec::new(alloc);
     let mut input = text;
-    seal_stream(alloc, &KEY, &PREFIX, &CONTEXT, &mut input, &mut file)?;
+    seal(alloc, &mut input, &mut file)?;
     Ok(file)
 }
 
@@ -31,7 +61,7 @@ fn opened_with<R: Read>(
     input: &mut R,
 ) -> (Vec<u8>, Result<(), FileError>) {
     let mut text = Vec::new(alloc);
-    let result = open_stream(alloc, key, &CONTEXT, input, &mut text);
+    let result = open(alloc, key, input, &mut text);
     (text, result)
 }
 
@@ -39,6 +69,13 @@ fn opened_with<R: Read>(
 fn opened(alloc: Global, file: &[u8]) -> (Vec<u8>, Result<(), FileError>) {
     let mut input = file;
     opened_with(alloc, &KEY, &mut input)
+}
+
+/// A text of equal bytes.
+fn long_text(alloc: Global, length: usize) -> Result<Vec<u8>, FileError> {
+    let mut text = Vec::new(alloc);
+    text.resize(length, 0x5a)?;
+    Ok(text)
 }
 
 /// The messages of the small file.

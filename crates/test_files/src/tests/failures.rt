@@ -1,8 +1,10 @@
 //! Readers, writers and memory that fail.
 
-use super::{CONTEXT, KEY, PREFIX, TEXT, opened, opened_with, sealed, three_records};
+use super::{
+    KEY, PREFIX, TEXT, long_text, open, opened, opened_with, rekey, seal, sealed, three_records,
+};
 use aegis::record::RecordError;
-use aegis_files::{FileError, PIECE_BYTES, open_stream, rekey_stream, seal_stream};
+use aegis_files::{FileError, PIECE_BYTES};
 use std::alloc::Global;
 use std::io::ErrorKind;
 use std::test::Fail;
@@ -12,18 +14,64 @@ use test_tools::memory::Rationed;
 // More requests than are made to seal or open a small file.
 const REQUESTS: u64 = 40;
 
+/// A reader of these bytes that fails after them.
+pub fn cut_off(left: &[u8]) -> CutOff<'_> {
+    CutOff {
+        left,
+        error: ErrorKind::Other,
+    }
+}
+
+/// A writer that has room for so many bytes.
+pub fn narrow(alloc: Global, room: usize, error: Option<ErrorKind>) -> Narrow {
+    Narrow {
+        written: Vec::new(alloc),
+        room,
+        error,
+        flushes: true,
+    }
+}
+
+// A writer that takes all bytes, and whose flush fails.
+fn without_flush(alloc: Global) -> Narrow {
+    Narrow {
+        written: Vec::new(alloc),
+        room: usize::MAX,
+        error: None,
+        flushes: false,
+    }
+}
+
+// Seals what a reader has before it fails. Returns the file, and whether the error is the reader's.
+fn sealed_until_failure(alloc: Global, left: &[u8]) -> (Vec<u8>, bool) {
+    let mut file = Vec::new(alloc);
+    let result = seal(alloc, &mut cut_off(left), &mut file);
+    (file, matches!(result, Err(FileError::Read(_))))
+}
+
+// Whether sealing a text into a writer gives the writer's error.
+fn seal_fails(alloc: Global, file: &mut Narrow) -> bool {
+    let mut input = TEXT;
+    matches!(seal(alloc, &mut input, file), Err(FileError::Write(_)))
+}
+
+// Whether opening a file into a writer gives the writer's error.
+fn open_fails(alloc: Global, file: &[u8], text: &mut Narrow) -> bool {
+    let mut input = file;
+    matches!(
+        open(alloc, &KEY, &mut input, text),
+        Err(FileError::Write(_))
+    )
+}
+
 // Each length of input before a read fails: the error is the reader's, and what was written is a front of the text.
 #[test]
 fn opening_stops_where_a_read_fails(rt: HostRuntime) -> Result<(), Fail> {
     let file = three_records(rt.alloc(), &KEY, &PREFIX)?;
     for length in 0..=file.len() {
-        let mut input = CutOff {
-            left: &file[..length],
-            error: ErrorKind::Other,
-        };
-        let (text, result) = opened_with(rt.alloc(), &KEY, &mut input);
-        assert!(rt; matches!(result, Err(FileError::Read(_))), "at {length}");
-        assert!(rt; TEXT.starts_with(&text), "at {length}");
+        let (text, result) = opened_with(rt.alloc(), &KEY, &mut cut_off(&file[..length]));
+        let is_read = matches!(result, Err(FileError::Read(_)));
+        assert!(rt; is_read && TEXT.starts_with(&text), "at {length}");
     }
     Ok(())
 }
@@ -31,19 +79,10 @@ fn opening_stops_where_a_read_fails(rt: HostRuntime) -> Result<(), Fail> {
 #[test]
 fn sealing_stops_where_a_read_fails(rt: HostRuntime) -> Result<(), Fail> {
     let whole = sealed(rt.alloc(), TEXT)?;
+    let front = &whole[..whole.len().min(28)];
     for length in 0..=TEXT.len() {
-        let mut input = CutOff {
-            left: &TEXT[..length],
-            error: ErrorKind::Other,
-        };
-        let mut file = Vec::new(rt.alloc());
-        let result = seal_stream(rt.alloc(), &KEY, &PREFIX, &CONTEXT, &mut input, &mut file);
-        assert!(rt; matches!(result, Err(FileError::Read(_))), "at {length}");
-        assert_eq!(rt;
-            file.as_slice(),
-            &whole[..whole.len().min(28)],
-            "at {length}"
-        );
+        let (file, is_read) = sealed_until_failure(rt.alloc(), &TEXT[..length]);
+        assert!(rt; is_read && file.as_slice() == front, "at {length}");
     }
     Ok(())
 }
@@ -52,19 +91,11 @@ fn sealing_stops_where_a_read_fails(rt: HostRuntime) -> Result<(), Fail> {
 // written does not open.
 #[test]
 fn a_read_that_fails_leaves_no_whole_file(rt: HostRuntime) -> Result<(), Fail> {
-    let mut text = Vec::new(rt.alloc());
-    text.resize(2 * PIECE_BYTES + 9, 0x5a)?;
+    let text = long_text(rt.alloc(), 2 * PIECE_BYTES + 9)?;
     let whole = sealed(rt.alloc(), &text)?;
-    let mut input = CutOff {
-        left: &text,
-        error: ErrorKind::Other,
-    };
-    let mut file = Vec::new(rt.alloc());
-    let result = seal_stream(rt.alloc(), &KEY, &PREFIX, &CONTEXT, &mut input, &mut file);
-    assert!(rt; matches!(result, Err(FileError::Read(_))));
-    let sent = 24 + 4 + 2 * (37 + PIECE_BYTES);
-    assert_eq!(rt; file.len(), sent);
-    assert!(rt; whole.starts_with(&file));
+    let (file, is_read) = sealed_until_failure(rt.alloc(), &text);
+    assert!(rt; is_read && whole.starts_with(&file));
+    assert_eq!(rt; file.len(), 24 + 4 + 2 * (37 + PIECE_BYTES));
     let (found, result) = opened(rt.alloc(), &file);
     assert!(rt; matches!(result, Err(FileError::Stream(RecordError::Truncated))));
     assert_eq!(rt; found.len(), 2 * PIECE_BYTES);
@@ -77,19 +108,12 @@ fn a_read_that_fails_leaves_no_whole_file(rt: HostRuntime) -> Result<(), Fail> {
 fn sealing_stops_where_a_write_fails(rt: HostRuntime) -> Result<(), Fail> {
     let whole = sealed(rt.alloc(), TEXT)?;
     for room in 0..whole.len() {
-        let mut file = Narrow {
-            written: Vec::new(rt.alloc()),
-            room,
-            error: None,
-            flushes: true,
-        };
-        let mut input = TEXT;
-        let result = seal_stream(rt.alloc(), &KEY, &PREFIX, &CONTEXT, &mut input, &mut file);
+        let mut file = narrow(rt.alloc(), room, None);
+        assert!(rt; seal_fails(rt.alloc(), &mut file), "with room {room}");
         assert!(rt;
-            matches!(result, Err(FileError::Write(_))),
+            file.written.as_slice() == &whole[..room],
             "with room {room}"
         );
-        assert_eq!(rt; file.written.as_slice(), &whole[..room], "with room {room}");
     }
     Ok(())
 }
@@ -98,48 +122,56 @@ fn sealing_stops_where_a_write_fails(rt: HostRuntime) -> Result<(), Fail> {
 fn opening_stops_where_a_write_fails(rt: HostRuntime) -> Result<(), Fail> {
     let file = three_records(rt.alloc(), &KEY, &PREFIX)?;
     for room in 0..TEXT.len() {
-        let mut text = Narrow {
-            written: Vec::new(rt.alloc()),
-            room,
-            error: Some(ErrorKind::StorageFull),
-            flushes: true,
-        };
-        let mut input = file.as_slice();
-        let result = open_stream(rt.alloc(), &KEY, &CONTEXT, &mut input, &mut text);
+        let mut text = narrow(rt.alloc(), room, Some(ErrorKind::StorageFull));
         assert!(rt;
-            matches!(result, Err(FileError::Write(_))),
+            open_fails(rt.alloc(), &file, &mut text),
             "with room {room}"
         );
-        assert_eq!(rt; text.written.as_slice(), &TEXT[..room], "with room {room}");
+        assert!(rt;
+            text.written.as_slice() == &TEXT[..room],
+            "with room {room}"
+        );
     }
     Ok(())
-}
-
-// A writer that takes all bytes, and whose flush fails.
-fn without_flush(rt: &HostRuntime) -> Narrow {
-    Narrow {
-        written: Vec::new(rt.alloc()),
-        room: usize::MAX,
-        error: None,
-        flushes: false,
-    }
 }
 
 // A flush that fails is reported, though all bytes were written.
 #[test]
 fn a_failed_flush_is_reported(rt: HostRuntime) -> Result<(), Fail> {
     let whole = sealed(rt.alloc(), TEXT)?;
-    let mut file = without_flush(&rt);
-    let mut input = TEXT;
-    let result = seal_stream(rt.alloc(), &KEY, &PREFIX, &CONTEXT, &mut input, &mut file);
-    assert!(rt; matches!(result, Err(FileError::Write(_))));
-    assert_eq!(rt; file.written.as_slice(), whole.as_slice());
-    let mut text = without_flush(&rt);
-    let mut input = whole.as_slice();
-    let result = open_stream(rt.alloc(), &KEY, &CONTEXT, &mut input, &mut text);
-    assert!(rt; matches!(result, Err(FileError::Write(_))));
-    assert_eq!(rt; text.written.as_slice(), TEXT);
+    let mut file = without_flush(rt.alloc());
+    assert!(rt; seal_fails(rt.alloc(), &mut file));
+    assert!(rt; file.written == whole);
+    let mut text = without_flush(rt.alloc());
+    assert!(rt; open_fails(rt.alloc(), &whole, &mut text));
+    assert!(rt; text.written.as_slice() == TEXT);
     Ok(())
+}
+
+// The file of a text, with so many requests of memory.
+fn sealed_within(alloc: Global, text: &[u8], requests: u64) -> (Vec<u8>, Result<(), FileError>) {
+    let heap = Rationed::new(alloc, requests);
+    let mut file = Vec::new(alloc);
+    let mut input = text;
+    let result = seal(&heap, &mut input, &mut file);
+    (file, result)
+}
+
+// The text of a file, with so many requests of memory.
+fn opened_within(alloc: Global, file: &[u8], requests: u64) -> (Vec<u8>, Result<(), FileError>) {
+    let heap = Rationed::new(alloc, requests);
+    let mut text = Vec::new(alloc);
+    let mut input = file;
+    let result = open(&heap, &KEY, &mut input, &mut text);
+    (text, result)
+}
+
+// Whether these bytes were written, or memory ran out.
+fn is_whole_or_refused(written: &[u8], ending: &Result<(), FileError>, whole: &[u8]) -> bool {
+    match ending {
+        Ok(()) => written == whole,
+        Err(error) => matches!(error, FileError::Stream(RecordError::OutOfMemory)),
+    }
 }
 
 // With each request refused in turn, a file is sealed and opened as with enough memory, or the error is `OutOfMemory`.
@@ -147,26 +179,10 @@ fn a_failed_flush_is_reported(rt: HostRuntime) -> Result<(), Fail> {
 fn memory_is_refused_in_turn(rt: HostRuntime) -> Result<(), Fail> {
     let whole = sealed(rt.alloc(), TEXT)?;
     for requests in 0..REQUESTS {
-        let heap = Rationed::new(rt.alloc(), requests);
-        let mut file = Vec::new(rt.alloc());
-        let mut input = TEXT;
-        match seal_stream(&heap, &KEY, &PREFIX, &CONTEXT, &mut input, &mut file) {
-            Ok(()) => assert!(rt; file == whole, "{requests}"),
-            Err(error) => assert!(rt;
-                matches!(error, FileError::Stream(RecordError::OutOfMemory)),
-                "{requests}"
-            ),
-        }
-        let heap = Rationed::new(rt.alloc(), requests);
-        let mut text = Vec::new(rt.alloc());
-        let mut input = whole.as_slice();
-        match open_stream(&heap, &KEY, &CONTEXT, &mut input, &mut text) {
-            Ok(()) => assert_eq!(rt; text.as_slice(), TEXT, "{requests}"),
-            Err(error) => assert!(rt;
-                matches!(error, FileError::Stream(RecordError::OutOfMemory)),
-                "{requests}"
-            ),
-        }
+        let (file, result) = sealed_within(rt.alloc(), TEXT, requests);
+        assert!(rt; is_whole_or_refused(&file, &result, &whole), "{requests}");
+        let (text, result) = opened_within(rt.alloc(), &whole, requests);
+        assert!(rt; is_whole_or_refused(&text, &result, TEXT), "{requests}");
     }
     Ok(())
 }
@@ -174,13 +190,9 @@ fn memory_is_refused_in_turn(rt: HostRuntime) -> Result<(), Fail> {
 // The record's buffer, and the vector of the other bytes: no piece takes memory.
 #[test]
 fn memory_is_taken_at_the_start_alone(rt: HostRuntime) -> Result<(), Fail> {
-    let mut text = Vec::new(rt.alloc());
-    text.resize(2 * PIECE_BYTES + 9, 0x5a)?;
+    let text = long_text(rt.alloc(), 2 * PIECE_BYTES + 9)?;
     for requests in 0..3 {
-        let heap = Rationed::new(rt.alloc(), requests);
-        let mut file = Vec::new(rt.alloc());
-        let mut input = text.as_slice();
-        let result = seal_stream(&heap, &KEY, &PREFIX, &CONTEXT, &mut input, &mut file);
+        let (file, result) = sealed_within(rt.alloc(), &text, requests);
         assert_eq!(rt; result.is_ok(), requests == 2, "{requests}");
         assert_eq!(rt; file.is_empty(), requests < 2, "{requests}");
     }
@@ -189,18 +201,14 @@ fn memory_is_taken_at_the_start_alone(rt: HostRuntime) -> Result<(), Fail> {
 
 // How many requests are left after the file of a text of this length was opened, and sealed anew.
 fn requests_left(alloc: Global, length: usize) -> Result<u64, FileError> {
-    let mut text = Vec::new(alloc);
-    text.resize(length, 0x5a)?;
-    let file = sealed(alloc, &text)?;
+    let file = sealed(alloc, &long_text(alloc, length)?)?;
     let heap = Rationed::new(alloc, REQUESTS);
     let mut found = Vec::new(alloc);
     let mut input = file.as_slice();
-    open_stream(&heap, &KEY, &CONTEXT, &mut input, &mut found)?;
+    open(&heap, &KEY, &mut input, &mut found)?;
     let mut anew = Vec::new(alloc);
     let mut input = file.as_slice();
-    rekey_stream(
-        &heap, &KEY, &[8; 32], &[10; 24], &CONTEXT, &mut input, &mut anew,
-    )?;
+    rekey(&heap, &[8; 32], &[10; 24], &mut input, &mut anew)?;
     Ok(heap.left())
 }
 

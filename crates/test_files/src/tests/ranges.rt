@@ -1,5 +1,6 @@
 //! Parts of a text, each opened from a record on.
 
+use super::failures::{cut_off, narrow};
 use super::{CONTEXT, KEY, PREFIX, TEXT, three_records};
 use aegis::record::{RecordError, RecordPosition, Version};
 use aegis_files::{FileError, OpenedRange, TextRange, open_range};
@@ -7,7 +8,6 @@ use std::alloc::Global;
 use std::io::{ErrorKind, Read, Write};
 use std::num::NonZeroU64;
 use std::test::Fail;
-use test_tools::ends::{CutOff, Narrow};
 
 // A record of the small file: where it starts in the file, its number, and how many bytes of the text come before it.
 #[derive(Clone, Copy)]
@@ -41,6 +41,20 @@ struct Part {
     written: Vec<u8>,
     result: Result<OpenedRange, FileError>,
     left: usize,
+}
+
+impl Part {
+    // Whether a part was opened that has these bytes.
+    fn has(&self, text: &[u8]) -> bool {
+        matches!(&self.result, Ok(opened) if opened.length == text.len() as u64)
+            && self.written.as_slice() == text
+    }
+
+    // Whether a record of this number is damaged, and these bytes were written before it.
+    fn is_damaged(&self, number: u64, text: &[u8]) -> bool {
+        matches!(&self.result, Err(FileError::Stream(RecordError::Damaged(n))) if *n == number)
+            && self.written.as_slice() == text
+    }
 }
 
 // How many bytes a part leaves out, and how many bytes and records it has at most.
@@ -101,16 +115,12 @@ fn each_part_opens_from_each_record(rt: HostRuntime) -> Result<(), Fail> {
     for place in PLACES {
         let text = TEXT.get(place.before as usize..).unwrap_or(&[]);
         for skip in 0..=TEXT.len() {
+            let rest = text.get(skip..).unwrap_or(&[]);
             for length in 0..=TEXT.len() {
-                let rest = text.get(skip..).unwrap_or(&[]);
-                let wanted = rest.get(..length).unwrap_or(rest);
                 let asked = bytes(skip as u64, length as u64);
                 let part = opened_part(rt.alloc(), &file, place, asked);
-                assert!(rt;
-                    matches!(part.result, Ok(opened) if opened.length == wanted.len() as u64),
-                    "{skip}, {length}"
-                );
-                assert_eq!(rt; part.written.as_slice(), wanted, "{skip}, {length}");
+                let wanted = rest.get(..length).unwrap_or(rest);
+                assert!(rt; part.has(wanted), "{skip}, {length}");
             }
         }
     }
@@ -120,28 +130,21 @@ fn each_part_opens_from_each_record(rt: HostRuntime) -> Result<(), Fail> {
 #[test]
 fn a_part_has_the_whole_text_at_most(rt: HostRuntime) -> Result<(), Fail> {
     let file = three_records(rt.alloc(), &KEY, &PREFIX)?;
-    let part = opened_part(rt.alloc(), &file, PLACES[0], bytes(0, u64::MAX));
-    assert!(rt; matches!(part.result, Ok(opened) if is_whole(&opened, 15)));
-    assert_eq!(rt; part.written.as_slice(), TEXT);
-    let none = opened_part(rt.alloc(), &file, PLACES[0], bytes(u64::MAX, u64::MAX));
-    assert!(rt; matches!(none.result, Ok(opened) if is_whole(&opened, 0)));
-    assert!(rt; none.written.is_empty());
+    for (skip, text) in [(0, TEXT), (u64::MAX, &[])] {
+        let part = opened_part(rt.alloc(), &file, PLACES[0], bytes(skip, u64::MAX));
+        assert!(rt; part.has(text) && matches!(part.result, Ok(opened) if is_whole(opened)));
+    }
     Ok(())
 }
 
-// Whether all records of the small file were opened, and so many bytes of its text were written.
-fn is_whole(opened: &OpenedRange, length: u64) -> bool {
+// Whether all records of the small file were opened.
+fn is_whole(opened: OpenedRange) -> bool {
     let end = RecordPosition {
         version: Version::Second,
         number: 3,
         before: 15,
     };
-    *opened
-        == OpenedRange {
-            length,
-            end,
-            is_last: true,
-        }
+    opened.end == end && opened.is_last
 }
 
 // From the first record, one record and so many more.
@@ -156,11 +159,8 @@ fn a_part_has_so_many_records_at_most(rt: HostRuntime) -> Result<(), Fail> {
             records: NonZeroU64::MIN.saturating_add(more),
         };
         let part = opened_part(rt.alloc(), &file, PLACES[0], asked);
-        assert_eq!(rt; part.written.as_slice(), &TEXT[..length], "{more}");
-        assert!(rt;
-            matches!(part.result, Ok(opened) if opened.is_last == is_last),
-            "{more}"
-        );
+        let is_right = matches!(part.result, Ok(opened) if opened.is_last == is_last);
+        assert!(rt; is_right && part.has(&TEXT[..length]), "{more}");
     }
     Ok(())
 }
@@ -174,11 +174,7 @@ fn a_record_is_opened_for_no_bytes(rt: HostRuntime) -> Result<(), Fail> {
     }
     for (skip, length) in [(0, 0), (5, 0), (5, 1), (u64::MAX, u64::MAX)] {
         let part = opened_part(rt.alloc(), &file, PLACES[2], bytes(skip, length));
-        assert!(rt;
-            matches!(part.result, Err(FileError::Stream(RecordError::Damaged(2)))),
-            "{skip}, {length}"
-        );
-        assert!(rt; part.written.is_empty(), "{skip}, {length}");
+        assert!(rt; part.is_damaged(2, &[]), "{skip}, {length}");
     }
     Ok(())
 }
@@ -213,52 +209,29 @@ fn records_after_the_part_need_not_be_whole(rt: HostRuntime) -> Result<(), Fail>
         *byte ^= 1;
     }
     let part = opened_part(rt.alloc(), &file, PLACES[0], bytes(1, 9));
-    assert!(rt; matches!(part.result, Ok(opened) if opened.length == 9));
-    assert_eq!(rt; part.written.as_slice(), b"neand two".as_slice());
+    assert!(rt; part.has(b"neand two"));
     let damaged = opened_part(rt.alloc(), &file, PLACES[1], bytes(4, 9));
-    assert!(rt;
-        matches!(
-            damaged.result,
-            Err(FileError::Stream(RecordError::Damaged(2)))
-        )
-    );
-    assert_eq!(rt; damaged.written.as_slice(), b"two".as_slice());
+    assert!(rt; damaged.is_damaged(2, b"two"));
     file.pop();
-    let truncated = opened_part(rt.alloc(), &file, PLACES[1], bytes(4, 9));
-    assert!(rt;
-        matches!(
-            truncated.result,
-            Err(FileError::Stream(RecordError::Truncated))
-        )
-    );
-    assert_eq!(rt; truncated.written.as_slice(), b"two".as_slice());
+    let cut = opened_part(rt.alloc(), &file, PLACES[1], bytes(4, 9));
+    let is_truncated = matches!(cut.result, Err(FileError::Stream(RecordError::Truncated)));
+    assert!(rt; is_truncated && cut.written.as_slice() == b"two".as_slice());
     Ok(())
 }
 
 #[test]
 fn a_wrong_position_is_refused(rt: HostRuntime) -> Result<(), Fail> {
     let file = three_records(rt.alloc(), &KEY, &PREFIX)?;
-    let [first, second, third] = PLACES;
-    let swapped = Place {
-        start: third.start,
-        ..second
-    };
-    let others = [
-        swapped,
-        Place {
-            number: 2,
-            ..second
-        },
-        Place {
-            before: 4,
-            ..second
-        },
-        Place { start: 29, ..first },
-    ];
-    for place in others {
+    let third = PLACES[2].start;
+    for (start, number, before) in [(third, 1, 3), (68, 2, 3), (68, 1, 4), (29, 0, 0)] {
+        let place = Place {
+            start,
+            number,
+            before,
+        };
         let part = opened_part(rt.alloc(), &file, place, bytes(0, 1));
-        assert!(rt; matches!(part.result, Err(FileError::Stream(_))));
-        assert!(rt; part.written.is_empty());
+        let is_refused = matches!(part.result, Err(FileError::Stream(_)));
+        assert!(rt; is_refused && part.written.is_empty(), "at {start}");
     }
     Ok(())
 }
@@ -271,14 +244,11 @@ fn a_part_ends_where_a_read_fails(rt: HostRuntime) -> Result<(), Fail> {
     let file = three_records(rt.alloc(), &KEY, &PREFIX)?;
     let records = file.get(PLACES[1].start..).unwrap_or(&[]);
     for count in 0..records.len() {
-        let mut input = CutOff {
-            left: &records[..count],
-            error: ErrorKind::Other,
-        };
+        let mut input = cut_off(&records[..count]);
         let mut written = Vec::new(rt.alloc());
         let result = open_part(rt.alloc(), PLACES[1], bytes(4, 8), &mut input, &mut written);
-        assert!(rt; matches!(result, Err(FileError::Read(_))), "at {count}");
-        assert!(rt; PART.starts_with(&written), "at {count}");
+        let is_read = matches!(result, Err(FileError::Read(_)));
+        assert!(rt; is_read && PART.starts_with(&written), "at {count}");
     }
     Ok(())
 }
@@ -288,23 +258,12 @@ fn a_part_ends_where_a_write_fails(rt: HostRuntime) -> Result<(), Fail> {
     let file = three_records(rt.alloc(), &KEY, &PREFIX)?;
     let records = file.get(PLACES[1].start..).unwrap_or(&[]);
     for room in 0..PART.len() {
-        let mut output = Narrow {
-            written: Vec::new(rt.alloc()),
-            room,
-            error: Some(ErrorKind::StorageFull),
-            flushes: true,
-        };
+        let mut output = narrow(rt.alloc(), room, Some(ErrorKind::StorageFull));
         let mut input = records;
         let result = open_part(rt.alloc(), PLACES[1], bytes(4, 8), &mut input, &mut output);
-        assert!(rt;
-            matches!(result, Err(FileError::Write(_))),
-            "with room {room}"
-        );
-        assert_eq!(rt;
-            output.written.as_slice(),
-            &PART[..room],
-            "with room {room}"
-        );
+        let is_write = matches!(result, Err(FileError::Write(_)));
+        let is_front = output.written.as_slice() == &PART[..room];
+        assert!(rt; is_write && is_front, "with room {room}");
     }
     Ok(())
 }

@@ -1,15 +1,14 @@
 //! Texts that are sealed and opened in memory.
 
-use super::{CONTEXT, KEY, PREFIX, TEXT, opened, sealed, three_records};
+use super::{CONTEXT, KEY, PREFIX, TEXT, long_text, opened, rekey, sealed, three_records};
 use aegis::record::open_records;
-use aegis_files::{PIECE_BYTES, rekey_stream};
+use aegis_files::PIECE_BYTES;
 use std::test::Fail;
 
 #[test]
 fn texts_of_several_lengths_come_back(rt: HostRuntime) -> Result<(), Fail> {
     for length in [0, 1, PIECE_BYTES - 1, PIECE_BYTES, PIECE_BYTES + 1] {
-        let mut text = Vec::new(rt.alloc());
-        text.resize(length, 0x5a)?;
+        let text = long_text(rt.alloc(), length)?;
         let file = sealed(rt.alloc(), &text)?;
         assert!(rt; file.as_slice().starts_with(&PREFIX), "at {length}");
         let (found, result) = opened(rt.alloc(), &file);
@@ -22,9 +21,7 @@ fn texts_of_several_lengths_come_back(rt: HostRuntime) -> Result<(), Fail> {
 // Each piece is a record, and an empty one comes last.
 #[test]
 fn pieces_are_records(rt: HostRuntime) -> Result<(), Fail> {
-    let mut text = Vec::new(rt.alloc());
-    text.resize(PIECE_BYTES + 3, 0x5a)?;
-    let file = sealed(rt.alloc(), &text)?;
+    let file = sealed(rt.alloc(), &long_text(rt.alloc(), PIECE_BYTES + 3)?)?;
     let stream = file.get(PREFIX.len()..).unwrap_or(&[]);
     let messages = open_records(rt.alloc(), &KEY, &PREFIX, &CONTEXT, stream)?;
     assert_eq!(rt; messages.len(), 3);
@@ -52,15 +49,7 @@ fn a_file_is_sealed_anew_under_another_key(rt: HostRuntime) -> Result<(), Fail> 
     let old = three_records(rt.alloc(), &KEY, &PREFIX)?;
     let mut new = Vec::new(rt.alloc());
     let mut input = old.as_slice();
-    rekey_stream(
-        rt.alloc(),
-        &KEY,
-        &new_key,
-        &new_prefix,
-        &CONTEXT,
-        &mut input,
-        &mut new,
-    )?;
+    rekey(rt.alloc(), &new_key, &new_prefix, &mut input, &mut new)?;
     assert!(rt; new == three_records(rt.alloc(), &new_key, &new_prefix)?);
     Ok(())
 }
