@@ -17,108 +17,31 @@ const CONTEXT: [u8; 4] = *b"test";
 // More calls than are made.
 const ALL_CALLS: u64 = 1000;
 
-/// A write of equal bytes.
-#[derive(Clone, Copy)]
-struct Fill {
-    place: u32,
-    size: u16,
-    byte: u8,
-}
+/// A write of equal bytes: its place, how many they are, and the byte.
+type Fill = (u32, u16, u8);
 
 /// Batches of up to five writes: over all bytes, past the end, after a gap, over one another, and of several sectors.
 const BATCHES: [&[Fill]; 6] = [
     &[],
-    &[Fill {
-        place: 0,
-        size: 1300,
-        byte: 1,
-    }],
+    &[(0, 1300, 1)],
+    &[(40, 20, 1), (60, 20, 2)],
+    &[(90, 30, 1), (150, 10, 2), (0, 5, 3)],
+    &[(0, 100, 1), (50, 1100, 2), (20, 60, 3), (1000, 9, 4)],
     &[
-        Fill {
-            place: 40,
-            size: 20,
-            byte: 1,
-        },
-        Fill {
-            place: 60,
-            size: 20,
-            byte: 2,
-        },
-    ],
-    &[
-        Fill {
-            place: 90,
-            size: 30,
-            byte: 1,
-        },
-        Fill {
-            place: 150,
-            size: 10,
-            byte: 2,
-        },
-        Fill {
-            place: 0,
-            size: 5,
-            byte: 3,
-        },
-    ],
-    &[
-        Fill {
-            place: 0,
-            size: 100,
-            byte: 1,
-        },
-        Fill {
-            place: 50,
-            size: 1100,
-            byte: 2,
-        },
-        Fill {
-            place: 20,
-            size: 60,
-            byte: 3,
-        },
-        Fill {
-            place: 1000,
-            size: 9,
-            byte: 4,
-        },
-    ],
-    &[
-        Fill {
-            place: 10,
-            size: 10,
-            byte: 1,
-        },
-        Fill {
-            place: 15,
-            size: 10,
-            byte: 2,
-        },
-        Fill {
-            place: 2000,
-            size: 700,
-            byte: 3,
-        },
-        Fill {
-            place: 12,
-            size: 1,
-            byte: 4,
-        },
-        Fill {
-            place: 0,
-            size: 2100,
-            byte: 5,
-        },
+        (10, 10, 1),
+        (15, 10, 2),
+        (2000, 700, 3),
+        (12, 1, 4),
+        (0, 2100, 5),
     ],
 ];
 
 /// The writes of a batch.
 fn writes_of(alloc: Global, batch: &[Fill]) -> io::Result<Vec<PendingWrite<Global>>> {
     let mut writes = Vec::new(alloc);
-    for fill in batch {
-        let bytes = vec![in alloc; fill.byte; usize::from(fill.size)]?;
-        writes.push(PendingWrite::new(alloc, u64::from(fill.place), &bytes)?)?;
+    for (place, size, byte) in batch {
+        let bytes = vec![in alloc; *byte; usize::from(*size)]?;
+        writes.push(PendingWrite::new(alloc, u64::from(*place), &bytes)?)?;
     }
     Ok(writes)
 }
