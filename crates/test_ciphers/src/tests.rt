@@ -6,9 +6,15 @@ mod limits;
 mod one_shot;
 
 use aegis::Error;
+use hex::FromHex;
 use std::fmt::Debug;
 use std::process::Abort;
 use std::test::Fail;
+
+// The bytes that these digits stand for.
+fn bytes_of<const N: usize>(digits: &str) -> Result<[u8; N], Fail> {
+    Ok(<[u8; N] as FromHex>::from_hex(digits)?)
+}
 
 // Asserts that bytes are the expected ones, and names the case otherwise.
 fn assert_bytes<R: Abort, C: Debug>(rt: &R, bytes: &[u8], expected: &[u8], case: &C) {

@@ -3,7 +3,7 @@
 ghost use Rattle.std.specs.Prelude.{◌≡◌, ◌⊎◌, ◌≤◌, length};
 ghost use Rattle.aegis_base.specs.Lane.{IsTagLength};
 
-use aegis::{Decryptor, Encryptor, Error, MAX_AEAD_BYTES, chunks_len};
+use aegis::{Cipher, Decryptor, Encryptor, Error, MAX_AEAD_BYTES, chunks_len};
 use aegis_base::LaneState;
 use aegis_variants::{AnyCipher, with_cipher};
 use std::alloc::{AllocError, Global};
@@ -149,36 +149,46 @@ pub fn assert_opened<R: Abort>(
     assert!(rt; destination.starts_with(message));
 }
 
-/// Opens chunks by a decryptor, which is finalized, or dropped if there is no tag. Returns the length of the message.
-pub fn open_by_decryptor<R: Abort, const TAG_BYTES: usize>(
+/// How chunks are opened.
+#[derive(Clone, Copy)]
+pub enum Opening<'a> {
+    /// By a decryptor, which takes these steps. It is then finalized, or dropped if there is no tag.
+    Steps(&'a [Step<'a>]),
+    /// By `open_chunks`, which wants a tag.
+    AtOnce(&'a [&'a [u8]]),
+}
+
+// Opens chunks by one call, if there is a tag.
+fn open_whole<S: LaneState, U, const KEY_BYTES: usize, const TAG_BYTES: usize>(
+    cipher: &Cipher<S, U, KEY_BYTES, TAG_BYTES>,
+    associated_data: &[u8],
+    chunks: &[&[u8]],
+    tag: Option<&[u8; TAG_BYTES]>,
+    destination: &mut [u8],
+) -> Option<Result<usize, Error>>
+    requires { length associated_data.now ≤ MAX_AEAD_BYTES }
+{
+    Some(length_of(cipher.open_chunks(associated_data, chunks, tag?, destination)))
+}
+
+/// Opens chunks in one of both ways. Returns the length of the message, or `None` if there is no tag.
+pub fn open<R: Abort, const TAG_BYTES: usize>(
     rt: &R,
     cipher: &AnyCipher,
     associated_data: &[u8],
-    steps: &[Step],
+    opening: Opening,
     tag: Option<&[u8; TAG_BYTES]>,
     destination: &mut [u8],
 ) -> Option<Result<usize, Error>>
     requires tag { IsTagLength TAG_BYTES }
     requires associated_data { length associated_data.now ≤ MAX_AEAD_BYTES }
 {
-    with_cipher!(cipher, TAG_BYTES, cipher => {
-        let ended = take_steps(rt, cipher.decryptor(associated_data, destination), steps, tag);
-        Some(length_of(ended?))
-    })
-}
-
-/// Opens chunks by `open_chunks`. Returns the length of the message.
-pub fn open_at_once<const TAG_BYTES: usize>(
-    cipher: &AnyCipher,
-    associated_data: &[u8],
-    chunks: &[&[u8]],
-    tag: &[u8; TAG_BYTES],
-    destination: &mut [u8],
-) -> Result<usize, Error>
-    requires tag { IsTagLength TAG_BYTES }
-    requires associated_data { length associated_data.now ≤ MAX_AEAD_BYTES }
-{
-    with_cipher!(cipher, TAG_BYTES, cipher => {
-        length_of(cipher.open_chunks(associated_data, chunks, tag, destination))
+    with_cipher!(cipher, TAG_BYTES, cipher => match opening {
+        Opening::Steps(steps) => {
+            let decryptor = cipher.decryptor(associated_data, destination);
+            let ended = take_steps(rt, decryptor, steps, tag);
+            Some(length_of(ended?))
+        }
+        Opening::AtOnce(chunks) => open_whole(&cipher, associated_data, chunks, tag, destination),
     })
 }

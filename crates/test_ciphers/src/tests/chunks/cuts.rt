@@ -5,8 +5,7 @@ ghost use Rattle.aegis_base.specs.Lane.{IsTagLength};
 
 use crate::tests::assert_bytes;
 use crate::tests::chunks::chunked::{
-    UPDATES, accepted, assert_opened, open_at_once, open_by_decryptor, pieces, seal_at_once,
-    seal_by_encryptor,
+    Opening, UPDATES, accepted, assert_opened, open, pieces, seal_at_once, seal_by_encryptor,
 };
 use aegis_variants::{AnyCipher, VARIANTS};
 use std::process::Abort;
@@ -64,12 +63,11 @@ fn check_opening<R: Abort + AllocGlobal, const TAG_BYTES: usize>(
     let data = &ASSOCIATED_DATA;
     let chunks = pieces(rt.alloc(), ciphertext, lengths)?;
     let steps = accepted(rt.alloc(), &chunks)?;
-    let mut opened = [0; LONGEST];
-    let ended = open_by_decryptor(rt, cipher, data, &steps, Some(tag), &mut opened);
-    assert_opened(rt, ended, &opened, message);
-    let mut opened = [0; LONGEST];
-    let ended = open_at_once(cipher, data, &chunks, tag, &mut opened);
-    assert_opened(rt, Some(ended), &opened, message);
+    for opening in [Opening::Steps(&steps), Opening::AtOnce(&chunks)] {
+        let mut opened = [0; LONGEST];
+        let ended = open(rt, cipher, data, opening, Some(tag), &mut opened);
+        assert_opened(rt, ended, &opened, message);
+    }
     Ok(())
 }
 

@@ -1,9 +1,8 @@
 //! The ends of opening the worked example, and the destination after each.
 
-use crate::tests::assert_bytes;
+use crate::tests::{assert_bytes, bytes_of};
 use aegis::Error;
 use aegis::aegis128l::Aegis128L;
-use hex::FromHex;
 use std::test::Fail;
 use test_tools::calls::SHORT_KEY;
 use test_tools::worked::{AEGIS128L_CIPHERTEXT, AEGIS128L_TAG, ASSOCIATED_DATA, MESSAGE};
@@ -13,11 +12,11 @@ fn aegis128l() -> Aegis128L<16> {
 }
 
 fn ciphertext() -> Result<[u8; 114], Fail> {
-    Ok(<[u8; 114] as FromHex>::from_hex(AEGIS128L_CIPHERTEXT)?)
+    bytes_of(AEGIS128L_CIPHERTEXT)
 }
 
 fn right_tag() -> Result<[u8; 16], Fail> {
-    Ok(<[u8; 16] as FromHex>::from_hex(AEGIS128L_TAG)?)
+    bytes_of(AEGIS128L_TAG)
 }
 
 fn wrong_tag() -> Result<[u8; 16], Fail> {

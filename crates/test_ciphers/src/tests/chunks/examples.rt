@@ -3,12 +3,11 @@
 ghost use Rattle.std.specs.Prelude.{◌≡◌, ◌⊎◌};
 ghost use Rattle.aegis_base.specs.Lane.{IsTagLength};
 
-use crate::tests::assert_bytes;
 use crate::tests::chunks::chunked::{
-    UPDATES, Update, assert_opened, open_by_decryptor, pieces, seal_at_once, seal_by_encryptor,
+    Opening, Step, UPDATES, Update, assert_opened, open, pieces, seal_at_once, seal_by_encryptor,
 };
+use crate::tests::{assert_bytes, bytes_of};
 use aegis_variants::{AnyCipher, AnyVariant, Keys, VARIANTS};
-use hex::FromHex;
 use std::process::Abort;
 use std::test::Fail;
 use test_tools::calls::{SHORT_KEY, keyed};
@@ -24,8 +23,8 @@ fn aegis128l_in_six_pieces(rt: HostRuntime) -> Result<(), Fail> {
         key: SHORT_KEY,
         nonce: [0; 16],
     });
-    let ciphertext = <[u8; 114] as FromHex>::from_hex(AEGIS128L_CIPHERTEXT)?;
-    let expected = <[u8; 16] as FromHex>::from_hex(AEGIS128L_TAG)?;
+    let ciphertext = bytes_of::<114>(AEGIS128L_CIPHERTEXT)?;
+    let expected = bytes_of::<16>(AEGIS128L_TAG)?;
     let chunks = pieces(rt.alloc(), &MESSAGE, &LENGTHS)?;
     for update in UPDATES {
         let mut sealed = MESSAGE;
@@ -82,7 +81,8 @@ fn check_other_pieces<R: Abort, const TAG_BYTES: usize>(rt: &R, cipher: &AnyCiph
     let (tag, _) = seal_by_encryptor::<TAG_BYTES>(cipher, update, data, &chunks, &mut sealed);
     let mut opened = [0; 13];
     let steps = [(&sealed[..7], Ok(())), (&sealed[7..], Ok(()))];
-    let ended = open_by_decryptor(rt, cipher, data, &steps, Some(&tag), &mut opened);
+    let opening = Opening::Steps(&steps);
+    let ended = open(rt, cipher, data, opening, Some(&tag), &mut opened);
     assert_opened(rt, ended, &opened, b"AEGIS is fast");
 }
 
@@ -100,16 +100,18 @@ fn check_empty<R: Abort, const TAG_BYTES: usize>(rt: &R, cipher: &AnyCipher)
 {
     let data = &ASSOCIATED_DATA;
     let tag = cipher.encrypt_in_place::<TAG_BYTES>(&mut [], data);
+    let empty: [&[u8]; 1] = [&[]];
     for update in UPDATES {
-        let (of_none, _) = seal_by_encryptor::<TAG_BYTES>(cipher, update, data, &[], &mut []);
-        assert_bytes(rt, &of_none, &tag, &update);
-        let (of_empty, _) = seal_by_encryptor::<TAG_BYTES>(cipher, update, data, &[&[]], &mut []);
-        assert_bytes(rt, &of_empty, &tag, &update);
+        for chunks in [&empty[..0], &empty] {
+            let (found, _) = seal_by_encryptor::<TAG_BYTES>(cipher, update, data, chunks, &mut []);
+            assert_bytes(rt, &found, &tag, &update);
+        }
     }
-    let ended = open_by_decryptor(rt, cipher, data, &[], Some(&tag), &mut []);
-    assert_opened(rt, ended, &[], &[]);
-    let ended = open_by_decryptor(rt, cipher, data, &[(&[], Ok(()))], Some(&tag), &mut []);
-    assert_opened(rt, ended, &[], &[]);
+    let empty: [Step; 1] = [(&[], Ok(()))];
+    for steps in [&empty[..0], &empty] {
+        let ended = open(rt, cipher, data, Opening::Steps(steps), Some(&tag), &mut []);
+        assert_opened(rt, ended, &[], &[]);
+    }
 }
 
 #[test]

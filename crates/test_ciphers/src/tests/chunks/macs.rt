@@ -3,14 +3,13 @@
 ghost use Rattle.std.specs.Prelude.{◌≡◌, ◌⊎◌};
 ghost use Rattle.aegis_base.specs.Lane.{IsTagLength};
 
-use crate::tests::assert_bytes;
 use crate::tests::chunks::chunked::pieces;
+use crate::tests::{assert_bytes, bytes_of};
 use aegis::aegis128l::Aegis128LMac;
 use aegis::aegis256x4::Aegis256X4Mac;
 use aegis::{Error, MAX_AEAD_BYTES, Mac, chunks_len};
 use aegis_base::LaneState;
 use aegis_variants::{AnyCipher, VARIANTS, with_mac};
-use hex::FromHex;
 use std::process::Abort;
 use std::test::Fail;
 use test_tools::calls::{LONG_KEY, SHORT_KEY, keyed};
@@ -27,7 +26,7 @@ fn of_one_byte(mac: Aegis128LMac<16>) -> [u8; 16]
 // The MAC was not made by the library. A clone that is made before the update gives the same.
 #[test]
 fn aegis128l_of_one_byte(rt: HostRuntime) -> Result<(), Fail> {
-    let expected = <[u8; 16] as FromHex>::from_hex("7b1e31c93ef8a9b70d3a7aae2980d6a0")?;
+    let expected = bytes_of::<16>("7b1e31c93ef8a9b70d3a7aae2980d6a0")?;
     let mac = Aegis128LMac::<16>::new(&SHORT_KEY);
     let clone = mac.clone()?;
     assert_bytes(&rt, &of_one_byte(mac), &expected, &"the MAC");

@@ -3,8 +3,8 @@
 ghost use Rattle.std.specs.Prelude.{◌≡◌, ◌⊎◌, ◌≤◌, length};
 ghost use Rattle.aegis_base.specs.Lane.{IsTagLength};
 
-use crate::tests::chunks::chunked::{Step, assert_opened, open_by_decryptor};
-use crate::tests::hostile::is_all;
+use crate::tests::chunks::chunked::{Opening, Step, assert_opened, open};
+use crate::tests::hostile::assert_halves;
 use aegis::Error;
 use aegis_variants::{AnyCipher, VARIANTS};
 use std::process::Abort;
@@ -29,7 +29,9 @@ fn check_steps<R: Abort, const TAG_BYTES: usize>(
 {
     let mut buffer = [0xaa; LONGEST];
     let destination = &mut buffer[..message.len()];
-    let ended = open_by_decryptor(rt, cipher, &ASSOCIATED_DATA, steps, Some(tag), destination);
+    let opening = Opening::Steps(steps);
+    let data = &ASSOCIATED_DATA;
+    let ended = open(rt, cipher, data, opening, Some(tag), destination);
     assert_opened(rt, ended, &buffer, message);
 }
 
@@ -89,11 +91,10 @@ fn check_drop<R: Abort, const TAG_BYTES: usize>(
 {
     let mut buffer = [0xaa; 136];
     let destination = &mut buffer[..room];
-    let data = &ASSOCIATED_DATA;
-    let ended = open_by_decryptor::<_, TAG_BYTES>(rt, cipher, data, steps, None, destination);
+    let opening = Opening::Steps(steps);
+    let ended = open::<_, TAG_BYTES>(rt, cipher, &ASSOCIATED_DATA, opening, None, destination);
     assert!(rt; ended.is_none());
-    assert!(rt; is_all(&buffer[..zeros], 0));
-    assert!(rt; is_all(&buffer[zeros..], 0xaa));
+    assert_halves(rt, &buffer, zeros, 0, 0xaa);
 }
 
 fn check_drops<R: Abort, const TAG_BYTES: usize>(rt: &R, cipher: &AnyCipher, rate: usize)

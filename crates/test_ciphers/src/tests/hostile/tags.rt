@@ -4,8 +4,8 @@ ghost use Rattle.std.specs.Prelude.{◌≡◌, ◌⊎◌, ◌≤◌, length};
 ghost use Rattle.aegis_base.specs.Lane.{IsTagLength};
 
 use crate::tests::assert_error;
-use crate::tests::chunks::chunked::{assert_ended, open_at_once, open_by_decryptor};
-use crate::tests::hostile::is_all;
+use crate::tests::chunks::chunked::{Opening, assert_ended, open};
+use crate::tests::hostile::assert_halves;
 use aegis::{Error, MAX_AEAD_BYTES};
 use aegis_variants::{AnyCipher, VARIANTS};
 use std::process::Abort;
@@ -36,8 +36,7 @@ fn check_in_place<R: Abort, const TAG_BYTES: usize>(
     buffer.copy_from_slice(sealed);
     let refused = cipher.decrypt_in_place(buffer, tag, &ASSOCIATED_DATA);
     assert_error(rt, refused.err(), Error::InvalidTag);
-    assert!(rt; is_all(&whole[..sealed.len()], 0xaa));
-    assert!(rt; is_all(&whole[sealed.len()..], FILLER));
+    assert_halves(rt, &whole, sealed.len(), 0xaa, FILLER);
 }
 
 // Opens into a vector.
@@ -64,20 +63,15 @@ fn check_in_chunks<R: Abort, const TAG_BYTES: usize>(
     requires tag { IsTagLength TAG_BYTES }
     requires sealed { length sealed.now ≤ 257 }
 {
-    let mut whole = [FILLER; 263];
-    let destination = &mut whole[..sealed.len() + BEHIND];
     let steps = [(sealed, Ok(()))];
-    let ended = open_by_decryptor(rt, cipher, &ASSOCIATED_DATA, &steps, Some(tag), destination);
-    assert_ended(rt, ended, Err(Error::InvalidTag));
-    assert!(rt; is_all(&whole[..sealed.len()], 0));
-    assert!(rt; is_all(&whole[sealed.len()..], FILLER));
-
-    let mut whole = [FILLER; 263];
-    let destination = &mut whole[..sealed.len() + BEHIND];
-    let ended = open_at_once(cipher, &ASSOCIATED_DATA, &[sealed], tag, destination);
-    assert_ended(rt, Some(ended), Err(Error::InvalidTag));
-    assert!(rt; is_all(&whole[..sealed.len()], 0));
-    assert!(rt; is_all(&whole[sealed.len()..], FILLER));
+    for opening in [Opening::Steps(&steps), Opening::AtOnce(&[sealed])] {
+        let mut whole = [FILLER; 263];
+        let destination = &mut whole[..sealed.len() + BEHIND];
+        let data = &ASSOCIATED_DATA;
+        let ended = open(rt, cipher, data, opening, Some(tag), destination);
+        assert_ended(rt, ended, Err(Error::InvalidTag));
+        assert_halves(rt, &whole, sealed.len(), 0, FILLER);
+    }
 }
 
 fn check_tags<R: Abort + AllocGlobal, const TAG_BYTES: usize>(

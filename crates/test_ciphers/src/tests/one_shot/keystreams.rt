@@ -28,9 +28,11 @@ fn check_keystream<R: Abort + AllocGlobal, const TAG_BYTES: usize>(
 
     let mut buffer = MESSAGE;
     calls::stream_xor_in_place::<TAG_BYTES>(&cipher, &mut buffer);
+    let mut expected = MESSAGE;
     for i in 0..13usize {
-        assert_eq!(rt; buffer[i], MESSAGE[i] ^ stream[i], "{variant:?} at {i}");
+        expected[i] ^= stream[i];
     }
+    assert_bytes(rt, &buffer, &expected, &variant);
     let xored = calls::stream_xor::<_, TAG_BYTES>(&cipher, rt.alloc(), &MESSAGE)?;
     assert_bytes(rt, &xored, &buffer, &variant);
     cipher.stream_xor_in_place(&mut buffer);

@@ -1,10 +1,12 @@
 //! Lanes that are independent of each other, and ciphers of several lanes, which are `Copy`.
 
 use crate::tests::assert_bytes;
+use aegis::Cipher;
 use aegis::aegis128x2::Aegis128X2;
 use aegis::aegis128x4::Aegis128X4;
 use aegis::aegis256x2::Aegis256X2;
 use aegis::aegis256x4::Aegis256X4;
+use aegis_base::LaneState;
 use std::process::Abort;
 use std::test::Fail;
 use test_tools::calls::{LONG_KEY, LONG_NONCE, SHORT_KEY, SHORT_NONCE};
@@ -27,39 +29,26 @@ fn other_lanes_stay(rt: HostRuntime) {
     }
 }
 
-// The ciphertext of 33 bytes, and the tag.
-macro_rules! sealed {
-    ($cipher:expr) => {{
-        let mut buffer = [7; 33];
-        let tag = $cipher.encrypt_in_place(&mut buffer, &[]);
-        (buffer, tag)
-    }};
-}
-
-fn assert_alike<R: Abort, const TAG_BYTES: usize>(
-    rt: &R,
-    first: &([u8; 33], [u8; TAG_BYTES]),
-    other: &([u8; 33], [u8; TAG_BYTES]),
-) {
-    assert_bytes(rt, &first.0, &other.0, &"the ciphertext");
-    assert_bytes(rt, &first.1, &other.1, &"the tag");
-}
-
 // A cipher is used three times: itself, then again, then a clone.
-macro_rules! seals_again {
-    ($rt:expr, $cipher:expr) => {{
-        let cipher = $cipher;
-        let first = sealed!(cipher);
-        assert_alike($rt, &first, &sealed!(cipher));
-        assert_alike($rt, &first, &sealed!(cipher.clone()?));
-    }};
+fn seals_again<R: Abort, S: LaneState, U: Copy, const KEY_BYTES: usize, const TAG_BYTES: usize>(
+    rt: &R,
+    cipher: Cipher<S, U, KEY_BYTES, TAG_BYTES>,
+) -> Result<(), Fail> {
+    let mut first = [7; 33];
+    let tag = cipher.encrypt_in_place(&mut first, &[]);
+    for copy in [cipher, cipher.clone()?] {
+        let mut other = [7; 33];
+        let other_tag = copy.encrypt_in_place(&mut other, &[]);
+        assert_bytes(rt, &first, &other, &"the ciphertext");
+        assert_bytes(rt, &tag, &other_tag, &"the tag");
+    }
+    Ok(())
 }
 
 #[test]
 fn copies_seal_alike(rt: HostRuntime) -> Result<(), Fail> {
-    seals_again!(&rt, Aegis128X2::<16>::new(&SHORT_KEY, &SHORT_NONCE));
-    seals_again!(&rt, Aegis128X4::<32>::new(&SHORT_KEY, &SHORT_NONCE));
-    seals_again!(&rt, Aegis256X2::<16>::new(&LONG_KEY, &LONG_NONCE));
-    seals_again!(&rt, Aegis256X4::<32>::new(&LONG_KEY, &LONG_NONCE));
-    Ok(())
+    seals_again(&rt, Aegis128X2::<16>::new(&SHORT_KEY, &SHORT_NONCE))?;
+    seals_again(&rt, Aegis128X4::<32>::new(&SHORT_KEY, &SHORT_NONCE))?;
+    seals_again(&rt, Aegis256X2::<16>::new(&LONG_KEY, &LONG_NONCE))?;
+    seals_again(&rt, Aegis256X4::<32>::new(&LONG_KEY, &LONG_NONCE))
 }

@@ -1,6 +1,6 @@
 //! Printed texts.
 
-use crate::tests::check_text;
+use crate::tests::{assert_error, assert_text, check_text};
 use aegis::Error;
 use aegis::aegis128l::Aegis128L;
 use aegis::aegis128x2::Aegis128X2;
@@ -55,13 +55,12 @@ fn errors(rt: HostRuntime) -> Result<(), Fail> {
         (Error::OutOfMemory, "Out of memory"),
     ];
     for (error, expected) in errors {
-        let text = error.to_string(rt.alloc())?;
-        assert_eq!(rt; text.as_str(), expected);
+        assert_text(&rt, &error.to_string(rt.alloc())?, expected);
         let copy = error;
-        assert_eq!(rt; copy, error);
-        assert_eq!(rt; error.clone()?, error);
+        assert_error(&rt, Some(copy), error);
+        assert_error(&rt, Some(error.clone()?), error);
         for (other, text_of_other) in errors {
-            assert_eq!(rt; error == other, expected == text_of_other);
+            assert!(rt; (error == other) == (expected == text_of_other));
         }
     }
     Ok(())
