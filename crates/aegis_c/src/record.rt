@@ -5,9 +5,8 @@
 
 ghost use Rattle.aegis_c_calls.specs.RecordCalls.{RecordBegin, RecordBeginOpen, RecordLen, RecordOpen, RecordSeal, RecordSealLast};
 
-use aegis_c_calls::record;
 use aegis_c_calls::record::state::RecordState;
-use aegis_c_calls::refusal::code;
+use aegis_c_numbers::record;
 
 /// Begins to seal a stream at `st`, and writes its header.
 #[unsafe(no_mangle)]
@@ -21,7 +20,7 @@ pub extern "C" fn hunkravy_proved_record_begin(
     ensures { RecordBegin k.now prefix.now context.now st.old st.new
         header.old header.new result }
 {
-    code(record::begin(st, k, prefix, context, header))
+    record::begin(st, k, prefix, context, header)
 }
 
 /// Begins to open the stream of this header at `st`.
@@ -35,7 +34,7 @@ pub extern "C" fn hunkravy_proved_record_begin_open(
 ) -> i32
     ensures { RecordBeginOpen k.now prefix.now context.now st.old st.new header.now result }
 {
-    code(record::begin_open(st, k, prefix, context, header))
+    record::begin_open(st, k, prefix, context, header)
 }
 
 /// Seals the next message in place: `bytes` has 5 bytes, the message, and 32 bytes.
@@ -47,7 +46,7 @@ pub extern "C" fn hunkravy_proved_record_seal(
 ) -> i32
     ensures { RecordSeal context.now st.old st.new bytes.old bytes.new result }
 {
-    code(record::seal(st, context, bytes))
+    record::seal(st, context, bytes)
 }
 
 /// Seals the last message in place, and ends the stream.
@@ -59,7 +58,7 @@ pub extern "C" fn hunkravy_proved_record_seal_last(
 ) -> i32
     ensures { RecordSealLast context.now st.old st.new bytes.old bytes.new result }
 {
-    code(record::seal_last(st, context, bytes))
+    record::seal_last(st, context, bytes)
 }
 
 /// Finds how many bytes the next record has, from its first five.
@@ -71,7 +70,7 @@ pub extern "C" fn hunkravy_proved_record_len(
 ) -> i32
     ensures { RecordLen st.now head.now record_len.old record_len.new result }
 {
-    code(record::len(st, head, record_len))
+    record::len(st, head, record_len)
 }
 
 /// Opens the next record in place. `is_last` becomes 1 for the last record, which ends the stream, and 0 for another.
@@ -86,5 +85,5 @@ pub extern "C" fn hunkravy_proved_record_open(
     ensures { RecordOpen context.now st.old st.new bytes.old bytes.new is_last.old is_last.new
         result }
 {
-    code(record::open(st, context, bytes, is_last))
+    record::open(st, context, bytes, is_last)
 }

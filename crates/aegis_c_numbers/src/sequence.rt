@@ -1,12 +1,12 @@
-//! Sequences of calls on a state: they seal, open or authenticate all chunks together as the definition does. These
-//! functions are not exported. They are proved from the contracts of the exports alone.
+//! Sequences of calls on a state: they seal, open or authenticate all chunks together as the definition does. They are
+//! proved from the contracts of these calls alone, which are those of the exports.
 
 ghost use Rattle.std.specs.Prelude.{◌≡◌, ◌++◌, List, length, true, ℕ};
 ghost use Rattle.aegis_base.specs.Mac.{mac};
 ghost use Rattle.aegis_base.specs.Message.{Opens, seal};
 ghost use Rattle.aegis_c_calls.specs.Numbers.{the, variant_of};
 
-use crate::state::*;
+use crate::state;
 use aegis_c_calls::refusal::{DONE, WRONG_STATE};
 use aegis_c_calls::state::State;
 
@@ -25,16 +25,16 @@ pub fn sealed_in_two(
         ≡ seal (the (variant_of variant)) (length mac.old) k.now npub.now
         ad.now (first.old ++ second.old) }
 {
-    if hunkravy_proved_state_init(variant, st, ad, npub, k) != DONE {
+    if state::init(variant, st, ad, npub, k) != DONE {
         return false;
     }
-    if hunkravy_proved_state_encrypt_in_place(st, first) != DONE {
+    if state::encrypt_in_place(st, first) != DONE {
         return false;
     }
-    if hunkravy_proved_state_encrypt_in_place(st, second) != DONE {
+    if state::encrypt_in_place(st, second) != DONE {
         return false;
     }
-    hunkravy_proved_state_encrypt_final(st, mac) == DONE
+    state::encrypt_final(st, mac) == DONE
 }
 
 /// Opens a ciphertext of two chunks, and returns whether all calls have succeeded.
@@ -51,16 +51,16 @@ pub fn opened_in_two(
     ensures { result ≡ true → Opens (the (variant_of variant)) (length mac.now)
         k.now npub.now ad.now (first.old ++ second.old) mac.now (first.new ++ second.new) }
 {
-    if hunkravy_proved_state_init(variant, st, ad, npub, k) != DONE {
+    if state::init(variant, st, ad, npub, k) != DONE {
         return false;
     }
-    if hunkravy_proved_state_decrypt_in_place_unverified(st, first) != DONE {
+    if state::decrypt_in_place_unverified(st, first) != DONE {
         return false;
     }
-    if hunkravy_proved_state_decrypt_in_place_unverified(st, second) != DONE {
+    if state::decrypt_in_place_unverified(st, second) != DONE {
         return false;
     }
-    hunkravy_proved_state_decrypt_final(st, &mut [], mac) == DONE
+    state::decrypt_final(st, &mut [], mac) == DONE
 }
 
 /// Checks a ciphertext of two chunks without opening it: `true` only if some message is sealed to it and the tag.
@@ -77,16 +77,16 @@ pub fn checked_in_two(
     ensures { result ≡ true → ((m : List ℕ) × Opens (the (variant_of variant))
         (length mac.now) k.now npub.now ad.now (first.now ++ second.now) mac.now m) }
 {
-    if hunkravy_proved_state_init(variant, st, ad, npub, k) != DONE {
+    if state::init(variant, st, ad, npub, k) != DONE {
         return false;
     }
-    if hunkravy_proved_state_decrypt_check(st, first) != DONE {
+    if state::decrypt_check(st, first) != DONE {
         return false;
     }
-    if hunkravy_proved_state_decrypt_check(st, second) != DONE {
+    if state::decrypt_check(st, second) != DONE {
         return false;
     }
-    hunkravy_proved_state_decrypt_final(st, &mut [], mac) == DONE
+    state::decrypt_final(st, &mut [], mac) == DONE
 }
 
 /// Writes the MAC of an input of two chunks, and returns whether all calls have succeeded.
@@ -102,16 +102,16 @@ pub fn mac_in_two(
     ensures { result ≡ true → out.new
         ≡ mac (the (variant_of variant)) (length out.old) k.now npub.now (first.now ++ second.now) }
 {
-    if hunkravy_proved_mac_init(variant, st, npub, k) != DONE {
+    if state::mac_init(variant, st, npub, k) != DONE {
         return false;
     }
-    if hunkravy_proved_mac_update(st, first) != DONE {
+    if state::mac_update(st, first) != DONE {
         return false;
     }
-    if hunkravy_proved_mac_update(st, second) != DONE {
+    if state::mac_update(st, second) != DONE {
         return false;
     }
-    hunkravy_proved_mac_final(st, out) == DONE
+    state::mac_final(st, out) == DONE
 }
 
 /// Continues a message after its tag was written, which is refused.
@@ -119,10 +119,10 @@ pub fn refused_after_the_tag(st: &mut State, mac: &mut [u8], mc: &mut [u8]) -> b
     ensures refused { result ≡ true }
     ensures kept { mc.new ≡ mc.old }
 {
-    if hunkravy_proved_state_encrypt_final(st, mac) != DONE {
+    if state::encrypt_final(st, mac) != DONE {
         return true;
     }
-    hunkravy_proved_state_encrypt_in_place(st, mc) == WRONG_STATE
+    state::encrypt_in_place(st, mc) == WRONG_STATE
 }
 
 /// Encrypts with a state after it has decrypted, which is refused.
@@ -130,10 +130,10 @@ pub fn refused_in_the_other_direction(st: &mut State, c: &[u8], mc: &mut [u8]) -
     ensures refused { result ≡ true }
     ensures kept { mc.new ≡ mc.old }
 {
-    if hunkravy_proved_state_decrypt_check(st, c) != DONE {
+    if state::decrypt_check(st, c) != DONE {
         return true;
     }
-    hunkravy_proved_state_encrypt_in_place(st, mc) == WRONG_STATE
+    state::encrypt_in_place(st, mc) == WRONG_STATE
 }
 
 /// Takes a message's state for that of a MAC, which is refused.
@@ -148,8 +148,8 @@ pub fn refused_as_a_mac(
     ensures refused { result ≡ true }
     ensures kept { out.new ≡ out.old }
 {
-    if hunkravy_proved_state_init(variant, st, ad, npub, k) != DONE {
+    if state::init(variant, st, ad, npub, k) != DONE {
         return true;
     }
-    hunkravy_proved_mac_final(st, out) == WRONG_STATE
+    state::mac_final(st, out) == WRONG_STATE
 }

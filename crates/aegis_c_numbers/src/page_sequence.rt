@@ -1,5 +1,5 @@
-//! Sequences of calls on pages and headers: what was sealed is opened. These functions are not exported. They are
-//! proved from the contracts of the exports alone.
+//! Sequences of calls on pages and headers: what was sealed is opened. They are proved from the contracts of these
+//! calls alone, which are those of the exports.
 
 ghost use Rattle.std.specs.Prelude.{◌≡◌, length, true};
 ghost use Rattle.aegis_c_calls.specs.declared.refusal.TheConstants.{DONE};
@@ -7,7 +7,7 @@ ghost use Rattle.aegis_c_calls.specs.Numbers.{the, variant_of};
 ghost use Rattle.aegis_c_calls.specs.PageCodes.{header_seal_code, page_seal_code};
 ghost use Rattle.aegis_c_calls.specs.PageCalls.{text_in};
 
-use crate::page::*;
+use crate::page;
 use aegis_c_calls::refusal::DONE;
 use aegis_pages::FileHeader;
 
@@ -26,10 +26,10 @@ pub fn page_sealed_and_opened(
     ensures text { result ≡ true → text_in (the (variant_of variant)) page.new
         ≡ text_in (the (variant_of variant)) page.old }
 {
-    if hunkravy_proved_page_seal(variant, page, id, number, npub, k) != DONE {
+    if page::page_seal(variant, page, id, number, npub, k) != DONE {
         return false;
     }
-    hunkravy_proved_page_open(variant, page, id, number, k) == DONE
+    page::page_open(variant, page, id, number, k) == DONE
 }
 
 /// Seals a header and opens it, and returns whether both calls have succeeded, which they do if the variant, the page
@@ -46,7 +46,7 @@ pub fn header_sealed_and_opened(
     ensures found { result ≡ true → found.new ≡ header.now }
 {
     let mut sector = [0; 512];
-    let code = hunkravy_proved_page_header_seal(
+    let code = page::page_header_seal(
         variant,
         &mut sector,
         header.page_bytes,
@@ -59,7 +59,7 @@ pub fn header_sealed_and_opened(
     if code != DONE {
         return false;
     }
-    hunkravy_proved_page_header_open(
+    page::page_header_open(
         variant,
         &sector,
         k,

@@ -1,5 +1,5 @@
 //! Sequences of calls on a record stream: several records are sealed and opened together as the definition of streams
-//! says. These functions are not exported. They are proved from the contracts of the exports alone.
+//! says. They are proved from the contracts of these calls alone, which are those of the exports.
 
 ghost use Rattle.std.specs.Prelude.{◌≡◌, ◌∷◌, ◌++◌, [], true};
 ghost use Rattle.aegis.specs.Calls.{message_in};
@@ -7,7 +7,7 @@ ghost use Rattle.aegis.specs.Progress.{AreRecordsOfSomeVersion};
 ghost use Rattle.aegis.specs.Records.{AreRecords};
 ghost use Rattle.aegis.specs.declared.record.version.Version.TheVariants.{Second};
 
-use crate::record::*;
+use crate::record;
 use aegis_c_calls::record::state::RecordState;
 use aegis_c_calls::refusal::{DONE, WRONG_STATE};
 
@@ -25,13 +25,13 @@ pub fn two_records_sealed(
         (message_in first.old ∷ message_in second.old ∷ [])
         ((header.new ++ first.new) ++ second.new) }
 {
-    if hunkravy_proved_record_begin(st, k, prefix, context, header) != DONE {
+    if record::begin(st, k, prefix, context, header) != DONE {
         return false;
     }
-    if hunkravy_proved_record_seal(st, context, first) != DONE {
+    if record::seal(st, context, first) != DONE {
         return false;
     }
-    hunkravy_proved_record_seal_last(st, context, second) == DONE
+    record::seal_last(st, context, second) == DONE
 }
 
 /// Opens a stream of two records, and returns whether all calls have succeeded.
@@ -49,13 +49,13 @@ pub fn two_records_opened(
         ((header.now ++ first.old) ++ second.old) }
 {
     let mut is_last = 0;
-    if hunkravy_proved_record_begin_open(st, k, prefix, context, header) != DONE {
+    if record::begin_open(st, k, prefix, context, header) != DONE {
         return false;
     }
-    if hunkravy_proved_record_open(st, context, first, &mut is_last) != DONE || is_last == 1 {
+    if record::open(st, context, first, &mut is_last) != DONE || is_last == 1 {
         return false;
     }
-    hunkravy_proved_record_open(st, context, second, &mut is_last) == DONE && is_last == 1
+    record::open(st, context, second, &mut is_last) == DONE && is_last == 1
 }
 
 /// Seals two messages and opens their records in the same order, and returns whether all calls have succeeded. The
@@ -73,21 +73,21 @@ pub fn two_records_sealed_and_opened(
     ensures second { result ≡ true → message_in second.new ≡ message_in second.old }
 {
     let mut header = [0; 4];
-    if hunkravy_proved_record_begin(sealer, k, prefix, context, &mut header) != DONE
-        || hunkravy_proved_record_begin_open(opener, k, prefix, context, &header) != DONE
+    if record::begin(sealer, k, prefix, context, &mut header) != DONE
+        || record::begin_open(opener, k, prefix, context, &header) != DONE
     {
         return false;
     }
     let mut is_last = 0;
-    if hunkravy_proved_record_seal(sealer, context, first) != DONE
-        || hunkravy_proved_record_open(opener, context, first, &mut is_last) != DONE
+    if record::seal(sealer, context, first) != DONE
+        || record::open(opener, context, first, &mut is_last) != DONE
     {
         return false;
     }
-    if hunkravy_proved_record_seal_last(sealer, context, second) != DONE {
+    if record::seal_last(sealer, context, second) != DONE {
         return false;
     }
-    hunkravy_proved_record_open(opener, context, second, &mut is_last) == DONE
+    record::open(opener, context, second, &mut is_last) == DONE
 }
 
 /// Seals with a stream after its last record, which is refused.
@@ -100,10 +100,10 @@ pub fn refused_after_the_last_record(
     ensures refused { result ≡ true }
     ensures kept { bytes.new ≡ bytes.old }
 {
-    if hunkravy_proved_record_seal_last(st, context, last) != DONE {
+    if record::seal_last(st, context, last) != DONE {
         return true;
     }
-    hunkravy_proved_record_seal(st, context, bytes) == WRONG_STATE
+    record::seal(st, context, bytes) == WRONG_STATE
 }
 
 /// Opens with a stream that is sealed, which is refused.
@@ -117,8 +117,8 @@ pub fn refused_in_the_other_direction(
     ensures kept { bytes.new ≡ bytes.old }
 {
     let mut is_last = 0;
-    if hunkravy_proved_record_seal(st, context, message) != DONE {
+    if record::seal(st, context, message) != DONE {
         return true;
     }
-    hunkravy_proved_record_open(st, context, bytes, &mut is_last) == WRONG_STATE
+    record::open(st, context, bytes, &mut is_last) == WRONG_STATE
 }

@@ -6,23 +6,23 @@ use Rattle.aegis_c_calls.specs.declared.refusal.TheConstants.{DONE}
 use Rattle.aegis_c_calls.specs.RecordStates.{version_of}
 use Rattle.aegis_c_calls.specs.declared.record.state.RecordState.{RecordState}
 use Rattle.aegis_c_calls.specs.declared.record.state.TheConstants.{SECOND}
-use Rattle.aegis_c.proofs.record_sequence.two_records_sealed.Goals as goal
+use Rattle.aegis_c_numbers.proofs.record_sequence.two_records_sealed.Goals as goal
 
 pub returns : goal.returns
 returns c done =
-    let d1 : c.hunkravy_proved_record_begin.result ≡ DONE = search rules in
-    let d2 : c.hunkravy_proved_record_seal.result ≡ DONE = search rules in
-    let d3 : c.hunkravy_proved_record_seal_last.result ≡ DONE = search (rules, done) in
-    let began = c.hunkravy_proved_record_begin.ensures in
-    let sealed = c.hunkravy_proved_record_seal.ensures in
+    let d1 : c.begin.result ≡ DONE = search rules in
+    let d2 : c.seal.result ≡ DONE = search rules in
+    let d3 : c.seal_last.result ≡ DONE = search (rules, done) in
+    let began = c.begin.ensures in
+    let sealed = c.seal.ensures in
     let k = c.args.k.now in
     let prefix = c.args.prefix.now in
-    let header = c.hunkravy_proved_record_begin.new.header in
-    let first = c.hunkravy_proved_record_seal.new.bytes in
-    let second = c.hunkravy_proved_record_seal_last.new.bytes in
+    let header = c.begin.new.header in
+    let first = c.seal.new.bytes in
+    let second = c.seal_last.new.bytes in
     let m = message_in c.args.first.now in
     let n = message_in c.args.second.now in
-    let version : c.hunkravy_proved_record_seal.new.st.version ≡ SECOND =
+    let version : c.seal.new.st.version ≡ SECOND =
     ap (λ (st : RecordState). st.version) (sealed.after d2) ∙ ap (λ (st : RecordState). st.version) (began.first d1) in
     subst (λ v. AreRecords (version_of v) k prefix c.args.context.now (m ∷ n ∷ []) ((header ++ first) ++ second)) version
-    (c.hunkravy_proved_record_seal_last.ensures.whole d3 k prefix (m ∷ []) (header ++ first) (sealed.begun d2 k prefix [] header (began.begun d1)))
+    (c.seal_last.ensures.whole d3 k prefix (m ∷ []) (header ++ first) (sealed.begun d2 k prefix [] header (began.begun d1)))

@@ -1,0 +1,82 @@
+//! The calls on a page and a header of a file of sealed pages. `variant` is a number of `aegis_c_calls::variant`.
+
+ghost use Rattle.aegis_c_calls.specs.Numbers.{variant_of};
+ghost use Rattle.aegis_c_calls.specs.PageCalls.{PageHeaderOpen, PageHeaderSeal, PageOpen, PageSeal, header_of};
+
+use crate::by_variant::by_variant;
+use aegis_128::{State128X1, State128X2, State128X4};
+use aegis_256::{State256X1, State256X2, State256X4};
+use aegis_c_calls::page as calls;
+use aegis_c_calls::refusal::{Refusal, code};
+use aegis_c_calls::variant::*;
+
+/// Seals the text of a page in place.
+pub fn page_seal(
+    variant: u32,
+    page: &mut [u8],
+    id: &[u8; 24],
+    number: u64,
+    npub: &[u8],
+    k: &[u8],
+) -> i32
+    ensures { PageSeal (variant_of variant) k.now id.now npub.now number page.old page.new result }
+{
+    by_variant!(
+        variant,
+        Refusal::WrongVariant,
+        calls::page_seal::<N>(page, id, number, npub, k)
+    )
+}
+
+/// Opens a page in place, or erases it.
+pub fn page_open(variant: u32, page: &mut [u8], id: &[u8; 24], number: u64, k: &[u8]) -> i32
+    ensures { PageOpen (variant_of variant) k.now id.now number page.old page.new result }
+{
+    by_variant!(
+        variant,
+        Refusal::WrongVariant,
+        calls::page_open::<N>(page, id, number, k)
+    )
+}
+
+/// Writes the sector of a header to `sector`.
+pub fn page_header_seal(
+    variant: u32,
+    sector: &mut [u8; 512],
+    page_bytes: u32,
+    id: &[u8; 24],
+    counter: u64,
+    len: u64,
+    npub: &[u8],
+    k: &[u8],
+) -> i32
+    ensures { PageHeaderSeal (variant_of variant) k.now id.now npub.now page_bytes counter len
+        sector.old sector.new result }
+{
+    by_variant!(
+        variant,
+        Refusal::WrongVariant,
+        calls::page_header_seal::<N>(sector, page_bytes, id, counter, len, npub, k)
+    )
+}
+
+/// Opens the header in `sector`.
+pub fn page_header_open(
+    variant: u32,
+    sector: &[u8; 512],
+    k: &[u8],
+    page_bytes: &mut u32,
+    id: &mut [u8; 24],
+    counter: &mut u64,
+    len: &mut u64,
+) -> i32
+    ensures { PageHeaderOpen (variant_of variant) k.now sector.now
+        (header_of page_bytes.old id.old counter.old len.old)
+        (header_of page_bytes.new id.new counter.new len.new) result }
+{
+    by_variant!(
+        variant,
+        Refusal::WrongVariant,
+        calls::page_header_open::<N>(sector, k, page_bytes, id, counter, len)
+    )
+}

@@ -1,0 +1,160 @@
+//! The calls on a state, which itself says of which variant it is, and for which calls it is.
+
+ghost use Rattle.std.specs.Prelude.{◌≡◌};
+ghost use Rattle.aegis_c_calls.specs.Calls.{MacFinal, MacFinalVerify, MacInit, MacUpdate, StateDecryptCheck, StateDecryptFinal, StateDecryptInPlaceUnverified, StateEncryptFinal, StateEncryptInPlace, StateInit};
+ghost use Rattle.aegis_c_calls.specs.Codes.{chunk_code};
+ghost use Rattle.aegis_c_calls.specs.Numbers.{variant_of};
+
+use crate::by_variant::by_variant;
+use aegis_128::{State128X1, State128X2, State128X4};
+use aegis_256::{State256X1, State256X2, State256X4};
+use aegis_base::SavedLanes;
+use aegis_c_calls::refusal::{Refusal, code};
+use aegis_c_calls::state as calls;
+use aegis_c_calls::state::{DECRYPTING, ENCRYPTING, MAC, MESSAGE, State};
+use aegis_c_calls::variant::*;
+
+// The calls on a chunk for one variant, each with its code, so that an export branches to it and does nothing after it:
+// a chunk of 64 bytes then takes a twentieth less time.
+
+#[inline(never)]
+fn encrypted<S: SavedLanes>(st: &mut State, mc: &mut [u8]) -> i32
+    ensures { StateEncryptInPlace (Some S.VARIANT) st.old st.new mc.old mc.new result }
+{
+    code(calls::encrypt_in_place::<S>(st, mc))
+}
+
+#[inline(never)]
+fn decrypted<S: SavedLanes>(st: &mut State, mc: &mut [u8]) -> i32
+    ensures { StateDecryptInPlaceUnverified (Some S.VARIANT) st.old st.new mc.old mc.new result }
+{
+    code(calls::decrypt_in_place_unverified::<S>(st, mc))
+}
+
+#[inline(never)]
+fn checked<S: SavedLanes>(st: &mut State, c: &[u8]) -> i32
+    ensures { StateDecryptCheck (Some S.VARIANT) st.old st.new c.now result }
+{
+    code(calls::decrypt_check::<S>(st, c))
+}
+
+#[inline(never)]
+fn updated<S: SavedLanes>(st: &mut State, input: &[u8]) -> i32
+    ensures { MacUpdate (Some S.VARIANT) st.old st.new input.now result }
+{
+    code(calls::mac_update::<S>(st, input))
+}
+
+/// Begins a message at `st`.
+pub fn init(variant: u32, st: &mut State, ad: &[u8], npub: &[u8], k: &[u8]) -> i32
+    ensures { StateInit (variant_of variant) variant k.now npub.now ad.now st.old st.new result }
+{
+    by_variant!(
+        variant,
+        Refusal::WrongVariant,
+        calls::begin::<N>(st, variant, MESSAGE, ad, npub, k)
+    )
+}
+
+/// Returns the code of [`encrypt_in_place`] for so many bytes.
+pub fn may_encrypt(st: &State, mlen: usize) -> i32
+    ensures { result ≡ chunk_code (variant_of st.now.variant) st.now MESSAGE ENCRYPTING mlen }
+{
+    by_variant!(
+        st.variant,
+        Refusal::WrongState,
+        calls::may_encrypt(st, mlen)
+    )
+}
+
+/// Returns the code of [`decrypt_in_place_unverified`] for so many bytes.
+pub fn may_decrypt(st: &State, clen: usize) -> i32
+    ensures { result ≡ chunk_code (variant_of st.now.variant) st.now MESSAGE DECRYPTING clen }
+{
+    by_variant!(
+        st.variant,
+        Refusal::WrongState,
+        calls::may_decrypt(st, clen)
+    )
+}
+
+/// Encrypts the next bytes of the message in place.
+pub fn encrypt_in_place(st: &mut State, mc: &mut [u8]) -> i32
+    ensures { StateEncryptInPlace (variant_of st.old.variant) st.old st.new mc.old mc.new result }
+{
+    by_variant!(st.variant, Refusal::WrongState, chunk encrypted(st, mc))
+}
+
+/// Writes the tag of the message to `mac`, and ends the state.
+pub fn encrypt_final(st: &mut State, mac: &mut [u8]) -> i32
+    ensures { StateEncryptFinal (variant_of st.old.variant) st.old st.new mac.old mac.new result }
+{
+    by_variant!(
+        st.variant,
+        Refusal::WrongState,
+        calls::encrypt_final(st, mac)
+    )
+}
+
+/// Decrypts the next bytes of the ciphertext in place, before the tag is verified.
+pub fn decrypt_in_place_unverified(st: &mut State, mc: &mut [u8]) -> i32
+    ensures { StateDecryptInPlaceUnverified (variant_of st.old.variant) st.old st.new
+        mc.old mc.new result }
+{
+    by_variant!(st.variant, Refusal::WrongState, chunk decrypted(st, mc))
+}
+
+/// Takes in the next bytes of the ciphertext, without writing the message.
+pub fn decrypt_check(st: &mut State, c: &[u8]) -> i32
+    ensures { StateDecryptCheck (variant_of st.old.variant) st.old st.new c.now result }
+{
+    by_variant!(st.variant, Refusal::WrongState, chunk checked(st, c))
+}
+
+/// Compares `mac` with the tag of the message, erases `m` if it is another, and ends the state.
+pub fn decrypt_final(st: &mut State, m: &mut [u8], mac: &[u8]) -> i32
+    ensures { StateDecryptFinal (variant_of st.old.variant) st.old st.new
+        m.old m.new mac.now result }
+{
+    by_variant!(
+        st.variant,
+        Refusal::WrongState,
+        calls::decrypt_final(st, m, mac)
+    )
+}
+
+/// Begins a MAC at `st`.
+pub fn mac_init(variant: u32, st: &mut State, npub: &[u8], k: &[u8]) -> i32
+    ensures { MacInit (variant_of variant) variant k.now npub.now st.old st.new result }
+{
+    by_variant!(
+        variant,
+        Refusal::WrongVariant,
+        calls::begin::<N>(st, variant, MAC, &[], npub, k)
+    )
+}
+
+/// Takes in the next bytes of the input of a MAC.
+pub fn mac_update(st: &mut State, input: &[u8]) -> i32
+    ensures { MacUpdate (variant_of st.old.variant) st.old st.new input.now result }
+{
+    by_variant!(st.variant, Refusal::WrongState, chunk updated(st, input))
+}
+
+/// Writes the MAC of the input so far to `mac`.
+pub fn mac_final(st: &State, mac: &mut [u8]) -> i32
+    ensures { MacFinal (variant_of st.now.variant) st.now mac.old mac.new result }
+{
+    by_variant!(st.variant, Refusal::WrongState, calls::mac_final(st, mac))
+}
+
+/// Compares `mac` with the MAC of the input so far.
+pub fn mac_final_verify(st: &State, mac: &[u8]) -> i32
+    ensures { MacFinalVerify (variant_of st.now.variant) st.now mac.now result }
+{
+    by_variant!(
+        st.variant,
+        Refusal::WrongState,
+        calls::mac_final_verify(st, mac)
+    )
+}
