@@ -1,4 +1,4 @@
-//! Tests of `aegis::record`.
+//! Tests of `aegis::record`, and the comparisons that they share.
 
 mod by_hand;
 mod faults;
@@ -9,3 +9,34 @@ mod sizes;
 mod steps;
 mod streams;
 mod texts;
+
+use aegis::record::{Opened, RecordError};
+use std::alloc::Allocator;
+use std::fmt::Debug;
+use std::process::Abort;
+
+// Asserts that bytes are the expected ones, and names the case otherwise.
+fn assert_bytes<R: Abort, C: Debug>(rt: &R, bytes: &[u8], expected: &[u8], case: &C) {
+    assert_eq!(rt; bytes, expected, "{case:?}");
+}
+
+// Asserts that something is refused with this error, and names the case otherwise.
+fn assert_error<R: Abort, C: Debug>(
+    rt: &R,
+    error: Option<RecordError>,
+    expected: RecordError,
+    case: &C,
+) {
+    assert_eq!(rt; error, Some(expected), "{case:?}");
+}
+
+// Asserts that this message was opened, and whether its record is the last one.
+fn assert_opened<R: Abort, A: Allocator>(
+    rt: &R,
+    opened: &Opened<'_, A>,
+    message: &[u8],
+    is_last: bool,
+) {
+    assert_bytes(rt, &opened.message, message, &"the message");
+    assert!(rt; opened.is_last == is_last);
+}

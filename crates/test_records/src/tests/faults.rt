@@ -1,16 +1,23 @@
 //! The first fault of bytes that are no stream.
 
+use crate::tests::assert_error;
 use crate::tests::streams::{CONTEXT, FIRST, KEY, PREFIX, SECOND};
 use aegis::record::{RecordError, open_records};
+use std::process::Abort;
 use std::test::Fail;
 
 // The error for which bytes are refused.
-fn refusal(rt: &HostRuntime, bytes: &[u8]) -> Option<RecordError> {
+fn refusal<R: Abort + AllocGlobal>(rt: &R, bytes: &[u8]) -> Option<RecordError> {
     open_records(rt.alloc(), &KEY, &PREFIX, &CONTEXT, bytes).err()
 }
 
+// Asserts the error for which bytes are refused.
+fn check_refusal<R: Abort + AllocGlobal>(rt: &R, bytes: &[u8], expected: RecordError) {
+    assert_error(rt, refusal(rt, bytes), expected, &bytes);
+}
+
 // The length of a front that is not refused as it should be.
-fn wrong_front(rt: &HostRuntime, stream: &[u8]) -> Option<usize> {
+fn wrong_front<R: Abort + AllocGlobal>(rt: &R, stream: &[u8]) -> Option<usize> {
     for length in 0..stream.len() {
         let expected = if length < 4 {
             RecordError::Header
@@ -35,11 +42,7 @@ fn a_byte_behind_the_last_record_is_refused(rt: HostRuntime) -> Result<(), Fail>
     for byte in 0..=255 {
         let mut stream = Vec::from_slice(rt.alloc(), &SECOND)?;
         stream.push(byte)?;
-        assert_eq!(rt;
-            refusal(&rt, &stream),
-            Some(RecordError::Trailing),
-            "{byte}"
-        );
+        check_refusal(&rt, &stream, RecordError::Trailing);
     }
     Ok(())
 }
@@ -68,7 +71,11 @@ fn refusal_of_changed(place: usize, is_first_version: bool) -> RecordError {
 }
 
 // The place of a changed byte that is not refused as it should be.
-fn wrong_change(rt: &HostRuntime, sealed: &[u8; 81], is_first_version: bool) -> Option<usize> {
+fn wrong_change<R: Abort + AllocGlobal>(
+    rt: &R,
+    sealed: &[u8; 81],
+    is_first_version: bool,
+) -> Option<usize> {
     for place in 0..81 {
         let mut stream = *sealed;
         stream[place] ^= 1;
@@ -89,9 +96,9 @@ fn each_changed_byte_is_refused(rt: HostRuntime) {
 fn the_first_damaged_record_is_told(rt: HostRuntime) {
     let mut stream = FIRST;
     stream[80] ^= 1;
-    assert_eq!(rt; refusal(&rt, &stream), Some(RecordError::Damaged(1)));
+    check_refusal(&rt, &stream, RecordError::Damaged(1));
     stream[9] ^= 1;
-    assert_eq!(rt; refusal(&rt, &stream), Some(RecordError::Damaged(0)));
+    check_refusal(&rt, &stream, RecordError::Damaged(0));
 }
 
 #[test]
@@ -99,7 +106,7 @@ fn another_flag_is_refused(rt: HostRuntime) {
     for flag in 2..=255 {
         let mut stream = FIRST;
         stream[4] = flag;
-        assert_eq!(rt; refusal(&rt, &stream), Some(RecordError::Flag), "{flag}");
+        check_refusal(&rt, &stream, RecordError::Flag);
     }
 }
 
@@ -107,14 +114,14 @@ fn another_flag_is_refused(rt: HostRuntime) {
 #[test]
 fn a_length_past_the_limit_is_refused(rt: HostRuntime) {
     let past_first = b"AGR1\x01\x01\x00\x01\x00";
-    assert_eq!(rt; refusal(&rt, past_first), Some(RecordError::TooLong));
+    check_refusal(&rt, past_first, RecordError::TooLong);
     let within_second = b"AGR2\x01\x01\x00\x01\x00";
-    assert_eq!(rt; refusal(&rt, within_second), Some(RecordError::Truncated));
+    check_refusal(&rt, within_second, RecordError::Truncated);
     let past_second = b"AGR2\x01\x01\x00\x00\x01";
-    assert_eq!(rt; refusal(&rt, past_second), Some(RecordError::TooLong));
+    check_refusal(&rt, past_second, RecordError::TooLong);
     let mut stream = FIRST;
     stream[5..9].copy_from_slice(&[1, 0, 1, 0]);
-    assert_eq!(rt; refusal(&rt, &stream), Some(RecordError::TooLong));
+    check_refusal(&rt, &stream, RecordError::TooLong);
 }
 
 #[test]
@@ -122,7 +129,7 @@ fn another_header_is_refused(rt: HostRuntime) {
     for digit in [b'0', b'3'] {
         let mut stream = FIRST;
         stream[3] = digit;
-        assert_eq!(rt; refusal(&rt, &stream), Some(RecordError::Header), "{digit}");
+        check_refusal(&rt, &stream, RecordError::Header);
     }
 }
 
@@ -131,8 +138,8 @@ fn another_header_is_refused(rt: HostRuntime) {
 fn the_other_versions_header_is_refused(rt: HostRuntime) {
     let mut stream = FIRST;
     stream[3] = b'2';
-    assert_eq!(rt; refusal(&rt, &stream), Some(RecordError::Damaged(0)));
+    check_refusal(&rt, &stream, RecordError::Damaged(0));
     let mut stream = SECOND;
     stream[3] = b'1';
-    assert_eq!(rt; refusal(&rt, &stream), Some(RecordError::Damaged(0)));
+    check_refusal(&rt, &stream, RecordError::Damaged(0));
 }

@@ -3,12 +3,14 @@
 ghost use Rattle.std.specs.Prelude.{◌<◌, ◌≤◌};
 
 use crate::tests::streams::{CONTEXT, FIRST, KEY, MESSAGES, PREFIX, SECOND};
+use crate::tests::{assert_bytes, assert_error, assert_opened};
 use aegis::ERASED;
 use aegis::record::{
     MAX_MESSAGE_BYTES, OpenedInPlace, RECORD_BYTES, RECORD_HEAD_BYTES, RecordError, RecordOpener,
     RecordSealer,
 };
 use std::alloc::Allocator;
+use std::process::Abort;
 use std::test::Fail;
 
 // What opening the two stored records returns.
@@ -31,13 +33,18 @@ fn opened(opener: &mut RecordOpener<'_>, bytes: &mut [u8]) -> Result<OpenedInPla
     opener.open_next_in_place(bytes)
 }
 
+// Asserts what opening has returned.
+fn assert_ok<R: Abort>(rt: &R, found: Result<OpenedInPlace, RecordError>, expected: OpenedInPlace) {
+    assert_eq!(rt; found, Ok(expected));
+}
+
 #[test]
 fn records_are_opened_in_their_buffer(rt: HostRuntime) -> Result<(), Fail> {
     for stream in [FIRST, SECOND] {
         let mut buffer = stream;
         let mut opener = RecordOpener::new(&KEY, &PREFIX, &CONTEXT, &stream[..4])?;
-        assert_eq!(rt; opened(&mut opener, &mut buffer[4..]), Ok(OPENED[0]));
-        assert_eq!(rt; opened(&mut opener, &mut buffer[41..]), Ok(OPENED[1]));
+        assert_ok(&rt, opened(&mut opener, &mut buffer[4..]), OPENED[0]);
+        assert_ok(&rt, opened(&mut opener, &mut buffer[41..]), OPENED[1]);
         let mut expected = stream;
         expected[46..49].copy_from_slice(MESSAGES[1]);
         assert_eq!(rt; buffer, expected);
@@ -49,11 +56,10 @@ fn records_are_opened_in_their_buffer(rt: HostRuntime) -> Result<(), Fail> {
 fn what_opens_in_place_opens_into_a_vector(rt: HostRuntime) -> Result<(), Fail> {
     let mut opener = RecordOpener::new(&KEY, &PREFIX, &CONTEXT, &SECOND[..4])?;
     let mut buffer = SECOND;
-    assert_eq!(rt; opened(&mut opener, &mut buffer[4..]), Ok(OPENED[0]));
+    assert_ok(&rt, opened(&mut opener, &mut buffer[4..]), OPENED[0]);
     if opener.remaining() > 40 {
         let second = opener.open_next(rt.alloc(), &buffer[41..])?;
-        assert_eq!(rt; second.message.as_slice(), MESSAGES[1]);
-        assert!(rt; second.is_last);
+        assert_opened(&rt, &second, MESSAGES[1], true);
     }
     Ok(())
 }
@@ -83,18 +89,29 @@ fn refusal(stream: &mut [u8; 81], end: usize) -> Option<RecordError>
     }
 }
 
+// Asserts why the second record of a stream is refused, and what the buffer holds then.
+fn check_refusal<R: Abort>(
+    rt: &R,
+    stream: &[u8; 81],
+    end: usize,
+    error: RecordError,
+    expected: &[u8; 81],
+)
+    requires start { 41 ≤ end }
+    requires end { end ≤ 81 }
+{
+    let mut buffer = *stream;
+    assert_error(rt, refusal(&mut buffer, end), error, stream);
+    assert_bytes(rt, &buffer, expected, stream);
+}
+
 #[test]
 fn a_wrong_tag_erases_the_ciphertext(rt: HostRuntime) {
     for place in 46..81usize {
-        let mut stream = changed(place, SECOND[place] ^ 1);
+        let stream = changed(place, SECOND[place] ^ 1);
         let mut expected = stream;
         expected[46..49].fill(ERASED);
-        assert_eq!(rt;
-            refusal(&mut stream, 81),
-            Some(RecordError::Damaged(1)),
-            "{place}"
-        );
-        assert_eq!(rt; stream, expected, "{place}");
+        check_refusal(&rt, &stream, 81, RecordError::Damaged(1), &expected);
     }
 }
 
@@ -106,19 +123,11 @@ fn no_other_refusal_changes_the_buffer(rt: HostRuntime) {
         (42, 4, RecordError::Truncated),
     ];
     for (place, byte, error) in faults {
-        let mut stream = changed(place, byte);
-        let expected = stream;
-        assert_eq!(rt; refusal(&mut stream, 81), Some(error), "{place}");
-        assert_eq!(rt; stream, expected, "{place}");
+        let stream = changed(place, byte);
+        check_refusal(&rt, &stream, 81, error, &stream);
     }
     for end in 41..81usize {
-        let mut stream = SECOND;
-        assert_eq!(rt;
-            refusal(&mut stream, end),
-            Some(RecordError::Truncated),
-            "{end}"
-        );
-        assert_eq!(rt; stream, SECOND, "{end}");
+        check_refusal(&rt, &SECOND, end, RecordError::Truncated, &SECOND);
     }
 }
 
@@ -129,12 +138,11 @@ fn after_the_last_record_the_buffer_is_left(rt: HostRuntime) -> Result<(), Fail>
     opened(&mut opener, &mut stream[4..])?;
     opened(&mut opener, &mut stream[41..])?;
     let mut record = SECOND;
-    assert_eq!(rt;
-        opened(&mut opener, &mut record[4..]),
-        Err(RecordError::Trailing)
-    );
-    assert_eq!(rt; record, SECOND);
-    assert_eq!(rt; opened(&mut opener, &mut []), Err(RecordError::Trailing));
+    let refused = opened(&mut opener, &mut record[4..]).err();
+    assert_error(&rt, refused, RecordError::Trailing, &"a record");
+    assert_bytes(&rt, &record, &SECOND, &"a record");
+    let refused = opened(&mut opener, &mut []).err();
+    assert_error(&rt, refused, RecordError::Trailing, &"no bytes");
     Ok(())
 }
 
@@ -174,7 +182,7 @@ fn records_sealed_in_place_are_those_of_a_vector(rt: HostRuntime) -> Result<(), 
         seal_in_place(&mut in_place, record)?;
         let mut expected = Vec::new(rt.alloc());
         seal(&mut appending, &text[..len], &mut expected)?;
-        assert_eq!(rt; &*record, expected.as_slice(), "{len}");
+        assert_bytes(&rt, record, &expected, &len);
     }
     assert!(rt; in_place.position() == appending.position());
     Ok(())

@@ -3,6 +3,7 @@
 use crate::tests::streams::{
     CONTEXT, FIRST, KEY, MESSAGES, MIGRATED, PREFIX, SECOND, migrated, opens_to_messages,
 };
+use crate::tests::{assert_bytes, assert_error};
 use aegis::record::{RecordError, seal_records};
 use std::process::Abort;
 use std::test::Fail;
@@ -16,11 +17,11 @@ const REQUESTS: u64 = 20;
 fn sealing_makes_one_request(rt: HostRuntime) -> Result<(), Fail> {
     let heap = Rationed::new(rt.alloc(), 0);
     let refused = seal_records(&heap, &KEY, &PREFIX, &CONTEXT, &MESSAGES);
-    assert_eq!(rt; refused.err(), Some(RecordError::OutOfMemory));
+    assert_error(&rt, refused.err(), RecordError::OutOfMemory, &"no request");
     let heap = Rationed::new(rt.alloc(), 1);
     let stream = seal_records(&heap, &KEY, &PREFIX, &CONTEXT, &MESSAGES)?;
-    assert_eq!(rt; stream.as_slice(), SECOND.as_slice());
-    assert_eq!(rt; heap.left(), 0);
+    assert_bytes(&rt, &stream, &SECOND, &"one request");
+    assert!(rt; heap.left() == 0);
     Ok(())
 }
 
@@ -30,10 +31,10 @@ fn check_opening<R: Abort + AllocGlobal>(rt: &R, stream: &[u8]) {
     for requests in 0..REQUESTS {
         let heap = Rationed::new(rt.alloc(), requests);
         match opens_to_messages(&heap, &PREFIX, stream) {
-            Ok(is_opened) => assert!(rt; is_opened, "{requests}"),
+            Ok(is_opened) => assert!(rt; is_opened),
             Err(error) => {
-                assert_eq!(rt; error, RecordError::OutOfMemory, "{requests}");
-                assert_eq!(rt; refused, requests);
+                assert_error(rt, Some(error), RecordError::OutOfMemory, &requests);
+                assert!(rt; refused == requests);
                 refused += 1;
             }
         }
@@ -53,10 +54,10 @@ fn migrating_with_each_request_refused(rt: HostRuntime) {
     for requests in 0..REQUESTS {
         let heap = Rationed::new(rt.alloc(), requests);
         match migrated(&heap, &SECOND) {
-            Ok(stream) => assert_eq!(rt; stream.as_slice(), MIGRATED.as_slice(), "{requests}"),
+            Ok(stream) => assert_bytes(&rt, &stream, &MIGRATED, &requests),
             Err(error) => {
-                assert_eq!(rt; error, RecordError::OutOfMemory, "{requests}");
-                assert_eq!(rt; refused, requests);
+                assert_error(&rt, Some(error), RecordError::OutOfMemory, &requests);
+                assert!(rt; refused == requests);
                 refused += 1;
             }
         }

@@ -4,7 +4,10 @@ ghost use Rattle.std.specs.Prelude.{◌≡◌};
 
 use crate::tests::steps::opened;
 use crate::tests::streams::{CONTEXT, FIRST, KEY, NEW_PREFIX, PREFIX, SECOND};
-use aegis::record::{RecordError, RecordOpener, RecordPosition, RecordSealer, Version};
+use crate::tests::{assert_bytes, assert_error, assert_opened};
+use aegis::record::{Opened, RecordError, RecordOpener, RecordPosition, RecordSealer, Version};
+use std::alloc::Allocator;
+use std::process::Abort;
 use std::test::Fail;
 
 // The position of the second record of the stored streams.
@@ -19,6 +22,10 @@ fn second(version: Version) -> RecordPosition
     }
 }
 
+fn assert_position<R: Abort>(rt: &R, found: RecordPosition, expected: RecordPosition) {
+    assert_eq!(rt; found, expected);
+}
+
 #[test]
 fn positions_count_records_and_bytes(rt: HostRuntime) -> Result<(), Fail> {
     let mut stream = Vec::new(rt.alloc());
@@ -27,25 +34,30 @@ fn positions_count_records_and_bytes(rt: HostRuntime) -> Result<(), Fail> {
     sealer.seal_next(b"three", &mut stream)?;
     let next = sealer.position();
     let version = Version::Second;
-    assert_eq!(rt;
-        first,
-        RecordPosition {
-            version,
-            number: 0,
-            before: 0
-        }
-    );
-    assert_eq!(rt;
-        next,
-        RecordPosition {
-            version,
-            number: 1,
-            before: 5
-        }
-    );
+    let expected = RecordPosition {
+        version,
+        number: 0,
+        before: 0,
+    };
+    assert_position(&rt, first, expected);
+    let expected = RecordPosition {
+        version,
+        number: 1,
+        before: 5,
+    };
+    assert_position(&rt, next, expected);
     let opener = RecordOpener::begin_at(&KEY, &PREFIX, &CONTEXT, next);
-    assert_eq!(rt; opener.position(), next);
+    assert_position(&rt, opener.position(), next);
     Ok(())
+}
+
+fn opened_at<'b, A: Allocator>(
+    alloc: A,
+    opener: &RecordOpener<'_>,
+    position: RecordPosition,
+    bytes: &'b [u8],
+) -> Result<Opened<'b, A>, RecordError> {
+    opener.open_at(alloc, position, bytes)
 }
 
 #[test]
@@ -53,19 +65,17 @@ fn a_record_is_opened_at_its_position(rt: HostRuntime) -> Result<(), Fail> {
     for (version, stream) in [(Version::First, &FIRST), (Version::Second, &SECOND)] {
         let position = second(version);
         let opener = RecordOpener::begin_at(&KEY, &PREFIX, &CONTEXT, position);
-        let opened = opener.open_at(rt.alloc(), position, &stream[41..])?;
-        assert_eq!(rt; opened.message.as_slice(), b"abc".as_slice());
-        assert!(rt; opened.is_last);
+        let opened = opened_at(rt.alloc(), &opener, position, &stream[41..])?;
+        assert_opened(&rt, &opened, b"abc", true);
         assert!(rt; opened.rest.is_empty());
         let first = RecordPosition {
             number: 0,
             ..position
         };
-        let opened = opener.open_at(rt.alloc(), first, &stream[4..])?;
-        assert!(rt; opened.message.is_empty());
-        assert!(rt; !opened.is_last);
-        assert_eq!(rt; opened.rest, &stream[41..]);
-        assert_eq!(rt; opener.position(), position);
+        let opened = opened_at(rt.alloc(), &opener, first, &stream[4..])?;
+        assert_opened(&rt, &opened, b"", false);
+        assert_bytes(&rt, opened.rest, &stream[41..], &"the rest");
+        assert_position(&rt, opener.position(), position);
     }
     Ok(())
 }
@@ -75,48 +85,35 @@ fn an_opener_goes_on_from_a_position(rt: HostRuntime) -> Result<(), Fail> {
     let position = second(Version::Second);
     let mut opener = RecordOpener::begin_at(&KEY, &PREFIX, &CONTEXT, position);
     let opened = opened(rt.alloc(), &mut opener, &SECOND[41..])?;
-    assert_eq!(rt; opened.message.as_slice(), b"abc".as_slice());
-    assert!(rt; opened.is_last);
+    assert_opened(&rt, &opened, b"abc", true);
     Ok(())
 }
 
 #[test]
-fn no_other_position_opens_a_record(rt: HostRuntime) -> Result<(), Fail> {
+fn no_other_position_opens_a_record(rt: HostRuntime) {
     let position = second(Version::Second);
     let record = &SECOND[41..];
     let opener = RecordOpener::begin_at(&KEY, &PREFIX, &CONTEXT, position);
-    let number = opener.open_at(
-        rt.alloc(),
-        RecordPosition {
-            number: 2,
-            ..position
-        },
-        record,
-    );
-    assert_eq!(rt; number.err(), Some(RecordError::Damaged(2)));
-    let before = opener.open_at(
-        rt.alloc(),
-        RecordPosition {
-            before: 1,
-            ..position
-        },
-        record,
-    );
-    assert_eq!(rt; before.err(), Some(RecordError::Damaged(1)));
-    let version = opener.open_at(rt.alloc(), second(Version::First), record);
-    assert_eq!(rt; version.err(), Some(RecordError::Damaged(1)));
-    assert_eq!(rt;
-        opener.open_at(rt.alloc(), position, &[]).err(),
-        Some(RecordError::Truncated)
-    );
-    assert_eq!(rt;
-        opener.open_at(rt.alloc(), position, &[2]).err(),
-        Some(RecordError::Flag)
-    );
+    let number = RecordPosition {
+        number: 2,
+        ..position
+    };
+    let before = RecordPosition {
+        before: 1,
+        ..position
+    };
+    let cases = [
+        (number, record, RecordError::Damaged(2)),
+        (before, record, RecordError::Damaged(1)),
+        (second(Version::First), record, RecordError::Damaged(1)),
+        (position, &[], RecordError::Truncated),
+        (position, &[2], RecordError::Flag),
+    ];
+    for (position, bytes, error) in cases {
+        let refused = opened_at(rt.alloc(), &opener, position, bytes).err();
+        assert_error(&rt, refused, error, &position);
+    }
     let other = RecordOpener::begin_at(&KEY, &NEW_PREFIX, &CONTEXT, position);
-    assert_eq!(rt;
-        other.open_at(rt.alloc(), position, record).err(),
-        Some(RecordError::Damaged(1))
-    );
-    Ok(())
+    let refused = opened_at(rt.alloc(), &other, position, record).err();
+    assert_error(&rt, refused, RecordError::Damaged(1), &"another prefix");
 }

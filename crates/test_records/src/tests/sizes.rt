@@ -60,13 +60,10 @@ fn a_long_message_migrates(rt: HostRuntime) -> Result<(), Fail> {
 
 // The answer to a line under zero keys and no context.
 fn answer<A: Allocator + Copy>(alloc: A, command: &[u8], field: &[u8]) -> Result<Vec<u8, A>, Fail> {
-    let mut line = Vec::from_slice(alloc, command)?;
-    line.push(b' ')?;
-    line.extend_from_slice(&[b'0'; 64])?;
-    line.push(b' ')?;
-    line.extend_from_slice(&[b'0'; 48])?;
-    line.extend_from_slice(b" - ")?;
-    line.extend_from_slice(field)?;
+    let mut line = Vec::new(alloc);
+    for part in [command, b" ", &[b'0'; 64], b" ", &[b'0'; 48], b" - ", field] {
+        line.extend_from_slice(part)?;
+    }
     Ok(answer_line(alloc, &line)?)
 }
 

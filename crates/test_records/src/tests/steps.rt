@@ -1,8 +1,10 @@
 //! Record streams, sealed and opened a record at a time.
 
 use crate::tests::streams::{CONTEXT, FIRST, KEY, MESSAGES, PREFIX, SECOND};
+use crate::tests::{assert_bytes, assert_error, assert_opened};
 use aegis::record::{Opened, RecordError, RecordOpener, RecordSealer, seal_records};
 use std::alloc::Allocator;
+use std::process::Abort;
 use std::test::Fail;
 use test_tools::memory::Rationed;
 
@@ -32,7 +34,7 @@ pub fn opened<'b, A: Allocator>(
 }
 
 // The error for which the header or the first record of a stream is refused.
-fn refusal(rt: &HostRuntime, stream: &[u8]) -> Option<RecordError> {
+fn refusal<R: Abort + AllocGlobal>(rt: &R, stream: &[u8]) -> Option<RecordError> {
     let (header, records) = stream.split_at(stream.len().min(4));
     match RecordOpener::new(&KEY, &PREFIX, &CONTEXT, header) {
         Ok(mut opener) => opened(rt.alloc(), &mut opener, records).err(),
@@ -40,11 +42,16 @@ fn refusal(rt: &HostRuntime, stream: &[u8]) -> Option<RecordError> {
     }
 }
 
+// Asserts that error.
+fn check_refusal<R: Abort + AllocGlobal>(rt: &R, stream: &[u8], expected: RecordError) {
+    assert_error(rt, refusal(rt, stream), expected, &stream);
+}
+
 #[test]
 fn records_sealed_one_by_one_are_the_stream(rt: HostRuntime) -> Result<(), Fail> {
     let stream = sealed(rt.alloc())?;
     let whole = seal_records(rt.alloc(), &KEY, &PREFIX, &CONTEXT, &THREE)?;
-    assert_eq!(rt; stream.as_slice(), whole.as_slice());
+    assert_bytes(&rt, &stream, &whole, &"the stream");
     Ok(())
 }
 
@@ -55,8 +62,7 @@ fn records_opened_one_by_one_are_the_messages(rt: HostRuntime) -> Result<(), Fai
     let mut opener = RecordOpener::new(&KEY, &PREFIX, &CONTEXT, header)?;
     for number in 0..3 {
         let record = opened(rt.alloc(), &mut opener, rest)?;
-        assert_eq!(rt; record.message.as_slice(), THREE[number]);
-        assert_eq!(rt; record.is_last, number == 2);
+        assert_opened(&rt, &record, THREE[number], number == 2);
         rest = record.rest;
     }
     assert!(rt; rest.is_empty());
@@ -69,11 +75,9 @@ fn both_versions_are_opened_one_by_one(rt: HostRuntime) -> Result<(), Fail> {
         let (header, records) = stream.split_at(4);
         let mut opener = RecordOpener::new(&KEY, &PREFIX, &CONTEXT, header)?;
         let first = opened(rt.alloc(), &mut opener, records)?;
-        assert_eq!(rt; first.message.as_slice(), MESSAGES[0]);
-        assert!(rt; !first.is_last);
+        assert_opened(&rt, &first, MESSAGES[0], false);
         let second = opened(rt.alloc(), &mut opener, first.rest)?;
-        assert_eq!(rt; second.message.as_slice(), MESSAGES[1]);
-        assert!(rt; second.is_last);
+        assert_opened(&rt, &second, MESSAGES[1], true);
     }
     Ok(())
 }
@@ -82,20 +86,18 @@ fn both_versions_are_opened_one_by_one(rt: HostRuntime) -> Result<(), Fail> {
 fn the_length_of_a_record_is_told(rt: HostRuntime) -> Result<(), Fail> {
     for (header, limit) in [(b"AGR1", 65_536), (b"AGR2", 16_777_216)] {
         let opener = RecordOpener::new(&KEY, &PREFIX, &CONTEXT, header)?;
-        assert_eq!(rt; opener.record_len(b"\0\0\0\0\0"), Ok(37));
-        assert_eq!(rt; opener.record_len(b"\x01\0\x01\0\0"), Ok(293));
-        assert_eq!(rt; opener.record_len(b"\x02\0\0\0\0"), Err(RecordError::Flag));
         let most: u32 = limit;
-        let [a, b, c, d] = most.to_le_bytes();
-        assert_eq!(rt;
-            opener.record_len(&[0, a, b, c, d]),
-            Ok(37 + limit as usize)
-        );
-        let [a, b, c, d] = (most + 1).to_le_bytes();
-        assert_eq!(rt;
-            opener.record_len(&[0, a, b, c, d]),
-            Err(RecordError::TooLong)
-        );
+        let cases = [
+            (0, 0, Ok(37)),
+            (1, 256, Ok(293)),
+            (2, 0, Err(RecordError::Flag)),
+            (0, most, Ok(37 + limit as usize)),
+            (0, most + 1, Err(RecordError::TooLong)),
+        ];
+        for (flag, message_bytes, expected) in cases {
+            let [a, b, c, d] = message_bytes.to_le_bytes();
+            assert_eq!(rt; opener.record_len(&[flag, a, b, c, d]), expected);
+        }
     }
     Ok(())
 }
@@ -119,20 +121,20 @@ fn what_remains_is_counted(rt: HostRuntime) -> Result<(), Fail> {
 fn each_kind_of_refusal(rt: HostRuntime) {
     let mut stream = SECOND;
     stream[9] ^= 1;
-    assert_eq!(rt; refusal(&rt, &stream), Some(RecordError::Damaged(0)));
+    check_refusal(&rt, &stream, RecordError::Damaged(0));
     stream[8] = 2;
-    assert_eq!(rt; refusal(&rt, &stream), Some(RecordError::TooLong));
+    check_refusal(&rt, &stream, RecordError::TooLong);
     stream[4] = 2;
-    assert_eq!(rt; refusal(&rt, &stream), Some(RecordError::Flag));
+    check_refusal(&rt, &stream, RecordError::Flag);
     stream[3] = b'3';
-    assert_eq!(rt; refusal(&rt, &stream), Some(RecordError::Header));
+    check_refusal(&rt, &stream, RecordError::Header);
     for length in 0..41 {
         let expected = if length < 4 {
             RecordError::Header
         } else {
             RecordError::Truncated
         };
-        assert_eq!(rt; refusal(&rt, &SECOND[..length]), Some(expected), "{length}");
+        check_refusal(&rt, &SECOND[..length], expected);
     }
 }
 
@@ -143,10 +145,8 @@ fn after_the_last_record_nothing_is_opened(rt: HostRuntime) -> Result<(), Fail> 
     let first = opened(rt.alloc(), &mut opener, records)?;
     opened(rt.alloc(), &mut opener, first.rest)?;
     for bytes in [&[], records] {
-        assert_eq!(rt;
-            opened(rt.alloc(), &mut opener, bytes).err(),
-            Some(RecordError::Trailing)
-        );
+        let refused = opened(rt.alloc(), &mut opener, bytes).err();
+        assert_error(&rt, refused, RecordError::Trailing, &bytes);
     }
     Ok(())
 }
@@ -157,13 +157,16 @@ fn a_refused_record_may_be_opened_again(rt: HostRuntime) -> Result<(), Fail> {
     let mut opener = RecordOpener::new(&KEY, &PREFIX, &CONTEXT, header)?;
     let first = opened(rt.alloc(), &mut opener, records)?;
     let cut = opened(rt.alloc(), &mut opener, &first.rest[..first.rest.len() / 2]);
-    assert_eq!(rt; cut.err(), Some(RecordError::Truncated));
-    assert_eq!(rt;
-        opened(rt.alloc(), &mut opener, records).err(),
-        Some(RecordError::Damaged(1))
+    assert_error(&rt, cut.err(), RecordError::Truncated, &"a half");
+    let other = opened(rt.alloc(), &mut opener, records);
+    assert_error(
+        &rt,
+        other.err(),
+        RecordError::Damaged(1),
+        &"the first record",
     );
     let second = opened(rt.alloc(), &mut opener, first.rest)?;
-    assert_eq!(rt; second.message.as_slice(), MESSAGES[1]);
+    assert_opened(&rt, &second, MESSAGES[1], true);
     Ok(())
 }
 
@@ -174,7 +177,7 @@ fn want_of_memory_leaves_the_vector_as_it_was(rt: HostRuntime) -> Result<(), Fai
         let heap = Rationed::new(rt.alloc(), requests);
         match sealed(&heap) {
             Ok(stream) => whole = stream.len(),
-            Err(error) => assert_eq!(rt; error, RecordError::OutOfMemory, "{requests}"),
+            Err(error) => assert_error(&rt, Some(error), RecordError::OutOfMemory, &requests),
         }
     }
     assert_eq!(rt; whole, 123);
@@ -182,7 +185,7 @@ fn want_of_memory_leaves_the_vector_as_it_was(rt: HostRuntime) -> Result<(), Fai
     let mut stream = Vec::new(&heap);
     let mut sealer = RecordSealer::new(&KEY, &PREFIX, &CONTEXT, &mut stream)?;
     let refused = sealer.seal_next(&[0; 1000], &mut stream);
-    assert_eq!(rt; refused, Err(RecordError::OutOfMemory));
-    assert_eq!(rt; stream.as_slice(), b"AGR2".as_slice());
+    assert_error(&rt, refused.err(), RecordError::OutOfMemory, &"a record");
+    assert_bytes(&rt, &stream, b"AGR2", &"the header");
     Ok(())
 }

@@ -2,6 +2,7 @@
 
 ghost use Rattle.std.specs.Prelude.{◌≤◌, length};
 
+use crate::tests::{assert_bytes, assert_error};
 use aegis::MAX_AEAD_BYTES;
 use aegis::record::{RecordError, migrate, open_records, records_len, seal_records};
 use std::alloc::Allocator;
@@ -64,7 +65,7 @@ pub const MIGRATED: [u8; 81] = [
 fn the_second_version_is_sealed(rt: HostRuntime) -> Result<(), Fail> {
     assert_eq!(rt; records_len(&MESSAGES), Some(81));
     let stream = seal_records(rt.alloc(), &KEY, &PREFIX, &CONTEXT, &MESSAGES)?;
-    assert_eq!(rt; stream.as_slice(), SECOND.as_slice());
+    assert_bytes(&rt, &stream, &SECOND, &"the stream");
     Ok(())
 }
 
@@ -96,14 +97,14 @@ pub fn migrated<A: Allocator + Copy>(alloc: A, stream: &[u8]) -> Result<Vec<u8, 
 #[test]
 fn the_first_version_is_migrated(rt: HostRuntime) -> Result<(), Fail> {
     let stream = migrated(rt.alloc(), &FIRST)?;
-    assert_eq!(rt; stream.as_slice(), MIGRATED.as_slice());
+    assert_bytes(&rt, &stream, &MIGRATED, &"the stream");
     Ok(())
 }
 
 #[test]
 fn the_second_version_is_migrated(rt: HostRuntime) -> Result<(), Fail> {
     let stream = migrated(rt.alloc(), &SECOND)?;
-    assert_eq!(rt; stream.as_slice(), MIGRATED.as_slice());
+    assert_bytes(&rt, &stream, &MIGRATED, &"the stream");
     Ok(())
 }
 
@@ -112,14 +113,20 @@ fn a_damaged_stream_is_not_migrated(rt: HostRuntime) {
     let mut stream = FIRST;
     stream[80] ^= 1;
     let refused = migrated(rt.alloc(), &stream).err();
-    assert_eq!(rt; refused, Some(RecordError::Damaged(1)));
+    assert_error(&rt, refused, RecordError::Damaged(1), &"the last bit");
 }
 
 // A stream does not open under another key, prefix or context.
 #[test]
 fn only_its_own_keys_open_a_stream(rt: HostRuntime) {
     let key = [1; 32];
-    assert!(rt; open_records(rt.alloc(), &key, &PREFIX, &CONTEXT, &SECOND).is_err());
-    assert!(rt; open_records(rt.alloc(), &KEY, &NEW_PREFIX, &CONTEXT, &SECOND).is_err());
-    assert!(rt; open_records(rt.alloc(), &KEY, &PREFIX, b"context", &SECOND).is_err());
+    let others: [(&[u8; 32], &[u8; 24], &[u8]); 3] = [
+        (&key, &PREFIX, &CONTEXT),
+        (&KEY, &NEW_PREFIX, &CONTEXT),
+        (&KEY, &PREFIX, b"context"),
+    ];
+    for (key, prefix, context) in others {
+        assert!(rt; context.len() < 8);
+        assert!(rt; open_records(rt.alloc(), key, prefix, context, &SECOND).is_err());
+    }
 }

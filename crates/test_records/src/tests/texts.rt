@@ -1,5 +1,6 @@
 //! The texts that errors display, their copies and their equality.
 
+use crate::tests::{assert_bytes, assert_error};
 use aegis::record::RecordError;
 use std::test::Fail;
 
@@ -20,12 +21,12 @@ fn errors(rt: HostRuntime) -> Result<(), Fail> {
     ];
     for (error, expected) in texts {
         let text = format!(in rt.alloc(); "{error}")?;
-        assert_eq!(rt; text.as_str(), expected);
+        assert_bytes(&rt, text.as_bytes(), expected.as_bytes(), &expected);
         let copy = error;
-        assert_eq!(rt; copy, error);
-        assert_eq!(rt; error.clone()?, error);
+        assert_error(&rt, Some(copy), error, &expected);
+        assert_error(&rt, Some(error.clone()?), error, &expected);
         for (other, text_of_other) in texts {
-            assert_eq!(rt; error == other, expected == text_of_other);
+            assert!(rt; (error == other) == (expected == text_of_other));
         }
     }
     Ok(())
