@@ -10,6 +10,7 @@ ghost use Rattle.std.specs.Prelude.{◌<◌};
 use crate::tests::assert_bytes;
 use aegis_aes::field::power_254;
 use aegis_aes::{AesBlock, Row};
+use std::process::Abort;
 use std::simd::prelude::*;
 use table::{COLUMNS, round_by_table};
 
@@ -58,32 +59,32 @@ fn block(bytes: u128) -> AesBlock {
     AesBlock::from_bytes(&bytes.to_be_bytes())
 }
 
-fn bytes(block: AesBlock) -> u128 {
-    u128::from_be_bytes(block.to_bytes())
+// Asserts that a block is the one of a number's bytes.
+fn assert_block<R: Abort>(rt: &R, found: AesBlock, expected: u128) {
+    assert_bytes(rt, &found.to_bytes(), &expected.to_be_bytes(), &expected);
 }
 
 #[test]
 fn blocks_keep_their_bytes(rt: HostRuntime) {
     let counted = 0x000102030405060708090a0b0c0d0e0f;
-    assert_eq!(rt; bytes(block(counted)), counted);
-    assert_eq!(rt; bytes(AesBlock::default()), 0);
+    assert_block(&rt, block(counted), counted);
+    assert_block(&rt, AesBlock::default(), 0);
 }
 
 #[test]
 fn blocks_combine_by_byte(rt: HostRuntime) {
     let a = block(0xff00f00f_00000000_00000000_00000055);
     let b = block(0xffff3c3c_00000000_00000000_000000ff);
-    assert_eq!(rt; bytes(a.xor(b)), 0x00ffcc33_00000000_00000000_000000aa);
-    assert_eq!(rt; bytes(a.and(b)), 0xff00300c_00000000_00000000_00000055);
+    assert_block(&rt, a.xor(b), 0x00ffcc33_00000000_00000000_000000aa);
+    assert_block(&rt, a.and(b), 0xff00300c_00000000_00000000_00000055);
 }
 
 #[test]
 fn rounds_of_known_blocks(rt: HostRuntime) {
     for (start, key, end) in KNOWN {
         let by_table = round_by_table(start.to_be_bytes(), key.to_be_bytes());
-        assert_eq!(rt; u128::from_be_bytes(by_table), end, "from {start:032x}");
-        let by_block = block(start).round(block(key));
-        assert_eq!(rt; bytes(by_block), end, "from {start:032x}");
+        assert_block(&rt, AesBlock::from_bytes(&by_table), end);
+        assert_block(&rt, block(start).round(block(key)), end);
     }
 }
 
@@ -156,7 +157,7 @@ fn the_table_makes_the_plain_round(rt: HostRuntime) {
         let (start, key) = case(number);
         let plain = plain_round(start.to_be_bytes(), key.to_be_bytes());
         let by_table = round_by_table(start.to_be_bytes(), key.to_be_bytes());
-        assert_eq!(rt; by_table, plain, "from {start:032x}");
+        assert_bytes(&rt, &by_table, &plain, &start);
     }
 }
 

@@ -29,7 +29,7 @@ fn stored<R: Row>(row: R) -> [u8; 80]
 }
 
 fn assert_byte<R: Abort>(rt: &R, found: u8, expected: u8, at: usize) {
-    assert_eq!(rt; found, expected, "at {at}");
+    assert_bytes(rt, &[found], &[expected], &at);
 }
 
 // Each operation at a type of row. Its lanes are loaded from bytes that count up from 3.

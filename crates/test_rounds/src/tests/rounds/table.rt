@@ -1,5 +1,7 @@
 //! The round by one table of 256 columns, which the tests compare with the library's two.
 
+ghost use Rattle.std.specs.Prelude.{◌<◌};
+
 /// Entry a is the column 2s, s, s, 3s, with row 0 in the lowest byte, where s is SubBytes of a: MixColumns of the
 /// column with s in row 0 and zeros below it.
 pub static COLUMNS: [u32; 256] = [
@@ -37,14 +39,18 @@ pub static COLUMNS: [u32; 256] = [
     0xc3414182, 0xb0999929, 0x772d2d5a, 0x110f0f1e, 0xcbb0b07b, 0xfc5454a8, 0xd6bbbb6d, 0x3a16162c,
 ];
 
+// A byte's entry in the table, rotated by so many rows.
+fn entry(byte: u8, rows: u32) -> u32
+    requires { rows < 4 }
+{
+    COLUMNS[byte as usize].rotate_left(8 * rows)
+}
+
 // A column after SubBytes and MixColumns (FIPS 197, sections 5.1.1 and 5.1.3), from the bytes of its
 // rows. Row 0 is the lowest byte.
 fn column(row0: u8, row1: u8, row2: u8, row3: u8) -> u32 {
     // Each column of the matrix of MixColumns is the previous one, rotated by one row.
-    COLUMNS[row0 as usize]
-        ^ COLUMNS[row1 as usize].rotate_left(8)
-        ^ COLUMNS[row2 as usize].rotate_left(16)
-        ^ COLUMNS[row3 as usize].rotate_left(24)
+    entry(row0, 0) ^ entry(row1, 1) ^ entry(row2, 2) ^ entry(row3, 3)
 }
 
 /// A round with the key added last (FIPS 197, sections 5.1.1 to 5.1.4).
