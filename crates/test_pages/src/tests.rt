@@ -8,6 +8,7 @@ mod model;
 mod variants;
 
 use aegis_pages::{Nonces, PagesError, SealedPages};
+use aegis_storage::Storage;
 use std::alloc::Global;
 use std::io;
 
@@ -23,12 +24,62 @@ const ID: [u8; 24] = [9; 24];
 #[derive(Drop)]
 struct Counter(u64);
 
+/// Sealed pages of the tests.
+type TestPages<S, J> = SealedPages<S, J, Counter, Global>;
+
 /// Sealed pages in vectors.
-type InVectors = SealedPages<Vec<u8>, Vec<u8>, Counter, Global>;
+type InVectors = TestPages<Vec<u8>, Vec<u8>>;
+
+/// Creates a file with an empty text.
+fn create<S: Storage + Drop, J: Storage + Drop>(
+    alloc: Global,
+    storage: S,
+    journal: J,
+    id: &[u8; 24],
+    page_bytes: u32,
+) -> Result<TestPages<S, J>, PagesError> {
+    SealedPages::create(alloc, storage, journal, Counter(0), &KEY, id, page_bytes)
+}
+
+/// Opens a file with a journal.
+fn open_with<S: Storage + Drop, J: Storage + Drop>(
+    alloc: Global,
+    storage: S,
+    journal: J,
+    nonces: Counter,
+    key: &[u8; 32],
+) -> Result<TestPages<S, J>, PagesError> {
+    SealedPages::open(alloc, storage, journal, nonces, key)
+}
 
 /// Opens a file with an empty journal.
 fn open(alloc: Global, file: Vec<u8>, key: &[u8; 32]) -> Result<InVectors, PagesError> {
-    SealedPages::open(alloc, file, Vec::new(alloc), Counter(1 << 20), key)
+    open_with(alloc, file, Vec::new(alloc), Counter(1 << 20), key)
+}
+
+/// Reads a part of the text, and returns how many bytes it has.
+fn read<S: Storage + Drop, J: Storage + Drop>(
+    pages: &mut TestPages<S, J>,
+    at: u64,
+    out: &mut [u8],
+) -> Result<usize, PagesError> {
+    pages.read_at(at, out)
+}
+
+/// Writes a part of the text.
+fn write<S: Storage + Drop, J: Storage + Drop>(
+    pages: &mut TestPages<S, J>,
+    at: u64,
+    part: &[u8],
+) -> Result<(), PagesError> {
+    pages.write_at(at, part)
+}
+
+/// Commits what was written.
+fn commit<S: Storage + Drop, J: Storage + Drop>(
+    pages: &mut TestPages<S, J>,
+) -> Result<(), PagesError> {
+    pages.commit()
 }
 
 impl Nonces for Counter {
@@ -50,6 +101,11 @@ fn part_mut(bytes: &mut [u8], from: usize, to: usize) -> &mut [u8] {
     }
 }
 
+/// The first `count` bytes, or all of them if there are fewer.
+fn first(bytes: &[u8], count: usize) -> &[u8] {
+    bytes.get(..count).unwrap_or(bytes)
+}
+
 /// Copies `from` over `to`, if both are equally long.
 fn copy(to: &mut [u8], from: &[u8]) {
     if to.len() == from.len() {
@@ -60,9 +116,13 @@ fn copy(to: &mut [u8], from: &[u8]) {
 /// The file of 1,000 bytes of 5, in pages of 256 bytes.
 fn small_file(alloc: Global) -> Result<Vec<u8>, PagesError> {
     let (file, journal): (Vec<u8>, Vec<u8>) = (Vec::new(alloc), Vec::new(alloc));
-    let mut pages = SealedPages::create(alloc, file, journal, Counter(0), &KEY, &ID, 256)?;
-    pages.write_at(0, &[5; 1000])?;
-    pages.commit()?;
-    let (file, _) = pages.into_storages();
-    Ok(file)
+    let mut pages = create(alloc, file, journal, &ID, 256)?;
+    write(&mut pages, 0, &[5; 1000])?;
+    commit(&mut pages)?;
+    Ok(pages.into_storages().0)
+}
+
+/// Whether all bytes are this one.
+fn is_all(bytes: &[u8], byte: u8) -> bool {
+    bytes.iter().all(|b| *b == byte)
 }

@@ -1,15 +1,18 @@
 //! Commits that are cut at each call, and journals that are not the file's.
 
-use super::{Counter, ID, InVectors, KEY, open, part_mut, small_file};
+use super::{
+    Counter, ID, InVectors, KEY, TestPages, commit, create, first, is_all, open, open_with,
+    part_mut, read, small_file, write,
+};
 use aegis_256::State256X1;
-use aegis_pages::{PagesError, SealedPages, recover_file};
+use aegis_pages::{PagesError, recover_file};
 use std::alloc::Global;
 use std::test::Fail;
 use test_storage::disk::TestDisk;
 use test_storage::tears::{left_of, left_with_front};
 
-// More calls than are made.
-const ALL_CALLS: u64 = 1000;
+/// More calls than are made.
+pub const ALL_CALLS: u64 = 1000;
 
 // More calls than a commit makes.
 const CALLS: u64 = 14;
@@ -25,32 +28,41 @@ const OPENING_CALLS: (u64, u64) = (7, 7);
 // How many calls of the storage a commit makes before it writes.
 const READING_CALLS: u64 = 2;
 
+/// Sealed pages over disks.
+type OnDisks = TestPages<TestDisk, TestDisk>;
+
 // Which text a file has: bytes of 5, as before the commit, or of 6, as after it.
 fn text_of(pages: &mut InVectors) -> Result<Option<u8>, PagesError> {
     let mut out = [9; 1300];
-    let count = pages.read_at(0, &mut out)?;
-    for (byte, len) in [(5u8, 1000), (6, 1300)] {
-        if count == len && out.iter().take(count).all(|b| *b == byte) {
-            return Ok(Some(byte));
-        }
+    let count = read(pages, 0, &mut out)?;
+    if count == 1000 && is_all(first(&out, 1000), 5) {
+        Ok(Some(5))
+    } else if count == 1300 && is_all(&out, 6) {
+        Ok(Some(6))
+    } else {
+        Ok(None)
     }
-    Ok(None)
 }
 
-// Writes another text over that of the small file, on disks that fail after these numbers of calls. Returns the disks,
-// and whether the commit succeeded.
-fn cut(
-    alloc: Global,
-    storage_calls: u64,
-    journal_calls: u64,
-) -> Result<(TestDisk, TestDisk, bool), PagesError> {
+// Writes another text over that of the small file, on disks that fail after these numbers of calls.
+fn written(alloc: Global, storage_calls: u64, journal_calls: u64) -> Result<OnDisks, Fail> {
     let storage_calls = storage_calls.wrapping_add(OPENING_CALLS.0);
     let journal_calls = journal_calls.wrapping_add(OPENING_CALLS.1);
     let storage = TestDisk::new(alloc, small_file(alloc)?, storage_calls);
     let journal = TestDisk::new(alloc, Vec::new(alloc), journal_calls);
-    let mut pages = SealedPages::open(alloc, storage, journal, Counter(1 << 21), &KEY)?;
-    pages.write_at(0, &[6; 1300])?;
-    let is_done = pages.commit().is_ok();
+    let mut pages = open_with(alloc, storage, journal, Counter(1 << 21), &KEY)?;
+    write(&mut pages, 0, &[6; 1300])?;
+    Ok(pages)
+}
+
+/// Commits the other text. Returns the disks, and whether the commit succeeded.
+pub fn cut(
+    alloc: Global,
+    storage_calls: u64,
+    journal_calls: u64,
+) -> Result<(TestDisk, TestDisk, bool), Fail> {
+    let mut pages = written(alloc, storage_calls, journal_calls)?;
+    let is_done = commit(&mut pages).is_ok();
     let (storage, journal) = pages.into_storages();
     Ok((storage, journal, is_done))
 }
@@ -63,12 +75,12 @@ fn opens(
     journal: Vec<u8>,
     is_done: bool,
 ) -> Result<bool, PagesError> {
-    let mut pages = SealedPages::open(alloc, file, journal, Counter(1 << 22), &KEY)?;
+    let mut pages = open_with(alloc, file, journal, Counter(1 << 22), &KEY)?;
     let first = text_of(&mut pages)?;
     let (file, journal) = pages.into_storages();
-    let is_empty = journal.is_empty();
     let again = text_of(&mut open(alloc, file, &KEY)?)?;
-    Ok(is_empty && first == again && (first == Some(6) || (!is_done && first == Some(5))))
+    let is_text = first == Some(6) || (!is_done && first == Some(5));
+    Ok(journal.is_empty() && first == again && is_text)
 }
 
 // The disks after an opening of what a crash left that is cut.
@@ -76,50 +88,46 @@ fn reopened(
     alloc: Global,
     file: &[u8],
     journal: &[u8],
-    calls: (u64, u64),
-) -> Result<(TestDisk, TestDisk), PagesError> {
-    let mut storage = TestDisk::new(alloc, copied(alloc, file)?, calls.0);
-    let mut journal = TestDisk::new(alloc, copied(alloc, journal)?, calls.1);
-    let _ = recover_file::<TestDisk, TestDisk, State256X1, 32, Global>(
-        alloc,
-        &mut storage,
-        &mut journal,
-        &KEY,
-    );
+    calls: u64,
+) -> Result<(TestDisk, TestDisk), Fail> {
+    let mut storage = TestDisk::new(alloc, file.to_vec(alloc)?, calls);
+    let mut journal = TestDisk::new(alloc, journal.to_vec(alloc)?, calls);
+    let _ = recover_file::<_, _, State256X1, 32, Global>(alloc, &mut storage, &mut journal, &KEY);
     Ok((storage, journal))
 }
 
-fn copied(alloc: Global, bytes: &[u8]) -> Result<Vec<u8>, PagesError> {
-    match bytes.to_vec(alloc) {
-        Ok(copy) => Ok(copy),
-        Err(_) => Err(PagesError::OutOfMemory),
+// Whether the file opens to a text after an opening that is cut at each call.
+fn opens_after_cuts(
+    alloc: Global,
+    file: &[u8],
+    journal: &[u8],
+    journal_parts: u32,
+    order: usize,
+    is_done: bool,
+) -> Result<bool, Fail> {
+    for calls in 0..12u64 {
+        let (torn, torn_journal) = reopened(alloc, file, journal, calls)?;
+        let file = left_of(&torn, 0x39c, order)?;
+        let journal = left_of(&torn_journal, journal_parts, order)?;
+        if !opens(alloc, file, journal, is_done)? {
+            return Ok(false);
+        }
     }
-}
-
-fn left(disk: &TestDisk, parts: u32, order: usize) -> Result<Vec<u8>, PagesError> {
-    match left_of(disk, parts, order) {
-        Ok(bytes) => Ok(bytes),
-        Err(error) => Err(PagesError::Read(error)),
-    }
+    Ok(true)
 }
 
 // Whether whatever a crash leaves after a commit that was cut opens to a text, also after an opening that was cut.
-fn all_open(alloc: Global, storage_calls: u64, journal_calls: u64) -> Result<bool, PagesError> {
+fn all_open(alloc: Global, storage_calls: u64, journal_calls: u64) -> Result<bool, Fail> {
     let (storage, journal, is_done) = cut(alloc, storage_calls, journal_calls)?;
     for order in 0..ORDERS {
         for parts in PARTS {
             for journal_parts in [0, 1, 2, 3] {
-                let file = left(&storage, parts, order)?;
-                let journal = left(&journal, journal_parts, order)?;
-                for calls in 0..12u64 {
-                    if parts % 7 != 0 {
-                        break;
-                    }
-                    let torn = reopened(alloc, &file, &journal, (calls, calls))?;
-                    let again = left(&torn.0, 0x39c, order)?;
-                    if !opens(alloc, again, left(&torn.1, parts % 4, order)?, is_done)? {
-                        return Ok(false);
-                    }
+                let file = left_of(&storage, parts, order)?;
+                let journal = left_of(&journal, journal_parts, order)?;
+                if parts % 7 == 0
+                    && !opens_after_cuts(alloc, &file, &journal, parts % 4, order, is_done)?
+                {
+                    return Ok(false);
                 }
                 if !opens(alloc, file, journal, is_done)? {
                     return Ok(false);
@@ -146,29 +154,26 @@ fn a_commit_that_is_cut_at_each_call(rt: HostRuntime) -> Result<(), Fail> {
     Ok(())
 }
 
-// The front of the file's journals.
-fn own_front() -> [u8; 33] {
-    let mut front = [0; 33];
+// The front of the journals of a file whose ID has this byte throughout.
+fn front_of(id: u8) -> [u8; 33] {
+    let mut front = [id; 33];
     front[..9].copy_from_slice(b"AGPJ\x21\x00\x01\x00\x00");
-    front[9..].copy_from_slice(&ID);
     front
 }
 
 // What a torn front may be: its first `own` bytes are the file's, and the others are `other`, or those of another file.
 fn torn_front(own: usize, other: Option<u8>) -> [u8; 33] {
-    let mut front = [1; 33];
-    front[..9].copy_from_slice(b"AGPJ\x21\x00\x01\x00\x00");
-    if let Some(byte) = other {
-        front = [byte; 33];
-    }
-    for (torn, byte) in front.iter_mut().zip(&own_front()).take(own) {
-        *torn = *byte;
-    }
+    let mut front = match other {
+        Some(byte) => [byte; 33],
+        None => front_of(1),
+    };
+    let own = own.min(33);
+    front[..own].copy_from_slice(&front_of(ID[0])[..own]);
     front
 }
 
 // Whether the file opens to a text, whatever a crash leaves of the front of the journal after a commit that was cut.
-fn any_front_opens(alloc: Global, journal_calls: u64) -> Result<bool, PagesError> {
+fn any_front_opens(alloc: Global, journal_calls: u64) -> Result<bool, Fail> {
     let (storage, journal, is_done) = cut(alloc, ALL_CALLS, journal_calls)?;
     if journal.pending.is_empty() {
         return Ok(true);
@@ -176,10 +181,8 @@ fn any_front_opens(alloc: Global, journal_calls: u64) -> Result<bool, PagesError
     for own in [0, 4, 20, 33] {
         for other in [None, Some(0), Some(0xee)] {
             for len in [1, 20, 33, 34, 200, 5000] {
-                let Ok(torn) = left_with_front(&journal, len, &torn_front(own, other)) else {
-                    return Err(PagesError::OutOfMemory);
-                };
-                if !opens(alloc, left(&storage, 0, 0)?, torn, is_done)? {
+                let torn = left_with_front(&journal, len, &torn_front(own, other))?;
+                if !opens(alloc, left_of(&storage, 0, 0)?, torn, is_done)? {
                     return Ok(false);
                 }
             }
@@ -200,112 +203,113 @@ fn a_torn_front(rt: HostRuntime) -> Result<(), Fail> {
 // After a commit that failed each call returns an error that says so.
 #[test]
 fn a_broken_file(rt: HostRuntime) -> Result<(), Fail> {
-    let alloc = rt.alloc();
-    let storage = TestDisk::new(alloc, small_file(alloc)?, OPENING_CALLS.0 + READING_CALLS);
-    let journal = TestDisk::new(alloc, Vec::new(alloc), ALL_CALLS);
-    let mut pages = SealedPages::open(alloc, storage, journal, Counter(1 << 21), &KEY)?;
-    pages.write_at(0, &[6; 1300])?;
-    assert!(rt; matches!(pages.commit(), Err(PagesError::Write(_))));
+    let mut pages = written(rt.alloc(), READING_CALLS, ALL_CALLS)?;
+    assert!(rt; matches!(commit(&mut pages), Err(PagesError::Write(_))));
     let mut out = [9; 10];
-    assert!(rt; matches!(pages.read_at(0, &mut out), Err(PagesError::Broken)));
-    assert!(rt; matches!(pages.write_at(0, &out), Err(PagesError::Broken)));
-    assert!(rt; matches!(pages.set_len(3), Err(PagesError::Broken)));
-    assert!(rt; matches!(pages.commit(), Err(PagesError::Broken)));
-    assert!(rt; matches!(pages.commitment(), Err(PagesError::Broken)));
+    assert!(rt; matches!(read(&mut pages, 0, &mut out), Err(PagesError::Broken)));
+    assert!(rt; matches!(write(&mut pages, 0, &out), Err(PagesError::Broken)));
+    assert!(rt; matches!(commit(&mut pages), Err(PagesError::Broken)));
+    assert!(rt; is_broken(&mut pages));
     Ok(())
 }
 
+// Whether the length cannot be set, nor the commitment read.
+fn is_broken(pages: &mut OnDisks) -> bool {
+    matches!(pages.set_len(3), Err(PagesError::Broken))
+        && matches!(pages.commitment(), Err(PagesError::Broken))
+}
+
 // A file and the whole journal of its next commit, which was not applied.
-fn committing(alloc: Global) -> Result<(Vec<u8>, Vec<u8>), PagesError> {
+fn committing(alloc: Global) -> Result<(Vec<u8>, Vec<u8>), Fail> {
     let (storage, journal, _) = cut(alloc, READING_CALLS, ALL_CALLS)?;
-    Ok((left(&storage, 0, 0)?, left(&journal, 0xfff, 0)?))
+    Ok((left_of(&storage, 0, 0)?, left_of(&journal, 0xfff, 0)?))
 }
 
-// Opens, and returns the journal that is left, and the length of the text or why it did not open.
-fn tried(
+// Recovers a file, and returns the length of its text.
+fn recovered(
     alloc: Global,
-    file: Vec<u8>,
-    journal: Vec<u8>,
+    file: &mut Vec<u8>,
+    journal: &mut Vec<u8>,
     key: &[u8; 32],
-) -> (Vec<u8>, Result<u64, PagesError>) {
-    let (mut file, mut journal) = (file, journal);
-    let found = recover_file::<Vec<u8>, Vec<u8>, State256X1, 32, Global>(
-        alloc,
-        &mut file,
-        &mut journal,
-        key,
-    );
-    (journal, found.map(|header| header.len))
+) -> Result<u64, PagesError> {
+    Ok(recover_file::<_, _, State256X1, 32, Global>(alloc, file, journal, key)?.len)
 }
 
-// A journal that may be of use to someone is left as it is.
+// Whether a file is recovered, with a text of this length, and leaves the journal empty.
+fn recovers(alloc: Global, file: &[u8], journal: &[u8], len: u64) -> Result<bool, Fail> {
+    let mut file = file.to_vec(alloc)?;
+    let mut journal = journal.to_vec(alloc)?;
+    let found = recovered(alloc, &mut file, &mut journal, &KEY)?;
+    Ok(journal.is_empty() && found == len)
+}
+
+// Why a file is not recovered, if the journal is left as it is.
+fn refusal(
+    alloc: Global,
+    file: &[u8],
+    journal: &[u8],
+    key: &[u8; 32],
+) -> Result<Option<PagesError>, Fail> {
+    let mut file = file.to_vec(alloc)?;
+    let mut left = journal.to_vec(alloc)?;
+    match recovered(alloc, &mut file, &mut left, key) {
+        Err(error) if left.as_slice() == journal => Ok(Some(error)),
+        _ => Ok(None),
+    }
+}
+
+// A journal that may be of use to someone is left as it is: under a wrong key, and of another file, unless it has no
+// more than a front.
 #[test]
 fn journals_of_others(rt: HostRuntime) -> Result<(), Fail> {
     let alloc = rt.alloc();
     let (file, journal) = committing(alloc)?;
-    let (left, opened) = tried(alloc, file.clone()?, journal.clone()?, &KEY);
-    assert!(rt; left.is_empty() && matches!(opened, Ok(1300)));
+    assert!(rt; recovers(alloc, &file, &journal, 1300)?);
+    let refused = refusal(alloc, &file, &journal, &[8; 32])?;
+    assert!(rt; matches!(refused, Some(PagesError::Header)));
+    let (empty, no_journal): (Vec<u8>, Vec<u8>) = (Vec::new(alloc), Vec::new(alloc));
+    let (other, _) = create(alloc, empty, no_journal, &[1; 24], 256)?.into_storages();
+    for torn in [journal.as_slice(), first(&journal, 200)] {
+        let refused = refusal(alloc, &other, torn, &KEY)?;
+        assert!(rt; matches!(refused, Some(PagesError::Journal)));
+    }
+    assert!(rt; recovers(alloc, &other, first(&journal, 33), 0)?);
+    Ok(())
+}
 
-    // under a wrong key
-    let (left, opened) = tried(alloc, file.clone()?, journal.clone()?, &[8; 32]);
-    assert!(rt; left == journal && matches!(opened, Err(PagesError::Header)));
-
-    // of another file
-    let empty: Vec<u8> = Vec::new(alloc);
-    let other = SealedPages::create(
-        alloc,
-        empty,
-        Vec::<u8>::new(alloc),
-        Counter(0),
-        &KEY,
-        &[1; 24],
-        256,
-    )?;
-    let (other, _) = other.into_storages();
-    let (left, opened) = tried(alloc, other.clone()?, journal.clone()?, &KEY);
-    assert!(rt; left == journal && matches!(opened, Err(PagesError::Journal)));
-
-    // of another file, and torn: with no more than a front it is of use to nobody
-    let mut torn = journal.clone()?;
-    torn.truncate(200);
-    let (left, opened) = tried(alloc, other.clone()?, torn.clone()?, &KEY);
-    assert!(rt; left == torn && matches!(opened, Err(PagesError::Journal)));
-    let mut front = journal.clone()?;
-    front.truncate(33);
-    let (left, opened) = tried(alloc, other, front, &KEY);
-    assert!(rt; left.is_empty() && matches!(opened, Ok(0)));
-
-    // of this file, and torn
-    let (left, opened) = tried(alloc, file.clone()?, torn, &KEY);
-    assert!(rt; left.is_empty() && matches!(opened, Ok(1000)));
-
-    // of an older state of the file
-    let mut pages = open(alloc, file.clone()?, &KEY)?;
+// A journal of an older state of the file is left as it is, and one that is torn is not.
+#[test]
+fn journals_of_other_states(rt: HostRuntime) -> Result<(), Fail> {
+    let alloc = rt.alloc();
+    let (file, journal) = committing(alloc)?;
+    assert!(rt; recovers(alloc, &file, first(&journal, 200), 1000)?);
+    let mut pages = open(alloc, file, &KEY)?;
     pages.set_len(900)?;
-    pages.commit()?;
-    pages.commit()?;
+    commit(&mut pages)?;
+    commit(&mut pages)?;
     let (newer, _) = pages.into_storages();
-    let (left, opened) = tried(alloc, newer, journal.clone()?, &KEY);
-    assert!(rt; left == journal && matches!(opened, Err(PagesError::Journal)));
+    let refused = refusal(alloc, &newer, &journal, &KEY)?;
+    assert!(rt; matches!(refused, Some(PagesError::Journal)));
+    Ok(())
+}
 
-    // of a file with no header, whole and torn
-    let mut lost = file;
-    part_mut(&mut lost, 0, 512).fill(0);
-    let (left, opened) = tried(alloc, lost.clone()?, journal.clone()?, &KEY);
-    assert!(rt; left.is_empty() && matches!(opened, Ok(1300)));
-    let mut torn = journal;
-    torn.truncate(200);
-    let (left, opened) = tried(alloc, lost, torn.clone()?, &KEY);
-    assert!(rt; left == torn && matches!(opened, Err(PagesError::Header)));
+// A whole journal gives a file its header back, and one that is torn is left as it is.
+#[test]
+fn journals_of_a_file_with_no_header(rt: HostRuntime) -> Result<(), Fail> {
+    let alloc = rt.alloc();
+    let (mut file, journal) = committing(alloc)?;
+    part_mut(&mut file, 0, 512).fill(0);
+    assert!(rt; recovers(alloc, &file, &journal, 1300)?);
+    let refused = refusal(alloc, &file, first(&journal, 200), &KEY)?;
+    assert!(rt; matches!(refused, Some(PagesError::Header)));
     Ok(())
 }
 
 // A commit over a journal that is not empty is refused.
 #[test]
 fn a_journal_that_is_not_empty(rt: HostRuntime) -> Result<(), Fail> {
-    let alloc = rt.alloc();
-    let (file, journal) = committing(alloc)?;
-    let created = SealedPages::create(alloc, file, journal, Counter(0), &KEY, &ID, 256);
+    let (file, journal) = committing(rt.alloc())?;
+    let created = create(rt.alloc(), file, journal, &ID, 256);
     assert!(rt; matches!(created, Err(PagesError::Journal)));
     Ok(())
 }

@@ -1,6 +1,6 @@
 //! Memory that fails, and changes that are forgotten.
 
-use super::{Counter, ID, KEY, open, small_file};
+use super::{Counter, ID, KEY, is_all, open, read, small_file, write};
 use aegis_pages::{PagesError, SealedPages};
 use std::test::Fail;
 use test_tools::memory::Rationed;
@@ -22,12 +22,12 @@ fn memory_is_refused(rt: HostRuntime) -> Result<(), Fail> {
 #[test]
 fn changes_are_discarded(rt: HostRuntime) -> Result<(), Fail> {
     let mut pages = open(rt.alloc(), small_file(rt.alloc())?, &KEY)?;
-    pages.write_at(900, &[6; 500])?;
+    write(&mut pages, 900, &[6; 500])?;
     assert_eq!(rt; pages.len(), 1400);
-    let mut out = [9; 1000];
     pages.discard();
     assert_eq!(rt; pages.len(), 1000);
-    assert_eq!(rt; pages.read_at(0, &mut out)?, 1000);
-    assert!(rt; out == [5; 1000]);
+    let mut out = [9; 1000];
+    assert_eq!(rt; read(&mut pages, 0, &mut out)?, 1000);
+    assert!(rt; is_all(&out, 5));
     Ok(())
 }
