@@ -10,9 +10,9 @@ use aegis_storage::NoJournal;
 use std::alloc::Global;
 use std::fs::File;
 use std::rt::Runtime;
-use std::time::{Duration, Instant};
+use std::time::Instant;
 use std::{env, fs, io};
-use target::{Access, InMemory, Target, commit_len, new_pages, timed};
+use target::{Access, InMemory, Target, commit_len, nanoseconds_since, new_pages, timed};
 
 // How many bytes are written and read in a turn: a power of two of pages.
 const TEXT_BYTES: u64 = 4032 << 14;
@@ -49,11 +49,11 @@ const FORMS: [(Order, usize, &str); 2] = [
     (Order::Random, 4032, "at random places, a page a call"),
 ];
 
-/// The shortest times of writing and reading the text.
+/// The shortest times of writing and reading the text, in nanoseconds.
 #[derive(Clone, Copy)]
 struct Times {
-    write: Duration,
-    read: Duration,
+    write: u64,
+    read: u64,
 }
 
 // Writes and reads the text in some turns.
@@ -64,8 +64,8 @@ fn best<R: Runtime, T: Target>(
     piece: &mut [u8],
 ) -> anyhow::Result<Times> {
     let mut best = Times {
-        write: Duration::MAX,
-        read: Duration::MAX,
+        write: u64::MAX,
+        read: u64::MAX,
     };
     for _turn in 0..TURNS {
         let write = timed(rt, target, Access::Write, order, piece, TEXT_BYTES)?;
@@ -76,19 +76,15 @@ fn best<R: Runtime, T: Target>(
     Ok(best)
 }
 
-// How many MB of a text pass in a second.
-fn speed(text_bytes: u64, time: Duration) -> u64 {
-    let seconds = time.as_secs().wrapping_mul(1_000_000_000);
-    let nanoseconds = seconds.wrapping_add(u64::from(time.subsec_nanos()));
+// How many MB of a text pass in a second, by how many nanoseconds it takes.
+fn speed(text_bytes: u64, nanoseconds: u64) -> u64 {
     text_bytes.wrapping_mul(1000) / nanoseconds.max(1)
 }
 
 // Prints a line of the table.
 fn print_line<R: Runtime>(rt: &R, name: &str, form: &str, times: Times) -> io::Result<()> {
-    let (write, read) = (
-        speed(TEXT_BYTES, times.write),
-        speed(TEXT_BYTES, times.read),
-    );
+    let write = speed(TEXT_BYTES, times.write);
+    let read = speed(TEXT_BYTES, times.read);
     println!(rt; "| {name} | {form} | {write} | {read} |")
 }
 
@@ -110,7 +106,7 @@ fn print_commitment(rt: &HostRuntime, alloc: Global, path: &str) -> anyhow::Resu
     }
     let start = Instant::now(rt)?;
     let commitment = pages.commitment()?;
-    let read = speed(COMMITTED_BYTES, start.elapsed(rt)?);
+    let read = speed(COMMITTED_BYTES, nanoseconds_since(rt, start)?);
     pages.verify(&commitment)?;
     println!(rt; "| the commitment | of 1 GiB | | {read} |")?;
     Ok(())
@@ -141,17 +137,6 @@ fn unjournaled_times(
     best(rt, &mut pages, order, piece)
 }
 
-// Measures a plain file.
-fn file_times(
-    rt: &HostRuntime,
-    path: &str,
-    order: Order,
-    piece: &mut [u8],
-) -> anyhow::Result<Times> {
-    let mut file = new_file(rt, path)?;
-    best(rt, &mut file, order, piece)
-}
-
 // Measures in one form, in files at two paths.
 fn measure_form(
     rt: &HostRuntime,
@@ -166,12 +151,8 @@ fn measure_form(
     print_line(rt, "sealed pages", form, times)?;
     let times = unjournaled_times(rt, alloc, path, order, piece)?;
     print_line(rt, "sealed pages with no journal", form, times)?;
-    print_line(
-        rt,
-        "a plain file",
-        form,
-        file_times(rt, path, order, piece)?,
-    )?;
+    let times = best(rt, &mut new_file(rt, path)?, order, piece)?;
+    print_line(rt, "a plain file", form, times)?;
     let times = best(rt, &mut InMemory, order, piece)?;
     print_line(rt, "AEGIS-256 in memory", form, times)?;
     Ok(())

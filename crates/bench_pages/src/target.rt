@@ -9,7 +9,7 @@ use std::fs::File;
 use std::io;
 use std::os::unix::fs::FileExt;
 use std::rt::Runtime;
-use std::time::{Duration, Instant};
+use std::time::Instant;
 
 pub const KEY: [u8; 32] = [7; 32];
 
@@ -48,8 +48,7 @@ pub fn commit_len<S: Storage + Drop, J: Storage + Drop>(
     len: u64,
 ) -> anyhow::Result<()> {
     pages.set_len(len)?;
-    pages.commit()?;
-    Ok(())
+    pages.finish()
 }
 
 /// What is measured. A piece may hold other bytes after it was written.
@@ -124,7 +123,14 @@ pub enum Access {
     Read,
 }
 
-/// Writes or reads `text_bytes` in pieces, makes what was written certain, and returns how long it took.
+/// How many nanoseconds have passed since a moment.
+pub fn nanoseconds_since<R: Runtime>(rt: &R, start: Instant) -> io::Result<u64> {
+    let time = start.elapsed(rt)?;
+    let seconds = time.as_secs().wrapping_mul(1_000_000_000);
+    Ok(seconds.wrapping_add(u64::from(time.subsec_nanos())))
+}
+
+/// Writes or reads `text_bytes` in pieces, makes what was written certain, and returns how many nanoseconds it took.
 pub fn timed<R: Runtime, T: Target>(
     rt: &R,
     target: &mut T,
@@ -132,7 +138,7 @@ pub fn timed<R: Runtime, T: Target>(
     order: Order,
     piece: &mut [u8],
     text_bytes: u64,
-) -> anyhow::Result<Duration> {
+) -> anyhow::Result<u64> {
     let piece_bytes = piece.len() as u64;
     let pieces = text_bytes / piece_bytes.max(1);
     let start = Instant::now(rt)?;
@@ -146,5 +152,5 @@ pub fn timed<R: Runtime, T: Target>(
     if let Access::Write = access {
         target.finish()?;
     }
-    Ok(start.elapsed(rt)?)
+    Ok(nanoseconds_since(rt, start)?)
 }
