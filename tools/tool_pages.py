@@ -25,8 +25,8 @@ TITLES = {
     "hunkravy rekey -k backup.key -n new.key docs.sealed docs.new": "Another key",
 }
 
-OPTION = re.compile(r"^  (?:-(\w), |    )--([a-z-]+)(?: <(\S+)>)? {2,}(.+)$", re.M)
-OPERAND = re.compile(r"^  \[(\w+)\] {2,}(.+)$", re.M)
+OPTION = re.compile(r"(?:-(\w), |    )--([a-z-]+)(?: <(\S+)>)? {2,}(.+)")
+OPERAND = re.compile(r"\[(\w+)\] {2,}(.+)")
 
 
 class Option(NamedTuple):
@@ -53,14 +53,22 @@ def section(text, title):
     return [line[2:] for line in found[1].splitlines()]
 
 
+def parts(text, title, pattern):
+    """Yields the parts of each line of a part of the help. A line of another form is an error, so that none is left out."""
+    for line in section(text, title):
+        found = pattern.fullmatch(line) or sys.exit(f"the help has a line of another form: {line}")
+        yield found.groups(default="")
+
+
 def commands(help_of):
     """Yields what the help says of each command."""
     for line in section(help_of("--help"), "Commands"):
         name, about = re.split(" {2,}", line, maxsplit=1)
         if name != "help":
             text = help_of("help", name)
-            options = [Option(*found) for found in OPTION.findall(text)]
-            yield Command(name, about, [it for it in options if it.long != "help"], OPERAND.findall(text))
+            options = [Option(*found) for found in parts(text, "Options", OPTION)]
+            operands = list(parts(text, "Arguments", OPERAND))
+            yield Command(name, about, [it for it in options if it.long != "help"], operands)
 
 
 def man_command(command):
