@@ -1,5 +1,5 @@
 # The measurements, which write the tables of bench/.
-.PHONY: bench bench-peers bench-states bench-tool bench-pages bench-python
+.PHONY: bench bench-peers bench-states bench-tool bench-calls bench-pages bench-python check-bench
 
 # One level is measured, x86-64-v2 unless CPU gives another, and the code that the library is compared with is built for
 # it too. Without `no-vectorize-slp` the compiler gathers look-ups into vectors, which makes the four tables a third
@@ -12,20 +12,33 @@ $(OUT)/%/driver: $(wildcard bench/*.rs $(STORED_LINES)/*) rust/src/exports.rs $(
 	CPU=$* $(RUSTC) $(if $(filter x86-64%,$*),-C target-cpu=$*) -C no-vectorize-slp bench/driver.rs \
 		-L native=$(OUT)/$* -l static=hunkravy -o $@
 
-# Compares the library with look-up tables and AES instructions, with libsodium if it is installed, the chunked calls and
-# record streams with the one-shot calls, and sealed pages with a plain file. Writes the tables of BENCH_FOLDER and of
-# bench/.
-bench: $(OUT)/$(BENCH_CPU)/driver bench-peers bench-states bench-tool bench-pages bench-python
+# Compares the library with look-up tables and AES instructions, with libsodium if it is installed, each way to seal with
+# the one in place, and encrypted files with a plain one. Writes the tables of BENCH_FOLDER and of bench/.
+bench: $(OUT)/$(BENCH_CPU)/driver bench-peers bench-states bench-tool bench-calls bench-pages bench-python
 	mkdir -p $(BENCH_FOLDER)
 	$< $(BENCH_FOLDER)
-	cd crates/bench_calls && rt run -- bench > ../../$(OUT)/speeds
-	(cat bench/calls.md.in; grep '^| aegis' $(OUT)/speeds) > bench/CALLS.md
-	(cat bench/records.md.in; grep '^| 16 MiB' $(OUT)/speeds) > bench/RECORDS.md
 
-bench-pages: | $(OUT)
-	cd crates/bench_pages && rt run --cpu=$(BENCH_CPU) -- /dev/shm/hunkravy-bench > ../../$(OUT)/pages
+# The programs of bench/package, which measure the Cargo package over the library of a level.
+$(OUT)/%/bench/calls $(OUT)/%/bench/pages: $(wildcard bench/package/* rust/src/*.rs rust/src/*/*.rs) $(OUT)/%/libhunkravy.a
+	cd bench/package && HUNKRAVY_LIB_DIR="$(CURDIR)/$(OUT)/$*" \
+		cargo build --release --offline --target-dir "$(CURDIR)/$(OUT)/$*/cargo"
+	mkdir -p $(OUT)/$*/bench
+	cp $(OUT)/$*/cargo/release/calls $(OUT)/$*/cargo/release/pages $(OUT)/$*/bench
+
+bench-calls: $(OUT)/$(BENCH_CPU)/bench/calls
 	mkdir -p $(BENCH_FOLDER)
-	(cat bench/pages.md.in; grep '^|' $(OUT)/pages) > $(BENCH_FOLDER)/PAGES.md
+	$< > $(OUT)/calls.md
+	cat bench/calls.md.in $(OUT)/calls.md > $(BENCH_FOLDER)/CALLS.md
+
+bench-pages: $(OUT)/$(BENCH_CPU)/bench/pages
+	mkdir -p $(BENCH_FOLDER)
+	$< /dev/shm/hunkravy-bench > $(OUT)/pages.md
+	cat bench/pages.md.in $(OUT)/pages.md > $(BENCH_FOLDER)/PAGES.md
+
+# Whether the programs of bench/package run, on little.
+check-bench: $(OUT)/both/bench/calls $(OUT)/both/bench/pages
+	$(OUT)/both/bench/calls check
+	$(OUT)/both/bench/pages $(OUT)/bench-file check
 
 bench-states: $(OUT)/$(BENCH_CPU)/libhunkravy.a
 	mkdir -p $(BENCH_FOLDER)

@@ -1,6 +1,6 @@
 # The C library, for Linux, and its tests. What follows builds with stock gcc, and proves nothing but that library.
-.PHONY: c-library install check-c check-header check-c++ check-shared check-level check-sodium check-time check-install \
-	gcc-aarch64-linux-gnu qemu-user
+.PHONY: c-library c-libraries install check-c check-header check-c++ check-shared check-level check-sodium check-time \
+	check-install gcc-aarch64-linux-gnu qemu-user
 
 CC = gcc
 C_FLAGS = -Wall -Wextra -Wpedantic -Werror -Ic/include
@@ -32,6 +32,9 @@ EXPORTS = sed -nE 's/^(HUNKRAVY_MUST_USE )?(int|size_t|uint64_t|void|const char)
 CALLS = $(wildcard c/library/* c/levels/*) $(OWN_HEADERS:%=c/include/%)
 
 c-library: $(LIBRARY)
+
+# Each library that is checked. With them there, checks can run beside each other.
+c-libraries: $(LIBRARY) $(RUNNABLE:%=$(OUT)/%/libhunkravy.a)
 
 $(OUT)/both/libhunkravy.a: $(LEVELS:%=$(OUT)/%/aegis_c.a) $(CALLS)
 	mkdir -p $(@D)

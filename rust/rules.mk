@@ -2,8 +2,8 @@
 .PHONY: check-rust check-raf
 
 # Its tests and those of the calls below it, over the library with both levels and over each level alone: the stored lines,
-# forgeries, the samples of the crate's pages, its examples, and three other implementations.
-check-rust: $(addprefix check-rust-,both $(RUNNABLE))
+# forgeries, the samples of the crate's pages, its examples, and three other implementations. The programs that measure it run.
+check-rust: $(addprefix check-rust-,both $(RUNNABLE)) check-bench
 
 check-rust-%: $(OUT)/%/libhunkravy.a $(OUT)/%/driver
 	cd rust && export HUNKRAVY_LIB_DIR="$(CURDIR)/$(<D)" CARGO_TARGET_DIR="$(CURDIR)/$(<D)/cargo" && \

@@ -1,0 +1,190 @@
+//! Measures `raf` in a file beside a plain file and AEGIS-256 in memory, and prints the lines of `bench/PAGES.md`.
+//!
+//! Its argument is the path of a file, which it makes and removes. With `check` after it the text is a small one.
+
+use hunkravy::aegis256::Aegis256 as Cipher;
+use hunkravy::raf::{Aegis256, Error, FileIo, NoJournal, Raf, RafBuilder, RafIo, RafRng, Result};
+use std::fs::{self, File};
+use std::os::unix::fs::FileExt;
+use std::time::{Duration, Instant};
+
+const KEY: [u8; 32] = [7; 32];
+const PAGE_BYTES: usize = 4032;
+const TURNS: usize = 7;
+
+/// The order in which pieces are written and read, and their bytes.
+const ORDERS: [(&str, usize, bool); 2] = [
+    ("in order, 64 KiB a call", 65536, false),
+    ("at random places, a page a call", PAGE_BYTES, true),
+];
+
+/// What is measured. A piece may hold other bytes after it was written.
+trait Target {
+    fn write(&mut self, at: u64, piece: &mut [u8]) -> Result<()>;
+    fn read(&mut self, at: u64, piece: &mut [u8]) -> Result<()>;
+    /// Makes what was written certain.
+    fn finish(&mut self) -> Result<()>;
+}
+
+impl<I: RafIo, R: RafRng, J: RafIo> Target for Raf<Aegis256, I, R, J> {
+    fn write(&mut self, at: u64, piece: &mut [u8]) -> Result<()> {
+        Raf::write(self, piece, at).map(drop)
+    }
+
+    fn read(&mut self, at: u64, piece: &mut [u8]) -> Result<()> {
+        Raf::read(self, piece, at).map(drop)
+    }
+
+    fn finish(&mut self) -> Result<()> {
+        self.commit()
+    }
+}
+
+impl Target for File {
+    fn write(&mut self, at: u64, piece: &mut [u8]) -> Result<()> {
+        Ok(self.write_all_at(piece, at)?)
+    }
+
+    fn read(&mut self, at: u64, piece: &mut [u8]) -> Result<()> {
+        Ok(self.read_exact_at(piece, at)?)
+    }
+
+    fn finish(&mut self) -> Result<()> {
+        Ok(self.sync_all()?)
+    }
+}
+
+/// Pages that are sealed and refused in place.
+struct InMemory;
+
+impl Target for InMemory {
+    fn write(&mut self, _: u64, piece: &mut [u8]) -> Result<()> {
+        for page in piece.chunks_mut(PAGE_BYTES) {
+            let _ = Cipher::<32>::new(&KEY, &KEY).encrypt_in_place(page, &[9; 24]);
+        }
+        Ok(())
+    }
+
+    fn read(&mut self, _: u64, piece: &mut [u8]) -> Result<()> {
+        for page in piece.chunks_mut(PAGE_BYTES) {
+            let _ = Cipher::<32>::new(&KEY, &KEY).decrypt_in_place(page, &[0; 32], &[9; 24]);
+        }
+        Ok(())
+    }
+
+    fn finish(&mut self) -> Result<()> {
+        Ok(())
+    }
+}
+
+/// How much is measured.
+struct Sizes {
+    /// Pages of the text that is written and read: a power of two.
+    pages: u64,
+    /// Bytes of the text whose commitment is read.
+    committed: u64,
+}
+
+/// The places of the pieces. An odd factor gives each of a power of two of places once.
+fn places(text_bytes: u64, piece_bytes: u64, is_random: bool) -> impl Iterator<Item = u64> {
+    let count = text_bytes / piece_bytes;
+    (0..count).map(move |number| {
+        let number = if is_random {
+            number * 0x9E37_79B1 % count
+        } else {
+            number
+        };
+        number * piece_bytes
+    })
+}
+
+fn timed(call: impl FnOnce() -> Result<()>) -> Result<Duration> {
+    let start = Instant::now();
+    call()?;
+    Ok(start.elapsed())
+}
+
+fn megabytes_a_second(bytes: u64, time: Duration) -> u64 {
+    (bytes as f64 / 1e6 / time.as_secs_f64()) as u64
+}
+
+/// Writes and reads the text in some turns, and prints the best speeds.
+fn measure(
+    name: &str,
+    sizes: &Sizes,
+    order: &(&str, usize, bool),
+    mut target: impl Target,
+) -> Result<()> {
+    let &(words, piece_bytes, is_random) = order;
+    let text_bytes = sizes.pages * PAGE_BYTES as u64;
+    let places = || places(text_bytes, piece_bytes as u64, is_random);
+    let mut piece = vec![0x5a; piece_bytes];
+    let (mut writing, mut reading) = (Duration::MAX, Duration::MAX);
+    for _ in 0..TURNS {
+        writing = writing.min(timed(|| {
+            places().try_for_each(|at| target.write(at, &mut piece))?;
+            target.finish()
+        })?);
+        reading = reading.min(timed(|| {
+            places().try_for_each(|at| target.read(at, &mut piece))
+        })?);
+    }
+    let [writing, reading] = [writing, reading].map(|time| megabytes_a_second(text_bytes, time));
+    println!("| {name} | {words} | {writing} | {reading} |");
+    Ok(())
+}
+
+/// A file with no text, in place of one that is there.
+fn new() -> RafBuilder<Aegis256> {
+    RafBuilder::new().truncate(true)
+}
+
+/// Prints the speed of reading the commitment of a longer text.
+fn measure_commitment(path: &str, sizes: &Sizes) -> Result<()> {
+    let mut pages = new().create_file(path, &KEY)?;
+    for end in (1..=64).map(|part| sizes.committed / 64 * part) {
+        pages.truncate(end)?;
+        pages.commit()?;
+    }
+    let mut commitment = [0; 32];
+    let time = timed(|| {
+        commitment = pages.commitment()?;
+        Ok(())
+    })?;
+    pages.verify(&commitment)?;
+    let reading = megabytes_a_second(sizes.committed, time);
+    println!(
+        "| the commitment | of {} MiB | | {reading} |",
+        sizes.committed >> 20
+    );
+    Ok(())
+}
+
+fn main() -> Result<()> {
+    let mut arguments = std::env::args().skip(1);
+    let path = &arguments
+        .next()
+        .ok_or(Error::Io(std::io::ErrorKind::InvalidInput.into()))?;
+    let sizes = if arguments.next().is_some() {
+        Sizes {
+            pages: 1 << 6,
+            committed: 1 << 20,
+        }
+    } else {
+        Sizes {
+            pages: 1 << 14,
+            committed: 1 << 30,
+        }
+    };
+    for order in &ORDERS {
+        measure("`raf`", &sizes, order, new().create_file(path, &KEY)?)?;
+        let pages = new().journal(NoJournal);
+        let pages = pages.create(FileIo::create(path)?, &KEY)?;
+        measure("`raf` with no journal", &sizes, order, pages)?;
+        let file = File::options().read(true).write(true).open(path)?;
+        measure("a plain file", &sizes, order, file)?;
+        measure("AEGIS-256 in memory", &sizes, order, InMemory)?;
+    }
+    measure_commitment(path, &sizes)?;
+    Ok(fs::remove_file(path)?)
+}
