@@ -1,4 +1,4 @@
-//! Tests of the ciphers. They are one crate, so that each call of a variant is compiled and linked only once.
+//! Tests of the ciphers and of record streams: one crate, so that each call of a variant is compiled only once.
 #![tactic(auto)]
 
 #[cfg(test)]

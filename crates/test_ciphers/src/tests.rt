@@ -4,6 +4,7 @@ mod chunks;
 mod hostile;
 mod limits;
 mod one_shot;
+mod records;
 
 use aegis::Error;
 use hex::FromHex;

@@ -11,6 +11,9 @@ const MAX_MESSAGE_BYTES: usize = 16_777_216;
 
 const MAX_CONTEXT_BYTES: usize = 65_535;
 
+// The number of records of a long stream.
+const MANY: usize = 10_000;
+
 // The digits of so many bytes.
 fn digits(alloc: Global, bytes: usize) -> Result<Vec<u8>, Fail> {
     Ok(vec![in alloc; b'6'; bytes.saturating_mul(2)]?)
@@ -67,5 +70,20 @@ fn a_context_past_the_limit(rt: HostRuntime) -> Result<(), Fail> {
     assert_eq!(rt; refused.as_slice(), b"error length".as_slice());
     let refused = answer(rt.alloc(), b"openrec", &context, &sealed)?;
     assert_eq!(rt; refused.as_slice(), b"error length".as_slice());
+    Ok(())
+}
+
+#[test]
+fn many_records(rt: HostRuntime) -> Result<(), Fail> {
+    let mut messages = Vec::from_slice(rt.alloc(), b"6d")?;
+    for _message in 1..MANY {
+        messages.extend_from_slice(b",6d")?;
+    }
+    let sealed = answer(rt.alloc(), b"sealrec", b"-", &messages)?;
+    assert_eq!(rt; sealed.len(), 2 * (4 + 38 * MANY));
+    let opened = answer(rt.alloc(), b"openrec", b"-", &sealed)?;
+    assert!(rt; opened.as_slice().starts_with(b"ok "));
+    assert!(rt; opened.as_slice().ends_with(&messages));
+    assert_eq!(rt; opened.len(), 3 + messages.len());
     Ok(())
 }

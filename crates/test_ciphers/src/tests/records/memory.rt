@@ -1,9 +1,10 @@
 //! No memory: each request refused in turn.
 
-use crate::tests::streams::{
+use crate::tests::assert_bytes;
+use crate::tests::records::assert_error;
+use crate::tests::records::streams::{
     CONTEXT, FIRST, KEY, MESSAGES, MIGRATED, PREFIX, SECOND, migrated, opens_to_messages,
 };
-use crate::tests::{assert_bytes, assert_error};
 use aegis::record::{RecordError, seal_records};
 use std::process::Abort;
 use std::test::Fail;

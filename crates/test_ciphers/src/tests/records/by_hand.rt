@@ -4,7 +4,7 @@
 ghost use Rattle.std.specs.Prelude.{◌≤◌};
 
 use crate::tests::assert_bytes;
-use crate::tests::streams::{CONTEXT, KEY, PREFIX};
+use crate::tests::records::streams::{CONTEXT, KEY, PREFIX};
 use aegis::aegis256::Aegis256;
 use aegis::record::{open_records, seal_records};
 use std::alloc::{AllocError, Global};

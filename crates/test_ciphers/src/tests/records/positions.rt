@@ -2,9 +2,10 @@
 
 ghost use Rattle.std.specs.Prelude.{◌≡◌};
 
-use crate::tests::steps::opened;
-use crate::tests::streams::{CONTEXT, FIRST, KEY, NEW_PREFIX, PREFIX, SECOND};
-use crate::tests::{assert_bytes, assert_error, assert_opened};
+use crate::tests::assert_bytes;
+use crate::tests::records::steps::opened;
+use crate::tests::records::streams::{CONTEXT, FIRST, KEY, NEW_PREFIX, PREFIX, SECOND};
+use crate::tests::records::{assert_error, assert_opened};
 use aegis::record::{Opened, RecordError, RecordOpener, RecordPosition, RecordSealer, Version};
 use std::alloc::Allocator;
 use std::process::Abort;

@@ -1,7 +1,8 @@
 //! Record streams, sealed and opened a record at a time.
 
-use crate::tests::streams::{CONTEXT, FIRST, KEY, MESSAGES, PREFIX, SECOND};
-use crate::tests::{assert_bytes, assert_error, assert_opened};
+use crate::tests::assert_bytes;
+use crate::tests::records::streams::{CONTEXT, FIRST, KEY, MESSAGES, PREFIX, SECOND};
+use crate::tests::records::{assert_error, assert_opened};
 use aegis::record::{Opened, RecordError, RecordOpener, RecordSealer, seal_records};
 use std::alloc::Allocator;
 use std::process::Abort;

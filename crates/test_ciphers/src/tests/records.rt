@@ -1,4 +1,4 @@
-//! Tests of `aegis::record`, and the comparisons that they share.
+//! Record streams, and the comparisons that these tests share.
 
 mod by_hand;
 mod faults;
@@ -10,15 +10,11 @@ mod steps;
 mod streams;
 mod texts;
 
+use crate::tests::assert_bytes;
 use aegis::record::{Opened, RecordError};
 use std::alloc::Allocator;
 use std::fmt::Debug;
 use std::process::Abort;
-
-// Asserts that bytes are the expected ones, and names the case otherwise.
-fn assert_bytes<R: Abort, C: Debug>(rt: &R, bytes: &[u8], expected: &[u8], case: &C) {
-    assert_eq!(rt; bytes, expected, "{case:?}");
-}
 
 // Asserts that something is refused with this error, and names the case otherwise.
 fn assert_error<R: Abort, C: Debug>(

@@ -1,6 +1,7 @@
 //! The texts that errors display, their copies and their equality.
 
-use crate::tests::{assert_bytes, assert_error};
+use crate::tests::assert_bytes;
+use crate::tests::records::assert_error;
 use aegis::record::RecordError;
 use std::test::Fail;
 

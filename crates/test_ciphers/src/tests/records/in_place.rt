@@ -2,8 +2,9 @@
 
 ghost use Rattle.std.specs.Prelude.{◌<◌, ◌≤◌};
 
-use crate::tests::streams::{CONTEXT, FIRST, KEY, MESSAGES, PREFIX, SECOND};
-use crate::tests::{assert_bytes, assert_error, assert_opened};
+use crate::tests::assert_bytes;
+use crate::tests::records::streams::{CONTEXT, FIRST, KEY, MESSAGES, PREFIX, SECOND};
+use crate::tests::records::{assert_error, assert_opened};
 use aegis::ERASED;
 use aegis::record::{
     MAX_MESSAGE_BYTES, OpenedInPlace, RECORD_BYTES, RECORD_HEAD_BYTES, RecordError, RecordOpener,

@@ -1,15 +1,11 @@
-//! Long messages, and many.
+//! Long messages.
 
 ghost use Rattle.std.specs.Prelude.{◌≤◌, length};
 
-use crate::tests::streams::{CONTEXT, KEY, PREFIX, migrated};
+use crate::tests::records::streams::{CONTEXT, KEY, PREFIX, migrated};
 use aegis::record::{MAX_MESSAGE_BYTES, RecordError, open_records, seal_records};
-use aegis_lines::answer_line;
 use std::alloc::Allocator;
 use std::test::Fail;
-
-/// The number of records in the tests of many records.
-const MANY: usize = 10_000;
 
 // Whether the stream of a message has the right length, and opens to the message.
 fn opens_again<A: Allocator + Copy>(alloc: A, message: &[u8]) -> Result<bool, RecordError>
@@ -55,29 +51,5 @@ fn migrates<A: Allocator + Copy>(alloc: A, message: &[u8]) -> Result<(usize, usi
 fn a_long_message_migrates(rt: HostRuntime) -> Result<(), Fail> {
     let message = vec![in rt.alloc(); 0x5au8; 65_537]?;
     assert_eq!(rt; migrates(rt.alloc(), &message)?, (65_578, 65_578));
-    Ok(())
-}
-
-// The answer to a line under zero keys and no context.
-fn answer<A: Allocator + Copy>(alloc: A, command: &[u8], field: &[u8]) -> Result<Vec<u8, A>, Fail> {
-    let mut line = Vec::new(alloc);
-    for part in [command, b" ", &[b'0'; 64], b" ", &[b'0'; 48], b" - ", field] {
-        line.extend_from_slice(part)?;
-    }
-    Ok(answer_line(alloc, &line)?)
-}
-
-#[test]
-fn many_records(rt: HostRuntime) -> Result<(), Fail> {
-    let mut messages = Vec::from_slice(rt.alloc(), b"6d")?;
-    for _message in 1..MANY {
-        messages.extend_from_slice(b",6d")?;
-    }
-    let sealed = answer(rt.alloc(), b"sealrec", &messages)?;
-    assert_eq!(rt; sealed.len(), 2 * (4 + 38 * MANY));
-    let opened = answer(rt.alloc(), b"openrec", &sealed)?;
-    assert!(rt; opened.as_slice().starts_with(b"ok "));
-    assert!(rt; opened.as_slice().ends_with(&messages));
-    assert_eq!(rt; opened.len(), 3 + messages.len());
     Ok(())
 }

@@ -2,7 +2,8 @@
 
 ghost use Rattle.std.specs.Prelude.{◌≤◌, length};
 
-use crate::tests::{assert_bytes, assert_error};
+use crate::tests::assert_bytes;
+use crate::tests::records::assert_error;
 use aegis::MAX_AEAD_BYTES;
 use aegis::record::{RecordError, migrate, open_records, records_len, seal_records};
 use std::alloc::Allocator;

@@ -1,7 +1,7 @@
 //! The first fault of bytes that are no stream.
 
-use crate::tests::assert_error;
-use crate::tests::streams::{CONTEXT, FIRST, KEY, PREFIX, SECOND};
+use crate::tests::records::assert_error;
+use crate::tests::records::streams::{CONTEXT, FIRST, KEY, PREFIX, SECOND};
 use aegis::record::{RecordError, open_records};
 use std::process::Abort;
 use std::test::Fail;

@@ -1,5 +1,0 @@
-//! Tests of record streams.
-#![tactic(auto)]
-
-#[cfg(test)]
-mod tests;
