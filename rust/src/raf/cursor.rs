@@ -27,6 +27,7 @@ impl<A: Algorithm, I: RafIo, R: RafRng, J: RafIo> Write for RafCursor<'_, A, I, 
     /// Writes as [`Raf::write`] does. No bytes past the end do not make the text longer.
     fn write(&mut self, data: &[u8]) -> io::Result<usize> {
         if data.is_empty() {
+            self.file.check_is_whole()?;
             return Ok(0);
         }
         let count = self.file.write(data, self.offset)?;

@@ -4,6 +4,7 @@ use crate::support::{
     Bytes, Call, Disk, JOURNAL_CALLS, KEY, Part, Random, changed, crashed, disks, front_of_another,
 };
 use hunkravy::raf::{Aegis256, Error, Raf, RafBuilder};
+use std::io::Write;
 
 /// How often each crash is tried.
 const TRIES: usize = 12;
@@ -277,6 +278,7 @@ fn check_is_broken(file: &mut File) {
     assert!(matches!(file.write(b"no", 0), Err(Error::Broken)));
     assert!(matches!(file.truncate(0), Err(Error::Broken)));
     assert!(matches!(file.truncate(5000), Err(Error::Broken)));
+    assert!(file.cursor().write(b"").is_err());
     assert!(matches!(file.commit(), Err(Error::Broken)));
     assert!(matches!(file.sync(), Err(Error::Broken)));
     assert!(matches!(file.commitment(), Err(Error::Broken)));
