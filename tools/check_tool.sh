@@ -105,10 +105,10 @@ status 0 "$tool" keygen other
 head -c 1000 /dev/urandom > small
 cp key open-key && chmod 644 open-key
 status 0 "$tool" seal -k open-key small small.open-key
-says 'chmod 600'
+says 'lets others read or change the key'
 chmod 711 open-key
 status 0 "$tool" seal -k open-key small small.run-key
-lacks 'chmod'
+lacks 'lets others'
 status 3 "$tool" seal -k nowhere small small.nowhere
 # Standard error may go into the output.
 "$tool" seal -k open-key small > small.both 2>&1
@@ -130,7 +130,9 @@ status 0 "$tool" check -k key small.piped-key
 [ ! -e full-key ] || fail 'keygen left something on a full disk'
 no_parts
 status 2 "$tool" seal -k key $'small\xff' small.name
-says 'UTF-8'
+says 'a word of the command line'
+(exec -a $'\xff' "$tool" info small.sealed) 2> said || [ $? = 2 ]
+says "or the program's own name, is not UTF-8"
 status 2 "$tool" seal small
 status 2 "$tool" frobnicate
 
@@ -710,7 +712,10 @@ if "${CC:-gcc}" -shared -fPIC -O1 "$calls" -ldl -o calls.so 2> said; then
                 if ! grep -q 'is not removed' said; then
                     no_parts
                 else
-                    [ "$complete" = 0 ] || says 'out is complete, but has a second name'
+                    if [ "$complete" = 1 ]; then
+                        says 'out is complete, but has a second name'
+                        grep -q '^fsync-folder$' noted || fail "$what, call $number: the folder was not synced"
+                    fi
                     there=$(sed -n 's/^hunkravy: \(.*\) is not removed.*/\1/p' said)
                     [ -e "$there" ] || fail "$what, call $number: there is no $there"
                 fi
@@ -910,7 +915,7 @@ meanwhile() {
 mkdir place
 meanwhile 'mv place elsewhere'
 [ "$found" = 3 ] || fail "status $found, not 3, of an output whose folder was renamed: $(cat said)"
-says 'was renamed or removed meanwhile'
+says 'was renamed, removed or mounted over meanwhile'
 [ ! -e elsewhere/out ] && [ ! -e place ] || fail 'an output was given a name in a folder that was renamed'
 rm -r elsewhere
 # Another folder in its place, with a key of the part's name.
@@ -924,7 +929,7 @@ rm -r place elsewhere
 mkdir place
 meanwhile 'rm "place/$there"'
 [ "$found" = 3 ] || fail "status $found, not 3, of a part that was removed: $(cat said)"
-says 'was renamed or removed meanwhile'
+says 'was renamed, removed or mounted over meanwhile'
 lacks 'is not removed'
 rmdir place
 # Another file in the part's place.

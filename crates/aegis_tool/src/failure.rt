@@ -43,11 +43,11 @@ pub enum Failure<'a> {
     Input(Name<'a>, io::Error),
     #[error("{0} cannot be written: {1}")]
     Output(Name<'a>, io::Error),
-    #[error("{0} is complete, but its folder cannot be synced, so a power loss may remove it: {1}")]
+    #[error("{0} is complete, but its folder cannot be synced, so after a power loss it may be as it was: {1}")]
     Unsynced(Name<'a>, io::Error),
     #[error("{0} is complete, but has a second name, which cannot be removed")]
     SecondName(Name<'a>),
-    #[error("{0} cannot be written: its folder, or its file .OUT.hunkravy- and 16 digits, was renamed or removed meanwhile")]
+    #[error("{0} cannot be written: its folder, or its file .OUT.hunkravy- and 16 digits, was renamed, removed or mounted over meanwhile")]
     Moved(Name<'a>),
     #[error("{0} exists; --force replaces a file")]
     Exists(Name<'a>),

@@ -56,7 +56,7 @@ pub struct KeyFile<'a> {
     pub identity: Option<Identity>,
 }
 
-/// Reads the key of a key file. Warns on standard error if it is a file whose mode lets others read it, unless `quiet`.
+/// Reads the key of a key file. Warns on standard error if its mode lets others read or change it, unless `quiet`.
 pub fn read<'a>(rt: &HostRuntime, name: &'a str, quiet: bool) -> Result<KeyFile<'a>, Failure<'a>> {
     let unreadable = |error| Failure::KeyFile(Name(name), error);
     let mut file = File::open(rt, name).map_err(unreadable)?;
@@ -67,7 +67,7 @@ pub fn read<'a>(rt: &HostRuntime, name: &'a str, quiet: bool) -> Result<KeyFile<
     if found.is_file() && found.mode() & OTHERS != 0 && !quiet {
         let shown = Name(name);
         let _ = eprintln!(rt;
-            "hunkravy: the mode of {shown} lets others use this key: chmod 600 {shown}"
+            "hunkravy: the mode of {shown} lets others read or change the key: set it to 0600"
         );
     }
     Ok(KeyFile {

@@ -83,7 +83,7 @@ fn carry_out_words(rt: &HostRuntime) -> anyhow::Result<u8> {
         Ok(words) => words.collect(rt.alloc())?,
         Err(error) if error.kind() == ErrorKind::InvalidData => {
             let _ = eprintln!(rt;
-                "hunkravy: the command line is not UTF-8: give such a file another name"
+                "hunkravy: a word of the command line, or the program's own name, is not UTF-8: give such a file another name"
             );
             return Ok(MISUSED);
         }

@@ -452,6 +452,16 @@ impl<'a> Part<'a> {
         }
     }
 
+    // Removes the name that the file was created under, if it has two, and syncs the folder also if that fails.
+    fn settle(&self, rt: &HostRuntime, has_two_names: bool) -> Result<(), Failure<'a>> {
+        let has_one_name = !has_two_names || self.unlink(rt, 1);
+        match sync_folder(rt, folder(self.target.as_str())) {
+            Ok(()) if has_one_name => Ok(()),
+            Ok(()) => Err(Failure::SecondName(self.output)),
+            Err(error) => Err(Failure::Unsynced(self.output, error)),
+        }
+    }
+
     /// Gives the file the name of its output if all of it was written, and otherwise removes it.
     pub fn end(
         self,
@@ -463,13 +473,7 @@ impl<'a> Part<'a> {
             Err(failure) => Err(failure),
         };
         match placed {
-            Ok(has_two_names) if has_two_names && !self.unlink(rt, 1) => Err(Failure::SecondName(
-                self.output,
-            )),
-            Ok(_) => match sync_folder(rt, folder(self.target.as_str())) {
-                Ok(()) => Ok(()),
-                Err(error) => Err(Failure::Unsynced(self.output, error)),
-            },
+            Ok(has_two_names) => self.settle(rt, has_two_names),
             Err(failure) => {
                 self.remove(rt);
                 Err(failure)

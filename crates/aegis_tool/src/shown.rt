@@ -8,14 +8,24 @@ pub struct Name<'a>(pub &'a str);
 
 impl fmt::Display for Name<'_> {
     fn fmt<W: fmt::Write>(&self, f: &mut fmt::Formatter<W>) -> fmt::Result {
-        for character in self.0.chars() {
-            match character {
-                '\'' | '"' => write!(f, "{character}")?,
-                _ => write!(f, "{}", character.escape_debug())?,
-            }
-        }
-        Ok(())
+        write_escaped(f, self.0, false)
     }
+}
+
+// Writes a text with its characters escaped but quotation marks, and line feeds if it has several lines.
+fn write_escaped<W: fmt::Write>(
+    f: &mut fmt::Formatter<W>,
+    text: &str,
+    has_lines: bool,
+) -> fmt::Result {
+    for character in text.chars() {
+        match character {
+            '\'' | '"' => write!(f, "{character}")?,
+            '\n' if has_lines => write!(f, "{character}")?,
+            _ => write!(f, "{}", character.escape_debug())?,
+        }
+    }
+    Ok(())
 }
 
 /// How many bytes of a text were verified before a fault, if they were counted.
@@ -37,12 +47,6 @@ pub struct Lines<'a>(pub &'a str);
 
 impl fmt::Display for Lines<'_> {
     fn fmt<W: fmt::Write>(&self, f: &mut fmt::Formatter<W>) -> fmt::Result {
-        for character in self.0.chars() {
-            match character {
-                '\'' | '"' | '\n' => write!(f, "{character}")?,
-                _ => write!(f, "{}", character.escape_debug())?,
-            }
-        }
-        Ok(())
+        write_escaped(f, self.0, true)
     }
 }
