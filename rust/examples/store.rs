@@ -1,4 +1,5 @@
-//! A small store of names and values in an encrypted file. A crash leaves all of a change, or nothing of it.
+//! A small store of names and values in an encrypted file. A crash leaves all of a change, or nothing of it; but one while
+//! the file is made may leave a file that does not open, which is to be removed.
 //!
 //! `store KEYFILE FILE NAME=VALUE` sets a value, and `store KEYFILE FILE` prints all of them. A key is made by
 //! `head -c 32 /dev/urandom > KEYFILE`. Without arguments it tries itself on a file that it removes.

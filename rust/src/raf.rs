@@ -81,11 +81,12 @@ pub const MAX_SIZE: u64 = 1 << 60;
 
 /// An encrypted file. [`RafBuilder`] has all ways to create and to open one.
 ///
-/// Changes are kept in memory until a commit: [`commit`](Raf::commit), [`sync`](Raf::sync), dropping, and a write after
-/// which they are more than the [limit](RafBuilder::buffer_limit). **Dropping ignores the error of its commit**, so
-/// call `commit` first. No drop commits after a change or a commit that has failed or panicked, until the next `commit` that
-/// succeeds or [`discard`](Raf::discard), nor while its thread panics. A file that threads share by a mutex and in which one
-/// of them has panicked is dropped by another: call `discard` there.
+/// Changes are kept in memory until a commit: [`commit`](Raf::commit), [`sync`](Raf::sync), dropping, and a
+/// [`write`](Raf::write) or [`truncate`](Raf::truncate) after which they are more than the
+/// [limit](RafBuilder::buffer_limit). **Dropping ignores the error of its commit**, so call `commit` first. No drop commits
+/// after a change or a commit that has failed or panicked, until the next `commit` that succeeds or
+/// [`discard`](Raf::discard), nor while its thread panics. A file that threads share by a mutex and in which one of them has
+/// panicked is dropped by another: call `discard` there.
 ///
 /// After an error in the middle of a commit the file is broken: each later call that reads, changes or commits it returns
 /// [`Error::Broken`], and opening the file again gives the text of before the commit or the one after it.
@@ -233,10 +234,11 @@ impl<A: Algorithm, I: RafIo, R: RafRng, J: RafIo> Raf<A, I, R, J> {
     ///
     /// # Errors
     ///
-    /// [`Error::Broken`], [`Error::Moved`], [`Error::TooLong`], [`Error::Io`] of a read, of a look at the file's path, of a size
-    /// that the file cannot have, or of a place where there can be no journal, or an error of the source of random bytes:
-    /// the changes are still in memory, and in the file nothing but its size may have changed. After any other
-    /// [`Error::Io`] the file is broken. Open it again, which gives the text of before the changes or the one after them.
+    /// [`Error::Broken`], [`Error::Moved`], [`Error::TooLong`], [`Error::Journal`] if another file has the journal's name,
+    /// [`Error::Io`] of a read, of a look at the file's path, of a size that the file cannot have, or of a place where there
+    /// can be no journal, or an error of the source of random bytes: the changes are still in memory, and in the file nothing
+    /// but its size may have changed. After any other [`Error::Io`] the file is broken. Open it again, which gives the text of
+    /// before the changes or the one after them.
     pub fn commit(&mut self) -> Result<()> {
         self.is_cut_short = true;
         self.commit_all()?;
@@ -262,6 +264,9 @@ impl<A: Algorithm, I: RafIo, R: RafRng, J: RafIo> Raf<A, I, R, J> {
         self.rng.fill(&mut seal.prefix)?;
         self.make_room(&writes)?;
         self.journal.check_path()?;
+        if self.journal.get_size()? != 0 {
+            return Err(Error::Journal);
+        }
         self.is_broken = true;
         journal::commit(&mut self.io, &mut self.journal, &seal, &writes)?;
         self.is_broken = false;

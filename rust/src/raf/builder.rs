@@ -93,8 +93,8 @@ impl<A: Algorithm, R: RafRng, J: JournalChoice> RafBuilder<A, R, J> {
         }
     }
 
-    /// Makes the bytes of `io` a file with no text, and syncs it. A crash before it returns, or an error of writing, may
-    /// leave one that does not open.
+    /// Makes the bytes of `io` a file with no text, and syncs it. A crash before it returns, or [`Error::Io`], may leave one
+    /// that does not open.
     ///
     /// # Errors
     ///

@@ -16,7 +16,7 @@ pub enum Error {
     Journal,
     /// The page of this number was not written under the key for its place in this file.
     Damaged(u64),
-    /// The text would have more than [`MAX_SIZE`](super::MAX_SIZE) bytes, or 2^64 commits were made.
+    /// The text would have more than [`MAX_SIZE`](super::MAX_SIZE) bytes, or 2^64 - 1 commits were made.
     TooLong,
     /// The chunk size is not from 256 to 65,536 bytes.
     ChunkSize,

@@ -68,18 +68,22 @@ pub struct FileIo {
     /// With no links in it.
     path: Option<PathBuf>,
     is_name_synced: bool,
+    /// By this one: a copy of the descriptor shares the lock of another.
+    is_locked: bool,
 }
 
 impl FileIo {
     /// The bytes of a file that is open for reading and writing, but not for appending, with which Linux writes at no
     /// other place than the end. Its path is not known, so it has no journal but one that
-    /// [`RafBuilder::journal`](super::RafBuilder::journal) sets: a commit that was cut short is not completed. A copy of
-    /// the descriptor, as by [`File::try_clone`], has the same lock: open no second [`Raf`](super::Raf) over one.
+    /// [`RafBuilder::journal`](super::RafBuilder::journal) sets: a commit that was cut short is not completed. The name of a
+    /// file that was just made is not synced. A copy of the descriptor, as by [`File::try_clone`], has the same lock: open no
+    /// second [`Raf`](super::Raf) over one.
     pub fn new(file: File) -> Self {
         FileIo {
             file,
             path: None,
             is_name_synced: true,
+            is_locked: false,
         }
     }
 
@@ -88,7 +92,7 @@ impl FileIo {
         Self::with(File::options().create(true), path.as_ref(), false)
     }
 
-    /// Opens the file at a path.
+    /// Opens the file at a path, whose name was synced by whoever made it.
     pub fn open(path: impl AsRef<Path>) -> Result<Self> {
         Self::with(&mut File::options(), path.as_ref(), true)
     }
@@ -103,6 +107,7 @@ impl FileIo {
             file: options.read(true).write(true).open(path)?,
             path: Some(resolved(path)?),
             is_name_synced,
+            is_locked: false,
         })
     }
 }
@@ -136,6 +141,7 @@ impl RafIo for FileIo {
 
     fn lock(&mut self) -> Result<()> {
         self.file.try_lock()?;
+        self.is_locked = true;
         self.check_path()
     }
 
@@ -155,10 +161,12 @@ impl RafIo for FileIo {
     }
 }
 
-/// Unlocks the file, also if another descriptor of it is open, as in a process that is being started.
+/// Unlocks the file if it was locked, also if another descriptor of it is open, as in a process that is being started.
 impl Drop for FileIo {
     fn drop(&mut self) {
-        let _ = self.file.unlock();
+        if self.is_locked {
+            let _ = self.file.unlock();
+        }
     }
 }
 
@@ -349,7 +357,7 @@ fn mode_beside(of: u32, is_of_its_group: bool) -> u32 {
 fn no_journal() -> io::Error {
     io::Error::new(
         io::ErrorKind::InvalidData,
-        "what is at the path of the journal is no file, has other names, or can be written by others than its file",
+        "there can be no journal: what is at its path is no file, has other names, or could be written by others than its file",
     )
 }
 
@@ -436,11 +444,14 @@ impl RafIo for JournalFile {
         }
     }
 
-    /// Makes the journal, which is empty. An error if there can be none, or its name cannot be synced.
+    /// Makes the journal, which is empty unless another file has its name. An error if there can be none, or its name cannot be
+    /// synced.
     fn check_path(&mut self) -> Result<()> {
         if let Some(path) = &self.path {
             File::open(folder_of(path))?;
         }
+        // What an earlier try has opened may have been another file, which is gone.
+        self.file = None;
         self.open(true)?;
         Ok(())
     }

@@ -37,16 +37,13 @@ impl Drop for JournalSeal {
     }
 }
 
-/// Makes the writes, the first of them first, so that after a crash all of them are made or none.
+/// Makes the writes, the first of them first, so that after a crash all of them are made or none. The journal must be empty.
 pub fn commit(
     io: &mut impl RafIo,
     journal: &mut impl RafIo,
     seal: &JournalSeal,
     writes: &[PendingWrite],
 ) -> io::Result<()> {
-    if journal.get_size()? != 0 {
-        return Err(io::ErrorKind::AlreadyExists.into());
-    }
     write_journal(journal, &journal_bytes(seal, writes))?;
     write_and_sync(io, writes)?;
     empty(journal)

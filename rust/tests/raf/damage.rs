@@ -241,8 +241,8 @@ fn a_journal_that_is_written_by_another() {
     let mut file = file.unwrap();
     file.write(b"a", 0).unwrap();
     disks.1.bytes.borrow_mut().push(1);
-    assert!(matches!(file.commit(), Err(Error::Io(_))));
-    assert!(matches!(file.commit(), Err(Error::Broken)));
+    assert!(matches!(file.commit(), Err(Error::Journal)));
+    assert!(matches!(file.commit(), Err(Error::Journal)));
     drop(file);
     let bytes = (disks.0.bytes.take(), disks.1.bytes.take());
     assert_eq!(bytes.1, [1]);

@@ -296,6 +296,41 @@ fn refused_before_anything_is_changed() {
     assert!(create(&folder.path("no/folder")).is_err());
 }
 
+/// A copy of a descriptor shares the lock of the other, and what has not locked it does not unlock it.
+#[test]
+fn copies_of_descriptors() {
+    let folder = Folder::new("copies");
+    let path = folder.path("file");
+    drop(create(&path).unwrap());
+    let mut options = fs::File::options();
+    let file = options.read(true).write(true).open(&path).unwrap();
+    let copy = || FileIo::new(file.try_clone().unwrap());
+    let over_copy = RafBuilder::<Aegis256>::new().open(copy(), &KEY).unwrap();
+    probe(&mut copy()).unwrap();
+    assert!(matches!(open(&path), Err(Error::Locked)));
+    drop(over_copy);
+    open(&path).unwrap();
+}
+
+/// While another file has the name of the journal no commit is made, and the changes stay in memory.
+#[test]
+fn another_file_in_place_of_a_journal() {
+    let folder = Folder::new("another");
+    let path = folder.path("file");
+    let journal = folder.path("file.journal");
+    let mut file = create(&path).unwrap();
+    file.write(b"changed", 0).unwrap();
+    for len in [1, 33, 48] {
+        fs::write(&journal, vec![7; len]).unwrap();
+        assert!(matches!(file.commit(), Err(Error::Journal)));
+        assert_eq!(fs::read(&journal).unwrap(), vec![7; len]);
+    }
+    fs::remove_file(&journal).unwrap();
+    file.commit().unwrap();
+    drop(file);
+    assert_eq!(read(&mut open(&path).unwrap()), b"changed");
+}
+
 #[test]
 fn files_that_are_none() {
     let folder = Folder::new("none");
