@@ -68,7 +68,7 @@ class Cipher(variants.Variant, library.Secret):
     ) -> int:
         """Encrypts a message into a buffer, which has the message's length and the tag's. Returns that length.
 
-        The message, the nonce and the associated data may lie in the buffer.
+        The message, the nonce and the associated data may lie in the buffer, but not in another map of its memory.
         """
         message = memoryview(data).cast("B")
         length = len(message) + self._tag_length

@@ -34,13 +34,15 @@ class Secret:
 
 
 class State(Secret, ctypes.Array[ctypes.c_uint64]):
-    """`hunkravy_state` of the library's header: 672 bytes, aligned to 8."""
+    """`hunkravy_state` of the library's header: 672 bytes, aligned to 8. It is overwritten when it is dropped."""
 
     _type_ = ctypes.c_uint64
     _length_ = 84
 
+    def overwrite(self) -> None:
+        ctypes.memset(self, 0, ctypes.sizeof(self))
 
-STATE_BYTES = ctypes.sizeof(State)
+    __del__ = overwrite
 
 
 def _load() -> ctypes.CDLL:

@@ -2,7 +2,6 @@
 
 from __future__ import annotations
 
-import ctypes
 import threading
 from copy import deepcopy
 from typing import TYPE_CHECKING, Any, Optional
@@ -48,11 +47,6 @@ class Mac(variants.Variant, library.Secret):
         )
         if data is not None:
             self.update(data)
-
-    def __del__(self) -> None:
-        state = getattr(self, "_state", None)
-        if state is not None:
-            ctypes.memset(state, 0, library.STATE_BYTES)
 
     @property
     def digest_size(self) -> int:

@@ -102,7 +102,7 @@ class Chunks(library.Secret):
         # What no cipher has begun has no state.
         state = getattr(self, "_state", None)
         if state is not None:
-            ctypes.memset(state, 0, library.STATE_BYTES)
+            state.overwrite()
 
 
 class Encryptor(Chunks):

@@ -261,10 +261,13 @@ class Memory(unittest.TestCase):
         owners: list[Any] = [CIPHER.encryptor(NONCE), CIPHER.decryptor(NONCE), mac, mac.copy(), copy.copy(mac)]
         states = [owner._state for owner in owners]
         self.assertEqual(len({ctypes.addressof(state) for state in states}), 5)
-        for state in states:
-            self.assertNotEqual(bytes(state), bytes(672))
-        del owners, mac
-        self.zeros(*states)
+        # In places that outlast them.
+        places = [bytearray(state) for state in states]
+        for owner, place in zip(owners, places):
+            self.assertNotEqual(place, bytes(672))
+            owner._state = State.from_buffer(place)
+        del owner, owners, mac
+        self.zeros(*places)
         ended = Aegis128L(bytes(16)).encryptor(bytes(16))
         state = ended._state
         ended.finalize()
