@@ -129,7 +129,10 @@ static int write_text(struct file *file, const uint8_t *bytes, size_t length, ui
 {
     size_t done = 0, count, at;
 
-    for (; place <= file->length && done < length; done += count) {
+    if (place > file->length) {
+        return 0;
+    }
+    for (; done < length; done += count) {
         uint64_t number = (place + done) / file->page_size;
         at = (place + done) % file->page_size;
         count = file->page_size - at < length - done ? file->page_size - at : length - done;
@@ -142,8 +145,7 @@ static int write_text(struct file *file, const uint8_t *bytes, size_t length, ui
             return 0;
         }
     }
-    return done == length &&
-           (place + done <= file->length || write_header(file, file->counter + 1, place + done));
+    return place + length <= file->length || write_header(file, file->counter + 1, place + length);
 }
 
 /* Writes a text of three pages in two parts, and reads a part of it. */
@@ -154,7 +156,7 @@ static int try_all(struct file *file)
     for (size_t i = 0; i < sizeof bytes; i++) {
         bytes[i] = (uint8_t)(i % 251);
     }
-    return create(file) && write_text(file, bytes, 9000, 0) &&
+    return create(file) && write_text(file, bytes, 9000, 0) && !write_text(file, bytes, 0, 9001) &&
            write_text(file, bytes + 6000, 6000, 6000) && read_header(file) &&
            file->length == 12000 && read_text(file, part, sizeof part, 4000) == 5000 &&
            memcmp(part, bytes + 4000, sizeof part) == 0;

@@ -37,7 +37,8 @@
  *   implementation.
  *
  * aegis128l_CALL has the parameters of hunkravy_compat_CALL below, where its comment is, without `variant`; so
- * have the calls of the other variants. HUNKRAVY_COMPAT_CALLS declares those of one variant.
+ * have the calls of the other variants. HUNKRAVY_COMPAT_CALLS declares those of one variant, and the calls of a MAC after
+ * its init.
  */
 #ifndef AEGIS_COMPAT_H
 #define AEGIS_COMPAT_H
@@ -218,7 +219,7 @@ static inline int hunkravy_compat_state_encrypt_update(hunkravy_state *st_, uint
     return hunkravy_compat_result(hunkravy_state_encrypt(st_, c, m, mlen));
 }
 
-/* Writes the tag of `maclen` bytes, and ends the state. Returns 0, or -1 with EINVAL. */
+/* Writes the tag of `maclen` bytes, and ends the state. Returns 0, or -1 with EINVAL, and the state is as it was. */
 static inline int hunkravy_compat_state_encrypt_final(hunkravy_state *st_, uint8_t *mac, size_t maclen)
 {
     return hunkravy_compat_result(hunkravy_state_encrypt_final(st_, mac, maclen));
@@ -266,7 +267,10 @@ HUNKRAVY_MUST_USE static inline int hunkravy_compat_state_decrypt_update(hunkrav
                                             : hunkravy_state_decrypt_unverified(st_, m, c, clen));
 }
 
-/* Returns 0 if `mac` is the tag of the chunks, and otherwise -1: then erase the chunks. Ends the state. */
+/*
+ * Returns 0 if `mac` is the tag of the chunks, and otherwise -1: then erase the chunks. Ends the state, but leaves it as it
+ * was if it sets errno to EINVAL.
+ */
 HUNKRAVY_MUST_USE static inline int hunkravy_compat_state_decrypt_final(hunkravy_state *st_,
     const uint8_t *mac, size_t maclen)
 {

@@ -1,6 +1,6 @@
 /*
- * Hunkravy: the six AEGIS ciphers and their MACs, for Linux on x86-64 and on ARM (aarch64). Record streams are in
- * hunkravy_records.h, and the pages of sealed files in hunkravy_pages.h. No call allocates memory.
+ * Hunkravy: the six AEGIS ciphers and their MACs, for Linux with glibc, on x86-64-v2 or better and on ARM (aarch64).
+ * Record streams are in hunkravy_records.h, and the pages of sealed files in hunkravy_pages.h. No call allocates memory.
  *
  * To build a program: `cc program.c $(pkg-config --cflags --libs hunkravy)`. If the library was installed by `make
  * install PREFIX=/some/where`, set PKG_CONFIG_PATH to /some/where/lib/pkgconfig first, and LD_LIBRARY_PATH to
@@ -41,6 +41,11 @@
 
 #include <stddef.h>
 #include <stdint.h>
+
+/* glibc binds each call to the build for the processor. Another C library may run other code in its place. */
+#if defined(__x86_64__) && __STDC_HOSTED__ && !defined(__GLIBC__)
+#error "libhunkravy is for glibc: with another C library, as musl, its calls crash or give wrong answers"
+#endif
 
 #ifdef __cplusplus
 extern "C" {
@@ -289,7 +294,7 @@ void hunkravy_wipe(void *bytes, size_t length);
 #define HUNKRAVY_VERSION_PATCH 0
 const char *hunkravy_version(void);
 
-/* Returns which build of the library runs: 3 or 2 for x86-64-v3 or x86-64-v2, and 0 for another, as on ARM. */
+/* Returns which build of the library runs: 3 or 2 for x86-64-v3 or x86-64-v2, and 0 on ARM. */
 int hunkravy_level(void);
 
 #ifdef __cplusplus

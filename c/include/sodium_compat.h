@@ -97,7 +97,8 @@ static inline int hunkravy_sodium_encrypt_detached(uint32_t variant, unsigned ch
 
 /*
  * Writes the message to `m` and returns 0 if `mac` is the tag of the `clen` bytes at `c`. Otherwise returns -1,
- * and the `clen` bytes at `m` are zeros, or as before if `adlen` is more than 2^61 - 1. If `m` is null, it only verifies.
+ * and the `clen` bytes at `m` are zeros, or as before if `clen` or `adlen` is more than 2^61 - 1. If `m` is null, it only
+ * verifies.
  */
 HUNKRAVY_MUST_USE static inline int hunkravy_sodium_decrypt_detached(uint32_t variant, unsigned char *m,
     const unsigned char *c, unsigned long long clen, const unsigned char *mac, const unsigned char *ad,
