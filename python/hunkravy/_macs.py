@@ -11,6 +11,7 @@ from . import _variants as variants
 
 if TYPE_CHECKING:
     from _typeshed import ReadableBuffer
+    from typing_extensions import Self
 
 
 class Mac(variants.Variant, library.Secret):
@@ -81,7 +82,7 @@ class Mac(variants.Variant, library.Secret):
                 library.mac_final_verify(self._state, expected, len(expected))
             )
 
-    def copy(self) -> Mac:
+    def copy(self) -> Self:
         """Returns a MAC that has taken in the same input.
 
         It has the attributes of a subclass too, but for those in slots.
@@ -97,7 +98,7 @@ class Mac(variants.Variant, library.Secret):
 
     __copy__ = copy
 
-    def __deepcopy__(self, memo: dict[int, Any]) -> Mac:
+    def __deepcopy__(self, memo: dict[int, Any]) -> Self:
         other = self.copy()
         # An attribute may lead back to the MAC.
         memo[id(self)] = other
