@@ -168,9 +168,11 @@ static int run(struct file *file, char **arguments, const char *written)
     uint64_t place = strtoull(arguments[3], NULL, 10);
     long count;
 
+    if (!read_all(open(arguments[1], O_RDONLY), file->key, sizeof file->key, 0)) {
+        return 0;
+    }
     file->fd = open(arguments[2], O_RDWR | O_CREAT, 0600);
-    if (!read_all(open(arguments[1], O_RDONLY), file->key, sizeof file->key, 0) ||
-        !(lseek(file->fd, 0, SEEK_END) == 0 ? create(file) : read_header(file))) {
+    if (!(lseek(file->fd, 0, SEEK_END) == 0 ? create(file) : read_header(file))) {
         return 0;
     }
     if (written != NULL) {
@@ -186,8 +188,10 @@ int main(int count, char **arguments)
     FILE *temporary = tmpfile();
     int result = 0;
 
-    if (count >= 4) {
+    if (count == 4 || count == 5) {
         result = run(&file, arguments, arguments[4]);
+    } else if (count != 1) {
+        fputs("usage: pages KEYFILE FILE PLACE [TEXT]\n", stderr);
     } else if (temporary != NULL && getentropy(file.key, sizeof file.key) == 0) {
         file.fd = fileno(temporary);
         result = try_all(&file) &&

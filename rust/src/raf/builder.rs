@@ -59,8 +59,9 @@ impl<A: Algorithm, R: RafRng, J: JournalChoice> RafBuilder<A, R, J> {
         self
     }
 
-    /// Sets how many bytes of changed pages may be kept in memory. A [`write`](Raf::write) or [`truncate`](Raf::truncate)
-    /// after which there are more is a commit too, of all changes so far. The default is 16 MiB. With `usize::MAX` none is.
+    /// Sets how many bytes of changed pages may be kept in memory. A [`write`](Raf::write), or a [`truncate`](Raf::truncate) that
+    /// lengthens the text, after which there are more is a commit too, of all changes so far. The default is 16 MiB. With
+    /// `usize::MAX` none is.
     pub fn buffer_limit(mut self, bytes: usize) -> Self {
         self.buffer_limit = bytes;
         self
@@ -133,8 +134,8 @@ impl<A: Algorithm, R: RafRng, J: JournalChoice> RafBuilder<A, R, J> {
     /// # Errors
     ///
     /// Those of [`create`](Self::create). If one of them says that nothing was changed, a file that was there is as it was, and
-    /// there is no new one, unless a journal or another name of the file appeared just after it was made, or the journal that was
-    /// set is locked, not empty, or moved: it is then empty.
+    /// there is no new one, unless a journal, another name or a lock of the file appeared just after it was made, or the journal
+    /// that was set is locked, not empty, or moved: it is then empty.
     pub fn create_file(
         mut self,
         path: impl AsRef<Path>,

@@ -42,7 +42,9 @@ impl fmt::Display for Error {
             Error::Io(error) => return error.fmt(f),
             Error::Damaged(page) => return write!(f, "page {page} is damaged"),
             Error::Header => "no header that was written by this algorithm and under this key",
-            Error::Journal => "the journal of another file, or of another state of this one",
+            Error::Journal => {
+                "the journal of another file, or of another state of this one, or no journal"
+            }
             Error::TooLong => "too long",
             Error::ChunkSize => "a chunk has 256 to 65,536 bytes",
             Error::ContextTooLong => "the context is too long",

@@ -7,6 +7,7 @@ use std::fs::{self, File, Metadata, OpenOptions, Permissions};
 use std::io;
 use std::os::unix::fs::{FileExt, MetadataExt, OpenOptionsExt, PermissionsExt, fchown};
 use std::path::{Path, PathBuf};
+use std::process;
 
 /// Bytes that are read and written at any place.
 ///
@@ -68,8 +69,8 @@ pub struct FileIo {
     /// With no links in it.
     path: Option<PathBuf>,
     is_name_synced: bool,
-    /// By this one: a copy of the descriptor shares the lock of another.
-    is_locked: bool,
+    /// The process that has locked it by this one: a copy of the descriptor shares the lock of another.
+    locked_by: Option<u32>,
 }
 
 impl FileIo {
@@ -83,7 +84,7 @@ impl FileIo {
             file,
             path: None,
             is_name_synced: true,
-            is_locked: false,
+            locked_by: None,
         }
     }
 
@@ -107,7 +108,7 @@ impl FileIo {
             file: options.read(true).write(true).open(path)?,
             path: Some(resolved(path)?),
             is_name_synced,
-            is_locked: false,
+            locked_by: None,
         })
     }
 }
@@ -141,7 +142,7 @@ impl RafIo for FileIo {
 
     fn lock(&mut self) -> Result<()> {
         self.file.try_lock()?;
-        self.is_locked = true;
+        self.locked_by = Some(process::id());
         self.check_path()
     }
 
@@ -161,10 +162,11 @@ impl RafIo for FileIo {
     }
 }
 
-/// Unlocks the file if it was locked, also if another descriptor of it is open, as in a process that is being started.
+/// Unlocks the file in the process that has locked it, also if another descriptor of it is open, as in a process that is being
+/// started.
 impl Drop for FileIo {
     fn drop(&mut self) {
-        if self.is_locked {
+        if self.locked_by == Some(process::id()) {
             let _ = self.file.unlock();
         }
     }
@@ -200,10 +202,11 @@ impl RafIo for NoJournal {
 /// while a commit is written, and after one that was cut short. Symbolic links are followed, so that a file has one journal by
 /// whichever of them it is named. A commit needs a folder that the user may read and write.
 ///
-/// It gets the mode of the file, and its owner and group where the system allows it, so that whoever may write the file can
-/// complete a commit that was cut short. Where one of the two cannot be set, the file's owner or its group, if they have more
-/// rights than all others, may have to wait until the journal's maker or root opens the file. Others than the owner cannot commit
-/// to a file whose group may not write it and others may: the group could write their journal.
+/// It gets the mode of the file, and its owner and group where the system allows it, so that whoever may write the file, and
+/// read and write its folder, can complete a commit that was cut short. Where one of the two cannot be set, the file's owner or
+/// its group, if they have more rights than all others, may have to wait until the journal's maker or root opens the file. Others
+/// than the owner cannot commit to a file whose group may not write it and others may, nor complete a commit: the group could
+/// write their journal.
 ///
 /// A journal that is itself a link, or no file, or has other names (hard links), or that by its owner, group and mode someone
 /// may write who may not write the file, is refused, with [`io::ErrorKind::InvalidData`], and nothing is changed. A file of that
@@ -431,10 +434,11 @@ impl RafIo for JournalFile {
     }
 
     fn get_size(&mut self) -> io::Result<u64> {
-        let Some(path) = &self.path else {
-            return Ok(0);
-        };
-        Ok(journal_at(path)?.map_or(0, |found| found.len()))
+        match (&self.path, &self.file) {
+            (Some(path), None) => Ok(journal_at(path)?.map_or(0, |found| found.len())),
+            (_, Some(file)) => Ok(file.metadata()?.len()),
+            (None, None) => Ok(0),
+        }
     }
 
     fn set_size(&mut self, size: u64) -> io::Result<()> {
@@ -456,9 +460,14 @@ impl RafIo for JournalFile {
         Ok(())
     }
 
-    /// Syncs the file and its name. If it is empty it is then removed; one that cannot be removed does no harm.
+    /// Syncs the file and its name. If it is empty it is then removed, and so is an empty one that a crash has left; one that
+    /// cannot be removed does no harm.
     fn sync(&mut self) -> io::Result<()> {
-        let (Some(path), Some(file)) = (&self.path, &self.file) else {
+        let Some(path) = &self.path else {
+            return Ok(());
+        };
+        let Some(file) = &self.file else {
+            let _ = left_at(path, false);
             return Ok(());
         };
         file.sync_all()?;
@@ -545,6 +554,22 @@ mod tests {
         assert!(journal.check_path().is_err());
         assert!(sync_folder(Path::new("/proc/file")).is_err());
         assert!(sync_folder(Path::new("file")).is_ok());
+    }
+
+    /// A lock is kept by the process that has it, whatever a copy of it in another one drops.
+    #[test]
+    fn locks_of_another_process() {
+        let path = std::env::temp_dir().join(format!("hunkravy-locks-{}", std::process::id()));
+        let mut io = FileIo::create(&path).unwrap();
+        io.lock().unwrap();
+        let in_this_one = io.file.try_clone().unwrap();
+        io.locked_by = Some(0);
+        drop(io);
+        let mut other = FileIo::open(&path).unwrap();
+        assert!(other.lock().is_err());
+        drop(in_this_one);
+        assert!(other.lock().is_ok());
+        fs::remove_file(&path).unwrap();
     }
 
     /// A journal gets the mode and the owner of its file, and is refused if others may write it, or it is another user's.

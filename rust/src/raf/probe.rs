@@ -1,6 +1,6 @@
 //! What a file tells without its key.
 
-use super::layout::{CLEAR_BYTES, named_by};
+use super::layout::{CLEAR_BYTES, SECTOR_BYTES, named_by};
 use super::{AlgorithmId, Error, RafIo, Result};
 
 /// What the clear part of a header names. Nothing has verified it.
@@ -21,7 +21,7 @@ pub struct RafInfo {
 /// [`Error::Header`] if it is no file of this format, or [`Error::Io`].
 pub fn probe(io: &mut impl RafIo) -> Result<RafInfo> {
     let file_size = io.get_size()?;
-    if file_size < CLEAR_BYTES as u64 {
+    if file_size < SECTOR_BYTES as u64 {
         return Err(Error::Header);
     }
     let mut clear = [0; CLEAR_BYTES];

@@ -20,6 +20,10 @@ pub fn recover<A: Algorithm>(
     key: &A::Key,
 ) -> Result<PageHeader> {
     let content = read_all(journal)?;
+    // Another file may have taken its place while it was read.
+    if journal.get_size()? != content.len() as u64 {
+        return Err(Error::Journal);
+    }
     let sector = read_sector(io)?;
     let mut journal_key = journal_key::<A>(key);
     let writes = journaled_writes(&journal_key, &content);
@@ -31,7 +35,12 @@ pub fn recover<A: Algorithm>(
     if let Some(writes) = writes {
         write_and_sync(io, &writes)?;
     }
-    empty(journal)?;
+    if !content.is_empty() {
+        empty(journal)?;
+    } else if journal.get_size()? != 0 {
+        // What has its name by now was not read.
+        return Err(Error::Journal);
+    }
     let sector = read_sector(io)?;
     let header = sector.and_then(|sector| open_header::<A>(key, &sector));
     header.ok_or(Error::Io(io::ErrorKind::InvalidData.into()))

@@ -331,6 +331,66 @@ fn another_file_in_place_of_a_journal() {
     assert_eq!(read(&mut open(&path).unwrap()), b"changed");
 }
 
+/// A file beside whose journal's place another one appears as it is synced.
+struct Appearing(FileIo, PathBuf);
+
+impl RafIo for Appearing {
+    fn read_at(&mut self, buf: &mut [u8], offset: u64) -> io::Result<()> {
+        self.0.read_at(buf, offset)
+    }
+
+    fn write_at(&mut self, data: &[u8], offset: u64) -> io::Result<()> {
+        self.0.write_at(data, offset)
+    }
+
+    fn get_size(&mut self) -> io::Result<u64> {
+        self.0.get_size()
+    }
+
+    fn set_size(&mut self, size: u64) -> io::Result<()> {
+        self.0.set_size(size)
+    }
+
+    fn sync(&mut self) -> io::Result<()> {
+        fs::write(&self.1, [7; 40])?;
+        self.0.sync()
+    }
+
+    fn journal_path(&self) -> Option<PathBuf> {
+        self.0.journal_path()
+    }
+}
+
+/// Opening empties no journal that it has not read.
+#[test]
+fn a_file_that_appears_in_place_of_a_journal() {
+    let folder = Folder::new("appears");
+    let path = folder.path("file");
+    let journal = folder.path("file.journal");
+    drop(create(&path).unwrap());
+    let appearing = Appearing(FileIo::open(&path).unwrap(), journal.clone());
+    let opened = RafBuilder::<Aegis256>::new().open(appearing, &KEY);
+    assert!(matches!(opened, Err(Error::Journal)));
+    assert_eq!(fs::read(&journal).unwrap(), [7; 40]);
+}
+
+/// What is shorter than the first sector is no file.
+#[test]
+fn a_probe_of_a_short_file() {
+    let folder = Folder::new("short");
+    let path = folder.path("file");
+    drop(create(&path).unwrap());
+    let probed = || probe(&mut FileIo::open(&path).unwrap());
+    assert_eq!(probed().unwrap().file_size, 512);
+    fs::File::options()
+        .write(true)
+        .open(&path)
+        .unwrap()
+        .set_len(511)
+        .unwrap();
+    assert!(matches!(probed(), Err(Error::Header)));
+}
+
 #[test]
 fn files_that_are_none() {
     let folder = Folder::new("none");
