@@ -6,8 +6,8 @@
  *     pages KEYFILE FILE PLACE [TEXT]
  *
  * A key file has 32 bytes. The first call makes the file. TEXT is written at PLACE, which is not
- * past the text's end; without TEXT it prints what is there, at most 4,096 bytes. Without arguments
- * it tries itself on a temporary file. docs/PAGES.md of the repository has the format of the file.
+ * past the text's end; without TEXT it prints what is there, at most 4,096 bytes. Without FILE it
+ * tries itself on a temporary file. docs/PAGES.md of the repository has the format of the file.
  *
  * cc pages.c $(pkg-config --cflags --libs hunkravy)
  */
@@ -190,7 +190,7 @@ int main(int count, char **arguments)
 
     if (count == 4 || count == 5) {
         result = run(&file, arguments, arguments[4]);
-    } else if (count != 1) {
+    } else if (count > 2) {
         fputs("usage: pages KEYFILE FILE PLACE [TEXT]\n", stderr);
     } else if (temporary != NULL && getentropy(file.key, sizeof file.key) == 0) {
         file.fd = fileno(temporary);

@@ -374,6 +374,42 @@ fn a_file_that_appears_in_place_of_a_journal() {
     assert_eq!(fs::read(&journal).unwrap(), [7; 40]);
 }
 
+/// A journal of 20 bytes, and of 1,000 once it was read, which is not to be written.
+struct Replaced(u64);
+
+impl RafIo for Replaced {
+    fn read_at(&mut self, buf: &mut [u8], _: u64) -> io::Result<()> {
+        buf.fill(7);
+        self.0 = 1000;
+        Ok(())
+    }
+
+    fn write_at(&mut self, _: &[u8], _: u64) -> io::Result<()> {
+        panic!("a journal that was replaced is written")
+    }
+
+    fn get_size(&mut self) -> io::Result<u64> {
+        Ok(self.0)
+    }
+
+    fn set_size(&mut self, _: u64) -> io::Result<()> {
+        panic!("a journal that was replaced is cut off")
+    }
+}
+
+/// What was read of one journal does not decide on another that has taken its place.
+#[test]
+fn a_journal_that_is_replaced_as_it_is_read() {
+    let folder = Folder::new("replaced");
+    let path = folder.path("file");
+    drop(create(&path).unwrap());
+    let builder = RafBuilder::<Aegis256>::new().journal(Replaced(20));
+    assert!(matches!(
+        builder.open_file(&path, &KEY),
+        Err(Error::Journal)
+    ));
+}
+
 /// What is shorter than the first sector is no file.
 #[test]
 fn a_probe_of_a_short_file() {
