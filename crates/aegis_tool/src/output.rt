@@ -47,14 +47,14 @@ impl Identity {
         }
     }
 
-    // The identity of the file of this name, if there is one and it is a regular one or a pipe. What is written to a
-    // terminal or a socket is not read from it again.
+    // The identity of the file of this name, if there is one, but of a terminal or another character device, and of a
+    // socket: what is written to these is not read from them again.
     fn at(rt: &HostRuntime, name: &str) -> io::Result<Option<Self>> {
         match fs::metadata(rt, name) {
-            Ok(found) if found.is_file() || found.file_type().is_fifo() => {
-                Ok(Some(Identity::new(&found)))
+            Ok(found) if found.file_type().is_char_device() || found.file_type().is_socket() => {
+                Ok(None)
             }
-            Ok(_) => Ok(None),
+            Ok(found) => Ok(Some(Identity::new(&found))),
             Err(error) if error.kind() == ErrorKind::NotFound => Ok(None),
             Err(error) => Err(error),
         }
