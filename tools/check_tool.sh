@@ -453,6 +453,23 @@ says 'it would be lost'
 status 3 sh -c "'$tool' check -k key sealed >> sealed"
 status 3 sh -c "'$tool' info sealed >> sealed"
 says 'is the input too'
+# A block device keeps what is written to it, as a file does.
+head -c 410 small > short
+"$tool" seal -k key short on-device
+truncate -s 1024 on-device
+if device=$(losetup -f --show on-device 2> /dev/null); then
+    for command in check info; do
+        status 3 sh -c "'$tool' $command $([ $command = info ] || echo -k key) $device > $device"
+        says 'is the input too'
+    done
+    status 3 sh -c "'$tool' seal -k key < $device > $device"
+    says 'is the input too'
+    losetup -d "$device"
+    truncate -s $((410 + 37 + 65)) on-device
+    status 0 "$tool" check -k key on-device
+else
+    echo 'left out: a block device as input and output, since there is no losetup, or no right to it'
+fi
 # Nor is the input replaced if it gets the descriptor that the output names.
 for descriptor in /dev/fd/3 /proc/self/fd/3; do
     for part in '--length 10' '--records 0..1' '--from 5' ''; do
