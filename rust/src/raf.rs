@@ -4,9 +4,9 @@
 //! [`Raf::sync`] and dropping call too, and **after a crash all changes of a commit are there, or none**: they are sealed into a
 //! journal first, the file `PATH.journal` beside the file, which is removed at the end, and which opening completes.
 //!
-//! What is read was written at this place of this file, or is a zero, though perhaps not last: an older page, or an older
-//! file, is not detected, unless [`Raf::commitment`] was kept elsewhere. After its text an older page has zeros, or what
-//! was cut off there.
+//! What is read was written at this place of this file, or of a copy of it, or is a zero, though perhaps not last: an older
+//! page, or an older file, is not detected, unless [`Raf::commitment`] was kept elsewhere. After its text an older page has
+//! zeros, or what was cut off there.
 //!
 //! ```
 //! use hunkravy::raf::{Aegis256, Raf};

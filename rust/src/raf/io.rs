@@ -211,7 +211,8 @@ impl RafIo for NoJournal {
 /// A journal that is itself a link, or no file, or has other names (hard links), or that by its owner, group and mode someone
 /// may write who may not write the file, is refused, with [`io::ErrorKind::InvalidData`], and nothing is changed. A file of that
 /// name with up to 33 bytes may be what a crash has left of a journal: opening removes it, whatever it holds. An empty one that
-/// cannot be removed counts as none.
+/// cannot be removed counts as none for opening; a commit writes it, and fails, with the changes still in memory, where the user
+/// may not.
 ///
 /// If there is no path, as for a storage in memory, it is as [`NoJournal`].
 #[derive(Debug)]
@@ -460,8 +461,7 @@ impl RafIo for JournalFile {
         Ok(())
     }
 
-    /// Syncs the file and its name. If it is empty it is then removed, and so is an empty one that a crash has left; one that
-    /// cannot be removed does no harm.
+    /// Syncs the file and its name. If it is empty it is then removed, and so is an empty one that a crash has left, if it can be.
     fn sync(&mut self) -> io::Result<()> {
         let Some(path) = &self.path else {
             return Ok(());
