@@ -91,8 +91,9 @@ check-header:
 				$$compiler -std=$$standard $(C_FLAGS) -D$$form -fsyntax-only -x $$language - || exit 1; \
 		done; \
 	done; done; done
-	! { echo '#include <stdint.h>'; echo '#undef __GLIBC__'; echo '#include "hunkravy.h"'; } | \
-		$(CC) -Ic/include -fsyntax-only -x c - 2> /dev/null
+	other_library() { \
+		printf '#include <stdint.h>\n#undef __GLIBC__\n#include "hunkravy.h"\n' | $(CC) -Ic/include $${1-} -fsyntax-only -x c -; \
+	} && other_library -DHUNKRAVY_GLIBC && ! other_library 2> /dev/null
 	if [ -n "$(CLANG)" ]; then \
 		for header in $(HEADERS); do \
 			echo "#include \"$$header\"" | $(CLANG) -std=c99 $(C_FLAGS) -Weverything -fsyntax-only -x c - || exit 1; \

@@ -1,10 +1,11 @@
 //! What single calls do: drops, the limit on changes in memory, sources of random bytes that fail, and numbers out of range.
 
-use crate::support::{Bytes, Call, Disk, FailingRandom, JOURNAL_CALLS, KEY, Part, Random, disks};
+use crate::support::{
+    At, Before, Bytes, Call, Disk, FailingRandom, JOURNAL_CALLS, KEY, Part, Random, disks,
+};
 use hunkravy::raf::*;
 use std::cell::Cell;
 use std::io;
-use std::rc::Rc;
 use std::time::Instant;
 
 type File = Raf<Aegis256, Disk, Random, Disk>;
@@ -93,28 +94,6 @@ fn a_drop_after_an_error_commits_nothing() {
     }
 }
 
-/// A disk whose reads panic, if it is told so.
-struct PanickingDisk(Disk, Rc<Cell<bool>>);
-
-impl RafIo for PanickingDisk {
-    fn read_at(&mut self, buf: &mut [u8], offset: u64) -> io::Result<()> {
-        assert!(!self.1.get(), "a read that panics");
-        self.0.read_at(buf, offset)
-    }
-
-    fn write_at(&mut self, data: &[u8], offset: u64) -> io::Result<()> {
-        self.0.write_at(data, offset)
-    }
-
-    fn get_size(&mut self) -> io::Result<u64> {
-        self.0.get_size()
-    }
-
-    fn set_size(&mut self, size: u64) -> io::Result<()> {
-        self.0.set_size(size)
-    }
-}
-
 /// A change that panics is one that has failed, also if the file is dropped after the panic was caught.
 #[test]
 fn a_drop_after_a_panic_in_a_change_commits_nothing() {
@@ -122,10 +101,11 @@ fn a_drop_after_a_panic_in_a_change_commits_nothing() {
     let mut file = created(&disks, usize::MAX);
     file.write(&[1; 600], 0).unwrap();
     drop(file);
-    let panics = Rc::new(Cell::new(false));
+    let panics = Cell::new(false);
+    let reads = |call| assert!(call != At::Read || !panics.get(), "a read that panics");
     let mut file = RafBuilder::<Aegis256>::new()
         .journal(disks.1.clone())
-        .open(PanickingDisk(disks.0.clone(), panics.clone()), &KEY)
+        .open(Before(disks.0.clone(), reads), &KEY)
         .unwrap();
     file.write(b"the first of two", 0).unwrap();
     panics.set(true);

@@ -1,6 +1,6 @@
 //! Files at paths: their journals, locks and cursors.
 
-use crate::support::{FailingRandom, JOURNAL_CALLS, KEY, Random, disks};
+use crate::support::{At, Before, FailingRandom, JOURNAL_CALLS, KEY, Random, disks};
 use hunkravy::raf::*;
 use std::collections::HashSet;
 use std::fs;
@@ -331,36 +331,6 @@ fn another_file_in_place_of_a_journal() {
     assert_eq!(read(&mut open(&path).unwrap()), b"changed");
 }
 
-/// A file beside whose journal's place another one appears as it is synced.
-struct Appearing(FileIo, PathBuf);
-
-impl RafIo for Appearing {
-    fn read_at(&mut self, buf: &mut [u8], offset: u64) -> io::Result<()> {
-        self.0.read_at(buf, offset)
-    }
-
-    fn write_at(&mut self, data: &[u8], offset: u64) -> io::Result<()> {
-        self.0.write_at(data, offset)
-    }
-
-    fn get_size(&mut self) -> io::Result<u64> {
-        self.0.get_size()
-    }
-
-    fn set_size(&mut self, size: u64) -> io::Result<()> {
-        self.0.set_size(size)
-    }
-
-    fn sync(&mut self) -> io::Result<()> {
-        fs::write(&self.1, [7; 40])?;
-        self.0.sync()
-    }
-
-    fn journal_path(&self) -> Option<PathBuf> {
-        self.0.journal_path()
-    }
-}
-
 /// Opening empties no journal that it has not read.
 #[test]
 fn a_file_that_appears_in_place_of_a_journal() {
@@ -368,8 +338,13 @@ fn a_file_that_appears_in_place_of_a_journal() {
     let path = folder.path("file");
     let journal = folder.path("file.journal");
     drop(create(&path).unwrap());
-    let appearing = Appearing(FileIo::open(&path).unwrap(), journal.clone());
-    let opened = RafBuilder::<Aegis256>::new().open(appearing, &KEY);
+    let appears = |call| {
+        if call == At::Sync {
+            fs::write(&journal, [7; 40]).unwrap();
+        }
+    };
+    let io = Before(FileIo::open(&path).unwrap(), appears);
+    let opened = RafBuilder::<Aegis256>::new().open(io, &KEY);
     assert!(matches!(opened, Err(Error::Journal)));
     assert_eq!(fs::read(&journal).unwrap(), [7; 40]);
 }

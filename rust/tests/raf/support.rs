@@ -276,3 +276,41 @@ pub fn crashed(before: &Bytes, calls: &[(Part, Call)], random: &mut Random) -> B
         torn(before.1.clone(), &of(Part::Journal), random),
     )
 }
+
+/// What a storage is asked for.
+#[derive(Clone, Copy, PartialEq)]
+pub enum At {
+    Read,
+    Sync,
+}
+
+/// A storage before whose reads and syncs a test does something.
+pub struct Before<I, F>(pub I, pub F);
+
+impl<I: RafIo, F: FnMut(At)> RafIo for Before<I, F> {
+    fn read_at(&mut self, buf: &mut [u8], offset: u64) -> io::Result<()> {
+        (self.1)(At::Read);
+        self.0.read_at(buf, offset)
+    }
+
+    fn write_at(&mut self, data: &[u8], offset: u64) -> io::Result<()> {
+        self.0.write_at(data, offset)
+    }
+
+    fn get_size(&mut self) -> io::Result<u64> {
+        self.0.get_size()
+    }
+
+    fn set_size(&mut self, size: u64) -> io::Result<()> {
+        self.0.set_size(size)
+    }
+
+    fn sync(&mut self) -> io::Result<()> {
+        (self.1)(At::Sync);
+        self.0.sync()
+    }
+
+    fn journal_path(&self) -> Option<PathBuf> {
+        self.0.journal_path()
+    }
+}
