@@ -109,6 +109,7 @@ says 'lets others read or change the key'
 chmod 711 open-key
 status 0 "$tool" seal -k open-key small small.run-key
 lacks 'lets others'
+chmod 644 open-key
 status 3 "$tool" seal -k nowhere small small.nowhere
 # Standard error may go into the output.
 "$tool" seal -k open-key small > small.both 2>&1
@@ -129,6 +130,17 @@ status 0 "$tool" check -k key small.piped-key
 (trap '' XFSZ; ulimit -f 0; status_of=0; "$tool" keygen full-key 2> /dev/null || status_of=$?; [ "$status_of" = 3 ])
 [ ! -e full-key ] || fail 'keygen left something on a full disk'
 no_parts
+# A limit on the size of files ends a run, which leaves its part: of a long name it has the first 200 bytes. So does a
+# message that would make a file longer.
+name=$(printf 'n%.0s' $(seq 255))
+status 153 sh -c "ulimit -f 0; '$tool' seal -k key small $name"
+[[ $(find . -name '.n*') =~ ^\./\.n{200}\.hunkravy-[0-9a-f]{16}$ ]] || fail "a run that a limit ended left: $(ls -A)"
+[ ! -e "$name" ] || fail 'a run that a limit ended has an output'
+rm .n*.hunkravy-*
+status 153 sh -c "ulimit -f 0; '$tool' seal -k nowhere small 2> told"
+[ ! -s told ] || fail 'a message went past the limit'
+(umask 0277; "$tool" keygen masked-key)
+[ "$(stat -c %a masked-key)" = 400 ] || fail 'the output has more than the umask leaves'
 status 2 "$tool" seal -k key $'small\xff' small.name
 says 'a word of the command line'
 (exec -a $'\xff' "$tool" info small.sealed) 2> said || [ $? = 2 ]
@@ -464,6 +476,8 @@ if device=$(losetup -f --show on-device 2> /dev/null); then
     done
     status 3 sh -c "'$tool' seal -k key < $device > $device"
     says 'is the input too'
+    # What is on it after the file's end is not of the file.
+    status 1 "$tool" check -k key "$device"
     losetup -d "$device"
     truncate -s $((410 + 37 + 65)) on-device
     status 0 "$tool" check -k key on-device
@@ -872,6 +886,15 @@ if "${CC:-gcc}" -shared -fPIC -O1 "$calls" -ldl -o calls.so 2> said; then
     rm -f out
 fi
 
+if command -v qemu-x86_64 > /dev/null; then
+    echo 'an older processor'
+    status 127 qemu-x86_64 -cpu core2duo "$tool" seal -k key small older
+    [ ! -e older ] || fail 'something was done on a processor that the program was not built for'
+    no_parts
+else
+    echo 'left out: an older processor, since there is no qemu'
+fi
+
 echo 'standard files that are closed or full'
 for closed in '2> /dev/full' '2>&-'; do
     status 0 sh -c "'$tool' check -k key sealed $closed"
@@ -949,6 +972,19 @@ meanwhile 'rm "place/$there"'
 says 'was renamed, removed or mounted over meanwhile'
 lacks 'is not removed'
 rmdir place
+# An output without a folder is in the one that the run began in.
+mkdir place
+mkfifo place/text
+(cd place && exec "$tool" seal -k ../key text out) &
+exec 9> place/text
+head -c 70000 text-before >&9
+mv place elsewhere
+tail -c +70001 text-before >&9
+exec 9>&-
+wait $! || fail 'an output without a folder, which was renamed'
+status 0 "$tool" open --force -k key elsewhere/out text
+cmp text text-before
+rm -r elsewhere text
 # Another file in the part's place.
 for force in '' --force; do
     mkdir place
@@ -1036,8 +1072,9 @@ for command in 'check -k key vast' 'open -k key vast -' 'open -k key --from 1 va
 done
 
 echo 'names that a terminal acts on'
-status 2 "$tool" check -k key sealed $'one\u202etoo many'
-says 'one\\u{202e}too many'
+status 2 "$tool" check -k key sealed $'one\u202etoo\nmany'
+says 'one\\u{202e}too$'
+says '^many'
 name=$'no\033[2J\u009b2Jsuch'
 status 3 "$tool" check -k key "$name"
 says 'no\\u{1b}\[2J\\u{9b}2Jsuch cannot be read'
@@ -1057,8 +1094,9 @@ if command -v script > /dev/null; then
     terminal 0 "'$tool' seal -k key small -"
     printf 'a letter\n' > letter
     status 0 "$tool" seal -k key letter letter.sealed
-    terminal 0 "'$tool' open -k key letter.sealed"
+    terminal 0 "'$tool' open -k open-key letter.sealed"
     says 'a letter'
+    says 'lets others read or change the key'
     for bad in 'x\033[2J' 'x\x00' 'x\x7f' 'x\xc2\x9b2J' 'x\xc2\x80' 'x\x9b2J' 'x\xff' 'x\xc2' 'x\xe2\x98' 'x\xed\xa0\x80' 'x\xc0\xaf' 'x\xf5\x80\x80\x80'; do
         printf "$bad" > letter
         status 0 "$tool" seal --force -k key letter letter.sealed
@@ -1099,6 +1137,7 @@ found=0
 [ "$found" = 3 ] || fail "a closed pipe gave status $found"
 status 3 "$tool" seal -k key . out-of-a-folder
 status 3 "$tool" seal -k key small no/such/folder
+lacks '--force'
 status 3 "$tool" seal -k key no-such-file out
 no_parts
 
