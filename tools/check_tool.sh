@@ -504,7 +504,8 @@ ln -s aside turned
 "$tool" seal --force -k key late turned > said 2>&1 &
 sleep 0.5
 ln -sfn key turned
-printf late > late
+# The run may be over before it has read anything.
+(printf late > late) 2> /dev/null || [ $? = 141 ]
 found=0
 wait $! || found=$?
 [ "$found" = 3 ] || fail "status $found, not 3, of an output that became a link to the key: $(cat said)"
