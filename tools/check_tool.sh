@@ -476,6 +476,11 @@ if device=$(losetup -f --show on-device 2> /dev/null); then
     done
     status 3 sh -c "'$tool' seal -k key < $device > $device"
     says 'is the input too'
+    # So does another node of the same device.
+    if mknod node b $(stat -c '0x%t 0x%T' "$device") 2> said; then
+        status 3 sh -c "'$tool' open -k key --records 0..1 $device > node"
+        says 'is the input too'
+    fi
     # What is on it after the file's end is not of the file.
     status 1 "$tool" check -k key "$device"
     losetup -d "$device"

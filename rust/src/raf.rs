@@ -89,7 +89,7 @@ pub const MAX_SIZE: u64 = 1 << 60;
 /// panicked is dropped by another: call `discard` there.
 ///
 /// After an error in the middle of a commit the file is broken: each later call that reads, changes or commits it returns
-/// [`Error::Broken`], and opening the file again gives the text of before the commit or the one after it.
+/// [`Error::Broken`], and if it has a journal, opening it again gives the text of before the commit or the one after it.
 pub struct Raf<A: Algorithm, I: RafIo = FileIo, R: RafRng = OsRng, J: RafIo = JournalFile> {
     io: I,
     journal: J,
@@ -237,8 +237,8 @@ impl<A: Algorithm, I: RafIo, R: RafRng, J: RafIo> Raf<A, I, R, J> {
     /// [`Error::Broken`], [`Error::Moved`], [`Error::TooLong`], [`Error::Journal`] if another file has the journal's name,
     /// [`Error::Io`] of a read, of a look at the file's path, of a size that the file cannot have, or of a place where there
     /// can be no journal, or an error of the source of random bytes: the changes are still in memory, and in the file nothing
-    /// but its size may have changed. After any other [`Error::Io`] the file is broken. Open it again, which gives the text of
-    /// before the changes or the one after them.
+    /// but its size may have changed. After any other [`Error::Io`] the file is broken. Open it again, which with a journal
+    /// gives the text of before the changes or the one after them.
     pub fn commit(&mut self) -> Result<()> {
         self.is_cut_short = true;
         self.commit_all()?;

@@ -23,16 +23,21 @@ use std::{fs, io};
 // The mode of new files: only the owner can read and write them.
 const OWNER_ONLY: u32 = 0o600;
 
-/// The device and the number there of a file, which all of its names share.
+/// What all names of a file share.
 #[derive(Clone, Copy, PartialEq, Eq)]
-pub struct Identity {
-    device: u64,
-    number: u64,
+pub enum Identity {
+    /// The device that it is on, and its number there.
+    File { device: u64, number: u64 },
+    /// The number of the device, which several nodes may have.
+    BlockDevice(u64),
 }
 
 impl Identity {
     fn new(found: &Metadata) -> Self {
-        Identity {
+        if found.file_type().is_block_device() {
+            return Identity::BlockDevice(found.rdev());
+        }
+        Identity::File {
             device: found.dev(),
             number: found.ino(),
         }

@@ -81,7 +81,7 @@ impl<A: Algorithm, R: RafRng, J: JournalChoice> RafBuilder<A, R, J> {
     }
 
     /// Sets where the journal is kept. The default is a [`JournalFile`](super::JournalFile) beside a file of the system, and none
-    /// for another storage: a crash in a commit may then leave some of its changes, or damage it. A file beside the file, which
+    /// for another storage: a crash or an error in a commit may then leave some of its changes, or damage it. A file beside the file, which
     /// a commit with the default journal has left, is then not looked at by opening: open it once with the default.
     pub fn journal<K: RafIo>(self, journal: K) -> RafBuilder<A, R, K> {
         RafBuilder {

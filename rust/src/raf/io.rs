@@ -43,9 +43,9 @@ pub trait RafIo {
     }
 
     /// Returns the path of the journal, which is used if [`RafBuilder::journal`](super::RafBuilder::journal) sets no other. If
-    /// there is a file whose name it is without what follows the last dot, the journal gets the mode of that file.
+    /// there is a file whose name it is without what follows the last dot, it is that of this file, as [`JournalFile`] says.
     ///
-    /// The default is none: a crash in a commit may then leave some of its changes, or damage the file.
+    /// The default is none: a crash or an error in a commit may then leave some of its changes, or damage the file.
     fn journal_path(&self) -> Option<PathBuf> {
         None
     }
@@ -172,7 +172,7 @@ impl Drop for FileIo {
     }
 }
 
-/// The journal that keeps nothing: a crash in a commit may leave some of its changes, or damage the file.
+/// The journal that keeps nothing: a crash or an error in a commit may leave some of its changes, or damage the file.
 #[derive(Clone, Copy, Debug, Default)]
 pub struct NoJournal;
 
@@ -202,11 +202,13 @@ impl RafIo for NoJournal {
 /// while a commit is written, and after one that was cut short. Symbolic links are followed, so that a file has one journal by
 /// whichever of them it is named. A commit needs a folder that the user may read and write.
 ///
-/// It gets the mode of the file, and its owner and group where the system allows it, so that whoever may write the file, and
-/// read and write its folder, can complete a commit that was cut short. Where one of the two cannot be set, the file's owner or
-/// its group, if they have more rights than all others, may have to wait until the journal's maker or root opens the file. Others
-/// than the owner cannot commit to a file whose group may not write it and others may, nor complete a commit: the group could
-/// write their journal.
+/// It gets the owner and the group of the file where the system allows it, and of its mode the rights to read and write, so that
+/// whoever has both, and may read and write its folder, can complete a commit that was cut short. Where the owner or the group
+/// cannot be set, those of the file, if they have more rights than all others, may have to wait until the journal's maker or
+/// root opens the file. Its owner may always read and write it. All others get no right that the group lacks, which could
+/// use theirs: so they may not be able to complete a commit, or, if it is the right to write, to make one. ACLs, and users and
+/// groups that a user namespace hides, are not looked at: whoever may write the journal by these can make a crash leave some of
+/// the changes of a commit.
 ///
 /// A journal that is itself a link, or no file, or has other names (hard links), or that by its owner, group and mode someone
 /// may write who may not write the file, is refused, with [`io::ErrorKind::InvalidData`], and nothing is changed. A file of that
@@ -329,7 +331,7 @@ fn is_as_safe(journal: &Metadata, of: &Metadata) -> bool {
 }
 
 /// Makes a journal, which follows no link. Whoever may write its file may complete its commit: it has the owner, the group and
-/// the mode of the file, as far as the system lets them be set.
+/// the rights of the file, as far as the system lets them be set.
 fn new_journal(path: &Path) -> io::Result<File> {
     let file = options().create_new(true).mode(OWNER).open(path)?;
     let Some(of) = found_at(&file_of(path))? else {
@@ -632,6 +634,13 @@ mod tests {
         let mut journal = JournalFile::at(Some(at.clone()));
         journal.set_size(0).unwrap();
         assert!(!at.exists() && journal.file.is_none());
+        // A commit makes its own in place of it.
+        let left = File::create(&at).unwrap();
+        journal.check_path().unwrap();
+        journal.write_at(b"journal", 0).unwrap();
+        assert_eq!(fs::read(&at).unwrap(), b"journal");
+        assert_eq!(left.metadata().unwrap().len(), 0);
+        fs::remove_file(&at).unwrap();
         File::create(&at).unwrap();
         journal.file = Some(File::options().read(true).write(true).open(&at).unwrap());
         fs::remove_file(&at).unwrap();
@@ -645,13 +654,14 @@ mod tests {
     #[test]
     fn names() {
         let path = std::env::temp_dir().join(format!("hunkravy-names-{}", std::process::id()));
+        let mut made = FileIo::create_new(&path).unwrap();
         let mut created = FileIo::create(&path).unwrap();
         let mut opened = FileIo::open(&path).unwrap();
         std::fs::remove_file(&path).unwrap();
-        for io in [&mut created, &mut opened] {
+        for io in [&mut made, &mut created, &mut opened] {
             io.path = Some("/proc/file".into());
         }
-        assert!(created.sync().is_err() && opened.sync().is_ok());
+        assert!(made.sync().is_err() && created.sync().is_err() && opened.sync().is_ok());
         // So is that of a journal that is not empty.
         let mut journal = JournalFile::at(Some("/proc/file".into()));
         opened.set_size(1).unwrap();

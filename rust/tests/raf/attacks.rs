@@ -294,6 +294,19 @@ fn bytes_after_the_last_page() {
     }
 }
 
+/// A page that has one byte of the text keeps it when others are written behind it.
+#[test]
+fn a_page_of_one_byte() {
+    let begun = disks(Bytes::default());
+    let mut file = in_memory(&begun, true).unwrap();
+    file.write(&[1; 257], 0).unwrap();
+    file.commit().unwrap();
+    file.read(&mut [0; 256], 0).unwrap();
+    file.write(&[2; 3], 258).unwrap();
+    let text = [[1; 257].as_slice(), &[0, 2, 2, 2]].concat();
+    assert_eq!(text_of(&mut file).unwrap(), text);
+}
+
 /// What was cut off does not come back when the text grows again, be it in one commit or in several.
 #[test]
 fn a_text_that_shrinks_and_grows() {

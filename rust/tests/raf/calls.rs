@@ -122,11 +122,14 @@ fn a_drop_after_a_panic_in_a_change_commits_nothing() {
 fn nothing_changed_is_no_commit() {
     let disks = disks(Bytes::default());
     let mut file = created(&disks, 0);
+    file.write(&[1; 300], 0).unwrap();
     let count = calls(&disks);
     file.commit().unwrap();
     file.sync().unwrap();
-    file.truncate(0).unwrap();
-    file.write(b"", 0).unwrap();
+    file.truncate(300).unwrap();
+    for offset in [0, 100, 256, 300] {
+        file.write(b"", offset).unwrap();
+    }
     file.discard();
     drop(file);
     assert_eq!(calls(&disks), count);
@@ -220,6 +223,27 @@ fn the_calls_of_an_opening() {
     drop(opened(&disks));
     // A journal that is empty is not written.
     assert_eq!(places(&disks), [(Part::File, None), (Part::Journal, None)]);
+}
+
+/// A creation locks the file and the journal, and writes the header once the journal is certain to be empty. An opening locks
+/// both too, and finds the header of no commit.
+#[test]
+fn the_calls_of_a_creation() {
+    let disks = disks(Bytes::default());
+    let mut file = created(&disks, usize::MAX);
+    let expected = [
+        (Part::Journal, None),
+        (Part::File, Some(u64::MAX)),
+        (Part::File, Some(0)),
+        (Part::File, None),
+    ];
+    assert_eq!(places(&disks), expected);
+    assert_eq!(disks.0.log.borrow().locks, 2);
+    let commitment = file.commitment().unwrap();
+    drop(file);
+    let mut file = opened(&disks);
+    assert_eq!(disks.0.log.borrow().locks, 4);
+    file.verify(&commitment).unwrap();
 }
 
 /// Each commit that makes the file longer sets its size. Then it writes the front of the journal and syncs it, the rest of it
@@ -388,6 +412,7 @@ fn chunk_sizes() {
 
 #[test]
 fn sizes_and_offsets() {
+    assert_eq!(MAX_SIZE, 1 << 60);
     let disks = disks(Bytes::default());
     let mut file = created(&disks, usize::MAX);
     file.write(b"text", 0).unwrap();
@@ -433,16 +458,20 @@ fn bytes_that_hold_something() {
 /// Without a journal what is committed is read again.
 #[test]
 fn no_journal() {
-    let disks = disks(Bytes::default());
-    let mut file = RafBuilder::<Aegis256X4>::with_rng(Random(5))
-        .create(disks.0.clone(), &KEY)
-        .unwrap();
+    fn builder() -> RafBuilder<Aegis256X4> {
+        RafBuilder::new()
+    }
+    committed_and_read(builder);
+    committed_and_read(|| builder().journal(NoJournal));
+}
+
+fn committed_and_read<J: JournalChoice>(builder: impl Fn() -> RafBuilder<Aegis256X4, OsRng, J>) {
+    let disk = disks(Bytes::default()).0;
+    let mut file = builder().create(disk.clone(), &KEY).unwrap();
     file.write(b"text", 1).unwrap();
     file.commit().unwrap();
     drop(file);
-    let mut file = RafBuilder::<Aegis256X4>::new()
-        .open(disks.0.clone(), &KEY)
-        .unwrap();
+    let mut file = builder().open(disk, &KEY).unwrap();
     let mut buf = [0; 10];
     assert_eq!(file.read(&mut buf, 0).unwrap(), 5);
     assert_eq!(&buf[..5], b"\0text");

@@ -102,23 +102,25 @@ impl<A: Algorithm> Model<A> {
     }
 }
 
-fn random_changes<A: Algorithm>() {
+fn random_changes<A: Algorithm>(algorithm: AlgorithmId) {
     for chunk_size in [256, 1000, 4096] {
         let mut model = Model::<A>::new(chunk_size, usize::MAX);
         for _ in 0..400 {
             model.step();
         }
+        let info = probe(&mut model.disks.0).unwrap();
+        assert_eq!((info.algorithm, info.chunk_size), (algorithm, chunk_size));
     }
 }
 
 #[test]
 fn random_changes_of_each_algorithm() {
-    random_changes::<Aegis128L>();
-    random_changes::<Aegis128X2>();
-    random_changes::<Aegis128X4>();
-    random_changes::<Aegis256>();
-    random_changes::<Aegis256X2>();
-    random_changes::<Aegis256X4>();
+    random_changes::<Aegis128L>(AlgorithmId::Aegis128L);
+    random_changes::<Aegis128X2>(AlgorithmId::Aegis128X2);
+    random_changes::<Aegis128X4>(AlgorithmId::Aegis128X4);
+    random_changes::<Aegis256>(AlgorithmId::Aegis256);
+    random_changes::<Aegis256X2>(AlgorithmId::Aegis256X2);
+    random_changes::<Aegis256X4>(AlgorithmId::Aegis256X4);
 }
 
 /// With no buffer each change is a commit.
