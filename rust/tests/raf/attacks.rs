@@ -299,11 +299,12 @@ fn bytes_after_the_last_page() {
 fn a_page_of_one_byte() {
     let begun = disks(Bytes::default());
     let mut file = in_memory(&begun, true).unwrap();
-    file.write(&[1; 257], 0).unwrap();
+    let text = [[1; 256].as_slice(), &[2, 0, 3, 3, 3]].concat();
+    file.write(&text[..257], 0).unwrap();
     file.commit().unwrap();
+    // The page that was last read is another one.
     file.read(&mut [0; 256], 0).unwrap();
-    file.write(&[2; 3], 258).unwrap();
-    let text = [[1; 257].as_slice(), &[0, 2, 2, 2]].concat();
+    file.write(&[3; 3], 258).unwrap();
     assert_eq!(text_of(&mut file).unwrap(), text);
 }
 
