@@ -584,6 +584,7 @@ mod tests {
         for (mode, own) in [
             (0o600, 0o600),
             (0o644, 0o644),
+            (0o660, 0o660),
             (0o666, 0o666),
             (0o606, 0o600),
         ] {
@@ -596,14 +597,17 @@ mod tests {
             let (made, of) = (at.metadata().unwrap(), path.metadata().unwrap());
             assert_eq!((made.mode() & 0o777, made.uid()), (own, of.uid()));
             open(false).unwrap();
-            let is_shared = mode == 0o666;
-            for of_others in [0o602, 0o620] {
-                set(of_others);
-                assert_eq!(open(false).is_ok(), is_shared, "{mode:o} {of_others:o}");
+            let all_may = own & 0o002 != 0;
+            let group_may = own & 0o020 != 0;
+            for (other, is_safe) in [(0o602, all_may), (0o620, group_may)] {
+                set(other);
+                assert_eq!(open(false).is_ok(), is_safe, "{mode:o} {other:o}");
             }
             set(0o600);
-            if chown(&at, Some(65534), None).is_ok() {
-                assert_eq!(open(false).is_ok(), is_shared, "{mode:o}");
+            for (user, is_safe) in [(65534, group_may), (0, true)] {
+                if chown(&at, Some(user), None).is_ok() {
+                    assert_eq!(open(false).is_ok(), is_safe, "{mode:o} {user}");
+                }
             }
             fs::remove_file(&at).unwrap();
         }
@@ -640,7 +644,12 @@ mod tests {
         journal.write_at(b"journal", 0).unwrap();
         assert_eq!(fs::read(&at).unwrap(), b"journal");
         assert_eq!(left.metadata().unwrap().len(), 0);
-        fs::remove_file(&at).unwrap();
+        journal.sync().unwrap();
+        assert!(journal.is_name_synced);
+        // The next one has a name that is to be synced too.
+        journal.set_size(0).unwrap();
+        journal.sync().unwrap();
+        assert!(!at.exists() && journal.file.is_none() && !journal.is_name_synced);
         File::create(&at).unwrap();
         journal.file = Some(File::options().read(true).write(true).open(&at).unwrap());
         fs::remove_file(&at).unwrap();

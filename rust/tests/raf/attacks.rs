@@ -397,12 +397,12 @@ fn each_read_that_fails() {
     assert!(failed > 8, "{failed}");
 }
 
-/// This test runs itself once more as another user, who may not write to the folder: the file is read, and a commit is
-/// refused and changes nothing.
+/// This test runs itself once more as another user, who may not write to the folder, or not read it: the file is read, and a
+/// commit is refused and changes nothing.
 #[test]
-fn a_folder_that_may_not_be_written() {
-    const NAME: &str = "attacks::a_folder_that_may_not_be_written";
-    const VARIABLE: &str = "HUNKRAVY_READ_ONLY";
+fn a_folder_that_may_not_be_used() {
+    const NAME: &str = "attacks::a_folder_that_may_not_be_used";
+    const VARIABLE: &str = "HUNKRAVY_FILE";
     if let Some(path) = std::env::var_os(VARIABLE) {
         let path = Path::new(&path);
         let mut file = open(path).unwrap();
@@ -415,7 +415,7 @@ fn a_folder_that_may_not_be_written() {
         assert_eq!(read(&mut file), b"after!");
         return;
     }
-    let folder = Folder::new("read-only");
+    let folder = Folder::new("not-used");
     let (path, program) = (folder.path("file"), folder.path("program"));
     with_text(&path, b"before");
     let bytes = fs::read(&path).unwrap();
@@ -423,19 +423,21 @@ fn a_folder_that_may_not_be_written() {
     let allow = |path: &Path, mode| fs::set_permissions(path, fs::Permissions::from_mode(mode));
     allow(&path, 0o666).unwrap();
     allow(&program, 0o755).unwrap();
-    allow(path.parent().unwrap(), 0o555).unwrap();
     let mut command = Command::new(&program);
     command.args([NAME, "--exact"]).env(VARIABLE, &path);
     if fs::metadata("/proc/self").unwrap().uid() == 0 {
         command.uid(65_534).gid(65_534);
     }
-    let output = command.output().unwrap();
-    allow(path.parent().unwrap(), 0o755).unwrap();
-    let printed = String::from_utf8_lossy(&output.stdout);
-    assert!(
-        output.status.success() && printed.contains("1 passed"),
-        "{printed}"
-    );
+    for mode in [0o555, 0o333] {
+        allow(path.parent().unwrap(), mode).unwrap();
+        let output = command.output().unwrap();
+        allow(path.parent().unwrap(), 0o755).unwrap();
+        let printed = String::from_utf8_lossy(&output.stdout);
+        assert!(
+            output.status.success() && printed.contains("1 passed"),
+            "{mode:o} {printed}"
+        );
+    }
     assert_eq!(fs::read(&path).unwrap(), bytes);
     assert_eq!(folder.names(), ["file", "program"]);
     assert_eq!(read(&mut open(&path).unwrap()), b"before");

@@ -406,7 +406,9 @@ fn a_probe_of_a_short_file() {
 fn files_that_are_none() {
     let folder = Folder::new("none");
     let path = folder.path("file");
-    for bytes in [&b""[..], b"AGP1", &[0; 600], &[65; 33]] {
+    let mut another_format = [0; 600];
+    another_format[..9].copy_from_slice(b"AGP2\x21\0\x10\0\0");
+    for bytes in [&b""[..], b"AGP1", &[0; 600], &[65; 33], &another_format] {
         fs::write(&path, bytes).unwrap();
         assert!(matches!(open(&path), Err(Error::Header)));
         let probed = probe(&mut FileIo::open(&path).unwrap());
