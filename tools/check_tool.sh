@@ -125,6 +125,17 @@ for bad in small /dev/null /dev/zero; do
     says "key file $bad has no key"
     ! grep -q chmod said || fail 'a file that is no key has a warning on its mode'
 done
+# A key is 64 digits, and at most two bytes of white space after them.
+digits=$(cat key)
+for text in "$digits" "$digits"$'\n' "$digits"$'\r\n' "${digits^^}"; do
+    printf %s "$text" > shaped-key
+    status 0 "$tool" check -q -k shaped-key small.quiet
+done
+for text in "${digits:1}" "${digits}0" " $digits" "$digits"$'\n\n\n' "${digits:1}g"; do
+    printf %s "$text" > shaped-key
+    status 3 "$tool" check -q -k shaped-key small.quiet
+    says 'key file shaped-key has no key'
+done
 status 0 "$tool" seal -k <(cat key) small small.piped-key
 status 0 "$tool" check -k key small.piped-key
 (trap '' XFSZ; ulimit -f 0; status_of=0; "$tool" keygen full-key 2> /dev/null || status_of=$?; [ "$status_of" = 3 ])
