@@ -343,7 +343,12 @@ int main(int count, char **arguments)
         check_lengths(&VARIANTS[i]);
         check_nothing(&VARIANTS[i]);
         HOLDS(hunkravy_key_bytes(VARIANTS[i].number) == VARIANTS[i].key_bytes);
+        HOLDS(VARIANTS[i].key_bytes ==
+              (i < 3 ? HUNKRAVY_AEGIS128_KEY_BYTES : HUNKRAVY_AEGIS256_KEY_BYTES));
     }
+    HOLDS(HUNKRAVY_AEGIS128_NONCE_BYTES == HUNKRAVY_AEGIS128_KEY_BYTES);
+    HOLDS(HUNKRAVY_AEGIS256_NONCE_BYTES == HUNKRAVY_AEGIS256_KEY_BYTES);
+    HOLDS(HUNKRAVY_AEGIS128_TAG_BYTES == TAG_BYTES && HUNKRAVY_AEGIS256_TAG_BYTES == TAG_BYTES);
     check_wrong_variants();
     check_texts();
     printf("hunkravy.h: %lu stored lines, %lu checks, all right\n", (unsigned long)lines, checks);

@@ -14,10 +14,12 @@
     (NAME##_state_encrypt_update(st, c, n, &written, m, n) == 0 && written == n)
 #define ENDS(NAME, st, mac, maclen)                                                                \
     (NAME##_state_encrypt_detached_final(st, NULL, 0, &written, mac, maclen) == 0 && written == 0)
+/* Without a message there need be no room for it. */
 #define DECRYPTS(NAME, st, m, c, n)                                                                \
-    (NAME##_state_decrypt_detached_update(st, m, n, &written, c, n) == 0 && written == n)
+    (NAME##_state_decrypt_detached_update(st, m, (m) == NULL ? 0 : (n), &written, c, n) == 0 &&    \
+     written == n)
 #define DECRYPT_FINAL(NAME, st, mac, maclen)                                                       \
-    NAME##_state_decrypt_detached_final(st, NULL, 0, &written, mac, maclen)
+    (NAME##_state_decrypt_detached_final(st, NULL, 0, &written, mac, maclen) - (int)written)
 #define FORM "with `written`"
 #else
 #define ENCRYPTS(NAME, st, c, m, n) (NAME##_state_encrypt_update(st, c, m, n) == 0)
@@ -192,8 +194,11 @@ static int is_refused(int result)
         if (length != 0) {                                                                         \
             HOLDS(NAME##_state_encrypt_update(st, c, length - 1, &written, c, length) == -1);      \
             HOLDS(errno == ERANGE && written == 0);                                                \
+            errno = 0;                                                                             \
+            written = 77;                                                                          \
             HOLDS(NAME##_state_decrypt_detached_update(st, c, length - 1, &written, c, length) ==  \
                   -1);                                                                             \
+            HOLDS(errno == ERANGE && written == 0);                                                \
         }                                                                                          \
         HOLDS(NAME##_state_encrypt_final(st, tag, maclen - 1, &written, maclen) == -1);            \
         HOLDS(errno == ERANGE && written == 0);                                                    \

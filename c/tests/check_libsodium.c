@@ -155,6 +155,9 @@ static void on_abort(int number) { longjmp(end_of_program, number); }
         HOLDS(length == 0 && byte == 0x55);                                                        \
         HOLDS(crypto_aead_##NAME##_decrypt_detached(&byte, NULL, c, 1, c, c, ~0ULL, npub, k) ==    \
               -1);                                                                                 \
+        HOLDS(crypto_aead_##NAME##_decrypt_detached(&byte, NULL, c, ~0ULL, c, c, 1, npub, k) ==    \
+              -1);                                                                                 \
+        HOLDS(byte == 0x55);                                                                       \
     }
 
 /* More than the most bytes end the program if they are to be encrypted. */
@@ -199,7 +202,7 @@ int main(int count, char **arguments)
 {
     static const char *const files[] = {"published", "wycheproof",     "seal",
                                         "open",      "seal-in-pieces", "open-in-pieces"};
-    uint8_t bytes[64];
+    uint8_t bytes[64], drawn[64] = {0};
 
     HOLDS(count == 2 && sodium_init() >= 0);
     for (size_t i = 0; i < sizeof files / sizeof files[0]; i++) {
@@ -215,6 +218,15 @@ int main(int count, char **arguments)
     aegis128l_too_long(0, 1ULL << 61);
     aegis256_too_long(~0ULL, 0);
     aegis256_too_long(0, ~0ULL);
+    /* Each byte is drawn: none is zero 20 times by chance. */
+    for (size_t i = 0; i < 20 * sizeof bytes; i++) {
+        if (i % sizeof bytes == 0) {
+            memset(bytes, 0, sizeof bytes);
+            randombytes_buf(bytes, sizeof bytes);
+        }
+        drawn[i % sizeof bytes] |= bytes[i % sizeof bytes];
+    }
+    HOLDS(memchr(drawn, 0, sizeof drawn) == NULL);
     memset(bytes, 0x55, sizeof bytes);
     sodium_memzero(bytes, sizeof bytes);
     sodium_memzero(NULL, 0);

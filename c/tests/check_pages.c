@@ -422,6 +422,11 @@ static void check_variant(const struct variant *variant)
 
 int main(void)
 {
+    HOLDS(HUNKRAVY_PAGE_MIN_SIZE == SIZES[0]);
+    HOLDS(HUNKRAVY_PAGE_MAX_SIZE == SIZES[COUNT(SIZES) - 1]);
+    HOLDS(HUNKRAVY_PAGE_MAX_ADDED_BYTES == HUNKRAVY_AEGIS256_NONCE_BYTES + TAG);
+    /* Such a page lies in one block of a disk. */
+    HOLDS(HUNKRAVY_PAGE_DEFAULT_SIZE + HUNKRAVY_PAGE_MAX_ADDED_BYTES == 4096);
     for (size_t i = 0; i < COUNT(VARIANTS); i++) {
         check_variant(&VARIANTS[i]);
     }

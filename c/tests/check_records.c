@@ -365,6 +365,7 @@ static void check_streams(void)
     static uint8_t context[65535];
     struct keys keys;
 
+    HOLDS(HUNKRAVY_RECORD_MAX_CONTEXT_BYTES == sizeof context);
     for (size_t i = 0; i < sizeof contexts / sizeof contexts[0]; i++) {
         fill(context, sizeof context);
         fill(keys.k, sizeof keys.k);

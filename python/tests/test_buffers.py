@@ -85,7 +85,7 @@ class Refusals(unittest.TestCase):
                 CIPHER.encrypt(NONCE, wrong)  # type: ignore[arg-type]
             with self.assertRaises(TypeError):
                 Aegis128L(wrong)  # type: ignore[arg-type]
-        with self.assertRaises((TypeError, ValueError)):
+        with self.assertRaisesRegex(ValueError, "^the buffer is read-only$"):
             CIPHER.encrypt_into(NONCE, b"", None, bytes(32))  # type: ignore[arg-type]
 
     def test_each_changed_bit(self) -> None:
@@ -108,7 +108,7 @@ class Refusals(unittest.TestCase):
             lambda: decryptor.finalize(bytes(32)),
         ]
         for call in calls:
-            with self.assertRaises(RuntimeError):
+            with self.assertRaisesRegex(RuntimeError, "^the message has ended$"):
                 call()
 
 

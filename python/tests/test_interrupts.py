@@ -204,7 +204,7 @@ class Ends(unittest.TestCase):
             refused = []
 
             def other() -> None:
-                with self.assertRaises(RuntimeError):
+                with self.assertRaisesRegex(RuntimeError, "^the message has ended$"):
                     message.update(b"a chunk")
                 refused.append(True)
 

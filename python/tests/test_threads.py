@@ -3,6 +3,7 @@
 import concurrent.futures
 import random
 import unittest
+from typing import Callable
 
 from hunkravy import Aegis128L, Aegis256Mac
 
@@ -26,6 +27,34 @@ class Threads(unittest.TestCase):
             for taken in threads.map(mac.update, [chunk] * 200):
                 self.assertIsNone(taken)
         mac.verify(Aegis256Mac(bytes(32), 200 * chunk).digest())
+
+    def test_each_call_of_a_mac_waits_for_another_thread(self) -> None:
+        mac = Aegis256Mac(bytes(32))
+        digest = mac.digest()
+        calls: list[Callable[[], object]] = [
+            lambda: mac.verify(digest),
+            mac.digest,
+            mac.copy,
+            lambda: mac.update(b"more"),
+        ]
+        for call in calls:
+            with concurrent.futures.ThreadPoolExecutor(1) as threads:
+                with mac._lock:
+                    called = threads.submit(call)
+                    with self.assertRaises(concurrent.futures.TimeoutError):
+                        called.result(0.05)
+                called.result(10)
+
+    def test_a_message_that_ends_while_another_thread_waits(self) -> None:
+        encryptor = Aegis128L(bytes(16)).encryptor(bytes(16))
+        with concurrent.futures.ThreadPoolExecutor(1) as threads:
+            with encryptor._lock:
+                called = threads.submit(encryptor.update, b"more")
+                with self.assertRaises(concurrent.futures.TimeoutError):
+                    called.result(0.05)
+                encryptor.finalize()
+            with self.assertRaisesRegex(RuntimeError, "^the message has ended$"):
+                called.result(10)
 
 
 class Chunks(unittest.TestCase):
