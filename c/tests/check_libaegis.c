@@ -200,6 +200,7 @@ static int is_refused(int result)
                   -1);                                                                             \
             HOLDS(errno == ERANGE && written == 0);                                                \
         }                                                                                          \
+        HOLDS(NAME##_state_encrypt_update(st, c, 0, NULL, c, 0) == 0);                             \
         HOLDS(NAME##_state_encrypt_final(st, tag, maclen - 1, &written, maclen) == -1);            \
         HOLDS(errno == ERANGE && written == 0);                                                    \
         HOLDS(NAME##_state_encrypt_final(st, tag, maclen, &written, maclen) == 0);                 \
