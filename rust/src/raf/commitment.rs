@@ -7,7 +7,8 @@ use crate::Mac;
 impl<A: Algorithm, I: RafIo, R: RafRng, J: RafIo> Raf<A, I, R, J> {
     /// Returns the commitment of the file as it was at the last commit: a MAC, under the key, of its header's counter and size,
     /// and of the tag of each page. A file of which a page or the header is an older one has another commitment. Keep it where
-    /// nobody can set it back together with the file.
+    /// nobody can set it back together with the file. The header is read by opening alone: open a file again to see whether it
+    /// was exchanged meanwhile.
     ///
     /// # Errors
     ///

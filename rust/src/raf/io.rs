@@ -211,10 +211,10 @@ impl RafIo for NoJournal {
 /// the changes of a commit.
 ///
 /// A journal that is itself a link, or no file, or has other names (hard links), or that by its owner, group and mode someone
-/// may write who may not write the file, is refused, with [`io::ErrorKind::InvalidData`], and nothing is changed. A file of that
-/// name with up to 33 bytes may be what a crash has left of a journal: opening removes it, whatever it holds. An empty one that
-/// cannot be removed counts as none for opening; a commit writes it, and fails, with the changes still in memory, where the user
-/// may not.
+/// may write who may not write the file, is refused, with [`io::ErrorKind::InvalidData`], and nothing is changed. Whoever owns a
+/// file of a group counts as one of it. A file of that name with up to 33 bytes may be what a crash has left of a journal:
+/// opening removes it, whatever it holds, and a commit an empty one. An empty one that cannot be removed counts as none for
+/// opening, and a commit fails, with the changes still in memory: it writes no journal that it has not made.
 ///
 /// If there is no path, as for a storage in memory, it is as [`NoJournal`].
 #[derive(Debug)]
@@ -276,13 +276,14 @@ fn journal_at(path: &Path) -> io::Result<Option<Metadata>> {
     }
 }
 
-/// Removes an empty journal, and returns what is then at the path: an empty one that cannot be removed too, if it is to be
-/// written. The file of the journal must be locked.
-fn left_at(path: &Path, is_written: bool) -> io::Result<Option<Metadata>> {
+/// Removes an empty journal, and returns what is then at the path. One that cannot be removed is an error if another is to be
+/// made: its maker could write it. The file of the journal must be locked.
+fn left_at(path: &Path, create: bool) -> io::Result<Option<Metadata>> {
     match found_at(path)? {
-        Some(found) if is_empty(&found) && (fs::remove_file(path).is_ok() || !is_written) => {
-            Ok(None)
-        }
+        Some(found) if is_empty(&found) => match fs::remove_file(path) {
+            Err(error) if create => Err(error),
+            _ => Ok(None),
+        },
         Some(found) => checked(path, found).map(Some),
         None => Ok(None),
     }

@@ -398,7 +398,7 @@ fn each_read_that_fails() {
 }
 
 /// This test runs itself once more as another user, who may not write to the folder, or not read it: the file is read, and a
-/// commit is refused and changes nothing.
+/// commit is refused and changes nothing. It writes no journal that it has not made, even if it may.
 #[test]
 fn a_folder_that_may_not_be_used() {
     const NAME: &str = "attacks::a_folder_that_may_not_be_used";
@@ -428,7 +428,12 @@ fn a_folder_that_may_not_be_used() {
     if fs::metadata("/proc/self").unwrap().uid() == 0 {
         command.uid(65_534).gid(65_534);
     }
-    for mode in [0o555, 0o333] {
+    let journal = folder.path("file.journal");
+    for (mode, has_journal) in [(0o555, false), (0o333, false), (0o555, true)] {
+        if has_journal {
+            fs::write(&journal, b"").unwrap();
+            allow(&journal, 0o666).unwrap();
+        }
         allow(path.parent().unwrap(), mode).unwrap();
         let output = command.output().unwrap();
         allow(path.parent().unwrap(), 0o755).unwrap();
@@ -439,6 +444,7 @@ fn a_folder_that_may_not_be_used() {
         );
     }
     assert_eq!(fs::read(&path).unwrap(), bytes);
-    assert_eq!(folder.names(), ["file", "program"]);
+    assert_eq!(fs::read(&journal).unwrap(), b"");
     assert_eq!(read(&mut open(&path).unwrap()), b"before");
+    assert_eq!(folder.names(), ["file", "program"]);
 }
