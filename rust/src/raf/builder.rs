@@ -81,8 +81,9 @@ impl<A: Algorithm, R: RafRng, J: JournalChoice> RafBuilder<A, R, J> {
     }
 
     /// Sets where the journal is kept. The default is a [`JournalFile`](super::JournalFile) beside a file of the system, and none
-    /// for another storage: a crash or an error in a commit may then leave some of its changes, or damage it. A file beside the file, which
-    /// a commit with the default journal has left, is then not looked at by opening: open it once with the default.
+    /// for another storage: a crash or an error in a commit may then leave some of its changes, or damage it. With a journal that
+    /// is set, opening does not look at the one beside the file that a commit with the default may have left: open the file once
+    /// with the default.
     pub fn journal<K: RafIo>(self, journal: K) -> RafBuilder<A, R, K> {
         RafBuilder {
             chunk_size: self.chunk_size,

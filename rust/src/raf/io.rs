@@ -202,13 +202,16 @@ impl RafIo for NoJournal {
 /// while a commit is written, and after one that was cut short. Symbolic links are followed, so that a file has one journal by
 /// whichever of them it is named. A commit needs a folder that the user may read and write.
 ///
-/// It gets the owner and the group of the file where the system allows it, and of its mode the rights to read and write, so that
-/// whoever has both, and may read and write its folder, can complete a commit that was cut short. Where the owner or the group
-/// cannot be set, those of the file, if they have more rights than all others, may have to wait until the journal's maker or
-/// root opens the file. Its owner may always read and write it. All others get no right that the group lacks, which could
-/// use theirs: so they may not be able to complete a commit, or, if it is the right to write, to make one. ACLs, and users and
-/// groups that a user namespace hides, are not looked at: whoever may write the journal by these can make a crash leave some of
-/// the changes of a commit.
+/// It gets the owner and the group of the file, where the system allows it, and the file's permissions to read and to write, so
+/// that whoever has both, for the file and for its folder, can complete a commit that was cut short. But:
+///
+/// - Its owner has both in any case.
+/// - All others get none that the group lacks, since the group could use theirs. They may then be unable to complete a commit,
+///   or, without the permission to write, to make one.
+/// - Where the owner or the group cannot be set, those of the file may have to wait until the journal's maker or root opens the
+///   file, if they have more permissions than all others.
+/// - ACLs, and users and groups that a user namespace hides, are not looked at: whoever may write the journal by these can make
+///   a crash leave some of the changes of a commit.
 ///
 /// A journal that is itself a link, or no file, or has other names (hard links), or that by its owner, group and mode someone
 /// may write who may not write the file, is refused, with [`io::ErrorKind::InvalidData`], and nothing is changed. Whoever owns a
@@ -332,7 +335,7 @@ fn is_as_safe(journal: &Metadata, of: &Metadata) -> bool {
 }
 
 /// Makes a journal, which follows no link. Whoever may write its file may complete its commit: it has the owner, the group and
-/// the rights of the file, as far as the system lets them be set.
+/// the permissions of the file, as far as the system lets them be set.
 fn new_journal(path: &Path) -> io::Result<File> {
     let file = options().create_new(true).mode(OWNER).open(path)?;
     let Some(of) = found_at(&file_of(path))? else {
