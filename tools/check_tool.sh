@@ -11,7 +11,8 @@ pages=$(realpath crates/hunkravy/manual)
 make_pages=$(realpath tools/tool_pages.py)
 calls=$(realpath tools/check_tool_calls.c)
 folder=$(mktemp -d)
-trap 'rm -rf "$folder"' EXIT
+device=
+trap 'rm -rf "$folder"; [ -z "$device" ] || losetup -d "$device"' EXIT
 cd "$folder"
 
 fail() {
@@ -144,11 +145,12 @@ no_parts
 # A limit on the size of files ends a run, which leaves its part: of a long name it has the first 200 bytes. So does a
 # message that would make a file longer.
 name=$(printf 'n%.0s' $(seq 255))
-status 153 sh -c "ulimit -f 0; '$tool' seal -k key small $name"
+no_bytes='ulimit -f 0; exec env --default-signal=XFSZ'
+status 153 sh -c "$no_bytes '$tool' seal -k key small $name"
 [[ $(find . -name '.n*') =~ ^\./\.n{200}\.hunkravy-[0-9a-f]{16}$ ]] || fail "a run that a limit ended left: $(ls -A)"
 [ ! -e "$name" ] || fail 'a run that a limit ended has an output'
 rm .n*.hunkravy-*
-status 153 sh -c "ulimit -f 0; '$tool' seal -k nowhere small 2> told"
+status 153 sh -c "$no_bytes '$tool' seal -k nowhere small 2> told"
 [ ! -s told ] || fail 'a message went past the limit'
 (umask 0277; "$tool" keygen masked-key)
 [ "$(stat -c %a masked-key)" = 400 ] || fail 'the output has more than the umask leaves'
@@ -487,7 +489,7 @@ if device=$(losetup -f --show on-device 2> /dev/null); then
     done
     status 3 sh -c "'$tool' seal -k key < $device > $device"
     says 'is the input too'
-    # So does another node of the same device.
+    # Another node of the device is the input too.
     if mknod node b $(stat -c '0x%t 0x%T' "$device") 2> said; then
         status 3 sh -c "'$tool' open -k key --records 0..1 $device > node"
         says 'is the input too'
@@ -495,6 +497,7 @@ if device=$(losetup -f --show on-device 2> /dev/null); then
     # What is on it after the file's end is not of the file.
     status 1 "$tool" check -k key "$device"
     losetup -d "$device"
+    device=
     truncate -s $((410 + 37 + 65)) on-device
     status 0 "$tool" check -k key on-device
 else

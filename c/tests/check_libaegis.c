@@ -19,7 +19,9 @@
     (NAME##_state_decrypt_detached_update(st, m, (m) == NULL ? 0 : (n), &written, c, n) == 0 &&    \
      written == n)
 #define DECRYPT_FINAL(NAME, st, mac, maclen)                                                       \
-    (NAME##_state_decrypt_detached_final(st, NULL, 0, &written, mac, maclen) - (int)written)
+    (NAME##_state_decrypt_detached_final(st, NULL, 0, &written, mac, maclen) == 0 && written == 0  \
+         ? 0                                                                                       \
+         : -1)
 #define FORM "with `written`"
 #else
 #define ENCRYPTS(NAME, st, c, m, n) (NAME##_state_encrypt_update(st, c, m, n) == 0)
