@@ -1,3 +1,4 @@
+pub mod Chunk
 pub mod Front
 pub mod Pass
 pub mod Saved

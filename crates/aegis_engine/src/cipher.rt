@@ -403,8 +403,8 @@ impl<S: LaneState, U, const KEY_BYTES: usize, const TAG_BYTES: usize> Cipher<
         dst: &'a mut [u8],
     ) -> Checked<'a>
         requires { length ad.now ≤ MAX_AEAD_BYTES }
-        ensures same_reference { result.dst.ghost_name ≡ dst.entry.ghost_name }
-        ensures same_place { result.dst.ref_ptr ≡ dst.entry.ref_ptr }
+        ensures same_place { (result.dst.ghost_name ≡ dst.entry.ghost_name)
+            × (result.dst.ref_ptr ≡ dst.entry.ref_ptr) }
         ensures within { result.filled ≤ length result.dst.now }
         ensures filled { result.filled ≡ length (accepted (length dst.old) chunks.now) }
         ensures erased { result.accepted ≡ false

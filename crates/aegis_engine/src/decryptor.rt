@@ -7,6 +7,7 @@ ghost use Rattle.aegis_base.specs.declared.error.TheConstants.{MAX_AEAD_BYTES};
 ghost use Rattle.aegis_base.specs.Message.{Opens, ciphertext, tag as tag_of};
 ghost use Rattle.aegis_base.specs.Variant.{module_name};
 ghost use Rattle.aegis_base.specs.Run.{Continues, Decrypts, IsAccepted, IsTagged, Stands};
+ghost use Rattle.aegis_engine.specs.Chunk.{AnswersChunk, Appends};
 
 use crate::destination::{Checked, accepted_len, accepted_message, erase, erase_unless};
 use crate::run::Run;
@@ -57,26 +58,17 @@ impl<'a, S: LaneState, const TAG_BYTES: usize> Decryptor<'a, S, TAG_BYTES> {
     /// [`Error::MessageTooLong`] if the message would have more than [`MAX_AEAD_BYTES`]. After an error nothing has
     /// changed, and other chunks may follow.
     pub fn update(&mut self, chunk: &[u8]) -> Result<(), Error>
-        ensures same_reference { self.new.dst.ghost_name ≡ self.old.dst.ghost_name }
-        ensures same_place { self.new.dst.ref_ptr ≡ self.old.dst.ref_ptr }
-        ensures too_small { (result ≡ Err Error.OutputBufferTooSmall)
-            ↔ (length self.old.dst.now < filled self.old + length chunk.now) }
-        ensures too_long { (result ≡ Err Error.MessageTooLong)
-            ↔ ((filled self.old + length chunk.now ≤ length self.old.dst.now)
-            × (MAX_AEAD_BYTES < filled self.old + length chunk.now)) }
-        ensures accepted { IsOk result
-            ↔ ((filled self.old + length chunk.now ≤ length self.old.dst.now)
-            × (filled self.old + length chunk.now ≤ MAX_AEAD_BYTES)) }
+        ensures same_place { (self.new.dst.ghost_name ≡ self.old.dst.ghost_name)
+            × (self.new.dst.ref_ptr ≡ self.old.dst.ref_ptr) }
+        ensures answer { AnswersChunk (filled self.old + length chunk.now)
+            (length self.old.dst.now) result }
         ensures stands { Continues S.VARIANT
             (held self.old) (front self.old) (held self.new) (front self.new) }
         ensures ciphertext { OnOk result
             (Decrypts S.VARIANT (held self.old) (front self.old) chunk.now (front self.new)) }
         ensures filled { OnOk result (filled self.new ≡ filled self.old + length chunk.now) }
-        ensures room { length self.new.dst.now ≡ length self.old.dst.now }
-        ensures front { take (filled self.old) self.new.dst.now
-            ≡ take (filled self.old) self.old.dst.now }
-        ensures rest { (n : ℕ) → filled self.new ≤ n
-            → drop n self.new.dst.now ≡ drop n self.old.dst.now }
+        ensures appends { Appends self.old.dst.now (filled self.old)
+            self.new.dst.now (filled self.new) }
         ensures unchanged { OnErr result ((self.new.dst.now ≡ self.old.dst.now)
             × (held self.new ≡ held self.old)) }
     {
@@ -85,8 +77,8 @@ impl<'a, S: LaneState, const TAG_BYTES: usize> Decryptor<'a, S, TAG_BYTES> {
 
     // Returns whether the tag is right, and overwrites the message with zeros if it is not.
     fn check_tag(self, tag: &[u8; TAG_BYTES]) -> Checked<'a>
-        ensures same_reference { result.dst.ghost_name ≡ self.entry.dst.ghost_name }
-        ensures same_place { result.dst.ref_ptr ≡ self.entry.dst.ref_ptr }
+        ensures same_place { (result.dst.ghost_name ≡ self.entry.dst.ghost_name)
+            × (result.dst.ref_ptr ≡ self.entry.dst.ref_ptr) }
         ensures filled { result.filled ≡ filled self.entry }
         ensures within { result.filled ≤ length result.dst.now }
         ensures kept { result.accepted ≡ true → result.dst.now ≡ self.entry.dst.now }

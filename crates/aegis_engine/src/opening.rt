@@ -1,10 +1,11 @@
 //! Opening the chunks of a ciphertext into a destination, one after the other. The message so far is the start of the
 //! destination.
 
-ghost use Rattle.std.specs.Prelude.{◌≡◌, ℕ, ◌+◌, ◌<◌, ◌≤◌, ◌↔◌, IsOk, List, OnErr, OnOk, drop, length, take};
+ghost use Rattle.std.specs.Prelude.{◌≡◌, ℕ, ◌+◌, ◌≤◌, List, OnErr, OnOk, drop, length, take};
 ghost use Rattle.aegis_base.specs.Chunks.{accepted_after};
 ghost use Rattle.aegis_base.specs.Message.{ciphertext};
 ghost use Rattle.aegis_base.specs.Run.{Continues, Decrypts, Stands};
+ghost use Rattle.aegis_engine.specs.Chunk.{AnswersChunk, Appends, Fits};
 
 use crate::pass::Pass;
 use crate::run::Run;
@@ -15,16 +16,9 @@ impl<S: LaneState> Run<S> {
     /// the chunk has no room there, and otherwise [`Error::MessageTooLong`] if the message would have more than
     /// [`MAX_AEAD_BYTES`]. After an error nothing has changed.
     pub fn open_chunk(&mut self, dst: &mut [u8], chunk: &[u8]) -> Result<(), Error>
-        requires room { self.old.message_bytes ≤ length dst.old }
-        requires message_within { self.old.message_bytes ≤ MAX_AEAD_BYTES }
-        ensures too_small { (result ≡ Err Error.OutputBufferTooSmall)
-            ↔ (length dst.old < self.old.message_bytes + length chunk.now) }
-        ensures too_long { (result ≡ Err Error.MessageTooLong)
-            ↔ ((self.old.message_bytes + length chunk.now ≤ length dst.old)
-            × (MAX_AEAD_BYTES < self.old.message_bytes + length chunk.now)) }
-        ensures accepted { IsOk result
-            ↔ ((self.old.message_bytes + length chunk.now ≤ length dst.old)
-            × (self.old.message_bytes + length chunk.now ≤ MAX_AEAD_BYTES)) }
+        requires { Fits self.old.message_bytes (length dst.old) }
+        ensures answer { AnswersChunk (self.old.message_bytes + length chunk.now)
+            (length dst.old) result }
         ensures stands { Continues S.VARIANT self.old (take self.old.message_bytes dst.old)
             self.new (take self.new.message_bytes dst.new) }
         ensures ciphertext { OnOk result
@@ -32,12 +26,8 @@ impl<S: LaneState> Run<S> {
             (take self.new.message_bytes dst.new)) }
         ensures message_bytes { OnOk result
             (self.new.message_bytes ≡ self.old.message_bytes + length chunk.now) }
-        ensures grows { self.old.message_bytes ≤ self.new.message_bytes }
-        ensures within { self.new.message_bytes ≤ length dst.new }
-        ensures message_within { self.new.message_bytes ≤ MAX_AEAD_BYTES }
-        ensures length { length dst.new ≡ length dst.old }
-        ensures front { take self.old.message_bytes dst.new ≡ take self.old.message_bytes dst.old }
-        ensures rest { (n : ℕ) → self.new.message_bytes ≤ n → drop n dst.new ≡ drop n dst.old }
+        ensures fits { Fits self.new.message_bytes (length dst.new) }
+        ensures appends { Appends dst.old self.old.message_bytes dst.new self.new.message_bytes }
         ensures unchanged { OnErr result ((self.new ≡ self.old) × (dst.new ≡ dst.old)) }
     {
         let so_far = self.message_bytes() as usize;
@@ -52,8 +42,7 @@ impl<S: LaneState> Run<S> {
 
     /// Opens chunks in order. A chunk that `open_chunk` refuses is left out whole.
     pub fn open_all(&mut self, dst: &mut [u8], chunks: &[&[u8]])
-        requires room { self.old.message_bytes ≤ length dst.old }
-        requires message_within { self.old.message_bytes ≤ MAX_AEAD_BYTES }
+        requires { Fits self.old.message_bytes (length dst.old) }
         ensures stands { Continues S.VARIANT self.old (take self.old.message_bytes dst.old)
             self.new (take self.new.message_bytes dst.new) }
         ensures ciphertext { (key nonce ad : List ℕ)
@@ -63,8 +52,7 @@ impl<S: LaneState> Run<S> {
             (ciphertext S.VARIANT key nonce ad (take self.old.message_bytes dst.old)) chunks.now }
         ensures message_bytes { (kept : List ℕ) → length kept ≡ self.old.message_bytes
             → self.new.message_bytes ≡ length (accepted_after (length dst.old) kept chunks.now) }
-        ensures within { self.new.message_bytes ≤ length dst.new }
-        ensures message_within { self.new.message_bytes ≤ MAX_AEAD_BYTES }
+        ensures fits { Fits self.new.message_bytes (length dst.new) }
         ensures rest { (n : ℕ) → self.new.message_bytes ≤ n → drop n dst.new ≡ drop n dst.old }
     {
         for chunk in chunks {

@@ -11,7 +11,7 @@ use Rattle.aegis_pages.specs.Commits.{HasHonestHeader, IsHonest, IsOfAnother, Is
 use Rattle.aegis_pages.specs.Errors.{HasNoHeader}
 use Rattle.aegis_pages.specs.Headers.{IsHeader}
 use Rattle.aegis_pages.specs.Layouts.{Layout, journal_front}
-use Rattle.aegis_pages.specs.Reading.{layout_of}
+use Rattle.aegis_pages.specs.Reading.{HasHeader, layout_of}
 use Rattle.aegis_pages.specs.SealedPages.{IsFileUnder}
 use Rattle.aegis_pages.proofs.CommitFacts.{head_read}
 use Rattle.aegis_pages.proofs.HeaderFacts.{one_in_file}
@@ -90,7 +90,7 @@ if_some_at P xs o is found = subst (λ (o : Option (List ℕ)). IfSome o P) is f
 pub accepts_all : {W : Type 0} (of : W → Writes) (variant : Variant) (key k before now : List ℕ) (a b : Option (List ℕ)) (storage journal : Option Disk) (read : List ℕ)
     (sector : Option (List ℕ)) (header : Option FileHeader) (writes : Option W) (Accepted : Type 0)
     → IsLaneCount variant.lanes → k ≡ journal_key variant key → IfSome b (λ js. read ≡ js)
-    → IfSome header (λ h. IfSome a (IsHeader (layout_of variant key h) h.counter h.len)) → IfNone header (IfSome a (HasNoHeader variant key))
+    → IfSome header (λ h. HasHeader variant key h a) → IfNone header (IfSome a (HasNoHeader variant key))
     → IfSome sector (λ s. IfSome a (λ file. (512 ≤ length file) × (s ≡ part_at file 0 512))) → IfNone sector (IfSome a (λ file. length file < 512))
     → IfSome writes (λ ws. IsJournal k [] (of ws) read) → IfNone writes ((ws : Writes) → IsJournal k [] ws read → ⊥)
     → IfNone header (IsSome writes → Accepted)
@@ -114,7 +114,7 @@ accepts_all {W} of variant key k before now a b storage journal read sector head
     is_whole ws journal = subst (λ (l : List ℕ). IsJournal l [] ws it.content) is (subst (IsJournal k [] ws) content journal)
 
     cases : (sector : Option (List ℕ)) (header : Option FileHeader) (writes : Option W)
-        → IfSome header (λ h. IfSome a (IsHeader (layout_of variant key h) h.counter h.len)) → IfNone header (IfSome a (HasNoHeader variant key))
+        → IfSome header (λ h. HasHeader variant key h a) → IfNone header (IfSome a (HasNoHeader variant key))
         → IfSome sector (λ s. IfSome a (λ file. (512 ≤ length file) × (s ≡ part_at file 0 512))) → IfNone sector (IfSome a (λ file. length file < 512))
         → IfSome writes (λ ws. IsJournal k [] (of ws) read) → IfNone writes ((ws : Writes) → IsJournal k [] ws read → ⊥)
         → IfNone header (IsSome writes → Accepted)
@@ -126,15 +126,15 @@ accepts_all {W} of variant key k before now a b storage journal read sector head
         absurd (if_some_at (HasNoHeader variant key) it.file a it.file_is none batch.layout own_header.0 own_header.1 batch.variant_is batch.key_is own_header.2)
     cases sector None (Some ws) found none first short whole torn lost front own = lost refl
     cases sector (Some h) None found none first short whole torn lost front own =
-        let header_is = if_some_at (IsHeader (layout_of variant key h) h.counter h.len) it.file a it.file_is found in
+        let header_is = if_some_at (IsHeader (layout_of variant key h) h.counter h.len) it.file a it.file_is found.is in
         let layout_is = same_layout variant key before now storage journal batch a b it count (not_whole torn) (layout_of variant key h) h.counter h.len refl refl header_is in
         front (own_front (journal_front (layout_of variant key h)) read (subst (λ (l : Layout). HasFront (journal_front l) read) layout_is (subst (HasFront (journal_front batch.layout)) (sym content) it.front)))
     cases None (Some h) (Some ws) found none first short whole torn lost front own =
-        let header_is = if_some_at (IsHeader (layout_of variant key h) h.counter h.len) it.file a it.file_is found in
+        let header_is = if_some_at (IsHeader (layout_of variant key h) h.counter h.len) it.file a it.file_is found.is in
         let long = header_is.whole in
         let low : length it.file < 512 = if_some_at (λ file. length file < 512) it.file a it.file_is short in
         absurd (omega (arith, low, long))
     cases (Some s) (Some h) (Some ws) found none first short whole torn lost front own =
-        let header_is = if_some_at (IsHeader (layout_of variant key h) h.counter h.len) it.file a it.file_is found in
+        let header_is = if_some_at (IsHeader (layout_of variant key h) h.counter h.len) it.file a it.file_is found.is in
         let read_at = if_some_at (λ file. (512 ≤ length file) × (s ≡ part_at file 0 512)) it.file a it.file_is first in
         own refl (own_commit variant key before now storage journal batch a b it (layout_of variant key h) h.counter h.len s (of ws) refl refl header_is read_at.1 (is_whole (of ws) whole))

@@ -14,7 +14,7 @@ use Rattle.aegis_pages.specs.Errors.{HasNoHeader}
 use Rattle.aegis_pages.specs.Headers.{IsHeader}
 use Rattle.aegis_pages.specs.History.{AreCommits, Step, last_of}
 use Rattle.aegis_pages.specs.Layouts.{Layout, journal_front}
-use Rattle.aegis_pages.specs.Reading.{layout_of}
+use Rattle.aegis_pages.specs.Reading.{HasHeader, layout_of}
 use Rattle.aegis_pages.specs.declared.header.FileHeader.{FileHeader}
 use Rattle.aegis_pages.specs.OpenFile.{Has, HasCommitted, HasIn, HasText, IsCommitted, IsStoredAs, OpenFile, OpensAtOne}
 use Rattle.aegis_pages.specs.SealedPages.{ArePages, IsFileOf, IsFileUnder, IsSealed}
@@ -244,7 +244,7 @@ recovers_as variant key k file writes storage journal is r = subst (λ (l : List
 -- what was checked of a journal before it was made again or emptied
 pub fits_all : {W : Type 0} (of : W → Writes) (variant : Variant) (key k : List ℕ) (a b : Option (List ℕ)) (read : List ℕ) (sector : Option (List ℕ)) (header : Option FileHeader) (writes : Option W)
     → IsLaneCount variant.lanes → k ≡ journal_key variant key → IfSome b (λ js. read ≡ js)
-    → IfSome header (λ h. IfSome a (IsHeader (layout_of variant key h) h.counter h.len)) → IfNone header (IfSome a (HasNoHeader variant key))
+    → IfSome header (λ h. HasHeader variant key h a) → IfNone header (IfSome a (HasNoHeader variant key))
     → IfSome sector (λ s. IfSome a (λ file. (512 ≤ length file) × (s ≡ part_at file 0 512)))
     → IfSome writes (λ ws. IsJournal k [] (of ws) read) → IfNone writes ((ws : Writes) → IsJournal k [] ws read → ⊥)
     → (IsSome header → IfSome writes (λ ws. IsSome sector × IfSome sector (λ s. IsOfCommit (take (head_bytes variant) s) (of ws)))) → IfNone header (IsSome writes)
@@ -255,7 +255,7 @@ fits_all of variant key k a b read sector None (Some ws) count is same found non
     fits_known variant key a b read (HasNoHeader variant key) none same
     (λ file no. fits_lost variant key file read (of ws) no (subst (λ (l : List ℕ). IsJournal l [] (of ws) read) is whole))
 fits_all of variant key k a b read sector (Some h) None count is same found none first whole torn of_commit some another =
-    fits_known variant key a b read (IsHeader (layout_of variant key h) h.counter h.len) found same
+    fits_known variant key a b read (IsHeader (layout_of variant key h) h.counter h.len) found.is same
     (λ file header. fits_torn variant key file read h count header (λ ws journal. torn ws (subst (λ (l : List ℕ). IsJournal l [] ws read) (sym is) journal)) another)
 fits_all of variant key k a b read None (Some h) (Some ws) count is same found none first whole torn of_commit some another = let no = (of_commit refl).0 in absurd (cc)
 fits_all of variant key k a b read (Some s) (Some h) (Some ws) count is same found none first whole torn of_commit some another =

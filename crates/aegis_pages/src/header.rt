@@ -5,9 +5,9 @@ ghost use Rattle.std.specs.Int.{to_le_bytes, w64};
 ghost use Rattle.aegis_base.specs.Variant.{key_length};
 ghost use Rattle.aegis_storage.specs.Bytes.{part_at};
 ghost use Rattle.aegis_pages.specs.Errors.{HasNoHeader, IsReadError};
-ghost use Rattle.aegis_pages.specs.Headers.{IsHeader, IsSector, header_text};
+ghost use Rattle.aegis_pages.specs.Headers.{IsSector, header_text};
 ghost use Rattle.aegis_pages.specs.Layouts.{IsPageSize, Layout, OpensAt, box_bytes, nonce_bytes};
-ghost use Rattle.aegis_pages.specs.Reading.{layout_of};
+ghost use Rattle.aegis_pages.specs.Reading.{HasHeader, layout_of};
 
 use crate::error::PagesError;
 use crate::layout::{
@@ -145,10 +145,8 @@ pub fn read_header<S: Storage, L: LaneState, const KEY_BYTES: usize>(
     key: &[u8; KEY_BYTES],
 ) -> Result<Option<FileHeader>, PagesError>
     requires { KEY_BYTES ≡ key_length L.VARIANT.family }
-    ensures found { IfOk result (λ found. IfSome found (λ header. IfSome (S.bytes storage.now)
-        (IsHeader (layout_of L.VARIANT key.now header) header.counter header.len))) }
-    ensures size { IfOk result (λ found. IfSome found (λ header. IsPageSize header.page_bytes)) }
-    ensures within { IfOk result (λ found. IfSome found (λ header. header.len ≤ MAX_TEXT_BYTES)) }
+    ensures found { IfOk result (λ found. IfSome found (λ header.
+        HasHeader L.VARIANT key.now header (S.bytes storage.now))) }
     ensures none { IfOk result (λ found. IfNone found
         (IfSome (S.bytes storage.now) (HasNoHeader L.VARIANT key.now))) }
     ensures refused { IfErr result IsReadError }

@@ -5,9 +5,8 @@ ghost use Rattle.aegis_base.specs.Variant.{key_length};
 ghost use Rattle.aegis_storage.specs.Pending.{writes_of};
 ghost use Rattle.aegis_pages.specs.Commits.{Fits, IsHonest, IsLeftByCommit, IsOfAnother, IsOfCommit, KnownSame, RecoversText, RestsAtText, head_bytes, journal_key};
 ghost use Rattle.aegis_pages.specs.Errors.{IsLeftAlone, IsOpenRefusal};
-ghost use Rattle.aegis_pages.specs.Headers.{IsHeader};
 ghost use Rattle.aegis_pages.specs.Layouts.{IsPageSize, journal_front};
-ghost use Rattle.aegis_pages.specs.Reading.{layout_of};
+ghost use Rattle.aegis_pages.specs.Reading.{HasHeader, layout_of};
 
 use crate::error::PagesError;
 use crate::header::{FileHeader, read_header, read_sector};
@@ -147,10 +146,8 @@ pub fn recover_file<
     key: &[u8; KEY_BYTES],
 ) -> Result<FileHeader, PagesError>
     requires { KEY_BYTES ≡ key_length L.VARIANT.family }
-    ensures sound { IfOk result (λ header. IsPageSize header.page_bytes
-        × (header.len ≤ MAX_TEXT_BYTES)) }
-    ensures header { IfOk result (λ header. IfSome (S.bytes storage.new)
-        (IsHeader (layout_of L.VARIANT key.now header) header.counter header.len)) }
+    ensures header { IfOk result (λ header.
+        HasHeader L.VARIANT key.now header (S.bytes storage.new)) }
     ensures kept { OnOk result (J.bytes journal.old ≡ Some []
         → KnownSame (S.bytes storage.old) (S.bytes storage.new)) }
     ensures recovers { (before now : List ℕ)

@@ -77,10 +77,10 @@ open_chunks_spec 𝓤 𝓛 𝓜 𝓡 wired S U k n Rw LS LU key_fits fits LR CS 
     calls_at ! (framed 𝓤 𝓛.H 𝓜 𝓣) G (check_tag_met 𝓤 𝓛 𝓜 𝓡 (code.calls-aegis_engine::cipher::Cipher::check_chunks 𝓡.env wired) S U k n Rw LS LU key_fits fits LR CS CR gS dS gC dC gR dR gRC dRC mS mC mR mRC) y
     (and_then ! (get ! refl) (and_then ! (get ! refl) (and_then ! (get ! refl) (and_then ! (get ! refl) (and_then ! (get ! refl) (no_more !)))))) (λ v.
     use1 𝓛 (later (some (λ (r : SRow.Denot). ((t0 ⊛ t1 ⊛ t2 ⊛ t3 ⊛ t4 ⊛ ‵ (flft κ q) ⊛ others) ⊛ ‵ (SRow.own_val r (v ∷ []))) ⊛ some (λ (ws : Lasts Gn κs a). ‵ (lasts Gn κs a ws)
-    ⊛ (raw (fact 𝓤 (r.dst.ghost_name ≡ d.ghost_name)) ⊛ raw (fact 𝓤 (r.dst.ref_ptr ≡ d.ref_ptr)) ⊛ raw (fact 𝓤 (r.filled ≤ length r.dst.now)) ⊛ raw (fact 𝓤 (r.filled ≡ count'))
+    ⊛ (raw (fact 𝓤 ((r.dst.ghost_name ≡ d.ghost_name) × (r.dst.ref_ptr ≡ d.ref_ptr))) ⊛ raw (fact 𝓤 (r.filled ≤ length r.dst.now)) ⊛ raw (fact 𝓤 (r.filled ≡ count'))
     ⊛ raw (fact 𝓤 (r.accepted ≡ false → r.dst.now ≡ replicate r.filled 0 ++ drop_list r.filled r.dst.now)) ⊛ raw (fact 𝓤 (drop_list r.filled r.dst.now ≡ drop_list r.filled d.now))
     ⊛ raw (fact 𝓤 (r.accepted ≡ true → IsOpened (take r.filled r.dst.now))) ⊛ raw (fact 𝓤 ((m : List ℕ) → IsOpened m → r.accepted ≡ true)) ⊛ raw (fact 𝓤 ((m : List ℕ) → IsOpened m → take r.filled r.dst.now ≡ m))))))) (id⊢ 𝓤 (G.post y v)) $
-    await ! tt $ pick ! (λ r. split ! $ split ! $ move ! (2 ∷ []) $ pick ! (λ ws. split ! $ drop ! $ split ! $ heard ! _ (λ name. split ! $ heard ! _ (λ place. split ! $ heard ! _ (λ within. split ! $ heard ! _ (λ count. split ! $ heard ! _ (λ gone. split ! $ heard ! _ (λ rest. split ! $ heard ! _ (λ opened. split ! $ heard ! _ (λ found. heard ! _ (λ only.
+    await ! tt $ pick ! (λ r. split ! $ split ! $ move ! (2 ∷ []) $ pick ! (λ ws. split ! $ drop ! $ split ! $ heard ! _ (λ same. split ! $ heard ! _ (λ within. split ! $ heard ! _ (λ count. split ! $ heard ! _ (λ gone. split ! $ heard ! _ (λ rest. split ! $ heard ! _ (λ opened. split ! $ heard ! _ (λ found. heard ! _ (λ only.
     move ! (1 ∷ []) $ peeks ! SRow _ (shows 𝓛 SRow) r (v ∷ []) (λ is.
     lands_as ! refl refl (((checked_laws (record { mir = named 5; lft = κ })).lawful 𝓛).typed r _ is).0 $
     -- [the checked one; the tokens; the locals]
@@ -88,7 +88,7 @@ open_chunks_spec 𝓤 𝓛 𝓜 𝓡 wired S U k n Rw LS LU key_fits fits LR CS 
     move ! (0 ∷ 7 ∷ []) $ asks 𝓛 𝓜 𝓡 (named 5) κ q ! r v within gone $
     -- [what `accepted_message` asks; the others; the first, from the last of them on; the locals]
     calls_at ! (framed 𝓤 𝓛.H 𝓜 𝓣) (Call 𝓛 𝓜 𝓡) (accepted_message_met 𝓤 𝓛 𝓜 𝓡 (code.calls-aegis_engine::destination::accepted_message 𝓡.env wired)) (at 𝓛 𝓜 𝓡 (named 5) κ q r v) (and_then ! (get ! refl) (no_more !)) (λ u.
-    returned 𝓛 𝓜 𝓡 (named 5) κ q ! tt r v u name count (rest ∙ ap (λ (n : ℕ). drop_list n d.now) count) (λ o cases is'.
+    returned 𝓛 𝓜 𝓡 (named 5) κ q ! tt r v u same.0 count (rest ∙ ap (λ (n : ℕ). drop_list n d.now) count) (λ o cases is'.
     -- [the result; how it ends; the token; the other tokens; the locals]
     lands_as ! refl refl is'.0 $
     returns ! (look_at ! 0 refl) $ free_all ! refl $
@@ -98,7 +98,7 @@ open_chunks_spec 𝓤 𝓛 𝓜 𝓡 wired S U k n Rw LS LU key_fits fits LR CS 
     move ! (2 ∷ []) $ split ! $ move ! (0 ∷ 4 ∷ []) $ join ! $ move ! (4 ∷ 0 ∷ []) $ join ! $ move ! (4 ∷ 0 ∷ []) $ join ! $ move ! (4 ∷ 0 ∷ []) $ join ! $ move ! (4 ∷ 0 ∷ []) $ join ! $ move ! (4 ∷ 0 ∷ []) $ join ! $ keep ! (0 ∷ 2 ∷ 3 ∷ []) $ join ! $ frame ! $
     says_four ! (
       weaken o (λ x p. subst IsOpened (sym p.1) (opened p.0)) (λ e p. p.1) cases,
-      weaken o (λ x p. p.2 ∙ place) (λ e p. tt) cases,
+      weaken o (λ x p. p.2 ∙ same.1) (λ e p. tt) cases,
       (λ m is. accepted_ok o (weaken o (λ x p. p.0) (λ e p. p.0) cases) (found m is)),
       (λ m is. weaken o (λ x p. p.1 ∙ only m is) (λ e p. tt) cases),
-    ) $ done !)))))))))))))))))
+    ) $ done !))))))))))))))))

@@ -90,15 +90,15 @@ finalize_spec 𝓤 𝓛 𝓜 𝓡 wired S n Rw LS fits LR CS CR gS dS gC dC gR d
     calls_at ! (framed 𝓤 𝓛.H 𝓜 𝓣) G (check_tag_met 𝓤 𝓛 𝓜 𝓡 (code.calls-aegis_engine::decryptor::Decryptor::check_tag 𝓡.env wired) S n Rw LS fits LR CS CR gS dS gC dC gR dR gRC dRC mS mC mR mRC) y
     (and_then ! (get ! refl) (and_then ! (get ! refl) (no_more !))) (λ v.
     use1 𝓛 (later (some (λ (r : SRow.Denot). ((‵ (flft κ q) ⊛ others) ⊛ ‵ (SRow.own_val r (v ∷ []))) ⊛ some (λ (ws : Lasts Gn κs a). ‵ (lasts Gn κs a ws)
-    ⊛ (raw (fact 𝓤 (r.dst.ghost_name ≡ d.dst.ghost_name)) ⊛ raw (fact 𝓤 (r.dst.ref_ptr ≡ d.dst.ref_ptr)) ⊛ raw (fact 𝓤 (r.filled ≡ d.run.message_bytes)) ⊛ raw (fact 𝓤 (r.filled ≤ length r.dst.now)) ⊛ raw (fact 𝓤 (r.accepted ≡ true → r.dst.now ≡ d.dst.now))
+    ⊛ (raw (fact 𝓤 ((r.dst.ghost_name ≡ d.dst.ghost_name) × (r.dst.ref_ptr ≡ d.dst.ref_ptr))) ⊛ raw (fact 𝓤 (r.filled ≡ d.run.message_bytes)) ⊛ raw (fact 𝓤 (r.filled ≤ length r.dst.now)) ⊛ raw (fact 𝓤 (r.accepted ≡ true → r.dst.now ≡ d.dst.now))
     ⊛ raw (fact 𝓤 (r.accepted ≡ false → r.dst.now ≡ replicate r.filled 0 ++ drop_list r.filled r.dst.now)) ⊛ raw (fact 𝓤 (drop_list r.filled r.dst.now ≡ drop_list d.run.message_bytes d.dst.now)) ⊛ raw (fact 𝓤 (Tagged (r.accepted ≡ true))) ⊛ raw (fact 𝓤 (Found (r.accepted ≡ true)))))))) (id⊢ 𝓤 (G.post y v)) $
-    await ! tt $ pick ! (λ r. split ! $ split ! $ move ! (2 ∷ []) $ pick ! (λ ws. split ! $ drop ! $ split ! $ heard ! _ (λ name. split ! $ heard ! _ (λ place. split ! $ heard ! _ (λ count. split ! $ heard ! _ (λ within. split ! $ heard ! _ (λ kept. split ! $ heard ! _ (λ gone. split ! $ heard ! _ (λ rest. split ! $ heard ! _ (λ tagged. heard ! _ (λ found.
+    await ! tt $ pick ! (λ r. split ! $ split ! $ move ! (2 ∷ []) $ pick ! (λ ws. split ! $ drop ! $ split ! $ heard ! _ (λ same. split ! $ heard ! _ (λ count. split ! $ heard ! _ (λ within. split ! $ heard ! _ (λ kept. split ! $ heard ! _ (λ gone. split ! $ heard ! _ (λ rest. split ! $ heard ! _ (λ tagged. heard ! _ (λ found.
     move ! (1 ∷ []) $ peeks ! SRow _ (shows 𝓛 SRow) r (v ∷ []) (λ is.
     lands_as ! refl refl (((checked_laws (record { mir = named 0; lft = κ })).lawful 𝓛).typed r _ is).0 $
     -- [the checked one; the tokens; the locals]
     move ! (1 ∷ []) $ split ! $ move ! (0 ∷ 2 ∷ []) $ asks 𝓛 𝓜 𝓡 (named 0) κ q ! r v within gone $
     calls_at ! (framed 𝓤 𝓛.H 𝓜 𝓣) (Call 𝓛 𝓜 𝓡) (accepted_message_met 𝓤 𝓛 𝓜 𝓡 (code.calls-aegis_engine::destination::accepted_message 𝓡.env wired)) (at 𝓛 𝓜 𝓡 (named 0) κ q r v) (and_then ! (get ! refl) (no_more !)) (λ u.
-    returned 𝓛 𝓜 𝓡 (named 0) κ q ! tt r v u name count rest (λ o cases is'.
+    returned 𝓛 𝓜 𝓡 (named 0) κ q ! tt r v u same.0 count rest (λ o cases is'.
     -- [the result; how it ends; the token; the other tokens; the locals]
     lands_as ! refl refl is'.0 $
     returns ! (look_at ! 0 refl) $ free_all ! refl $
@@ -107,8 +107,8 @@ finalize_spec 𝓤 𝓛 𝓜 𝓡 wired S n Rw LS fits LR CS CR gS dS gC dC gR d
     nothing ! $ nothing ! $ fjoin ! $ nothing ! $ fjoin ! $ join ! $ move ! (2 ∷ []) $ split ! $ keep ! (0 ∷ 4 ∷ 2 ∷ 3 ∷ []) $ join ! $ join ! $ frame ! $
     says_four ! (
       weaken o (λ x p. p.1 ∙ ap (λ (w : ℕ × List ℕ). take w.0 w.1) (λ i. (count i, kept p.0 i))) (λ e p. p.1) cases,
-      weaken o (λ x p. p.2 ∙ place) (λ e p. tt) cases,
+      weaken o (λ x p. p.2 ∙ same.1) (λ e p. tt) cases,
       (λ key nonce ad stands. let same = tagged key nonce ad stands in ((λ ok. same.0 (ok_accepted o by_cases ok)), (λ is. accepted_ok o by_cases (same.1 is)))),
       (λ key nonce ad m stands opens. accepted_ok o by_cases (found key nonce ad m stands opens)),
-    ) $ done !)))))))))))))))))
+    ) $ done !))))))))))))))))
     z.0.4.1.0 ((shr_Lawful 𝓛 (named 1) κs.1.0 (ArrayAt u8 (param 1 N))).typed a.1.0 z.0.4.1.0 are.1.0)) z.0.4.0 (((laws (named_lft 5 0 tt κs)).lawful 𝓛).typed a.0 z.0.4.0 are.0))

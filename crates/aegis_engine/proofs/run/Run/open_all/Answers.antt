@@ -11,8 +11,7 @@ use Rattle.aegis_engine.proofs.run.Run.open_all.Goals as goal
 
 pub loop-chunk-init : goal.loop-chunk-init
 loop-chunk-init g c = record {
-  within = c.requires.room;
-  message_within = c.requires.message_within;
+  fits = c.requires;
   long = refl;
   stands = λ key nonce ad stands. stands;
   sealed = λ key nonce ad stands. sym (accepted-none _ _ c.args.chunks.now);
@@ -27,25 +26,24 @@ loop-chunk-preserved g c =
     let room = length c.args.dst.now in let here = length c.loop-chunk.dst in let w = c.loop-chunk.self.message_bytes in
     let first = take c.args.self.now.message_bytes c.args.dst.now in
     record {
-      within = omega (arith, said.within, said.length, before.long);
-      message_within = said.message_within;
-      long = said.length ∙ before.long;
+      fits = said.fits;
+      long = said.appends.room ∙ before.long;
       stands = λ key nonce ad stands. said.stands key nonce ad (before.stands key nonce ad stands);
       sealed = λ key nonce ad stands.
           let from = accepted_after room (ciphertext V key nonce ad first) in
           let front = take w c.loop-chunk.dst in
           let is = before.sealed key nonce ad stands in
           let long : length (from (take i chunks)) ≡ w =
-          sym (ap length is) ∙ length-ciphertext V (lane_before V key nonce ad) front ∙ length-take-le w c.loop-chunk.dst (omega (arith, before.within, before.long)) in
-          kept-by r room w here (from (take i chunks)) (ciphertext V key nonce ad (take c.open_chunk.new.self.message_bytes c.open_chunk.new.dst)) chunk long before.long said.accepted
+          sym (ap length is) ∙ length-ciphertext V (lane_before V key nonce ad) front ∙ length-take-le w c.loop-chunk.dst before.fits.within in
+          kept-by r room w here (from (take i chunks)) (ciphertext V key nonce ad (take c.open_chunk.new.self.message_bytes c.open_chunk.new.dst)) chunk long before.long said.answer.accepted
           (on-ok r said.ciphertext (λ e. e key nonce ad (before.stands key nonce ad stands) ∙ ap (λ (kept : List ℕ). kept ++ chunk) is))
           (on-err r said.unchanged (λ same. ap (λ (p : Held × List ℕ). ciphertext V key nonce ad (take p.0.message_bytes p.1)) (λ j. (same.0 j, same.1 j)) ∙ is))
           ∙ sym (accepted-more room (ciphertext V key nonce ad first) chunks i c.loop-chunk-test.true);
       count = λ kept long.
-          counted-by r room w here c.open_chunk.new.self.message_bytes (accepted_after room kept (take i chunks)) chunk (sym (before.count kept long)) before.long said.accepted
+          counted-by r room w here c.open_chunk.new.self.message_bytes (accepted_after room kept (take i chunks)) chunk (sym (before.count kept long)) before.long said.answer.accepted
           said.message_bytes (on-err r said.unchanged (λ same. ap (λ (h : Held). h.message_bytes) same.0))
           ∙ ap length (sym (accepted-more room kept chunks i c.loop-chunk-test.true));
-      rest = λ n low. said.rest n low ∙ before.rest n (omega (arith, said.grows, low));
+      rest = λ n low. said.appends.rest n low ∙ before.rest n (omega (arith, said.appends.grows, low));
     }
 
 -- What `search` does not find.

@@ -1,8 +1,8 @@
 use Rattle.std.proofs.Common.{◌≡◌, ℕ, ◌≤◌, List, drop, length, take}
 use Rattle.aegis_base.specs.Chunks.{accepted_after}
-use Rattle.aegis_base.specs.declared.error.TheConstants.{MAX_AEAD_BYTES}
 use Rattle.aegis_base.specs.Message.{ciphertext}
 use Rattle.aegis_base.specs.Run.{Continues, Stands}
+use Rattle.aegis_engine.specs.Chunk.{Fits}
 use Rattle.aegis_engine.proofs.run.Run.open_all.Given as goal
 
 abbrev pub invariant-loop-chunk : goal.invariant-loop-chunk
@@ -12,8 +12,7 @@ invariant-loop-chunk g l =
     let before = take l.initial.self.message_bytes l.initial.dst in
     let front = take l.self.message_bytes l.dst in
     record {
-      within : l.self.message_bytes ≤ length l.initial.dst;
-      message_within : l.self.message_bytes ≤ MAX_AEAD_BYTES;
+      fits : Fits l.self.message_bytes (length l.dst);
       long : length l.dst ≡ length l.initial.dst;
       stands : Continues V old before l.self front;
       sealed : (key nonce ad : List ℕ) → Stands V old key nonce ad before

@@ -11,7 +11,7 @@ use Rattle.aegis_pages.proofs.pages.Pages.open.Goals as goal
 pub invariant_of-result : goal.invariant_of-result
 invariant_of-result g c =
     rw c.new-layout.ensures
-    (c.in-Ok.ensures ∙ ap (λ (k : ℕ). c.in_ok-header.header.page_bytes + (k + 32)) c.requires, c.new.ensures.size, c.in_ok-header.ensures.sound.1, c.in_ok-header.ensures.sound.1, g.met.L.LaneState.one_two_or_four)
+    (c.in-Ok.ensures ∙ ap (λ (k : ℕ). c.in_ok-header.header.page_bytes + (k + 32)) c.requires, c.new.ensures.size, c.in_ok-header.ensures.header.len, c.in_ok-header.ensures.header.len, g.met.L.LaneState.one_two_or_four)
 
 pub returns-clause-text : goal.returns-clause-text
 unfolding HasText
@@ -20,7 +20,7 @@ returns-clause-text g c empty =
     subst (λ (l : Layout). IfSome (g.S.Storage.bytes c.args.storage) (λ file. (text : List ℕ) → IsFileOf g.L.LaneState.VARIANT c.args.key.now text file
     → HasIn l c.in_ok-header.header.counter c.in_ok-header.header.len c.in_ok-header.header.len c.new.result.entries false text (g.S.Storage.bytes c.recover_file.new.storage))) (sym c.new-layout.ensures)
     (opens_held (layout_of g.L.LaneState.VARIANT c.args.key.now header) header.counter header.len c.new.result.entries _ _ g.met.L.LaneState.one_two_or_four c.new.ensures.none
-    c.in_ok-header.ensures.header (c.in_ok-header.ensures.kept empty))
+    c.in_ok-header.ensures.header.is (c.in_ok-header.ensures.kept empty))
 
 pub returns-clause-recovered : goal.returns-clause-recovered
 returns-clause-recovered g c before now batch honest =
@@ -37,7 +37,7 @@ returns-clause-recovered g c before now batch honest =
       broken = false;
     }) before now) (sym c.new-layout.ensures)
     (opens_at_one (layout_of g.L.LaneState.VARIANT c.args.key.now header) header.counter header.len c.new.result.entries _ _ _ before now g.met.L.LaneState.one_two_or_four c.new.ensures.none
-    c.in_ok-header.ensures.header (g.met.S.Storage.possible c.recover_file.new.storage) (c.in_ok-header.ensures.rests before now batch honest))
+    c.in_ok-header.ensures.header.is (g.met.S.Storage.possible c.recover_file.new.storage) (c.in_ok-header.ensures.rests before now batch honest))
 
 pub returns-in_err-header-clause-accepts : goal.returns-in_err-header-clause-accepts
 returns-in_err-header-clause-accepts g c left =
