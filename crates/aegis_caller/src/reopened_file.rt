@@ -1,8 +1,9 @@
-//! A sealed file that is opened again after a commit, whatever that returned, and whatever a crash then left.
+//! A sealed file that is opened again: after a commit that returned `Ok`, and whatever a commit and a crash left.
 
-ghost use Rattle.std.specs.Prelude.{◌≢◌, Err, IfOk, IsSome};
+ghost use Rattle.std.specs.Prelude.{◌≡◌, ◌≢◌, Err, IfOk, IsSome, List, ℕ};
 ghost use Rattle.aegis_base.specs.Variant.{Aegis256};
 ghost use Rattle.aegis_pages.specs.Commits.{IsLeftByCommit};
+ghost use Rattle.aegis_pages.specs.OpenFile.{AreCommitted, HasCommitted, HasText};
 
 use aegis_pages::{Nonces, PagesError, SealedPages};
 use aegis_storage::Storage;
@@ -47,4 +48,35 @@ pub fn reopened_or_asked<
         Err(PagesError::Header) => Ok(None),
         Err(error) => Err(error),
     }
+}
+
+/// Commits the changes, and gives the storages up. They are those of a file that has this text.
+pub fn saved<S: Storage + Drop, J: Storage + Drop, N: Nonces + Drop, A: Allocator + Copy>(
+    pages: SealedPages<S, J, N, A>,
+    key: &[u8; 32],
+) -> Result<(S, J), PagesError>
+    requires variant { pages.layout.variant ≡ Aegis256 }
+    requires key { pages.layout.key ≡ key.now }
+    ensures { IfOk result (λ storages. (before now : List ℕ) → HasCommitted pages before
+        → HasText pages now
+        → AreCommitted Aegis256 key.now (S.disk storages.0) (J.disk storages.1) now) }
+{
+    let mut pages = pages;
+    pages.commit()?;
+    Ok(pages.into_storages())
+}
+
+/// Opens what [`saved`] has given up. The file has the text that was saved, and the next commit begins there.
+pub fn restored<S: Storage + Drop, J: Storage + Drop, N: Nonces + Drop, A: Allocator + Copy>(
+    alloc: A,
+    storages: (S, J),
+    nonces: N,
+    key: &[u8; 32],
+) -> Result<SealedPages<S, J, N, A>, PagesError>
+    ensures { IfOk result (λ pages. (text : List ℕ)
+        → AreCommitted Aegis256 key.now (S.disk storages.0) (J.disk storages.1) text
+        → HasText pages text × HasCommitted pages text) }
+{
+    let (storage, journal) = storages;
+    SealedPages::open(alloc, storage, journal, nonces, key)
 }

@@ -9,14 +9,14 @@ use Rattle.aegis_storage.proofs.Disks.{readable_certain}
 use Rattle.aegis_storage.proofs.Fronts.{crashed_front, empty_front}
 use Rattle.aegis_storage.proofs.Journals.{crashed_recovers, empty_is_none, one_journal, rest_recovers}
 use Rattle.aegis_pages.specs.Changed.{Texts, text_at}
-use Rattle.aegis_pages.specs.Commits.{Fits, IsOfCommit, KnownSame, IsOfAnother, RecoversText, RestsAtText, head_bytes, head_of, journal_key}
+use Rattle.aegis_pages.specs.Commits.{Fits, IsHonest, IsOfCommit, KnownSame, IsOfAnother, RecoversText, RestsAtText, head_bytes, head_of, journal_key}
 use Rattle.aegis_pages.specs.Errors.{HasNoHeader}
 use Rattle.aegis_pages.specs.Headers.{IsHeader}
 use Rattle.aegis_pages.specs.History.{AreCommits, Step, last_of}
 use Rattle.aegis_pages.specs.Layouts.{Layout, journal_front}
 use Rattle.aegis_pages.specs.Reading.{HasHeader, layout_of}
 use Rattle.aegis_pages.specs.declared.header.FileHeader.{FileHeader}
-use Rattle.aegis_pages.specs.OpenFile.{Has, HasCommitted, HasIn, HasText, IsCommitted, IsStoredAs, OpenFile, OpensAtOne}
+use Rattle.aegis_pages.specs.OpenFile.{AreCommitted, Has, HasCommitted, HasIn, HasText, IsCommitted, IsStoredAs, OpenFile, OpensAtOne}
 use Rattle.aegis_pages.specs.SealedPages.{ArePages, IsFileOf, IsFileUnder, IsSealed}
 use Rattle.aegis_pages.proofs.CommitFacts.{first_again, head_read, take_own}
 use Rattle.aegis_pages.proofs.HeaderFacts.{one_in_file}
@@ -151,6 +151,19 @@ committed_recovers layout counter disk journal before now has =
       new_head = subst (λ (l : List ℕ). IsOfCommit (head_of layout.variant l) ((0, itself) ∷ [])) (sym same) begins;
       front = empty_front (journal_front layout) journal has.rests.journal_is;
     }
+
+no_forgery : (key : List ℕ) (writes : Writes) (content : Option (List ℕ)) → content ≡ Some [] → IfSome content (IsNoForgery key [] writes)
+no_forgery key writes content is = subst (λ (o : Option (List ℕ)). IfSome o (IsNoForgery key [] writes)) (sym is) (λ found journal. absurd (empty_is_none key [] found journal))
+
+-- what opens to a text that is committed, by an empty journal
+pub committed_batch : (variant : Variant) (key : List ℕ) (storage journal : Option Disk) (content : Option (List ℕ)) (text : List ℕ) → IsPossible content journal → AreCommitted variant key storage journal text
+    → (batch : RecoversText variant key text text storage journal) × IfSome content (IsHonest batch)
+unfolding AreCommitted IsCommitted
+committed_batch variant key storage journal content text possible has =
+    let own : RecoversText has.0.variant has.0.key text text storage journal = committed_recovers has.0 has.1 storage journal text text has.4 in
+    let batch = subst (λ (l : List ℕ). RecoversText variant l text text storage journal) has.3
+    (subst (λ (v : Variant). RecoversText v has.0.key text text storage journal) has.2 own) in
+    (batch, no_forgery (journal_key variant key) batch.writes content (readable_certain content journal [] possible has.4.rests.journal_is))
 
 -- ---- a crash
 

@@ -1,5 +1,6 @@
 -- A file that is open.
 use Rattle.std.specs.Prelude.{◌≡◌, ℕ, ◌+◌, ◌-◌, ◌<◌, ◌⊎◌, Bool, false, true, List, Option, Some, None, min, slice_index, take, length, IfSome}
+use Rattle.aegis_base.specs.Variant.{Variant}
 use Rattle.aegis_storage.specs.Bytes.{part_at}
 use Rattle.aegis_storage.specs.Disk.{Disk, certain}
 use Rattle.aegis_storage.specs.Journal.{IsAtRest}
@@ -48,6 +49,11 @@ pub record Committed (layout : Layout) (counter : ℕ) (disk journal : Option Di
 -- the same as one word, which the proofs of callers take from one call to the next
 unfoldable pub IsCommitted : Layout → (counter : ℕ) → (disk journal : Option Disk) → (text : List ℕ) → Type 0
 IsCommitted layout counter disk journal text = Committed layout counter disk journal text
+
+-- a storage and a journal are those of a file under a variant and a key whose text is committed
+unfoldable pub AreCommitted : (variant : Variant) (key : List ℕ) (storage journal : Option Disk) (text : List ℕ) → Type 0
+AreCommitted variant key storage journal text =
+    (layout : Layout) × (counter : ℕ) × (layout.variant ≡ variant) × (layout.key ≡ key) × IsCommitted layout counter storage journal text
 
 -- the file's storage holds the text, and its journal is empty
 abbrev pub HasCommitted : OpenFile → List ℕ → Type 0

@@ -1,7 +1,7 @@
 //! A text that is read and written at any place, and committed.
 
 ghost use Rattle.std.specs.Prelude.{◌≡◌, ◌≢◌, ◌+◌, ◌-◌, ◌<◌, ◌≤◌, ◌^◌, ◌↔◌, [], Err, IfErr, IfOk, IfSome, IsTrue, List, None, OnErr, OnOk, Some, if◌then◌else◌, false, is_ok, length, max, min, replicate, true, ℕ};
-ghost use Rattle.aegis_base.specs.Variant.{key_length};
+ghost use Rattle.aegis_base.specs.Variant.{Variant, key_length};
 ghost use Rattle.aegis_storage.specs.Bytes.{overwritten, part_at, resized};
 ghost use Rattle.aegis_storage.specs.Disk.{Disk, certain};
 ghost use Rattle.aegis_pages.specs.Changed.{text_at};
@@ -10,7 +10,7 @@ ghost use Rattle.aegis_pages.specs.Commits.{Fits, IsHonest, IsLeftByCommit, Reco
 ghost use Rattle.aegis_pages.specs.Errors.{IsBeginError, IsCommitRefusal, IsCommitmentRefusal, IsCreateRefusal, IsOpenRefusal, IsReadRefusal, IsVerifyRefusal, IsWriteRefusal};
 ghost use Rattle.aegis_pages.specs.Headers.{IsHeader};
 ghost use Rattle.aegis_pages.specs.Layouts.{IsPageSize};
-ghost use Rattle.aegis_pages.specs.OpenFile.{BreaksOrKeeps, HasCommitted, HasText, IsCertain, IsKnown, IsStoredAs, IsUnchanged, OpensAtOne, Reads};
+ghost use Rattle.aegis_pages.specs.OpenFile.{AreCommitted, BreaksOrKeeps, HasCommitted, HasText, IsCertain, IsKnown, IsStoredAs, IsUnchanged, OpensAtOne, Reads};
 ghost use Rattle.aegis_pages.specs.Recovery.{RecoversOne};
 ghost use Rattle.aegis_pages.specs.SealedPages.{IsFileOf, KeepsOthers};
 
@@ -211,8 +211,8 @@ impl<
         key: &[u8; KEY_BYTES],
     ) -> Result<Self, PagesError>
         requires { KEY_BYTES ≡ key_length L.VARIANT.family }
-        ensures variant { IfOk result (λ pages. pages.layout.variant ≡ L.VARIANT) }
-        ensures key { IfOk result (λ pages. pages.layout.key ≡ key.now) }
+        ensures under { IfOk result (λ pages. (pages.layout.variant ≡ L.VARIANT)
+            × (pages.layout.key ≡ key.now)) }
         ensures header { IfOk result (λ pages. IfSome pages.bytes
             (IsHeader pages.layout pages.counter pages.stored)) }
         ensures text { IfOk result (λ pages. J.bytes journal ≡ Some []
@@ -222,6 +222,9 @@ impl<
             → (batch : RecoversText L.VARIANT key.now before now (S.disk storage) (J.disk journal))
             → IfSome (J.bytes journal) (IsHonest batch)
             → OpensAtOne pages before now) }
+        ensures committed { IfOk result (λ pages. (text : List ℕ)
+            → AreCommitted L.VARIANT key.now (S.disk storage) (J.disk journal) text
+            → HasText pages text × HasCommitted pages text) }
         ensures accepts { IsLeftByCommit L.VARIANT key.now (S.bytes storage) (J.bytes journal)
             (S.disk storage) (J.disk journal)
             → (result ≢ Err PagesError.Journal) × (result ≢ Err PagesError.Header) }
@@ -454,6 +457,9 @@ impl<
         ensures bytes { S.bytes result.0 ≡ self.bytes }
         ensures disk { S.disk result.0 ≡ self.disk }
         ensures journal { J.disk result.1 ≡ self.journal }
+        ensures committed { (variant : Variant) (key text : List ℕ)
+            → self.layout.variant ≡ variant → self.layout.key ≡ key → HasCommitted self text
+            → AreCommitted variant key (S.disk result.0) (J.disk result.1) text }
     {
         let Pages {
             alloc: _,

@@ -1,12 +1,16 @@
-use Rattle.std.proofs.Common.{◌+◌, ◌∙◌, Err, false, IfSome, List, ap, subst, sym, ℕ}
+use Rattle.std.proofs.Common.{◌+◌, ◌∙◌, ◌⊎◌, Err, false, IfSome, List, ap, inl, inr, subst, sym, ℕ}
 use Rattle.std.proofs.lemmas.Result.{err_from_is_err_and}
 use Rattle.aegis_pages.specs.Layouts.{Layout}
 use Rattle.aegis_pages.specs.OpenFile.{HasIn, HasText, OpensAtOne}
 use Rattle.aegis_pages.specs.Reading.{layout_of}
 use Rattle.aegis_pages.specs.SealedPages.{IsFileOf}
 use Rattle.aegis_pages.proofs.KnownFacts.{only_error}
-use Rattle.aegis_pages.proofs.RecoveryFacts.{opens_at_one, opens_held}
+use Rattle.aegis_pages.proofs.RecoveryFacts.{committed_batch, opens_at_one, opens_held}
 use Rattle.aegis_pages.proofs.pages.Pages.open.Goals as goal
+
+either : {A : Type 0} → A ⊎ A → A
+either (inl a) = a
+either (inr a) = a
 
 pub invariant_of-result : goal.invariant_of-result
 invariant_of-result g c =
@@ -38,6 +42,11 @@ returns-clause-recovered g c before now batch honest =
     }) before now) (sym c.new-layout.ensures)
     (opens_at_one (layout_of g.L.LaneState.VARIANT c.args.key.now header) header.counter header.len c.new.result.entries _ _ _ before now g.met.L.LaneState.one_two_or_four c.new.ensures.none
     c.in_ok-header.ensures.header.is (g.met.S.Storage.possible c.recover_file.new.storage) (c.in_ok-header.ensures.rests before now batch honest))
+
+pub returns-clause-committed : goal.returns-clause-committed
+returns-clause-committed g c text has =
+    let found = committed_batch g.L.LaneState.VARIANT c.args.key.now _ _ (g.J.Storage.bytes c.args.journal) text (g.met.J.Storage.possible c.args.journal) has in
+    either (returns-clause-recovered g c text text found.0 found.1)
 
 pub returns-in_err-header-clause-accepts : goal.returns-in_err-header-clause-accepts
 returns-in_err-header-clause-accepts g c left =
