@@ -80,3 +80,25 @@ pub fn restored<S: Storage + Drop, J: Storage + Drop, N: Nonces + Drop, A: Alloc
     let (storage, journal) = storages;
     SealedPages::open(alloc, storage, journal, nonces, key)
 }
+
+/// Commits the changes, and opens the file again: it has the same text, for certain.
+pub fn saved_and_restored<
+    S: Storage + Drop,
+    J: Storage + Drop,
+    N: Nonces + Drop,
+    A: Allocator + Copy,
+>(
+    alloc: A,
+    pages: SealedPages<S, J, N, A>,
+    nonces: N,
+    key: &[u8; 32],
+) -> Result<SealedPages<S, J, N, A>, PagesError>
+    requires variant { pages.layout.variant ≡ Aegis256 }
+    requires key { pages.layout.key ≡ key.now }
+    ensures { IfOk result (λ opened. (before now : List ℕ) → HasCommitted pages before
+        → HasText pages now → HasText opened now × HasCommitted opened now) }
+{
+    let storages = saved(pages, key)?;
+    let opened = restored(alloc, storages, nonces, key)?;
+    Ok(opened)
+}
