@@ -728,6 +728,8 @@ if "${CC:-gcc}" -shared -fPIC -O1 "$calls" -ldl -o calls.so 2> said; then
     says 'raced cannot be written'
     rm raced
 
+    # The least stack that a run may have: 128 KB, and what the environment and the command line take of it.
+    stack=$((128 + $(env | wc -c) / 1024 + 4))
     # run_at NUMBER COMMAND..: runs the command with its call of this number failing, or killed there, and sets `found`
     # to its status. Its standard output goes to the file `printed`. It is false if there is no such call.
     run_at() {
@@ -736,7 +738,10 @@ if "${CC:-gcc}" -shared -fPIC -O1 "$calls" -ldl -o calls.so 2> said; then
         rm -f noted
         found=0
         {
-            env LD_PRELOAD="$PWD/calls.so" CALLS="$PWD/noted" AT="$number" $how "$@" > printed 2> said || found=$?
+            (
+                ulimit -S -s $stack
+                exec env LD_PRELOAD="$PWD/calls.so" CALLS="$PWD/noted" AT="$number" $how "$@" > printed 2> said
+            ) || found=$?
         } 2> killed
         [ -e noted ] && grep -q '^here$' noted
     }

@@ -251,7 +251,6 @@ impl<A: Algorithm, I: RafIo, R: RafRng, J: RafIo> Raf<A, I, R, J> {
         if self.changes.is_empty() && self.size == self.stored {
             return Ok(());
         }
-        self.io.check_path()?;
         let counter = self.counter.checked_add(1).ok_or(Error::TooLong)?;
         let sector = recovery::read_sector(&mut self.io)?
             .ok_or(Error::Io(ErrorKind::UnexpectedEof.into()))?;
@@ -262,6 +261,8 @@ impl<A: Algorithm, I: RafIo, R: RafRng, J: RafIo> Raf<A, I, R, J> {
             prefix: [0; PREFIX_BYTES],
         };
         self.rng.fill(&mut seal.prefix)?;
+        // Not before: sealing may take long, and the file may be moved meanwhile.
+        self.io.check_path()?;
         self.make_room(&writes)?;
         self.journal.check_path()?;
         if self.journal.get_size()? != 0 {

@@ -243,7 +243,7 @@ impl<A: Algorithm, R: RafRng, J: RafIo> RafBuilder<A, R, J> {
 /// open elsewhere, since the journal is then that of a commit that is being written.
 fn check_no_journal(path: &Path) -> Result<()> {
     let mut journal = JournalFile::at(Some(journal_path(path)?));
-    if journal.get_size()? == 0 {
+    if matches!(journal.get_size(), Ok(0)) {
         return Ok(());
     }
     let mut io = FileIo::open(path).ok();

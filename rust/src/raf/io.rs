@@ -209,7 +209,7 @@ impl RafIo for NoJournal {
 /// - All others get none that the group lacks, since the group could use theirs. They may then be unable to complete a commit,
 ///   or, without the permission to write, to make one.
 /// - Where the owner or the group cannot be set, those of the file may have to wait until the journal's maker or root opens the
-///   file, if they have more permissions than all others.
+///   file, if they have more permissions than all others get.
 /// - ACLs, and users and groups that a user namespace hides, are not looked at: whoever may write the journal by these can make
 ///   a crash leave some of the changes of a commit.
 ///

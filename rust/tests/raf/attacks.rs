@@ -82,6 +82,53 @@ fn a_file_that_is_moved_while_it_is_open() {
     }
 }
 
+/// Random bytes. A file is moved before some draw.
+struct MovingRandom<'a> {
+    random: Random,
+    before: usize,
+    a_move: &'a Move,
+    folder: &'a Folder,
+}
+
+impl RafRng for MovingRandom<'_> {
+    fn fill(&mut self, buf: &mut [u8]) -> Result<()> {
+        self.before = self.before.wrapping_sub(1);
+        if self.before == 0 {
+            (self.a_move.done)(self.folder)?;
+        }
+        self.random.fill(buf)
+    }
+}
+
+/// The same while the pages of a commit are sealed: there is no journal yet.
+#[test]
+fn a_file_that_is_moved_while_it_is_sealed() {
+    for a_move in &MOVES {
+        for before in 1..=3 {
+            let folder = Folder::new("moved-sealed");
+            let path = folder.path("file");
+            with_text(&path, b"before");
+            let rng = MovingRandom {
+                random: Random(before as u64),
+                before,
+                a_move,
+                folder: &folder,
+            };
+            let builder = RafBuilder::new().rng(rng);
+            let mut file: Raf<Aegis256, _, _> = builder.open_file(&path, &KEY).unwrap();
+            file.write(b"after!", 0).unwrap();
+            let bytes = fs::read(&path).unwrap();
+            assert!(is_moved(&file.commit()), "{} {before}", a_move.name);
+            assert_eq!(fs::read(folder.path("other")).unwrap(), bytes);
+            assert!(!folder.path("file.journal").exists());
+            (a_move.undone)(&folder).unwrap();
+            file.commit().unwrap();
+            drop(file);
+            assert_eq!(read(&mut open(&path).unwrap()), b"after!");
+        }
+    }
+}
+
 #[test]
 fn a_file_that_is_removed_while_it_is_open() {
     let folder = Folder::new("removed");
@@ -136,12 +183,18 @@ fn a_file_that_is_created_over_one_in_a_commit() {
     let path = folder.path("file");
     with_text(&path, b"before");
     let file = open(&path).unwrap();
-    fs::write(folder.path("file.journal"), [1; 40]).unwrap();
-    for truncate in [false, true] {
+    let (journal, other) = (folder.path("file.journal"), folder.path("other"));
+    fs::write(&journal, [1; 40]).unwrap();
+    // What is wrong with the journal, as its second name, does not matter then.
+    for (truncate, has_second) in [(false, false), (true, false), (false, true), (true, true)] {
+        if has_second {
+            let _ = fs::hard_link(&journal, &other);
+        }
         let builder = RafBuilder::<Aegis256>::new().truncate(truncate);
         let created = builder.create_file(&path, &KEY);
         assert!(matches!(created, Err(Error::Locked)), "{created:?}");
     }
+    fs::remove_file(other).unwrap();
     drop(file);
     let created = RafBuilder::<Aegis256>::new().create_file(&path, &KEY);
     assert!(matches!(created, Err(Error::Journal)), "{created:?}");
