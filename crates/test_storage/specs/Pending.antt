@@ -1,5 +1,5 @@
 -- What a disk of the tests holds.
-use Rattle.std.specs.Prelude.{◌≡◌, ℕ, ◌+◌, ◌≤◌, ◌⊎◌, List, [], ◌∷◌, length, map}
+use Rattle.std.specs.Prelude.{ℕ, List, [], ◌∷◌, map}
 use Rattle.std.proofs.Common.{arith, inl, inr, refl}
 use Rattle.aegis_storage.specs.Disk.{AreParts, Change, Crashed, Disk, IsPartOfOne, IsPossible, applied}
 use Rattle.aegis_storage.specs.Disk as disk

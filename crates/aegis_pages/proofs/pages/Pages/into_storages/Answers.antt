@@ -1,5 +1,4 @@
-use Rattle.std.proofs.Common.{◌≡◌, List, Option, ap, subst, sym}
-use Rattle.aegis_base.specs.Variant.{Variant}
+use Rattle.std.proofs.Common.{Option, ap, subst, sym}
 use Rattle.aegis_storage.specs.Disk.{Disk}
 use Rattle.aegis_pages.specs.OpenFile.{AreCommitted, IsCommitted, OpenFile}
 use Rattle.aegis_pages.proofs.pages.Pages.into_storages.Goals as goal

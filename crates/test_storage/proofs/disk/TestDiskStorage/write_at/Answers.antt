@@ -1,4 +1,4 @@
-use Rattle.std.proofs.Common.{◌≡◌, ◌∙◌, List, OnOk, OnErr, Result, Ok, Err, ap, arith, inl, inr, length, ℕ}
+use Rattle.std.proofs.Common.{◌≡◌, ◌∙◌, List, OnOk, OnErr, Result, Ok, Err, ap, arith, inr, ℕ}
 use Rattle.aegis_storage.specs.Bytes.{overwritten}
 use Rattle.aegis_storage.specs.Disk.{applied}
 use Rattle.test_storage.specs.Pending.{bytes_of, changes_of}
