@@ -42,8 +42,9 @@ pub trait RafIo {
         Ok(())
     }
 
-    /// Returns the path of the journal, which is used if [`RafBuilder::journal`](super::RafBuilder::journal) sets no other. If
-    /// there is a file whose name it is without what follows the last dot, it is that of this file, as [`JournalFile`] says.
+    /// Returns the whole path of the journal, which is used if [`RafBuilder::journal`](super::RafBuilder::journal) sets no
+    /// other. If there is a file whose name it is without what follows the last dot, it is that of this file, as
+    /// [`JournalFile`] says.
     ///
     /// The default is none: a crash or an error in a commit may then leave some of its changes, or damage the file.
     fn journal_path(&self) -> Option<PathBuf> {
