@@ -237,8 +237,8 @@ impl<A: Algorithm, I: RafIo, R: RafRng, J: RafIo> Raf<A, I, R, J> {
     /// [`Error::Broken`], [`Error::Moved`], [`Error::TooLong`], [`Error::Journal`] if another file has the journal's name,
     /// [`Error::Io`] of a read, of a look at the file's path or at a size, of a size that the file cannot have, or of a place
     /// where there can be no journal, or an error of the source of random bytes: the changes are still in memory, and in the
-    /// file nothing but its size may have changed. After any other [`Error::Io`] the file is broken. Open it again, which with a journal
-    /// gives the text of before the changes or the one after them.
+    /// file nothing but its size may have changed. After any other [`Error::Io`] the file is broken. Open it again, which with
+    /// a journal gives the text of before the changes or the one after them.
     pub fn commit(&mut self) -> Result<()> {
         self.is_cut_short = true;
         self.commit_all()?;
