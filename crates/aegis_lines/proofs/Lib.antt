@@ -1,4 +1,1 @@
-mod KeyFacts
-mod PieceFacts
-mod RecordFacts
-mod RequestFacts
+mod Pieces

@@ -1,9 +1,3 @@
 pub mod Answer
-pub mod Command
-pub mod Fault
 pub mod Field
-pub mod Keys
-pub mod Record
-pub mod Request
 pub mod Table
-pub mod Variant

@@ -1,112 +1,107 @@
 -- The commands, the kinds of their fields, and the first fault of a line.
-use Rattle.std.specs.Prelude.{ℕ, ◌+◌, ◌==◌, ◌||◌, Bool, false, not, List, [], ◌∷◌, length, Option, Some, None, is_err, codes, if◌then◌else◌}
+use Rattle.std.specs.Prelude.{◌≡◌, ℕ, ◌+◌, ◌==◌, ◌&&◌, ◌||◌, nat_le, Bool, List, [], ◌∷◌, length, Option, Some, None, codes, if◌then◌else◌, is_some, leb}
+use Rattle.std.specs.List.{list_all}
 use Rattle.std.specs.Str.{bytes_eq}
+use Rattle.aegis.specs.RecordStream.{limit, records_length}
+use Rattle.aegis.specs.declared.record.record_cipher.TheConstants.{MAX_CONTEXT_BYTES}
+use Rattle.aegis.specs.declared.record.version.Version.TheVariants.{Second}
+use Rattle.aegis_base.specs.declared.error.TheConstants.{MAX_AEAD_BYTES}
+use Rattle.aegis_lines.specs.Field.{bytes_of, field_of, is_bytes, is_count, joined_of, messages_of, pieces_of, tag_length_in, variant_in, variant_named}
 use Rattle.aegis_lines.specs.declared.fault.Fault.{Fault}
 use Rattle.aegis_lines.specs.declared.fault.Fault.TheVariants as faults
-use Rattle.aegis_variants.specs.declared.variant.AnyVariant.{AnyVariant}
-use Rattle.aegis_lines.specs.Record.{have_record_stream, is_context, is_key, is_prefix, messages_in, messages_of}
-use Rattle.aegis_lines.specs.Field.{bytes_in, bytes_of, field_of, is_within_limit, joined_in, joined_of, keystream_length_in, tag_length_in, variant_in}
-use Rattle.aegis_lines.specs.Variant.{tag_length_named, variant_named}
+use Rattle.aegis_lines.specs.declared.table.Command.{Command}
+use Rattle.aegis_lines.specs.declared.table.Command.TheVariants as commands
+use Rattle.aegis_lines.specs.declared.table.Kind.{Kind}
+use Rattle.aegis_lines.specs.declared.table.Kind.TheVariants as kinds
 use Rattle.aegis_variants.specs.Variant.{key_length_of}
 
--- the commands
-pub data Name : Type 0 where
-  Round : Name
-  Seal : Name
-  Open : Name
-  Keystream : Name
-  Xor : Name
-  Mac : Name
-  SealRecords : Name
-  OpenRecords : Name
-
 -- the command with this name
-abbrev pub name_of : List ℕ → Option Name
-name_of field =
-    if bytes_eq field (codes "round") then Some Round
-    else if bytes_eq field (codes "seal") then Some Seal
-    else if bytes_eq field (codes "open") then Some Open
-    else if bytes_eq field (codes "stream") then Some Keystream
-    else if bytes_eq field (codes "xor") then Some Xor
-    else if bytes_eq field (codes "mac") then Some Mac
-    else if bytes_eq field (codes "sealrec") then Some SealRecords
-    else if bytes_eq field (codes "openrec") then Some OpenRecords
+unfoldable pub command_named : List ℕ → Option Command
+command_named field =
+    if bytes_eq field (codes "round") then Some commands.Round
+    else if bytes_eq field (codes "seal") then Some commands.Seal
+    else if bytes_eq field (codes "open") then Some commands.Open
+    else if bytes_eq field (codes "stream") then Some commands.Stream
+    else if bytes_eq field (codes "xor") then Some commands.Xor
+    else if bytes_eq field (codes "mac") then Some commands.Mac
+    else if bytes_eq field (codes "sealrec") then Some commands.SealRecords
+    else if bytes_eq field (codes "openrec") then Some commands.OpenRecords
     else None
-
--- The kind of a field: the name of a variant, the length of a tag, a number of bytes of keystream, or bytes. Bytes are
--- a block, a key or a nonce of the line's variant, associated data or pieces of a message within the limit of AEGIS, a
--- tag of the line's length, any bytes, or the key, the prefix, the context or the messages of a record stream.
-pub data Kind : Type 0 where
-  VariantName : Kind
-  TagLength : Kind
-  Count : Kind
-  Block : Kind
-  Key : Kind
-  Limited : Kind
-  Pieces : Kind
-  Tag : Kind
-  Bytes : Kind
-  RecordKey : Kind
-  Prefix : Kind
-  Context : Kind
-  Messages : Kind
 
 -- the fields after each command
-abbrev pub kinds_of : Name → List Kind
-kinds_of Round = Block ∷ Block ∷ []
-kinds_of Seal = VariantName ∷ TagLength ∷ Key ∷ Key ∷ Limited ∷ Pieces ∷ []
-kinds_of Open = VariantName ∷ TagLength ∷ Key ∷ Key ∷ Limited ∷ Pieces ∷ Tag ∷ []
-kinds_of Keystream = VariantName ∷ Key ∷ Key ∷ Count ∷ []
-kinds_of Xor = VariantName ∷ Key ∷ Key ∷ Bytes ∷ []
-kinds_of Mac = VariantName ∷ TagLength ∷ Key ∷ Key ∷ Pieces ∷ []
-kinds_of SealRecords = RecordKey ∷ Prefix ∷ Context ∷ Messages ∷ []
-kinds_of OpenRecords = RecordKey ∷ Prefix ∷ Context ∷ Bytes ∷ []
+abbrev pub kinds_of : Command → List Kind
+kinds_of commands.Round = kinds.Exactly 16 ∷ kinds.Exactly 16 ∷ []
+kinds_of commands.Seal = kinds.Variant ∷ kinds.TagLength ∷ kinds.Key ∷ kinds.Key ∷ kinds.AtMost MAX_AEAD_BYTES ∷ kinds.Pieces ∷ []
+kinds_of commands.Open = kinds.Variant ∷ kinds.TagLength ∷ kinds.Key ∷ kinds.Key ∷ kinds.AtMost MAX_AEAD_BYTES ∷ kinds.Pieces ∷ kinds.Tag ∷ []
+kinds_of commands.Stream = kinds.Variant ∷ kinds.Key ∷ kinds.Key ∷ kinds.Count ∷ []
+kinds_of commands.Xor = kinds.Variant ∷ kinds.Key ∷ kinds.Key ∷ kinds.Bytes ∷ []
+kinds_of commands.Mac = kinds.Variant ∷ kinds.TagLength ∷ kinds.Key ∷ kinds.Key ∷ kinds.Pieces ∷ []
+kinds_of commands.SealRecords = kinds.Exactly 32 ∷ kinds.Exactly 24 ∷ kinds.AtMost MAX_CONTEXT_BYTES ∷ kinds.Messages ∷ []
+kinds_of commands.OpenRecords = kinds.Exactly 32 ∷ kinds.Exactly 24 ∷ kinds.AtMost MAX_CONTEXT_BYTES ∷ kinds.Bytes ∷ []
 
--- whether a field names no variant
-abbrev pub has_variant_fault : Kind → List ℕ → Bool
-has_variant_fault VariantName field = is_err (variant_named field)
-has_variant_fault kind field = false
+-- a fault, unless this holds
+abbrev pub unless : Bool → Fault → Option Fault
+unless holds fault = if holds then None else Some fault
 
--- whether a field is no length of a tag
-abbrev pub has_tag_fault : Kind → List ℕ → Bool
-has_tag_fault TagLength field = is_err (tag_length_named field)
-has_tag_fault kind field = false
+-- the fault of bytes, if they are not, or if their length is not allowed
+abbrev pub bytes_fault : (are_bytes is_allowed : Bool) → Option Fault
+bytes_fault are_bytes is_allowed = if are_bytes then unless is_allowed faults.Length else Some faults.Hex
 
--- whether a field of bytes, or a piece, is neither `-` nor pairs of hexadecimal digits
-abbrev pub has_hex_fault : Kind → List ℕ → Bool
-has_hex_fault VariantName field = false
-has_hex_fault TagLength field = false
-has_hex_fault Count field = false
-has_hex_fault Pieces field = is_err (joined_in field)
-has_hex_fault Messages field = is_err (messages_in field)
-has_hex_fault kind field = is_err (bytes_in field)
+-- whether no message is longer than a record's may be
+abbrev pub are_messages : List (List ℕ) → Bool
+are_messages ms = list_all (λ m. leb (length m) (limit Second)) ms
 
--- whether a field has a length that is not allowed; `variant` and `n` are the variant and the length of a tag of the
--- line, and are not used if its command has no such field
-abbrev pub has_length_fault : AnyVariant → ℕ → Kind → List ℕ → Bool
-has_length_fault variant n Count field = is_err (keystream_length_in field)
-has_length_fault variant n Block field = not (length (bytes_of field) == 16)
-has_length_fault variant n Key field = not (length (bytes_of field) == key_length_of variant)
-has_length_fault variant n Limited field = not (is_within_limit (bytes_of field))
-has_length_fault variant n Pieces field = not (is_within_limit (joined_of field))
-has_length_fault variant n Tag field = not (length (bytes_of field) == n)
-has_length_fault variant n RecordKey field = not (is_key (bytes_of field))
-has_length_fault variant n Prefix field = not (is_prefix (bytes_of field))
-has_length_fault variant n Context field = not (is_context (bytes_of field))
-has_length_fault variant n Messages field = not (have_record_stream (messages_of field))
-has_length_fault variant n kind field = false
+-- whether they have a record stream: neither one of them nor the whole is too long
+abbrev pub have_records : List (List ℕ) → Bool
+have_records ms = are_messages ms && leb (records_length ms) MAX_AEAD_BYTES
 
--- whether some field has a fault, from field i on, whose kinds these are
-abbrev pub has_any : (Kind → List ℕ → Bool) → List Kind → ℕ → List (List ℕ) → Bool
-has_any has_fault [] i fields = false
-has_any has_fault (kind ∷ kinds) i fields = has_fault kind (field_of fields i) || has_any has_fault kinds (i + 1) fields
+-- the first fault of a field, in a line whose keys have `key` bytes, and whose tag has `tag`
+abbrev pub fault_of : (key tag : ℕ) → Kind → List ℕ → Option Fault
+fault_of key tag kinds.Variant field = unless (is_some (variant_named field)) faults.Variant
+fault_of key tag kinds.TagLength field = unless (bytes_eq field (codes "16") || bytes_eq field (codes "32")) faults.Tag
+fault_of key tag kinds.Count field = unless (is_count field) faults.Length
+fault_of key tag kinds.Bytes field = unless (is_bytes field) faults.Hex
+fault_of key tag (kinds.Exactly size) field = bytes_fault (is_bytes field) (length (bytes_of field) == size)
+fault_of key tag kinds.Key field = bytes_fault (is_bytes field) (length (bytes_of field) == key)
+fault_of key tag kinds.Tag field = bytes_fault (is_bytes field) (length (bytes_of field) == tag)
+fault_of key tag (kinds.AtMost size) field = bytes_fault (is_bytes field) (leb (length (bytes_of field)) size)
+fault_of key tag kinds.Pieces field = bytes_fault (list_all is_bytes (pieces_of field)) (leb (length (joined_of field)) MAX_AEAD_BYTES)
+fault_of key tag kinds.Messages field = bytes_fault (list_all is_bytes (pieces_of field)) (have_records (messages_of field))
+
+-- the place of a fault in the order in which they are looked for
+abbrev pub order_of : Fault → ℕ
+order_of faults.Command = 0
+order_of faults.Fields = 1
+order_of faults.Variant = 2
+order_of faults.Tag = 3
+order_of faults.Hex = 4
+order_of faults.Length = 5
+
+-- the one of two faults that is looked for first
+abbrev pub earlier : Option Fault → Option Fault → Option Fault
+earlier None b = b
+earlier (Some a) None = Some a
+earlier (Some a) (Some b) = if nat_le (order_of a) (order_of b) then Some a else Some b
+
+-- the first fault of the fields from field i on, which are to be of these kinds
+abbrev pub first_fault : (key tag : ℕ) → List Kind → ℕ → List (List ℕ) → Option Fault
+first_fault key tag [] i fields = None
+first_fault key tag (kind ∷ kinds) i fields = earlier (fault_of key tag kind (field_of fields i)) (first_fault key tag kinds (i + 1) fields)
 
 -- the first fault of a command's line; each is looked for in all fields before the next one
-abbrev pub fault_in : Name → List (List ℕ) → Option Fault
-fault_in name fields =
-    if not (length fields == length (kinds_of name) + 1) then Some faults.Fields
-    else if has_any has_variant_fault (kinds_of name) 1 fields then Some faults.Variant
-    else if has_any has_tag_fault (kinds_of name) 1 fields then Some faults.Tag
-    else if has_any has_hex_fault (kinds_of name) 1 fields then Some faults.Hex
-    else if has_any (has_length_fault (variant_in (field_of fields 1)) (tag_length_in (field_of fields 2))) (kinds_of name) 1 fields then Some faults.Length
-    else None
+abbrev pub fault_in : Command → List (List ℕ) → Option Fault
+fault_in command fields =
+    if length fields == length (kinds_of command) + 1
+    then first_fault (key_length_of (variant_in fields)) (tag_length_in fields) (kinds_of command) 1 fields
+    else Some faults.Fields
+
+-- no field from field i on has a fault
+abbrev pub AreFaultless : (key tag : ℕ) → List Kind → ℕ → List (List ℕ) → Type 0
+AreFaultless key tag [] i fields = Unit {0}
+AreFaultless key tag (kind ∷ kinds) i fields = (fault_of key tag kind (field_of fields i) ≡ None) × AreFaultless key tag kinds (i + 1) fields
+
+-- the line of a command has no fault
+abbrev pub IsFaultless : Command → List (List ℕ) → Type 0
+IsFaultless command fields =
+    (length fields ≡ length (kinds_of command) + 1)
+    × AreFaultless (key_length_of (variant_in fields)) (tag_length_in fields) (kinds_of command) 1 fields

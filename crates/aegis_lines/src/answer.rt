@@ -1,24 +1,28 @@
 //! Answers to lines.
 
-ghost use Rattle.std.specs.Prelude.{◌≡◌, ◌++◌, IfErr, IfOk, codes};
+ghost use Rattle.std.specs.Prelude.{◌≡◌, ◌+◌, ◌<◌, ◌≤◌, ◌++◌, IfErr, IfOk, None, length, codes};
+ghost use Rattle.aegis_base.specs.Chunks.{joined, texts};
 ghost use Rattle.aegis_base.specs.Lane.{IsTagLength};
 ghost use Rattle.aegis_base.specs.declared.error.Error.TheVariants.{OutOfMemory};
-ghost use Rattle.aegis_lines.specs.Answer.{IsAnswer, IsOpeningAnswer, IsReply, shown_pair};
-ghost use Rattle.aegis_lines.specs.Command.{request_from, tag_bytes_of, tag_size_of};
-ghost use Rattle.aegis_lines.specs.Field.{shown, together};
-ghost use Rattle.aegis_variants.specs.Cipher.{mac_by, sealed_by};
-ghost use Rattle.aegis_variants.specs.Variant.{tag_length_of};
+ghost use Rattle.aegis_base.specs.declared.error.TheConstants.{MAX_AEAD_BYTES};
+ghost use Rattle.aegis_lines.specs.Answer.{IsAnswer, IsOpeningAnswer, IsReply, bytes_at, shown_pair};
+ghost use Rattle.aegis_lines.specs.Field.{field_of, shown, tag_length_in, variant_in};
+ghost use Rattle.aegis_lines.specs.Table.{IsFaultless, command_named, fault_of};
+ghost use Rattle.aegis_lines.specs.declared.table.Command.TheVariants as commands;
+ghost use Rattle.aegis_lines.specs.declared.table.Kind.TheVariants as kinds;
+ghost use Rattle.aegis_variants.specs.Cipher.{key_of, nonce_of, sealed_by, variant_of};
+ghost use Rattle.aegis_variants.specs.Variant.{key_length_of};
 
-use crate::command::Command;
-use crate::fault::Refusal;
-use crate::fields::{push_bytes, text_for};
-use crate::limited::Limited;
-use crate::parse::parse;
-use crate::pieces::Pieces;
+use crate::fault::Fault;
+use crate::fields::{
+    array, bytes, decimal, field, pieces, push_bytes, split, tag_len_in, text_for, variant_in,
+};
 use crate::records::{answer_opening, answer_sealing};
-use crate::tag::AnyTag;
-use aegis::Error;
-use aegis_variants::{AnyCipher, TagLength};
+use crate::table::{Command, fault_in};
+use aegis::aes::AesBlock;
+use aegis::{Error, chunks_len};
+use aegis_base::slices;
+use aegis_variants::AnyCipher;
 use std::alloc::{AllocError, Allocator};
 
 /// Returns the answer to a line, without a line end. The line may have any bytes, and a line end in it is a byte like
@@ -27,52 +31,60 @@ pub fn answer_line<A: Allocator + Copy>(alloc: A, line: &[u8]) -> Result<Vec<u8,
     ensures answer { IfOk result (λ text. IsAnswer line.now text.items) }
     ensures refused { IfErr result (λ error. error ≡ OutOfMemory) }
 {
-    let answer = match parse(alloc, line) {
-        Ok(command) => reply(alloc, command),
-        Err(Refusal::Fault(fault)) => Vec::from_slice(alloc, fault.text()),
-        Err(Refusal::OutOfMemory) => Err(AllocError),
-    };
-    match answer {
+    match answer(alloc, line) {
         Ok(text) => Ok(text),
         Err(_) => Err(Error::OutOfMemory),
     }
 }
 
-// The answer to a command.
-fn reply<A: Allocator + Copy>(alloc: A, command: Command<A>) -> Result<Vec<u8, A>, AllocError>
-    ensures { IfOk result (λ text. IsReply (request_from command) text.items) }
+fn answer<A: Allocator + Copy>(alloc: A, line: &[u8]) -> Result<Vec<u8, A>, AllocError>
+    ensures { IfOk result (λ text. IsAnswer line.now text.items) }
+{
+    let fields = split(alloc, line, b' ')?;
+    let Some(command) = command(&fields) else {
+        return Vec::from_slice(alloc, Fault::Command.text());
+    };
+    match fault_in(alloc, command, &fields)? {
+        Some(fault) => Vec::from_slice(alloc, fault.text()),
+        None => reply(alloc, command, &fields),
+    }
+}
+
+// The command that a line's first field names.
+#[tactic(auto, unfolding(crate::specs::Table::command_named))]
+fn command(fields: &[&[u8]]) -> Option<Command>
+    ensures { result ≡ command_named (field_of (texts fields.now) 0) }
+{
+    Command::named(fields.first()?)
+}
+
+// The answer to a command's line without a fault.
+fn reply<A: Allocator + Copy>(
+    alloc: A,
+    command: Command,
+    fields: &[&[u8]],
+) -> Result<Vec<u8, A>, AllocError>
+    requires { IsFaultless command (texts fields.now) }
+    ensures { IfOk result (λ text. IsReply command (texts fields.now) text.items) }
 {
     match command {
-        Command::Round { block, key } => shown(alloc, &block.round(key).to_bytes()),
-        Command::Seal {
-            cipher,
-            tag_length,
-            associated_data,
-            message,
-        } => seal(alloc, cipher, tag_length, associated_data, message),
-        Command::Open {
-            cipher,
-            tag,
-            associated_data,
-            ciphertext,
-        } => open(alloc, cipher, tag, associated_data, ciphertext),
-        Command::Keystream { cipher, count } => {
-            let mut buffer = vec![in alloc; 0u8; count]?;
-            cipher.stream(&mut buffer);
-            shown(alloc, &buffer)
-        }
-        Command::Xor { cipher, message } => {
-            let mut buffer = message;
-            cipher.stream_xor_in_place(&mut buffer);
-            shown(alloc, &buffer)
-        }
-        Command::Mac {
-            cipher,
-            tag_length,
-            message,
-        } => mac(alloc, cipher, tag_length, message),
-        Command::SealRecords { keys, messages } => answer_sealing(alloc, &keys, &messages),
-        Command::OpenRecords { keys, bytes } => answer_opening(alloc, &keys, &bytes),
+        Command::Round => round(alloc, fields),
+        Command::Seal => match tag_len_in(fields) {
+            16 => seal::<A, 16>(alloc, fields),
+            _ => seal::<A, 32>(alloc, fields),
+        },
+        Command::Open => match tag_len_in(fields) {
+            16 => open::<A, 16>(alloc, fields),
+            _ => open::<A, 32>(alloc, fields),
+        },
+        Command::Stream => stream(alloc, fields),
+        Command::Xor => xor(alloc, fields),
+        Command::Mac => match tag_len_in(fields) {
+            16 => mac::<A, 16>(alloc, fields),
+            _ => mac::<A, 32>(alloc, fields),
+        },
+        Command::SealRecords => answer_sealing(alloc, fields),
+        Command::OpenRecords => answer_opening(alloc, fields),
     }
 }
 
@@ -100,73 +112,6 @@ fn shown_pair<A: Allocator + Copy>(
     Ok(text)
 }
 
-// The answer to `seal`.
-fn seal<A: Allocator + Copy>(
-    alloc: A,
-    cipher: AnyCipher,
-    tag_length: TagLength,
-    associated_data: Limited<A>,
-    message: Pieces<A>,
-) -> Result<Vec<u8, A>, AllocError>
-    ensures { IfOk result (λ text. text.items
-        ≡ shown_pair
-        (sealed_by cipher (tag_length_of tag_length) associated_data.bytes.items
-        (together message.pieces.items))) }
-{
-    let chunks = message.chunks(alloc)?;
-    let mut ciphertext = vec![in alloc; 0u8; message.len]?;
-    match tag_length {
-        TagLength::Short => {
-            let tag = cipher.seal_chunks::<16>(&associated_data.bytes, &chunks, &mut ciphertext);
-            shown_pair(alloc, &ciphertext, &tag)
-        }
-        TagLength::Long => {
-            let tag = cipher.seal_chunks::<32>(&associated_data.bytes, &chunks, &mut ciphertext);
-            shown_pair(alloc, &ciphertext, &tag)
-        }
-    }
-}
-
-// The answer to `open`.
-fn open<A: Allocator + Copy>(
-    alloc: A,
-    cipher: AnyCipher,
-    tag: AnyTag,
-    associated_data: Limited<A>,
-    ciphertext: Pieces<A>,
-) -> Result<Vec<u8, A>, AllocError>
-    ensures { IfOk result
-        (λ text. IsOpeningAnswer
-        (λ m. sealed_by cipher (tag_size_of tag) associated_data.bytes.items m
-        ≡ (together ciphertext.pieces.items, tag_bytes_of tag)) text.items) }
-{
-    match tag {
-        AnyTag::Short(tag) => open_by_tag(alloc, cipher, &tag, &associated_data, &ciphertext),
-        AnyTag::Long(tag) => open_by_tag(alloc, cipher, &tag, &associated_data, &ciphertext),
-    }
-}
-
-fn open_by_tag<A: Allocator + Copy, const TAG_BYTES: usize>(
-    alloc: A,
-    cipher: AnyCipher,
-    tag: &[u8; TAG_BYTES],
-    associated_data: &Limited<A>,
-    ciphertext: &Pieces<A>,
-) -> Result<Vec<u8, A>, AllocError>
-    requires { IsTagLength TAG_BYTES }
-    ensures { IfOk result
-        (λ text. IsOpeningAnswer
-        (λ m. sealed_by cipher TAG_BYTES associated_data.now.bytes.items m
-        ≡ (together ciphertext.now.pieces.items, tag.now)) text.items) }
-{
-    let chunks = ciphertext.chunks(alloc)?;
-    let mut buffer = vec![in alloc; 0u8; ciphertext.len]?;
-    let Ok(()) = cipher.open_chunks(&associated_data.bytes, &chunks, tag, &mut buffer) else {
-        return Vec::from_slice(alloc, b"invalid tag");
-    };
-    shown_message(alloc, &buffer)
-}
-
 // A message that was opened, as it is printed.
 fn shown_message<A: Allocator + Copy>(alloc: A, message: &[u8]) -> Result<Vec<u8, A>, AllocError>
     ensures { IfOk result (λ text. text.items ≡ codes "ok " ++ shown message.now) }
@@ -177,19 +122,168 @@ fn shown_message<A: Allocator + Copy>(alloc: A, message: &[u8]) -> Result<Vec<u8
     Ok(text)
 }
 
-// The answer to `mac`.
-fn mac<A: Allocator + Copy>(
+// The cipher of a line's variant, with the key of this field and the nonce of the next.
+fn cipher<A: Allocator + Copy>(
     alloc: A,
-    cipher: AnyCipher,
-    tag_length: TagLength,
-    message: Pieces<A>,
-) -> Result<Vec<u8, A>, AllocError>
-    ensures { IfOk result (λ text. text.items
-        ≡ shown (mac_by cipher (tag_length_of tag_length) (together message.pieces.items))) }
+    fields: &[&[u8]],
+    key: usize,
+) -> Result<AnyCipher, AllocError>
+    requires after_variant { 0 < key }
+    requires in_line { key + 1 < length fields.now }
+    requires key { fault_of (key_length_of (variant_in (texts fields.now))) 0 kinds.Key
+        (field_of (texts fields.now) key) ≡ None }
+    requires nonce { fault_of (key_length_of (variant_in (texts fields.now))) 0 kinds.Key
+        (field_of (texts fields.now) (key + 1)) ≡ None }
+    ensures variant { IfOk result (λ cipher. variant_of cipher ≡ variant_in (texts fields.now)) }
+    ensures key { IfOk result (λ cipher. key_of cipher ≡ bytes_at (texts fields.now) key) }
+    ensures nonce { IfOk result
+        (λ cipher. nonce_of cipher ≡ bytes_at (texts fields.now) (key + 1)) }
 {
-    let chunks = message.chunks(alloc)?;
-    match tag_length {
-        TagLength::Short => shown(alloc, &cipher.mac_chunks::<16>(&chunks)),
-        TagLength::Long => shown(alloc, &cipher.mac_chunks::<32>(&chunks)),
+    let variant = variant_in(fields);
+    let nonce = bytes(alloc, field(fields, key + 1))?;
+    let key = bytes(alloc, field(fields, key))?;
+    match AnyCipher::from_slices(variant, &key, &nonce) {
+        Some(cipher) => Ok(cipher),
+        None => unreachable!(),
     }
+}
+
+// The answer to `round B K`.
+fn round<A: Allocator + Copy>(alloc: A, fields: &[&[u8]]) -> Result<Vec<u8, A>, AllocError>
+    requires { IsFaultless commands.Round (texts fields.now) }
+    ensures { IfOk result (λ text. IsReply commands.Round (texts fields.now) text.items) }
+{
+    let block: [u8; 16] = array(alloc, field(fields, 1))?;
+    let key: [u8; 16] = array(alloc, field(fields, 2))?;
+    let round = AesBlock::from_bytes(&block).round(AesBlock::from_bytes(&key));
+    shown(alloc, &round.to_bytes())
+}
+
+// The answer to `seal V T K N A M`.
+fn seal<A: Allocator + Copy, const TAG_BYTES: usize>(
+    alloc: A,
+    fields: &[&[u8]],
+) -> Result<Vec<u8, A>, AllocError>
+    requires tag { IsTagLength TAG_BYTES }
+    requires named { tag_length_in (texts fields.now) ≡ TAG_BYTES }
+    requires faultless { IsFaultless commands.Seal (texts fields.now) }
+    ensures { IfOk result (λ text. IsReply commands.Seal (texts fields.now) text.items) }
+{
+    let cipher = cipher(alloc, fields, 3)?;
+    let associated_data = bytes(alloc, field(fields, 5))?;
+    let message = pieces(alloc, field(fields, 6))?;
+    seal_chunks::<A, TAG_BYTES>(alloc, &cipher, &associated_data, &slices(alloc, &message)?)
+}
+
+fn seal_chunks<A: Allocator + Copy, const TAG_BYTES: usize>(
+    alloc: A,
+    cipher: &AnyCipher,
+    associated_data: &[u8],
+    chunks: &[&[u8]],
+) -> Result<Vec<u8, A>, AllocError>
+    requires tag { IsTagLength TAG_BYTES }
+    requires associated_data { length associated_data.now ≤ MAX_AEAD_BYTES }
+    requires message { length (joined chunks.now) ≤ MAX_AEAD_BYTES }
+    ensures { IfOk result (λ text. text.items
+        ≡ shown_pair (sealed_by cipher.now TAG_BYTES associated_data.now (joined chunks.now))) }
+{
+    let mut ciphertext = vec![in alloc; 0u8; len_of(chunks)]?;
+    let tag = cipher.seal_chunks::<TAG_BYTES>(associated_data, chunks, &mut ciphertext);
+    shown_pair(alloc, &ciphertext, &tag)
+}
+
+// The answer to `open V T K N A C TAG`.
+fn open<A: Allocator + Copy, const TAG_BYTES: usize>(
+    alloc: A,
+    fields: &[&[u8]],
+) -> Result<Vec<u8, A>, AllocError>
+    requires tag { IsTagLength TAG_BYTES }
+    requires named { tag_length_in (texts fields.now) ≡ TAG_BYTES }
+    requires faultless { IsFaultless commands.Open (texts fields.now) }
+    ensures { IfOk result (λ text. IsReply commands.Open (texts fields.now) text.items) }
+{
+    let cipher = cipher(alloc, fields, 3)?;
+    let associated_data = bytes(alloc, field(fields, 5))?;
+    let ciphertext = pieces(alloc, field(fields, 6))?;
+    let tag: [u8; TAG_BYTES] = array(alloc, field(fields, 7))?;
+    open_chunks(
+        alloc,
+        &cipher,
+        &associated_data,
+        &slices(alloc, &ciphertext)?,
+        &tag,
+    )
+}
+
+fn open_chunks<A: Allocator + Copy, const TAG_BYTES: usize>(
+    alloc: A,
+    cipher: &AnyCipher,
+    associated_data: &[u8],
+    chunks: &[&[u8]],
+    tag: &[u8; TAG_BYTES],
+) -> Result<Vec<u8, A>, AllocError>
+    requires tag { IsTagLength TAG_BYTES }
+    requires associated_data { length associated_data.now ≤ MAX_AEAD_BYTES }
+    requires ciphertext { length (joined chunks.now) ≤ MAX_AEAD_BYTES }
+    ensures { IfOk result (λ text. IsOpeningAnswer
+        (λ m. sealed_by cipher.now TAG_BYTES associated_data.now m ≡ (joined chunks.now, tag.now))
+        text.items) }
+{
+    let mut message = vec![in alloc; 0u8; len_of(chunks)]?;
+    let Ok(()) = cipher.open_chunks(associated_data, chunks, tag, &mut message) else {
+        return Vec::from_slice(alloc, b"invalid tag");
+    };
+    shown_message(alloc, &message)
+}
+
+// How many bytes chunks have together.
+fn len_of(chunks: &[&[u8]]) -> usize
+    requires { length (joined chunks.now) ≤ MAX_AEAD_BYTES }
+    ensures { result ≡ length (joined chunks.now) }
+{
+    match chunks_len(chunks) {
+        Some(len) => len as usize,
+        None => unreachable!(),
+    }
+}
+
+// The answer to `stream V K N LEN`.
+#[tactic(auto, unfolding(crate::specs::Field::is_count))]
+fn stream<A: Allocator + Copy>(alloc: A, fields: &[&[u8]]) -> Result<Vec<u8, A>, AllocError>
+    requires { IsFaultless commands.Stream (texts fields.now) }
+    ensures { IfOk result (λ text. IsReply commands.Stream (texts fields.now) text.items) }
+{
+    let cipher = cipher(alloc, fields, 2)?;
+    let mut keystream = vec![in alloc; 0u8; decimal(field(fields, 4))]?;
+    cipher.stream(&mut keystream);
+    shown(alloc, &keystream)
+}
+
+// The answer to `xor V K N M`.
+fn xor<A: Allocator + Copy>(alloc: A, fields: &[&[u8]]) -> Result<Vec<u8, A>, AllocError>
+    requires { IsFaultless commands.Xor (texts fields.now) }
+    ensures { IfOk result (λ text. IsReply commands.Xor (texts fields.now) text.items) }
+{
+    let cipher = cipher(alloc, fields, 2)?;
+    let mut message = bytes(alloc, field(fields, 4))?;
+    cipher.stream_xor_in_place(&mut message);
+    shown(alloc, &message)
+}
+
+// The answer to `mac V T K N M`.
+fn mac<A: Allocator + Copy, const TAG_BYTES: usize>(
+    alloc: A,
+    fields: &[&[u8]],
+) -> Result<Vec<u8, A>, AllocError>
+    requires tag { IsTagLength TAG_BYTES }
+    requires named { tag_length_in (texts fields.now) ≡ TAG_BYTES }
+    requires faultless { IsFaultless commands.Mac (texts fields.now) }
+    ensures { IfOk result (λ text. IsReply commands.Mac (texts fields.now) text.items) }
+{
+    let cipher = cipher(alloc, fields, 3)?;
+    let message = pieces(alloc, field(fields, 5))?;
+    shown(
+        alloc,
+        &cipher.mac_chunks::<TAG_BYTES>(&slices(alloc, &message)?),
+    )
 }

@@ -1,13 +1,11 @@
 //! The faults of lines.
 
 ghost use Rattle.std.specs.Prelude.{◌≡◌};
-ghost use Rattle.aegis_lines.specs.Fault.{text_of_fault};
-ghost use Rattle.aegis_lines.specs.declared.fault.Refusal.TheVariants.{OutOfMemory};
-
-use std::alloc::{AllocError, AllocFailed};
+ghost use Rattle.aegis_lines.specs.Answer.{text_of_fault};
+ghost use Rattle.aegis_lines.specs.Table.{earlier, order_of};
 
 /// The faults of a line, in the order in which they are looked for: each in all fields of the line before the next one.
-#[derive(Clone, Copy, Debug, PartialEq, Eq)]
+#[derive(Clone, Copy, Debug)]
 pub enum Fault {
     /// The first field is not a command.
     Command,
@@ -37,27 +35,29 @@ impl Fault {
             Fault::Length => b"error length",
         }
     }
-}
 
-/// Why a line was not read: it has a fault, or memory ran out before one was found.
-#[derive(Clone, Copy, Debug, PartialEq, Eq)]
-pub enum Refusal {
-    Fault(Fault),
-    OutOfMemory,
-}
-
-impl From<AllocError> for Refusal {
-    ghost from_gives = { λ _ refusal. refusal ≡ OutOfMemory };
-
-    fn from(_error: AllocError) -> Refusal {
-        Refusal::OutOfMemory
+    // The place in the order in which faults are looked for.
+    fn order(self) -> u8
+        ensures { result ≡ order_of self }
+    {
+        match self {
+            Fault::Command => 0,
+            Fault::Fields => 1,
+            Fault::Variant => 2,
+            Fault::Tag => 3,
+            Fault::Hex => 4,
+            Fault::Length => 5,
+        }
     }
 }
 
-impl<T: Drop> From<AllocFailed<T>> for Refusal {
-    ghost from_gives = { λ _ refusal. refusal ≡ OutOfMemory };
-
-    fn from(_error: AllocFailed<T>) -> Refusal {
-        Refusal::OutOfMemory
+/// Returns the one of two faults that is looked for first.
+pub fn earlier(a: Option<Fault>, b: Option<Fault>) -> Option<Fault>
+    ensures { result ≡ earlier a b }
+{
+    match (a, b) {
+        (None, fault) => fault,
+        (Some(a), Some(b)) if a.order() > b.order() => Some(b),
+        (fault, _) => fault,
     }
 }

@@ -1,17 +1,11 @@
-//! Lines of test vectors and their answers: `parse` reads a line as a typed command, and `answer` executes it by the
-//! public calls of `aegis`.
+//! Lines of test vectors and their answers: `table` has the commands, the fields of each, and what the first fault of a
+//! line is, and `answer` answers a line without one by the public calls of `aegis`.
 #![tactic(auto)]
 
 mod answer;
-mod command;
 mod fault;
 mod fields;
-mod keys;
-mod limited;
-mod parse;
-mod pieces;
 mod records;
-mod tag;
-mod variant;
+mod table;
 
 pub use answer::answer_line;

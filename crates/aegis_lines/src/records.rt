@@ -1,120 +1,49 @@
 //! Record streams in lines.
 
-ghost use Rattle.std.specs.Prelude.{◌≡◌, ◌<◌, ◌≤◌, ◌++◌, IfOk, codes, length, map, true, vec_items, vec_len};
-ghost use Rattle.aegis_base.specs.declared.error.TheConstants.{MAX_AEAD_BYTES};
-ghost use Rattle.aegis_lines.specs.Fault.{Gives};
-ghost use Rattle.aegis_lines.specs.Field.{shown};
-ghost use Rattle.aegis_lines.specs.Record.{IsRefusal, IsRecordsAnswer, are_within, keys_with, messages_with, shown_messages};
-ghost use Rattle.aegis.specs.Records.{records};
-ghost use Rattle.aegis.specs.RecordStream.{records_length};
-ghost use Rattle.aegis.specs.declared.record.record_cipher.TheConstants.{MAX_CONTEXT_BYTES};
-ghost use Rattle.aegis.specs.declared.record.version.Version.TheVariants.{Second};
+ghost use Rattle.std.specs.Prelude.{◌≡◌, ◌++◌, IfOk, None, codes, length, map, vec_items};
+ghost use Rattle.aegis_base.specs.Chunks.{texts};
+ghost use Rattle.aegis_lines.specs.Answer.{IsRefusal, IsReply, shown_messages};
+ghost use Rattle.aegis_lines.specs.Table.{IsFaultless};
+ghost use Rattle.aegis_lines.specs.declared.table.Command.TheVariants as commands;
 
 use crate::answer::shown;
-use crate::fault::{Fault, Refusal};
-use crate::fields::{push_bytes, text_for};
-use aegis::record::{
-    MAX_CONTEXT_BYTES, MAX_MESSAGE_BYTES, RecordError, open_records, records_len, seal_records,
-};
+use crate::fields::{array, bytes, field, pieces, push_bytes, text_for};
+use aegis::record::{RecordError, open_records, seal_records};
 use aegis_base::slices;
 use std::alloc::{AllocError, Allocator};
 
-/// The key, the prefix and the context of a record stream, of lengths that are allowed.
-#[derive(Drop)]
-pub struct RecordKeys<A: Allocator> {
-    pub key: [u8; 32],
-    pub prefix: [u8; 24],
-    pub context: Vec<u8, A>,
-    ghost within_limit: { vec_len context ≤ MAX_CONTEXT_BYTES },
-}
-
-impl<A: Allocator> RecordKeys<A> {
-    /// Returns `Fault::Length` if the length of one of them is not allowed.
-    pub fn new(key: &[u8], prefix: &[u8], context: Vec<u8, A>) -> Result<RecordKeys<A>, Refusal>
-        ensures { Gives (λ keys. (keys.key, keys.prefix, keys.context.items)) result
-            (keys_with key.now prefix.now context.items) }
-    {
-        let Ok(key) = <[u8; 32]>::try_from(key) else {
-            return Err(Refusal::Fault(Fault::Length));
-        };
-        let Ok(prefix) = <[u8; 24]>::try_from(prefix) else {
-            return Err(Refusal::Fault(Fault::Length));
-        };
-        if context.len() > MAX_CONTEXT_BYTES {
-            return Err(Refusal::Fault(Fault::Length));
-        }
-        Ok(RecordKeys {
-            key,
-            prefix,
-            context,
-        })
-    }
-}
-
-/// The messages of a record stream: at least one.
-#[derive(Drop)]
-pub struct Messages<A: Allocator> {
-    pub messages: Vec<Vec<u8, A>, A>,
-    ghost some: { 0 < vec_len messages },
-    ghost within: { are_within (map vec_items (vec_items messages)) ≡ true },
-    ghost fits: { records_length (map vec_items (vec_items messages)) ≤ MAX_AEAD_BYTES },
-}
-
-impl<A: Allocator + Copy> Messages<A> {
-    /// Returns `Fault::Length` if a message or the whole stream is too long.
-    pub fn new(alloc: A, messages: Vec<Vec<u8, A>, A>) -> Result<Messages<A>, Refusal>
-        requires { 0 < vec_len messages }
-        ensures { Gives (λ some. map vec_items some.messages.items) result
-            (messages_with (map vec_items messages.items)) }
-    {
-        if !all_within(&messages) || records_len(&slices(alloc, &messages)?).is_none() {
-            return Err(Refusal::Fault(Fault::Length));
-        }
-        Ok(Messages { messages })
-    }
-}
-
-// Whether each message is within the limit of a record.
-fn all_within<A: Allocator>(messages: &[Vec<u8, A>]) -> bool
-    ensures { result ≡ are_within (map vec_items messages.now) }
-{
-    for message in messages {
-        if message.len() > MAX_MESSAGE_BYTES {
-            return false;
-        }
-    }
-    true
-}
-
-/// Returns the answer to `sealrec`.
+/// Returns the answer to `sealrec K P X M`.
 pub fn answer_sealing<A: Allocator + Copy>(
     alloc: A,
-    keys: &RecordKeys<A>,
-    messages: &Messages<A>,
+    fields: &[&[u8]],
 ) -> Result<Vec<u8, A>, AllocError>
-    ensures { IfOk result (λ text. text.items
-        ≡ shown (records Second keys.now.key keys.now.prefix keys.now.context.items
-        (map vec_items messages.now.messages.items))) }
+    requires { IsFaultless commands.SealRecords (texts fields.now) }
+    ensures { IfOk result (λ text. IsReply commands.SealRecords (texts fields.now) text.items) }
 {
-    let slices = slices(alloc, &messages.messages)?;
-    match seal_records(alloc, &keys.key, &keys.prefix, &keys.context, &slices) {
+    let key: [u8; 32] = array(alloc, field(fields, 1))?;
+    let prefix: [u8; 24] = array(alloc, field(fields, 2))?;
+    let context = bytes(alloc, field(fields, 3))?;
+    let messages = pieces(alloc, field(fields, 4))?;
+    match seal_records(alloc, &key, &prefix, &context, &slices(alloc, &messages)?) {
         Ok(stream) => shown(alloc, &stream),
         Err(_) => Err(AllocError),
     }
 }
 
-/// Returns the answer to `openrec`.
+/// Returns the answer to `openrec K P X B`.
 pub fn answer_opening<A: Allocator + Copy>(
     alloc: A,
-    keys: &RecordKeys<A>,
-    bytes: &[u8],
+    fields: &[&[u8]],
 ) -> Result<Vec<u8, A>, AllocError>
-    ensures { IfOk result
-        (λ text. IsRecordsAnswer keys.now.key keys.now.prefix keys.now.context.items bytes.now
-        text.items) }
+    requires { IsFaultless commands.OpenRecords (texts fields.now) }
+    ensures { IfOk result (λ text. IsReply commands.OpenRecords (texts fields.now) text.items) }
 {
-    match open_records(alloc, &keys.key, &keys.prefix, &keys.context, bytes) {
-        Ok(messages) => opened_text(alloc, &messages, bytes.len()),
+    let key: [u8; 32] = array(alloc, field(fields, 1))?;
+    let prefix: [u8; 24] = array(alloc, field(fields, 2))?;
+    let context = bytes(alloc, field(fields, 3))?;
+    let stream = bytes(alloc, field(fields, 4))?;
+    match open_records(alloc, &key, &prefix, &context, &stream) {
+        Ok(messages) => opened_text(alloc, &messages, stream.len()),
         Err(error) => refusal_text(alloc, error),
     }
 }
