@@ -1,55 +1,52 @@
 -- The length of a stream as a sum over its messages.
 use denote.Ref.{Bor}
-use Rattle.std.proofs.Common.{◌≡◌, ℕ, zero, suc, ◌+◌, ◌*◌, ◌<◌, ◌≤◌, List, [], ◌∷◌, ◌++◌, length, take, slice_index_or, add-one, refl, ap, arith}
+use Rattle.std.proofs.Common.{◌≡◌, ℕ, zero, suc, ◌+◌, ◌<◌, ◌≤◌, List, [], ◌∷◌, length, take, slice_index_or, add-one, refl, ap, sym, ◌∙◌, arith}
 use Rattle.std.specs.Int.{w32, to_le_bytes}
 use Rattle.std.proofs.lemmas.List.{length-append}
+use Rattle.aegis.specs.declared.record.position.RecordPosition.{RecordPosition}
 use Rattle.aegis.specs.declared.record.version.Version.{Version}
-use Rattle.aegis.specs.declared.record.version.Version.TheVariants.{First, Second}
 use Rattle.aegis_base.specs.Chunks.{texts}
-use Rattle.aegis.specs.Progress.{Begun, Progress, start_of}
-use Rattle.aegis.specs.Records.{sealed}
-use Rattle.aegis.specs.RecordStream.{IsSealing, IsRecordStream, Sealing, flag_before, frames, frames_length, header, records_length, total}
+use Rattle.aegis.specs.Progress.{Begun, Progress, sealing_in, start_of}
+use Rattle.aegis.specs.RecordStream.{IsSealing, IsRecordStream, Sealing, first_position, flag_before, frame, frames, frames_length, front, header, next_position, position_after, records_length, start_at}
+use Rattle.aegis.proofs.Frames.{header_size}
 use Rattle.aegis.proofs.Sealed.{sealed-is}
 
-header_long : (v : Version) → length (header v) ≡ 4
-header_long First = refl
-header_long Second = refl
+pub length-frame : (s : Sealing) → IsSealing s → (at : RecordPosition) (flag : ℕ) (m : List ℕ) → length (frame s at flag m) ≡ 37 + length m
+unfolding frame
+length-frame s is at flag m = omega (arith, is.long at flag m, length-append (to_le_bytes w32 (length m)) (s at flag m))
 
-length-frames : (sealing : Sealing) → IsSealing sealing → (v : Version) (last k o : ℕ) (ms : List (List ℕ))
-    → length (frames sealing v last k o ms) ≡ frames_length ms
+pub length-frames : (s : Sealing) → IsSealing s → (at : RecordPosition) (last : ℕ) (ms : List (List ℕ)) → length (frames s at last ms) ≡ frames_length ms
 unfolding frames
-length-frames sealing is v last k o [] = refl
-length-frames sealing is v last k o (m ∷ ms) =
-    let flag : ℕ = flag_before last ms in
-    let body : List ℕ = sealing v k o flag m in
-    let rest : List ℕ = frames sealing v last (k + 1) (o + length m) ms in
-    let more = length-frames sealing is v last (k + 1) (o + length m) ms in
-    let long : length body ≡ length m + 32 = is.long v k o flag m in
-    omega (arith, length-append (flag ∷ (to_le_bytes w32 (length m) ++ body)) rest, length-append (to_le_bytes w32 (length m)) body)
+length-frames s is at last [] = refl
+length-frames s is at last (m ∷ ms) =
+    omega (
+      arith,
+      length-frames s is (next_position at m) last ms,
+      length-frame s is at (flag_before last ms) m,
+      length-append (frame s at (flag_before last ms) m) (frames s (next_position at m) last ms),
+    )
 
-pub length-stream : (sealing : Sealing) → IsSealing sealing → (v : Version) (ms : List (List ℕ)) (bytes : List ℕ) → IsRecordStream sealing v ms bytes
+length-front : (s : Sealing) → IsSealing s → (v : Version) (last : ℕ) (ms : List (List ℕ)) → length (front s v last ms) ≡ records_length ms
+length-front s is v last ms =
+    omega (arith, header_size v, length-frames s is (first_position v) last ms, length-append (header v) (frames s (first_position v) last ms))
+
+pub length-stream : (s : Sealing) → IsSealing s → (v : Version) (ms : List (List ℕ)) (bytes : List ℕ) → IsRecordStream s v ms bytes
     → length bytes ≡ records_length ms
-length-stream sealing is v ms bytes p =
-    let all = ap length p.are in
-    let long = length-frames sealing is v 1 0 0 ms in
-    let four = header_long v in
-    omega (arith, length-append (header v) (frames sealing v 1 0 0 ms))
+length-stream s is v ms bytes p = ap length p.are ∙ length-front s is v 1 ms
 
-frames_length-total : (ms : List (List ℕ)) → frames_length ms ≡ 37 * length ms + total ms
-frames_length-total [] = refl
-frames_length-total (m ∷ ms) = let rest = frames_length-total ms in omega arith
+pub start_after : (at : RecordPosition) (ms : List (List ℕ)) → start_at (position_after at ms) ≡ start_at at + frames_length ms
+start_after at [] = omega arith
+start_after at (m ∷ ms) = let rest = start_after (next_position at m) ms in omega arith
 
-pub length-begun : (p : Progress) (key prefix context : List ℕ) (ms : List (List ℕ)) (bytes : List ℕ) → Begun p key prefix context ms bytes
-    → length bytes ≡ start_of p
+pub length-begun : (p : Progress) (ms : List (List ℕ)) (bytes : List ℕ) → Begun p ms bytes → length bytes ≡ start_of p
 unfolding Begun
-length-begun p key prefix context ms bytes b =
-    let all = ap length b.are in
-    let long = length-frames (sealed key prefix context) (sealed-is key prefix context) p.version 0 0 0 ms in
-    let four = header_long p.version in
-    let sum = frames_length-total ms in
-    let number = b.number_is in
-    let before = b.before_is in
-    omega (arith, length-append (header p.version) (frames (sealed key prefix context) p.version 0 0 0 ms))
+length-begun p ms bytes b =
+    let v : Version = p.position.version in
+    ap length b.are ∙ length-front (sealing_in p) (sealed-is p.key p.prefix p.context) v 0 ms ∙ sym (start_after (first_position v) ms) ∙ ap start_at (sym b.place)
+
+pub begun_start : (p : Progress) (ms : List (List ℕ)) (bytes : List ℕ) → Begun p ms bytes → start_of p ≡ records_length ms
+unfolding Begun
+begun_start p ms bytes b = ap start_at b.place ∙ start_after (first_position p.position.version) ms
 
 -- one more message
 frames_length-next : (slices : List (Bor (List ℕ))) (i : ℕ) (d : Bor (List ℕ)) → i < length slices

@@ -1,19 +1,16 @@
 -- A message that is sealed piece by piece after the bytes of a stream.
 use borrow.Rule.Slice.PartMut.{put_mid}
-use Rattle.std.proofs.Common.{◌≡◌, ℕ, ◌-◌, ◌≤◌, List, [], ◌++◌, length, take, drop, refl, sym, ap, ◌∙◌, append_assoc, arith}
+use Rattle.std.proofs.Common.{◌≡◌, ℕ, ◌-◌, List, [], ◌++◌, length, take, drop, refl, sym, ap, ◌∙◌, append_assoc, arith}
 use Rattle.std.proofs.lemmas.List.{append-nil, drop_at, length-append, nil_from_length, take_at, with_items_is}
 use Rattle.std.specs.Prelude.{Vec}
 use Rattle.std.specs.Vec.{with_items}
 use Rattle.aegis_base.specs.Variant.{Aegis256}
 use Rattle.aegis_base.specs.Message.{ciphertext, tag}
 use Rattle.aegis_base.specs.Run.{Held, Stands}
-use Rattle.aegis.specs.Calls.{sealed_at}
+use Rattle.aegis.specs.Calls.{sealing_of}
 use Rattle.aegis.specs.Records.{associated_data, nonce, sealed}
-use Rattle.aegis.specs.RecordStream.{limit}
 use Rattle.aegis.specs.declared.record.position.RecordPosition.{RecordPosition}
 use Rattle.aegis.specs.declared.record.record_cipher.RecordCipher.{RecordCipher}
-use Rattle.aegis.specs.declared.record.version.Version.{Version}
-use Rattle.aegis.specs.declared.record.version.Version.TheVariants.{First, Second}
 use Rattle.aegis.proofs.Sealed.{drop-past}
 
 -- the nonce and the associated data of a record
@@ -21,7 +18,7 @@ abbrev pub nonce_of : RecordCipher → RecordPosition → List ℕ
 nonce_of cipher position = nonce cipher.prefix.now position.number
 
 abbrev pub data_of : RecordCipher → RecordPosition → ℕ → List ℕ
-data_of cipher position flag = associated_data position.version position.number position.before flag cipher.context.now
+data_of cipher position flag = associated_data position flag cipher.context.now
 
 -- an encryptor stands for this front of a record's message
 abbrev pub StandsFor : RecordCipher → RecordPosition → ℕ → Held → List ℕ → Type 0
@@ -35,10 +32,6 @@ pub record HasSealed (cipher : RecordCipher) (position : RecordPosition) (flag :
   pub stands : StandsFor cipher position flag encryptor done
   pub bytes : encryptor.message_bytes ≡ length done
   pub items : out ≡ before ++ ciphertext Aegis256 cipher.key.now (nonce_of cipher position) (data_of cipher position flag) done
-
-pub limit-within : (v : Version) → limit v ≤ 16777216
-limit-within First = omega arith
-limit-within Second = omega arith
 
 -- the piece that was appended
 pub piece_is : (n : ℕ) (all out piece : List ℕ) → all ≡ out ++ piece → n ≡ length out → take (length all - n) (drop n all) ≡ piece
@@ -62,11 +55,11 @@ piece_sealed stream n all out piece sealed is e long same =
 pub all_sealed : (cipher : RecordCipher) (position : RecordPosition) (flag : ℕ) (message rest : List ℕ) (encryptor : Held) (before out t all : List ℕ)
     → HasSealed cipher position flag message rest encryptor before out → length rest ≡ 0
     → ((m : List ℕ) → StandsFor cipher position flag encryptor m → t ≡ tag Aegis256 32 cipher.key.now (nonce_of cipher position) (data_of cipher position flag) m)
-    → all ≡ out ++ t → all ≡ before ++ sealed_at cipher position flag message
+    → all ≡ out ++ t → all ≡ before ++ sealing_of cipher position flag message
 unfolding sealed
 all_sealed cipher position flag message rest encryptor before out t all has none is e =
     let whole : has.done ≡ message = sym (append-nil has.done) ∙ ap (λ (l : List ℕ). has.done ++ l) (sym (nil_from_length rest none)) ∙ has.parts in
     e ∙ ap (λ (l : List ℕ). l ++ t) has.items
     ∙ append_assoc before (ciphertext Aegis256 cipher.key.now (nonce_of cipher position) (data_of cipher position flag) has.done) t
     ∙ ap (λ (l : List ℕ). before ++ (ciphertext Aegis256 cipher.key.now (nonce_of cipher position) (data_of cipher position flag) has.done ++ l)) (is has.done has.stands)
-    ∙ ap (λ (m : List ℕ). before ++ sealed_at cipher position flag m) whole
+    ∙ ap (λ (m : List ℕ). before ++ sealing_of cipher position flag m) whole

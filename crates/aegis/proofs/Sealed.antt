@@ -6,7 +6,7 @@ use Rattle.aegis_base.specs.Variant.{Aegis256}
 use Rattle.aegis_base.specs.Message.{Opens, ciphertext, lane_before, seal, tag}
 use Rattle.aegis_base.proofs.Bijection.{ciphertext-injective, length-ciphertext}
 use Rattle.aegis_base.proofs.Lengths.{length-tag}
-use Rattle.aegis.specs.declared.record.version.Version.{Version}
+use Rattle.aegis.specs.declared.record.position.RecordPosition.{RecordPosition}
 use Rattle.aegis.specs.Records.{associated_data, nonce, sealed}
 use Rattle.aegis.specs.RecordStream.{IsSealing}
 
@@ -28,28 +28,28 @@ tag_long : (key nonce ad m : List ℕ) → length (tag Aegis256 32 key nonce ad 
 tag_long key nonce ad m = length-tag Aegis256 32 key nonce ad m (inl refl) (inr refl)
 
 -- a ciphertext and the tag after it are what the message is sealed to
-pub joined : (key prefix context : List ℕ) (v : Version) (k o flag : ℕ) (m c t : List ℕ)
-    → (c, t) ≡ seal Aegis256 32 key (nonce prefix k) (associated_data v k o flag context) m → c ++ t ≡ sealed key prefix context v k o flag m
+pub joined : (key prefix context : List ℕ) (at : RecordPosition) (flag : ℕ) (m c t : List ℕ)
+    → (c, t) ≡ seal Aegis256 32 key (nonce prefix at.number) (associated_data at flag context) m → c ++ t ≡ sealed key prefix context at flag m
 unfolding sealed
-joined key prefix context v k o flag m c t is = ap (λ (p : List ℕ × List ℕ). p.0 ++ p.1) is
+joined key prefix context at flag m c t is = ap (λ (p : List ℕ × List ℕ). p.0 ++ p.1) is
 
 -- bytes whose front opens with the tag after it are what the message is sealed to
-pub opened : (key prefix context : List ℕ) (v : Version) (k o flag : ℕ) (m bytes c t : List ℕ)
-    → Opens Aegis256 32 key (nonce prefix k) (associated_data v k o flag context) c t m
-    → c ≡ take (length bytes - 32) bytes → t ≡ drop (length bytes - 32) bytes → sealed key prefix context v k o flag m ≡ bytes
+pub opened : (key prefix context : List ℕ) (at : RecordPosition) (flag : ℕ) (m bytes c t : List ℕ)
+    → Opens Aegis256 32 key (nonce prefix at.number) (associated_data at flag context) c t m
+    → c ≡ take (length bytes - 32) bytes → t ≡ drop (length bytes - 32) bytes → sealed key prefix context at flag m ≡ bytes
 unfolding sealed
-opened key prefix context v k o flag m bytes c t opens ce te =
+opened key prefix context at flag m bytes c t opens ce te =
     ap (λ (p : List ℕ × List ℕ). p.0 ++ p.1) opens ∙ ap (λ (l : List ℕ). l ++ t) ce ∙ ap (λ (l : List ℕ). take (length bytes - 32) bytes ++ l) te
     ∙ take-append-drop (length bytes - 32) bytes
 
 -- and the other way round
-pub opens : (key prefix context : List ℕ) (v : Version) (k o flag : ℕ) (m bytes c t : List ℕ) → sealed key prefix context v k o flag m ≡ bytes
+pub opens : (key prefix context : List ℕ) (at : RecordPosition) (flag : ℕ) (m bytes c t : List ℕ) → sealed key prefix context at flag m ≡ bytes
     → c ≡ take (length bytes - 32) bytes → t ≡ drop (length bytes - 32) bytes
-    → Opens Aegis256 32 key (nonce prefix k) (associated_data v k o flag context) c t m
+    → Opens Aegis256 32 key (nonce prefix at.number) (associated_data at flag context) c t m
 unfolding sealed
-opens key prefix context v k o flag m bytes c t e ce te =
-    let n = nonce prefix k in
-    let ad = associated_data v k o flag context in
+opens key prefix context at flag m bytes c t e ce te =
+    let n = nonce prefix at.number in
+    let ad = associated_data at flag context in
     let x = ciphertext Aegis256 key n ad m in
     let y = tag Aegis256 32 key n ad m in
     let long : length x ≡ length bytes - 32 = let all = ap length e in omega (arith, length-append x y, tag_long key n ad m) in
@@ -61,10 +61,10 @@ pub sealed-is : (key prefix context : List ℕ) → IsSealing (sealed key prefix
 unfolding sealed
 sealed-is key prefix context = record { long = long; one = one }
   where
-    long : (v : Version) (k o flag : ℕ) (m : List ℕ) → length (sealed key prefix context v k o flag m) ≡ length m + 32
-    long v k o flag m =
-        let n = nonce prefix k in
-        let ad = associated_data v k o flag context in
+    long : (at : RecordPosition) (flag : ℕ) (m : List ℕ) → length (sealed key prefix context at flag m) ≡ length m + 32
+    long at flag m =
+        let n = nonce prefix at.number in
+        let ad = associated_data at flag context in
         omega (
           arith,
           length-append (ciphertext Aegis256 key n ad m) (tag Aegis256 32 key n ad m),
@@ -72,11 +72,11 @@ sealed-is key prefix context = record { long = long; one = one }
           length-ciphertext Aegis256 (lane_before Aegis256 key n ad) m,
         )
 
-    one : (v : Version) (k o flag : ℕ) (m n : List ℕ) → sealed key prefix context v k o flag m ≡ sealed key prefix context v k o flag n → m ≡ n
-    one v k o flag m n e =
-        let nc = nonce prefix k in
-        let ad = associated_data v k o flag context in
-        let same : length m ≡ length n = let both = ap length e in omega (arith, long v k o flag m, long v k o flag n) in
+    one : (at : RecordPosition) (flag : ℕ) (m n : List ℕ) → sealed key prefix context at flag m ≡ sealed key prefix context at flag n → m ≡ n
+    one at flag m n e =
+        let nc = nonce prefix at.number in
+        let ad = associated_data at flag context in
+        let same : length m ≡ length n = let both = ap length e in omega (arith, long at flag m, long at flag n) in
         let cm = ciphertext Aegis256 key nc ad m in
         let cn = ciphertext Aegis256 key nc ad n in
         let lm : length cm ≡ length m = length-ciphertext Aegis256 (lane_before Aegis256 key nc ad) m in

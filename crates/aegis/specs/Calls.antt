@@ -9,7 +9,6 @@ use Rattle.aegis.specs.declared.record.position.RecordPosition.{RecordPosition}
 use Rattle.aegis.specs.declared.record.record_cipher.RecordCipher.{RecordCipher}
 use Rattle.aegis.specs.declared.record.record_opener.Opened.{Opened}
 use Rattle.aegis.specs.declared.record.record_opener.in_place.OpenedInPlace.{OpenedInPlace}
-use Rattle.aegis.specs.declared.record.version.Version.{Version}
 use Rattle.aegis.specs.declared.record.version.Version.TheVariants.{Second}
 use Rattle.aegis.specs.Fault.{Parts, length_at}
 use Rattle.aegis.specs.Records.{AreRecords, sealed}
@@ -78,19 +77,12 @@ abbrev pub AreParts : Result Frame RecordError → Result Parts RecordError → 
 AreParts (Ok frame) found = found ≡ Ok (frame.flag, frame.sealed.now, frame.rest.now)
 AreParts (Err e) found = found ≡ Err e
 
--- what a record's cipher seals messages to, and at one position
+-- what a record's cipher seals messages to
 abbrev pub sealing_of : RecordCipher → Sealing
 sealing_of cipher = sealed cipher.key.now cipher.prefix.now cipher.context.now
 
-abbrev pub sealed_at : RecordCipher → RecordPosition → (flag : ℕ) → (m : List ℕ) → List ℕ
-sealed_at cipher position flag m = sealing_of cipher position.version position.number position.before flag m
-
--- the whole record of a message at a position
-abbrev pub frame_at : RecordCipher → RecordPosition → (flag : ℕ) → (m : List ℕ) → List ℕ
-frame_at cipher position flag m = frame (sealing_of cipher) position.version position.number position.before flag m
-
--- the bytes begin with record k, after messages of o bytes: it is message m with this flag, and `rest` follows it
-pub record IsRecord (sealing : Sealing) (v : Version) (k o flag : ℕ) (m rest bytes : List ℕ) : Type 0 where
+-- the bytes begin with the record at a position: it is message m with this flag, and `rest` follows it
+pub record IsRecord (sealing : Sealing) (position : RecordPosition) (flag : ℕ) (m rest bytes : List ℕ) : Type 0 where
   pub known : flag ≤ 1
-  pub within : length m ≤ limit v
-  pub are : bytes ≡ frame sealing v k o flag m ++ rest
+  pub within : length m ≤ limit position.version
+  pub are : bytes ≡ frame sealing position flag m ++ rest

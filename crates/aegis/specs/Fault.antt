@@ -3,8 +3,9 @@ use Rattle.std.specs.Prelude.{◌≡◌, ◌≢◌, ℕ, ◌+◌, ◌<◌, List,
 use Rattle.std.specs.Int.{w32, from_le_bytes}
 use Rattle.aegis.specs.declared.record.error.RecordError.{RecordError}
 use Rattle.aegis.specs.declared.record.error.RecordError.TheVariants as errors
+use Rattle.aegis.specs.declared.record.position.RecordPosition.{RecordPosition}
 use Rattle.aegis.specs.declared.record.version.Version.{Version}
-use Rattle.aegis.specs.RecordStream.{AreWithin, IsRecordStream, Sealing, front, header, limit, total}
+use Rattle.aegis.specs.RecordStream.{AreWithin, IsRecordStream, Sealing, first_position, front, header, limit, position_after}
 
 -- the number in the first four bytes, least byte first
 abbrev pub length_at : List ℕ → ℕ
@@ -28,14 +29,18 @@ unfoldable pub parts : Version → List ℕ → Result Parts RecordError
 parts v [] = Err errors.Truncated
 parts v (flag ∷ bytes) = parts_after v flag bytes
 
--- no message is sealed to the bytes of record k
-abbrev pub IsDamaged : Sealing → Version → ℕ → ℕ → ℕ → List ℕ → Type 0
-IsDamaged sealing v k o flag bytes = (m : List ℕ) → sealing v k o flag m ≢ bytes
+-- no message is sealed to the bytes of a record
+abbrev pub IsDamaged : Sealing → RecordPosition → ℕ → List ℕ → Type 0
+IsDamaged sealing position flag bytes = (m : List ℕ) → sealing position flag m ≢ bytes
 
--- the fault of record k, by the parts of its bytes
-abbrev pub HasFault : Sealing → Version → ℕ → ℕ → Result Parts RecordError → RecordError → Type 0
-HasFault sealing v k o (Err fault) e = e ≡ fault
-HasFault sealing v k o (Ok found) e = IsDamaged sealing v k o found.0 found.1 × (e ≡ errors.Damaged k)
+-- the fault of the record at a position, by the parts of its bytes
+abbrev pub HasFault : Sealing → RecordPosition → Result Parts RecordError → RecordError → Type 0
+HasFault sealing position (Err fault) e = e ≡ fault
+HasFault sealing position (Ok found) e = IsDamaged sealing position found.0 found.1 × (e ≡ errors.Damaged position.number)
+
+-- the fault of bytes that do not begin with a record at this position
+abbrev pub IsFaultAt : Sealing → RecordPosition → List ℕ → RecordError → Type 0
+IsFaultAt sealing position bytes e = HasFault sealing position (parts position.version bytes) e
 
 -- The fault of bytes, by its position: they begin with no header; or after a header and whole records with the flag 0 the next
 -- record has a fault; or bytes follow a stream. In the second case these are all the whole records, since the next one has a
@@ -43,7 +48,7 @@ HasFault sealing v k o (Ok found) e = IsDamaged sealing v k o found.0 found.1 ×
 pub data FirstFault (sealing : Sealing) (bytes : List ℕ) (e : RecordError) : Type 0 where
   AtHeader : ((v : Version) → take 4 bytes ≢ header v) → e ≡ errors.Header → FirstFault sealing bytes e
   AtRecord : (v : Version) (ms : List (List ℕ)) (rest : List ℕ) → AreWithin v ms → bytes ≡ front sealing v 0 ms ++ rest
-      → HasFault sealing v (length ms) (total ms) (parts v rest) e → FirstFault sealing bytes e
+      → IsFaultAt sealing (position_after (first_position v) ms) rest e → FirstFault sealing bytes e
   AtEnd : (v : Version) (ms : List (List ℕ)) (stream rest : List ℕ) → IsRecordStream sealing v ms stream → bytes ≡ stream ++ rest
       → 0 < length rest → e ≡ errors.Trailing → FirstFault sealing bytes e
 

@@ -1,8 +1,9 @@
 -- Streams of records, for any sealing: a header, and then records, numbered from 0. Each is a flag, the length of its message in
 -- four bytes, least byte first, and the sealed message. `Records.antt` has the sealing.
-use Rattle.std.specs.Prelude.{◌≡◌, ℕ, ◌+◌, ◌<◌, ◌≤◌, List, [], ◌∷◌, ◌++◌, codes, length}
+use Rattle.std.specs.Prelude.{◌≡◌, ℕ, ◌+◌, ◌*◌, ◌<◌, ◌≤◌, List, [], ◌∷◌, ◌++◌, codes, length}
 use Rattle.std.specs.Int.{w32, to_le_bytes}
 use Rattle.std.specs.List.{AllByRecursion}
+use Rattle.aegis.specs.declared.record.position.RecordPosition.{RecordPosition}
 use Rattle.aegis.specs.declared.record.version.TheConstants.{MAX_FIRST_MESSAGE_BYTES, MAX_MESSAGE_BYTES}
 use Rattle.aegis.specs.declared.record.version.Version.{Version}
 use Rattle.aegis.specs.declared.record.version.Version.TheVariants.{First, Second}
@@ -17,34 +18,48 @@ abbrev pub limit : Version → ℕ
 limit First = MAX_FIRST_MESSAGE_BYTES
 limit Second = MAX_MESSAGE_BYTES
 
--- The ciphertext and the tag of a record, from the version, the record's number, how many bytes the messages before it have
--- together, its flag, and its message.
+-- the ciphertext and the tag of a record, from its position, its flag and its message
 abbrev pub Sealing : Type 0
-Sealing = Version → ℕ → ℕ → ℕ → List ℕ → List ℕ
+Sealing = RecordPosition → ℕ → List ℕ → List ℕ
 
--- record number k, after messages of o bytes
-abbrev pub frame : Sealing → Version → ℕ → ℕ → ℕ → List ℕ → List ℕ
-frame sealing v k o flag m = flag ∷ (to_le_bytes w32 (length m) ++ sealing v k o flag m)
+-- the record at a position
+unfoldable pub frame : Sealing → RecordPosition → ℕ → List ℕ → List ℕ
+frame sealing position flag m = flag ∷ (to_le_bytes w32 (length m) ++ sealing position flag m)
+
+-- the position of a stream's first record
+abbrev pub first_position : Version → RecordPosition
+first_position v = record { version = v; number = 0; before = 0 }
+
+-- the position after a record of this message, and after records of these messages
+abbrev pub next_position : RecordPosition → List ℕ → RecordPosition
+next_position position m = record {
+  version = position.version;
+  number = position.number + 1;
+  before = position.before + length m;
+}
+
+abbrev pub position_after : RecordPosition → List (List ℕ) → RecordPosition
+position_after position [] = position
+position_after position (m ∷ ms) = position_after (next_position position m) ms
+
+-- the byte of a stream at which the record at a position starts: how many bytes the stream has up to it
+abbrev pub start_at : RecordPosition → ℕ
+start_at position = 4 + 37 * position.number + position.before
 
 -- the flag of a record before these messages: 0, or `last` if there are none
 abbrev pub flag_before : ℕ → List (List ℕ) → ℕ
 flag_before last [] = last
 flag_before last (m ∷ ms) = 0
 
--- the records of messages, of which the first has number k and follows messages of o bytes; the last has the flag `last`
-unfoldable pub frames : Sealing → Version → ℕ → ℕ → ℕ → List (List ℕ) → List ℕ
-frames sealing v last k o [] = []
-frames sealing v last k o (m ∷ ms) =
-    frame sealing v k o (flag_before last ms) m ++ frames sealing v last (k + 1) (o + length m) ms
+-- the records of messages, from a position on; the last has the flag `last`
+unfoldable pub frames : Sealing → RecordPosition → ℕ → List (List ℕ) → List ℕ
+frames sealing position last [] = []
+frames sealing position last (m ∷ ms) =
+    frame sealing position (flag_before last ms) m ++ frames sealing (next_position position m) last ms
 
 -- a header and the records of messages: a stream if `last` is 1, and the front of one if it is 0
 abbrev pub front : Sealing → Version → ℕ → List (List ℕ) → List ℕ
-front sealing v last ms = header v ++ frames sealing v last 0 0 ms
-
--- how many bytes messages have together
-abbrev pub total : List (List ℕ) → ℕ
-total [] = 0
-total (m ∷ ms) = length m + total ms
+front sealing v last ms = header v ++ frames sealing (first_position v) last ms
 
 -- no message is longer than a record's may be
 abbrev pub AreWithin : Version → List (List ℕ) → Type 0
@@ -69,8 +84,8 @@ records_length ms = 4 + frames_length ms
 
 -- sealing adds 32 bytes, and at one position no two messages are sealed to the same bytes
 pub record IsSealing (sealing : Sealing) : Type 0 where
-  pub long : (v : Version) (k o flag : ℕ) (m : List ℕ) → length (sealing v k o flag m) ≡ length m + 32
-  pub one : (v : Version) (k o flag : ℕ) (m n : List ℕ) → sealing v k o flag m ≡ sealing v k o flag n → m ≡ n
+  pub long : (position : RecordPosition) (flag : ℕ) (m : List ℕ) → length (sealing position flag m) ≡ length m + 32
+  pub one : (position : RecordPosition) (flag : ℕ) (m n : List ℕ) → sealing position flag m ≡ sealing position flag n → m ≡ n
 
 -- Two streams that the same bytes begin with are one stream, and the same bytes follow it. So no bytes are the streams of two
 -- lists or two versions, and no stream is a proper front of another.

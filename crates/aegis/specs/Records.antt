@@ -1,9 +1,10 @@
 -- Record streams: each message is sealed by AEGIS-256 with a tag of 32 bytes, under the stream's key.
-use Rattle.std.specs.Prelude.{ℕ, List, ◌∷◌, ◌++◌}
+use Rattle.std.specs.Prelude.{ℕ, List, [], ◌∷◌, ◌++◌}
 use Rattle.std.specs.Int.{w64, to_le_bytes}
 use Rattle.aegis_base.specs.Variant.{Aegis256}
 use Rattle.aegis_base.specs.Message.{ciphertext, tag}
 use Rattle.aegis.specs.declared.record.error.RecordError.{RecordError}
+use Rattle.aegis.specs.declared.record.position.RecordPosition.{RecordPosition}
 use Rattle.aegis.specs.declared.record.version.Version.{Version}
 use Rattle.aegis.specs.declared.record.version.Version.TheVariants.{First, Second}
 use Rattle.aegis.specs.Fault.{IsFaultOf}
@@ -13,17 +14,21 @@ use Rattle.aegis.specs.RecordStream.{IsRecordStream, Sealing, front, header}
 abbrev pub nonce : List ℕ → ℕ → List ℕ
 nonce prefix k = prefix ++ to_le_bytes w64 k
 
--- The associated data of a record: the header, the record's number, in version 2 how many bytes the messages before it have,
--- its flag, and the stream's context.
-abbrev pub associated_data : Version → ℕ → ℕ → ℕ → List ℕ → List ℕ
-associated_data First k o flag context = header First ++ to_le_bytes w64 k ++ flag ∷ context
-associated_data Second k o flag context = header Second ++ to_le_bytes w64 k ++ to_le_bytes w64 o ++ flag ∷ context
+-- in version 2 a record's associated data has how many bytes the messages before it have
+abbrev pub before_bytes : Version → ℕ → List ℕ
+before_bytes First before = []
+before_bytes Second before = to_le_bytes w64 before
+
+-- the associated data of a record: the header, its number, the bytes before it, its flag, and the stream's context
+abbrev pub associated_data : RecordPosition → ℕ → List ℕ → List ℕ
+associated_data position flag context =
+    header position.version ++ to_le_bytes w64 position.number ++ before_bytes position.version position.before ++ flag ∷ context
 
 -- a record's ciphertext and tag
 unfoldable pub sealed : List ℕ → List ℕ → List ℕ → Sealing
-sealed key prefix context v k o flag m =
-    ciphertext Aegis256 key (nonce prefix k) (associated_data v k o flag context) m
-    ++ tag Aegis256 32 key (nonce prefix k) (associated_data v k o flag context) m
+sealed key prefix context position flag m =
+    ciphertext Aegis256 key (nonce prefix position.number) (associated_data position flag context) m
+    ++ tag Aegis256 32 key (nonce prefix position.number) (associated_data position flag context) m
 
 -- the stream of the messages
 abbrev pub records : Version → List ℕ → List ℕ → List ℕ → List (List ℕ) → List ℕ

@@ -1,18 +1,17 @@
 -- What a state stands for, before its first record and after one more.
-use Rattle.std.proofs.Common.{◌≡◌, ℕ, ◌+◌, ◌≤◌, List, [], ◌∷◌, ◌++◌, length, refl, ap, arith}
+use Rattle.std.proofs.Common.{◌≡◌, ℕ, ◌+◌, ◌-◌, ◌∙◌, ◌≤◌, List, [], ◌∷◌, ◌++◌, length, ap, arith}
 use Rattle.aegis.specs.Progress.{Begun, record_of}
 use Rattle.aegis.specs.Records.{AreRecords}
 use Rattle.aegis.specs.RecordStream.{header, limit}
 use Rattle.aegis.specs.declared.record.version.Version.{Version}
 use Rattle.aegis.specs.declared.record.version.Version.TheVariants.{First, Second}
-use Rattle.aegis.proofs.Stepwise.{IsNext, begun_last, begun_more, begun_none, length-record_of}
-use Rattle.aegis_c_calls.specs.RecordStates.{after_record, first_of, progress_of, version_of}
+use Rattle.aegis.proofs.Stepwise.{begun_last, begun_more, begun_none, length-record}
+use Rattle.aegis_c_calls.specs.RecordStates.{after_record, first_of, next_position, progress_of, version_of}
 use Rattle.aegis_c_calls.specs.declared.record.state.RecordState.{RecordState}
 
 pub first_begun : (st : RecordState) (mark version : ℕ) (key prefix context bytes : List ℕ) → st ≡ first_of mark version key prefix
-    → bytes ≡ header (version_of version) → Begun (progress_of st context) key prefix context [] bytes
-first_begun st mark version key prefix context bytes is e =
-    rw is (begun_none (progress_of (first_of mark version key prefix) context) key prefix context bytes refl refl refl refl refl refl e)
+    → bytes ≡ header (version_of version) → Begun (progress_of st context) [] bytes
+first_begun st mark version key prefix context bytes is e = rw is (begun_none key prefix context (version_of version) bytes e)
 
 -- no version allows more than the second
 pub limit_within : (v : Version) → limit v ≤ 16777216
@@ -21,22 +20,20 @@ limit_within Second = omega arith
 
 message_long : (st : RecordState) (context : List ℕ) (flag : ℕ) (m bytes : List ℕ) → bytes ≡ record_of (progress_of st context) flag m
     → length bytes ≡ 37 + length m
-message_long st context flag m bytes e = let all = ap length e in omega (arith, length-record_of (progress_of st context) flag m)
+message_long st context flag m bytes e = ap length e ∙ length-record st.key st.prefix context (next_position st) flag m
 
 pub next_begun : (st st' : RecordState) (context : List ℕ) (n : ℕ) (m bytes : List ℕ) → st' ≡ after_record st n → n ≡ length bytes
     → length bytes ≤ 37 + limit (version_of st.version) → bytes ≡ record_of (progress_of st context) 0 m
-    → (key prefix : List ℕ) (ms : List (List ℕ)) (before : List ℕ) → Begun (progress_of st context) key prefix context ms before
-    → Begun (progress_of st' context) key prefix context (ms ++ m ∷ []) (before ++ bytes)
-next_begun st st' context n m bytes is ne low e key prefix ms before b =
+    → (ms : List (List ℕ)) (before : List ℕ) → Begun (progress_of st context) ms before
+    → Begun (progress_of st' context) (ms ++ m ∷ []) (before ++ bytes)
+next_begun st st' context n m bytes is ne low e ms before b =
     let long = message_long st context 0 m bytes e in
-    let next : IsNext (progress_of st context) (progress_of (after_record st n) context) m =
-    record { key = refl; prefix = refl; context = refl; version = refl; number = refl; before = omega arith; unended = refl } in
-    rw (is, e) (begun_more (progress_of st context) (progress_of (after_record st n) context) m next (omega arith) key prefix context ms before b)
+    rw (is, e) (begun_more (progress_of st context) (n - 37) m (omega arith) (omega arith) ms before b)
 
 pub last_whole : (st : RecordState) (context m bytes : List ℕ) → length bytes ≤ 37 + limit (version_of st.version)
     → bytes ≡ record_of (progress_of st context) 1 m
-    → (key prefix : List ℕ) (ms : List (List ℕ)) (before : List ℕ) → Begun (progress_of st context) key prefix context ms before
-    → AreRecords (version_of st.version) key prefix context (ms ++ m ∷ []) (before ++ bytes)
-last_whole st context m bytes low e key prefix ms before b =
+    → (ms : List (List ℕ)) (before : List ℕ) → Begun (progress_of st context) ms before
+    → AreRecords (version_of st.version) st.key st.prefix context (ms ++ m ∷ []) (before ++ bytes)
+last_whole st context m bytes low e ms before b =
     let long = message_long st context 1 m bytes e in
-    rw e (begun_last (progress_of st context) m (omega arith) key prefix context ms before b)
+    rw e (begun_last (progress_of st context) m (omega arith) ms before b)

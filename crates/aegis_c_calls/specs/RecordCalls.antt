@@ -20,7 +20,7 @@ pub record RecordBegin (key prefix context : List ℕ) (old new : RecordState) (
   pub answered : code ≡ context_code (length context) DONE
   pub written : code ≡ DONE → bytes' ≡ header Second
   pub first : code ≡ DONE → new ≡ first_of SEALING SECOND key prefix
-  pub begun : code ≡ DONE → Begun (progress_of new context) key prefix context [] bytes'
+  pub begun : code ≡ DONE → Begun (progress_of new context) [] bytes'
   pub state_kept : code ≢ DONE → new ≡ old
   pub kept : code ≢ DONE → bytes' ≡ bytes
 
@@ -32,7 +32,7 @@ pub record RecordBeginOpen (key prefix context : List ℕ) (old new : RecordStat
   pub found : code ≡ DONE → bytes ≡ header (version_of new.version)
   pub one : code ≡ DONE → (v : Version) → bytes ≡ header v → version_of new.version ≡ v
   pub first : code ≡ DONE → new ≡ first_of OPENING new.version key prefix
-  pub begun : code ≡ DONE → Begun (progress_of new context) key prefix context [] bytes
+  pub begun : code ≡ DONE → Begun (progress_of new context) [] bytes
   pub state_kept : code ≢ DONE → new ≡ old
 
 -- The call seals the next message where it lies, and the bytes become its record; or it changes nothing.
@@ -40,9 +40,9 @@ pub record RecordSeal (context : List ℕ) (old new : RecordState) (bytes bytes'
   pub answered : code ≡ record_code old SEALING (length context) (length bytes)
   pub sealed : code ≡ DONE → bytes' ≡ record_of (progress_of old context) 0 (message_in bytes)
   pub after : code ≡ DONE → new ≡ after_record old (length bytes)
-  pub begun : code ≡ DONE → (key prefix : List ℕ) (ms : List (List ℕ)) (before : List ℕ)
-      → Begun (progress_of old context) key prefix context ms before
-      → Begun (progress_of new context) key prefix context (ms ++ message_in bytes ∷ []) (before ++ bytes')
+  pub begun : code ≡ DONE → (ms : List (List ℕ)) (before : List ℕ)
+      → Begun (progress_of old context) ms before
+      → Begun (progress_of new context) (ms ++ message_in bytes ∷ []) (before ++ bytes')
   pub state_kept : code ≢ DONE → new ≡ old
   pub kept : code ≢ DONE → bytes' ≡ bytes
 
@@ -51,9 +51,9 @@ pub record RecordSealLast (context : List ℕ) (old new : RecordState) (bytes by
   pub answered : code ≡ record_code old SEALING (length context) (length bytes)
   pub sealed : code ≡ DONE → bytes' ≡ record_of (progress_of old context) 1 (message_in bytes)
   pub ended : code ≡ DONE → new ≡ ENDED
-  pub whole : code ≡ DONE → (key prefix : List ℕ) (ms : List (List ℕ)) (before : List ℕ)
-      → Begun (progress_of old context) key prefix context ms before
-      → AreRecords (version_of old.version) key prefix context (ms ++ message_in bytes ∷ []) (before ++ bytes')
+  pub whole : code ≡ DONE → (ms : List (List ℕ)) (before : List ℕ)
+      → Begun (progress_of old context) ms before
+      → AreRecords (version_of old.version) old.key old.prefix context (ms ++ message_in bytes ∷ []) (before ++ bytes')
   pub state_kept : code ≢ DONE → new ≡ old
   pub kept : code ≢ DONE → bytes' ≡ bytes
 
@@ -79,13 +79,13 @@ pub record RecordOpen (context : List ℕ) (old new : RecordState) (bytes bytes'
   pub accepted : (f : ℕ) (m : List ℕ) → f ≤ 1 → bytes ≡ record_of (progress_of old context) f m → code ≢ INVALID_TAG
   -- whatever messages the stream began with, this is the next one, or the last one
   pub after : code ≡ DONE → flag' ≡ 0 → new ≡ after_record old (length bytes)
-  pub begun : code ≡ DONE → flag' ≡ 0 → (key prefix : List ℕ) (ms : List (List ℕ)) (before : List ℕ)
-      → Begun (progress_of old context) key prefix context ms before
-      → Begun (progress_of new context) key prefix context (ms ++ message_in bytes' ∷ []) (before ++ bytes)
+  pub begun : code ≡ DONE → flag' ≡ 0 → (ms : List (List ℕ)) (before : List ℕ)
+      → Begun (progress_of old context) ms before
+      → Begun (progress_of new context) (ms ++ message_in bytes' ∷ []) (before ++ bytes)
   pub ended : code ≡ DONE → flag' ≡ 1 → new ≡ ENDED
-  pub whole : code ≡ DONE → flag' ≡ 1 → (key prefix : List ℕ) (ms : List (List ℕ)) (before : List ℕ)
-      → Begun (progress_of old context) key prefix context ms before
-      → AreRecords (version_of old.version) key prefix context (ms ++ message_in bytes' ∷ []) (before ++ bytes)
+  pub whole : code ≡ DONE → flag' ≡ 1 → (ms : List (List ℕ)) (before : List ℕ)
+      → Begun (progress_of old context) ms before
+      → AreRecords (version_of old.version) old.key old.prefix context (ms ++ message_in bytes' ∷ []) (before ++ bytes)
   pub erased : code ≡ INVALID_TAG → bytes' ≡ replicate (length bytes) ERASED
   pub kept : code ≢ DONE → code ≢ INVALID_TAG → bytes' ≡ bytes
   pub state_kept : code ≢ DONE → new ≡ old

@@ -2,11 +2,10 @@
 use Rattle.std.specs.Prelude.{ℕ, ℤ, ◌+◌, ◌==◌, leb, List, drop, get_or, nat_lt, if◌then◌else◌}
 use Rattle.aegis_base.specs.declared.error.TheConstants.{MAX_AEAD_BYTES}
 use Rattle.aegis.specs.Fault.{length_at}
-use Rattle.aegis.specs.Progress.{start_at}
-use Rattle.aegis.specs.RecordStream.{limit}
+use Rattle.aegis.specs.RecordStream.{limit, start_at}
 use Rattle.aegis.specs.declared.record.record_cipher.TheConstants.{MAX_CONTEXT_BYTES}
 use Rattle.aegis_c_calls.specs.declared.refusal.TheConstants.{DONE, INVALID_TAG, MESSAGE_TOO_LONG, CONTEXT_TOO_LONG, WRONG_RECORD_LENGTH, WRONG_STATE}
-use Rattle.aegis_c_calls.specs.RecordStates.{version_of}
+use Rattle.aegis_c_calls.specs.RecordStates.{next_position, version_of}
 use Rattle.aegis_c_calls.specs.declared.record.state.RecordState.{RecordState}
 use Rattle.aegis_c_calls.specs.declared.record.state.TheConstants.{OPENING}
 
@@ -17,7 +16,7 @@ context_code context rest = if leb context MAX_CONTEXT_BYTES then rest else CONT
 -- for a state that should have this mark; `rest` is the code if it has, and its stream is not past the limit
 abbrev pub mark_code : RecordState → ℕ → ℤ → ℤ
 mark_code st mark rest =
-    if st.mark == mark then (if leb (start_at st.number st.before) MAX_AEAD_BYTES then rest else WRONG_STATE) else WRONG_STATE
+    if st.mark == mark then (if leb (start_at (next_position st)) MAX_AEAD_BYTES then rest else WRONG_STATE) else WRONG_STATE
 
 -- for the length of the next record, which should have room for its head and its tag, and be within its limit and within
 -- that of the stream
@@ -25,7 +24,7 @@ abbrev pub length_code : RecordState → ℕ → ℤ → ℤ
 length_code st bytes rest =
     if leb 37 bytes
     then (if leb bytes (37 + limit (version_of st.version))
-    then (if leb (start_at st.number st.before + bytes) MAX_AEAD_BYTES then rest else MESSAGE_TOO_LONG)
+    then (if leb (start_at (next_position st) + bytes) MAX_AEAD_BYTES then rest else MESSAGE_TOO_LONG)
     else MESSAGE_TOO_LONG)
     else WRONG_RECORD_LENGTH
 

@@ -21,9 +21,7 @@ progress_of st context = record {
   key = st.key;
   prefix = st.prefix;
   context = context;
-  version = version_of st.version;
-  number = st.number;
-  before = st.before;
+  position = next_position st;
   ended = false;
 }
 

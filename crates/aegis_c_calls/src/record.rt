@@ -8,10 +8,10 @@
 
 ghost use Rattle.std.specs.Prelude.{◌≡◌, ◌+◌, ◌≤◌};
 ghost use Rattle.aegis_base.specs.declared.error.TheConstants.{MAX_AEAD_BYTES};
-ghost use Rattle.aegis.specs.Progress.{start_at};
+ghost use Rattle.aegis.specs.RecordStream.{start_at};
 ghost use Rattle.aegis_c_calls.specs.Codes.{code_of};
 ghost use Rattle.aegis_c_calls.specs.RecordCalls.{RecordBegin, RecordBeginOpen, RecordLen, RecordOpen, RecordSeal, RecordSealLast};
-ghost use Rattle.aegis_c_calls.specs.RecordStates.{after_record, first_of};
+ghost use Rattle.aegis_c_calls.specs.RecordStates.{after_record, first_of, next_position};
 
 use crate::refusal::Refusal;
 use aegis::ERASED;
@@ -43,7 +43,7 @@ fn first(mark: u64, version: u64, key: &[u8; 32], prefix: &[u8; 24]) -> RecordSt
 // Goes on to the record after one of so many bytes.
 fn advance(st: &mut RecordState, bytes: usize)
     requires room { RECORD_BYTES ≤ bytes }
-    requires fits { start_at st.old.number st.old.before + bytes ≤ MAX_AEAD_BYTES }
+    requires fits { start_at (next_position st.old) + bytes ≤ MAX_AEAD_BYTES }
     ensures { st.new ≡ after_record st.old bytes }
 {
     st.number += 1;

@@ -27,14 +27,15 @@ pub fn next_entry<'b>(
 ) -> Result<Entry<'b>, RecordError>
     requires { start_of opener.old + length buffer.old ≤ MAX_AEAD_BYTES }
     ensures begun { IfOk result (λ entry. OnFalse entry.is_last
-        ((key prefix context : List ℕ) (ms : List (List ℕ)) (before : List ℕ)
-        → Begun opener.old key prefix context ms before
-        → Begun opener.new key prefix context (ms ++ entry.message.now ∷ [])
+        ((ms : List (List ℕ)) (before : List ℕ)
+        → Begun opener.old ms before
+        → Begun opener.new (ms ++ entry.message.now ∷ [])
         (before ++ record_of opener.old 0 entry.message.now))) }
     ensures whole { IfOk result (λ entry. OnTrue entry.is_last
-        ((key prefix context : List ℕ) (ms : List (List ℕ)) (before : List ℕ)
-        → Begun opener.old key prefix context ms before
-        → AreRecordsOfSomeVersion key prefix context (ms ++ entry.message.now ∷ [])
+        ((ms : List (List ℕ)) (before : List ℕ)
+        → Begun opener.old ms before
+        → AreRecordsOfSomeVersion opener.old.key opener.old.prefix opener.old.context
+        (ms ++ entry.message.now ∷ [])
         (before ++ record_of opener.old 1 entry.message.now))) }
     ensures refused { IfErr result (λ e. opener.old.ended ≡ false
         → IsRecordFault opener.old buffer.old e) }
@@ -60,9 +61,9 @@ pub fn seal_reading(
 ) -> [u8; PACKET_BYTES]
     requires { start_of sealer.old + PACKET_BYTES ≤ MAX_AEAD_BYTES }
     ensures sealed { result ≡ record_of sealer.old 0 reading.now }
-    ensures begun { (key prefix context : List ℕ) (ms : List (List ℕ)) (before : List ℕ)
-        → Begun sealer.old key prefix context ms before
-        → Begun sealer.new key prefix context (ms ++ reading.now ∷ []) (before ++ result) }
+    ensures begun { (ms : List (List ℕ)) (before : List ℕ)
+        → Begun sealer.old ms before
+        → Begun sealer.new (ms ++ reading.now ∷ []) (before ++ result) }
 {
     let mut packet = [0; PACKET_BYTES];
     packet[RECORD_HEAD_BYTES..RECORD_HEAD_BYTES + READING_BYTES].copy_from_slice(reading);
@@ -80,9 +81,9 @@ pub fn append_entry<A: Allocator>(
     requires room { RECORD_BYTES ≤ length buffer.old }
     requires within { length buffer.old ≤ RECORD_BYTES + MAX_MESSAGE_BYTES }
     requires fits { start_of sealer.old + length buffer.old ≤ MAX_AEAD_BYTES }
-    ensures appended { OnOk result ((key prefix context : List ℕ) (ms : List (List ℕ))
-        → Begun sealer.old key prefix context ms log.old.items
-        → Begun sealer.new key prefix context (ms ++ message_in buffer.old ∷ []) log.new.items) }
+    ensures appended { OnOk result ((ms : List (List ℕ))
+        → Begun sealer.old ms log.old.items
+        → Begun sealer.new (ms ++ message_in buffer.old ∷ []) log.new.items) }
     ensures kept { OnErr result (sealer.new ≡ sealer.old) }
 {
     log.reserve(buffer.len())?;

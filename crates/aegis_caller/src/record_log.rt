@@ -2,7 +2,8 @@
 
 ghost use Rattle.std.specs.Prelude.{◌≡◌, ◌+◌, ◌*◌, ◌≤◌, ◌⊎◌, ◌++◌, ◌∷◌, [], IfErr, IfOk, IfSome, false, length};
 ghost use Rattle.std.specs.Bool.{OnFalse, OnTrue};
-ghost use Rattle.aegis.specs.Progress.{AreRecordsOfSomeVersion, IsRecordFault, after, last_flag, progress_at, record_of, start_at};
+ghost use Rattle.aegis.specs.Progress.{AreRecordsOfSomeVersion, IsRecordFault, after, progress_at, record_of};
+ghost use Rattle.aegis.specs.RecordStream.{start_at};
 
 use aegis::MAX_AEAD_BYTES;
 use aegis::record::{
@@ -35,8 +36,8 @@ pub fn appended_and_read<A: Allocator + Copy>(
     let mut tail = Vec::new(alloc);
     sealer.seal_next(second, &mut tail)?;
     sealer.seal_next(third, &mut tail)?;
-    let opener = RecordOpener::begin_at(key, prefix, context, position);
-    let opened = opener.open_at(alloc, position, &tail)?;
+    let mut opener = RecordOpener::begin_at(key, prefix, context, position);
+    let opened = opener.open_next(alloc, &tail)?;
     Ok(opened.message)
 }
 
@@ -51,15 +52,18 @@ pub fn read_at<'b, A: Allocator + Copy>(
     bytes: &'b [u8],
 ) -> Result<Opened<'b, A>, RecordError>
     requires context_within { length context.now ≤ MAX_CONTEXT_BYTES }
-    requires position_within { start_at position.number position.before ≤ MAX_AEAD_BYTES }
-    ensures read { IfOk result (λ opened. bytes.now
+    requires bytes_within { start_at position + length bytes.now ≤ MAX_AEAD_BYTES }
+    ensures next { IfOk result (λ opened. OnFalse opened.is_last (bytes.now
         ≡ record_of (progress_at key.now prefix.now context.now position)
-        (last_flag opened.is_last) opened.message.items ++ opened.rest.now) }
+        0 opened.message.items ++ opened.rest.now)) }
+    ensures last { IfOk result (λ opened. OnTrue opened.is_last (bytes.now
+        ≡ record_of (progress_at key.now prefix.now context.now position)
+        1 opened.message.items ++ opened.rest.now)) }
     ensures refused { IfErr result (λ e. (e ≡ RecordError.OutOfMemory)
         ⊎ IsRecordFault (progress_at key.now prefix.now context.now position) bytes.now e) }
 {
-    let opener = RecordOpener::begin_at(key, prefix, context, position);
-    opener.open_at(alloc, position, bytes)
+    let mut opener = RecordOpener::begin_at(key, prefix, context, position);
+    opener.open_next(alloc, bytes)
 }
 
 /// Reads two records of a log from a position on: the first message, and what [`RecordOpener::open_next`] returns after
@@ -73,7 +77,7 @@ pub fn read_on<'b, A: Allocator + Copy>(
     bytes: &'b [u8],
 ) -> Result<Option<(Vec<u8, A>, Opened<'b, A>)>, RecordError>
     requires context_within { length context.now ≤ MAX_CONTEXT_BYTES }
-    requires bytes_within { start_at position.number position.before + length bytes.now
+    requires bytes_within { start_at position + length bytes.now
         ≤ MAX_AEAD_BYTES }
     ensures next { IfOk result (λ found. IfSome found (λ read. OnFalse read.1.is_last
         (bytes.now ≡ record_of (progress_at key.now prefix.now context.now position)

@@ -1,7 +1,7 @@
 //! Record streams, a record at a time.
 
 ghost use Rattle.std.specs.Prelude.{◌≡◌, ◌+◌, ◌≤◌, ◌++◌, ◌∷◌, [], IfErr, IfOk, IfSome, List, OnErr, OnOk, length, ℕ};
-ghost use Rattle.aegis.specs.Progress.{AreRecordsOfSomeVersion, Begun, start_of};
+ghost use Rattle.aegis.specs.Progress.{AreRecordsOfSomeVersion, Begun, IsUnder, start_of};
 ghost use Rattle.aegis.specs.Records.{AreRecords};
 ghost use Rattle.aegis.specs.declared.record.length.TheConstants.{HEADER_BYTES};
 ghost use Rattle.aegis.specs.declared.record.version.Version.TheVariants.{Second};
@@ -108,8 +108,9 @@ impl<'a, A: Allocator + Copy> GrowingStream<'a, A> {
         context: &'a [u8],
     ) -> Result<Self, RecordError>
         requires { length context.now ≤ MAX_CONTEXT_BYTES }
-        ensures begun { IfOk result (λ stream. Begun stream.sealer
-            key.now prefix.now context.now [] stream.bytes.items) }
+        ensures begun { IfOk result (λ stream. Begun stream.sealer [] stream.bytes.items) }
+        ensures under { IfOk result
+            (λ stream. IsUnder key.now prefix.now context.now stream.sealer) }
         ensures taken { IfOk result (λ stream. start_of stream.sealer ≡ HEADER_BYTES) }
     {
         let mut bytes = Vec::new(alloc);
@@ -122,10 +123,12 @@ impl<'a, A: Allocator + Copy> GrowingStream<'a, A> {
         requires within { length message.now ≤ MAX_MESSAGE_BYTES }
         requires fits { start_of self.old.sealer + (RECORD_BYTES + length message.now)
             ≤ MAX_AEAD_BYTES }
-        ensures pushed { OnOk result ((key prefix context : List ℕ) (ms : List (List ℕ))
-            → Begun self.old.sealer key prefix context ms self.old.bytes.items
-            → Begun self.new.sealer key prefix context
-            (ms ++ message.now ∷ []) self.new.bytes.items) }
+        ensures pushed { OnOk result ((ms : List (List ℕ))
+            → Begun self.old.sealer ms self.old.bytes.items
+            → Begun self.new.sealer (ms ++ message.now ∷ []) self.new.bytes.items) }
+        ensures under { OnOk result ((key prefix context : List ℕ)
+            → IsUnder key prefix context self.old.sealer
+            → IsUnder key prefix context self.new.sealer) }
         ensures taken { OnOk result
             (start_of self.new.sealer
             ≡ start_of self.old.sealer + (RECORD_BYTES + length message.now)) }
@@ -139,9 +142,10 @@ impl<'a, A: Allocator + Copy> GrowingStream<'a, A> {
         requires within { length message.now ≤ MAX_MESSAGE_BYTES }
         requires fits { start_of self.sealer + (RECORD_BYTES + length message.now)
             ≤ MAX_AEAD_BYTES }
-        ensures { IfOk result (λ stream. (key prefix context : List ℕ) (ms : List (List ℕ))
-            → Begun self.entry.sealer key prefix context ms self.entry.bytes.items
-            → AreRecords Second key prefix context (ms ++ message.now ∷ []) stream.items) }
+        ensures { IfOk result (λ stream. (ms : List (List ℕ))
+            → Begun self.entry.sealer ms self.entry.bytes.items
+            → AreRecords Second self.entry.sealer.key self.entry.sealer.prefix
+            self.entry.sealer.context (ms ++ message.now ∷ []) stream.items) }
     {
         let GrowingStream { sealer, mut bytes } = self;
         sealer.seal_last(message, &mut bytes)?;

@@ -1,10 +1,11 @@
 //! Sealed files in memory.
 
-ghost use Rattle.std.specs.Prelude.{◌≡◌, ◌<◌, ◌≤◌, IfErr, IfOk, List, length, take, ℕ};
+ghost use Rattle.std.specs.Prelude.{◌≡◌, ◌<◌, ◌≤◌, IfErr, IfOk, List, length, ℕ};
 ghost use Rattle.aegis_base.specs.declared.error.TheConstants.{MAX_AEAD_BYTES};
-ghost use Rattle.aegis.specs.Progress.{start_at};
-ghost use Rattle.aegis_files.specs.Range.{AreFrom, IsTextFrom, most_records, part_of};
-ghost use Rattle.aegis_files.specs.SealedFile.{IfRefused, IsFileOf, IsSealedFile};
+ghost use Rattle.aegis.specs.RecordStream.{start_at};
+ghost use Rattle.aegis_files.specs.Range.{AreFrom, IsTextFrom, part_of, part_of_text};
+ghost use Rattle.aegis.specs.declared.record.error.RecordError.{RecordError};
+ghost use Rattle.aegis_files.specs.SealedFile.{IsFileOf, IsSealedFile};
 
 use aegis::aegis256::Key;
 use aegis::record::{MAX_CONTEXT_BYTES, RecordError};
@@ -41,7 +42,7 @@ pub fn open_text<A: Allocator + Copy>(
         (λ text. IsSealedFile key.now context.now text.items file.now) }
     ensures accepted { IfErr result (λ e. (text : List ℕ)
         → IsSealedFile key.now context.now text file.now
-        → IfRefused e (λ why. why ≡ RecordError.OutOfMemory)) }
+        → (why : RecordError) → e ≡ FileError.Stream why → why ≡ RecordError.OutOfMemory) }
 {
     let mut text = Vec::new(alloc);
     let mut input = file;
@@ -61,17 +62,17 @@ pub fn open_part<A: Allocator + Copy>(
     records: &[u8],
 ) -> Result<Vec<u8, A>, FileError>
     requires context_within { length context.now ≤ MAX_CONTEXT_BYTES }
-    requires start_within { start_at range.position.number range.position.before ≤ MAX_AEAD_BYTES }
+    requires start_within { start_at range.position ≤ MAX_AEAD_BYTES }
     ensures opened { IfOk result (λ part. (flag : ℕ) × (messages : List (List ℕ))
         × (rest : List ℕ) × (0 < length messages)
         × AreFrom key.now prefix.now context.now range.position flag messages rest records.now
         × (part.items ≡ part_of range messages)
         × ((following : List (List ℕ)) (text : List ℕ)
         → IsTextFrom key.now prefix.now context.now range.position following text records.now
-        → part_of range messages ≡ part_of range (take (most_records range) following))) }
+        → part_of range messages ≡ part_of_text range text)) }
     ensures accepted { IfErr result (λ e. (following : List (List ℕ)) (text : List ℕ)
         → IsTextFrom key.now prefix.now context.now range.position following text records.now
-        → IfRefused e (λ why. why ≡ RecordError.OutOfMemory)) }
+        → (why : RecordError) → e ≡ FileError.Stream why → why ≡ RecordError.OutOfMemory) }
 {
     let mut part = Vec::new(alloc);
     let mut input = records;
@@ -95,7 +96,7 @@ pub fn rekey_file<A: Allocator + Copy>(
         × IsFileOf new_key.now prefix.now context.now text new_file.items) }
     ensures accepted { IfErr result (λ e. (text : List ℕ)
         → IsSealedFile key.now context.now text file.now
-        → IfRefused e (λ why. why ≡ RecordError.OutOfMemory)) }
+        → (why : RecordError) → e ≡ FileError.Stream why → why ≡ RecordError.OutOfMemory) }
 {
     let mut new_file = Vec::new(alloc);
     let mut input = file;

@@ -1,12 +1,8 @@
-pub mod Errors
-pub mod Failing
+pub mod Files
 pub mod Filling
 pub mod NextRecord
-pub mod Opening
 pub mod Pieces
 pub mod Ranges
-pub mod RangeFailing
-pub mod Sealing
-pub mod Verified
+pub mod Reaching
 pub mod Rekeying
-pub mod RekeyFailing
+pub mod Sealing

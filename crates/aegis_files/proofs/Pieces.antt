@@ -1,8 +1,11 @@
 -- Pieces that are put together.
-use Rattle.std.proofs.Common.{◌≡◌, ℕ, zero, suc, ◌-◌, List, [], ◌∷◌, ◌++◌, drop, length, take, refl, sym, ap, ◌∙◌, append_assoc, arith}
+use Rattle.std.proofs.Common.{◌≡◌, ℕ, zero, suc, ◌+◌, ◌-◌, ◌≤◌, List, [], ◌∷◌, ◌++◌, Option, None, Some, IfSome, drop, length, take, refl, sym, ap, ◌∙◌, append_assoc, arith}
 use Rattle.std.proofs.lemmas.List.{append-nil, drop_at, length-append, length-drop, take-append-drop, take_all, take_at}
 use Rattle.std.specs.List.{AllByRecursion, concat}
-use Rattle.aegis.specs.RecordStream.{total}
+use Rattle.std.specs.Io.KnownBytes.{Consumes, IsAtEnd}
+use Rattle.aegis.specs.declared.record.position.RecordPosition.{RecordPosition}
+use Rattle.aegis.specs.Progress.{Begun, Progress}
+use Rattle.aegis.specs.RecordStream.{first_position, frames_length, next_position, position_after}
 
 pub concat-push : (ms : List (List ℕ)) (m : List ℕ) → concat (ms ++ m ∷ []) ≡ concat ms ++ m
 concat-push [] m = append-nil m
@@ -17,11 +20,6 @@ pub concat-cut : (ms : List (List ℕ)) (m : List ℕ) (n : ℕ) → concat (ms 
 concat-cut ms m n =
     concat-push ms m ∙ ap (λ (l : List ℕ). concat ms ++ l) (sym (take-append-drop n m)) ∙ sym (append_assoc (concat ms) (take n m) (drop n m))
 
--- bytes that begin the concatenation of messages begin that of more messages
-pub concat-more : (ms more : List (List ℕ)) (begun rest : List ℕ) → concat ms ≡ begun ++ rest → concat (ms ++ more) ≡ begun ++ (rest ++ concat more)
-concat-more ms more begun rest is =
-    concat-append ms more ∙ ap (λ (l : List ℕ). l ++ concat more) is ∙ append_assoc begun rest (concat more)
-
 pub slice-end : (bytes : List ℕ) (start : ℕ) → take (length bytes - start) (drop start bytes) ≡ drop start bytes
 slice-end bytes start = let len = length-drop start bytes in take_all (length bytes - start) (drop start bytes) (omega arith)
 
@@ -30,9 +28,35 @@ pub all_push : (P : List ℕ → Type 0) (ms : List (List ℕ)) (m : List ℕ) �
 all_push P [] m all p = (p, tt)
 all_push P (n ∷ ms) m all p = (all.0, all_push P ms m all.1 p)
 
-pub total-concat : (ms : List (List ℕ)) → total ms ≡ length (concat ms)
-total-concat [] = refl
-total-concat (m ∷ ms) = let rest = total-concat ms in omega (arith, length-append m (concat ms))
+-- messages are shorter than their records
+pub concat-short : (ms : List (List ℕ)) → length (concat ms) ≤ frames_length ms
+concat-short [] = omega arith
+concat-short (m ∷ ms) = let rest = concat-short ms in omega (arith, length-append m (concat ms))
+
+-- the number of messages before a position, and of their bytes
+pub counted_after : (at : RecordPosition) (ms : List (List ℕ))
+    → ((position_after at ms).number ≡ at.number + length ms) × ((position_after at ms).before ≡ at.before + length (concat ms))
+counted_after at [] = (omega arith, omega arith)
+counted_after at (m ∷ ms) =
+    let rest = counted_after (next_position at m) ms in
+    (omega (arith, rest.0), omega (arith, rest.1, length-append m (concat ms)))
+
+pub counted : (p : Progress) (ms : List (List ℕ)) (bytes : List ℕ) → Begun p ms bytes → (p.position.number ≡ length ms) × (p.position.before ≡ length (concat ms))
+unfolding Begun
+counted p ms bytes b =
+    let c = counted_after (first_position p.position.version) ms in
+    (ap (λ (q : RecordPosition). q.number) b.place ∙ c.0 ∙ omega arith, ap (λ (q : RecordPosition). q.before) b.place ∙ c.1 ∙ omega arith)
+
+-- what was read of bytes that are known
+pub read_some : (all left : Option (List ℕ)) (taken : List ℕ) (P : List ℕ → Type 0) → Consumes all left taken
+    → ((f rest : List ℕ) → all ≡ Some f → f ≡ taken ++ rest → left ≡ Some rest → P f) → IfSome all P
+read_some None left taken P read go = tt
+read_some (Some f) None taken P read go = absurd read
+read_some (Some f) (Some rest) taken P read go = go f rest refl read refl
+
+pub at_end : (rest : List ℕ) (left : Option (List ℕ)) → left ≡ Some rest → IsAtEnd left → rest ≡ []
+at_end rest None e end = absurd cc
+at_end rest (Some l) e end = let same : l ≡ rest = cc in sym same ∙ end
 
 -- the prefix of a file, and what follows it
 pub two_prefixes : (a b x y : List ℕ) → length a ≡ 24 → length b ≡ 24 → a ++ x ≡ b ++ y → (a ≡ b) × (x ≡ y)

@@ -1,51 +1,55 @@
--- The facts that hold between two records that are sealed anew.
-use Rattle.std.proofs.Common.{◌≡◌, ℕ, ◌+◌, ◌≤◌, Bool, true, false, List, [], ◌∷◌, ◌++◌, Option, None, Some, IfSome, OnOk, Result, Ok, Err, length, refl, sym, ap, subst, ◌∙◌, append_assoc, arith}
-use Rattle.std.proofs.KnownBytes.{Appends-kept, Appends-trans, Consumes-trans}
-use Rattle.std.proofs.lemmas.List.{append-nil}
-use Rattle.std.specs.Io.KnownBytes.{Appends, Consumes, IsAtEnd, Keeps}
+-- The facts that hold between two records that are sealed anew, and those that hold if that fails.
+use Rattle.std.proofs.Common.{◌≡◌, ◌⊎◌, ℕ, ◌+◌, ◌≤◌, Bool, true, false, List, [], ◌∷◌, ◌++◌, Option, None, Some, IfSome, OnOk, Result, Ok, Err, drop, length, take, refl, sym, ap, subst, ◌∙◌, append_assoc, arith, inl, inr}
+use Rattle.std.proofs.KnownBytes.{Appends-nil, Appends-trans, Consumes-nil, Consumes-trans}
+use Rattle.std.proofs.lemmas.List.{append-nil, take-append-drop}
+use Rattle.std.specs.Io.KnownBytes.{Appends, Consumes, IsAtEnd}
 use Rattle.std.specs.List.{concat}
 use Rattle.aegis_base.specs.declared.error.TheConstants.{MAX_AEAD_BYTES}
+use Rattle.aegis.specs.declared.record.error.RecordError.TheVariants as errors
 use Rattle.aegis.specs.declared.record.length.TheConstants.{RECORD_BYTES}
-use Rattle.aegis.specs.Progress.{AreRecordsOfSomeVersion, Begun, Progress, record_of, start_of}
+use Rattle.aegis.specs.declared.record.version.Version.TheVariants.{Second}
+use Rattle.aegis.specs.Progress.{Progress, after, last_flag, progress_at, record_of, start_of}
+use Rattle.aegis.specs.Records.{AreRecords, sealed}
+use Rattle.aegis.specs.RecordStream.{AreWithin, first_position, front, header, limit}
 use Rattle.aegis_files.specs.declared.error.FileError.{FileError}
-use Rattle.aegis_files.specs.Reading.{ReadsNext}
-use Rattle.aegis_files.specs.SealedFile.{IsFileOf, IsSealedFile}
-use Rattle.aegis_files.proofs.Opening.{OpensSome, whole_stream}
-use Rattle.aegis_files.proofs.Sealing.{IsLast, IsStep, counted, joined}
+use Rattle.aegis_files.specs.declared.error.FileError.TheVariants.{Stream}
+use Rattle.aegis_files.specs.Opening.{AreInFile, RefusesFile}
+use Rattle.aegis_files.specs.Range.{AreFrom}
+use Rattle.aegis_files.specs.Reading.{FailsNext, LeavesSome, ReadsNext}
+use Rattle.aegis_files.specs.Rekey.{RekeysFront}
+use Rattle.aegis_files.specs.SealedFile.{IsFileOf, IsSealedFile, IsWriteError}
+use Rattle.aegis_files.proofs.Files.{refuses_file, refuses_more, some_with, under}
+use Rattle.aegis_files.proofs.Pieces.{read_some}
+use Rattle.aegis_files.proofs.Ranges.{fails_from, refuses_from, unwritten}
+use Rattle.aegis_files.proofs.Reaching.{Reaches, are_from, reaches_more, reaches_none, reaches_start, reaches_stream, reaches_version}
+use Rattle.aegis_files.proofs.Sealing.{opens_whole}
 
--- The bytes `taken` of the old stream were read. Its messages are sealed anew: the bytes `sent` of the new stream were written
--- after the prefix, and `pending` is not written yet.
+-- The records `taken` of the old file were read. Their messages are sealed anew, as the records `made`: of the new prefix, the header
+-- and these the bytes `sent` were written, and `pending` is not written yet.
 pub record RekeysSome (p q : Progress) (key prefix new_key new_prefix context : List ℕ) (stream left old new : Option (List ℕ)) (pending : List ℕ) : Type 0 where
   pub messages : List (List ℕ)
   pub taken : List ℕ
+  pub made : List ℕ
   pub sent : List ℕ
-  pub opened : Begun p key prefix context messages taken
-  pub sealed : Begun q new_key new_prefix context messages (sent ++ pending)
+  pub opened : Reaches key prefix context (first_position Second) p false messages taken
+  pub sealed : Reaches new_key new_prefix context (first_position Second) q false messages made
   pub read : Consumes stream left taken
-  pub written : Appends old new (new_prefix ++ sent)
+  pub all : new_prefix ++ (header Second ++ made) ≡ sent ++ pending
+  pub written : Appends old new sent
 
-pub rekeys_begin : (p q : Progress) (key prefix new_key new_prefix context : List ℕ) (stream left old new : Option (List ℕ)) (pending header first : List ℕ)
-    → Begun p key prefix context [] header → Consumes stream left header → Begun q new_key new_prefix context [] first → pending ≡ first
-    → Appends old new new_prefix → RekeysSome p q key prefix new_key new_prefix context stream left old new pending
-rekeys_begin p q key prefix new_key new_prefix context stream left old new pending header first opened read begun is written = record {
+pub rekeys_begin : (p q : Progress) (key prefix new_key new_prefix context : List ℕ) (stream old : Option (List ℕ)) (pending : List ℕ) → p ≡ progress_at key prefix context (first_position Second)
+    → q ≡ progress_at new_key new_prefix context (first_position Second) → pending ≡ new_prefix ++ header Second
+    → RekeysSome p q key prefix new_key new_prefix context stream stream old old pending
+rekeys_begin p q key prefix new_key new_prefix context stream old pending opened sealed is = record {
   messages = [];
-  taken = header;
+  taken = [];
+  made = [];
   sent = [];
-  opened = opened;
-  sealed = rw is begun;
-  read = read;
-  written = rw append-nil written;
-}
-
--- what was opened, to a writer of which nothing is known
-pub opens : (p q : Progress) (key prefix new_key new_prefix context : List ℕ) (stream left old new : Option (List ℕ)) (pending : List ℕ)
-    → RekeysSome p q key prefix new_key new_prefix context stream left old new pending → OpensSome p key prefix context stream left None None
-opens p q key prefix new_key new_prefix context stream left old new pending s = record {
-  messages = s.messages;
-  taken = s.taken;
-  begun = s.opened;
-  read = s.read;
-  written = tt;
+  opened = reaches_none key prefix context (first_position Second) p opened;
+  sealed = reaches_none new_key new_prefix context (first_position Second) q sealed;
+  read = Consumes-nil stream;
+  all = sym is;
+  written = Appends-nil old;
 }
 
 -- The next record starts at the same byte in both streams, so it fits into the new one.
@@ -53,74 +57,213 @@ pub next_fits : (p p' q : Progress) (last : Bool) (key prefix new_key new_prefix
     → RekeysSome p q key prefix new_key new_prefix context stream left old new pending → ReadsNext p p' left left' last m → start_of p' ≤ MAX_AEAD_BYTES
     → start_of q + (RECORD_BYTES + length m) ≤ MAX_AEAD_BYTES
 next_fits p p' q last key prefix new_key new_prefix context stream left left' old new pending m s next room =
-    let a = counted p key prefix context s.messages s.taken s.opened in
-    let b = counted q new_key new_prefix context s.messages (s.sent ++ pending) s.sealed in
-    omega (arith, a.0, a.1, b.0, b.1, room, ap (λ (p : Progress). start_of p) next.progress)
+    omega (
+      arith,
+      reaches_start key prefix context (first_position Second) p false s.messages s.taken s.opened,
+      reaches_start new_key new_prefix context (first_position Second) q false s.messages s.made s.sealed,
+      room,
+      ap (λ (p : Progress). start_of p) next.progress,
+    )
 
-pub rekeys_more : (p p' q q' : Progress) (key prefix new_key new_prefix context : List ℕ) (stream left left' old new new' : Option (List ℕ)) (pending m record_bytes out none : List ℕ)
+-- one more record in either file
+opened_next : (p p' q : Progress) (last : Bool) (key prefix new_key new_prefix context : List ℕ) (stream left left' old new : Option (List ℕ)) (pending m : List ℕ)
+    → (s : RekeysSome p q key prefix new_key new_prefix context stream left old new pending) → ReadsNext p p' left left' last m
+    → Reaches key prefix context (first_position Second) p' last (s.messages ++ m ∷ []) (s.taken ++ record_of p (last_flag last) m)
+opened_next p p' q last key prefix new_key new_prefix context stream left left' old new pending m s next =
+    reaches_more key prefix context (first_position Second) p p' last s.messages s.taken m s.opened next.progress next.within
+
+sealed_next : (p p' q q' : Progress) (last : Bool) (key prefix new_key new_prefix context : List ℕ) (stream left left' old new : Option (List ℕ)) (pending m : List ℕ)
+    → (s : RekeysSome p q key prefix new_key new_prefix context stream left old new pending) → ReadsNext p p' left left' last m → q' ≡ after q last m
+    → Reaches new_key new_prefix context (first_position Second) q' last (s.messages ++ m ∷ []) (s.made ++ record_of q (last_flag last) m)
+sealed_next p p' q q' last key prefix new_key new_prefix context stream left left' old new pending m s next is =
+    reaches_more new_key new_prefix context (first_position Second) q q' last s.messages s.made m s.sealed is
+    (subst (λ v. length m ≤ limit v) (reaches_version key prefix context (first_position Second) p false s.messages s.taken s.opened
+    ∙ sym (reaches_version new_key new_prefix context (first_position Second) q false s.messages s.made s.sealed)) next.within)
+
+-- bytes that were pending are written before the record
+joined : (new_prefix made sent pending bytes out : List ℕ) → new_prefix ++ (header Second ++ made) ≡ sent ++ pending → out ≡ pending ++ bytes
+    → new_prefix ++ (header Second ++ (made ++ bytes)) ≡ sent ++ out
+joined new_prefix made sent pending bytes out all is =
+    ap (λ (l : List ℕ). new_prefix ++ l) (sym (append_assoc (header Second) made bytes)) ∙ sym (append_assoc new_prefix (header Second ++ made) bytes)
+    ∙ ap (λ (l : List ℕ). l ++ bytes) all ∙ append_assoc sent pending bytes ∙ ap (λ (l : List ℕ). sent ++ l) (sym is)
+
+pub rekeys_more : (p p' q q' : Progress) (key prefix new_key new_prefix context : List ℕ) (stream left left' old new new' : Option (List ℕ)) (pending m out none : List ℕ)
     → RekeysSome p q key prefix new_key new_prefix context stream left old new pending → ReadsNext p p' left left' false m
-    → IsStep q q' m record_bytes → out ≡ pending ++ record_bytes → Appends new new' out → none ≡ []
+    → q' ≡ after q false m → out ≡ pending ++ record_of q 0 m → Appends new new' out → none ≡ []
     → RekeysSome p' q' key prefix new_key new_prefix context stream left' old new' none
-rekeys_more p p' q q' key prefix new_key new_prefix context stream left left' old new new' pending m record_bytes out none s next step out_is written cleared = record {
+rekeys_more p p' q q' key prefix new_key new_prefix context stream left left' old new new' pending m out none s next is out_is written cleared = record {
   messages = s.messages ++ m ∷ [];
   taken = s.taken ++ record_of p 0 m;
+  made = s.made ++ record_of q 0 m;
   sent = s.sent ++ out;
-  opened = next.begun key prefix context s.messages s.taken s.opened;
-  sealed = subst (Begun q' new_key new_prefix context (s.messages ++ m ∷ []))
-      (joined s.sent pending record_bytes out out_is ∙ sym (append-nil (s.sent ++ out)) ∙ ap (λ (l : List ℕ). (s.sent ++ out) ++ l) (sym cleared))
-      (step new_key new_prefix context s.messages (s.sent ++ pending) s.sealed);
+  opened = opened_next p p' q false key prefix new_key new_prefix context stream left left' old new pending m s next;
+  sealed = sealed_next p p' q q' false key prefix new_key new_prefix context stream left left' old new pending m s next is;
   read = Consumes-trans stream left left' s.taken (record_of p 0 m) s.read next.read;
-  written = subst (Appends old new') (append_assoc new_prefix s.sent out) (Appends-trans old new new' (new_prefix ++ s.sent) out s.written written);
+  all = joined new_prefix s.made s.sent pending (record_of q 0 m) out s.all out_is ∙ sym (append-nil (s.sent ++ out)) ∙ ap (λ (l : List ℕ). (s.sent ++ out) ++ l) (sym cleared);
+  written = Appends-trans old new new' s.sent out s.written written;
 }
 
-pub rekeys_end : (p p' q : Progress) (key prefix new_key new_prefix context : List ℕ) (stream left left' left'' old new new' new'' : Option (List ℕ)) (pending m record_bytes out : List ℕ)
+-- ---- the last record
+
+-- all of the old file was read
+whole_read : (p q p' : Progress) (key prefix new_key new_prefix context f : List ℕ) (stream left left' left'' old new : Option (List ℕ)) (pending m rest : List ℕ)
+    → (s : RekeysSome p q key prefix new_key new_prefix context stream left old new pending) → ReadsNext p p' left left' true m → Consumes left' left'' [] → IsAtEnd left''
+    → f ≡ (s.taken ++ record_of p 1 m) ++ rest → left' ≡ Some rest
+    → IsFileOf key prefix context (concat (s.messages ++ m ∷ [])) (prefix ++ (header Second ++ f))
+whole_read p q p' key prefix new_key new_prefix context f stream left left' left'' old new pending m rest s next none end is known = record {
+  messages = s.messages ++ m ∷ [];
+  stream = header Second ++ f;
+  are = subst (λ (l : List ℕ). AreRecords Second key prefix context (s.messages ++ m ∷ []) (header Second ++ l))
+      (sym (is ∙ ap (λ (l : List ℕ). (s.taken ++ record_of p 1 m) ++ l) (nothing left' left'' known none end) ∙ append-nil (s.taken ++ record_of p 1 m)))
+      (reaches_stream key prefix context p' (s.messages ++ m ∷ []) (s.taken ++ record_of p 1 m)
+      (opened_next p p' q true key prefix new_key new_prefix context stream left left' old new pending m s next));
+  text_is = refl;
+  file_is = refl;
+}
+  where
+    nothing : (a b : Option (List ℕ)) → a ≡ Some rest → Consumes a b [] → IsAtEnd b → rest ≡ []
+    nothing None b is read end = absurd cc
+    nothing (Some l) None is read end = absurd read
+    nothing (Some l) (Some r) is read end = let same : l ≡ rest = cc in sym same ∙ read ∙ end
+
+pub rekeys_end : (p p' q : Progress) (key prefix new_key new_prefix context : List ℕ) (stream left left' left'' old new new' : Option (List ℕ)) (pending m out : List ℕ)
     → RekeysSome p q key prefix new_key new_prefix context stream left old new pending → ReadsNext p p' left left' true m
-    → Consumes left' left'' [] → IsAtEnd left'' → IsLast q m record_bytes → out ≡ pending ++ record_bytes → Appends new new' out → Keeps new' new''
-    → IfSome stream (λ f. (ms : List (List ℕ)) × AreRecordsOfSomeVersion key prefix context ms f
-    × (file : List ℕ) × IsFileOf new_key new_prefix context (concat ms) file × Appends old new'' file)
-rekeys_end p p' q key prefix new_key new_prefix context None left left' left'' old new new' new'' pending m record_bytes out s next none end last out_is written kept = tt
-rekeys_end p p' q key prefix new_key new_prefix context (Some f) left left' left'' old new new' new'' pending m record_bytes out s next none end last out_is written kept = (
-  s.messages ++ m ∷ [],
-  whole_stream p p' key prefix context f left left' left'' s.messages s.taken m s.opened s.read next none end,
-  new_prefix ++ (s.sent ++ out),
-  record {
-    messages = s.messages ++ m ∷ [];
-    stream = s.sent ++ out;
-    are = subst (AreRecordsOfSomeVersion new_key new_prefix context (s.messages ++ m ∷ [])) (joined s.sent pending record_bytes out out_is)
-        (last new_key new_prefix context s.messages (s.sent ++ pending) s.sealed);
-    text_is = refl;
-    file_is = refl;
-  },
-  Appends-kept old new' new'' (new_prefix ++ (s.sent ++ out))
-      (subst (Appends old new') (append_assoc new_prefix s.sent out) (Appends-trans old new new' (new_prefix ++ s.sent) out s.written written)) kept,
-)
+    → Consumes left' left'' [] → IsAtEnd left'' → out ≡ pending ++ record_of q 1 m → Appends new new' out
+    → IfSome stream (λ f. (text : List ℕ) × IsFileOf key prefix context text (prefix ++ (header Second ++ f))
+    × (file : List ℕ) × IsFileOf new_key new_prefix context text file × Appends old new' file)
+rekeys_end p p' q key prefix new_key new_prefix context stream left left' left'' old new new' pending m out s next none end out_is written =
+    read_some stream left' (s.taken ++ record_of p 1 m) _ (Consumes-trans stream left left' s.taken (record_of p 1 m) s.read next.read) (λ f rest known is after_it. (
+      concat (s.messages ++ m ∷ []),
+      whole_read p q p' key prefix new_key new_prefix context f stream left left' left'' old new pending m rest s next none end is after_it,
+      new_prefix ++ (header Second ++ (s.made ++ record_of q 1 m)),
+      record {
+        messages = s.messages ++ m ∷ [];
+        stream = header Second ++ (s.made ++ record_of q 1 m);
+        are = reaches_stream new_key new_prefix context (after q true m) (s.messages ++ m ∷ []) (s.made ++ record_of q 1 m)
+            (sealed_next p p' q (after q true m) true key prefix new_key new_prefix context stream left left' old new pending m s next refl);
+        text_is = refl;
+        file_is = refl;
+      },
+      subst (Appends old new') (sym (joined new_prefix s.made s.sent pending (record_of q 1 m) out s.all out_is)) (Appends-trans old new new' s.sent out s.written written),
+    ))
+
+-- ---- it fails
+
+stops : (key new_key new_prefix context file begun rest : List ℕ) (ms : List (List ℕ)) (flag : ℕ) (old new : Option (List ℕ)) (e : FileError) → length new_prefix ≡ 24
+    → AreWithin Second ms → new_prefix ++ front (sealed new_key new_prefix context) Second flag ms ≡ begun ++ rest → Appends old new begun
+    → (ms ≡ []) ⊎ AreInFile key context file ms → (flag ≡ 0) ⊎ ((flag ≡ 1) × IsSealedFile key context (concat ms) file × IsWriteError e) → RefusesFile key context file e
+    → RekeysFront key new_key new_prefix context file old new e
+stops key new_key new_prefix context file begun rest ms flag old new e long within is written verified ends refuses = record {
+  begun = begun;
+  written = written;
+  messages = ms;
+  flag = flag;
+  of_file = (rest, is);
+  verified = verified;
+  ends = ends;
+  opens = λ other it.
+      let whole = opens_whole new_key new_prefix context begun rest other ms flag (IsSealedFile key context (concat ms) file × IsWriteError e) long within is (paired ends) it in
+      (subst (λ (l : List ℕ). IsSealedFile key context l file) (sym whole.0) whole.1.0, whole.1.1);
+  refuses = refuses;
+}
+  where
+    paired : (flag ≡ 0) ⊎ ((flag ≡ 1) × IsSealedFile key context (concat ms) file × IsWriteError e) → (flag ≡ 0) ⊎ ((flag ≡ 1) × (IsSealedFile key context (concat ms) file × IsWriteError e))
+    paired (inl zero) = inl zero
+    paired (inr last) = inr (last.0, (last.1, last.2))
+
+pub nothing_sent : (key new_key new_prefix context file : List ℕ) (old : Option (List ℕ)) (e : FileError) → length new_prefix ≡ 24 → RefusesFile key context file e
+    → RekeysFront key new_key new_prefix context file old old e
+nothing_sent key new_key new_prefix context file old e long refuses =
+    stops key new_key new_prefix context file [] _ [] 0 old old e long tt refl (Appends-nil old) (inl refl) (inl refl) refuses
+
+in_file : (key prefix context f rest : List ℕ) (ms : List (List ℕ)) (flag : ℕ) → length prefix ≡ 24 → AreFrom key prefix context (first_position Second) flag ms rest f
+    → AreInFile key context (prefix ++ (header Second ++ f)) ms
+in_file key prefix context f rest ms flag long r = record { prefix = prefix; long = long; bytes = f; file_is = refl; flag = flag; rest = rest; records = r }
+
+-- no memory
+pub no_memory : (key prefix context f : List ℕ) (e : FileError) → length prefix ≡ 24 → e ≡ Stream errors.OutOfMemory → RefusesFile key context (prefix ++ (header Second ++ f)) e
+no_memory key prefix context f e long is = refuses_file key prefix context f e long (refuses_from key prefix context (first_position Second) f e (λ d it. inl cc) (λ it. absurd cc))
+
+pub none_at_first : (key prefix new_key new_prefix context : List ℕ) (stream old : Option (List ℕ)) (e : FileError) → length prefix ≡ 24 → length new_prefix ≡ 24 → e ≡ Stream errors.OutOfMemory
+    → IfSome stream (λ f. RekeysFront key new_key new_prefix context (prefix ++ (header Second ++ f)) old old e)
+none_at_first key prefix new_key new_prefix context None old e long new_long is = tt
+none_at_first key prefix new_key new_prefix context (Some f) old e long new_long is = nothing_sent key new_key new_prefix context _ old e new_long (no_memory key prefix context f e long is)
+
+-- between two records
+between : (p q : Progress) (key prefix new_key new_prefix context : List ℕ) (stream left old new : Option (List ℕ)) (pending f rest : List ℕ) (e : FileError) → length prefix ≡ 24 → length new_prefix ≡ 24
+    → (s : RekeysSome p q key prefix new_key new_prefix context stream left old new pending) → f ≡ s.taken ++ rest → RefusesFile key context (prefix ++ (header Second ++ f)) e
+    → RekeysFront key new_key new_prefix context (prefix ++ (header Second ++ f)) old new e
+between p q key prefix new_key new_prefix context stream left old new pending f rest e long new_long s is refuses =
+    stops key new_key new_prefix context _ s.sent pending s.messages 0 old new e new_long s.sealed.within
+    (ap (λ (l : List ℕ). new_prefix ++ (header Second ++ l)) (sym s.sealed.are) ∙ s.all) s.written
+    (inr (in_file key prefix context f rest s.messages 0 long (are_from key prefix context (first_position Second) p false s.messages s.taken rest f s.opened is))) (inl refl) refuses
+
+pub stops_memory : (p q : Progress) (key prefix new_key new_prefix context : List ℕ) (stream left old new : Option (List ℕ)) (pending : List ℕ) (e : FileError) → length prefix ≡ 24 → length new_prefix ≡ 24
+    → RekeysSome p q key prefix new_key new_prefix context stream left old new pending → e ≡ Stream errors.OutOfMemory
+    → IfSome stream (λ f. RekeysFront key new_key new_prefix context (prefix ++ (header Second ++ f)) old new e)
+stops_memory p q key prefix new_key new_prefix context stream left old new pending e long new_long s is = read_some stream left s.taken _ s.read (λ f rest known f_is after_it.
+    between p q key prefix new_key new_prefix context stream left old new pending f rest e long new_long s f_is (no_memory key prefix context f e long is))
+
+pub stops_next : (p q : Progress) (key prefix new_key new_prefix context : List ℕ) (stream left old new : Option (List ℕ)) (pending : List ℕ) (e : FileError) → length prefix ≡ 24 → length new_prefix ≡ 24
+    → RekeysSome p q key prefix new_key new_prefix context stream left old new pending → FailsNext p left e
+    → IfSome stream (λ f. RekeysFront key new_key new_prefix context (prefix ++ (header Second ++ f)) old new e)
+stops_next p q key prefix new_key new_prefix context stream left old new pending e long new_long s why = read_some stream left s.taken _ s.read (λ f rest known is after_it.
+    between p q key prefix new_key new_prefix context stream left old new pending f rest e long new_long s is (refuses_file key prefix context f e long
+    (fails_from key prefix context (first_position Second) p s.messages s.taken rest f e s.opened is (subst (λ l. FailsNext p l e) after_it why))))
+
+pub stops_end : (p p' q : Progress) (key prefix new_key new_prefix context : List ℕ) (stream left left' left'' old new : Option (List ℕ)) (pending m : List ℕ) (e : FileError) → length prefix ≡ 24
+    → length new_prefix ≡ 24 → RekeysSome p q key prefix new_key new_prefix context stream left old new pending → ReadsNext p p' left left' true m → LeavesSome left' left'' e
+    → IfSome stream (λ f. RekeysFront key new_key new_prefix context (prefix ++ (header Second ++ f)) old new e)
+stops_end p p' q key prefix new_key new_prefix context stream left left' left'' old new pending m e long new_long s next why =
+    read_some stream left' (s.taken ++ record_of p 1 m) _ (Consumes-trans stream left left' s.taken (record_of p 1 m) s.read next.read) (λ f rest known is after_it.
+    between p q key prefix new_key new_prefix context stream left old new pending f (record_of p 1 m ++ rest) e long new_long s (is ∙ append_assoc s.taken (record_of p 1 m) rest)
+    (refuses_more key prefix context f rest (s.messages ++ m ∷ []) 1 left' left'' e long
+    (are_from key prefix context (first_position Second) p' true (s.messages ++ m ∷ []) (s.taken ++ record_of p 1 m) rest f
+    (opened_next p p' q true key prefix new_key new_prefix context stream left left' old new pending m s next) is) refl after_it why))
+
+-- at a record, of which n bytes were written with those that were pending
+cut : (sent out : List ℕ) (n : ℕ) → sent ++ out ≡ (sent ++ take n out) ++ drop n out
+cut sent out n = ap (λ (l : List ℕ). sent ++ l) (sym (take-append-drop n out)) ∙ sym (append_assoc sent (take n out) (drop n out))
+
+pub stops_writing : (p p' q q' : Progress) (key prefix new_key new_prefix context : List ℕ) (stream left left' old new new' : Option (List ℕ)) (pending m out : List ℕ) (n : ℕ) (e : FileError)
+    → length prefix ≡ 24 → length new_prefix ≡ 24 → RekeysSome p q key prefix new_key new_prefix context stream left old new pending → ReadsNext p p' left left' false m
+    → q' ≡ after q false m → out ≡ pending ++ record_of q 0 m → Appends new new' (take n out) → IsWriteError e
+    → IfSome stream (λ f. RekeysFront key new_key new_prefix context (prefix ++ (header Second ++ f)) old new' e)
+stops_writing p p' q q' key prefix new_key new_prefix context stream left left' old new new' pending m out n e long new_long s next q_is out_is written why =
+    read_some stream left' (s.taken ++ record_of p 0 m) _ (Consumes-trans stream left left' s.taken (record_of p 0 m) s.read next.read) (λ f rest known is after_it.
+    let ms : List (List ℕ) = s.messages ++ m ∷ [] in
+    let made = sealed_next p p' q q' false key prefix new_key new_prefix context stream left left' old new pending m s next q_is in
+    stops key new_key new_prefix context _ (s.sent ++ take n out) (drop n out) ms 0 old new' e new_long made.within
+    (ap (λ (l : List ℕ). new_prefix ++ (header Second ++ l)) (sym made.are) ∙ joined new_prefix s.made s.sent pending (record_of q 0 m) out s.all out_is ∙ cut s.sent out n)
+    (Appends-trans old new new' s.sent (take n out) s.written written)
+    (inr (in_file key prefix context f rest ms 0 long (are_from key prefix context (first_position Second) p' false ms (s.taken ++ record_of p 0 m) rest f
+    (opened_next p p' q false key prefix new_key new_prefix context stream left left' old new pending m s next) is)))
+    (inl refl) (refuses_file key prefix context f e long (unwritten key prefix context (first_position Second) f e why)))
+
+pub stops_ending : (p p' q : Progress) (key prefix new_key new_prefix context : List ℕ) (stream left left' left'' old new new' : Option (List ℕ)) (pending m out : List ℕ) (n : ℕ) (e : FileError)
+    → length prefix ≡ 24 → length new_prefix ≡ 24 → RekeysSome p q key prefix new_key new_prefix context stream left old new pending → ReadsNext p p' left left' true m
+    → Consumes left' left'' [] → IsAtEnd left'' → out ≡ pending ++ record_of q 1 m → Appends new new' (take n out) → IsWriteError e
+    → IfSome stream (λ f. RekeysFront key new_key new_prefix context (prefix ++ (header Second ++ f)) old new' e)
+stops_ending p p' q key prefix new_key new_prefix context stream left left' left'' old new new' pending m out n e long new_long s next none end out_is written why =
+    read_some stream left' (s.taken ++ record_of p 1 m) _ (Consumes-trans stream left left' s.taken (record_of p 1 m) s.read next.read) (λ f rest known is after_it.
+    let ms : List (List ℕ) = s.messages ++ m ∷ [] in
+    let made = sealed_next p p' q (after q true m) true key prefix new_key new_prefix context stream left left' old new pending m s next refl in
+    let whole = whole_read p q p' key prefix new_key new_prefix context f stream left left' left'' old new pending m rest s next none end is after_it in
+    stops key new_key new_prefix context _ (s.sent ++ take n out) (drop n out) ms 1 old new' e new_long made.within
+    (ap (λ (l : List ℕ). new_prefix ++ (header Second ++ l)) (sym made.are) ∙ joined new_prefix s.made s.sent pending (record_of q 1 m) out s.all out_is ∙ cut s.sent out n)
+    (Appends-trans old new new' s.sent (take n out) s.written written)
+    (inr (in_file key prefix context f rest ms 1 long (are_from key prefix context (first_position Second) p' true ms (s.taken ++ record_of p 1 m) rest f
+    (opened_next p p' q true key prefix new_key new_prefix context stream left left' old new pending m s next) is)))
+    (inr (refl, record { prefix = prefix; long = long; is = whole }, why)) (refuses_file key prefix context f e long (unwritten key prefix context (first_position Second) f e why)))
 
 -- ---- the old file
 
-file_rekeyed : (key prefix new_key new_prefix context : List ℕ) (file left old new : Option (List ℕ)) → length prefix ≡ 24 → Consumes file left prefix
-    → IfSome left (λ f. (ms : List (List ℕ)) × AreRecordsOfSomeVersion key prefix context ms f
-    × (file : List ℕ) × IsFileOf new_key new_prefix context (concat ms) file × Appends old new file)
-    → IfSome file (λ f. (text : List ℕ) × IsSealedFile key context text f
-    × (new_file : List ℕ) × IsFileOf new_key new_prefix context text new_file × Appends old new new_file)
-file_rekeyed key prefix new_key new_prefix context None left old new long read s = tt
-file_rekeyed key prefix new_key new_prefix context (Some f) None old new long read s = absurd read
-file_rekeyed key prefix new_key new_prefix context (Some f) (Some stream) old new long read s = (
-  concat s.0,
-  record {
-    prefix = prefix;
-    long = long;
-    is = record { messages = s.0; stream = stream; are = s.1; text_is = refl; file_is = read };
-  },
-  s.2,
-  s.3,
-  s.4,
-)
-
 pub result_rekeyed : {T : Type 0} (key prefix new_key new_prefix context : List ℕ) (file left old new : Option (List ℕ)) (r : Result T FileError) → length prefix ≡ 24
-    → Consumes file left prefix
-    → OnOk r (IfSome left (λ f. (ms : List (List ℕ)) × AreRecordsOfSomeVersion key prefix context ms f
-    × (file : List ℕ) × IsFileOf new_key new_prefix context (concat ms) file × Appends old new file))
+    → Consumes file left (prefix ++ header Second)
+    → OnOk r (IfSome left (λ f. (text : List ℕ) × IsFileOf key prefix context text (prefix ++ (header Second ++ f))
+    × (new_file : List ℕ) × IsFileOf new_key new_prefix context text new_file × Appends old new new_file))
     → OnOk r (IfSome file (λ f. (text : List ℕ) × IsSealedFile key context text f
     × (new_file : List ℕ) × IsFileOf new_key new_prefix context text new_file × Appends old new new_file))
-result_rekeyed key prefix new_key new_prefix context file left old new (Ok x) long read s = file_rekeyed key prefix new_key new_prefix context file left old new long read s
 result_rekeyed key prefix new_key new_prefix context file left old new (Err e) long read s = tt
+result_rekeyed key prefix new_key new_prefix context file left old new (Ok x) long read s =
+    under _ prefix file left read (some_with left _ _ (λ f o. (o.0, record { prefix = prefix; long = long; is = o.1 }, o.2, o.3, o.4)) s)

@@ -1,70 +1,32 @@
--- The facts that hold between two pieces that are sealed.
+-- The facts that hold between two pieces that are sealed, and those that hold if sealing fails.
 use borrow.Rule.Slice.PartMut.{post_of, put_mid}
-use Rattle.std.proofs.Common.{◌≡◌, ◌⊎◌, ℕ, ◌+◌, ◌-◌, ◌*◌, ◌<◌, ◌≤◌, List, [], ◌∷◌, ◌++◌, Option, None, Some, IfSome, drop, length, take, le_refl, refl, sym, ap, subst, ◌∙◌, append_assoc, arith, inl, inr}
-use Rattle.std.proofs.KnownBytes.{Appends-kept, Appends-trans, Consumes-all, Consumes-nil, Consumes-trans}
+use Rattle.std.proofs.Common.{◌≡◌, ◌≢◌, ◌⊎◌, ℕ, ◌+◌, ◌-◌, ◌*◌, ◌<◌, ◌≤◌, true, false, List, [], ◌∷◌, ◌++◌, Option, None, Some, IfSome, drop, length, take, refl, sym, ap, subst, ◌∙◌, append_assoc, arith, inl, inr}
+use Rattle.std.proofs.KnownBytes.{Appends-trans, Consumes-nil, Consumes-trans}
 use Rattle.std.proofs.Math.Nat.{le-div_iff_mul-le}
 use Rattle.std.proofs.lemmas.Bool.{cases_lt}
-use Rattle.std.proofs.lemmas.List.{append-nil, drop-take, drop_at, length-append, length-drop, length-take, nil_from_length, take-append-drop, take-append-le, take-take, take_all, with_items_is}
-use Rattle.std.specs.Io.KnownBytes.{Appends, Consumes, IsAtEnd, Keeps}
+use Rattle.std.proofs.lemmas.List.{append-nil, drop-take, drop_at, length-append, length-drop, length-take, nil_from_length, take-append-drop, take-append-le, take-take, with_items_is}
+use Rattle.std.specs.Io.KnownBytes.{Appends, Consumes, IsAtEnd}
 use Rattle.std.specs.Prelude.{Vec}
 use Rattle.std.specs.Vec.{with_items}
 use Rattle.std.specs.List.{AllByRecursion, concat}
 use Rattle.aegis_base.specs.declared.error.TheConstants.{MAX_AEAD_BYTES}
-use Rattle.aegis.proofs.Fronts.{after_a_stream}
-use Rattle.aegis.proofs.Reading.{total_push}
+use Rattle.aegis.proofs.Frames.{one_fault, one_record_stream, version_after}
 use Rattle.aegis.proofs.Sealed.{sealed-is}
-use Rattle.aegis.proofs.Streams.{one_fault, one_record_stream}
+use Rattle.aegis.proofs.Stepwise.{after_a_stream}
 use Rattle.aegis.specs.declared.record.error.RecordError.TheVariants as errors
 use Rattle.aegis.specs.declared.record.length.TheConstants.{RECORD_BYTES}
+use Rattle.aegis.specs.declared.record.version.Version.TheVariants.{Second}
 use Rattle.aegis.specs.Calls.{message_at, message_in}
 use Rattle.aegis.specs.Fault.{AtRecord, IsFaultOf, parts}
-use Rattle.aegis.specs.Progress.{AreRecordsOfSomeVersion, Begun, Progress, start_of}
-use Rattle.aegis.specs.declared.record.version.Version.{Version}
-use Rattle.aegis.specs.declared.record.version.Version.TheVariants.{Second}
+use Rattle.aegis.specs.Progress.{Progress, after, progress_at, record_of, start_of}
 use Rattle.aegis.specs.Records.{AreRecords, IsFault, sealed}
-use Rattle.aegis.specs.RecordStream.{AreWithin, frames, front, header, total}
+use Rattle.aegis.specs.RecordStream.{AreWithin, first_position, frames, front, header, limit}
 use Rattle.aegis_files.specs.declared.error.FileError.{FileError}
 use Rattle.aegis_files.specs.declared.error.FileError.TheVariants.{TooLong}
 use Rattle.aegis_files.specs.declared.seal.TheConstants.{PIECE_BYTES}
-use Rattle.aegis_files.specs.SealedFile.{IfTooLong, IsFileOf, IsPiece, IsSealedFile, IsWriteError, WritesFileFront, pieces_in, stream_length}
-use Rattle.aegis_files.proofs.Errors.{IsInTime, in_time, write_in_time}
-use Rattle.aegis_files.proofs.Pieces.{all_push, concat-push, total-concat, two_prefixes}
-
--- the pieces so far are full, or the reader is at its end
-abbrev pub IsFull : Progress → Option (List ℕ) → Type 0
-IsFull p left = (p.before ≡ p.number * PIECE_BYTES) ⊎ IsAtEnd left
-
-pub counted : (p : Progress) (key prefix context : List ℕ) (ms : List (List ℕ)) (bytes : List ℕ) → Begun p key prefix context ms bytes
-    → (p.number ≡ length ms) × (p.before ≡ total ms)
-unfolding Begun
-counted p key prefix context ms bytes b = (b.number_is, b.before_is)
-
-full_none : (p : Progress) (key prefix context : List ℕ) (text left : Option (List ℕ)) (bytes : List ℕ) → Begun p key prefix context [] bytes
-    → IfSome text (λ t. IsFull p left)
-full_none p key prefix context None left bytes b = tt
-full_none p key prefix context (Some t) left bytes b =
-    let c = counted p key prefix context [] bytes b in
-    inl (omega (arith, c.0, c.1))
-
-at_end_still : (left left' : Option (List ℕ)) (m : List ℕ) (t taken : List ℕ) → Consumes (Some t) left taken → Consumes left left' m → IsAtEnd left → IsAtEnd left'
-at_end_still None left' m t taken before read end = absurd before
-at_end_still (Some l) None m t taken before read end = absurd read
-at_end_still (Some l) (Some r) m t taken before read end =
-    nil_from_length r (omega (arith, ap length read, ap length end, length-append m r))
-
-full_more : (p q : Progress) (key prefix context : List ℕ) (text left left' : Option (List ℕ)) (ms : List (List ℕ)) (m bytes bytes' : List ℕ)
-    → Begun p key prefix context ms bytes → Begun q key prefix context (ms ++ m ∷ []) bytes' → Consumes text left (concat ms) → Consumes left left' m
-    → IsPiece m → (length m < PIECE_BYTES → IsAtEnd left') → IfSome text (λ t. IsFull p left) → IfSome text (λ t. IsFull q left')
-full_more p q key prefix context None left left' ms m bytes bytes' b b' before read piece end full = tt
-full_more p q key prefix context (Some t) left left' ms m bytes bytes' b b' before read piece end (inr over) =
-    inr (at_end_still left left' m t (concat ms) before read over)
-full_more p q key prefix context (Some t) left left' ms m bytes bytes' b b' before read piece end (inl full) =
-    let c = counted p key prefix context ms bytes b in
-    let d = counted q key prefix context (ms ++ m ∷ []) bytes' b' in
-    elim (cases_lt (length m) PIECE_BYTES) [
-      | inl short ↦ inr (end short)
-      | inr whole ↦ inl (omega (arith, full, c.0, c.1, d.0, d.1, whole, piece, total_push ms m, length-append ms (m ∷ [])))
-    ]
+use Rattle.aegis_files.specs.SealedFile.{IsFileOf, IsPiece, IsSealedFile, IsWriteError, WritesFileFront, pieces_in, stream_length}
+use Rattle.aegis_files.proofs.Pieces.{all_push, concat-push, read_some, two_prefixes}
+use Rattle.aegis_files.proofs.Reaching.{Reaches, reaches_counts, reaches_more, reaches_none, reaches_stream}
 
 -- a buffer for the record of a piece, before and after a piece was read to its place
 pub record Placed {Z : Type 0} (v : Vec ℕ Z) (all piece : List ℕ) : Type 0 where
@@ -120,273 +82,259 @@ placed_in v n all piece again p within is =
     count : length (take (RECORD_BYTES + n) whole) - 37 ≡ n
     count = omega (arith, length-take (RECORD_BYTES + n) whole, long, within)
 
--- The messages were read from the text, and the bytes `sent` of their stream were written after the prefix.
+-- the pieces so far are full, or the reader is at its end
+abbrev pub IsFull : Progress → Option (List ℕ) → Type 0
+IsFull p left = (p.position.before ≡ p.position.number * PIECE_BYTES) ⊎ IsAtEnd left
+
+-- The messages were read from the text, and a header and the records `sent` were written after the prefix.
 pub record SealsSome (p : Progress) (key prefix context : List ℕ) (text left old new : Option (List ℕ)) : Type 0 where
   pub messages : List (List ℕ)
   pub sent : List ℕ
-  pub begun : Begun p key prefix context messages sent
+  pub reaches : Reaches key prefix context (first_position Second) p false messages sent
   pub read : Consumes text left (concat messages)
-  pub written : Appends old new (prefix ++ sent)
+  pub written : Appends old new (prefix ++ (header Second ++ sent))
   pub within : AllByRecursion IsPiece messages
   -- there is room for the last record, and all pieces are full if more of the text is left
   pub room : start_of p + 37 ≤ MAX_AEAD_BYTES
   pub full : IfSome text (λ t. IsFull p left)
 
-pub seals_begin : (p : Progress) (key prefix context : List ℕ) (text old new : Option (List ℕ)) (first : List ℕ) → Begun p key prefix context [] first
-    → Appends old new (prefix ++ first) → SealsSome p key prefix context text text old new
-seals_begin p key prefix context text old new first begun written = record {
+pub seals_begin : (p : Progress) (key prefix context : List ℕ) (text old new : Option (List ℕ)) → p ≡ progress_at key prefix context (first_position Second)
+    → Appends old new (prefix ++ header Second) → SealsSome p key prefix context text text old new
+seals_begin p key prefix context text old new is written = record {
   messages = [];
-  sent = first;
-  begun = begun;
+  sent = [];
+  reaches = reaches_none key prefix context (first_position Second) p is;
   read = Consumes-nil text;
   written = written;
   within = tt;
-  room = let c = counted p key prefix context [] first begun in omega (arith, c.0, c.1);
-  full = full_none p key prefix context text text first begun;
+  room = rw is (omega arith);
+  full = full text;
 }
+  where
+    full : (text : Option (List ℕ)) → IfSome text (λ t. IsFull p text)
+    full None = tt
+    full (Some t) = rw is (inl refl)
 
-abbrev pub IsStep : Progress → Progress → List ℕ → List ℕ → Type 0
-IsStep p q m bytes = (key prefix context : List ℕ) (ms : List (List ℕ)) (before : List ℕ) → Begun p key prefix context ms before
-    → Begun q key prefix context (ms ++ m ∷ []) (before ++ bytes)
+-- one more record was written
+more_written : (prefix sent bytes : List ℕ) (old new new' : Option (List ℕ)) → Appends old new (prefix ++ (header Second ++ sent)) → Appends new new' bytes
+    → Appends old new' (prefix ++ (header Second ++ (sent ++ bytes)))
+more_written prefix sent bytes old new new' before written =
+    subst (Appends old new') (append_assoc prefix (header Second ++ sent) bytes ∙ ap (λ (l : List ℕ). prefix ++ l) (append_assoc (header Second) sent bytes))
+    (Appends-trans old new new' (prefix ++ (header Second ++ sent)) bytes before written)
 
-abbrev pub IsLast : Progress → List ℕ → List ℕ → Type 0
-IsLast p m bytes = (key prefix context : List ℕ) (ms : List (List ℕ)) (before : List ℕ) → Begun p key prefix context ms before
-    → AreRecordsOfSomeVersion key prefix context (ms ++ m ∷ []) (before ++ bytes)
-
--- bytes that were pending are written before the record
-pub joined : (sent pending bytes out : List ℕ) → out ≡ pending ++ bytes → (sent ++ pending) ++ bytes ≡ sent ++ out
-joined sent pending bytes out is = append_assoc sent pending bytes ∙ ap (λ (l : List ℕ). sent ++ l) (sym is)
+-- no piece is too long for a record
+piece_fits : (p : Progress) (key prefix context : List ℕ) (ms : List (List ℕ)) (sent m : List ℕ) → Reaches key prefix context (first_position Second) p false ms sent → IsPiece m
+    → length m ≤ limit p.position.version
+piece_fits p key prefix context ms sent m r piece = rw (r.reached, version_after (first_position Second) ms) (omega (arith, piece))
 
 pub seals_more : (p q : Progress) (key prefix context : List ℕ) (text left left' old new new' : Option (List ℕ)) (m bytes : List ℕ)
-    → SealsSome p key prefix context text left old new → Consumes left left' m → IsStep p q m bytes → Appends new new' bytes
+    → SealsSome p key prefix context text left old new → Consumes left left' m → q ≡ after p false m → bytes ≡ record_of p 0 m → Appends new new' bytes
     → IsPiece m → (length m < PIECE_BYTES → IsAtEnd left') → start_of q + 37 ≤ MAX_AEAD_BYTES
     → SealsSome q key prefix context text left' old new'
-seals_more p q key prefix context text left left' old new new' m bytes s read step written piece end room = record {
+seals_more p q key prefix context text left left' old new new' m bytes s read next is written piece end room = record {
   messages = s.messages ++ m ∷ [];
-  sent = s.sent ++ bytes;
-  begun = step key prefix context s.messages s.sent s.begun;
+  sent = s.sent ++ record_of p 0 m;
+  reaches = reaches_more key prefix context (first_position Second) p q false s.messages s.sent m s.reaches next (piece_fits p key prefix context s.messages s.sent m s.reaches piece);
   read = subst (Consumes text left') (sym (concat-push s.messages m)) (Consumes-trans text left left' (concat s.messages) m s.read read);
-  written = subst (Appends old new') (append_assoc prefix s.sent bytes) (Appends-trans old new new' (prefix ++ s.sent) bytes s.written written);
+  written = more_written prefix s.sent (record_of p 0 m) old new new' s.written (subst (Appends new new') is written);
   within = all_push IsPiece s.messages m s.within piece;
   room = room;
-  full = full_more p q key prefix context text left left' s.messages m s.sent (s.sent ++ bytes) s.begun
-      (step key prefix context s.messages s.sent s.begun) s.read read piece end s.full;
+  full = full text left left' s.full s.read read end;
 }
+  where
+    full : (text left left' : Option (List ℕ)) → IfSome text (λ t. IsFull p left) → Consumes text left (concat s.messages) → Consumes left left' m
+        → (length m < PIECE_BYTES → IsAtEnd left') → IfSome text (λ t. IsFull q left')
+    full None left left' is before read end = tt
+    full (Some t) None left' is before read end = absurd before
+    full (Some t) (Some l) None is before read end = absurd read
+    full (Some t) (Some l) (Some r) (inr over) before read end = inr (nil_from_length r (omega (arith, ap length read, ap length over, length-append m r)))
+    full (Some t) (Some l) (Some r) (inl all) before read end = elim (cases_lt (length m) PIECE_BYTES) [
+      | inl short ↦ inr (end short)
+      | inr whole ↦ rw next (inl (omega (arith, all, whole, piece)))
+    ]
 
-pub seals_end : (p : Progress) (key prefix context : List ℕ) (text left left' old new new' new'' : Option (List ℕ)) (bytes : List ℕ)
-    → SealsSome p key prefix context text left old new → Consumes left left' [] → IsAtEnd left' → IsLast p [] bytes
-    → Appends new new' bytes → Keeps new' new''
-    → IfSome text (λ t. (file : List ℕ) × (is : IsFileOf key prefix context t file) × Appends old new'' file × AllByRecursion IsPiece is.messages)
-seals_end p key prefix context None left left' old new new' new'' bytes s read end last written kept = tt
-seals_end p key prefix context (Some t) left left' old new new' new'' bytes s read end last written kept =
-    let whole : concat s.messages ++ [] ≡ [] ++ t =
-    Consumes-all (Some t) left' (concat s.messages ++ []) [] (concat s.messages ++ []) (Consumes-trans (Some t) left left' (concat s.messages) [] s.read read) end refl in (
-      prefix ++ (s.sent ++ bytes),
-      record {
-        messages = s.messages ++ [] ∷ [];
-        stream = s.sent ++ bytes;
-        are = last key prefix context s.messages s.sent s.begun;
-        text_is = sym whole ∙ sym (concat-push s.messages []);
-        file_is = refl;
-      },
-      Appends-kept old new' new'' (prefix ++ (s.sent ++ bytes))
-          (subst (Appends old new') (append_assoc prefix s.sent bytes) (Appends-trans old new new' (prefix ++ s.sent) bytes s.written written)) kept,
-      all_push IsPiece s.messages [] s.within (omega arith),
-    )
+-- ---- the text ends
 
--- ---- where sealing stops
+-- the last record, which is empty, ends the stream
+last_reaches : (p : Progress) (key prefix context : List ℕ) (ms : List (List ℕ)) (sent : List ℕ) → Reaches key prefix context (first_position Second) p false ms sent
+    → AreRecords Second key prefix context (ms ++ [] ∷ []) (header Second ++ (sent ++ record_of p 1 []))
+last_reaches p key prefix context ms sent r =
+    reaches_stream key prefix context (after p true []) (ms ++ [] ∷ []) (sent ++ record_of p 1 [])
+    (reaches_more key prefix context (first_position Second) p (after p true []) true ms sent [] r refl (piece_fits p key prefix context ms sent [] r (omega arith)))
 
--- the bytes that were read are the front of all of them
-pub split : (f taken : List ℕ) (left : Option (List ℕ)) → Consumes (Some f) left taken → (rest : List ℕ) × (f ≡ taken ++ rest) × (left ≡ Some rest)
-split f taken None read = absurd read
-split f taken (Some rest) read = (rest, read, refl)
+-- all of the text was read
+all_read : (t rest : List ℕ) (ms : List (List ℕ)) (left left' : Option (List ℕ)) → t ≡ concat ms ++ rest → left ≡ Some rest → Consumes left left' [] → IsAtEnd left' → t ≡ concat (ms ++ [] ∷ [])
+all_read t rest ms None left' is known read end = absurd cc
+all_read t rest ms (Some l) None is known read end = absurd read
+all_read t rest ms (Some l) (Some r) is known read end =
+    let same : l ≡ rest = cc in
+    is ∙ ap (λ (x : List ℕ). concat ms ++ x) (sym same ∙ read ∙ end) ∙ sym (concat-push ms [])
 
--- ---- what was written with no last record
+pub seals_end : (p : Progress) (key prefix context : List ℕ) (text left left' old new new' : Option (List ℕ)) (bytes : List ℕ)
+    → SealsSome p key prefix context text left old new → Consumes left left' [] → IsAtEnd left' → bytes ≡ record_of p 1 []
+    → Appends new new' bytes
+    → IfSome text (λ t. (file : List ℕ) × (is : IsFileOf key prefix context t file) × Appends old new' file × AllByRecursion IsPiece is.messages)
+seals_end p key prefix context text left left' old new new' bytes s read end is written = read_some text left (concat s.messages) _ s.read (λ t rest known text_is after. (
+  prefix ++ (header Second ++ (s.sent ++ record_of p 1 [])),
+  record {
+    messages = s.messages ++ [] ∷ [];
+    stream = header Second ++ (s.sent ++ record_of p 1 []);
+    are = last_reaches p key prefix context s.messages s.sent s.reaches;
+    text_is = all_read t rest s.messages left left' text_is after read end;
+    file_is = refl;
+  },
+  more_written prefix s.sent (record_of p 1 []) old new new' s.written (subst (Appends new new') is written),
+  all_push IsPiece s.messages [] s.within (omega arith),
+))
 
-cut_fault : (key prefix context : List ℕ) (v : Version) (ms : List (List ℕ)) → AreWithin v ms
-    → IsFault key prefix context (front (sealed key prefix context) v 0 ms) errors.Truncated
+-- ---- what was written, if it stops
+
+cut_fault : (key prefix context : List ℕ) (ms : List (List ℕ)) → AreWithin Second ms → IsFault key prefix context (front (sealed key prefix context) Second 0 ms) errors.Truncated
 unfolding IsFaultOf parts
-cut_fault key prefix context v ms within = AtRecord v ms [] within (sym (append-nil (front (sealed key prefix context) v 0 ms))) refl
+cut_fault key prefix context ms within = AtRecord Second ms [] within (sym (append-nil (front (sealed key prefix context) Second 0 ms))) refl
 
 -- no stream is a front of records that have no last one
-pub no_stream : (key prefix context : List ℕ) (v : Version) (ms others : List (List ℕ)) (stream rest : List ℕ) → AreWithin v ms
-    → front (sealed key prefix context) v 0 ms ≡ stream ++ rest → AreRecordsOfSomeVersion key prefix context others stream → ⊥
-no_stream key prefix context v ms others stream [] within is are =
-    (one_fault (sealed key prefix context) (sealed-is key prefix context)).1 stream are.0 others errors.Truncated are.1
-    (subst (λ (l : List ℕ). IsFault key prefix context l errors.Truncated) (is ∙ append-nil stream) (cut_fault key prefix context v ms within))
-no_stream key prefix context v ms others stream (x ∷ rest) within is are =
+no_stream : (key prefix context : List ℕ) (ms others : List (List ℕ)) (stream rest : List ℕ) → AreWithin Second ms
+    → front (sealed key prefix context) Second 0 ms ≡ stream ++ rest → AreRecords Second key prefix context others stream → ⊥
+no_stream key prefix context ms others stream [] within is are =
+    (one_fault (sealed key prefix context) (sealed-is key prefix context)).1 stream Second others errors.Truncated are
+    (subst (λ (l : List ℕ). IsFault key prefix context l errors.Truncated) (is ∙ append-nil stream) (cut_fault key prefix context ms within))
+no_stream key prefix context ms others stream (x ∷ rest) within is are =
     let same = (one_fault (sealed key prefix context) (sealed-is key prefix context)).0 (stream ++ x ∷ rest) errors.Truncated errors.Trailing
-    (subst (λ (l : List ℕ). IsFault key prefix context l errors.Truncated) is (cut_fault key prefix context v ms within))
-    (after_a_stream key prefix context others stream (x ∷ rest) are (omega arith)) in
+    (subst (λ (l : List ℕ). IsFault key prefix context l errors.Truncated) is (cut_fault key prefix context ms within))
+    (after_a_stream key prefix context others stream (x ∷ rest) (Second, are) (omega arith)) in
     absurd cc
 
--- what was written is a file that opens, and the prefix is its prefix
-pub record Opens (key prefix context text begun rest bytes : List ℕ) : Type 0 where
-  pub messages : List (List ℕ)
-  pub stream : List ℕ
-  pub are : AreRecordsOfSomeVersion key prefix context messages stream
-  pub text_is : text ≡ concat messages
-  pub is : bytes ≡ stream ++ rest
+no_records : (key prefix context : List ℕ) → front (sealed key prefix context) Second 0 [] ≡ front (sealed key prefix context) Second 1 []
+unfolding frames
+no_records key prefix context = refl
 
-pub opens_at : (key prefix context text begun rest bytes : List ℕ) → length prefix ≡ 24 → prefix ++ bytes ≡ begun ++ rest → IsSealedFile key context text begun
-    → Opens key prefix context text begun rest bytes
-opens_at key prefix context text begun rest bytes long is file =
-    let same = two_prefixes prefix file.prefix bytes (file.is.stream ++ rest) long file.long
-    (is ∙ ap (λ (l : List ℕ). l ++ rest) file.is.file_is ∙ append_assoc file.prefix file.is.stream rest) in
-    record {
-      messages = file.is.messages;
-      stream = file.is.stream;
-      are = subst (λ (l : List ℕ). AreRecordsOfSomeVersion key l context file.is.messages file.is.stream) (sym same.0) file.is.are;
-      text_is = file.is.text_is;
-      is = same.1;
-    }
+-- a front of a file is a file that opens only if it has the last record
+pub opens_whole : (key prefix context begun rest other : List ℕ) (ms : List (List ℕ)) (flag : ℕ) (P : Type 0) → length prefix ≡ 24 → AreWithin Second ms
+    → prefix ++ front (sealed key prefix context) Second flag ms ≡ begun ++ rest → (flag ≡ 0) ⊎ ((flag ≡ 1) × P) → IsSealedFile key context other begun → (other ≡ concat ms) × P
+opens_whole key prefix context begun rest other ms flag P long within is ends file = by_flag ends
+  where
+    both : (prefix ≡ file.prefix) × (front (sealed key prefix context) Second flag ms ≡ file.is.stream ++ rest)
+    both =
+        two_prefixes prefix file.prefix (front (sealed key prefix context) Second flag ms) (file.is.stream ++ rest) long file.long
+        (is ∙ ap (λ (l : List ℕ). l ++ rest) file.is.file_is ∙ append_assoc file.prefix file.is.stream rest)
 
-no_last : (key prefix context t begun rest more : List ℕ) (v : Version) (ms : List (List ℕ)) (old new : Option (List ℕ)) (e : FileError) → length prefix ≡ 24
-    → AreWithin v ms → prefix ++ front (sealed key prefix context) v 0 ms ≡ begun ++ rest → t ≡ concat ms ++ more → Appends old new begun
-    → IfTooLong e (MAX_AEAD_BYTES < stream_length (length t)) → WritesFileFront key prefix context t old new e
-no_last key prefix context t begun rest more v ms old new e long within is text written too_long = record {
+    are : AreRecords Second key prefix context file.is.messages file.is.stream
+    are = subst (λ (l : List ℕ). AreRecords Second key l context file.is.messages file.is.stream) (sym both.0) file.is.are
+
+    front_is : (n : ℕ) → flag ≡ n → front (sealed key prefix context) Second n ms ≡ file.is.stream ++ rest
+    front_is n e = ap (λ (k : ℕ). front (sealed key prefix context) Second k ms) (sym e) ∙ both.1
+
+    whole : (l : List (List ℕ)) → ms ≡ l → front (sealed key prefix context) Second 1 ms ≡ file.is.stream ++ rest → other ≡ concat ms
+    whole [] e all = absurd (no_stream key prefix context [] file.is.messages file.is.stream rest tt (no_records key prefix context ∙ subst (λ (l : List (List ℕ)). front (sealed key prefix context) Second 1 l ≡ file.is.stream ++ rest) e all) are)
+    whole (m ∷ l) e all =
+        let stream : List ℕ = front (sealed key prefix context) Second 1 ms in
+        let one = one_record_stream (sealed key prefix context) (sealed-is key prefix context) Second Second file.is.messages ms file.is.stream stream rest [] are
+        (record { some = omega (arith, ap length e); within = within; are = refl }) (sym all ∙ sym (append-nil stream)) in
+        file.is.text_is ∙ ap concat one.1
+
+    by_flag : (flag ≡ 0) ⊎ ((flag ≡ 1) × P) → (other ≡ concat ms) × P
+    by_flag (inl zero) = absurd (no_stream key prefix context ms file.is.messages file.is.stream rest within (front_is 0 zero) are)
+    by_flag (inr (one, p)) = (whole ms refl (front_is 1 one), p)
+
+stops : (key prefix context t begun rest more : List ℕ) (ms : List (List ℕ)) (flag : ℕ) (old new : Option (List ℕ)) (e : FileError) → length prefix ≡ 24
+    → AreWithin Second ms → prefix ++ front (sealed key prefix context) Second flag ms ≡ begun ++ rest → t ≡ concat ms ++ more → Appends old new begun
+    → (flag ≡ 0) ⊎ ((flag ≡ 1) × (t ≡ concat ms) × IsWriteError e) → (e ≡ TooLong → MAX_AEAD_BYTES < stream_length (length t))
+    → WritesFileFront key prefix context t old new e
+stops key prefix context t begun rest more ms flag old new e long within is text written ends too_long = record {
   begun = begun;
   written = written;
-  version = v;
   messages = ms;
-  flag = 0;
+  flag = flag;
   of_file = (rest, is);
   of_text = (more, text);
-  ends = inl refl;
+  ends = ends;
   opens = λ other file.
-      let opens = opens_at key prefix context other begun rest (front (sealed key prefix context) v 0 ms) long is file in
-      absurd (no_stream key prefix context v ms opens.messages opens.stream rest within opens.is opens.are);
+      let it = opens_whole key prefix context begun rest other ms flag ((t ≡ concat ms) × IsWriteError e) long within is (paired ends) file in
+      (it.0 ∙ sym it.1.0, it.1.1);
   too_long = too_long;
 }
+  where
+    paired : (flag ≡ 0) ⊎ ((flag ≡ 1) × (t ≡ concat ms) × IsWriteError e) → (flag ≡ 0) ⊎ ((flag ≡ 1) × ((t ≡ concat ms) × IsWriteError e))
+    paired (inl zero) = inl zero
+    paired (inr last) = inr (last.0, (last.1, last.2))
 
--- ---- what was written with the last record
-
-whole : (key prefix context t begun rest : List ℕ) (v : Version) (ms : List (List ℕ)) (old new : Option (List ℕ)) (e : FileError) → length prefix ≡ 24
-    → AreRecords v key prefix context ms (front (sealed key prefix context) v 1 ms)
-    → prefix ++ front (sealed key prefix context) v 1 ms ≡ begun ++ rest → t ≡ concat ms → Appends old new begun → IsWriteError e
-    → WritesFileFront key prefix context t old new e
-whole key prefix context t begun rest v ms old new e long are is text written why =
-    let stream : List ℕ = front (sealed key prefix context) v 1 ms in
-    record {
-      begun = begun;
-      written = written;
-      version = v;
-      messages = ms;
-      flag = 1;
-      of_file = (rest, is);
-      of_text = ([], text ∙ sym (append-nil (concat ms)));
-      ends = inr (refl, text, why);
-      opens = λ other file.
-          let opens = opens_at key prefix context other begun rest stream long is file in
-          let one = one_record_stream (sealed key prefix context) (sealed-is key prefix context) opens.are.0 v opens.messages ms opens.stream stream rest [] opens.are.1 are
-          (sym opens.is ∙ sym (append-nil stream)) in
-          (opens.text_is ∙ ap concat one.1 ∙ sym text, why);
-      too_long = in_time e _ (write_in_time e why);
-    }
-
--- ---- each exit
-
-front_none : (key prefix context : List ℕ) → front (sealed key prefix context) Second 0 [] ≡ header Second
-unfolding frames
-front_none key prefix context = append-nil (header Second)
+pub written_in_time : (e : FileError) → IsWriteError e → e ≢ TooLong
+written_in_time e (why, is) long = absurd cc
 
 -- some bytes of the prefix and the header were written
-pub stops_in_front : (key prefix context : List ℕ) (text old new : Option (List ℕ)) (n : ℕ) (e : FileError) → length prefix ≡ 24 → IsInTime e
+pub stops_in_front : (key prefix context : List ℕ) (text old new : Option (List ℕ)) (n : ℕ) (e : FileError) → length prefix ≡ 24 → e ≢ TooLong
     → Appends old new (take n (prefix ++ header Second)) → IfSome text (λ t. WritesFileFront key prefix context t old new e)
+unfolding frames
 stops_in_front key prefix context None old new n e long time written = tt
 stops_in_front key prefix context (Some t) old new n e long time written =
     let all : List ℕ = prefix ++ header Second in
-    no_last key prefix context t (take n all) (drop n all) t Second [] old new e long tt
-    (ap (λ (l : List ℕ). prefix ++ l) (front_none key prefix context) ∙ sym (take-append-drop n all)) refl written (in_time e _ time)
+    stops key prefix context t (take n all) (drop n all) t [] 0 old new e long tt (sym (take-append-drop n all)) refl written (inl refl) (λ it. absurd (time it))
 
--- the records so far
-sent_front : (p : Progress) (key prefix context t sent rest : List ℕ) (ms : List (List ℕ)) (left old new : Option (List ℕ)) (e : FileError) → length prefix ≡ 24
-    → Begun p key prefix context ms (sent ++ rest) → Consumes (Some t) left (concat ms) → Appends old new (prefix ++ sent)
-    → IfTooLong e (MAX_AEAD_BYTES < stream_length (length t)) → WritesFileFront key prefix context t old new e
-unfolding Begun
-sent_front p key prefix context t sent rest ms left old new e long b read written too_long =
-    let parts = split t (concat ms) left read in
-    no_last key prefix context t (prefix ++ sent) rest parts.0 p.version ms old new e long b.within
-    (ap (λ (l : List ℕ). prefix ++ l) (sym b.are) ∙ sym (append_assoc prefix sent rest)) parts.1 written too_long
+-- some bytes of the records were written, none of them of the last one
+sent_front : (p : Progress) (key prefix context t sent rest begun left : List ℕ) (ms : List (List ℕ)) (old new : Option (List ℕ)) (e : FileError) → length prefix ≡ 24
+    → Reaches key prefix context (first_position Second) p false ms sent → prefix ++ (header Second ++ sent) ≡ begun ++ rest → t ≡ concat ms ++ left → Appends old new begun
+    → (e ≡ TooLong → MAX_AEAD_BYTES < stream_length (length t)) → WritesFileFront key prefix context t old new e
+sent_front p key prefix context t sent rest begun left ms old new e long r is text written too_long =
+    stops key prefix context t begun rest left ms 0 old new e long r.within (ap (λ (l : List ℕ). prefix ++ (header Second ++ l)) (sym r.are) ∙ is) text written (inl refl) too_long
 
 pub stops_between : (p : Progress) (key prefix context : List ℕ) (text left old new : Option (List ℕ)) (e : FileError) → length prefix ≡ 24
-    → IsInTime e → SealsSome p key prefix context text left old new → IfSome text (λ t. WritesFileFront key prefix context t old new e)
-stops_between p key prefix context None left old new e long time s = tt
-stops_between p key prefix context (Some t) left old new e long time s =
-    sent_front p key prefix context t s.sent [] s.messages left old new e long (rw append-nil s.begun) s.read s.written (in_time e _ time)
+    → e ≢ TooLong → SealsSome p key prefix context text left old new → IfSome text (λ t. WritesFileFront key prefix context t old new e)
+stops_between p key prefix context text left old new e long time s = read_some text left (concat s.messages) _ s.read (λ t rest known is after.
+    sent_front p key prefix context t s.sent [] (prefix ++ (header Second ++ s.sent)) rest s.messages old new e long s.reaches
+    (sym (append-nil (prefix ++ (header Second ++ s.sent)))) is s.written (λ it. absurd (time it)))
 
 -- the text has more full pieces than the limit allows
-too_many : (p : Progress) (key prefix context t left' : List ℕ) (ms : List (List ℕ)) (bytes : List ℕ) (left : Option (List ℕ)) (m : List ℕ)
-    → Begun p key prefix context ms bytes → Consumes (Some t) left (concat ms) → Consumes left (Some left') m → 0 < length m → IsFull p left
-    → MAX_AEAD_BYTES < start_of p + (74 + length m) → MAX_AEAD_BYTES < stream_length (length t)
-too_many p key prefix context t left' ms bytes None m b before read some full long = absurd before
-too_many p key prefix context t left' ms bytes (Some l) m b before read some (inr over) long =
-    absurd (omega (arith, some, ap length read, ap length over, length-append m left'))
-too_many p key prefix context t left' ms bytes (Some l) m b before read some (inl full) long =
-    let c = counted p key prefix context ms bytes b in
-    let sizes = ap length before in
-    let more = ap length read in
-    let sum = total-concat ms in
-    let low : (p.number + 1) * PIECE_BYTES ≤ length t + (PIECE_BYTES - 1) =
-    omega (arith, full, c.1, some, length-append (concat ms) l, length-append m left') in
-    let pieces : p.number + 1 ≤ pieces_in (length t) = (le-div_iff_mul-le {x = p.number + 1} (omega arith)).1 low in
-    omega (arith, full, c.1, length-append (concat ms) l, length-append m left')
-
 pub stops_long : (p : Progress) (key prefix context : List ℕ) (text left left' old new : Option (List ℕ)) (m : List ℕ) → length prefix ≡ 24
     → SealsSome p key prefix context text left old new → Consumes left left' m → 0 < length m → MAX_AEAD_BYTES < start_of p + (74 + length m)
     → IfSome text (λ t. WritesFileFront key prefix context t old new TooLong)
 stops_long p key prefix context None left left' old new m long s read some past = tt
-stops_long p key prefix context (Some t) left left' old new m long s read some past =
-    sent_front p key prefix context t s.sent [] s.messages left old new TooLong long (rw append-nil s.begun) s.read s.written
-    (past_limit left left' s.read read s.full)
+stops_long p key prefix context (Some t) left left' old new m long s read some past = read_some (Some t) left (concat s.messages) _ s.read (λ f rest known is after.
+    let same : t ≡ f = cc in
+    subst (λ (l : List ℕ). WritesFileFront key prefix context l old new TooLong) (sym same)
+    (sent_front p key prefix context f s.sent [] (prefix ++ (header Second ++ s.sent)) rest s.messages old new TooLong long s.reaches
+    (sym (append-nil (prefix ++ (header Second ++ s.sent)))) is s.written (λ it. past_limit left left' f rest is after read s.full)))
   where
-    past_limit : (left left' : Option (List ℕ)) → Consumes (Some t) left (concat s.messages) → Consumes left left' m → IsFull p left
-        → MAX_AEAD_BYTES < stream_length (length t)
-    past_limit None left' before read full = absurd before
-    past_limit (Some l) None before read full = absurd read
-    past_limit (Some l) (Some r) before read full =
-        too_many p key prefix context t r s.messages s.sent (Some l) m s.begun before read some full past
+    past_limit : (left left' : Option (List ℕ)) (f rest : List ℕ) → f ≡ concat s.messages ++ rest → left ≡ Some rest → Consumes left left' m → IsFull p left
+        → MAX_AEAD_BYTES < stream_length (length f)
+    past_limit None left' f rest is known read full = absurd cc
+    past_limit (Some l) None f rest is known read full = absurd read
+    past_limit (Some l) (Some r) f rest is known read (inr over) = absurd (omega (arith, some, ap length read, ap length over, length-append m r))
+    past_limit (Some l) (Some r) f rest is known read (inl full) =
+        let c = reaches_counts key prefix context (first_position Second) p false s.messages s.sent s.reaches in
+        let same : l ≡ rest = cc in
+        let sizes = ap length is in
+        let more = ap length read in
+        let equal = ap length same in
+        let low : (p.position.number + 1) * PIECE_BYTES ≤ length f + (PIECE_BYTES - 1) =
+        omega (arith, full, c.1, some, length-append (concat s.messages) rest, length-append m r) in
+        let pieces : p.position.number + 1 ≤ pieces_in (length f) = (le-div_iff_mul-le {x = p.position.number + 1} (omega arith)).1 low in
+        omega (arith, full, c.1, past, length-append (concat s.messages) rest, length-append m r)
 
--- the record was sealed, and some of the bytes to write were written
-cut : (sent out : List ℕ) (n : ℕ) → (sent ++ take n out) ++ drop n out ≡ sent ++ out
-cut sent out n = append_assoc sent (take n out) (drop n out) ∙ ap (λ (l : List ℕ). sent ++ l) (take-append-drop n out)
-
-pub cut_out : (sent pending bytes out : List ℕ) (n : ℕ) → out ≡ pending ++ bytes → (sent ++ take n out) ++ drop n out ≡ (sent ++ pending) ++ bytes
-cut_out sent pending bytes out n is = cut sent out n ∙ sym (joined sent pending bytes out is)
+-- some bytes of the next record were written
+cut : (prefix sent out : List ℕ) (n : ℕ) → prefix ++ (header Second ++ (sent ++ out)) ≡ (prefix ++ (header Second ++ (sent ++ take n out))) ++ drop n out
+cut prefix sent out n =
+    ap (λ (l : List ℕ). prefix ++ (header Second ++ (sent ++ l))) (sym (take-append-drop n out)) ∙ ap (λ (l : List ℕ). prefix ++ (header Second ++ l)) (sym (append_assoc sent (take n out) (drop n out)))
+    ∙ ap (λ (l : List ℕ). prefix ++ l) (sym (append_assoc (header Second) (sent ++ take n out) (drop n out))) ∙ sym (append_assoc prefix (header Second ++ (sent ++ take n out)) (drop n out))
 
 pub stops_writing : (p q : Progress) (key prefix context : List ℕ) (text left left' old new new' : Option (List ℕ)) (m bytes : List ℕ) (n : ℕ) (e : FileError)
-    → length prefix ≡ 24 → IsInTime e → SealsSome p key prefix context text left old new → Consumes left left' m → IsStep p q m bytes
+    → length prefix ≡ 24 → e ≢ TooLong → SealsSome p key prefix context text left old new → Consumes left left' m → q ≡ after p false m → bytes ≡ record_of p 0 m → IsPiece m
     → Appends new new' (take n bytes) → IfSome text (λ t. WritesFileFront key prefix context t old new' e)
-stops_writing p q key prefix context None left left' old new new' m bytes n e long time s read step written = tt
-stops_writing p q key prefix context (Some t) left left' old new new' m bytes n e long time s read step written =
-    let ms : List (List ℕ) = s.messages ++ m ∷ [] in
-    sent_front q key prefix context t (s.sent ++ take n bytes) (drop n bytes) ms left' old new' e long
-    (subst (Begun q key prefix context ms) (sym (cut s.sent bytes n)) (step key prefix context s.messages s.sent s.begun))
-    (subst (Consumes (Some t) left') (sym (concat-push s.messages m)) (Consumes-trans (Some t) left left' (concat s.messages) m s.read read))
-    (subst (Appends old new') (append_assoc prefix s.sent (take n bytes)) (Appends-trans old new new' (prefix ++ s.sent) (take n bytes) s.written written))
-    (in_time e _ time)
+stops_writing p q key prefix context text left left' old new new' m bytes n e long time s read next is piece written =
+    read_some text left' (concat (s.messages ++ m ∷ [])) _ (subst (Consumes text left') (sym (concat-push s.messages m)) (Consumes-trans text left left' (concat s.messages) m s.read read))
+    (λ t rest known text_is after.
+    sent_front q key prefix context t (s.sent ++ record_of p 0 m) (drop n (record_of p 0 m)) (prefix ++ (header Second ++ (s.sent ++ take n (record_of p 0 m)))) rest (s.messages ++ m ∷ []) old new' e long
+    (reaches_more key prefix context (first_position Second) p q false s.messages s.sent m s.reaches next (piece_fits p key prefix context s.messages s.sent m s.reaches piece))
+    (cut prefix s.sent (record_of p 0 m) n) text_is
+    (more_written prefix s.sent (take n (record_of p 0 m)) old new new' s.written (subst (λ (l : List ℕ). Appends new new' (take n l)) is written)) (λ it. absurd (time it)))
 
 pub stops_ending : (p : Progress) (key prefix context : List ℕ) (text left left' old new new' : Option (List ℕ)) (bytes : List ℕ) (n : ℕ) (e : FileError)
-    → length prefix ≡ 24 → SealsSome p key prefix context text left old new → Consumes left left' [] → IsAtEnd left' → IsLast p [] bytes
+    → length prefix ≡ 24 → SealsSome p key prefix context text left old new → Consumes left left' [] → IsAtEnd left' → bytes ≡ record_of p 1 []
     → Appends new new' (take n bytes) → IsWriteError e → IfSome text (λ t. WritesFileFront key prefix context t old new' e)
-stops_ending p key prefix context None left left' old new new' bytes n e long s read end last written why = tt
-stops_ending p key prefix context (Some t) left left' old new new' bytes n e long s read end last written why =
-    let ms : List (List ℕ) = s.messages ++ [] ∷ [] in
-    let are = last key prefix context s.messages s.sent s.begun in
-    let all : concat ms ≡ concat s.messages ++ [] = concat-push s.messages [] in
-    let text : concat s.messages ++ [] ≡ [] ++ t =
-    Consumes-all (Some t) left' (concat s.messages ++ []) [] (concat s.messages ++ []) (Consumes-trans (Some t) left left' (concat s.messages) [] s.read read) end refl in
-    let stream : (s.sent ++ take n bytes) ++ drop n bytes ≡ front (sealed key prefix context) are.0 1 ms = cut s.sent bytes n ∙ are.1.are in
-    whole key prefix context t (prefix ++ (s.sent ++ take n bytes)) (drop n bytes) are.0 ms old new' e long
-    (record { some = are.1.some; within = are.1.within; are = refl })
-    (ap (λ (l : List ℕ). prefix ++ l) (sym stream) ∙ sym (append_assoc prefix (s.sent ++ take n bytes) (drop n bytes)))
-    (sym text ∙ sym all)
-    (subst (Appends old new') (append_assoc prefix s.sent (take n bytes)) (Appends-trans old new new' (prefix ++ s.sent) (take n bytes) s.written written)) why
-
-pub stops_flushing : (p : Progress) (key prefix context : List ℕ) (text left left' old new new' new'' : Option (List ℕ)) (bytes : List ℕ) (e : FileError)
-    → length prefix ≡ 24 → SealsSome p key prefix context text left old new → Consumes left left' [] → IsAtEnd left' → IsLast p [] bytes
-    → Appends new new' bytes → Keeps new' new'' → IsWriteError e → IfSome text (λ t. WritesFileFront key prefix context t old new'' e)
-stops_flushing p key prefix context text left left' old new new' new'' bytes e long s read end last written kept why =
-    let all = take_all (length bytes) bytes (le_refl _) in
-    stops_ending p key prefix context text left left' old new new'' bytes (length bytes) e long s read end last
-    (Appends-kept new new' new'' (take (length bytes) bytes) (subst (Appends new new') (sym all) written) kept) why
+stops_ending p key prefix context text left left' old new new' bytes n e long s read end is written why = read_some text left (concat s.messages) _ s.read (λ t rest known text_is after.
+    let are = last_reaches p key prefix context s.messages s.sent s.reaches in
+    let text = all_read t rest s.messages left left' text_is after read end in
+    stops key prefix context t (prefix ++ (header Second ++ (s.sent ++ take n (record_of p 1 [])))) (drop n (record_of p 1 [])) [] (s.messages ++ [] ∷ []) 1 old new' e long are.within
+    (ap (λ (l : List ℕ). prefix ++ l) (sym are.are) ∙ cut prefix s.sent (record_of p 1 []) n) (text ∙ sym (append-nil (concat (s.messages ++ [] ∷ []))))
+    (more_written prefix s.sent (take n (record_of p 1 [])) old new new' s.written (subst (λ (l : List ℕ). Appends new new' (take n l)) is written))
+    (inr (refl, text, why)) (λ it. absurd (written_in_time e why it)))

@@ -1,4 +1,5 @@
-pub mod SealedFile
+pub mod Opening
+pub mod Range
 pub mod Reading
 pub mod Rekey
-pub mod Range
+pub mod SealedFile

@@ -28,8 +28,8 @@ fn read_record<R: Read, A: Allocator>(
     ensures alone { IfOk result (λ n. (flag : ℕ) (m rest : List ℕ) → length m ≤ MAX_MESSAGE_BYTES
         → take n buffer.new.items ≡ record_of opener.now flag m ++ rest → rest ≡ []) }
     ensures cut { IfOk result
-        (λ n. parts opener.now.version (take n buffer.new.items) ≡ Err RecordError.Truncated
-        → IsAtEnd (R.remaining input.new)) }
+        (λ n. parts opener.now.position.version (take n buffer.new.items)
+        ≡ Err RecordError.Truncated → IsAtEnd (R.remaining input.new)) }
     ensures failed { IfErr result (λ e. FailsNext opener.now (R.remaining input.old) e) }
 {
     let count = fill_part(input, buffer, 0, RECORD_HEAD_BYTES)?;

@@ -1,51 +1,50 @@
 //! Opening a sealed file, from a reader to a writer.
 
-ghost use Rattle.std.specs.Prelude.{◌≡◌, ◌≤◌, [], IfErr, IfSome, List, OnOk, length, ℕ};
+ghost use Rattle.std.specs.Prelude.{◌≡◌, ◌≤◌, ◌⊎◌, ◌++◌, [], IfErr, IfOk, IfSome, List, OnOk, length, ℕ};
 ghost use Rattle.std.specs.Io.KnownBytes.{Appends, Consumes, IsAtEnd};
-ghost use Rattle.std.specs.List.{concat};
-ghost use Rattle.aegis.specs.Progress.{AreRecordsOfSomeVersion};
-ghost use Rattle.aegis_files.specs.Reading.{FailsUnder, LeavesSome};
-ghost use Rattle.aegis_files.specs.SealedFile.{FailsWith, IfRefused, IsSealedFile};
+ghost use Rattle.aegis.specs.RecordStream.{header};
+ghost use Rattle.aegis.specs.declared.record.version.Version.TheVariants.{Second};
+ghost use Rattle.aegis_files.specs.Opening.{FailsWith};
+ghost use Rattle.aegis_files.specs.Reading.{HasNoHead, LeavesSome};
+ghost use Rattle.aegis_files.specs.SealedFile.{IsReadError, IsSealedFile};
 
 use crate::error::FileError;
-use crate::next::{message, next_message};
+use crate::range::{TextRange, open_range};
 use crate::reading::fill;
-use crate::write::{flush, write};
 use aegis::aegis256::Key;
-use aegis::record::{MAX_CONTEXT_BYTES, RecordError, RecordOpener};
+use aegis::record::{MAX_CONTEXT_BYTES, RecordError, RecordPosition, Version};
 use std::alloc::Allocator;
 use std::io::{Read, Write};
 
-// Opens the record stream that follows the prefix.
-fn open_under<R: Read, W: Write, A: Allocator + Copy>(
-    alloc: A,
-    key: &Key,
-    prefix: &[u8; 24],
-    context: &[u8],
-    input: &mut R,
-    output: &mut W,
-) -> Result<(), FileError>
-    requires { length context.now ≤ MAX_CONTEXT_BYTES }
-    ensures opened { OnOk result (IfSome (R.remaining input.old) (λ stream. (ms : List (List ℕ))
-        × AreRecordsOfSomeVersion key.now prefix.now context.now ms stream
-        × Appends (W.contents output.old) (W.contents output.new) (concat ms))) }
-    ensures refused { IfErr result (λ e. IfSome (R.remaining input.old)
-        (λ stream. FailsUnder key.now prefix.now context.now stream
-        (W.contents output.old) (W.contents output.new) e)) }
+/// The position of the first record of a file.
+pub(crate) const FIRST: RecordPosition = RecordPosition {
+    version: Version::Second,
+    number: 0,
+    before: 0,
+};
+
+// How many bytes a file has before its first record: the prefix and the header.
+const HEAD_BYTES: usize = 24 + 4;
+
+// Reads the prefix and the header of a file, and returns the prefix.
+pub(crate) fn read_prefix<R: Read>(input: &mut R) -> Result<[u8; 24], FileError>
+    ensures read { IfOk result (λ prefix. Consumes (R.remaining input.old)
+        (R.remaining input.new) (prefix ++ header Second)) }
+    ensures long { IfOk result (λ prefix. length prefix ≡ 24) }
+    ensures refused { IfErr result (λ e. IsReadError e
+        ⊎ ((e ≡ FileError.Stream RecordError.Header) × HasNoHead (R.remaining input.old))) }
 {
-    let mut header = [0; 4];
-    let count = fill(input, &mut header)?;
-    let mut opener = RecordOpener::new(key, prefix, context, &header[..count])?;
-    let mut buffer = Vec::new(alloc);
-    'records: loop {
-        let opened = next_message(input, &mut opener, &mut buffer)?;
-        write(output, message(&buffer, opened))?;
-        if opened.is_last {
-            end(input)?;
-            flush(output)?;
-            return Ok(());
-        }
+    let mut head = [0; HEAD_BYTES];
+    if fill(input, &mut head)? < HEAD_BYTES {
+        return Err(FileError::Stream(RecordError::Header));
     }
+    let (first, header) = head.split_at(24);
+    if header != Version::Second.header() {
+        return Err(FileError::Stream(RecordError::Header));
+    }
+    let mut prefix = [0; 24];
+    prefix.copy_from_slice(first);
+    Ok(prefix)
 }
 
 // Returns an error unless the input is at its end.
@@ -86,13 +85,13 @@ pub fn open_stream<R: Read, W: Write, A: Allocator + Copy>(
     ensures refused { IfErr result (λ e. IfSome (R.remaining input.old)
         (λ file. FailsWith key.now context.now file
         (W.contents output.old) (W.contents output.new) e)) }
-    ensures accepted { IfErr result (λ e. IfSome (R.remaining input.old)
-        (λ file. (text : List ℕ) → IsSealedFile key.now context.now text file
-        → IfRefused e (λ why. why ≡ RecordError.OutOfMemory))) }
 {
-    let mut prefix = [0; 24];
-    if fill(input, &mut prefix)? < prefix.len() {
-        return Err(FileError::Stream(RecordError::Header));
-    }
-    open_under(alloc, key, &prefix, context, input, output)
+    let prefix = read_prefix(input)?;
+    let all = TextRange {
+        position: FIRST,
+        skip: 0,
+        length: u64::MAX,
+    };
+    open_range(alloc, key, &prefix, context, all, input, output)?;
+    end(input)
 }

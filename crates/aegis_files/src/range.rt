@@ -3,19 +3,18 @@
 ghost use Rattle.std.specs.Prelude.{◌≡◌, ◌<◌, ◌≤◌, ◌⊎◌, IfErr, IfOk, IfSome, drop, false, length, take, true};
 ghost use Rattle.std.specs.Bool.{OnFalse, OnTrue};
 ghost use Rattle.aegis_base.specs.declared.error.TheConstants.{MAX_AEAD_BYTES};
-ghost use Rattle.aegis.specs.Progress.{start_at};
+ghost use Rattle.aegis.specs.RecordStream.{start_at};
 ghost use Rattle.aegis_files.specs.Range.{OpensRange, StopsRange};
 
 use crate::error::FileError;
 use crate::next::{message, next_message};
-use crate::write::{flush, write};
+use crate::write::{write, write_last};
 use aegis::aegis256::Key;
 use aegis::record::{MAX_CONTEXT_BYTES, RecordOpener, RecordPosition};
 use std::alloc::Allocator;
 use std::io::{Read, Write};
-use std::num::NonZeroU64;
 
-/// A part of a text, from one of its records on. It ends after so many bytes or so many records, whichever come first.
+/// A part of a text, from one of its records on.
 #[derive(Clone, Copy, Debug, PartialEq, Eq)]
 pub struct TextRange {
     /// The position of the record at which the input begins.
@@ -24,8 +23,6 @@ pub struct TextRange {
     pub skip: u64,
     /// How many bytes the part has at most.
     pub length: u64,
-    /// How many records are opened at most.
-    pub records: NonZeroU64,
 }
 
 /// What was opened of a part of a text.
@@ -49,14 +46,12 @@ fn part<'b>(message: &'b [u8], skip: u64, length: u64) -> &'b [u8]
     &message[start..end]
 }
 
-// Whether a part ends with a record: with the last one, or if no more records or no more bytes are asked for.
-fn is_done(is_last: bool, records: u64, left: u64, skip: u64) -> bool
-    ensures done { OnTrue result
-        ((is_last ≡ true) ⊎ ((records ≡ 0) ⊎ ((left ≡ 0) × (skip ≡ 0)))) }
-    ensures more { OnFalse result
-        ((is_last ≡ false) × (0 < records) × ((0 < left) ⊎ (0 < skip))) }
+// Whether a part ends with a record: with the last one, or if no more bytes are asked for.
+fn is_done(is_last: bool, left: u64, skip: u64) -> bool
+    ensures done { OnTrue result ((is_last ≡ true) ⊎ ((left ≡ 0) × (skip ≡ 0))) }
+    ensures more { OnFalse result ((is_last ≡ false) × ((0 < left) ⊎ (0 < skip))) }
 {
-    is_last || records == 0 || (left == 0 && skip == 0)
+    is_last || (left == 0 && skip == 0)
 }
 
 /// Opens a part of the text of a sealed file, from one of its records on. Writes those bytes of each message that are
@@ -67,12 +62,10 @@ fn is_done(is_last: bool, records: u64, left: u64, skip: u64) -> bool
 /// prefix is the file's first 24 bytes. The record starts at byte `28 + 37 * number + before` of the file;
 /// [`RecordOpener::position`] returns such positions.
 ///
-/// Fewer than `range.length` bytes of fewer than `range.records` records are written only if the last record was
-/// opened, so that the text ends there. If the file is that of a text, they are the part of it: of its records from
-/// `number` on, and in a part that `range.records` does not end the text's bytes from `before + skip` on. Whatever the
-/// file is, they are bytes of messages that are sealed at just these positions. Nothing is known of the records before
-/// those that were read, nor of the ones after them. In a stream of the first version a record is sealed at its number
-/// alone, so there the bytes before it are known only to those who have opened the records before it.
+/// Fewer than `range.length` bytes are written only if the last record was opened, so that the text ends there. If the
+/// file is that of a text, they are the text's bytes from `before + skip` on. Whatever the file is, they are bytes of
+/// messages that are sealed at just these positions. Nothing is known of the records before those that were read, nor
+/// of the ones after them.
 ///
 /// After any error, only bytes of the part from verified records were written, all of them unless a write failed. The
 /// file of a text is refused only if memory runs out. The error is [`FileError::TooLong`] only if the record stream
@@ -90,7 +83,7 @@ pub fn open_range<R: Read, W: Write, A: Allocator + Copy>(
     output: &mut W,
 ) -> Result<OpenedRange, FileError>
     requires context_within { length context.now ≤ MAX_CONTEXT_BYTES }
-    requires start_within { start_at range.position.number range.position.before ≤ MAX_AEAD_BYTES }
+    requires start_within { start_at range.position ≤ MAX_AEAD_BYTES }
     ensures opened { IfOk result (λ opened. IfSome (R.remaining input.old) (λ stream.
         OpensRange key.now prefix.now context.now range opened stream (R.remaining input.new)
         (W.contents output.old) (W.contents output.new))) }
@@ -102,21 +95,19 @@ pub fn open_range<R: Read, W: Write, A: Allocator + Copy>(
     let mut buffer = Vec::new(alloc);
     let mut skip = range.skip;
     let mut left = range.length;
-    let mut records = range.records.get();
     'records: loop {
         let opened = next_message(input, &mut opener, &mut buffer)?;
         let piece = part(message(&buffer, opened), skip, left);
-        write(output, piece)?;
         skip = skip.saturating_sub(opened.message_len as u64);
         left -= piece.len() as u64;
-        records -= 1;
-        if is_done(opened.is_last, records, left, skip) {
-            flush(output)?;
+        if is_done(opened.is_last, left, skip) {
+            write_last(output, piece)?;
             return Ok(OpenedRange {
                 length: range.length - left,
                 end: opener.position(),
                 is_last: opened.is_last,
             });
         }
+        write(output, piece)?;
     }
 }

@@ -2,7 +2,8 @@
 
 ghost use Rattle.std.specs.Prelude.{◌≡◌, ◌<◌, ◌≤◌, ◌⊎◌, IfErr, IfOk, length, take};
 ghost use Rattle.std.specs.Io.KnownBytes.{Consumes, IsAtEnd};
-ghost use Rattle.aegis_files.specs.Reading.{IsReadError, ReadsPart};
+ghost use Rattle.aegis_files.specs.Reading.{ReadsPart};
+ghost use Rattle.aegis_files.specs.SealedFile.{IsReadError};
 
 use crate::error::FileError;
 use crate::seal::PIECE_BYTES;

@@ -1,19 +1,18 @@
 //! Sealing the text of a sealed file anew under another key, from a reader to a writer.
 
-ghost use Rattle.std.specs.Prelude.{◌≡◌, ◌≤◌, IfErr, IfSome, List, OnOk, length, ℕ};
+ghost use Rattle.std.specs.Prelude.{◌≡◌, ◌≤◌, ◌++◌, IfErr, IfSome, List, OnOk, length, ℕ};
 ghost use Rattle.std.specs.Io.KnownBytes.{Appends};
-ghost use Rattle.aegis.specs.Progress.{AreRecordsOfSomeVersion};
-ghost use Rattle.aegis_files.specs.Rekey.{RefusesFile, RefusesStream, RekeysFront, RekeysUnder};
-ghost use Rattle.aegis_files.specs.SealedFile.{IfRefused, IsFileOf, IsSealedFile};
-ghost use Rattle.std.specs.List.{concat};
+ghost use Rattle.aegis.specs.RecordStream.{header};
+ghost use Rattle.aegis.specs.declared.record.version.Version.TheVariants.{Second};
+ghost use Rattle.aegis_files.specs.Rekey.{RekeysFront};
+ghost use Rattle.aegis_files.specs.SealedFile.{IsFileOf, IsSealedFile};
 
 use crate::error::FileError;
 use crate::next::{message, next_message};
-use crate::open::end;
-use crate::reading::fill;
-use crate::write::{flush, write};
+use crate::open::{FIRST, end, read_prefix};
+use crate::write::{write, write_last};
 use aegis::aegis256::Key;
-use aegis::record::{MAX_CONTEXT_BYTES, RecordError, RecordOpener, RecordSealer};
+use aegis::record::{MAX_CONTEXT_BYTES, RecordOpener, RecordSealer};
 use std::alloc::Allocator;
 use std::io::{Read, Write};
 
@@ -24,8 +23,8 @@ struct FileKey<'a> {
     prefix: &'a [u8; 24],
 }
 
-// Seals the messages of the record stream that follows the old file's prefix. Both streams have the same length at each
-// record, so what fits into the old one fits into the new one.
+// Seals the messages of the records that follow the old file's prefix and header. Both streams have the same length at
+// each record, so what fits into the old one fits into the new one.
 fn rekey_under<'a, R: Read, W: Write, A: Allocator + Copy>(
     alloc: A,
     from: FileKey<'a>,
@@ -34,25 +33,25 @@ fn rekey_under<'a, R: Read, W: Write, A: Allocator + Copy>(
     input: &mut R,
     output: &mut W,
 ) -> Result<(), FileError>
-    requires { length context.now ≤ MAX_CONTEXT_BYTES }
-    ensures rekeyed { OnOk result (IfSome (R.remaining input.old) (λ stream. (ms : List (List ℕ))
-        × AreRecordsOfSomeVersion from.entry.key.now from.entry.prefix.now context.now ms stream
+    requires context { length context.now ≤ MAX_CONTEXT_BYTES }
+    requires old_long { length from.prefix.now ≡ 24 }
+    requires new_long { length to.prefix.now ≡ 24 }
+    ensures rekeyed { OnOk result (IfSome (R.remaining input.old) (λ records. (text : List ℕ)
+        × IsFileOf from.entry.key.now from.entry.prefix.now context.now text
+        (from.entry.prefix.now ++ (header Second ++ records))
         × (file : List ℕ)
-        × IsFileOf to.entry.key.now to.entry.prefix.now context.now (concat ms) file
+        × IsFileOf to.entry.key.now to.entry.prefix.now context.now text file
         × Appends (W.contents output.old) (W.contents output.new) file)) }
     ensures stopped { IfErr result (λ e. IfSome (R.remaining input.old)
-        (λ stream. RekeysUnder from.entry.key.now from.entry.prefix.now
-        to.entry.key.now to.entry.prefix.now context.now stream
+        (λ records. RekeysFront from.entry.key.now
+        to.entry.key.now to.entry.prefix.now context.now
+        (from.entry.prefix.now ++ (header Second ++ records))
         (W.contents output.old) (W.contents output.new) e)) }
-    ensures refused { IfErr result (λ e. IfSome (R.remaining input.old) (λ stream.
-        RefusesStream from.entry.key.now from.entry.prefix.now context.now stream e)) }
 {
-    let mut header = [0; 4];
-    let count = fill(input, &mut header)?;
-    let mut opener = RecordOpener::new(from.key, from.prefix, context, &header[..count])?;
+    let mut opener = RecordOpener::begin_at(from.key, from.prefix, context, FIRST);
     let FileKey { key, prefix } = to;
     let mut out = Vec::new(alloc);
-    write(output, prefix)?;
+    out.extend_from_slice(prefix)?;
     let mut sealer = RecordSealer::new(key, prefix, context, &mut out)?;
     let mut buffer = Vec::new(alloc);
     'records: loop {
@@ -61,8 +60,7 @@ fn rekey_under<'a, R: Read, W: Write, A: Allocator + Copy>(
         if opened.is_last {
             end(input)?;
             sealer.seal_last(text, &mut out)?;
-            write(output, &out)?;
-            flush(output)?;
+            write_last(output, &out)?;
             return Ok(());
         }
         sealer.seal_next(text, &mut out)?;
@@ -102,16 +100,8 @@ pub fn rekey_stream<R: Read, W: Write, A: Allocator + Copy>(
     ensures stopped { IfErr result (λ e. IfSome (R.remaining input.old)
         (λ file. RekeysFront key.now new_key.now prefix.now context.now file
         (W.contents output.old) (W.contents output.new) e)) }
-    ensures refused { IfErr result (λ e. IfSome (R.remaining input.old)
-        (λ file. RefusesFile key.now context.now file e)) }
-    ensures accepted { IfErr result (λ e. IfSome (R.remaining input.old)
-        (λ file. (text : List ℕ) → IsSealedFile key.now context.now text file
-        → IfRefused e (λ why. why ≡ RecordError.OutOfMemory))) }
 {
-    let mut old_prefix = [0; 24];
-    if fill(input, &mut old_prefix)? < old_prefix.len() {
-        return Err(FileError::Stream(RecordError::Header));
-    }
+    let old_prefix = read_prefix(input)?;
     let from = FileKey {
         key,
         prefix: &old_prefix,

@@ -7,7 +7,7 @@ ghost use Rattle.aegis_files.specs.SealedFile.{IsFileOf, IsPiece, WritesFileFron
 
 use crate::error::FileError;
 use crate::reading::fill;
-use crate::write::{flush, write};
+use crate::write::{write, write_last};
 use aegis::aegis256::Key;
 use aegis::record::{MAX_CONTEXT_BYTES, RECORD_BYTES, RECORD_HEAD_BYTES, RecordSealer};
 use std::alloc::{AllocError, Allocator};
@@ -61,8 +61,7 @@ pub fn seal_stream<R: Read, W: Write, A: Allocator + Copy>(
         if count == 0 {
             out.clear();
             sealer.seal_last(&[], &mut out)?;
-            write(output, &out)?;
-            flush(output)?;
+            write_last(output, &out)?;
             return Ok(());
         }
         if sealer.remaining() < 2 * RECORD_BYTES + count as u64 {

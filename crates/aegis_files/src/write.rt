@@ -34,8 +34,19 @@ pub fn write<W: Write>(output: &mut W, bytes: &[u8]) -> Result<(), FileError>
     Err(FileError::Write(io::Error::from(ErrorKind::TimedOut)))
 }
 
-/// Flushes the writer. Returns [`FileError::Write`] if that fails.
-pub fn flush<W: Write>(output: &mut W) -> Result<(), FileError>
+/// Writes the last bytes, and flushes the writer.
+pub fn write_last<W: Write>(output: &mut W, bytes: &[u8]) -> Result<(), FileError>
+    ensures ok { OnOk result (Appends (W.contents output.old) (W.contents output.new) bytes.now) }
+    ensures err { IfErr result IsWriteError }
+    ensures front { OnErr result ((n : ℕ)
+        × Appends (W.contents output.old) (W.contents output.new) (take n bytes.now)) }
+{
+    write(output, bytes)?;
+    flush(output)
+}
+
+// Flushes the writer.
+fn flush<W: Write>(output: &mut W) -> Result<(), FileError>
     ensures kept { Keeps (W.contents output.old) (W.contents output.new) }
     ensures err { IfErr result IsWriteError }
 {

@@ -11,7 +11,7 @@ use thiserror::Error;
 /// The error of a command. Each names the file, and says what to do where something can be done.
 #[derive(Debug, Drop, Error)]
 pub enum Failure<'a> {
-    #[error("{0} is not a sealed file: its first bytes after the prefix are not AGR1 or AGR2")]
+    #[error("{0} is not a sealed file: its first bytes after the prefix are not AGR2")]
     NotSealed(Name<'a>),
     #[error("{0}: the key is not the one it was sealed under, or the file is damaged from its first record")]
     Key(Name<'a>),

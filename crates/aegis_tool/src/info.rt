@@ -5,7 +5,7 @@ use crate::failure::{Failure, printed};
 use crate::output::refuse_inputs;
 use crate::progress::Counted;
 use crate::shown::{Name, Verified};
-use aegis::record::{RECORD_BYTES, RECORD_HEAD_BYTES, RecordError, RecordOpener};
+use aegis::record::{RECORD_BYTES, RECORD_HEAD_BYTES, RecordError, RecordOpener, Version};
 use aegis_files::{FileError, fill};
 use std::fs::File;
 use std::io::Read;
@@ -44,6 +44,9 @@ fn outline_of<R: Read>(input: &mut R) -> Result<Outline, FileError> {
         return Err(FileError::Stream(RecordError::Header));
     }
     let lengths = RecordOpener::new(&[0; 32], &[0; 24], &[], &front[24..])?;
+    if lengths.position().version != Version::Second {
+        return Err(FileError::Stream(RecordError::Header));
+    }
     let mut seen = Outline {
         records: 0,
         text_bytes: 0,

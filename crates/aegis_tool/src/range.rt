@@ -144,29 +144,23 @@ fn find(lengths: &RecordOpener<'_>, file: &mut File, target: Target) -> Result<F
     Err(FileError::TooLong)
 }
 
-// The range of a part by bytes. A record of the first version is not sealed at the byte of the text at which it begins,
-// so there all records are opened.
+// The range of a part by bytes.
 fn range_of_bytes(
     lengths: &RecordOpener<'_>,
     file: &mut File,
     from: u64,
     length: u64,
 ) -> Result<TextRange, FileError> {
-    let first = lengths.position();
-    let position = match first.version {
-        Version::First => first,
-        Version::Second => find(lengths, file, Target::Byte(from))?.position,
-    };
+    let position = find(lengths, file, Target::Byte(from))?.position;
     Ok(TextRange {
         position,
         skip: from.saturating_sub(position.before),
         length,
-        records: NonZeroU64::MAX,
     })
 }
 
-// The range of a part by records. If the last record comes before it, that one is opened for its place, and for no
-// text.
+// The range of a part by records: the bytes from the first of them to the one after the last. If the last record of the
+// file comes before the part, that one is opened for its place, and for no text.
 fn range_of_records(
     lengths: &RecordOpener<'_>,
     file: &mut File,
@@ -174,21 +168,25 @@ fn range_of_records(
     count: NonZeroU64,
 ) -> Result<TextRange, FileError> {
     let found = find(lengths, file, Target::Record(first))?;
-    if found.has(Target::Record(first)) {
-        Ok(TextRange {
-            position: found.position,
-            skip: 0,
-            length: u64::MAX,
-            records: count,
-        })
-    } else {
-        Ok(TextRange {
+    if !found.has(Target::Record(first)) {
+        return Ok(TextRange {
             position: found.position,
             skip: u64::MAX,
             length: 0,
-            records: NonZeroU64::MIN,
-        })
+        });
     }
+    let end = Target::Record(first.saturating_add(count.get()));
+    let after = find(lengths, file, end)?;
+    let length = if after.has(end) {
+        after.position.before.saturating_sub(found.position.before)
+    } else {
+        u64::MAX
+    };
+    Ok(TextRange {
+        position: found.position,
+        skip: 0,
+        length,
+    })
 }
 
 /// Finds the record in which a part of the text begins, and goes to its first byte. The file's key is not used: the
@@ -199,6 +197,9 @@ pub fn start_of(file: &mut File, span: Span) -> Result<Start, FileError> {
     let mut header = [0; 4];
     read(file, &mut header, RecordError::Header)?;
     let lengths = RecordOpener::new(&[0; 32], &[0; 24], &[], &header)?;
+    if lengths.position().version != Version::Second {
+        return Err(FileError::Stream(RecordError::Header));
+    }
     let range = match span {
         Span::Bytes { from, length } => range_of_bytes(&lengths, file, from, length)?,
         Span::Records { first, count } => range_of_records(&lengths, file, first, count)?,

@@ -30,18 +30,16 @@ pub fn record_stream_lengths()
 /// The bytes before a record are as many as `start_of` gives: 4, 37 for each record before it, and the lengths of their
 /// messages.
 pub fn begun_lengths()
-    ensures { (p : Progress) (key prefix context : List ℕ)
-        (ms : List (List ℕ)) (bytes : List ℕ) → Begun p key prefix context ms bytes
+    ensures { (p : Progress) (ms : List (List ℕ)) (bytes : List ℕ) → Begun p ms bytes
         → length bytes ≡ start_of p }
 {}
 
 /// The messages before the last record are a proper prefix of the list of any stream that begins with the same bytes,
 /// so no stream ends there.
 pub fn begun_is_a_front()
-    ensures { (p : Progress) (key prefix context : List ℕ)
-        (ms : List (List ℕ)) (bytes : List ℕ) → Begun p key prefix context ms bytes
+    ensures { (p : Progress) (ms : List (List ℕ)) (bytes : List ℕ) → Begun p ms bytes
         → (ns : List (List ℕ)) (more : List ℕ)
-        → AreRecordsOfSomeVersion key prefix context ns (bytes ++ more)
+        → AreRecordsOfSomeVersion p.key p.prefix p.context ns (bytes ++ more)
         → (rest : List (List ℕ)) × (ns ≡ ms ++ rest) × (0 < length rest) }
 {}
 

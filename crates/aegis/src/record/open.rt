@@ -2,7 +2,7 @@
 
 ghost use Rattle.std.specs.Prelude.{◌≡◌, ◌≢◌, ◌≤◌, ◌⊎◌, ◌++◌, IfErr, IfNone, IfOk, IfSome, List, length, take, ℕ};
 ghost use Rattle.aegis.specs.Calls.{IsRecord, IsRefused, OpensTo, messages, sealing_of};
-ghost use Rattle.aegis.specs.Fault.{HasFault, parts};
+ghost use Rattle.aegis.specs.Fault.{IsFaultAt};
 ghost use Rattle.aegis.specs.Records.{AreRecords, IsFault};
 ghost use Rattle.aegis.specs.RecordStream.{header};
 
@@ -40,12 +40,10 @@ pub(crate) fn open_record<'a, A: Allocator>(
     bytes: &'a [u8],
 ) -> Result<(Frame<'a>, Vec<u8, A>), RecordError>
     requires { length cipher.now.context.now ≤ MAX_CONTEXT_BYTES }
-    ensures opened { IfOk result
-        (λ found. IsRecord (sealing_of cipher.now) position.version position.number position.before
+    ensures opened { IfOk result (λ found. IsRecord (sealing_of cipher.now) position
         found.0.flag found.1.items found.0.rest.now bytes.now) }
     ensures refused { IfErr result (λ e. (e ≡ RecordError.OutOfMemory)
-        ⊎ HasFault (sealing_of cipher.now) position.version position.number position.before
-        (parts position.version bytes.now) e) }
+        ⊎ IsFaultAt (sealing_of cipher.now) position bytes.now e) }
 {
     let frame = Frame::read(position.version, bytes)?;
     let message = cipher.open(alloc, position, frame.flag, frame.sealed)?;
@@ -53,7 +51,6 @@ pub(crate) fn open_record<'a, A: Allocator>(
 }
 
 // Returns the messages of a stream, opened one record after the other.
-#[tactic(auto, unfolding(crate::specs::Fault::IsFaultOf))]
 fn open_each<A: Allocator + Copy>(
     alloc: A,
     cipher: &RecordCipher<'_>,
@@ -69,16 +66,16 @@ fn open_each<A: Allocator + Copy>(
     let Some((version, mut rest)) = version_of(bytes) else {
         return Err(RecordError::Header);
     };
+    let mut position = RecordPosition {
+        version,
+        number: 0,
+        before: 0,
+    };
     let mut found = Vec::new(alloc);
-    let mut before: u64 = 0;
     'records: loop {
-        let position = RecordPosition {
-            version,
-            number: found.len() as u64,
-            before,
-        };
         let (frame, message) = open_record(alloc, cipher, position, rest)?;
-        before += message.len() as u64;
+        position.number += 1;
+        position.before += message.len() as u64;
         found.push(message)?;
         rest = frame.rest;
         if frame.flag == 1 {

@@ -4,10 +4,9 @@ ghost use Rattle.std.specs.Prelude.{◌≡◌, ◌≢◌, ◌-◌, ◌≤◌, �
 ghost use Rattle.std.specs.Int.{to_le_bytes, w32, w64};
 ghost use Rattle.aegis_base.specs.Chunks.{joined};
 ghost use Rattle.aegis_engine.specs.declared.cipher.TheConstants.{ERASED};
-ghost use Rattle.aegis.specs.Calls.{sealed_at};
-ghost use Rattle.aegis.specs.Records.{associated_data, nonce};
+ghost use Rattle.aegis.specs.Calls.{sealing_of};
+ghost use Rattle.aegis.specs.Records.{associated_data, before_bytes, nonce};
 ghost use Rattle.aegis.specs.RecordStream.{header, limit};
-ghost use Rattle.aegis.specs.declared.record.version.Version.TheVariants.{First, Second};
 
 use crate::aegis256::{Aegis256, Error, Key, Nonce};
 use crate::record::error::RecordError;
@@ -77,9 +76,8 @@ impl AssociatedData {
 
     // How many bytes the messages before it have, which the second version authenticates.
     fn before(&self) -> &[u8]
-        ensures first { self.now.position.version ≡ First → result.now ≡ [] }
-        ensures second { self.now.position.version ≡ Second
-            → result.now ≡ to_le_bytes w64 self.now.position.before }
+        ensures { result.now
+            ≡ before_bytes self.now.position.version self.now.position.before }
     {
         match self.position.version {
             Version::First => &self.before_bytes[..0],
@@ -89,8 +87,8 @@ impl AssociatedData {
 
     // The associated data of the record, in pieces.
     fn pieces<'b>(&'b self, context: &'b [u8]) -> [&'b [u8]; 5]
-        ensures are { joined result ≡ associated_data self.now.position.version
-            self.now.position.number self.now.position.before self.now.flag context.now }
+        ensures are { joined result
+            ≡ associated_data self.now.position self.now.flag context.now }
         ensures short { length (joined result) ≤ 21 + length context.now }
     {
         let header = self.header();
@@ -121,7 +119,7 @@ impl RecordCipher<'_> {
         requires context { length self.now.context.now ≤ MAX_CONTEXT_BYTES }
         requires within { length message.now ≤ limit position.version }
         ensures ok { OnOk result (out.new.items
-            ≡ out.old.items ++ sealed_at self.now position flag message.now) }
+            ≡ out.old.items ++ sealing_of self.now position flag message.now) }
         ensures err { IfErr result (λ e. e ≡ RecordError.OutOfMemory) }
         ensures kept { OnErr result
             ((part : List ℕ) × (out.new.items ≡ out.old.items ++ part)) }
@@ -145,7 +143,7 @@ impl RecordCipher<'_> {
         requires long { 32 ≤ length sealed.old }
         requires within { length sealed.old ≤ limit position.version + 32 }
         ensures { sealed.new
-            ≡ sealed_at self.now position flag (take (length sealed.old - 32) sealed.old) }
+            ≡ sealing_of self.now position flag (take (length sealed.old - 32) sealed.old) }
     {
         let ad = AssociatedData::new(position, flag);
         let pieces = ad.pieces(self.context);
@@ -166,9 +164,9 @@ impl RecordCipher<'_> {
         requires context { length self.now.context.now ≤ MAX_CONTEXT_BYTES }
         requires long { 32 ≤ length sealed.now }
         requires within { length sealed.now ≤ limit position.version + 32 }
-        ensures opened { IfOk result (λ m. sealed_at self.now position flag m.items ≡ sealed.now) }
+        ensures opened { IfOk result (λ m. sealing_of self.now position flag m.items ≡ sealed.now) }
         ensures refused { IfErr result (λ e. (e ≡ RecordError.OutOfMemory)
-            ⊎ (((m : List ℕ) → sealed_at self.now position flag m ≢ sealed.now)
+            ⊎ (((m : List ℕ) → sealing_of self.now position flag m ≢ sealed.now)
             × (e ≡ RecordError.Damaged position.number))) }
     {
         let ad = AssociatedData::new(position, flag);
@@ -196,10 +194,10 @@ impl RecordCipher<'_> {
         requires long { 32 ≤ length sealed.old }
         requires within { length sealed.old ≤ limit position.version + 32 }
         ensures opened { OnOk result
-            (sealed_at self.now position flag (take (length sealed.old - 32) sealed.new)
+            (sealing_of self.now position flag (take (length sealed.old - 32) sealed.new)
             ≡ sealed.old) }
         ensures refused { IfErr result
-            (λ e. ((m : List ℕ) → sealed_at self.now position flag m ≢ sealed.old)
+            (λ e. ((m : List ℕ) → sealing_of self.now position flag m ≢ sealed.old)
             × (e ≡ RecordError.Damaged position.number)) }
         ensures erased { OnErr result (take (length sealed.old - 32) sealed.new
             ≡ replicate (length sealed.old - 32) ERASED) }

@@ -6,9 +6,9 @@ ghost use Rattle.aegis_base.specs.declared.error.TheConstants.{MAX_AEAD_BYTES};
 ghost use Rattle.aegis.specs.Calls.{OpensRecordTo};
 ghost use Rattle.aegis.specs.Fault.{parts};
 ghost use Rattle.aegis.specs.Opening.{AcceptsNext, OpensNext, RefusesNext};
-ghost use Rattle.aegis.specs.Progress.{Begun, IsRecordFault, first_position, last_flag, position_of, progress_at, record_of, start_at, start_of};
+ghost use Rattle.aegis.specs.Progress.{Begun, progress_at, record_of, start_of};
 ghost use Rattle.aegis.specs.Records.{IsFault};
-ghost use Rattle.aegis.specs.RecordStream.{limit};
+ghost use Rattle.aegis.specs.RecordStream.{first_position, start_at};
 
 use crate::aegis256::Key;
 use crate::record::error::RecordError;
@@ -17,7 +17,7 @@ use crate::record::length::{HEADER_BYTES, RECORD_BYTES};
 use crate::record::open::{open_record, version_of};
 use crate::record::position::RecordPosition;
 use crate::record::record_cipher::{MAX_CONTEXT_BYTES, RecordCipher};
-use crate::record::version::{MAX_MESSAGE_BYTES, Version};
+use crate::record::version::MAX_MESSAGE_BYTES;
 use aegis_base::MAX_AEAD_BYTES;
 pub use in_place::{OpenedInPlace, open_record_in_place};
 use std::alloc::Allocator;
@@ -40,22 +40,20 @@ pub struct Opened<'b, A: Allocator> {
 /// the same bytes. A stream that was cut off is [`RecordError::Truncated`] only at the cut, so a caller that needs all
 /// of the messages must wait for the last one.
 ///
-/// In a contract an opener stands for a `Progress`: the key, prefix and context, the version, the next record's number,
-/// how many bytes the messages before it have, and whether the last record was opened. `Begun` relates it to those
-/// messages and bytes.
+/// In a contract an opener stands for a `Progress`: the key, prefix and context, the position of the next record, and
+/// whether the last record was opened. `Begun` relates it to the messages and bytes before that position.
 #[derive(Drop)]
 pub struct RecordOpener<'a> {
     cipher: RecordCipher<'a>,
-    version: Version,
-    number: u64,
-    before: u64,
+    position: RecordPosition,
     ended: bool,
 }
 
 impl<'a> Model for RecordOpener<'a> {
     ghost use Rattle.std.specs.Prelude.{◌+◌, ◌*◌, ◌≤◌, length};
     ghost use Rattle.aegis_base.specs.declared.error.TheConstants.{MAX_AEAD_BYTES};
-    ghost use Rattle.aegis.specs.Progress.{Progress, start_at};
+    ghost use Rattle.aegis.specs.Progress.{Progress};
+    ghost use Rattle.aegis.specs.RecordStream.{start_at};
     ghost use Rattle.aegis.specs.declared.record.record_cipher.TheConstants.{MAX_CONTEXT_BYTES};
 
     ghost Value = { Progress };
@@ -64,14 +62,12 @@ impl<'a> Model for RecordOpener<'a> {
       key = s.cipher.key.now;
       prefix = s.cipher.prefix.now;
       context = s.cipher.context.now;
-      version = s.version;
-      number = s.number;
-      before = s.before;
+      position = s.position;
       ended = s.ended;
     } };
 
     ghost invariant = { λ s. (length s.cipher.context.now ≤ MAX_CONTEXT_BYTES)
-        × (start_at s.number s.before ≤ MAX_AEAD_BYTES) };
+        × (start_at s.position ≤ MAX_AEAD_BYTES) };
 }
 
 impl<'a> RecordOpener<'a> {
@@ -88,9 +84,9 @@ impl<'a> RecordOpener<'a> {
         requires context_within { length context.now ≤ MAX_CONTEXT_BYTES }
         requires header_within { length header.now ≤ 4 }
         ensures begun { IfOk result
-            (λ opener. Begun opener key.now prefix.now context.now [] header.now) }
+            (λ opener. Begun opener [] header.now) }
         ensures progress { IfOk result (λ opener. opener
-            ≡ progress_at key.now prefix.now context.now (first_position opener.version)) }
+            ≡ progress_at key.now prefix.now context.now (first_position opener.position.version)) }
         ensures taken { IfOk result (λ opener. start_of opener ≡ HEADER_BYTES) }
         ensures refused { IfErr result
             (λ e. (more : List ℕ) → (length header.now < 4 → more ≡ [])
@@ -105,9 +101,11 @@ impl<'a> RecordOpener<'a> {
                 prefix,
                 context,
             },
-            version,
-            number: 0,
-            before: 0,
+            position: RecordPosition {
+                version,
+                number: 0,
+                before: 0,
+            },
             ended: false,
         })
     }
@@ -128,7 +126,7 @@ impl<'a> RecordOpener<'a> {
         position: RecordPosition,
     ) -> Self
         requires context_within { length context.now ≤ MAX_CONTEXT_BYTES }
-        requires position_within { start_at position.number position.before ≤ MAX_AEAD_BYTES }
+        requires position_within { start_at position ≤ MAX_AEAD_BYTES }
         ensures { result ≡ progress_at key.now prefix.now context.now position }
     {
         RecordOpener {
@@ -137,29 +135,23 @@ impl<'a> RecordOpener<'a> {
                 prefix,
                 context,
             },
-            version: position.version,
-            number: position.number,
-            before: position.before,
+            position,
             ended: false,
         }
     }
 
-    /// Returns the position of the next record, for [`RecordOpener::begin_at`] and [`RecordOpener::open_at`].
+    /// Returns the position of the next record, for [`RecordOpener::begin_at`].
     pub fn position(&self) -> RecordPosition
-        ensures { result ≡ position_of self.now }
+        ensures { result ≡ self.now.position }
     {
-        RecordPosition {
-            version: self.version,
-            number: self.number,
-            before: self.before,
-        }
+        self.position
     }
 
     /// Returns how many more bytes of the stream may be opened.
     pub fn remaining(&self) -> u64
         ensures { start_of self.now + result ≡ MAX_AEAD_BYTES }
     {
-        MAX_AEAD_BYTES - (HEADER_BYTES + RECORD_BYTES * self.number + self.before)
+        MAX_AEAD_BYTES - (HEADER_BYTES + RECORD_BYTES * self.position.number + self.position.before)
     }
 
     /// Returns how many bytes the next record has, from its first five bytes.
@@ -174,15 +166,15 @@ impl<'a> RecordOpener<'a> {
             → head.now ++ body ≡ record_of self.now flag m ++ rest
             → length (record_of self.now flag m) ≡ n) }
         ensures whole { IfOk result (λ n. (body : List ℕ) → n ≤ length (head.now ++ body)
-            → parts self.now.version (head.now ++ body) ≢ Err RecordError.Truncated) }
+            → parts self.now.position.version (head.now ++ body) ≢ Err RecordError.Truncated) }
         ensures refused { IfErr result (λ e. (body : List ℕ)
-            → parts self.now.version (head.now ++ body) ≡ Err e) }
+            → parts self.now.position.version (head.now ++ body) ≡ Err e) }
     {
         if head[0] > 1 {
             return Err(RecordError::Flag);
         }
         let length = u32::from_le_bytes([head[1], head[2], head[3], head[4]]);
-        if length > self.version.limit() {
+        if length > self.position.version.limit() {
             return Err(RecordError::TooLong);
         }
         Ok(head.len() + length as usize + TAG_BYTES)
@@ -209,51 +201,13 @@ impl<'a> RecordOpener<'a> {
         if self.ended {
             return Err(RecordError::Trailing);
         }
-        let (frame, message) = open_record(alloc, &self.cipher, self.position(), bytes)?;
-        self.number += 1;
-        self.before += message.len() as u64;
+        let (frame, message) = open_record(alloc, &self.cipher, self.position, bytes)?;
+        self.position.number += 1;
+        self.position.before += message.len() as u64;
         self.ended = frame.flag == 1;
         Ok(Opened {
             message,
             is_last: self.ended,
-            rest: frame.rest,
-        })
-    }
-
-    /// Opens the record at a position, which `bytes` begin with.
-    ///
-    /// The message is the one whose record at this position, under this key, prefix and context, `bytes` begin with.
-    /// Nothing is known of the other records, nor that the stream is whole. The error is the fault of the record, as
-    /// [`RecordError::Damaged`] if no message is sealed to it at this position, or [`RecordError::OutOfMemory`].
-    pub fn open_at<'b, A: Allocator>(
-        &self,
-        alloc: A,
-        position: RecordPosition,
-        bytes: &'b [u8],
-    ) -> Result<Opened<'b, A>, RecordError>
-        ensures opened { IfOk result (λ opened. bytes.now
-            ≡ record_of (progress_at self.now.key self.now.prefix self.now.context position)
-            (last_flag opened.is_last) opened.message.items ++ opened.rest.now) }
-        ensures within { IfOk result
-            (λ opened. length opened.message.items ≤ limit position.version) }
-        ensures accepted { (m rest : List ℕ) → length m ≤ limit position.version
-            → bytes.now
-            ≡ record_of (progress_at self.now.key self.now.prefix self.now.context position)
-            0 m ++ rest
-            → OpensRecordTo false m rest result }
-        ensures accepted_last { (m rest : List ℕ) → length m ≤ limit position.version
-            → bytes.now
-            ≡ record_of (progress_at self.now.key self.now.prefix self.now.context position)
-            1 m ++ rest
-            → OpensRecordTo true m rest result }
-        ensures refused { IfErr result (λ e. (e ≡ RecordError.OutOfMemory)
-            ⊎ IsRecordFault (progress_at self.now.key self.now.prefix self.now.context position)
-            bytes.now e) }
-    {
-        let (frame, message) = open_record(alloc, &self.cipher, position, bytes)?;
-        Ok(Opened {
-            message,
-            is_last: frame.flag == 1,
             rest: frame.rest,
         })
     }

@@ -3,10 +3,10 @@ mod in_place;
 
 ghost use Rattle.std.specs.Prelude.{◌≡◌, ◌+◌, ◌-◌, ◌≤◌, ◌++◌, ◌∷◌, [], IfErr, IfOk, List, OnErr, OnOk, false, length, ℕ};
 ghost use Rattle.aegis_base.specs.declared.error.TheConstants.{MAX_AEAD_BYTES};
-ghost use Rattle.aegis.specs.Calls.{frame_at};
-ghost use Rattle.aegis.specs.Progress.{Begun, after, first_position, position_of, progress_at, record_of, start_of};
+ghost use Rattle.aegis.specs.Calls.{sealing_of};
+ghost use Rattle.aegis.specs.Progress.{Begun, after, progress_at, record_of, start_of};
 ghost use Rattle.aegis.specs.Records.{AreRecords};
-ghost use Rattle.aegis.specs.RecordStream.{header, limit};
+ghost use Rattle.aegis.specs.RecordStream.{first_position, frame, header, limit};
 ghost use Rattle.aegis.specs.declared.record.version.Version.TheVariants.{Second};
 
 use crate::aegis256::Key;
@@ -24,6 +24,7 @@ use std::marker::Model;
 const WRITTEN: Version = Version::Second;
 
 // Appends a record to `out`. After an error `out` may have a part of it.
+#[tactic(auto, unfolding(crate::specs::RecordStream::frame))]
 fn append_record<A: Allocator>(
     out: &mut Vec<u8, A>,
     cipher: &RecordCipher<'_>,
@@ -34,7 +35,7 @@ fn append_record<A: Allocator>(
     requires context { length cipher.now.context.now ≤ MAX_CONTEXT_BYTES }
     requires within { length message.now ≤ limit position.version }
     ensures ok { OnOk result
-        (out.new.items ≡ out.old.items ++ frame_at cipher.now position flag message.now) }
+        (out.new.items ≡ out.old.items ++ frame (sealing_of cipher.now) position flag message.now) }
     ensures err { IfErr result (λ e. e ≡ RecordError.OutOfMemory) }
     ensures kept { OnErr result ((part : List ℕ) × (out.new.items ≡ out.old.items ++ part)) }
 {
@@ -53,7 +54,7 @@ fn seal_record<A: Allocator>(
     requires context { length cipher.now.context.now ≤ MAX_CONTEXT_BYTES }
     requires within { length message.now ≤ limit position.version }
     ensures ok { OnOk result
-        (out.new.items ≡ out.old.items ++ frame_at cipher.now position flag message.now) }
+        (out.new.items ≡ out.old.items ++ frame (sealing_of cipher.now) position flag message.now) }
     ensures err { IfErr result (λ e. e ≡ RecordError.OutOfMemory) }
     ensures kept { OnErr result (out.new.items ≡ out.old.items) }
 {
@@ -76,8 +77,8 @@ fn seal_record<A: Allocator>(
 /// used twice under one prefix reveals information about both messages, and may allow forgeries. To change what was
 /// sealed, seal a new stream under a new prefix.
 ///
-/// In a contract a sealer stands for a `Progress`: the key, prefix and context, the next record's number, and how many
-/// bytes the messages before it have. `Begun` relates it to those messages and bytes.
+/// In a contract a sealer stands for a `Progress`: the key, prefix and context, and the position of the next record.
+/// `Begun` relates it to the messages and bytes before that position.
 #[derive(Drop)]
 pub struct RecordSealer<'a> {
     cipher: RecordCipher<'a>,
@@ -88,7 +89,7 @@ pub struct RecordSealer<'a> {
 impl<'a> Model for RecordSealer<'a> {
     ghost use Rattle.std.specs.Prelude.{◌+◌, ◌*◌, ◌≤◌, false, length};
     ghost use Rattle.aegis_base.specs.declared.error.TheConstants.{MAX_AEAD_BYTES};
-    ghost use Rattle.aegis.specs.Progress.{Progress, start_at};
+    ghost use Rattle.aegis.specs.Progress.{Progress};
     ghost use Rattle.aegis.specs.declared.record.record_cipher.TheConstants.{MAX_CONTEXT_BYTES};
     ghost use Rattle.aegis.specs.declared.record.version.Version.TheVariants.{Second};
 
@@ -98,14 +99,12 @@ impl<'a> Model for RecordSealer<'a> {
       key = s.cipher.key.now;
       prefix = s.cipher.prefix.now;
       context = s.cipher.context.now;
-      version = Second;
-      number = s.number;
-      before = s.before;
+      position = record { version = Second; number = s.number; before = s.before };
       ended = false;
     } };
 
     ghost invariant = { λ s. (length s.cipher.context.now ≤ MAX_CONTEXT_BYTES)
-        × (start_at s.number s.before ≤ MAX_AEAD_BYTES) };
+        × (4 + 37 * s.number + s.before ≤ MAX_AEAD_BYTES) };
 }
 
 impl<'a> RecordSealer<'a> {
@@ -122,7 +121,7 @@ impl<'a> RecordSealer<'a> {
         requires { length context.now ≤ MAX_CONTEXT_BYTES }
         ensures appended { OnOk result (out.new.items ≡ out.old.items ++ header Second) }
         ensures begun { IfOk result
-            (λ sealer. Begun sealer key.now prefix.now context.now [] (header Second)) }
+            (λ sealer. Begun sealer [] (header Second)) }
         ensures progress { IfOk result (λ sealer. sealer
             ≡ progress_at key.now prefix.now context.now (first_position Second)) }
         ensures taken { IfOk result (λ sealer. start_of sealer ≡ HEADER_BYTES) }
@@ -149,9 +148,9 @@ impl<'a> RecordSealer<'a> {
     }
 
     /// Returns the position of the next record, at which
-    /// [`RecordOpener::open_at`](crate::record::RecordOpener::open_at) opens it without the records before it.
+    /// [`RecordOpener::begin_at`](crate::record::RecordOpener::begin_at) opens it without the records before it.
     pub fn position(&self) -> RecordPosition
-        ensures { result ≡ position_of self.now }
+        ensures { result ≡ self.now.position }
     {
         RecordPosition {
             version: WRITTEN,
@@ -176,10 +175,8 @@ impl<'a> RecordSealer<'a> {
         ensures appended { OnOk result
             (out.new.items ≡ out.old.items ++ record_of self.old 0 message.now) }
         ensures begun { OnOk result
-            ((key prefix context : List ℕ) (ms : List (List ℕ)) (bytes : List ℕ)
-            → Begun self.old key prefix context ms bytes
-            → Begun self.new key prefix context
-            (ms ++ message.now ∷ []) (bytes ++ record_of self.old 0 message.now)) }
+            ((ms : List (List ℕ)) (bytes : List ℕ) → Begun self.old ms bytes
+            → Begun self.new (ms ++ message.now ∷ []) (bytes ++ record_of self.old 0 message.now)) }
         ensures progress { OnOk result (self.new ≡ after self.old false message.now) }
         ensures taken { OnOk result
             (start_of self.new ≡ start_of self.old + (RECORD_BYTES + length message.now)) }
@@ -210,9 +207,8 @@ impl<'a> RecordSealer<'a> {
         ensures appended { OnOk result
             (out.new.items ≡ out.old.items ++ record_of self.entry 1 message.now) }
         ensures whole { OnOk result
-            ((key prefix context : List ℕ) (ms : List (List ℕ)) (bytes : List ℕ)
-            → Begun self.entry key prefix context ms bytes
-            → AreRecords Second key prefix context
+            ((ms : List (List ℕ)) (bytes : List ℕ) → Begun self.entry ms bytes
+            → AreRecords Second self.entry.key self.entry.prefix self.entry.context
             (ms ++ message.now ∷ []) (bytes ++ record_of self.entry 1 message.now)) }
         ensures length { OnOk result
             (length out.new.items ≡ length out.old.items + (RECORD_BYTES + length message.now)) }

@@ -1,11 +1,10 @@
 //! What C passes: a state, and the lengths of a record and of a context.
 
 ghost use Rattle.std.specs.Prelude.{◌≡◌, ◌≢◌, ◌+◌, ◌<◌, ◌≤◌, ℤ, IfErr, IfNone, IfOk, IfSome, OnOk};
-ghost use Rattle.aegis.specs.Progress.{start_at};
-ghost use Rattle.aegis.specs.RecordStream.{limit};
+ghost use Rattle.aegis.specs.RecordStream.{limit, start_at};
 ghost use Rattle.aegis_c_calls.specs.Codes.{number_of};
 ghost use Rattle.aegis_c_calls.specs.RecordCodes.{mark_code, record_code};
-ghost use Rattle.aegis_c_calls.specs.RecordStates.{version_of};
+ghost use Rattle.aegis_c_calls.specs.RecordStates.{next_position, version_of};
 ghost use Rattle.aegis_c_calls.specs.declared.refusal.TheConstants.{DONE, INVALID_TAG, WRONG_STATE};
 
 use crate::record::data::version;
@@ -19,9 +18,9 @@ const HEADER_BYTES: u64 = 4;
 
 // Returns at which byte of its stream the next record starts, or `None` if that is past the limit.
 fn start(st: &RecordState) -> Option<u64>
-    ensures start { IfSome result (λ at. at ≡ start_at st.now.number st.now.before) }
+    ensures start { IfSome result (λ at. at ≡ start_at (next_position st.now)) }
     ensures within { IfSome result (λ at. at ≤ MAX_AEAD_BYTES) }
-    ensures past { IfNone result (MAX_AEAD_BYTES < start_at st.now.number st.now.before) }
+    ensures past { IfNone result (MAX_AEAD_BYTES < start_at (next_position st.now)) }
 {
     if st.number > MAX_AEAD_BYTES / RECORD_BYTES || st.before > MAX_AEAD_BYTES {
         return None;
@@ -37,7 +36,7 @@ fn start(st: &RecordState) -> Option<u64>
 /// Returns at which byte of its stream the next record starts. Refuses a state that does not have this mark, or whose
 /// stream is past the limit.
 pub fn check_state(st: &RecordState, mark: u64) -> Result<u64, Refusal>
-    ensures start { IfOk result (λ at. at ≡ start_at st.now.number st.now.before) }
+    ensures start { IfOk result (λ at. at ≡ start_at (next_position st.now)) }
     ensures within { IfOk result (λ at. at ≤ MAX_AEAD_BYTES) }
     ensures right { IfOk result (λ at. (rest : ℤ) → mark_code st.now mark rest ≡ rest) }
     ensures wrong { IfErr result (λ refusal. (rest : ℤ)
@@ -64,7 +63,7 @@ pub fn check_record(
     ensures context { OnOk result (context ≤ MAX_CONTEXT_BYTES) }
     ensures room { OnOk result (RECORD_BYTES ≤ bytes) }
     ensures within { OnOk result (bytes ≤ RECORD_BYTES + limit (version_of st.now.version)) }
-    ensures fits { OnOk result (start_at st.now.number st.now.before + bytes ≤ MAX_AEAD_BYTES) }
+    ensures fits { OnOk result (start_at (next_position st.now) + bytes ≤ MAX_AEAD_BYTES) }
     ensures right { OnOk result (record_code st.now mark context bytes ≡ DONE) }
     ensures wrong { IfErr result (λ refusal.
         record_code st.now mark context bytes ≡ number_of refusal) }

@@ -6,7 +6,6 @@ use aegis::record::{RecordError, RecordPosition, Version};
 use aegis_files::{FileError, OpenedRange, TextRange, open_range};
 use std::alloc::Global;
 use std::io::{ErrorKind, Read, Write};
-use std::num::NonZeroU64;
 use std::test::Fail;
 
 // A record of the small file: where it starts in the file, its number, and how many bytes of the text come before it.
@@ -57,21 +56,15 @@ impl Part {
     }
 }
 
-// How many bytes a part leaves out, and how many bytes and records it has at most.
+// How many bytes a part leaves out, and how many it has at most.
 #[derive(Clone, Copy)]
 struct Asked {
     skip: u64,
     length: u64,
-    records: NonZeroU64,
 }
 
-// A part that is bounded by bytes alone.
 fn bytes(skip: u64, length: u64) -> Asked {
-    Asked {
-        skip,
-        length,
-        records: NonZeroU64::MAX,
-    }
+    Asked { skip, length }
 }
 
 // Opens a part of a text from a record on.
@@ -91,7 +84,6 @@ fn open_part<R: Read, W: Write>(
         position,
         skip: asked.skip,
         length: asked.length,
-        records: asked.records,
     };
     open_range(alloc, &KEY, &PREFIX, &CONTEXT, range, input, output)
 }
@@ -145,24 +137,6 @@ fn is_whole(opened: OpenedRange) -> bool {
         before: 15,
     };
     opened.end == end && opened.is_last
-}
-
-// From the first record, one record and so many more.
-#[test]
-fn a_part_has_so_many_records_at_most(rt: HostRuntime) -> Result<(), Fail> {
-    let file = three_records(rt.alloc(), &KEY, &PREFIX)?;
-    let parts = [(0, 3, false), (1, 10, false), (2, 15, true), (3, 15, true)];
-    for (more, length, is_last) in parts {
-        let asked = Asked {
-            skip: 0,
-            length: u64::MAX,
-            records: NonZeroU64::MIN.saturating_add(more),
-        };
-        let part = opened_part(rt.alloc(), &file, PLACES[0], asked);
-        let is_right = matches!(part.result, Ok(opened) if opened.is_last == is_last);
-        assert!(rt; is_right && part.has(&TEXT[..length]), "{more}");
-    }
-    Ok(())
 }
 
 // A part of no bytes, and one that begins after the text, are not opened without a record that is as it was sealed.

@@ -3,7 +3,7 @@
 ghost use Rattle.std.specs.Prelude.{◌≡◌, ◌≢◌, ◌+◌, ◌≤◌, Err, IfErr, IfOk, IsTrue, length};
 ghost use Rattle.aegis_base.specs.declared.error.TheConstants.{MAX_AEAD_BYTES};
 ghost use Rattle.aegis.specs.Calls.{IsRecord, OpensInPlaceTo, message_at, message_of, rest_at, rest_of, sealing_of, with_erased, with_message};
-ghost use Rattle.aegis.specs.Fault.{HasFault, parts};
+ghost use Rattle.aegis.specs.Fault.{IsFaultAt};
 ghost use Rattle.aegis.specs.Opening.{AcceptsNext, OpensNext, RefusesInPlace, WritesMessage};
 ghost use Rattle.aegis.specs.Progress.{start_of};
 
@@ -39,16 +39,14 @@ pub fn open_record_in_place(
     bytes: &mut [u8],
 ) -> Result<(u8, usize), RecordError>
     requires { length cipher.now.context.now ≤ MAX_CONTEXT_BYTES }
-    ensures opened { IfOk result
-        (λ found. IsRecord (sealing_of cipher.now) position.version position.number position.before
+    ensures opened { IfOk result (λ found. IsRecord (sealing_of cipher.now) position
         found.0 (message_at found.1 bytes.new) (rest_at found.1 bytes.new) bytes.old) }
     ensures message_len { IfOk result
         (λ found. length (message_at found.1 bytes.new) ≡ found.1) }
     ensures written { IfOk result
         (λ found. bytes.new ≡ with_message bytes.old (message_at found.1 bytes.new)) }
     ensures refused { IfErr result
-        (λ e. HasFault (sealing_of cipher.now) position.version position.number position.before
-        (parts position.version bytes.old) e) }
+        (λ e. IsFaultAt (sealing_of cipher.now) position bytes.old e) }
     ensures erased { IfErr result
         (λ e. e ≡ RecordError.Damaged position.number → bytes.new ≡ with_erased bytes.old) }
     ensures kept { IfErr result
@@ -57,8 +55,7 @@ pub fn open_record_in_place(
     let frame = Frame::read(position.version, bytes)?;
     let flag = frame.flag;
     let sealed_len = frame.sealed.len();
-    let (_, body) = bytes.split_at_mut(RECORD_HEAD_BYTES);
-    let (sealed, _) = body.split_at_mut(sealed_len);
+    let sealed = &mut bytes[RECORD_HEAD_BYTES..RECORD_HEAD_BYTES + sealed_len];
     match cipher.open_in_place(position, flag, sealed) {
         Ok(()) => Ok((flag, sealed_len - TAG_BYTES)),
         Err(error) => Err(error),
@@ -88,9 +85,9 @@ impl RecordOpener<'_> {
         if self.ended {
             return Err(RecordError::Trailing);
         }
-        let (flag, message_len) = open_record_in_place(&self.cipher, self.position(), bytes)?;
-        self.number += 1;
-        self.before += message_len as u64;
+        let (flag, message_len) = open_record_in_place(&self.cipher, self.position, bytes)?;
+        self.position.number += 1;
+        self.position.before += message_len as u64;
         self.ended = flag == 1;
         Ok(OpenedInPlace {
             message_len,

@@ -2,9 +2,9 @@
 
 ghost use Rattle.std.specs.Prelude.{◌≡◌, ◌+◌, ◌≤◌, ◌++◌, ◌∷◌, [], List, false, length, ℕ};
 ghost use Rattle.aegis_base.specs.declared.error.TheConstants.{MAX_AEAD_BYTES};
-ghost use Rattle.aegis.specs.Calls.{frame_at, message_in};
+ghost use Rattle.aegis.specs.Calls.{message_in, sealing_of};
 ghost use Rattle.aegis.specs.Progress.{Begun, after, record_of, start_of};
-ghost use Rattle.aegis.specs.RecordStream.{limit};
+ghost use Rattle.aegis.specs.RecordStream.{frame, limit};
 
 use crate::record::frame::TAG_BYTES;
 use crate::record::length::{RECORD_BYTES, RECORD_HEAD_BYTES};
@@ -16,6 +16,7 @@ use aegis_base::MAX_AEAD_BYTES;
 
 /// Seals the record at a position where its message lies: `buffer` has [`RECORD_HEAD_BYTES`] for the head, the message,
 /// and 32 bytes for the tag, and becomes the record.
+#[tactic(auto, unfolding(crate::specs::RecordStream::frame))]
 pub fn seal_record_in_place(
     cipher: &RecordCipher<'_>,
     position: RecordPosition,
@@ -25,7 +26,7 @@ pub fn seal_record_in_place(
     requires context { length cipher.now.context.now ≤ MAX_CONTEXT_BYTES }
     requires room { RECORD_BYTES ≤ length buffer.old }
     requires within { length buffer.old ≤ RECORD_BYTES + limit position.version }
-    ensures { buffer.new ≡ frame_at cipher.now position flag (message_in buffer.old) }
+    ensures { buffer.new ≡ frame (sealing_of cipher.now) position flag (message_in buffer.old) }
 {
     let (head, sealed) = buffer.split_at_mut(RECORD_HEAD_BYTES);
     head.copy_from_slice(&position.version.head(flag, sealed.len() - TAG_BYTES));
@@ -43,10 +44,8 @@ impl RecordSealer<'_> {
         requires within { length buffer.old ≤ RECORD_BYTES + MAX_MESSAGE_BYTES }
         requires fits { start_of self.old + length buffer.old ≤ MAX_AEAD_BYTES }
         ensures written { buffer.new ≡ record_of self.old 0 (message_in buffer.old) }
-        ensures begun { (key prefix context : List ℕ) (ms : List (List ℕ)) (bytes : List ℕ)
-            → Begun self.old key prefix context ms bytes
-            → Begun self.new key prefix context
-            (ms ++ message_in buffer.old ∷ []) (bytes ++ buffer.new) }
+        ensures begun { (ms : List (List ℕ)) (bytes : List ℕ) → Begun self.old ms bytes
+            → Begun self.new (ms ++ message_in buffer.old ∷ []) (bytes ++ buffer.new) }
         ensures progress { self.new ≡ after self.old false (message_in buffer.old) }
         ensures taken { start_of self.new ≡ start_of self.old + length buffer.old }
     {

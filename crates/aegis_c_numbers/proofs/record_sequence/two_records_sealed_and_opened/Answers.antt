@@ -1,7 +1,9 @@
 -- The sealer and the opener are of the same progress before each record.
 use Rattle.std.proofs.Common.{◌≡◌, ℕ, ◌+◌, ◌-◌, false, List, ◌∙◌, ap, rules, sym}
 use Rattle.aegis.specs.Calls.{message_in}
-use Rattle.aegis.specs.Progress.{Progress, record_of}
+use Rattle.aegis.specs.Progress.{Progress, progress_at, record_of}
+use Rattle.aegis.specs.RecordStream.{first_position}
+use Rattle.aegis.proofs.Stepwise.{moved}
 use Rattle.aegis.specs.declared.record.version.Version.TheVariants.{Second}
 use Rattle.aegis_c_calls.specs.declared.refusal.TheConstants.{DONE}
 use Rattle.aegis_c_calls.specs.RecordStates.{after_record, first_of, progress_of, version_of}
@@ -16,7 +18,7 @@ same_at_first : (opener sealer : RecordState) (key prefix context : List ℕ) �
     → opener ≡ first_of OPENING opener.version key prefix → version_of opener.version ≡ Second → same opener sealer context
 same_at_first opener sealer key prefix context s o v =
     ap (λ (st : RecordState). progress_of st context) o
-    ∙ ap (λ w. record { key = key; prefix = prefix; context = context; version = w; number = 0; before = 0; ended = false }) v
+    ∙ ap (λ w. progress_at key prefix context (first_position w)) v
     ∙ sym (ap (λ (st : RecordState). progress_of st context) s)
 
 same_after : (opener sealer opener' sealer' : RecordState) (context : List ℕ) (m n : ℕ) → same opener sealer context
@@ -24,7 +26,7 @@ same_after : (opener sealer opener' sealer' : RecordState) (context : List ℕ) 
 same_after opener sealer opener' sealer' context m n is o s e =
     ap (λ (st : RecordState). progress_of st context) o
     ∙ ap (λ (k : ℕ). progress_of (after_record opener k) context) e
-    ∙ ap (λ (p : Progress). record { key = p.key; prefix = p.prefix; context = context; version = p.version; number = p.number + 1; before = p.before + (n - 37); ended = false }) is
+    ∙ ap (λ (p : Progress). moved p false (n - 37)) is
     ∙ sym (ap (λ (st : RecordState). progress_of st context) s)
 
 pub returns-clause-first : goal.returns-clause-first

@@ -1,9 +1,10 @@
 use Rattle.std.proofs.Common.{◌+◌, ◌≤◌, ◌++◌, ◌∙◌, ap, arith, length, subst, sym, take}
 use Rattle.std.proofs.lemmas.List.{length-append, with_items_is}
+use Rattle.std.proofs.lemmas.Result.{err_from_is_err_and}
 use Rattle.std.specs.Io.KnownBytes.{Consumes}
 use Rattle.aegis.specs.Calls.{message_of}
 use Rattle.aegis_files.specs.Reading.{ReadsNext}
-use Rattle.aegis_files.proofs.NextRecord.{message_kept, nothing_left, reads_next}
+use Rattle.aegis_files.proofs.NextRecord.{message_kept, not_opened, nothing_left, reads_next}
 use Rattle.aegis_files.proofs.next.next_message.Goals as goal
 
 pub returns-then-count-eq0-clause-failed : goal.returns-then-count-eq0-clause-failed
@@ -28,3 +29,10 @@ returns-clause-opened g c =
 
 pub returns-clause-fits : goal.returns-clause-fits
 returns-clause-fits g c = omega (arith, c.in_ok-open_next_in_place.ensures.opened.taken, c.split_at_mut-record.ensures.front_len)
+
+pub returns-in_err-open_next_in_place-clause-failed : goal.returns-in_err-open_next_in_place-clause-failed
+returns-in_err-open_next_in_place-clause-failed g c =
+    let p = err_from_is_err_and c.from_residual-in_err-open_next_in_place.result c.from_residual-in_err-open_next_in_place.ensures.1 in
+    let found = c.split_at_mut-record.ensures.front ∙ ap (take c.in_ok-count.count) c.deref_mut.ensures.value in
+    let e = c.in_err-open_next_in_place.ensures.refused in
+    rw (p.1, p.2) (not_opened c.args.opener.now _ _ _ _ c.in_ok-count.ensures.read (rw found at e.first) (λ is. c.in_ok-count.ensures.cut (rw found at (e.cut is))))

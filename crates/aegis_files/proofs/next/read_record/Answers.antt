@@ -42,5 +42,5 @@ returns-clause-cut g c =
     elim (cases_lt n len) [
       | inl short ↦ r.ended short
       | inr whole ↦ absurd (c.in_ok-len.ensures.whole (drop 5 (take n new)) (omega (arith, whole, ap length is, r.within, length-take n new))
-          (ap (parts c.args.opener.now.version) is ∙ cut))
+          (ap (parts c.args.opener.now.position.version) is ∙ cut))
     ]) c.fill_part-2.ensures.ok

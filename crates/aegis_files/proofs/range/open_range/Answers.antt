@@ -3,17 +3,16 @@ use Rattle.std.proofs.lemmas.List.{length-drop, length-take}
 use Rattle.std.proofs.lemmas.Result.{err_from_is_err_and}
 use Rattle.aegis.specs.Calls.{message_of}
 use Rattle.aegis.specs.Progress.{Progress, start_of}
-use Rattle.aegis_files.proofs.RangeFailing.{stops_flush, stops_next, stops_write}
-use Rattle.aegis_files.proofs.Ranges.{range_begin, range_end, range_more}
+use Rattle.aegis_files.proofs.Ranges.{range_begin, range_end, range_more, stops_next, stops_write}
 use Rattle.aegis_files.proofs.range.open_range.Goals as goal
 
 pub records-init : goal.records-init
-records-init g c = rw c.get-records.ensures.value (range_begin _ _ _ _ _ _ _ c.begin_at-opener.ensures (rw (← c.get-records.ensures.value) c.get-records.ensures.nonzero))
+records-init g c = range_begin _ _ _ _ _ _ _ c.begin_at-opener.ensures c.requires.start_within
 
 pub returns-in_err-opened-clause-stopped : goal.returns-in_err-opened-clause-stopped
 returns-in_err-opened-clause-stopped g c =
     let p = err_from_is_err_and c.from_residual.result c.from_residual.ensures.1 in
-    rw (p.1, p.2) (stops_next _ _ _ _ _ _ _ _ _ _ _ _ _ c.records.invariant.some c.in_err-opened.ensures.failed)
+    rw (p.1, p.2) (stops_next _ _ _ _ _ _ _ _ _ _ _ _ c.records.invariant.some c.in_err-opened.ensures.failed)
 
 pub returns-in_err-write-clause-stopped : goal.returns-in_err-write-clause-stopped
 returns-in_err-write-clause-stopped g c =
@@ -21,21 +20,17 @@ returns-in_err-write-clause-stopped g c =
     let message = c.message.ensures ∙ ap (message_of c.in_ok-opened.opened) c.deref.ensures.value in
     let piece = c.part-piece.ensures ∙ ap (λ l. take c.records.left (drop c.records.skip l)) message in
     let written = c.in_err-write.ensures.front in
-    rw (p.1, p.2) (stops_write _ _ _ _ _ _ _ _ _ _ written.0 _ _ _ _ _ _ _ _ _ c.records.invariant c.in_ok-opened.ensures.opened piece written.1
+    rw (p.1, p.2) (stops_write _ _ _ _ _ _ _ _ _ written.0 _ _ _ _ _ _ _ _ _ c.records.invariant c.in_ok-opened.ensures.opened c.in_ok-opened.ensures.fits piece written.1
     c.in_err-write.ensures.err)
 
-pub returns-in_err-flush-clause-stopped : goal.returns-in_err-flush-clause-stopped
-returns-in_err-flush-clause-stopped g c =
-    let p = err_from_is_err_and c.from_residual-in_err-flush.result c.from_residual-in_err-flush.ensures.1 in
-    let buffer = c.next_message.new.buffer.items in
-    let count = c.in_ok-opened.opened.message_len in
+pub returns-in_err-write_last-clause-stopped : goal.returns-in_err-write_last-clause-stopped
+returns-in_err-write_last-clause-stopped g c =
+    let p = err_from_is_err_and c.from_residual-in_err-write_last.result c.from_residual-in_err-write_last.ensures.1 in
     let message = c.message.ensures ∙ ap (message_of c.in_ok-opened.opened) c.deref.ensures.value in
     let piece = c.part-piece.ensures ∙ ap (λ l. take c.records.left (drop c.records.skip l)) message in
-    let size : length (message_of c.in_ok-opened.opened buffer) ≡ count =
-    omega (arith, length-take count (drop 5 buffer), length-drop 5 buffer, c.in_ok-opened.ensures.size) in
-    let next = range_more _ _ _ _ _ _ _ _ c.saturating_sub-skip.result _ (c.records.left - length c.part-piece.result.now) _ (c.records.records - 1) _ _ _ _ _ _ _ _ c.records.invariant c.in_ok-opened.ensures.opened piece c.in_ok-write.ensures.ok
-    (omega (arith, c.saturating_sub-skip.ensures, size)) refl refl in
-    rw (p.1, p.2) (stops_flush _ _ _ _ _ _ _ _ _ _ _ _ _ _ _ next.0 c.in_err-flush.ensures.kept c.in_err-flush.ensures.err)
+    let written = c.in_err-write_last.ensures.front in
+    rw (p.1, p.2) (stops_write _ _ _ _ _ _ _ _ _ written.0 _ _ _ _ _ _ _ _ _ c.records.invariant c.in_ok-opened.ensures.opened c.in_ok-opened.ensures.fits piece written.1
+    c.in_err-write_last.ensures.err)
 
 pub returns-then-is_done-clause-opened : goal.returns-then-is_done-clause-opened
 returns-then-is_done-clause-opened g c =
@@ -43,11 +38,10 @@ returns-then-is_done-clause-opened g c =
     let count = c.in_ok-opened.opened.message_len in
     let message = c.message.ensures ∙ ap (message_of c.in_ok-opened.opened) c.deref.ensures.value in
     let piece = c.part-piece.ensures ∙ ap (λ l. take c.records.left (drop c.records.skip l)) message in
-    let size : length (message_of c.in_ok-opened.opened buffer) ≡ count =
-    omega (arith, length-take count (drop 5 buffer), length-drop 5 buffer, c.in_ok-opened.ensures.size) in
-    let next = range_more _ _ _ _ _ _ _ _ c.saturating_sub-skip.result _ (c.records.left - length c.part-piece.result.now) _ (c.records.records - 1) _ _ _ _ _ _ _ _ c.records.invariant c.in_ok-opened.ensures.opened piece c.in_ok-write.ensures.ok
-    (omega (arith, c.saturating_sub-skip.ensures, size)) refl refl in
-    range_end _ _ _ _ _ _ _ _ _ _ _ _ _ _ _ next.0 next.1 c.if-is_done.ensures.done refl c.position.ensures refl c.in_ok-flush.ensures.kept
+    let size : length (message_of c.in_ok-opened.opened buffer) ≡ count = omega (arith, length-take count (drop 5 buffer), length-drop 5 buffer, c.in_ok-opened.ensures.size) in
+    let next = range_more _ _ _ _ _ _ _ _ c.saturating_sub-skip.result _ (c.records.left - length c.part-piece.result.now) _ _ _ _ _ _ _ _ c.records.invariant c.in_ok-opened.ensures.opened c.in_ok-opened.ensures.fits piece
+    c.in_ok-write_last.ensures.ok (omega (arith, c.saturating_sub-skip.ensures, size)) refl in
+    range_end _ _ _ _ _ _ _ _ _ _ _ _ _ next.0 next.1 c.if-is_done.ensures.done refl c.position.ensures refl
 
 pub records-preserved : goal.records-preserved
 records-preserved g c =
@@ -55,15 +49,12 @@ records-preserved g c =
     let count = c.in_ok-opened.opened.message_len in
     let message = c.message.ensures ∙ ap (message_of c.in_ok-opened.opened) c.deref.ensures.value in
     let piece = c.part-piece.ensures ∙ ap (λ l. take c.records.left (drop c.records.skip l)) message in
-    let size : length (message_of c.in_ok-opened.opened buffer) ≡ count =
-    omega (arith, length-take count (drop 5 buffer), length-drop 5 buffer, c.in_ok-opened.ensures.size) in
-    let more = c.if-is_done.ensures.more in
-    let next = range_more _ _ _ _ _ _ _ _ c.saturating_sub-skip.result _ (c.records.left - length c.part-piece.result.now) _ (c.records.records - 1) _ _ _ _ _ _ _ _ c.records.invariant (rw more.0 at c.in_ok-opened.ensures.opened) piece c.in_ok-write.ensures.ok
-    (omega (arith, c.saturating_sub-skip.ensures, size)) refl refl in
+    let size : length (message_of c.in_ok-opened.opened buffer) ≡ count = omega (arith, length-take count (drop 5 buffer), length-drop 5 buffer, c.in_ok-opened.ensures.size) in
+    let on = c.if-is_done.ensures.more in
     record {
-      some = next.0;
-      asked = more.1;
-      on = λ some. more.2;
+      some = (range_more _ _ _ _ _ _ _ _ c.saturating_sub-skip.result _ (c.records.left - length c.part-piece.result.now) _ _ _ _ _ _ _ _ c.records.invariant (rw on.0 at c.in_ok-opened.ensures.opened) c.in_ok-opened.ensures.fits piece
+          c.in_ok-write.ensures.ok (omega (arith, c.saturating_sub-skip.ensures, size)) refl).0;
+      on = λ some. on.1;
     }
 
 pub records-smaller : goal.records-smaller

@@ -1,6 +1,6 @@
 //! Records that are opened at their positions.
 
-ghost use Rattle.std.specs.Prelude.{◌≡◌};
+ghost use Rattle.std.specs.Prelude.{◌<◌, ◌^◌};
 
 use crate::tests::assert_bytes;
 use crate::tests::records::steps::opened;
@@ -11,15 +11,33 @@ use std::alloc::Allocator;
 use std::process::Abort;
 use std::test::Fail;
 
-// The position of the second record of the stored streams.
-fn second(version: Version) -> RecordPosition
-    ensures number { result.number ≡ 1 }
-    ensures before { result.before ≡ 0 }
-{
-    RecordPosition {
+// Where a record is said to be in its stream.
+#[derive(Clone, Copy)]
+struct Place {
+    version: Version,
+    number: u32,
+    before: u32,
+}
+
+// The second record of the stored streams.
+fn second(version: Version) -> Place {
+    Place {
         version,
         number: 1,
         before: 0,
+    }
+}
+
+impl Place {
+    fn position(self) -> RecordPosition
+        ensures number { result.number < 2 ^ 32 }
+        ensures before { result.before < 2 ^ 32 }
+    {
+        RecordPosition {
+            version: self.version,
+            number: u64::from(self.number),
+            before: u64::from(self.before),
+        }
     }
 }
 
@@ -52,39 +70,39 @@ fn positions_count_records_and_bytes(rt: HostRuntime) -> Result<(), Fail> {
     Ok(())
 }
 
+// Opens the record at a place with an opener that begins there.
 fn opened_at<'b, A: Allocator>(
     alloc: A,
-    opener: &RecordOpener<'_>,
-    position: RecordPosition,
+    prefix: &[u8; 24],
+    place: Place,
     bytes: &'b [u8],
 ) -> Result<Opened<'b, A>, RecordError> {
-    opener.open_at(alloc, position, bytes)
+    let mut opener = RecordOpener::begin_at(&KEY, prefix, &CONTEXT, place.position());
+    opened(alloc, &mut opener, bytes)
 }
 
 #[test]
 fn a_record_is_opened_at_its_position(rt: HostRuntime) -> Result<(), Fail> {
     for (version, stream) in [(Version::First, &FIRST), (Version::Second, &SECOND)] {
-        let position = second(version);
-        let opener = RecordOpener::begin_at(&KEY, &PREFIX, &CONTEXT, position);
-        let opened = opened_at(rt.alloc(), &opener, position, &stream[41..])?;
+        let opened = opened_at(rt.alloc(), &PREFIX, second(version), &stream[41..])?;
         assert_opened(&rt, &opened, b"abc", true);
         assert!(rt; opened.rest.is_empty());
-        let first = RecordPosition {
+        let first = Place {
             number: 0,
-            ..position
+            ..second(version)
         };
-        let opened = opened_at(rt.alloc(), &opener, first, &stream[4..])?;
+        let opened = opened_at(rt.alloc(), &PREFIX, first, &stream[4..])?;
         assert_opened(&rt, &opened, b"", false);
         assert_bytes(&rt, opened.rest, &stream[41..], &"the rest");
-        assert_position(&rt, opener.position(), position);
     }
     Ok(())
 }
 
 #[test]
 fn an_opener_goes_on_from_a_position(rt: HostRuntime) -> Result<(), Fail> {
-    let position = second(Version::Second);
+    let position = second(Version::Second).position();
     let mut opener = RecordOpener::begin_at(&KEY, &PREFIX, &CONTEXT, position);
+    assert_position(&rt, opener.position(), position);
     let opened = opened(rt.alloc(), &mut opener, &SECOND[41..])?;
     assert_opened(&rt, &opened, b"abc", true);
     Ok(())
@@ -92,29 +110,21 @@ fn an_opener_goes_on_from_a_position(rt: HostRuntime) -> Result<(), Fail> {
 
 #[test]
 fn no_other_position_opens_a_record(rt: HostRuntime) {
-    let position = second(Version::Second);
+    let place = second(Version::Second);
     let record = &SECOND[41..];
-    let opener = RecordOpener::begin_at(&KEY, &PREFIX, &CONTEXT, position);
-    let number = RecordPosition {
-        number: 2,
-        ..position
-    };
-    let before = RecordPosition {
-        before: 1,
-        ..position
-    };
+    let number = Place { number: 2, ..place };
+    let before = Place { before: 1, ..place };
     let cases = [
         (number, record, RecordError::Damaged(2)),
         (before, record, RecordError::Damaged(1)),
         (second(Version::First), record, RecordError::Damaged(1)),
-        (position, &[], RecordError::Truncated),
-        (position, &[2], RecordError::Flag),
+        (place, &[], RecordError::Truncated),
+        (place, &[2], RecordError::Flag),
     ];
-    for (position, bytes, error) in cases {
-        let refused = opened_at(rt.alloc(), &opener, position, bytes).err();
-        assert_error(&rt, refused, error, &position);
+    for (place, bytes, error) in cases {
+        let refused = opened_at(rt.alloc(), &PREFIX, place, bytes).err();
+        assert_error(&rt, refused, error, &place.position());
     }
-    let other = RecordOpener::begin_at(&KEY, &NEW_PREFIX, &CONTEXT, position);
-    let refused = opened_at(rt.alloc(), &other, position, record).err();
+    let refused = opened_at(rt.alloc(), &NEW_PREFIX, place, record).err();
     assert_error(&rt, refused, RecordError::Damaged(1), &"another prefix");
 }

@@ -1,4 +1,4 @@
-use Rattle.aegis.proofs.Fronts.{begun_front}
+use Rattle.aegis.proofs.Stepwise.{begun_front}
 use Rattle.aegis.proofs.record.laws.begun_is_a_front.Goals as goal
 
 pub returns : goal.returns

@@ -1,4 +1,4 @@
-use Rattle.aegis.proofs.Fronts.{after_a_stream}
+use Rattle.aegis.proofs.Stepwise.{after_a_stream}
 use Rattle.aegis.proofs.record.laws.bytes_after_a_stream.Goals as goal
 
 pub returns : goal.returns

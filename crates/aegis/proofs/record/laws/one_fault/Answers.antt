@@ -1,5 +1,5 @@
 use Rattle.aegis.proofs.Sealed.{sealed-is}
-use Rattle.aegis.proofs.Streams.{one_fault}
+use Rattle.aegis.proofs.Frames.{one_fault}
 use Rattle.aegis.specs.Records.{sealed}
 use Rattle.aegis.proofs.record.laws.one_fault.Goals as goal
 

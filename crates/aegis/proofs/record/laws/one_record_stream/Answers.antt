@@ -1,5 +1,5 @@
 use Rattle.aegis.proofs.Sealed.{sealed-is}
-use Rattle.aegis.proofs.Streams.{one_record_stream}
+use Rattle.aegis.proofs.Frames.{one_record_stream}
 use Rattle.aegis.specs.Records.{sealed}
 use Rattle.aegis.proofs.record.laws.one_record_stream.Goals as goal
 

@@ -4,19 +4,13 @@ use Rattle.aegis.proofs.Reading.{parts_cut, record_sound}
 use Rattle.aegis.proofs.Sealed.{sealed-is}
 use Rattle.aegis.proofs.record.open.open_record.Goals as goal
 
-pub open-requires-clause-long : goal.open-requires-clause-long
-open-requires-clause-long g c =
-    let f = c.in_ok-frame.frame in
-    (parts_cut c.args.position.version c.args.bytes.now (f.flag, f.sealed.now, f.rest.now) c.in_ok-frame.ensures).long
-
-pub open-requires-clause-within : goal.open-requires-clause-within
-open-requires-clause-within g c =
-    let f = c.in_ok-frame.frame in
-    (parts_cut c.args.position.version c.args.bytes.now (f.flag, f.sealed.now, f.rest.now) c.in_ok-frame.ensures).within
+pub open-requires : goal.open-requires
+open-requires g c =
+    let cut = parts_cut _ _ _ c.in_ok-frame.ensures in
+    let size = cut.size in
+    let within = cut.within in
+    record { context = c.requires; long = omega arith; within = omega arith }
 
 pub returns-clause-opened : goal.returns-clause-opened
 returns-clause-opened g c =
-    let f = c.in_ok-frame.frame in
-    let s = c.args.cipher.now in
-    record_sound (sealing_of s) (sealed-is s.key.now s.prefix.now s.context.now) c.args.position.version c.args.position.number c.args.position.before f.flag c.in_ok-message.message.items
-    f.sealed.now f.rest.now c.args.bytes.now (λ i low. omega (arith, c.type_inv.bytes i)) c.in_ok-frame.ensures c.in_ok-message.ensures.opened
+    record_sound (sealing_of c.args.cipher.now) (sealed-is _ _ _) c.args.position _ _ _ _ _ (λ i low. omega (arith, c.type_inv.bytes i)) c.in_ok-frame.ensures c.in_ok-message.ensures.opened

@@ -1,4 +1,4 @@
-use Rattle.std.proofs.Common.{◌≡◌, ◌+◌, ◌-◌, ◌++◌, ◌∙◌, [], List, add-one, ap, arith, drop, length, subst, take, ℕ}
+use Rattle.std.proofs.Common.{◌≡◌, ◌+◌, ◌-◌, ◌++◌, ◌∙◌, [], List, add-one, ap, arith, drop, length, refl, subst, take, ℕ}
 use Rattle.aegis_base.specs.Chunks.{texts}
 use Rattle.aegis.specs.Progress.{Begun, start_of}
 use Rattle.aegis.specs.Records.{AreRecords, sealed}
@@ -6,6 +6,7 @@ use Rattle.aegis.specs.RecordStream.{frames_length, header, records_length}
 use Rattle.aegis.specs.declared.record.version.Version.TheVariants.{Second}
 use Rattle.aegis.proofs.Lengths.{length-stream}
 use Rattle.aegis.proofs.Sealed.{sealed-is}
+use Rattle.aegis.proofs.Stepwise.{under_next, under_stream}
 use Rattle.aegis.proofs.Writing.{drop_texts, take_texts, with_the_last, within_at}
 use Rattle.aegis.proofs.record.seal.seal_records.Goals as goal
 
@@ -13,7 +14,7 @@ pub records-init : goal.records-init
 records-init g c =
     let made = c.in_ok-sealer.ensures.appended ∙ ap (λ (l : List ℕ). l ++ header Second) c.in_ok-stream.ensures.items in
     let four = c.in_ok-sealer.ensures.taken in
-    record { sealed = rw made c.in_ok-sealer.ensures.begun; counted = omega arith }
+    record { sealed = rw made c.in_ok-sealer.ensures.begun; under = rw c.in_ok-sealer.ensures.progress refl; counted = omega arith }
 
 pub seal_next-requires-clause-within : goal.seal_next-requires-clause-within
 seal_next-requires-clause-within g c =
@@ -38,7 +39,8 @@ records-preserved g c =
     let taken_more = c.in_ok-seal_next.ensures.taken in
     record {
       sealed = rw (add-one, take_texts a.messages.now k (record { ref_ptr = (0, 0); now = [] }) (omega arith), c.in_ok-seal_next.ensures.appended)
-          (c.in_ok-seal_next.ensures.begun a.key.now a.prefix.now a.context.now (take k (texts a.messages.now)) c.records.stream.items c.records.invariant.sealed);
+          (c.in_ok-seal_next.ensures.begun (take k (texts a.messages.now)) c.records.stream.items c.records.invariant.sealed);
+      under = rw c.in_ok-seal_next.ensures.progress (under_next _ _ _ _ _ c.records.invariant.under);
       counted = rw add-one (omega arith);
     }
 
@@ -62,8 +64,8 @@ returns-clause-sealed g c =
     let test = c.records-test.false in
     let end = c.records.auto.number-end in
     let at : c.records.number ≡ length ms - 1 = omega arith in
-    let begun = subst (λ (k : ℕ). Begun c.records.sealer a.key.now a.prefix.now a.context.now (take k (texts ms)) c.records.stream.items) at c.records.invariant.sealed in
-    let is = c.in_ok-seal_last.ensures.whole a.key.now a.prefix.now a.context.now (take (length ms - 1) (texts ms)) c.records.stream.items begun in
+    let begun = subst (λ (k : ℕ). Begun c.records.sealer (take k (texts ms)) c.records.stream.items) at c.records.invariant.sealed in
+    let is = under_stream _ _ _ _ Second _ _ c.records.invariant.under (c.in_ok-seal_last.ensures.whole (take (length ms - 1) (texts ms)) c.records.stream.items begun) in
     let all = with_the_last ms (length ms - 1) (record { ref_ptr = (0, 0); now = [] }) (omega arith) in
     subst (λ (l : List (List ℕ)). AreRecords Second a.key.now a.prefix.now a.context.now l c.seal_last.new.out.items) all (rw c.in_ok-seal_last.ensures.appended is)
 

@@ -1,9 +1,7 @@
-use Rattle.aegis.specs.Progress.{record_of}
 use Rattle.aegis_c_calls.proofs.record.cipher.seal_record.Goals as goal
 
 pub seal_record_in_place-requires-clause-within : goal.seal_record_in_place-requires-clause-within
 seal_record_in_place-requires-clause-within c = rw c.position.ensures c.requires.within
 
 pub returns : goal.returns
-unfolding record_of
 returns c = rw c.position.ensures at c.seal_record_in_place.ensures

@@ -10,7 +10,7 @@ returns-in-Ok-clause-opened g c =
     let ad = rw (c.new-ad.ensures.position, c.new-ad.ensures.flag) at c.pieces-pieces.ensures.are in
     let key = c.cipher.ensures.key in
     let number = c.cipher.ensures.nonce in
-    opened s.key.now s.prefix.now s.context.now p.version p.number p.before c.args.flag c.in-Ok.message.items c.args.sealed.now c.unwrap.result.0.now c.unwrap.result.1.now
+    opened s.key.now s.prefix.now s.context.now p c.args.flag c.in-Ok.message.items c.args.sealed.now c.unwrap.result.0.now c.unwrap.result.1.now
     (rw (ad, key, number) at c.in-Ok.ensures.opened) parts.0 parts.1
 
 pub returns-in-Err-InvalidTag-clause-refused : goal.returns-in-Err-InvalidTag-clause-refused
@@ -23,7 +23,7 @@ returns-in-Err-InvalidTag-clause-refused g c =
     let number = c.cipher.ensures.nonce in
     inr (
       λ m e. rw (ad, key, number) at c.in-Err-InvalidTag.ensures.accepted m
-          (opens s.key.now s.prefix.now s.context.now p.version p.number p.before c.args.flag m c.args.sealed.now c.unwrap.result.0.now c.unwrap.result.1.now e parts.0 parts.1)
+          (opens s.key.now s.prefix.now s.context.now p c.args.flag m c.args.sealed.now c.unwrap.result.0.now c.unwrap.result.1.now e parts.0 parts.1)
           (rw c.in-Err-InvalidTag.field-0-is refl),
       refl,
     )

@@ -15,7 +15,7 @@ returns-in-Ok-clause-opened c =
     let m = c.decrypt_in_place_with.new.mc in
     let long : length m ≡ length c.args.sealed.now - 32 = omega (arith, c.decrypt_in_place_with.auto.mc, parts.2) in
     rw (take_at m c.unwrap.result.1.now (length c.args.sealed.now - 32) long)
-    (opened s.key.now s.prefix.now s.context.now p.version p.number p.before c.args.flag m c.args.sealed.now c.unwrap.result.0.now c.unwrap.result.1.now
+    (opened s.key.now s.prefix.now s.context.now p c.args.flag m c.args.sealed.now c.unwrap.result.0.now c.unwrap.result.1.now
     (rw (ad, key, number) at c.in-Ok.ensures.opened) parts.0 parts.1)
 
 pub returns-in-Err-clause-refused : goal.returns-in-Err-clause-refused
@@ -27,6 +27,6 @@ returns-in-Err-clause-refused c =
     let key = c.cipher.ensures.key in
     let number = c.cipher.ensures.nonce in (
       λ m e. true≢false (sym (rw (ad, key, number) at c.in-Err.ensures.accepted m
-          (opens s.key.now s.prefix.now s.context.now p.version p.number p.before c.args.flag m c.args.sealed.now c.unwrap.result.0.now c.unwrap.result.1.now e parts.0 parts.1))),
+          (opens s.key.now s.prefix.now s.context.now p c.args.flag m c.args.sealed.now c.unwrap.result.0.now c.unwrap.result.1.now e parts.0 parts.1))),
       refl,
     )

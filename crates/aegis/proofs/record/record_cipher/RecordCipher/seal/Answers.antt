@@ -4,7 +4,8 @@ use Rattle.std.proofs.lemmas.List.{append-nil, length-append}
 use Rattle.aegis_base.specs.Variant.{Aegis256}
 use Rattle.aegis_base.specs.Message.{ciphertext}
 use Rattle.aegis_base.proofs.AppendFacts.{ciphertext-none}
-use Rattle.aegis.proofs.Pieces.{all_sealed, data_of, limit-within, nonce_of, piece_is, piece_sealed}
+use Rattle.aegis.proofs.Pieces.{all_sealed, data_of, nonce_of, piece_is, piece_sealed}
+use Rattle.aegis.proofs.Reading.{limit-within}
 use Rattle.aegis.proofs.record.record_cipher.RecordCipher.seal.Goals as goal
 
 pub loop-piece-init : goal.loop-piece-init

@@ -1,0 +1,48 @@
+-- Opening a file failed: why, and what was written.
+use Rattle.std.specs.Prelude.{◌≡◌, ◌≢◌, ℕ, ◌+◌, ◌<◌, ◌⊎◌, List, [], ◌++◌, Option, drop, length, take}
+use Rattle.std.specs.Io.KnownBytes.{Appends}
+use Rattle.std.specs.List.{concat}
+use Rattle.aegis_base.specs.declared.error.TheConstants.{MAX_AEAD_BYTES}
+use Rattle.aegis_files.specs.declared.error.FileError.{FileError}
+use Rattle.aegis_files.specs.declared.error.FileError.TheVariants.{Stream, TooLong}
+use Rattle.aegis_files.specs.Range.{AreFrom}
+use Rattle.aegis_files.specs.SealedFile.{IsSealedFile, IsWriteError}
+use Rattle.aegis.specs.declared.record.error.RecordError.{RecordError}
+use Rattle.aegis.specs.declared.record.error.RecordError.TheVariants as errors
+use Rattle.aegis.specs.declared.record.version.Version.TheVariants.{Second}
+use Rattle.aegis.specs.Records.{IsFault}
+use Rattle.aegis.specs.RecordStream.{first_position, header}
+
+-- the fault of a file that is the file of no text: it has no whole prefix and header, or the bytes after its prefix are no stream
+abbrev pub IsFileFault : List ℕ → List ℕ → List ℕ → RecordError → Type 0
+IsFileFault key context file e =
+    ((take 4 (drop 24 file) ≢ header Second) × (e ≡ errors.Header))
+    ⊎ ((prefix : List ℕ) × (stream : List ℕ) × (length prefix ≡ 24) × (file ≡ prefix ++ (header Second ++ stream)) × IsFault key prefix context (header Second ++ stream) e)
+
+-- the file begins with a prefix, a header and the records of these messages, each at its place
+pub record AreInFile (key context file : List ℕ) (messages : List (List ℕ)) : Type 0 where
+  pub prefix : List ℕ
+  pub long : length prefix ≡ 24
+  pub bytes : List ℕ
+  pub file_is : file ≡ prefix ++ (header Second ++ bytes)
+  pub flag : ℕ
+  pub rest : List ℕ
+  pub records : AreFrom key prefix context (first_position Second) flag messages rest bytes
+
+-- The file is refused for its own fault, or memory ran out, and that of a text only for the second. It is too long only if its
+-- stream passes the limit.
+pub record RefusesFile (key context file : List ℕ) (e : FileError) : Type 0 where
+  pub refused : (why : RecordError) → e ≡ Stream why → (why ≡ errors.OutOfMemory) ⊎ IsFileFault key context file why
+  pub accepted : (text : List ℕ) → IsSealedFile key context text file → (why : RecordError) → e ≡ Stream why → why ≡ errors.OutOfMemory
+  pub too_long : e ≡ TooLong → 24 + MAX_AEAD_BYTES < length file
+
+-- Opening the file failed. Whatever the file is, what was written are the messages of records at its beginning, or a front of
+-- them if a write failed, or nothing.
+pub record FailsWith (key context file : List ℕ) (old new : Option (List ℕ)) (e : FileError) : Type 0 where
+  pub begun : List ℕ
+  pub written : Appends old new begun
+  pub verified : (begun ≡ []) ⊎ ((messages : List (List ℕ)) × AreInFile key context file messages
+      × (rest : List ℕ) × (concat messages ≡ begun ++ rest) × ((rest ≡ []) ⊎ IsWriteError e))
+  -- so it is a front of the text, if there is one
+  pub front : (text : List ℕ) → IsSealedFile key context text file → (rest : List ℕ) × (text ≡ begun ++ rest)
+  pub refuses : RefusesFile key context file e
