@@ -2,7 +2,7 @@
 
 ghost use Rattle.std.specs.Prelude.{◌+◌, ◌≤◌, ◌∷◌, [], IfSome, List, OnOk, length, ℕ};
 ghost use Rattle.aegis_storage.specs.Disk.{Writes};
-ghost use Rattle.aegis_storage.specs.Journal.{IsAtRest, IsNoForgery, Recovers, RestsAtEither};
+ghost use Rattle.aegis_storage.specs.Journal.{IsAtRest, IsNoForgery, RecoversUnlessForged, RestsAtEither};
 ghost use Rattle.aegis_storage.specs.declared.store.TheConstants.{MAX_STORAGE_BYTES};
 
 use aegis::aegis256::Key;
@@ -12,7 +12,7 @@ use std::alloc::Allocator;
 use std::io;
 
 /// Writes `first` at one place and `second` at another. Whatever it returns, a crash leaves a storage and a journal
-/// from which recovery makes both writes or none.
+/// from which recovery makes both writes or none, unless it leaves a forged journal.
 pub fn write_both<S: Storage, J: Storage, A: Allocator + Copy>(
     alloc: A,
     storage: &mut S,
@@ -27,7 +27,7 @@ pub fn write_both<S: Storage, J: Storage, A: Allocator + Copy>(
     requires first { places.0 + length first.now ≤ MAX_STORAGE_BYTES }
     requires second { places.1 + length second.now ≤ MAX_STORAGE_BYTES }
     ensures recovers { (xs : List ℕ) → IsAtRest (S.disk storage.old) (J.disk journal.old) xs
-        → Recovers key.now [] xs ((places.0, first.now) ∷ (places.1, second.now) ∷ [])
+        → RecoversUnlessForged key.now [] xs ((places.0, first.now) ∷ (places.1, second.now) ∷ [])
         (S.disk storage.new) (J.disk journal.new) }
 {
     recovers_at_rest();
@@ -37,7 +37,8 @@ pub fn write_both<S: Storage, J: Storage, A: Allocator + Copy>(
     commit(alloc, storage, journal, key, front, prefix, &[], &writes)
 }
 
-/// Opens a storage after a crash: with `Ok` it has both writes or none, and is ready for the next ones.
+/// Opens a storage after a crash that has not left a forged journal: with `Ok` it has both writes or none, and is ready
+/// for the next ones.
 pub fn open_both<S: Storage, J: Storage, A: Allocator + Copy>(
     alloc: A,
     storage: &mut S,
@@ -46,7 +47,7 @@ pub fn open_both<S: Storage, J: Storage, A: Allocator + Copy>(
 ) -> io::Result<()>
     ensures { OnOk result ((xs : List ℕ) (writes : Writes)
         → IfSome (J.bytes journal.old) (IsNoForgery key.now [] writes)
-        → Recovers key.now [] xs writes (S.disk storage.old) (J.disk journal.old)
+        → RecoversUnlessForged key.now [] xs writes (S.disk storage.old) (J.disk journal.old)
         → RestsAtEither (S.disk storage.new) (J.disk journal.new) xs writes) }
 {
     recover(alloc, storage, journal, key, &[])

@@ -10,6 +10,7 @@ pub mod headline;
 pub mod in_parts;
 pub mod in_place;
 pub mod kept_commitment;
+pub mod kept_in_memory;
 pub mod opening;
 pub mod page_counter;
 pub mod page_table;

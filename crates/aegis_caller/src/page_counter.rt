@@ -2,7 +2,7 @@
 
 ghost use Rattle.std.specs.Prelude.{◌≡◌, ◌+◌, ◌^◌, ◌<◌, IfOk, OnOk, ℕ};
 ghost use Rattle.aegis_pages.specs.OpenFile.{HasCommitted, HasText, IsStoredAs, IsUnchanged};
-ghost use Rattle.aegis_pages.specs.Recovery.{RecoversOne};
+ghost use Rattle.aegis_pages.specs.Recovery.{RecoversOneUnlessForged};
 ghost use Rattle.aegis_caller.specs.Counter.{counter_text};
 
 use aegis_pages::laws::{committed_recovers, whole_is_written};
@@ -56,7 +56,7 @@ pub fn add_one<S: Storage + Drop, J: Storage + Drop, N: Nonces + Drop, A: Alloca
 }
 
 /// Adds one to the counter, commits it, and returns its new number. Whatever it returns, a crash leaves the number or
-/// the next one.
+/// the next one, unless it leaves a forged journal.
 pub fn count<S: Storage + Drop, J: Storage + Drop, N: Nonces + Drop, A: Allocator + Copy>(
     pages: &mut SealedPages<S, J, N, A>,
 ) -> Result<u64, PagesError>
@@ -70,7 +70,7 @@ pub fn count<S: Storage + Drop, J: Storage + Drop, N: Nonces + Drop, A: Allocato
         → HasCommitted pages.new (counter_text (n + 1))) }
     ensures crash { (n : ℕ) → n + 1 < 2 ^ 64
         → HasCommitted pages.old (counter_text n) → HasText pages.old (counter_text n)
-        → RecoversOne pages.new (counter_text n) (counter_text (n + 1)) }
+        → RecoversOneUnlessForged pages.new (counter_text n) (counter_text (n + 1)) }
 {
     committed_recovers();
     let next = add_one(pages)?;

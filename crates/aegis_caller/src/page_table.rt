@@ -3,9 +3,9 @@
 ghost use Rattle.std.specs.Prelude.{◌≡◌, ◌+◌, ◌*◌, ◌<◌, ◌≤◌, IfOk, IfSome, List, OnOk, length, ℕ};
 ghost use Rattle.aegis_storage.specs.Bytes.{overwritten, part_at};
 ghost use Rattle.aegis_base.specs.Variant.{Aegis256};
-ghost use Rattle.aegis_pages.specs.Commits.{IsHonest, RecoversText};
+ghost use Rattle.aegis_pages.specs.Commits.{IsHonest, RecoversTextUnlessForged};
 ghost use Rattle.aegis_pages.specs.OpenFile.{HasCommitted, HasText, IsStoredAs, OpensAtOne};
-ghost use Rattle.aegis_pages.specs.Recovery.{RecoversOne};
+ghost use Rattle.aegis_pages.specs.Recovery.{RecoversOneUnlessForged};
 
 use aegis_pages::laws::others_are_kept;
 use aegis_pages::{Nonces, PagesError, SealedPages};
@@ -67,19 +67,20 @@ pub fn written_and_read_row<
 }
 
 /// Commits the rows that were written. Whatever it returns, a crash leaves a storage and a journal from which
-/// [`open_table`] opens the table as it was at the last commit, or as it is now.
+/// [`open_table`] opens the table as it was at the last commit, or as it is now, unless it leaves a forged journal.
 pub fn commit_rows<S: Storage + Drop, J: Storage + Drop, N: Nonces + Drop, A: Allocator + Copy>(
     pages: &mut SealedPages<S, J, N, A>,
 ) -> Result<(), PagesError>
     ensures crash { (before now : List ℕ) → HasCommitted pages.old before
-        → HasText pages.old now → RecoversOne pages.new before now }
+        → HasText pages.old now → RecoversOneUnlessForged pages.new before now }
     ensures next { OnOk result ((before now : List ℕ) → HasCommitted pages.old before
         → HasText pages.old now → HasCommitted pages.new now) }
 {
     pages.commit()
 }
 
-/// Opens the table after a crash. It is that of the last commit, or of the one that was cut short, and ready for more.
+/// Opens the table after a crash, unless that has left a forged journal. It is that of the last commit, or of the one
+/// that was cut short, and ready for more.
 pub fn open_table<S: Storage + Drop, J: Storage + Drop, N: Nonces + Drop, A: Allocator + Copy>(
     alloc: A,
     storage: S,
@@ -88,7 +89,8 @@ pub fn open_table<S: Storage + Drop, J: Storage + Drop, N: Nonces + Drop, A: All
     key: &[u8; 32],
 ) -> Result<SealedPages<S, J, N, A>, PagesError>
     ensures { IfOk result (λ pages. (before now : List ℕ)
-        → (batch : RecoversText Aegis256 key.now before now (S.disk storage) (J.disk journal))
+        → (batch : RecoversTextUnlessForged Aegis256 key.now before now
+        (S.disk storage) (J.disk journal))
         → IfSome (J.bytes journal) (IsHonest batch) → OpensAtOne pages before now) }
 {
     SealedPages::open(alloc, storage, journal, nonces, key)

@@ -7,7 +7,7 @@ use Rattle.aegis_storage.specs.Disk.{Disk, IsPossible, Writes, after_writes}
 use Rattle.aegis_storage.specs.Journal.{GivesOneOf, HasFront, IsJournal, IsOneOf}
 use Rattle.aegis_storage.proofs.Disks.{readable}
 use Rattle.aegis_pages.specs.declared.header.FileHeader.{FileHeader}
-use Rattle.aegis_pages.specs.Commits.{HasHonestHeader, IsHonest, IsOfAnother, IsOfCommit, RecoversText, head_bytes, head_of, journal_key}
+use Rattle.aegis_pages.specs.Commits.{HasHonestHeader, IsHonest, IsOfAnother, IsOfCommit, RecoversTextUnlessForged, head_bytes, head_of, journal_key}
 use Rattle.aegis_pages.specs.Errors.{HasNoHeader}
 use Rattle.aegis_pages.specs.Headers.{IsHeader}
 use Rattle.aegis_pages.specs.Layouts.{Layout, journal_front}
@@ -17,7 +17,7 @@ use Rattle.aegis_pages.proofs.CommitFacts.{head_read}
 use Rattle.aegis_pages.proofs.HeaderFacts.{one_in_file}
 
 -- What is read of the storage and of the journal is what a crash may leave of them.
-record Left (variant : Variant) (key before now : List ℕ) (storage journal : Option Disk) (batch : RecoversText variant key before now storage journal) (a b : Option (List ℕ)) : Type 0 where
+record Left (variant : Variant) (key before now : List ℕ) (storage journal : Option Disk) (batch : RecoversTextUnlessForged variant key before now storage journal) (a b : Option (List ℕ)) : Type 0 where
   file : List ℕ
   content : List ℕ
   file_is : a ≡ Some file
@@ -27,7 +27,7 @@ record Left (variant : Variant) (key before now : List ℕ) (storage journal : O
   honest : IsHonest batch content
   header : HasHonestHeader batch file
 
-left : (variant : Variant) (key before now : List ℕ) (storage journal : Option Disk) (batch : RecoversText variant key before now storage journal) (a b : Option (List ℕ))
+left : (variant : Variant) (key before now : List ℕ) (storage journal : Option Disk) (batch : RecoversTextUnlessForged variant key before now storage journal) (a b : Option (List ℕ))
     → IsPossible a storage → IsPossible b journal → IfSome b (IsHonest batch) → IfSome a (HasHonestHeader batch) → Left variant key before now storage journal batch a b
 left variant key before now storage journal batch a b p q honest header =
     let x = readable a storage batch.recovers.storage_disk p batch.recovers.storage_is in
@@ -50,7 +50,7 @@ held layout before now file (inl h) = (h.0, length before, h.1.header)
 held layout before now file (inr h) = (h.0, length now, h.1.header)
 
 -- if the journal is not whole, the file is that of before or of after the commit
-has_header : (variant : Variant) (key before now : List ℕ) (storage journal : Option Disk) (batch : RecoversText variant key before now storage journal) (a b : Option (List ℕ))
+has_header : (variant : Variant) (key before now : List ℕ) (storage journal : Option Disk) (batch : RecoversTextUnlessForged variant key before now storage journal) (a b : Option (List ℕ))
     → (it : Left variant key before now storage journal batch a b) → ((ws : Writes) → IsJournal (journal_key variant key) [] ws it.content → ⊥)
     → (counter : ℕ) × (len : ℕ) × IsHeader batch.layout counter len it.file
 has_header variant key before now storage journal batch a b it not = cases (it.gives.other not)
@@ -60,7 +60,7 @@ has_header variant key before now storage journal batch a b it not = cases (it.g
     cases (inr same) = held batch.layout before now it.file (subst (λ (l : List ℕ). IsFileUnder batch.layout before l ⊎ IsFileUnder batch.layout now l) (sym same) batch.with_writes)
 
 -- a header that is read is then that of the batch's layout
-same_layout : (variant : Variant) (key before now : List ℕ) (storage journal : Option Disk) (batch : RecoversText variant key before now storage journal) (a b : Option (List ℕ))
+same_layout : (variant : Variant) (key before now : List ℕ) (storage journal : Option Disk) (batch : RecoversTextUnlessForged variant key before now storage journal) (a b : Option (List ℕ))
     → (it : Left variant key before now storage journal batch a b) → IsLaneCount variant.lanes → ((ws : Writes) → IsJournal (journal_key variant key) [] ws it.content → ⊥)
     → (other : Layout) (counter len : ℕ) → other.variant ≡ variant → other.key ≡ key → IsHeader other counter len it.file → batch.layout ≡ other
 same_layout variant key before now storage journal batch a b it count not other counter len v k header =
@@ -68,7 +68,7 @@ same_layout variant key before now storage journal batch a b it count not other 
     (one_in_file other batch.layout counter own.0 len own.1 it.file (subst (λ (w : Variant). IsLaneCount w.lanes) (sym v) count) (batch.variant_is ∙ sym v) (batch.key_is ∙ sym k) header own.2).0
 
 -- the header of the file began or ended the commit
-own_commit : (variant : Variant) (key before now : List ℕ) (storage journal : Option Disk) (batch : RecoversText variant key before now storage journal) (a b : Option (List ℕ))
+own_commit : (variant : Variant) (key before now : List ℕ) (storage journal : Option Disk) (batch : RecoversTextUnlessForged variant key before now storage journal) (a b : Option (List ℕ))
     → (it : Left variant key before now storage journal batch a b) (layout : Layout) (counter len : ℕ) (sector : List ℕ) (writes : Writes) → layout.variant ≡ variant → layout.key ≡ key
     → IsHeader layout counter len it.file → sector ≡ part_at it.file 0 512 → IsJournal (journal_key variant key) [] writes it.content → IsOfCommit (take (head_bytes variant) sector) writes
 own_commit variant key before now storage journal batch a b it layout counter len sector writes v k header read whole =
@@ -97,7 +97,7 @@ pub accepts_all : {W : Type 0} (of : W → Writes) (variant : Variant) (key k be
     → IfSome header (λ h. IfNone writes ((IsOfAnother (journal_front (layout_of variant key h)) read → ⊥) → Accepted))
     → (IsSome header → IfSome writes (λ ws. IfSome sector (λ s. IsOfCommit (take (head_bytes variant) s) (of ws) → Accepted)))
     → IsPossible a storage → IsPossible b journal
-    → (batch : RecoversText variant key before now storage journal) → IfSome b (IsHonest batch) → IfSome a (HasHonestHeader batch) → Accepted
+    → (batch : RecoversTextUnlessForged variant key before now storage journal) → IfSome b (IsHonest batch) → IfSome a (HasHonestHeader batch) → Accepted
 accepts_all {W} of variant key k before now a b storage journal read sector header writes Accepted count is same found none first short whole torn lost front own p q batch honest honest_header =
     cases sector header writes found none first short whole torn lost front own
   where

@@ -1,15 +1,13 @@
 -- Boxes: a nonce, a ciphertext and a tag.
-use Rattle.std.proofs.Common.{◌≡◌, ℕ, ◌+◌, ◌-◌, ◌≤◌, List, [], ◌++◌, OnOk, Result, Ok, Err, true, drop, length, take, refl, sym, ap, subst, ◌∙◌, append_assoc, arith}
+use Rattle.std.proofs.Common.{◌≡◌, ℕ, ◌+◌, ◌-◌, ◌≤◌, List, ◌++◌, OnOk, Result, Ok, Err, true, drop, length, take, refl, sym, ap, subst, ◌∙◌, append_assoc, arith}
 use Rattle.std.proofs.lemmas.Bool.{true≢false}
 use Rattle.std.specs.Result.{is_ok}
-use Rattle.std.proofs.lemmas.List.{drop-drop, drop_at, length-append, length-drop, take_all, take_at}
+use Rattle.std.proofs.lemmas.List.{drop-drop, drop_at, length-append, length-drop, length-take, take_at}
 use Rattle.aegis_aes.specs.Lanes.{IsLaneCount}
 use Rattle.aegis_base.specs.Variant.{Variant}
 use Rattle.aegis_base.specs.Message.{Opens, lane_before}
 use Rattle.aegis_base.proofs.Bijection.{ciphertext-injective}
-use Rattle.aegis_storage.specs.Bytes.{overwritten}
-use Rattle.aegis_pages.specs.Layouts.{Layout, OpensAt, associated_data, inner, nonce_bytes}
-use Rattle.aegis_storage.proofs.Overwriting.{filled_front}
+use Rattle.aegis_pages.specs.Layouts.{Layout, OpensAt, associated_data, box_bytes, inner, nonce_bytes}
 
 -- a box opens to one text
 pub opens_one : (layout : Layout) (number : ℕ) (sealed m n : List ℕ) → IsLaneCount layout.variant.lanes → OpensAt layout number sealed m → OpensAt layout number sealed n → m ≡ n
@@ -55,31 +53,21 @@ pub on_ok : {T E P : Type 0} (r : Result T E) → OnOk r P → is_ok r ≡ true 
 on_ok (Ok x) p is = p
 on_ok (Err e) p is = absurd (true≢false (sym is))
 
--- the last part of a box, as it is cut
-pub end_is : (n : ℕ) (sealed rest : List ℕ) → n + 32 ≤ length sealed → rest ≡ drop n sealed → drop (length sealed - (n + 32)) rest ≡ drop (length sealed - 32) sealed
-end_is n sealed rest long is =
-    let place : n + (length sealed - (n + 32)) ≡ length sealed - 32 = omega (arith, long) in
-    ap (drop (length sealed - (n + 32))) is ∙ drop-drop (length sealed - (n + 32)) n sealed ∙ ap (λ (k : ℕ). drop k sealed) place
+-- what was cut off a box
+pub record Cut (layout : Layout) (sealed head text end : List ℕ) : Type 0 where
+  pub nonce : head ≡ take (nonce_bytes layout) sealed
+  pub inside : text ≡ inner layout sealed
+  pub tag : end ≡ drop (length sealed - 32) sealed
+  pub first : length head ≡ nonce_bytes layout
+  pub last : length end ≡ 32
 
-pub length-end : (n : ℕ) (sealed rest : List ℕ) → n + 32 ≤ length sealed → rest ≡ drop n sealed → length (drop (length sealed - (n + 32)) rest) ≡ 32
-length-end n sealed rest long is = omega (arith, long, ap length is, length-drop n sealed, length-drop (length sealed - (n + 32)) rest)
-
--- ---- magic number, variant, page size and id
-
-pub clear_filled : (x y z w u a v b i : List ℕ) → y ≡ overwritten x 0 a → z ≡ overwritten y 4 v → w ≡ overwritten z 5 b → u ≡ overwritten w 9 i
-    → length a ≡ 4 → length v ≡ 1 → length b ≡ 4 → length i ≡ 24 → length u ≡ 33 → u ≡ a ++ (v ++ (b ++ i))
-clear_filled x y z w u a v b i first second third fourth la lv lb li lu =
-    let zero_plus : 0 + length a ≡ length a = omega arith in
-    let f : take 4 y ≡ a = ap (take 4) first ∙ ap (λ (n : ℕ). take n (overwritten x 0 a)) (sym la ∙ sym zero_plus) ∙ filled_front x [] a 0 refl refl in
-    let e : take 5 z ≡ a ++ v = ap (take 5) second ∙ ap (λ (n : ℕ). take (4 + n) (overwritten y 4 v)) (sym lv) ∙ filled_front y a v 4 f la in
-    let five : length (a ++ v) ≡ 5 = omega (arith, la, lv, length-append a v) in
-    let g : take 9 w ≡ (a ++ v) ++ b = ap (take 9) third ∙ ap (λ (n : ℕ). take (5 + n) (overwritten z 5 b)) (sym lb) ∙ filled_front z (a ++ v) b 5 e five in
-    let nine : length ((a ++ v) ++ b) ≡ 9 = omega (arith, five, lb, length-append (a ++ v) b) in
-    sym (take_all 33 u (omega (arith, lu))) ∙ ap (take 33) fourth ∙ ap (λ (n : ℕ). take (9 + n) (overwritten w 9 i)) (sym li) ∙ filled_front w ((a ++ v) ++ b) i 9 g nine
-    ∙ append_assoc (a ++ v) b i ∙ append_assoc a v (b ++ i)
-
-pub data_filled : (x y z c n : List ℕ) → y ≡ overwritten x 0 c → z ≡ overwritten y 33 n → length c ≡ 33 → length n ≡ 8 → length z ≡ 41 → z ≡ c ++ n
-data_filled x y z c n first second lc ln lz =
-    let zero_plus : 0 + length c ≡ length c = omega arith in
-    let f : take 33 y ≡ c = ap (take 33) first ∙ ap (λ (k : ℕ). take k (overwritten x 0 c)) (sym lc ∙ sym zero_plus) ∙ filled_front x [] c 0 refl refl in
-    sym (take_all 41 z (omega (arith, lz))) ∙ ap (take 41) second ∙ ap (λ (k : ℕ). take (33 + k) (overwritten y 33 n)) (sym ln) ∙ filled_front y c n 33 f lc
+pub cut : (layout : Layout) (n : ℕ) (sealed head rest text end : List ℕ) → n ≡ nonce_bytes layout → box_bytes layout 0 ≤ length sealed → head ≡ take n sealed → rest ≡ drop n sealed
+    → text ≡ take (length sealed - (n + 32)) rest → end ≡ drop (length sealed - (n + 32)) rest → Cut layout sealed head text end
+cut layout n sealed head rest text end is long front back inside past =
+    let place : n + (length sealed - (n + 32)) ≡ length sealed - 32 = omega (arith, is, long) in record {
+      nonce = front ∙ ap (λ (k : ℕ). take k sealed) is;
+      inside = inside ∙ ap (take (length sealed - (n + 32))) back ∙ ap (λ (k : ℕ). take (length sealed - (k + 32)) (drop k sealed)) is;
+      tag = past ∙ ap (drop (length sealed - (n + 32))) back ∙ drop-drop (length sealed - (n + 32)) n sealed ∙ ap (λ (k : ℕ). drop k sealed) place;
+      first = omega (arith, ap length front, length-take n sealed, is, long);
+      last = omega (arith, ap length past, ap length back, length-drop n sealed, length-drop (length sealed - (n + 32)) rest, is, long);
+    }

@@ -1,17 +1,17 @@
 -- The headers of a file.
-use Rattle.std.proofs.Common.{◌≡◌, ℕ, ◌+◌, ◌-◌, ◌^◌, ◌<◌, ◌≤◌, inl, List, [], ◌∷◌, ◌++◌, drop, length, replicate, take, refl, sym, ap, subst, ◌∙◌, arith}
-use Rattle.std.proofs.lemmas.List.{drop-drop, drop-take, drop_at, length-drop, length-take, take-append-le, take-take, take_all, take_at}
+use Rattle.std.proofs.Common.{◌≡◌, ℕ, ◌+◌, ◌-◌, ◌^◌, ◌<◌, ◌≤◌, List, ◌∷◌, ◌++◌, drop, length, take, sym, ap, subst, ◌∙◌, arith}
+use Rattle.std.proofs.lemmas.List.{append_assoc, drop_at, length-append, length-drop, take_all, take_at}
 use Rattle.std.proofs.Math.Seq.{take-add}
 use Rattle.std.proofs.lemmas.Nat.{from_le_bytes-to_le_bytes_4, from_le_bytes-to_le_bytes_8}
 use Rattle.std.specs.Int.{from_le_bytes, to_le_bytes, w32, w64}
 use Rattle.aegis_aes.specs.Lanes.{IsLaneCount}
+use Rattle.aegis_base.specs.Message.{Opens}
 use Rattle.aegis_base.specs.Variant.{Variant}
-use Rattle.aegis_pages.specs.declared.layout.TheConstants.{HEADER_NUMBER, JOURNAL_MAGIC, MAGIC, MAX_TEXT_BYTES}
-use Rattle.aegis_storage.specs.Bytes.{overwritten, part_at}
+use Rattle.aegis_pages.specs.declared.layout.TheConstants.{HEADER_NUMBER, MAGIC, MAX_TEXT_BYTES}
+use Rattle.aegis_storage.specs.Bytes.{part_at}
 use Rattle.aegis_pages.specs.Headers.{IsHeader, IsSector, header_text}
-use Rattle.aegis_pages.specs.Layouts.{IsPageSize, Layout, OpensAt, box_bytes, clear_part, inner, journal_front, nonce_bytes, variant_byte}
-use Rattle.aegis_pages.proofs.BoxFacts.{opens_one}
-use Rattle.aegis_storage.proofs.Overwriting.{filled_front, kept_part, length-part, put_part}
+use Rattle.aegis_pages.specs.Layouts.{IsPageSize, Layout, OpensAt, associated_data, box_bytes, clear_part, inner, nonce_bytes, variant_byte}
+use Rattle.aegis_pages.proofs.BoxFacts.{opens_one, opens_parts}
 
 -- ---- one header in a sector
 
@@ -39,12 +39,6 @@ clear_same a b variant size id =
     ap (λ (v : Variant). MAGIC ++ (variant_byte v ∷ (to_le_bytes w32 a.page_bytes ++ a.id))) variant
     ∙ ap (λ (p : ℕ). MAGIC ++ (variant_byte b.variant ∷ (to_le_bytes w32 p ++ a.id))) size
     ∙ ap (λ (i : List ℕ). MAGIC ++ (variant_byte b.variant ∷ (to_le_bytes w32 b.page_bytes ++ i))) id
-
-pub front_put : (layout : Layout) → overwritten (clear_part layout) 0 JOURNAL_MAGIC ≡ journal_front layout
-unfolding clear_part journal_front
-front_put layout =
-    let none : 0 - length (clear_part layout) ≡ 0 = omega arith in
-    ap (λ (n : ℕ). replicate n 0 ++ (JOURNAL_MAGIC ++ drop 4 (clear_part layout))) none
 
 pub read_size : (a : Layout) (clear bytes : List ℕ) (n : ℕ) → clear ≡ clear_part a → bytes ≡ take 4 (drop 5 clear) → n ≡ from_le_bytes w32 bytes → IsPageSize a.page_bytes → n ≡ a.page_bytes
 read_size a clear bytes n is cut read size =
@@ -103,84 +97,31 @@ one_in_file layout other c c' n n' file count variant key first second =
 
 -- ---- a sector that is made
 
-two_parts : (y w v a b : List ℕ) (t : ℕ) → w ≡ overwritten y t a → v ≡ overwritten w (t + 8) b → length a ≡ 8 → length b ≡ 8 → t + 8 ≤ length w → part_at v t 16 ≡ a ++ b
-two_parts y w v a b t first second la lb within =
-    let long : length (part_at w t 8) ≡ 8 = omega (arith, within, length-part w t 8) in
-    let front : take 8 (drop t v) ≡ a =
-    ap (λ (l : List ℕ). part_at l t 8) second ∙ kept_part w (t + 8) b t 8 (inl (omega arith)) long
-    ∙ ap (λ (l : List ℕ). part_at l t 8) first ∙ ap (part_at (overwritten y t a) t) (sym la) ∙ put_part y t a in
-    let back : take 8 (drop 8 (drop t v)) ≡ b =
-    ap (take 8) (drop-drop 8 t v) ∙ ap (λ (l : List ℕ). part_at l (t + 8) 8) second ∙ ap (part_at (overwritten w (t + 8) b) (t + 8)) (sym lb) ∙ put_part w (t + 8) b in
-    take-add 8 8 (drop t v) ∙ ap (λ (l : List ℕ). l ++ take 8 (drop 8 (drop t v))) front ∙ ap (λ (l : List ℕ). a ++ l) back
+-- the box behind the clear part
+pub made_box : (layout : Layout) (clear nonce text tag rest sector : List ℕ) → sector ≡ clear ++ (nonce ++ (text ++ (tag ++ rest))) → length clear ≡ 33 → length nonce ≡ nonce_bytes layout
+    → length text ≡ 16 → length tag ≡ 32 → part_at sector 33 (box_bytes layout 16) ≡ nonce ++ (text ++ tag)
+made_box layout clear nonce text tag rest sector is lc ln lt lg =
+    let parts : nonce ++ (text ++ (tag ++ rest)) ≡ (nonce ++ (text ++ tag)) ++ rest = simp append_assoc in
+    let long : length (nonce ++ (text ++ tag)) ≡ box_bytes layout 16 = omega (arith, ln, lt, lg, length-append nonce (text ++ tag), length-append text tag) in
+    ap (λ (l : List ℕ). part_at l 33 (box_bytes layout 16)) is ∙ ap (take (box_bytes layout 16)) (drop_at clear (nonce ++ (text ++ (tag ++ rest))) 33 lc ∙ parts)
+    ∙ take_at (nonce ++ (text ++ tag)) rest (box_bytes layout 16) long
 
--- the clear part, the counter and the length were put into zeros, and the box was sealed where they lie
-pub record Makes (layout : Layout) (counter len : ℕ) (x y w v a b sealed : List ℕ) (n e : ℕ) : Type 0 where
-  pub nonce : n ≡ nonce_bytes layout
-  pub size : IsPageSize layout.page_bytes
-  pub within : len ≤ MAX_TEXT_BYTES
-  pub countable : counter < 2 ^ 64
-  pub clear_put : y ≡ overwritten x 0 (clear_part layout)
-  pub clear_long : length (clear_part layout) ≡ 33
-  pub counter_put : w ≡ overwritten y (33 + n) a
-  pub counter_is : a ≡ to_le_bytes w64 counter
-  pub len_put : v ≡ overwritten w (33 + n + 8) b
-  pub len_is : b ≡ to_le_bytes w64 len
-  pub long : length y ≡ 512
-  pub next_long : length w ≡ 512
-  pub last_long : length v ≡ 512
-  pub most : n ≤ 32
-  pub end_is : e ≡ 33 + n + 16 + 32
-  pub sealed_long : length sealed ≡ length (take (e - 33) (drop 33 v))
-  pub opens : OpensAt layout HEADER_NUMBER sealed (inner layout (take (e - 33) (drop 33 v)))
-
-pub made_sector : (layout : Layout) (counter len : ℕ) (x y w v a b sealed : List ℕ) (n e : ℕ) → Makes layout counter len x y w v a b sealed n e
-    → IsSector layout counter len (take 33 v ++ (sealed ++ drop (e - 33) (drop 33 v)))
-made_sector layout counter len x y w v a b sealed n e m =
-    let most = m.most in
-    let long = m.long in
-    let next_long = m.next_long in
-    let last_long = m.last_long in
-    let la : length a ≡ 8 = ap length m.counter_is in
-    let lb : length b ≡ 8 = ap length m.len_is in
-    let end : e - 33 ≡ n + 48 = omega (arith, m.end_is) in
-    let head : length (take 33 v) ≡ 33 = omega (arith, last_long, length-take 33 v) in
-    let zero_plus : 0 + length (clear_part layout) ≡ length (clear_part layout) = omega arith in
-    let first : take 33 y ≡ clear_part layout =
-    ap (take 33) m.clear_put ∙ ap (λ (k : ℕ). take k (overwritten x 0 (clear_part layout))) (sym m.clear_long ∙ sym zero_plus) ∙ filled_front x [] (clear_part layout) 0 refl refl in
-    let second : take 33 w ≡ take 33 y = ap (take 33) m.counter_put ∙ kept_part y (33 + n) a 0 33 (inl (omega arith)) (omega (arith, long, length-take 33 y)) in
-    let third : take 33 v ≡ take 33 w = ap (take 33) m.len_put ∙ kept_part w (33 + n + 8) b 0 33 (inl (omega arith)) (omega (arith, next_long, length-take 33 w)) in
-    let cut : take (e - 33) (drop 33 v) ≡ take (n + 48) (drop 33 v) = ap (λ (k : ℕ). take k (drop 33 v)) end in
-    let cut_long : length (take (e - 33) (drop 33 v)) ≡ n + 48 = omega (arith, end, last_long, most, length-take (e - 33) (drop 33 v), length-drop 33 v) in
-    let sized : length sealed ≡ box_bytes layout 16 = omega (arith, m.sealed_long, cut_long, m.nonce) in
-    let sixteen : length (take (e - 33) (drop 33 v)) - (nonce_bytes layout + 32) ≡ 16 = omega (arith, cut_long, m.nonce) in
-    let text : inner layout (take (e - 33) (drop 33 v)) ≡ header_text counter len =
-    ap (λ (k : ℕ). take k (drop (nonce_bytes layout) (take (e - 33) (drop 33 v)))) sixteen
-    ∙ ap (λ (l : List ℕ). take 16 (drop (nonce_bytes layout) l)) cut
-    ∙ ap (λ (k : ℕ). take 16 (drop k (take (n + 48) (drop 33 v)))) (sym m.nonce)
-    ∙ ap (take 16) (drop-take n 48 (drop 33 v)) ∙ take-take 16 48 (drop n (drop 33 v)) (omega arith)
-    ∙ ap (take 16) (drop-drop n 33 v)
-    ∙ two_parts y w v a b (33 + n) m.counter_put m.len_put la lb (omega (arith, next_long, most))
-    ∙ ap (λ (l : List ℕ). l ++ b) m.counter_is ∙ ap (λ (l : List ℕ). to_le_bytes w64 counter ++ l) m.len_is in
-    let rest : List ℕ = drop (e - 33) (drop 33 v) in
-    record {
-      size = m.size;
-      within = m.within;
-      countable = m.countable;
-      clear = take_at (take 33 v) (sealed ++ drop (e - 33) (drop 33 v)) 33 head ∙ third ∙ second ∙ first;
-      opens = subst (λ (l : List ℕ). OpensAt layout HEADER_NUMBER l (header_text counter len))
-          (sym (ap (take (box_bytes layout 16)) (drop_at (take 33 v) (sealed ++ drop (e - 33) (drop 33 v)) 33 head) ∙ take_at sealed (drop (e - 33) (drop 33 v)) (box_bytes layout 16) sized))
-          (subst (OpensAt layout HEADER_NUMBER sealed) text m.opens);
-    }
+pub made_sector : (layout : Layout) (counter len : ℕ) (clear nonce text tag rest sector : List ℕ) → IsPageSize layout.page_bytes → len ≤ MAX_TEXT_BYTES → counter < 2 ^ 64
+    → sector ≡ clear ++ (nonce ++ (text ++ (tag ++ rest))) → clear ≡ clear_part layout → length clear ≡ 33 → length nonce ≡ nonce_bytes layout → length text ≡ 16 → length tag ≡ 32
+    → Opens layout.variant 32 layout.key nonce (associated_data layout HEADER_NUMBER) text tag (header_text counter len) → IsSector layout counter len sector
+made_sector layout counter len clear nonce text tag rest sector size within countable is named lc ln lt lg opens = record {
+  size = size;
+  within = within;
+  countable = countable;
+  clear = ap (take 33) is ∙ take_at clear (nonce ++ (text ++ (tag ++ rest))) 33 lc ∙ named;
+  opens = subst (λ (l : List ℕ). OpensAt layout HEADER_NUMBER l (header_text counter len)) (sym (made_box layout clear nonce text tag rest sector is lc ln lt lg))
+      (opens_parts layout HEADER_NUMBER nonce text tag (header_text counter len) ln lg opens);
+}
 
 -- its nonce
-pub made_nonce : (layout : Layout) (v sealed nonce : List ℕ) (n e : ℕ) → n ≡ nonce_bytes layout → n ≤ 32 → length v ≡ 512 → e ≡ 33 + n + 16 + 32
-    → length sealed ≡ length (take (e - 33) (drop 33 v)) → take (nonce_bytes layout) sealed ≡ nonce
-    → part_at (take 33 v ++ (sealed ++ drop (e - 33) (drop 33 v))) 33 (nonce_bytes layout) ≡ nonce
-made_nonce layout v sealed nonce n e same most long end sized is =
-    let head : length (take 33 v) ≡ 33 = omega (arith, long, length-take 33 v) in
-    let within : nonce_bytes layout ≤ length sealed = omega (arith, same, most, long, end, sized, length-take (e - 33) (drop 33 v), length-drop 33 v) in
-    ap (take (nonce_bytes layout)) (drop_at (take 33 v) (sealed ++ drop (e - 33) (drop 33 v)) 33 head)
-    ∙ take-append-le (nonce_bytes layout) sealed (drop (e - 33) (drop 33 v)) within ∙ is
+pub made_nonce : (layout : Layout) (clear nonce rest sector : List ℕ) → sector ≡ clear ++ (nonce ++ rest) → length clear ≡ 33 → length nonce ≡ nonce_bytes layout → part_at sector 33 (nonce_bytes layout) ≡ nonce
+made_nonce layout clear nonce rest sector is lc ln =
+    ap (λ (l : List ℕ). part_at l 33 (nonce_bytes layout)) is ∙ ap (take (nonce_bytes layout)) (drop_at clear (nonce ++ rest) 33 lc) ∙ take_at nonce rest (nonce_bytes layout) ln
 
 -- ---- a header that is read
 

@@ -1,10 +1,10 @@
 -- Files that have a text, from call to call.
-use Rattle.std.proofs.Common.{◌≡◌, ℕ, ◌+◌, ◌-◌, ◌*◌, ◌<◌, ◌≤◌, Bool, false, List, [], ◌++◌, Option, None, Some, IfSome, OnOk, Result, Ok, Err, get_or, length, max, min, take, refl, sym, ap, subst, ◌∙◌, arith}
+use Rattle.std.proofs.Common.{◌≡◌, ℕ, ◌+◌, ◌-◌, ◌*◌, ◌<◌, ◌≤◌, Bool, false, List, [], ◌∷◌, ◌++◌, Option, None, Some, IfSome, OnOk, Result, Ok, Err, get_or, length, max, min, take, refl, sym, ap, subst, ◌∙◌, arith}
 use Rattle.std.proofs.lemmas.List.{append-nil, drop_all, ext_get_or, nil_from_length, take_all}
 use Rattle.aegis_aes.specs.Lanes.{IsLaneCount}
 use Rattle.aegis_storage.specs.Bytes.{ResizesTo, WritesAt, overwritten, part_at, resized}
-use Rattle.aegis_storage.specs.Disk.{Adds, Disk, IsPossible, MakesCertain, Size, Write, after}
-use Rattle.aegis_storage.proofs.Disks.{readable}
+use Rattle.aegis_storage.specs.Disk.{Adds, Disk, IsPossible, MakesCertain, Size, Write}
+use Rattle.aegis_storage.proofs.Disks.{left, readable}
 use Rattle.std.specs.Io.KnownBytes.{Keeps}
 use Rattle.aegis_storage.proofs.Overwriting.{length-overwritten, length-part, length-resized, part_byte, put_part, resized_byte}
 use Rattle.aegis_pages.specs.Changed.{Texts, text_at}
@@ -140,13 +140,14 @@ known_kept P (Some xs) (Some ys) None known keeps = absurd keeps
 known_kept P (Some xs) (Some ys) (Some zs) known keeps = subst P (sym keeps) known
 
 pub begun_certain : (P : List ℕ → Type 0) (a c : Option (List ℕ)) (old sized over new : Option Disk) (part : List ℕ) (disk : Disk) → IsPossible a old → IsPossible c over → IfSome a (λ _. IsKnown P c)
-    → Adds old sized (Size 0) → Adds sized over (Write 0 part) → MakesCertain c over new → old ≡ Some disk → IsCertain P new
+    → Adds old sized (Size 0 ∷ []) → Adds sized over (Write 0 part ∷ []) → MakesCertain c over new → old ≡ Some disk → IsCertain P new
 begun_certain P a c old sized over new part disk before possible known sizes writes certainly is =
     let x = readable a old disk before is in
-    let there : over ≡ Some (after (after disk (Size 0)) (Write 0 part)) = writes (after disk (Size 0)) (sizes disk is) in
-    let y = readable c over (after (after disk (Size 0)) (Write 0 part)) possible there in record {
+    let cut = left old sized disk (Size 0 ∷ []) sizes is in
+    let now = left sized over cut.disk (Write 0 part ∷ []) writes cut.is in
+    let y = readable c over now.disk possible now.is in record {
       bytes = y.xs;
-      is = certainly (after (after disk (Size 0)) (Write 0 part)) y.xs there y.is;
+      is = certainly now.disk y.xs now.is y.is;
       so = subst (IsKnown P) y.is (subst (λ (o : Option (List ℕ)). IfSome o (λ _. IsKnown P c)) x.is known);
     }
 

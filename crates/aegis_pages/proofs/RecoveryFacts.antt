@@ -4,15 +4,14 @@ use Rattle.aegis_aes.specs.Lanes.{IsLaneCount}
 use Rattle.aegis_base.specs.Variant.{Variant}
 use Rattle.aegis_storage.specs.Bytes.{overwritten, part_at}
 use Rattle.aegis_storage.specs.Disk.{Crashed, Disk, IsPossible, Writes, WritesAll, certain, after_writes}
-use Rattle.aegis_storage.specs.Journal.{IsAtRest, IsJournal, IsNoForgery, IsOneOf, KeepsFront, Recovers, RecoversKnown, RestsAtEither}
+use Rattle.aegis_storage.specs.Journal.{IsAtRest, IsJournal, IsNoForgery, IsOneOf, KeepsFront, RecoversUnlessForged, RecoversKnown, RestsAtEither}
 use Rattle.aegis_storage.proofs.Disks.{readable_certain}
 use Rattle.aegis_storage.proofs.Fronts.{crashed_front, empty_front}
 use Rattle.aegis_storage.proofs.Journals.{crashed_recovers, empty_is_none, one_journal, rest_recovers}
 use Rattle.aegis_pages.specs.Changed.{Texts, text_at}
-use Rattle.aegis_pages.specs.Commits.{Fits, IsHonest, IsOfCommit, KnownSame, IsOfAnother, RecoversText, RestsAtText, head_bytes, head_of, journal_key}
+use Rattle.aegis_pages.specs.Commits.{Fits, IsHonest, IsOfCommit, KnownSame, IsOfAnother, RecoversTextUnlessForged, RestsAtText, head_bytes, head_of, journal_key}
 use Rattle.aegis_pages.specs.Errors.{HasNoHeader}
 use Rattle.aegis_pages.specs.Headers.{IsHeader}
-use Rattle.aegis_pages.specs.History.{AreCommits, Step, last_of}
 use Rattle.aegis_pages.specs.Layouts.{Layout, journal_front}
 use Rattle.aegis_pages.specs.Reading.{HasHeader, layout_of}
 use Rattle.aegis_pages.specs.declared.header.FileHeader.{FileHeader}
@@ -54,14 +53,14 @@ pub commit_recovers : (layout : Layout) (counter stored len next : ℕ) (changes
     → key ≡ journal_key layout.variant layout.key → front ≡ journal_front layout → IsPossible a disk → Commits layout len next changes writes
     → IfSome a (λ file. (512 ≤ length file) × (sector ≡ part_at file 0 512)) → IsOfCommit (take (head_bytes layout.variant) sector) writes
     → ((file : List ℕ) → IsOfCommit (head_of layout.variant (after_writes writes file)) writes) → IsAtRest disk journal file → IsSealed layout counter before file
-    → HasIn layout counter stored len changes broken now a → Recovers key [] file writes disk' journal' → KeepsFront front journal' → RecoversText layout.variant layout.key before now disk' journal'
+    → HasIn layout counter stored len changes broken now a → RecoversUnlessForged key [] file writes disk' journal' → KeepsFront front journal' → RecoversTextUnlessForged layout.variant layout.key before now disk' journal'
 commit_recovers layout counter stored len next changes broken writes key front before now file sector a disk journal disk' journal' is names possible commits read old_head new_head rests sealed s recovers keeps = record {
   layout = layout;
   file = file;
   writes = writes;
   variant_is = refl;
   key_is = refl;
-  recovers = subst (λ (k : List ℕ). Recovers k [] file writes disk' journal') is recovers;
+  recovers = subst (λ (k : List ℕ). RecoversUnlessForged k [] file writes disk' journal') is recovers;
   without = (counter, sealed);
   with_writes = inr (next, commit_sealed_at layout counter stored len next changes broken writes now file a disk journal possible commits rests s);
   old_head = subst (λ (l : List ℕ). IsOfCommit l writes) (head_read layout.variant file sector (found.1)) old_head;
@@ -75,17 +74,17 @@ commit_recovers layout counter stored len next changes broken writes key front b
 -- ---- an opening
 
 pub recovers_again : (variant : Variant) (key before now k : List ℕ) (storage journal storage' journal' : Option Disk) → k ≡ journal_key variant key
-    → (batch : RecoversText variant key before now storage journal)
-    → (Recovers k [] batch.file batch.writes storage journal → Recovers k [] batch.file batch.writes storage' journal')
-    → (KeepsFront (journal_front batch.layout) journal → KeepsFront (journal_front batch.layout) journal') → RecoversText variant key before now storage' journal'
+    → (batch : RecoversTextUnlessForged variant key before now storage journal)
+    → (RecoversUnlessForged k [] batch.file batch.writes storage journal → RecoversUnlessForged k [] batch.file batch.writes storage' journal')
+    → (KeepsFront (journal_front batch.layout) journal → KeepsFront (journal_front batch.layout) journal') → RecoversTextUnlessForged variant key before now storage' journal'
 recovers_again variant key before now k storage journal storage' journal' is batch next front = record {
   layout = batch.layout;
   file = batch.file;
   writes = batch.writes;
   variant_is = batch.variant_is;
   key_is = batch.key_is;
-  recovers = subst (λ (l : List ℕ). Recovers l [] batch.file batch.writes storage' journal') is
-      (next (subst (λ (l : List ℕ). Recovers l [] batch.file batch.writes storage journal) (sym is) batch.recovers));
+  recovers = subst (λ (l : List ℕ). RecoversUnlessForged l [] batch.file batch.writes storage' journal') is
+      (next (subst (λ (l : List ℕ). RecoversUnlessForged l [] batch.file batch.writes storage journal) (sym is) batch.recovers));
   without = batch.without;
   with_writes = batch.with_writes;
   old_head = batch.old_head;
@@ -98,7 +97,7 @@ pub honest_as : (variant : Variant) (key k : List ℕ) (writes : Writes) (o : Op
 honest_as variant key k writes o is h = subst (λ (l : List ℕ). IfSome o (IsNoForgery l [] writes)) (sym is) h
 
 pub rests_at_text : (variant : Variant) (key before now : List ℕ) (storage journal storage' journal' : Option Disk)
-    → (batch : RecoversText variant key before now storage journal) → RestsAtEither storage' journal' batch.file batch.writes → RestsAtText variant key before now storage' journal'
+    → (batch : RecoversTextUnlessForged variant key before now storage journal) → RestsAtEither storage' journal' batch.file batch.writes → RestsAtText variant key before now storage' journal'
 rests_at_text variant key before now storage journal storage' journal' batch rests = record { file = rests.bytes; rests = rests.rests; one = cases rests.one }
   where
     is_file : (text bytes : List ℕ) → IsFileUnder batch.layout text bytes → IsFileOf variant key text bytes
@@ -131,7 +130,7 @@ stored_committed old new text s has = record {
 }
 
 -- writing the sector over itself, which no journal does, stands for a commit that did not begin
-pub committed_recovers : (layout : Layout) (counter : ℕ) (disk journal : Option Disk) (before now : List ℕ) → IsCommitted layout counter disk journal before → RecoversText layout.variant layout.key before now disk journal
+pub committed_recovers : (layout : Layout) (counter : ℕ) (disk journal : Option Disk) (before now : List ℕ) → IsCommitted layout counter disk journal before → RecoversTextUnlessForged layout.variant layout.key before now disk journal
 unfolding IsCommitted
 committed_recovers layout counter disk journal before now has =
     let itself : List ℕ = part_at has.bytes 0 512 in
@@ -157,23 +156,23 @@ no_forgery key writes content is = subst (λ (o : Option (List ℕ)). IfSome o (
 
 -- what opens to a text that is committed, by an empty journal
 pub committed_batch : (variant : Variant) (key : List ℕ) (storage journal : Option Disk) (content : Option (List ℕ)) (text : List ℕ) → IsPossible content journal → AreCommitted variant key storage journal text
-    → (batch : RecoversText variant key text text storage journal) × IfSome content (IsHonest batch)
+    → (batch : RecoversTextUnlessForged variant key text text storage journal) × IfSome content (IsHonest batch)
 unfolding AreCommitted IsCommitted
 committed_batch variant key storage journal content text possible has =
-    let own : RecoversText has.0.variant has.0.key text text storage journal = committed_recovers has.0 has.1 storage journal text text has.4 in
-    let batch = subst (λ (l : List ℕ). RecoversText variant l text text storage journal) has.3
-    (subst (λ (v : Variant). RecoversText v has.0.key text text storage journal) has.2 own) in
+    let own : RecoversTextUnlessForged has.0.variant has.0.key text text storage journal = committed_recovers has.0 has.1 storage journal text text has.4 in
+    let batch = subst (λ (l : List ℕ). RecoversTextUnlessForged variant l text text storage journal) has.3
+    (subst (λ (v : Variant). RecoversTextUnlessForged v has.0.key text text storage journal) has.2 own) in
     (batch, no_forgery (journal_key variant key) batch.writes content (readable_certain content journal [] possible has.4.rests.journal_is))
 
 -- ---- a crash
 
-pub crashed_text : (variant : Variant) (key before now : List ℕ) (storage journal : Option Disk) (disk journal_disk : Disk) (ys js : List ℕ) → RecoversText variant key before now storage journal
-    → storage ≡ Some disk → journal ≡ Some journal_disk → Crashed disk ys → Crashed journal_disk js → RecoversText variant key before now (Some (certain ys)) (Some (certain js))
+pub crashed_text : (variant : Variant) (key before now : List ℕ) (storage journal : Option Disk) (disk journal_disk : Disk) (ys js : List ℕ) → RecoversTextUnlessForged variant key before now storage journal
+    → storage ≡ Some disk → journal ≡ Some journal_disk → Crashed disk ys → Crashed journal_disk js → RecoversTextUnlessForged variant key before now (Some (certain ys)) (Some (certain js))
 crashed_text variant key before now storage journal disk journal_disk ys js batch is journal_is p q =
     recovers_again variant key before now (journal_key variant key) storage journal (Some (certain ys)) (Some (certain js)) refl batch
     (λ recovers. crashed_recovers (journal_key variant key) [] batch.file batch.writes disk journal_disk ys js
-    (subst (λ (o : Option Disk). Recovers (journal_key variant key) [] batch.file batch.writes o (Some journal_disk)) is
-    (subst (Recovers (journal_key variant key) [] batch.file batch.writes storage) journal_is recovers)) p q)
+    (subst (λ (o : Option Disk). RecoversUnlessForged (journal_key variant key) [] batch.file batch.writes o (Some journal_disk)) is
+    (subst (RecoversUnlessForged (journal_key variant key) [] batch.file batch.writes storage) journal_is recovers)) p q)
     (λ keeps. crashed_front (journal_front batch.layout) journal_disk js (subst (KeepsFront (journal_front batch.layout)) journal_is keeps) q)
 
 -- ---- a journal that fits
@@ -244,15 +243,9 @@ opens_held layout counter len changes (Some file) b count none header same = λ 
     subst (HasIn layout counter len len changes false text) (sym same)
     (holds_has layout counter len changes text file count none (subst (λ (o : Option (List ℕ)). IfSome o (IsHeader layout counter len)) same header) h)
 
--- ---- commits in a row
-
-pub last_committed : (start : Step) (steps : List Step) → HasCommitted start.0 start.1 → AreCommits start steps → HasCommitted (last_of start steps).0 (last_of start steps).1
-last_committed start [] has are = has
-last_committed start (step ∷ steps) has are = last_committed step steps (are.0 has) are.1
-
-pub recovers_as : (variant : Variant) (key k file : List ℕ) (writes : Writes) (storage journal : Option Disk) → k ≡ journal_key variant key → Recovers (journal_key variant key) [] file writes storage journal
-    → Recovers k [] file writes storage journal
-recovers_as variant key k file writes storage journal is r = subst (λ (l : List ℕ). Recovers l [] file writes storage journal) (sym is) r
+pub recovers_as : (variant : Variant) (key k file : List ℕ) (writes : Writes) (storage journal : Option Disk) → k ≡ journal_key variant key → RecoversUnlessForged (journal_key variant key) [] file writes storage journal
+    → RecoversUnlessForged k [] file writes storage journal
+recovers_as variant key k file writes storage journal is r = subst (λ (l : List ℕ). RecoversUnlessForged l [] file writes storage journal) (sym is) r
 
 -- what was checked of a journal before it was made again or emptied
 pub fits_all : {W : Type 0} (of : W → Writes) (variant : Variant) (key k : List ℕ) (a b : Option (List ℕ)) (read : List ℕ) (sector : Option (List ℕ)) (header : Option FileHeader) (writes : Option W)

@@ -4,7 +4,7 @@ use Rattle.aegis_base.specs.Mac.{mac}
 use Rattle.aegis_base.specs.Variant.{Variant, key_length}
 use Rattle.aegis_storage.specs.Bytes.{part_at}
 use Rattle.aegis_storage.specs.Disk.{Disk, Writes, after_writes}
-use Rattle.aegis_storage.specs.Journal.{IsAtRest, IsJournal, IsNoForgery, IsOneOf, KeepsFront, Recovers}
+use Rattle.aegis_storage.specs.Journal.{IsAtRest, IsJournal, IsNoForgery, IsOneOf, KeepsFront, RecoversUnlessForged}
 use Rattle.aegis_pages.specs.declared.layout.TheConstants.{JOURNAL_MAGIC}
 use Rattle.aegis_pages.specs.Errors.{HasNoHeader}
 use Rattle.aegis_pages.specs.Headers.{IsHeader}
@@ -34,13 +34,13 @@ IsOfCommit head writes =
 
 -- Whatever a crash now leaves of the storage and of the journal, unless it leaves a forgery, opening gives the text
 -- `before` or the text `now`.
-pub record RecoversText (variant : Variant) (key before now : List ℕ) (storage journal : Option Disk) : Type 0 where
+pub record RecoversTextUnlessForged (variant : Variant) (key before now : List ℕ) (storage journal : Option Disk) : Type 0 where
   pub layout : Layout
   pub file : List ℕ
   pub writes : Writes
   pub variant_is : layout.variant ≡ variant
   pub key_is : layout.key ≡ key
-  pub recovers : Recovers (journal_key variant key) [] file writes storage journal
+  pub recovers : RecoversUnlessForged (journal_key variant key) [] file writes storage journal
   pub without : IsFileUnder layout before file
   pub with_writes : IsFileUnder layout before (after_writes writes file) ⊎ IsFileUnder layout now (after_writes writes file)
   -- the writes begin or end with the header of the file, and so they do with the one that they make of it
@@ -50,12 +50,12 @@ pub record RecoversText (variant : Variant) (key before now : List ℕ) (storage
   pub front : KeepsFront (journal_front layout) journal
 
 -- The journal's content is no forgery.
-abbrev pub IsHonest : {variant : Variant} {key before now : List ℕ} {storage journal : Option Disk} → RecoversText variant key before now storage journal → List ℕ → Type 0
+abbrev pub IsHonest : {variant : Variant} {key before now : List ℕ} {storage journal : Option Disk} → RecoversTextUnlessForged variant key before now storage journal → List ℕ → Type 0
 IsHonest {variant} {key} batch bytes = IsNoForgery (journal_key variant key) [] batch.writes bytes
 
 -- The header of the storage's content is no forgery: if there is one, it is that of before the commit or of after it.
 -- A torn header that opens all the same would be another.
-abbrev pub HasHonestHeader : {variant : Variant} {key before now : List ℕ} {storage journal : Option Disk} → RecoversText variant key before now storage journal → List ℕ → Type 0
+abbrev pub HasHonestHeader : {variant : Variant} {key before now : List ℕ} {storage journal : Option Disk} → RecoversTextUnlessForged variant key before now storage journal → List ℕ → Type 0
 HasHonestHeader {variant} {key} batch bytes = (layout : Layout) (counter len : ℕ) → layout.variant ≡ variant → layout.key ≡ key → IsHeader layout counter len bytes
     → IsOneOf (head_of variant batch.file) (head_of variant (after_writes batch.writes batch.file)) (head_of variant bytes)
 
@@ -63,7 +63,7 @@ HasHonestHeader {variant} {key} batch bytes = (layout : Layout) (counter len : �
 -- and openings that were cut short did since, and no forgery.
 unfoldable pub IsLeftByCommit : Variant → (key : List ℕ) → (bytes content : Option (List ℕ)) → (storage journal : Option Disk) → Type 0
 IsLeftByCommit variant key bytes content storage journal =
-    (before : List ℕ) × (now : List ℕ) × (batch : RecoversText variant key before now storage journal) × IfSome content (IsHonest batch) × IfSome bytes (HasHonestHeader batch)
+    (before : List ℕ) × (now : List ℕ) × (batch : RecoversTextUnlessForged variant key before now storage journal) × IfSome content (IsHonest batch) × IfSome bytes (HasHonestHeader batch)
 
 -- The storage and the journal are synced, the journal is empty, and the file holds one of the two texts.
 pub record RestsAtText (variant : Variant) (key before now : List ℕ) (storage journal : Option Disk) : Type 0 where

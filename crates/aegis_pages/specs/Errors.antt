@@ -12,30 +12,13 @@ use Rattle.aegis_pages.specs.SealedPages.{Changes, Shows}
 -- reading failed
 abbrev pub IsReadError : PagesError → Type 0
 IsReadError (Read e) = ⊤
-IsReadError (Write e) = ⊥
-IsReadError (Nonce e) = ⊥
-IsReadError Header = ⊥
-IsReadError (Damaged k) = ⊥
-IsReadError TooLong = ⊥
-IsReadError OutOfMemory = ⊥
-IsReadError PageSize = ⊥
-IsReadError Commitment = ⊥
-IsReadError Journal = ⊥
-IsReadError Broken = ⊥
+IsReadError _ = ⊥
 
 -- no nonce was drawn, or no memory was left
 abbrev pub IsSealError : PagesError → Type 0
-IsSealError (Read e) = ⊥
-IsSealError (Write e) = ⊥
 IsSealError (Nonce e) = ⊤
-IsSealError Header = ⊥
-IsSealError (Damaged k) = ⊥
-IsSealError TooLong = ⊥
 IsSealError OutOfMemory = ⊤
-IsSealError PageSize = ⊥
-IsSealError Commitment = ⊥
-IsSealError Journal = ⊥
-IsSealError Broken = ⊥
+IsSealError _ = ⊥
 
 -- page k of the file shows nothing
 abbrev pub ShowsNothing : Layout → Changes → ℕ → Option (List ℕ) → Type 0
@@ -46,84 +29,51 @@ abbrev pub IsBeginError : PagesError → Type 0
 IsBeginError (Read e) = ⊤
 IsBeginError (Write e) = ⊤
 IsBeginError (Nonce e) = ⊤
-IsBeginError Header = ⊥
-IsBeginError (Damaged k) = ⊥
-IsBeginError TooLong = ⊥
 IsBeginError OutOfMemory = ⊤
-IsBeginError PageSize = ⊥
-IsBeginError Commitment = ⊥
 IsBeginError Journal = ⊤
-IsBeginError Broken = ⊥
+IsBeginError _ = ⊥
 
 -- Reading failed, or the page of this number shows nothing.
 abbrev pub IsShowRefusal : Layout → Changes → ℕ → Option (List ℕ) → PagesError → Type 0
 IsShowRefusal layout changes number bytes (Read e) = ⊤
-IsShowRefusal layout changes number bytes (Write e) = ⊥
-IsShowRefusal layout changes number bytes (Nonce e) = ⊥
-IsShowRefusal layout changes number bytes Header = ⊥
 IsShowRefusal layout changes number bytes (Damaged k) = (k ≡ number) × ShowsNothing layout changes number bytes
-IsShowRefusal layout changes number bytes TooLong = ⊥
-IsShowRefusal layout changes number bytes OutOfMemory = ⊥
-IsShowRefusal layout changes number bytes PageSize = ⊥
-IsShowRefusal layout changes number bytes Commitment = ⊥
-IsShowRefusal layout changes number bytes Journal = ⊥
-IsShowRefusal layout changes number bytes Broken = ⊥
+IsShowRefusal layout changes number bytes _ = ⊥
 
 -- Reading failed, a page that begins before byte `end` of the text shows nothing, or a commit had failed.
 abbrev pub IsReadRefusal : Bool → Layout → Changes → ℕ → Option (List ℕ) → PagesError → Type 0
 IsReadRefusal broken layout changes end bytes (Read e) = ⊤
-IsReadRefusal broken layout changes end bytes (Write e) = ⊥
-IsReadRefusal broken layout changes end bytes (Nonce e) = ⊥
-IsReadRefusal broken layout changes end bytes Header = ⊥
 IsReadRefusal broken layout changes end bytes (Damaged k) = (k * layout.page_bytes < end) × ShowsNothing layout changes k bytes
-IsReadRefusal broken layout changes end bytes TooLong = ⊥
-IsReadRefusal broken layout changes end bytes OutOfMemory = ⊥
-IsReadRefusal broken layout changes end bytes PageSize = ⊥
-IsReadRefusal broken layout changes end bytes Commitment = ⊥
-IsReadRefusal broken layout changes end bytes Journal = ⊥
 IsReadRefusal broken layout changes end bytes Broken = broken ≡ true
+IsReadRefusal broken layout changes end bytes _ = ⊥
 
 -- Reading failed, a page that begins before byte `len` of the text shows nothing, the text would end past its limit, no memory was left, or a commit had failed.
 abbrev pub IsWriteRefusal : Bool → Layout → Changes → (len end : ℕ) → Option (List ℕ) → PagesError → Type 0
 IsWriteRefusal broken layout changes len end bytes (Read e) = ⊤
-IsWriteRefusal broken layout changes len end bytes (Write e) = ⊥
-IsWriteRefusal broken layout changes len end bytes (Nonce e) = ⊥
-IsWriteRefusal broken layout changes len end bytes Header = ⊥
 IsWriteRefusal broken layout changes len end bytes (Damaged k) = (k * layout.page_bytes < len) × ShowsNothing layout changes k bytes
 IsWriteRefusal broken layout changes len end bytes TooLong = MAX_TEXT_BYTES < end
 IsWriteRefusal broken layout changes len end bytes OutOfMemory = ⊤
-IsWriteRefusal broken layout changes len end bytes PageSize = ⊥
-IsWriteRefusal broken layout changes len end bytes Commitment = ⊥
-IsWriteRefusal broken layout changes len end bytes Journal = ⊥
 IsWriteRefusal broken layout changes len end bytes Broken = broken ≡ true
+IsWriteRefusal broken layout changes len end bytes _ = ⊥
 
 -- A storage failed, no nonce was drawn, no greater counter is left, no memory was left, or a commit had failed.
 abbrev pub IsCommitRefusal : Bool → ℕ → PagesError → Type 0
 IsCommitRefusal broken counter (Read e) = ⊤
 IsCommitRefusal broken counter (Write e) = ⊤
 IsCommitRefusal broken counter (Nonce e) = ⊤
-IsCommitRefusal broken counter Header = ⊥
-IsCommitRefusal broken counter (Damaged k) = ⊥
 IsCommitRefusal broken counter TooLong = counter ≡ 2 ^ 64 - 1
 IsCommitRefusal broken counter OutOfMemory = ⊤
-IsCommitRefusal broken counter PageSize = ⊥
-IsCommitRefusal broken counter Commitment = ⊥
-IsCommitRefusal broken counter Journal = ⊥
 IsCommitRefusal broken counter Broken = broken ≡ true
+IsCommitRefusal broken counter _ = ⊥
 
 -- The page size is wrong exactly if that is the error. Otherwise a storage failed, the journal is not empty, no memory was left or no nonce was drawn.
 abbrev pub IsCreateRefusal : ℕ → PagesError → Type 0
 IsCreateRefusal page_bytes (Read e) = IsPageSize page_bytes
 IsCreateRefusal page_bytes (Write e) = IsPageSize page_bytes
 IsCreateRefusal page_bytes (Nonce e) = IsPageSize page_bytes
-IsCreateRefusal page_bytes Header = ⊥
-IsCreateRefusal page_bytes (Damaged k) = ⊥
-IsCreateRefusal page_bytes TooLong = ⊥
 IsCreateRefusal page_bytes OutOfMemory = IsPageSize page_bytes
 IsCreateRefusal page_bytes PageSize = IsPageSize page_bytes → ⊥
-IsCreateRefusal page_bytes Commitment = ⊥
 IsCreateRefusal page_bytes Journal = IsPageSize page_bytes
-IsCreateRefusal page_bytes Broken = ⊥
+IsCreateRefusal page_bytes _ = ⊥
 
 -- the file has no header that was sealed with the variant and under the key
 abbrev pub HasNoHeader : Variant → List ℕ → List ℕ → Type 0
@@ -133,54 +83,26 @@ HasNoHeader variant key file = (layout : Layout) (counter len : ℕ) → layout.
 abbrev pub IsOpenRefusal : Variant → List ℕ → Option (List ℕ) → PagesError → Type 0
 IsOpenRefusal variant key bytes (Read e) = ⊤
 IsOpenRefusal variant key bytes (Write e) = ⊤
-IsOpenRefusal variant key bytes (Nonce e) = ⊥
 IsOpenRefusal variant key bytes Header = IfSome bytes (HasNoHeader variant key)
-IsOpenRefusal variant key bytes (Damaged k) = ⊥
-IsOpenRefusal variant key bytes TooLong = ⊥
 IsOpenRefusal variant key bytes OutOfMemory = ⊤
-IsOpenRefusal variant key bytes PageSize = ⊥
-IsOpenRefusal variant key bytes Commitment = ⊥
 IsOpenRefusal variant key bytes Journal = ⊤
-IsOpenRefusal variant key bytes Broken = ⊥
+IsOpenRefusal variant key bytes _ = ⊥
 
 -- The error says that the file was not opened, and nothing was written.
 abbrev pub IsLeftAlone : PagesError → Type 0
-IsLeftAlone (Read e) = ⊥
-IsLeftAlone (Write e) = ⊥
-IsLeftAlone (Nonce e) = ⊥
 IsLeftAlone Header = ⊤
-IsLeftAlone (Damaged k) = ⊥
-IsLeftAlone TooLong = ⊥
-IsLeftAlone OutOfMemory = ⊥
-IsLeftAlone PageSize = ⊥
-IsLeftAlone Commitment = ⊥
 IsLeftAlone Journal = ⊤
-IsLeftAlone Broken = ⊥
+IsLeftAlone _ = ⊥
 
 -- reading failed, or a commit had failed
 abbrev pub IsCommitmentRefusal : Bool → PagesError → Type 0
 IsCommitmentRefusal broken (Read e) = ⊤
-IsCommitmentRefusal broken (Write e) = ⊥
-IsCommitmentRefusal broken (Nonce e) = ⊥
-IsCommitmentRefusal broken Header = ⊥
-IsCommitmentRefusal broken (Damaged k) = ⊥
-IsCommitmentRefusal broken TooLong = ⊥
-IsCommitmentRefusal broken OutOfMemory = ⊥
-IsCommitmentRefusal broken PageSize = ⊥
-IsCommitmentRefusal broken Commitment = ⊥
-IsCommitmentRefusal broken Journal = ⊥
 IsCommitmentRefusal broken Broken = broken ≡ true
+IsCommitmentRefusal broken _ = ⊥
 
 -- Reading failed, `expected` is not the commitment, or a commit had failed.
 abbrev pub IsVerifyRefusal : Bool → Layout → ℕ → ℕ → Option (List ℕ) → List ℕ → PagesError → Type 0
 IsVerifyRefusal broken layout counter len bytes expected (Read e) = ⊤
-IsVerifyRefusal broken layout counter len bytes expected (Write e) = ⊥
-IsVerifyRefusal broken layout counter len bytes expected (Nonce e) = ⊥
-IsVerifyRefusal broken layout counter len bytes expected Header = ⊥
-IsVerifyRefusal broken layout counter len bytes expected (Damaged k) = ⊥
-IsVerifyRefusal broken layout counter len bytes expected TooLong = ⊥
-IsVerifyRefusal broken layout counter len bytes expected OutOfMemory = ⊥
-IsVerifyRefusal broken layout counter len bytes expected PageSize = ⊥
 IsVerifyRefusal broken layout counter len bytes expected Commitment = IfSome bytes (λ file. expected ≡ commitment layout counter len file → ⊥)
-IsVerifyRefusal broken layout counter len bytes expected Journal = ⊥
 IsVerifyRefusal broken layout counter len bytes expected Broken = broken ≡ true
+IsVerifyRefusal broken layout counter len bytes expected _ = ⊥

@@ -20,13 +20,17 @@ IsPageSize n = (MIN_PAGE_BYTES ≤ n) × (n ≤ MAX_PAGE_BYTES)
 abbrev pub variant_byte : Variant → ℕ
 variant_byte variant = key_length variant.family + variant.lanes
 
--- magic number, variant, page size and id: the first 33 bytes of a header, and of the associated data of each box
+-- a magic number, variant, page size and id
+abbrev pub named : List ℕ → Layout → List ℕ
+named magic layout = magic ++ (variant_byte layout.variant ∷ (to_le_bytes w32 layout.page_bytes ++ layout.id))
+
+-- the first 33 bytes of a header, and of the associated data of each box
 unfoldable pub clear_part : Layout → List ℕ
-clear_part layout = MAGIC ++ (variant_byte layout.variant ∷ (to_le_bytes w32 layout.page_bytes ++ layout.id))
+clear_part layout = named MAGIC layout
 
 -- the front of the file's journals, which has another magic number
 unfoldable pub journal_front : Layout → List ℕ
-journal_front layout = JOURNAL_MAGIC ++ (variant_byte layout.variant ∷ (to_le_bytes w32 layout.page_bytes ++ layout.id))
+journal_front layout = named JOURNAL_MAGIC layout
 
 -- the associated data of the box of a number
 unfoldable pub associated_data : Layout → ℕ → List ℕ

@@ -3,7 +3,6 @@ pub mod Commitments
 pub mod Commits
 pub mod Errors
 pub mod Headers
-pub mod History
 pub mod Layouts
 pub mod OpenFile
 pub mod Reading

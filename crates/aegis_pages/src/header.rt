@@ -14,10 +14,10 @@ use crate::layout::{
     CLEAR_BYTES, FileLayout, HEADER_NUMBER, HEADER_TEXT_BYTES, MAX_TEXT_BYTES, SECTOR_BYTES,
     TAG_BYTES,
 };
-use crate::page::{open_box, seal_box};
+use crate::page::open_box;
 use aegis_base::LaneState;
 use aegis_storage::Storage;
-use aegis_storage::bytes::put;
+use aegis_storage::bytes::array_of;
 
 /// What a header names.
 #[derive(Clone, Copy)]
@@ -43,14 +43,12 @@ pub fn header_sector<L: LaneState, const KEY_BYTES: usize>(
     ensures header { IsSector layout.now counter len result }
     ensures nonce { part_at result CLEAR_BYTES (nonce_bytes layout.now) ≡ nonce.now }
 {
-    let mut sector = [0; SECTOR_BYTES];
-    put(&mut sector, 0, &layout.clear());
-    let text = CLEAR_BYTES + layout.nonce_bytes();
-    put(&mut sector, text, &counter.to_le_bytes());
-    put(&mut sector, text + 8, &len.to_le_bytes());
-    let end = text + HEADER_TEXT_BYTES + TAG_BYTES;
-    seal_box(layout, HEADER_NUMBER, nonce, &mut sector[CLEAR_BYTES..end]);
-    sector
+    let used = CLEAR_BYTES + (HEADER_TEXT_BYTES + (layout.nonce_bytes() + TAG_BYTES));
+    let padding = [0; SECTOR_BYTES];
+    let mut text: [u8; HEADER_TEXT_BYTES] = array_of(&[&counter.to_le_bytes(), &len.to_le_bytes()]);
+    let ad = layout.associated_data(HEADER_NUMBER);
+    let tag = layout.cipher(nonce).encrypt_in_place(&mut text, &ad);
+    array_of(&[&layout.clear(), nonce, &text, &tag, &padding[used..]])
 }
 
 /// Returns the number that 8 bytes are, the lowest first.

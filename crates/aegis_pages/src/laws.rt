@@ -7,12 +7,12 @@ ghost use Rattle.aegis_storage.specs.Bytes.{overwritten, part_at};
 ghost use Rattle.aegis_pages.specs.Commitments.{HasOneCommitment, commitment};
 ghost use Rattle.aegis_pages.specs.Headers.{IsHeader};
 ghost use Rattle.aegis_storage.specs.Disk.{Crashed, Disk, certain};
-ghost use Rattle.aegis_pages.specs.Commits.{HasHonestHeader, IsHonest, IsLeftByCommit, RecoversText};
-ghost use Rattle.aegis_pages.specs.History.{AreCommits, Step, last_of};
-ghost use Rattle.aegis_pages.specs.OpenFile.{HasCommitted, IsStoredAs, IsUnchanged, OpenFile};
-ghost use Rattle.aegis_pages.specs.Recovery.{RecoversOne};
+ghost use Rattle.aegis_pages.specs.Commits.{HasHonestHeader, IsHonest, IsLeftByCommit, RecoversTextUnlessForged};
+ghost use Rattle.aegis_pages.specs.OpenFile.{HasCommitted, HasText, IsStoredAs, IsUnchanged, OpenFile};
+ghost use Rattle.aegis_pages.specs.Recovery.{RecoversOneUnlessForged};
 
 /// A part that was written is what is read at its place.
+#[tactic(auto, using(aegis_storage::proofs::Overwriting::put_part))]
 pub fn written_is_read()
     ensures { (text : List ℕ) (at : ℕ) (part : List ℕ)
         → part_at (overwritten text at part) at (length part) ≡ part }
@@ -29,11 +29,13 @@ pub fn others_are_kept()
 {}
 
 /// A part that is written over a whole text is the text.
+#[tactic(auto, using(aegis_storage::proofs::Overwriting::overwritten_whole))]
 pub fn whole_is_written()
     ensures { (text part : List ℕ) → length text ≤ length part → overwritten text 0 part ≡ part }
 {}
 
 /// A file has one commitment under a variant and a key: that of the file that was opened.
+#[tactic(auto, using(crate::proofs::CommitmentFacts::has_commitment))]
 pub fn opened_has_its_commitment()
     ensures { (variant : Variant) (key c : List ℕ) (file : OpenFile)
         → IsLaneCount variant.lanes
@@ -43,7 +45,14 @@ pub fn opened_has_its_commitment()
         → IfSome file.bytes (HasOneCommitment variant key c) }
 {}
 
+/// A file has as many bytes as its text.
+#[tactic(auto, unfolding(crate::specs::OpenFile::HasText), using(crate::proofs::OpenFileFacts::has_len))]
+pub fn text_has_its_length()
+    ensures { (file : OpenFile) (text : List ℕ) → HasText file text → length text ≡ file.len }
+{}
+
 /// Changes in memory leave the text that is committed.
+#[tactic(auto, using(crate::proofs::RecoveryFacts::stored_committed))]
 pub fn stored_is_committed()
     ensures stored { (old new : OpenFile) (text : List ℕ) → IsStoredAs old new
         → HasCommitted old text → HasCommitted new text }
@@ -55,42 +64,33 @@ pub fn stored_is_committed()
 pub fn recovers_after_a_crash()
     ensures { (variant : Variant) (key before now : List ℕ) (storage journal : Option Disk)
         (disk journal_disk : Disk) (ys js : List ℕ)
-        → RecoversText variant key before now storage journal
+        → RecoversTextUnlessForged variant key before now storage journal
         → storage ≡ Some disk → journal ≡ Some journal_disk
         → Crashed disk ys → Crashed journal_disk js
-        → RecoversText variant key before now (Some (certain ys)) (Some (certain js)) }
+        → RecoversTextUnlessForged variant key before now (Some (certain ys)) (Some (certain js)) }
 {}
 
 /// What is recovered, and is no forgery, is left by a commit: so [`crate::Pages::open`] accepts it.
+#[tactic(auto, unfolding(crate::specs::Commits::IsLeftByCommit))]
 pub fn recovered_is_left_by_a_commit()
     ensures { (variant : Variant) (key before now : List ℕ) (bytes content : Option (List ℕ))
         (storage journal : Option Disk)
-        → (batch : RecoversText variant key before now storage journal)
+        → (batch : RecoversTextUnlessForged variant key before now storage journal)
         → IfSome content (IsHonest batch) → IfSome bytes (HasHonestHeader batch)
         → IsLeftByCommit variant key bytes content storage journal }
 {}
 
 /// A committed text is recovered, whatever was to come next.
+#[tactic(auto, unfolding(crate::specs::Recovery::RecoversUnder), using(crate::proofs::RecoveryFacts::committed_recovers))]
 pub fn committed_recovers()
     ensures { (file : OpenFile) (before now : List ℕ) → HasCommitted file before
-        → RecoversOne file before now }
+        → RecoversOneUnlessForged file before now }
 {}
 
 /// What a crash may leave, by its parts, as `open` takes it.
+#[tactic(auto, unfolding(crate::specs::Recovery::RecoversUnder))]
 pub fn recovers_text()
-    ensures { (file : OpenFile) (before now : List ℕ) → RecoversOne file before now
-        → RecoversText file.layout.variant file.layout.key before now file.disk file.journal }
-{}
-
-/// After any number of commits that returned `Ok` the file has the text of the last one for certain; and a crash in the
-/// next one leaves that text, or the one that was to come.
-pub fn commits_in_a_row()
-    ensures certain { (start : Step) (steps : List Step) → HasCommitted start.0 start.1
-        → AreCommits start steps
-        → HasCommitted (last_of start steps).0 (last_of start steps).1 }
-    ensures crash { (start : Step) (steps : List Step) (variant : Variant) (key now : List ℕ)
-        (storage journal : Option Disk) → HasCommitted start.0 start.1 → AreCommits start steps
-        → (HasCommitted (last_of start steps).0 (last_of start steps).1
-        → RecoversText variant key (last_of start steps).1 now storage journal)
-        → RecoversText variant key (last_of start steps).1 now storage journal }
+    ensures { (file : OpenFile) (before now : List ℕ) → RecoversOneUnlessForged file before now
+        → RecoversTextUnlessForged file.layout.variant file.layout.key before now
+        file.disk file.journal }
 {}

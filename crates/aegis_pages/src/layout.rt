@@ -3,12 +3,12 @@
 ghost use Rattle.std.specs.Prelude.{◌≡◌, ◌+◌, ◌*◌, ◌<◌, ◌≤◌, ◌↔◌, IfSome, IsSome, IsTrue, length, ℕ};
 ghost use Rattle.aegis_base.specs.Variant.{key_length};
 ghost use Rattle.aegis_pages.specs.Commitments.{page_count};
-ghost use Rattle.aegis_pages.specs.Layouts.{IsPageSize, Layout, associated_data, box_bytes, clear_part, journal_front, nonce_bytes, page_place, variant_byte};
+ghost use Rattle.aegis_pages.specs.Layouts.{IsPageSize, Layout, associated_data, box_bytes, clear_part, journal_front, named, nonce_bytes, page_place, variant_byte};
 
 use aegis_aes::Row;
 use aegis_base::LaneState;
 use aegis_engine::{Cipher, Once};
-use aegis_storage::bytes::put;
+use aegis_storage::bytes::array_of;
 use std::marker::{Model, PhantomData};
 
 /// The least page size, in bytes of text.
@@ -145,37 +145,39 @@ impl<L: LaneState, const KEY_BYTES: usize> FileLayout<L, KEY_BYTES> {
         KEY_BYTES
     }
 
+    // What names the file, behind a magic number.
+    fn named(&self, magic: &[u8; 4]) -> [u8; CLEAR_BYTES]
+        ensures { result ≡ named magic.now self.now }
+    {
+        let page_bytes = self.page_bytes.to_le_bytes();
+        let variant = [variant_byte::<L, KEY_BYTES>()];
+        array_of(&[magic, &variant, &page_bytes, &self.id])
+    }
+
     /// Returns the clear part of a header, which is the front of all associated data too.
+    #[tactic(auto, unfolding(crate::specs::Layouts::clear_part))]
     pub fn clear(&self) -> [u8; CLEAR_BYTES]
         ensures clear { result ≡ clear_part self.now }
         ensures size { IsPageSize self.now.page_bytes }
     {
-        let page_bytes = self.page_bytes.to_le_bytes();
-        let mut clear = [0; CLEAR_BYTES];
-        put(&mut clear, 0, &MAGIC);
-        put(&mut clear, 4, &[variant_byte::<L, KEY_BYTES>()]);
-        put(&mut clear, 5, &page_bytes);
-        put(&mut clear, 9, &self.id);
-        clear
+        let _page_bytes = &self.page_bytes;
+        self.named(&MAGIC)
     }
 
     /// Returns the front of the file's journals, which names the file.
+    #[tactic(auto, unfolding(crate::specs::Layouts::journal_front))]
     pub fn journal_front(&self) -> [u8; CLEAR_BYTES]
         ensures { result ≡ journal_front self.now }
     {
-        let mut front = self.clear();
-        put(&mut front, 0, &JOURNAL_MAGIC);
-        front
+        self.named(&JOURNAL_MAGIC)
     }
 
     /// Returns the associated data of the page of a number, or of a header.
+    #[tactic(auto, unfolding(crate::specs::Layouts::associated_data))]
     pub fn associated_data(&self, number: u64) -> [u8; 41]
         ensures { result ≡ associated_data self.now number }
     {
-        let mut ad = [0; 41];
-        put(&mut ad, 0, &self.clear());
-        put(&mut ad, CLEAR_BYTES, &number.to_le_bytes());
-        ad
+        array_of(&[&self.clear(), &number.to_le_bytes()])
     }
 
     /// Returns the cipher of a nonce.

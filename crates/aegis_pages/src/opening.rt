@@ -3,7 +3,7 @@
 ghost use Rattle.std.specs.Prelude.{◌≡◌, ◌≢◌, ◌+◌, ◌≤◌, ◌↔◌, [], Err, IfErr, IfNone, IfOk, IfSome, IsOk, IsSome, IsTrue, List, None, OnOk, Some, length, take, ℕ};
 ghost use Rattle.aegis_base.specs.Variant.{key_length};
 ghost use Rattle.aegis_storage.specs.Pending.{writes_of};
-ghost use Rattle.aegis_pages.specs.Commits.{Fits, IsHonest, IsLeftByCommit, IsOfAnother, IsOfCommit, KnownSame, RecoversText, RestsAtText, head_bytes, journal_key};
+ghost use Rattle.aegis_pages.specs.Commits.{Fits, IsHonest, IsLeftByCommit, IsOfAnother, IsOfCommit, KnownSame, RecoversTextUnlessForged, RestsAtText, head_bytes, journal_key};
 ghost use Rattle.aegis_pages.specs.Errors.{IsLeftAlone, IsOpenRefusal};
 ghost use Rattle.aegis_pages.specs.Layouts.{IsPageSize, journal_front};
 ghost use Rattle.aegis_pages.specs.Reading.{HasHeader, layout_of};
@@ -151,12 +151,13 @@ pub fn recover_file<
     ensures kept { OnOk result (J.bytes journal.old ≡ Some []
         → KnownSame (S.bytes storage.old) (S.bytes storage.new)) }
     ensures recovers { (before now : List ℕ)
-        → (batch : RecoversText L.VARIANT key.now before now
+        → (batch : RecoversTextUnlessForged L.VARIANT key.now before now
         (S.disk storage.old) (J.disk journal.old))
         → IfSome (J.bytes journal.old) (IsHonest batch)
-        → RecoversText L.VARIANT key.now before now (S.disk storage.new) (J.disk journal.new) }
+        → RecoversTextUnlessForged L.VARIANT key.now before now
+        (S.disk storage.new) (J.disk journal.new) }
     ensures rests { OnOk result ((before now : List ℕ)
-        → (batch : RecoversText L.VARIANT key.now before now
+        → (batch : RecoversTextUnlessForged L.VARIANT key.now before now
         (S.disk storage.old) (J.disk journal.old))
         → IfSome (J.bytes journal.old) (IsHonest batch)
         → RestsAtText L.VARIANT key.now before now (S.disk storage.new) (J.disk journal.new)) }

@@ -6,12 +6,12 @@ ghost use Rattle.aegis_storage.specs.Bytes.{overwritten, part_at, resized};
 ghost use Rattle.aegis_storage.specs.Disk.{Disk, certain};
 ghost use Rattle.aegis_pages.specs.Changed.{text_at};
 ghost use Rattle.aegis_pages.specs.Commitments.{commitment};
-ghost use Rattle.aegis_pages.specs.Commits.{Fits, IsHonest, IsLeftByCommit, RecoversText};
+ghost use Rattle.aegis_pages.specs.Commits.{Fits, IsHonest, IsLeftByCommit, RecoversTextUnlessForged};
 ghost use Rattle.aegis_pages.specs.Errors.{IsBeginError, IsCommitRefusal, IsCommitmentRefusal, IsCreateRefusal, IsOpenRefusal, IsReadRefusal, IsVerifyRefusal, IsWriteRefusal};
 ghost use Rattle.aegis_pages.specs.Headers.{IsHeader};
 ghost use Rattle.aegis_pages.specs.Layouts.{IsPageSize};
 ghost use Rattle.aegis_pages.specs.OpenFile.{AreCommitted, BreaksOrKeeps, HasCommitted, HasText, IsCertain, IsKnown, IsStoredAs, IsUnchanged, OpensAtOne, Reads};
-ghost use Rattle.aegis_pages.specs.Recovery.{RecoversOne};
+ghost use Rattle.aegis_pages.specs.Recovery.{RecoversOneUnlessForged};
 ghost use Rattle.aegis_pages.specs.SealedPages.{IsFileOf, KeepsOthers};
 
 use crate::changes::{ChangedPages, PageText, empty_text};
@@ -170,9 +170,8 @@ impl<
         }) }
         ensures empty { IfOk result (λ pages. pages.len ≡ 0) }
         ensures created { IfOk result (λ pages. IfSome (S.bytes storage) (λ _. HasText pages [])) }
-        ensures certain { IfOk result (λ pages. (disk journal_disk : Disk)
-            → S.disk storage ≡ Some disk → J.disk journal ≡ Some journal_disk
-            → HasCommitted pages []) }
+        ensures certain { IfOk result (λ pages. IfSome (S.disk storage)
+            (λ _. IfSome (J.disk journal) (λ _. HasCommitted pages []))) }
         ensures size { OnOk result (IsPageSize page_bytes) }
         ensures refused { IfErr result (IsCreateRefusal page_bytes) }
     {
@@ -219,7 +218,8 @@ impl<
             → IfSome (S.bytes storage) (λ file. (text : List ℕ)
             → IsFileOf L.VARIANT key.now text file → HasText pages text)) }
         ensures recovered { IfOk result (λ pages. (before now : List ℕ)
-            → (batch : RecoversText L.VARIANT key.now before now (S.disk storage) (J.disk journal))
+            → (batch : RecoversTextUnlessForged L.VARIANT key.now before now
+            (S.disk storage) (J.disk journal))
             → IfSome (J.bytes journal) (IsHonest batch)
             → OpensAtOne pages before now) }
         ensures committed { IfOk result (λ pages. (text : List ℕ)
@@ -389,7 +389,7 @@ impl<
         ensures committed { OnOk result ((text : List ℕ) → HasText self.old text
             → HasText self.new text) }
         ensures crash { (before now : List ℕ) → HasCommitted self.old before
-            → HasText self.old now → RecoversOne self.new before now }
+            → HasText self.old now → RecoversOneUnlessForged self.new before now }
         ensures certain { OnOk result ((before now : List ℕ) → HasCommitted self.old before
             → HasText self.old now → HasCommitted self.new now) }
         ensures broken { self.old.broken ≡ true → result ≡ Err PagesError.Broken }

@@ -1,10 +1,8 @@
 -- What calls do to what a crash may leave.
-use Rattle.std.proofs.lemmas.List.{append_assoc}
-use Rattle.std.proofs.Common.{◌≡◌, ℕ, ◌-◌, ◌⊎◌, inl, inr, List, [], ◌∷◌, ◌++◌, None, Some, OnErr, OnOk, Option, Result, Ok, Err, length, replicate, refl, sym, ap, subst, ◌∙◌, arith}
+use Rattle.std.proofs.lemmas.List.{append-nil, append_assoc, map-append}
+use Rattle.std.proofs.Common.{◌≡◌, ℕ, ◌-◌, ◌⊎◌, inl, inr, List, [], ◌∷◌, ◌++◌, None, Some, OnOk, Option, Result, Ok, Err, length, replicate, refl, sym, ap, subst, ◌∙◌, arith}
 use Rattle.aegis_storage.specs.Bytes.{ResizesTo, WritesAt, overwritten, resized}
-use Rattle.aegis_storage.specs.Calls.{AddsSome, IsWholeOrEmpty, IsWrittenOver}
-use Rattle.aegis_storage.specs.Disk.{Adds, AreParts, Change, Crashed, Disk, IsPartOfOne, IsPossible, KeepsDisk, MakesCertain, MayAdd, Size, Write, Writes, WritesAll, after, applied, certain, changes, after_writes}
-use Rattle.aegis_storage.proofs.Crashing.{written_again}
+use Rattle.aegis_storage.specs.Disk.{Adds, AreParts, Change, Crashed, Disk, IsPart, IsPartOfOne, IsPossible, IsWithin, MakesCertain, Size, Write, Writes, WritesAll, after, applied, certain, changed, changes, after_writes}
 
 -- ---- certain bytes
 
@@ -35,15 +33,91 @@ readable_certain bytes state xs possible is =
     let r = readable bytes state (certain xs) possible is in
     r.is ∙ ap Some (certain_only xs r.xs r.possible)
 
--- ---- syncs
-
-pub sync_either : {T E P Q : Type 0} (r : Result T E) → OnOk r P → OnErr r Q → P ⊎ Q
-sync_either (Ok x) p q = inl p
-sync_either (Err e) p q = inr q
-
 pub on_ok_map : {T E P Q : Type 0} (r : Result T E) → (P → Q) → OnOk r P → OnOk r Q
 on_ok_map (Ok x) f p = f p
 on_ok_map (Err e) f p = tt
+
+-- ---- changes that are pending, too
+
+pub after_none : (disk : Disk) → after disk [] ≡ disk
+after_none disk = ap (λ (l : List Change). record { synced = disk.synced; pending = l }) (append-nil disk.pending)
+
+after_after : (disk : Disk) (xs ys : List Change) → after (after disk xs) ys ≡ after disk (xs ++ ys)
+after_after disk xs ys = ap (λ (l : List Change). record { synced = disk.synced; pending = l }) (append_assoc disk.pending xs ys)
+
+one_more : (xs more ys : List Change) (part : Change) → IsPartOfOne (xs ++ ys) part → IsPartOfOne (xs ++ (more ++ ys)) part
+one_more [] [] ys part p = p
+one_more [] (m ∷ more) ys part p = inr (one_more [] more ys part p)
+one_more (x ∷ xs) more ys part (inl p) = inl p
+one_more (x ∷ xs) more ys part (inr p) = inr (one_more xs more ys part p)
+
+pub parts_more : (xs more ys parts : List Change) → AreParts (xs ++ ys) parts → AreParts (xs ++ (more ++ ys)) parts
+parts_more xs more ys [] are = tt
+parts_more xs more ys (part ∷ parts) are = (one_more xs more ys part are.0, parts_more xs more ys parts are.1)
+
+-- changes that are not made
+pub none_made : (state : Option Disk) (more : List Change) → Adds state state more
+none_made None more = tt
+none_made (Some disk) more = record {
+  also = λ rest bytes crashed. record {
+    parts = crashed.parts;
+    of_pending = subst (λ (l : List Change). AreParts l crashed.parts) (sym (append_assoc disk.pending more rest)) (parts_more disk.pending more rest crashed.parts crashed.of_pending);
+    are = crashed.are;
+  };
+}
+
+-- certain bytes, after a change that is made at once, or not at all
+pub made : (xs zs : List ℕ) (change : Change) → zs ≡ changed change xs → IsWithin (certain zs) (after (certain xs) (change ∷ []))
+made xs zs change is = record {
+  also = λ rest bytes crashed. record {
+    parts = change ∷ crashed.parts;
+    of_pending = (inl (itself change), parts_more [] (change ∷ []) rest crashed.parts crashed.of_pending);
+    are = crashed.are ∙ ap (applied crashed.parts) is;
+  };
+}
+  where
+    itself : (change : Change) → IsPart change change
+    itself (Write at bs) = (0, omega arith, omega arith)
+    itself (Size n) = refl
+
+pub unmade : (xs zs : List ℕ) (more : List Change) → zs ≡ xs → IsWithin (certain zs) (after (certain xs) more)
+unmade xs zs more same = subst (λ (l : List ℕ). IsWithin (certain l) (after (certain xs) more)) (sym same) (none_made (Some (certain xs)) more)
+
+pub adds_more : (a b c : Option Disk) (xs ys : List Change) → Adds a b xs → Adds b c ys → Adds a c (xs ++ ys)
+adds_more None b c xs ys p q = tt
+adds_more (Some a) None c xs ys p q = absurd p
+adds_more (Some a) (Some b) None xs ys p q = absurd q
+adds_more (Some a) (Some b) (Some c) xs ys p q = record {
+  also = λ more bytes crashed.
+      let same : Crashed (after b (ys ++ more)) bytes = subst (λ (d : Disk). Crashed d bytes) (after_after b ys more) (q.also more bytes crashed) in
+      subst (λ (d : Disk). Crashed (after d more) bytes) (after_after a xs ys)
+      (subst (λ (d : Disk). Crashed d bytes) (sym (after_after (after a xs) ys more)) (p.also (ys ++ more) bytes same));
+}
+
+-- the same, and a sync, which adds nothing
+pub adds_synced : (a b c : Option Disk) (xs : List Change) → Adds a b xs → Adds b c [] → Adds a c xs
+adds_synced a b c xs p q = subst (Adds a c) (append-nil xs) (adds_more a b c xs [] p q)
+
+-- The disk is known, and a crash leaves no more than of this one.
+pub record Left (state : Option Disk) (most : Disk) : Type 0 where
+  pub disk : Disk
+  pub is : state ≡ Some disk
+  pub within : (bytes : List ℕ) → Crashed disk bytes → Crashed most bytes
+
+pub left : (old new : Option Disk) (disk : Disk) (more : List Change) → Adds old new more → old ≡ Some disk → Left new (after disk more)
+left old new disk more adds is = cases new (subst (λ (o : Option Disk). Adds o new more) is adds)
+  where
+    cases : (new : Option Disk) → Adds (Some disk) new more → Left new (after disk more)
+    cases None a = absurd a
+    cases (Some now) a = record {
+      disk = now;
+      is = refl;
+      within = λ bytes crashed.
+          subst (λ (d : Disk). Crashed d bytes) (after_none (after disk more)) (a.also [] bytes (subst (λ (d : Disk). Crashed d bytes) (sym (after_none now)) crashed));
+    }
+
+pub left_synced : (old new : Option Disk) (disk : Disk) → Adds old new [] → old ≡ Some disk → Left new disk
+left_synced old new disk adds is = subst (Left new) (after_none disk) (left old new disk [] adds is)
 
 -- ---- an emptied storage
 
@@ -76,29 +150,8 @@ either_left xs (Size n ∷ parts) are = inr (ap (applied parts) (cases are.0) �
     cases (inl is) = rw is (resized_none xs)
     cases (inr p) = absurd p
 
-pub cut_down : (xs : List ℕ) (old new : Option Disk) → old ≡ Some (certain xs) → Adds old new (Size 0) → IsWholeOrEmpty xs new
-cut_down xs old new is adds = record {
-  disk = after (certain xs) (Size 0);
-  is = adds (certain xs) is;
-  either = λ ys crashed. either_of ys crashed;
-}
-  where
-    either_of : (ys : List ℕ) → Crashed (after (certain xs) (Size 0)) ys → (ys ≡ xs) ⊎ (ys ≡ [])
-    either_of ys crashed = subst (λ (l : List ℕ). (l ≡ xs) ⊎ (l ≡ [])) (sym crashed.are) (either_left xs crashed.parts crashed.of_pending)
-
-pub maybe_cut : (xs : List ℕ) (old new : Option Disk) → old ≡ Some (certain xs) → MayAdd old new (Size 0) → IsWholeOrEmpty xs new
-maybe_cut xs old new is (inl keeps) = record { disk = certain xs; is = keeps (certain xs) is; either = λ ys crashed. inl (certain_only xs ys crashed) }
-maybe_cut xs old new is (inr adds) = cut_down xs old new is adds
-
-pub cut_synced : (xs : List ℕ) (bytes : Option (List ℕ)) (old new : Option Disk) → IsPossible bytes old → IsWholeOrEmpty xs old
-    → MakesCertain bytes old new ⊎ KeepsDisk old new → IsWholeOrEmpty xs new
-cut_synced xs bytes old new possible cut (inl certainly) =
-    let r = readable bytes old cut.disk possible cut.is in record {
-      disk = certain r.xs;
-      is = certainly cut.disk r.xs cut.is r.is;
-      either = λ ys crashed. subst (λ (l : List ℕ). (l ≡ xs) ⊎ (l ≡ [])) (sym (certain_only r.xs ys crashed)) (cut.either r.xs r.possible);
-    }
-cut_synced xs bytes old new possible cut (inr keeps) = record { disk = cut.disk; is = keeps cut.disk cut.is; either = cut.either }
+pub cut_left : (xs ys : List ℕ) → Crashed (after (certain xs) (Size 0 ∷ [])) ys → (ys ≡ xs) ⊎ (ys ≡ [])
+cut_left xs ys crashed = subst (λ (l : List ℕ). (l ≡ xs) ⊎ (l ≡ [])) (sym crashed.are) (either_left xs crashed.parts crashed.of_pending)
 
 resizes : (xs : List ℕ) (n : ℕ) (a b : Option (List ℕ)) → a ≡ Some xs → ResizesTo a b n → b ≡ Some (resized xs n)
 resizes xs n a b is to = cases b (subst (λ (o : Option (List ℕ)). ResizesTo o b n) is to)
@@ -108,41 +161,13 @@ resizes xs n a b is to = cases b (subst (λ (o : Option (List ℕ)). ResizesTo o
     cases (Some ys) r = ap Some r
 
 -- before the cut, after it, and after the sync
-pub cut_certain : (xs : List ℕ) (a b : Option (List ℕ)) (old cut new : Option Disk) → IsPossible a old → old ≡ Some (certain xs) → Adds old cut (Size 0) → ResizesTo a b 0
+pub cut_certain : (xs : List ℕ) (a b : Option (List ℕ)) (old cut new : Option Disk) → IsPossible a old → old ≡ Some (certain xs) → Adds old cut (Size 0 ∷ []) → ResizesTo a b 0
     → MakesCertain b cut new → new ≡ Some (certain [])
 cut_certain xs a b old cut new possible is adds resized certainly =
     let none : b ≡ Some [] = resizes xs 0 a b (readable_certain a old xs possible is) resized ∙ ap Some (resized_none xs) in
-    certainly (after (certain xs) (Size 0)) [] (adds (certain xs) is) none
+    let now = left old cut (certain xs) (Size 0 ∷ []) adds is in certainly now.disk [] now.is none
 
 -- ---- writes that are made
-
-parts_more : (done rest : Writes) (parts : List Change) → AreParts (changes done) parts → AreParts (changes (done ++ rest)) parts
-parts_more done rest [] are = tt
-parts_more done rest (part ∷ parts) are = (one done are.0, parts_more done rest parts are.1)
-  where
-    one : (done : Writes) → IsPartOfOne (changes done) part → IsPartOfOne (changes (done ++ rest)) part
-    one [] p = absurd p
-    one (write ∷ done) (inl p) = inl p
-    one (write ∷ done) (inr p) = inr (one done p)
-
-pub some_written : (writes : Writes) (xs : List ℕ) (old new : Option Disk) → old ≡ Some (certain xs) → AddsSome old new writes → IsWrittenOver writes xs new
-some_written writes xs old new is adds =
-    let some = adds (certain xs) is in record {
-      disk = record { synced = xs; pending = changes some.0 };
-      is = some.3;
-      again = λ ys crashed. subst (λ (l : Writes). after_writes l ys ≡ after_writes l xs) (sym some.2)
-          (ap (after_writes (some.0 ++ some.1)) crashed.are ∙ written_again (some.0 ++ some.1) crashed.parts xs (parts_more some.0 some.1 crashed.parts crashed.of_pending));
-    }
-
-pub over_synced : (writes : Writes) (xs : List ℕ) (bytes : Option (List ℕ)) (old new : Option Disk) → IsPossible bytes old → IsWrittenOver writes xs old
-    → MakesCertain bytes old new ⊎ KeepsDisk old new → IsWrittenOver writes xs new
-over_synced writes xs bytes old new possible over (inl certainly) =
-    let r = readable bytes old over.disk possible over.is in record {
-      disk = certain r.xs;
-      is = certainly over.disk r.xs over.is r.is;
-      again = λ ys crashed. ap (after_writes writes) (certain_only r.xs ys crashed) ∙ over.again r.xs r.possible;
-    }
-over_synced writes xs bytes old new possible over (inr keeps) = record { disk = over.disk; is = keeps over.disk over.is; again = over.again }
 
 pub writes_all : (writes : Writes) (xs : List ℕ) (a b : Option (List ℕ)) → a ≡ Some xs → WritesAll a b writes → b ≡ Some (after_writes writes xs)
 writes_all writes xs a b is all = cases b (subst (λ (o : Option (List ℕ)). WritesAll o b writes) is all)
@@ -152,11 +177,11 @@ writes_all writes xs a b is all = cases b (subst (λ (o : Option (List ℕ)). Wr
     cases (Some ys) w = ap Some w
 
 -- before the writes, after them, and after the sync
-pub written_certain : (writes : Writes) (xs : List ℕ) (a b : Option (List ℕ)) (old over new : Option Disk) → IsPossible a old → old ≡ Some (certain xs) → AddsSome old over writes → WritesAll a b writes
+pub written_certain : (writes : Writes) (xs : List ℕ) (a b : Option (List ℕ)) (old over new : Option Disk) → IsPossible a old → old ≡ Some (certain xs) → Adds old over (changes writes) → WritesAll a b writes
     → MakesCertain b over new → new ≡ Some (certain (after_writes writes xs))
 written_certain writes xs a b old over new possible is adds all certainly =
-    let torn = some_written writes xs old over is adds in
-    certainly torn.disk (after_writes writes xs) torn.is (writes_all writes xs a b (readable_certain a old xs possible is) all)
+    let now = left old over (certain xs) (changes writes) adds is in
+    certainly now.disk (after_writes writes xs) now.is (writes_all writes xs a b (readable_certain a old xs possible is) all)
 
 -- ---- one write after the other
 
@@ -164,27 +189,12 @@ pub written_more : (writes : Writes) (at : ℕ) (bs xs : List ℕ) → after_wri
 written_more [] at bs xs = refl
 written_more (write ∷ writes) at bs xs = written_more writes at bs (overwritten xs write.0 write.1)
 
-pub changes_more : (writes : Writes) (at : ℕ) (bs : List ℕ) → changes (writes ++ (at, bs) ∷ []) ≡ changes writes ++ Write at bs ∷ []
-changes_more [] at bs = refl
-changes_more (write ∷ writes) at bs = ap (λ (l : List Change). Write write.0 write.1 ∷ l) (changes_more writes at bs)
-
 pub all_more_written : (writes : Writes) (at : ℕ) (bs : List ℕ) (a b c : Option (List ℕ)) → WritesAll a b writes → WritesAt b c at bs → WritesAll a c (writes ++ (at, bs) ∷ [])
 all_more_written writes at bs None b c all one = tt
 all_more_written writes at bs (Some xs) None c all one = absurd all
 all_more_written writes at bs (Some xs) (Some ys) None all one = absurd one
 all_more_written writes at bs (Some xs) (Some ys) (Some zs) all one = one ∙ ap (λ (l : List ℕ). overwritten l at bs) all ∙ sym (written_more writes at bs xs)
 
--- these writes are pending, too
-abbrev pub AddsAll : Option Disk → Option Disk → Writes → Type 0
-AddsAll old new writes = (disk : Disk) → old ≡ Some disk → new ≡ Some (record { synced = disk.synced; pending = disk.pending ++ changes writes })
-
-pub one_added : (writes : Writes) (at : ℕ) (bs : List ℕ) (a b c : Option Disk) → AddsAll a b writes → Adds b c (Write at bs) → AddsAll a c (writes ++ (at, bs) ∷ [])
-one_added writes at bs a b c all one disk is =
-    one (record { synced = disk.synced; pending = disk.pending ++ changes writes }) (all disk is)
-    ∙ ap (λ (l : List Change). Some (record { synced = disk.synced; pending = l })) (append_assoc disk.pending (changes writes) (Write at bs ∷ []) ∙ ap (λ (l : List Change). disk.pending ++ l) (sym (changes_more writes at bs)))
-
--- a write that failed: it is pending, or it is not
-pub some_added : (writes rest : Writes) (at : ℕ) (bs : List ℕ) (a b c : Option Disk) → AddsAll a b writes → MayAdd b c (Write at bs) → AddsSome a c ((writes ++ (at, bs) ∷ []) ++ rest)
-some_added writes rest at bs a b c all (inl keeps) disk is =
-    (writes, (at, bs) ∷ rest, append_assoc writes ((at, bs) ∷ []) rest, keeps (record { synced = disk.synced; pending = disk.pending ++ changes writes }) (all disk is))
-some_added writes rest at bs a b c all (inr adds) disk is = (writes ++ (at, bs) ∷ [], rest, refl, one_added writes at bs a b c all adds disk is)
+-- and writes after writes are pending, too
+pub adds_writes : (writes more : Writes) (a b c : Option Disk) → Adds a b (changes writes) → Adds b c (changes more) → Adds a c (changes (writes ++ more))
+adds_writes writes more a b c p q = subst (Adds a c) (sym (map-append (λ (w : ℕ × List ℕ). Write w.0 w.1) writes more)) (adds_more a b c (changes writes) (changes more) p q)

@@ -2,10 +2,9 @@
 use Rattle.std.proofs.Common.{◌≡◌, ℕ, ◌+◌, ◌-◌, ◌≤◌, ◌⊎◌, inl, inr, List, [], ◌∷◌, ◌++◌, None, Some, Option, drop, length, replicate, take, refl, sym, ap, subst, ◌∙◌, arith}
 use Rattle.std.proofs.lemmas.List.{append-nil, drop_all, take_all}
 use Rattle.aegis_storage.specs.Bytes.{WritesAt, overwritten, resized}
-use Rattle.aegis_storage.specs.Calls.{IsAppended, IsWholeOrEmpty}
-use Rattle.aegis_storage.specs.Disk.{Adds, AreParts, Change, Crashed, Disk, IsPartOfOne, IsPossible, KeepsDisk, MakesCertain, MayAdd, Size, Write, after, applied, certain}
+use Rattle.aegis_storage.specs.Disk.{Adds, AreParts, Change, Crashed, Disk, IsPartOfOne, IsPossible, MakesCertain, Size, Write, after, applied, certain}
 use Rattle.aegis_storage.specs.Journal.{HasFront, KeepsFront}
-use Rattle.aegis_storage.proofs.Disks.{certain_only, readable, readable_certain}
+use Rattle.aegis_storage.proofs.Disks.{Left, certain_only, cut_left, left, left_synced, readable, readable_certain}
 use Rattle.aegis_storage.proofs.Overwriting.{kept_part, length-overwritten}
 
 -- ---- bytes that are appended
@@ -42,39 +41,9 @@ follows_parts xs at all (Size n ∷ parts) ys long are is = absurd (none are.0)
 follows_itself : (xs : List ℕ) (n : ℕ) → Follows xs n xs
 follows_itself xs n = record { first = take_all (length xs) xs (omega arith); most = omega arith }
 
-follows_left : (xs : List ℕ) (at : ℕ) (all ys : List ℕ) → length xs ≡ at → Crashed (after (certain xs) (Write at all)) ys → Follows xs (length all) ys
+follows_left : (xs : List ℕ) (at : ℕ) (all ys : List ℕ) → length xs ≡ at → Crashed (after (certain xs) (Write at all ∷ [])) ys → Follows xs (length all) ys
 follows_left xs at all ys long crashed =
     subst (Follows xs (length all)) (sym crashed.are) (follows_parts xs at all crashed.parts xs long crashed.of_pending (follows_itself xs (length all)))
-
-pub appended : (xs : List ℕ) (at : ℕ) (all : List ℕ) (old new : Option Disk) → length xs ≡ at → old ≡ Some (certain xs) → Adds old new (Write at all) → IsAppended xs (length all) new
-appended xs at all old new long is adds = record {
-  disk = after (certain xs) (Write at all);
-  is = adds (certain xs) is;
-  first = λ ys crashed. (follows_left xs at all ys long crashed).first;
-  most = λ ys crashed. (follows_left xs at all ys long crashed).most;
-}
-
-unchanged_is : (xs : List ℕ) (n : ℕ) (state : Option Disk) → state ≡ Some (certain xs) → IsAppended xs n state
-unchanged_is xs n state is = record {
-  disk = certain xs;
-  is = is;
-  first = λ ys crashed. ap (take (length xs)) (certain_only xs ys crashed) ∙ take_all (length xs) xs (omega arith);
-  most = λ ys crashed. omega (arith, ap length (certain_only xs ys crashed));
-}
-
-pub maybe_appended : (xs : List ℕ) (at : ℕ) (all : List ℕ) (old new : Option Disk) → length xs ≡ at → old ≡ Some (certain xs) → MayAdd old new (Write at all) → IsAppended xs (length all) new
-maybe_appended xs at all old new long is (inl keeps) = unchanged_is xs (length all) new (keeps (certain xs) is)
-maybe_appended xs at all old new long is (inr adds) = appended xs at all old new long is adds
-
-pub append_synced : (xs : List ℕ) (n : ℕ) (bytes : Option (List ℕ)) (old new : Option Disk) → IsPossible bytes old → IsAppended xs n old → MakesCertain bytes old new ⊎ KeepsDisk old new → IsAppended xs n new
-append_synced xs n bytes old new possible grown (inl certainly) =
-    let r = readable bytes old grown.disk possible grown.is in record {
-      disk = certain r.xs;
-      is = certainly grown.disk r.xs grown.is r.is;
-      first = λ ys crashed. ap (take (length xs)) (certain_only r.xs ys crashed) ∙ grown.first r.xs r.possible;
-      most = λ ys crashed. let most = grown.most r.xs r.possible in omega (arith, most, ap length (certain_only r.xs ys crashed));
-    }
-append_synced xs n bytes old new possible grown (inr keeps) = record { disk = grown.disk; is = keeps grown.disk grown.is; first = grown.first; most = grown.most }
 
 overwritten_end : (xs : List ℕ) (at : ℕ) (bs : List ℕ) → length xs ≡ at → overwritten xs at bs ≡ xs ++ bs
 overwritten_end xs at bs long =
@@ -85,9 +54,10 @@ overwritten_end xs at bs long =
 
 -- before the write, after it, and after the sync
 pub append_certain : (xs : List ℕ) (at : ℕ) (bs : List ℕ) (a b : Option (List ℕ)) (old over new : Option Disk) → IsPossible a old → length xs ≡ at → old ≡ Some (certain xs) → WritesAt a b at bs
-    → Adds old over (Write at bs) → MakesCertain b over new → new ≡ Some (certain (xs ++ bs))
+    → Adds old over (Write at bs ∷ []) → MakesCertain b over new → new ≡ Some (certain (xs ++ bs))
 append_certain xs at bs a b old over new possible long is wrote adds certainly =
-    certainly (after (certain xs) (Write at bs)) (xs ++ bs) (adds (certain xs) is) (cases b (subst (λ (o : Option (List ℕ)). WritesAt o b at bs) (readable_certain a old xs possible is) wrote))
+    let now = left old over (certain xs) (Write at bs ∷ []) adds is in
+    certainly now.disk (xs ++ bs) now.is (cases b (subst (λ (o : Option (List ℕ)). WritesAt o b at bs) (readable_certain a old xs possible is) wrote))
   where
     cases : (b : Option (List ℕ)) → WritesAt (Some xs) b at bs → b ≡ Some (xs ++ bs)
     cases None w = absurd w
@@ -99,23 +69,27 @@ pub empty_front : (front : List ℕ) (state : Option Disk) → state ≡ Some (c
 empty_front front state is = record { disk = certain []; is = is; has = λ js crashed. inl (let none : length js ≡ 0 = ap length (certain_only [] js crashed) in omega (arith, none)) }
 
 -- while the front is written
-pub front_begins : (front part : List ℕ) (state : Option Disk) → length part ≤ 33 → IsAppended [] (length part) state → KeepsFront front state
-front_begins front part state short grown = record { disk = grown.disk; is = grown.is; has = λ js crashed. inl (let most = grown.most js crashed in omega (arith, most, short)) }
+pub front_begins : (front part : List ℕ) (state : Option Disk) → length part ≤ 33 → Left state (after (certain []) (Write 0 part ∷ [])) → KeepsFront front state
+front_begins front part state short now = record {
+  disk = now.disk;
+  is = now.is;
+  has = λ js crashed. inl (let most = (follows_left [] 0 part js refl (now.within js crashed)).most in omega (arith, most, short));
+}
 
 -- while the rest is written
-pub front_stays : (front xs : List ℕ) (n : ℕ) (state : Option Disk) → xs ≡ front → length front ≡ 33 → IsAppended xs n state → KeepsFront front state
-front_stays front xs n state same long grown = record {
-  disk = grown.disk;
-  is = grown.is;
-  has = λ js crashed. inr (ap (λ (k : ℕ). take k js) (sym (ap length same ∙ long)) ∙ grown.first js crashed ∙ same);
+pub front_stays : (front xs rest : List ℕ) (at : ℕ) (state : Option Disk) → xs ≡ front → length front ≡ 33 → length xs ≡ at → Left state (after (certain xs) (Write at rest ∷ [])) → KeepsFront front state
+front_stays front xs rest at state same long end now = record {
+  disk = now.disk;
+  is = now.is;
+  has = λ js crashed. inr (ap (λ (k : ℕ). take k js) (sym (ap length same ∙ long)) ∙ (follows_left xs at rest js end (now.within js crashed)).first ∙ same);
 }
 
 -- while a journal is certain, and while it is emptied
 pub certain_front : (front bytes : List ℕ) (state : Option Disk) → HasFront front bytes → state ≡ Some (certain bytes) → KeepsFront front state
 certain_front front bytes state has is = record { disk = certain bytes; is = is; has = λ js crashed. subst (HasFront front) (sym (certain_only bytes js crashed)) has }
 
-pub emptied_front : (front bytes : List ℕ) (state : Option Disk) → HasFront front bytes → IsWholeOrEmpty bytes state → KeepsFront front state
-emptied_front front bytes state has cut = record { disk = cut.disk; is = cut.is; has = λ js crashed. cases js (cut.either js crashed) }
+pub emptied_front : (front bytes : List ℕ) (state : Option Disk) → HasFront front bytes → Left state (after (certain bytes) (Size 0 ∷ [])) → KeepsFront front state
+emptied_front front bytes state has cut = record { disk = cut.disk; is = cut.is; has = λ js crashed. cases js (cut_left bytes js (cut.within js crashed)) }
   where
     cases : (js : List ℕ) → (js ≡ bytes) ⊎ (js ≡ []) → HasFront front js
     cases js (inl same) = subst (HasFront front) (sym same) has
@@ -131,10 +105,9 @@ pub synced_front : (front : List ℕ) (bytes : Option (List ℕ)) (old new : Opt
 synced_front front bytes old new possible keeps certainly =
     let r = readable bytes old keeps.disk possible keeps.is in record { bytes = r.xs; is = certainly keeps.disk r.xs keeps.is r.is; has = keeps.has r.xs r.possible }
 
-pub front_synced : (front : List ℕ) (bytes : Option (List ℕ)) (old new : Option Disk) → IsPossible bytes old → KeepsFront front old → MakesCertain bytes old new ⊎ KeepsDisk old new → KeepsFront front new
-front_synced front bytes old new possible keeps (inl certainly) =
-    let s = synced_front front bytes old new possible keeps certainly in certain_front front s.bytes new s.has s.is
-front_synced front bytes old new possible keeps (inr same) = record { disk = keeps.disk; is = same keeps.disk keeps.is; has = keeps.has }
+pub front_synced : (front : List ℕ) (old new : Option Disk) → KeepsFront front old → Adds old new [] → KeepsFront front new
+front_synced front old new keeps adds =
+    let now = left_synced old new keeps.disk adds keeps.is in record { disk = now.disk; is = now.is; has = λ js crashed. keeps.has js (now.within js crashed) }
 
 pub crashed_front : (front : List ℕ) (journal : Disk) (js : List ℕ) → KeepsFront front (Some journal) → Crashed journal js → KeepsFront front (Some (certain js))
 crashed_front front journal js keeps crashed =

@@ -5,12 +5,13 @@ use Rattle.std.proofs.lemmas.Nat.{from_le_bytes-to_le_bytes_8}
 use Rattle.std.specs.Int.{from_le_bytes, to_le_bytes, w64}
 use Rattle.aegis.specs.Records.{AreRecords, sealed}
 use Rattle.aegis.proofs.Sealed.{sealed-is}
-use Rattle.aegis.proofs.Streams.{one_record_stream}
+use Rattle.aegis.proofs.Frames.{one_record_stream}
 use Rattle.aegis_storage.specs.declared.store.TheConstants.{MAX_STORAGE_BYTES}
-use Rattle.aegis_storage.specs.Calls.{GivesFrom, IsWholeOrEmpty, IsWrittenOver}
-use Rattle.aegis_storage.specs.Disk.{Crashed, Disk, IsPossible, KeepsDisk, MakesCertain, Writes, WritesAll, certain, after_writes}
-use Rattle.aegis_storage.specs.Journal.{AreWithin, GivesOneOf, IsAtRest, IsJournal, IsOneOf, IsNoForgery, Recovers, RecoversKnown, place_and_bytes}
-use Rattle.aegis_storage.proofs.Disks.{certain_only, readable, readable_certain}
+use Rattle.aegis_storage.specs.Calls.{GivesFrom}
+use Rattle.aegis_storage.specs.Disk.{Adds, Crashed, Disk, IsPossible, MakesCertain, Size, Writes, WritesAll, after, certain, changes, after_writes}
+use Rattle.aegis_storage.specs.Journal.{AreWithin, GivesOneOf, IsAtRest, IsJournal, IsOneOf, IsNoForgery, RecoversUnlessForged, RecoversKnown, place_and_bytes}
+use Rattle.aegis_storage.proofs.Crashing.{written_again}
+use Rattle.aegis_storage.proofs.Disks.{Left, certain_only, cut_left, left_synced, readable, readable_certain}
 
 -- ---- one list of writes for a journal
 
@@ -69,7 +70,7 @@ by_empty : (key context a b xs : List ℕ) → IsOneOf a b xs → GivesOneOf key
 by_empty key context a b xs one = record { whole = λ writes is. absurd (empty_is_none key context writes is); other = λ not. one }
 
 pub rest_recovers : (key context xs : List ℕ) (writes : Writes) (storage journal : Option Disk) (zs : List ℕ) → IsOneOf xs (after_writes writes xs) zs → IsAtRest storage journal zs
-    → Recovers key context xs writes storage journal
+    → RecoversUnlessForged key context xs writes storage journal
 rest_recovers key context xs writes storage journal zs one rest = record {
   storage_disk = certain zs;
   journal_disk = certain [];
@@ -78,9 +79,12 @@ rest_recovers key context xs writes storage journal zs one rest = record {
   gives = λ ys js p q _. gives_same key context xs (after_writes writes xs) [] js zs ys (certain_only [] js q) (certain_only zs ys p) (by_empty key context xs (after_writes writes xs) zs one);
 }
 
+pub at_rest_recovers : (key context xs : List ℕ) (writes : Writes) (storage journal : Option Disk) → IsAtRest storage journal xs → RecoversUnlessForged key context xs writes storage journal
+at_rest_recovers key context xs writes storage journal rest = rest_recovers key context xs writes storage journal xs (inl refl) rest
+
 -- while the journal is written
 pub torn_journal : (key context : List ℕ) (writes : Writes) (torn : Disk) (storage journal : Option Disk) (xs : List ℕ) → storage ≡ Some (certain xs) → journal ≡ Some torn
-    → Recovers key context xs writes storage journal
+    → RecoversUnlessForged key context xs writes storage journal
 torn_journal key context writes torn storage journal xs storage_is journal_is = record {
   storage_disk = certain xs;
   journal_disk = torn;
@@ -94,15 +98,17 @@ torn_journal key context writes torn storage journal xs storage_is journal_is = 
 
 -- once the journal is certain, and while the writes are made
 pub over_gives : (key context : List ℕ) (writes : Writes) (a b js xs : List ℕ) (state : Option Disk) → IsJournal key context writes js → IsOneOf a b (after_writes writes xs)
-    → IsWrittenOver writes xs state → GivesFrom key context a b js state
+    → Left state (after (certain xs) (changes writes)) → GivesFrom key context a b js state
 over_gives key context writes a b js xs state is one over = record {
   disk = over.disk;
   is = over.is;
-  gives = λ ys p. record {
-    whole = λ found found_is.
-        one_of a b (after_writes writes xs) (after_writes found ys) (ap (λ (l : Writes). after_writes l ys) (one_journal key context found writes js found_is is) ∙ over.again ys p) one;
-    other = λ not. absurd (not writes is);
-  };
+  gives = λ ys p.
+      let crashed = over.within ys p in record {
+        whole = λ found found_is.
+            one_of a b (after_writes writes xs) (after_writes found ys) (ap (λ (l : Writes). after_writes l ys) (one_journal key context found writes js found_is is)
+            ∙ ap (after_writes writes) crashed.are ∙ written_again writes crashed.parts xs crashed.of_pending) one;
+        other = λ not. absurd (not writes is);
+      };
 }
 
 pub certain_gives : (key context a b js xs : List ℕ) (state : Option Disk) → state ≡ Some (certain xs) → GivesOneOf key context a b js xs → GivesFrom key context a b js state
@@ -113,7 +119,7 @@ certain_gives key context a b js xs state is gives = record {
 }
 
 pub middle : (key context xs : List ℕ) (writes : Writes) (js : List ℕ) (storage journal : Option Disk) → GivesFrom key context xs (after_writes writes xs) js storage → journal ≡ Some (certain js)
-    → Recovers key context xs writes storage journal
+    → RecoversUnlessForged key context xs writes storage journal
 middle key context xs writes js storage journal from is = record {
   storage_disk = from.disk;
   journal_disk = certain js;
@@ -124,13 +130,13 @@ middle key context xs writes js storage journal from is = record {
 
 -- while the journal is emptied
 pub finish : (key context xs : List ℕ) (writes : Writes) (js zs : List ℕ) (storage journal : Option Disk) → GivesFrom key context xs (after_writes writes xs) js storage → storage ≡ Some (certain zs)
-    → IsOneOf xs (after_writes writes xs) zs → IsWholeOrEmpty js journal → Recovers key context xs writes storage journal
+    → IsOneOf xs (after_writes writes xs) zs → Left journal (after (certain js) (Size 0 ∷ [])) → RecoversUnlessForged key context xs writes storage journal
 finish key context xs writes js zs storage journal from is one cut = record {
   storage_disk = certain zs;
   journal_disk = cut.disk;
   storage_is = is;
   journal_is = cut.is;
-  gives = λ ys ks p q _. cases ys ks p (cut.either ks q);
+  gives = λ ys ks p q _. cases ys ks p (cut_left js ks (cut.within ks q));
 }
   where
     same_disk : from.disk ≡ certain zs
@@ -142,43 +148,18 @@ finish key context xs writes js zs storage journal from is one cut = record {
 
 -- ---- syncs
 
--- the storage, or the journal, is synced, or not
-pub storage_synced : (key context xs : List ℕ) (writes : Writes) (bytes : Option (List ℕ)) (old new journal : Option Disk) → IsPossible bytes old → Recovers key context xs writes old journal
-    → MakesCertain bytes old new ⊎ KeepsDisk old new → Recovers key context xs writes new journal
-storage_synced key context xs writes bytes old new journal possible recovers (inl certainly) =
-    let r = readable bytes old recovers.storage_disk possible recovers.storage_is in record {
-      storage_disk = certain r.xs;
-      journal_disk = recovers.journal_disk;
-      storage_is = certainly recovers.storage_disk r.xs recovers.storage_is r.is;
-      journal_is = recovers.journal_is;
-      gives = λ ys js p q nf. gives_same key context xs (after_writes writes xs) js js r.xs ys refl (certain_only r.xs ys p) (recovers.gives r.xs js r.possible q nf);
+-- the storage and the journal are synced, or not
+pub synced_recovers : (key context xs : List ℕ) (writes : Writes) (storage storage' journal journal' : Option Disk) → Adds storage storage' [] → Adds journal journal' [] → RecoversUnlessForged key context xs writes storage journal
+    → RecoversUnlessForged key context xs writes storage' journal'
+synced_recovers key context xs writes storage storage' journal journal' p q recovers =
+    let s = left_synced storage storage' recovers.storage_disk p recovers.storage_is in
+    let j = left_synced journal journal' recovers.journal_disk q recovers.journal_is in record {
+      storage_disk = s.disk;
+      journal_disk = j.disk;
+      storage_is = s.is;
+      journal_is = j.is;
+      gives = λ ys js a b. recovers.gives ys js (s.within ys a) (j.within js b);
     }
-storage_synced key context xs writes bytes old new journal possible recovers (inr keeps) = record {
-  storage_disk = recovers.storage_disk;
-  journal_disk = recovers.journal_disk;
-  storage_is = keeps recovers.storage_disk recovers.storage_is;
-  journal_is = recovers.journal_is;
-  gives = recovers.gives;
-}
-
-pub journal_synced : (key context xs : List ℕ) (writes : Writes) (bytes : Option (List ℕ)) (storage old new : Option Disk) → IsPossible bytes old → Recovers key context xs writes storage old
-    → MakesCertain bytes old new ⊎ KeepsDisk old new → Recovers key context xs writes storage new
-journal_synced key context xs writes bytes storage old new possible recovers (inl certainly) =
-    let r = readable bytes old recovers.journal_disk possible recovers.journal_is in record {
-      storage_disk = recovers.storage_disk;
-      journal_disk = certain r.xs;
-      storage_is = recovers.storage_is;
-      journal_is = certainly recovers.journal_disk r.xs recovers.journal_is r.is;
-      gives = λ ys js p q nf. gives_same key context xs (after_writes writes xs) r.xs js ys ys (certain_only r.xs js q) refl
-          (recovers.gives ys r.xs p r.possible (subst (IsNoForgery key context writes) (certain_only r.xs js q) nf));
-    }
-journal_synced key context xs writes bytes storage old new possible recovers (inr keeps) = record {
-  storage_disk = recovers.storage_disk;
-  journal_disk = recovers.journal_disk;
-  storage_is = recovers.storage_is;
-  journal_is = keeps recovers.journal_disk recovers.journal_is;
-  gives = recovers.gives;
-}
 
 -- Both are synced, and the journal was read.
 pub record Settled (key context : List ℕ) (storage journal : Option Disk) (a b js : List ℕ) : Type 0 where
@@ -192,7 +173,7 @@ if_some_is P js bytes is found = subst (λ (o : Option (List ℕ)). IfSome o P) 
 
 -- `a_bytes` are the storage's, and `b_bytes` and `c_bytes` the journal's before and after its sync
 pub settled : (key context xs : List ℕ) (writes : Writes) (a_bytes b_bytes c_bytes : Option (List ℕ)) (storage storage' journal journal' : Option Disk) (read js : List ℕ)
-    → IsPossible a_bytes storage → IsPossible b_bytes journal → IsPossible c_bytes journal' → Recovers key context xs writes storage journal → IfSome b_bytes (IsNoForgery key context writes)
+    → IsPossible a_bytes storage → IsPossible b_bytes journal → IsPossible c_bytes journal' → RecoversUnlessForged key context xs writes storage journal → IfSome b_bytes (IsNoForgery key context writes)
     → MakesCertain a_bytes storage storage' → MakesCertain b_bytes journal journal' → IfSome c_bytes (λ ys. read ≡ ys) → js ≡ read
     → Settled key context storage' journal' xs (after_writes writes xs) js
 settled key context xs writes a_bytes b_bytes c_bytes storage storage' journal journal' read js p q r recovers no_forgery s t found same =
@@ -227,8 +208,8 @@ known_other key context js (Some xs) not = record { whole = λ writes is. absurd
 
 -- ---- a crash
 
-pub crashed_recovers : (key context xs : List ℕ) (writes : Writes) (storage journal : Disk) (ys js : List ℕ) → Recovers key context xs writes (Some storage) (Some journal)
-    → Crashed storage ys → Crashed journal js → Recovers key context xs writes (Some (certain ys)) (Some (certain js))
+pub crashed_recovers : (key context xs : List ℕ) (writes : Writes) (storage journal : Disk) (ys js : List ℕ) → RecoversUnlessForged key context xs writes (Some storage) (Some journal)
+    → Crashed storage ys → Crashed journal js → RecoversUnlessForged key context xs writes (Some (certain ys)) (Some (certain js))
 crashed_recovers key context xs writes storage journal ys js recovers p q =
     let s : storage ≡ recovers.storage_disk = (let is = recovers.storage_is in cc) in
     let j : journal ≡ recovers.journal_disk = (let is = recovers.journal_is in cc) in record {

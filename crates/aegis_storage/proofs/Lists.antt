@@ -6,11 +6,9 @@ use Rattle.std.specs.Vec.{vec_items}
 use Rattle.std.proofs.lemmas.List.{get_or-map, length-map, map-append, take-append-drop, take_more}
 use Rattle.aegis_storage.specs.declared.pending.PendingWrite.{PendingWrite}
 use Rattle.aegis_storage.specs.declared.store.TheConstants.{MAX_STORAGE_BYTES}
-use Rattle.aegis_storage.specs.Bytes.{overwritten}
-use Rattle.aegis_storage.specs.Disk.{Writes, after_writes}
+use Rattle.aegis_storage.specs.Disk.{Writes}
 use Rattle.aegis_storage.specs.Journal.{AreWithin, place_and_bytes}
 use Rattle.aegis_storage.specs.Pending.{writes_of}
-use Rattle.aegis_storage.proofs.Disks.{written_more}
 
 -- a map of one more element
 pub map_taken : {X Y : Type 0} (f : X → Y) (xs : List X) (i : ℕ) (d : X) → i < length xs → map f (take (i + 1) xs) ≡ map f (take i xs) ++ f (get_or xs i d) ∷ []
@@ -50,11 +48,6 @@ no_writes messages i message bs low is same none writes within all =
     let found = message_is writes i within (omega (arith, low, sizes)) in
     let item : bs ≡ get_or (map vec_items messages) i [] = same ∙ ap vec_items is ∙ sym (get_or-map vec_items messages i message [] low) in
     none found.0 found.1 (item ∙ ap (λ (l : List (List ℕ)). get_or l i []) all ∙ found.2)
-
-pub written_taken : {A : Type 0} (writes : List (PendingWrite A)) (i : ℕ) (write : PendingWrite A) (bs xs : List ℕ) → i < length writes → write ≡ get_or writes i write → bs ≡ write.bytes.items
-    → after_writes (writes_of (take (i + 1) writes)) xs ≡ overwritten (after_writes (writes_of (take i writes)) xs) write.place bs
-written_taken writes i write bs xs low is same =
-    ap (λ (l : Writes). after_writes l xs) (writes_taken writes i write bs low is same) ∙ written_more (writes_of (take i writes)) write.place bs xs
 
 pub writes_pushed : {A : Type 0} (writes new : List (PendingWrite A)) (write : PendingWrite A) (at : ℕ) (bs : List ℕ) → new ≡ writes ++ write ∷ [] → write.place ≡ at → write.bytes.items ≡ bs
     → writes_of new ≡ writes_of writes ++ (at, bs) ∷ []

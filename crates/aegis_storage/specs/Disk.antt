@@ -1,5 +1,6 @@
 -- What a storage holds after a crash: what was synced, and of what came since any parts in any order.
-use Rattle.std.specs.Prelude.{◌≡◌, ℕ, ◌+◌, ◌≤◌, ◌⊎◌, List, [], ◌∷◌, ◌++◌, Option, None, Some, ⊤, length}
+use Rattle.std.specs.Prelude.{◌≡◌, ℕ, ◌+◌, ◌≤◌, ◌⊎◌, List, [], ◌∷◌, ◌++◌, Option, None, Some, ⊤, length, map}
+use Rattle.std.proofs.Common.{refl}
 use Rattle.aegis_storage.specs.Bytes.{overwritten, resized}
 
 -- a call that changes the bytes: these bytes are written at a place, or there are to be n of them
@@ -22,8 +23,7 @@ abbrev pub Writes : Type 0
 Writes = List (ℕ × List ℕ)
 
 abbrev pub changes : Writes → List Change
-changes [] = []
-changes (write ∷ writes) = Write write.0 write.1 ∷ changes writes
+changes writes = map (λ write. Write write.0 write.1) writes
 
 -- the bytes after writes, the first of them first: later ones win
 abbrev pub after_writes : Writes → List ℕ → List ℕ
@@ -45,9 +45,9 @@ pub record Disk : Type 0 where
 abbrev pub certain : List ℕ → Disk
 certain xs = record { synced = xs; pending = [] }
 
--- the disk after one more change
-abbrev pub after : Disk → Change → Disk
-after disk change = record { synced = disk.synced; pending = disk.pending ++ change ∷ [] }
+-- the disk after more changes, which are pending, too
+abbrev pub after : Disk → List Change → Disk
+after disk more = record { synced = disk.synced; pending = disk.pending ++ more }
 
 -- ---- crashes
 
@@ -78,20 +78,24 @@ pub record Crashed (disk : Disk) (bytes : List ℕ) : Type 0 where
 
 -- ---- what calls do to a disk that is known
 
-abbrev pub KeepsDisk : Option Disk → Option Disk → Type 0
-KeepsDisk old new = (disk : Disk) → old ≡ Some disk → new ≡ Some disk
+-- Whatever a crash may leave of the first, also after the same further changes, it may leave of the second.
+pub record IsWithin (now disk : Disk) : Type 0 where
+  pub also : (more : List Change) (bytes : List ℕ) → Crashed (after now more) bytes → Crashed (after disk more) bytes
 
--- the change is pending, too
-abbrev pub Adds : Option Disk → Option Disk → Change → Type 0
-Adds old new change = (disk : Disk) → old ≡ Some disk → new ≡ Some (after disk change)
-
--- the change is pending, too, or the disk is as it was
-abbrev pub MayAdd : Option Disk → Option Disk → Change → Type 0
-MayAdd old new change = KeepsDisk old new ⊎ Adds old new change
+-- A crash may leave no more than if these changes were pending, too. So some of them may be certain already, as in a
+-- vector, and some, or all, not made, as after an error.
+abbrev pub Adds : Option Disk → Option Disk → List Change → Type 0
+Adds None new more = ⊤
+Adds (Some disk) None more = ⊥
+Adds (Some disk) (Some now) more = IsWithin now (after disk more)
 
 -- what can be read is certain
 abbrev pub MakesCertain : Option (List ℕ) → Option Disk → Option Disk → Type 0
 MakesCertain bytes old new = (disk : Disk) (xs : List ℕ) → old ≡ Some disk → bytes ≡ Some xs → new ≡ Some (certain xs)
+
+-- certain bytes are left
+pub certain_left : (xs : List ℕ) → Crashed (certain xs) xs
+certain_left xs = record { parts = []; of_pending = tt; are = refl }
 
 -- If the disk is known, so is what can be read, and a crash may leave it.
 abbrev pub IsPossible : Option (List ℕ) → Option Disk → Type 0

@@ -62,7 +62,7 @@ IsNoForgery key context writes bytes = (found : Writes) → IsJournal key contex
 
 -- Whatever a crash now leaves of the storage and of the journal, unless it leaves a forgery, recovery gives xs, or xs
 -- with all the writes over it.
-pub record Recovers (key context xs : List ℕ) (writes : Writes) (storage journal : Option Disk) : Type 0 where
+pub record RecoversUnlessForged (key context xs : List ℕ) (writes : Writes) (storage journal : Option Disk) : Type 0 where
   pub storage_disk : Disk
   pub journal_disk : Disk
   pub storage_is : storage ≡ Some storage_disk

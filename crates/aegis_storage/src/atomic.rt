@@ -2,7 +2,7 @@
 
 ghost use Rattle.std.specs.Prelude.{◌≡◌, ◌<◌, ◌≤◌, [], IfSome, List, OnOk, Some, length, ℕ};
 ghost use Rattle.aegis_storage.specs.Disk.{WritesAll, certain};
-ghost use Rattle.aegis_storage.specs.Journal.{IsAtRest, KeepsFront, Recovers, RestsWritten};
+ghost use Rattle.aegis_storage.specs.Journal.{IsAtRest, KeepsFront, RecoversUnlessForged, RestsWritten};
 ghost use Rattle.aegis_storage.specs.Pending.{writes_of};
 
 use crate::calls::{empty, write_and_sync, write_journal};
@@ -30,7 +30,7 @@ use std::io::ErrorKind;
 /// is not empty, which changes nothing, or `InvalidInput` if a write has more than
 /// [`aegis::record::MAX_MESSAGE_BYTES`] less 8 bytes or the journal would be longer than a record stream may be, or
 /// `OutOfMemory`. Memory is taken for a journal three times over.
-#[tactic(auto, using(crate::proofs::Fronts::empty_front))]
+#[tactic(auto, using(crate::proofs::Fronts::empty_front, crate::proofs::Journals::at_rest_recovers))]
 pub fn commit<S: Storage, J: Storage, A: Allocator + Copy>(
     alloc: A,
     storage: &mut S,
@@ -47,7 +47,7 @@ pub fn commit<S: Storage, J: Storage, A: Allocator + Copy>(
     ensures empty { OnOk result (0 < length writes.now
         → IfSome (J.bytes journal.old) (λ js. length js ≡ 0)) }
     ensures recovers { (xs : List ℕ) → IsAtRest (S.disk storage.old) (J.disk journal.old) xs
-        → Recovers key.now context.now xs (writes_of writes.now)
+        → RecoversUnlessForged key.now context.now xs (writes_of writes.now)
         (S.disk storage.new) (J.disk journal.new) }
     ensures front { J.disk journal.old ≡ Some (certain [])
         → KeepsFront front.now (J.disk journal.new) }

@@ -1,6 +1,7 @@
-//! Writing a part of a slice.
+//! Writing a part of a slice, and arrays of parts.
 
 ghost use Rattle.std.specs.Prelude.{◌≡◌, ◌+◌, ◌-◌, ◌≤◌, ◌++◌, length, replicate, take};
+ghost use Rattle.aegis_base.specs.Chunks.{joined};
 ghost use Rattle.aegis_storage.specs.Bytes.{overwritten};
 
 /// Writes `part` over the bytes from `at` on.
@@ -17,4 +18,18 @@ pub fn clear_from(bytes: &mut [u8], at: usize)
     ensures { bytes.new ≡ take at bytes.old ++ replicate (length bytes.old - at) 0 }
 {
     bytes[at..].fill(0);
+}
+
+/// Returns the parts, one after the other.
+pub fn array_of<const N: usize>(parts: &[&[u8]]) -> [u8; N]
+    requires { length (joined parts.now) ≡ N }
+    ensures { result ≡ joined parts.now }
+{
+    let mut bytes = [0; N];
+    let mut done = 0;
+    for part in parts {
+        put(&mut bytes, done, part);
+        done += part.len();
+    }
+    bytes
 }

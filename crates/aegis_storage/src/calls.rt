@@ -1,9 +1,8 @@
 //! Several calls of a storage in a row.
 
-ghost use Rattle.std.specs.Prelude.{◌≡◌, ◌+◌, ◌≤◌, ◌++◌, [], IfOk, IfSome, List, None, OnErr, OnOk, Option, Some, length, take, ℕ};
+ghost use Rattle.std.specs.Prelude.{◌≡◌, ◌+◌, ◌≤◌, ◌∷◌, ◌++◌, [], IfOk, IfSome, List, None, OnErr, OnOk, Option, Some, length, take, ℕ};
 ghost use Rattle.aegis_storage.specs.Bytes.{ResizesTo};
-ghost use Rattle.aegis_storage.specs.Calls.{AddsSome, IsAppended, IsWholeOrEmpty, IsWrittenOver};
-ghost use Rattle.aegis_storage.specs.Disk.{WritesAll, certain, after_writes};
+ghost use Rattle.aegis_storage.specs.Disk.{Adds, Size, Write, WritesAll, after_writes, certain, changes};
 ghost use Rattle.aegis_storage.specs.Journal.{KeepsFront};
 ghost use Rattle.aegis_storage.specs.Pending.{writes_of};
 
@@ -34,7 +33,8 @@ pub fn write_all<S: Storage, A: Allocator>(
 ) -> io::Result<()>
     ensures written { OnOk result
         (WritesAll (S.bytes storage.old) (S.bytes storage.new) (writes_of writes.now)) }
-    ensures pending { AddsSome (S.disk storage.old) (S.disk storage.new) (writes_of writes.now) }
+    ensures pending { Adds (S.disk storage.old) (S.disk storage.new)
+        (changes (writes_of writes.now)) }
 {
     for write in writes {
         storage.write_at(write.place, &write.bytes)?;
@@ -43,14 +43,15 @@ pub fn write_all<S: Storage, A: Allocator>(
 }
 
 /// Makes the writes, and syncs them.
+#[tactic(auto, using(crate::proofs::Disks::adds_synced))]
 pub fn write_and_sync<S: Storage, A: Allocator>(
     storage: &mut S,
     writes: &[PendingWrite<A>],
 ) -> io::Result<()>
     ensures written { OnOk result
         (WritesAll (S.bytes storage.old) (S.bytes storage.new) (writes_of writes.now)) }
-    ensures torn { (xs : List ℕ) → S.disk storage.old ≡ Some (certain xs)
-        → IsWrittenOver (writes_of writes.now) xs (S.disk storage.new) }
+    ensures pending { Adds (S.disk storage.old) (S.disk storage.new)
+        (changes (writes_of writes.now)) }
     ensures certain { OnOk result ((xs : List ℕ) → S.disk storage.old ≡ Some (certain xs)
         → S.disk storage.new ≡ Some (certain (after_writes (writes_of writes.now) xs))) }
 {
@@ -59,10 +60,10 @@ pub fn write_and_sync<S: Storage, A: Allocator>(
 }
 
 // Writes bytes after the last one, which is in front of place `at`, and syncs them.
+#[tactic(auto, using(crate::proofs::Disks::adds_synced))]
 fn append<J: Storage>(journal: &mut J, at: u64, part: &[u8]) -> io::Result<()>
     requires { at + length part.now ≤ MAX_STORAGE_BYTES }
-    ensures torn { (xs : List ℕ) → J.disk journal.old ≡ Some (certain xs) → length xs ≡ at
-        → IsAppended xs (length part.now) (J.disk journal.new) }
+    ensures pending { Adds (J.disk journal.old) (J.disk journal.new) (Write at part.now ∷ []) }
     ensures certain { OnOk result ((xs : List ℕ) → J.disk journal.old ≡ Some (certain xs)
         → length xs ≡ at → J.disk journal.new ≡ Some (certain (xs ++ part.now))) }
 {
@@ -85,10 +86,10 @@ pub fn write_journal<J: Storage>(journal: &mut J, content: &[u8]) -> io::Result<
 }
 
 /// Empties the journal, and syncs that.
+#[tactic(auto, using(crate::proofs::Disks::adds_synced))]
 pub fn empty<J: Storage>(journal: &mut J) -> io::Result<()>
     ensures emptied { OnOk result (ResizesTo (J.bytes journal.old) (J.bytes journal.new) 0) }
-    ensures torn { (xs : List ℕ) → J.disk journal.old ≡ Some (certain xs)
-        → IsWholeOrEmpty xs (J.disk journal.new) }
+    ensures pending { Adds (J.disk journal.old) (J.disk journal.new) (Size 0 ∷ []) }
     ensures certain { OnOk result ((xs : List ℕ) → J.disk journal.old ≡ Some (certain xs)
         → J.disk journal.new ≡ Some (certain [])) }
 {

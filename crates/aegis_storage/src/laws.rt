@@ -3,9 +3,10 @@
 
 ghost use Rattle.std.specs.Prelude.{◌≡◌, List, Option, Some, ℕ};
 ghost use Rattle.aegis_storage.specs.Disk.{AreParts, Change, Crashed, Disk, Writes, applied, certain, changes, after_writes};
-ghost use Rattle.aegis_storage.specs.Journal.{IsAtRest, KeepsFront, Recovers};
+ghost use Rattle.aegis_storage.specs.Journal.{IsAtRest, KeepsFront, RecoversUnlessForged};
 
 /// After any parts of writes, in any order, all of the writes give what they give without these.
+#[tactic(auto, using(crate::proofs::Crashing::written_again))]
 pub fn written_again()
     ensures { (writes : Writes) (parts : List Change) (xs : List ℕ)
         → AreParts (changes writes) parts
@@ -13,27 +14,31 @@ pub fn written_again()
 {}
 
 /// Certain bytes are all that a crash may leave.
+#[tactic(auto, using(crate::proofs::Disks::certain_only))]
 pub fn certain_bytes()
     ensures { (xs ys : List ℕ) → Crashed (certain xs) ys → ys ≡ xs }
 {}
 
 /// Of a storage and a journal at rest, recovery gives what the storage holds.
+#[tactic(auto, using(crate::proofs::Journals::at_rest_recovers))]
 pub fn recovers_at_rest()
     ensures { (key context xs : List ℕ) (writes : Writes) (storage journal : Option Disk)
-        → IsAtRest storage journal xs → Recovers key context xs writes storage journal }
+        → IsAtRest storage journal xs → RecoversUnlessForged key context xs writes storage journal }
 {}
 
 /// What keeps its front before a crash does so after it.
+#[tactic(auto, using(crate::proofs::Fronts::crashed_front))]
 pub fn front_after_a_crash()
     ensures { (front : List ℕ) (journal : Disk) (js : List ℕ) → KeepsFront front (Some journal)
         → Crashed journal js → KeepsFront front (Some (certain js)) }
 {}
 
 /// What recovers before a crash does so after it.
+#[tactic(auto, using(crate::proofs::Journals::crashed_recovers))]
 pub fn recovers_after_a_crash()
     ensures { (key context xs : List ℕ) (writes : Writes)
         (storage journal : Disk) (ys js : List ℕ)
-        → Recovers key context xs writes (Some storage) (Some journal)
+        → RecoversUnlessForged key context xs writes (Some storage) (Some journal)
         → Crashed storage ys → Crashed journal js
-        → Recovers key context xs writes (Some (certain ys)) (Some (certain js)) }
+        → RecoversUnlessForged key context xs writes (Some (certain ys)) (Some (certain js)) }
 {}

@@ -5,8 +5,9 @@
 //! [`aegis::record`], which seals the journal.
 //!
 //! What a crash may leave is a definition, `Crashed` of `specs/Disk.antt`: the synced bytes, but where a write was to
-//! come since any bytes, and one of the sizes. What is promised of it is `Recovers` of `specs/Journal.antt`, which
-//! names the one premise on AEGIS: that the journal which the crash leaves is no forgery (`IsNoForgery`).
+//! come since any bytes, and one of the sizes. What is promised of it is `RecoversUnlessForged` of
+//! `specs/Journal.antt`. Its one premise on AEGIS is that the journal which the crash leaves is no forgery
+//! (`IsNoForgery`).
 //!
 //! ```
 //! let mut writes = Vec::new(alloc);

@@ -3,7 +3,7 @@
 ghost use Rattle.std.specs.Prelude.{◌≡◌, ◌≤◌, IfSome, List, OnOk, Some, length, ℕ};
 ghost use Rattle.aegis_storage.specs.Calls.{GivesFrom, IsRedone};
 ghost use Rattle.aegis_storage.specs.Disk.{Writes, certain};
-ghost use Rattle.aegis_storage.specs.Journal.{GivesOneOf, IsNoForgery, KeepsFront, Recovers, RecoversKnown, RestsAtEither};
+ghost use Rattle.aegis_storage.specs.Journal.{GivesOneOf, IsNoForgery, KeepsFront, RecoversUnlessForged, RecoversKnown, RestsAtEither};
 
 use crate::calls::{empty, read_all, write_and_sync};
 use crate::journal::journaled_writes;
@@ -14,6 +14,7 @@ use std::alloc::Allocator;
 use std::io;
 
 // Makes the writes of a whole journal again, and syncs them. For any other journal it does nothing.
+#[tactic(auto, using(crate::proofs::Journals::certain_gives))]
 fn redo<S: Storage, A: Allocator + Copy>(
     alloc: A,
     storage: &mut S,
@@ -44,6 +45,7 @@ fn redo<S: Storage, A: Allocator + Copy>(
 ///
 /// With `Ok` both are at rest. After an error, which is that of a call or `OutOfMemory`, nothing is lost: call it
 /// again. Memory is taken for the journal, whatever it holds, and for its writes.
+#[tactic(auto, using(crate::proofs::Fronts::front_synced, crate::proofs::Journals::synced_recovers, crate::proofs::Disks::none_made))]
 pub fn recover<S: Storage, J: Storage, A: Allocator + Copy>(
     alloc: A,
     storage: &mut S,
@@ -56,13 +58,16 @@ pub fn recover<S: Storage, J: Storage, A: Allocator + Copy>(
         (S.bytes storage.old) (S.bytes storage.new)) }
     ensures recovers { (xs : List ℕ) (writes : Writes)
         → IfSome (J.bytes journal.old) (IsNoForgery key.now context.now writes)
-        → Recovers key.now context.now xs writes (S.disk storage.old) (J.disk journal.old)
-        → Recovers key.now context.now xs writes (S.disk storage.new) (J.disk journal.new) }
+        → RecoversUnlessForged key.now context.now xs writes
+        (S.disk storage.old) (J.disk journal.old)
+        → RecoversUnlessForged key.now context.now xs writes
+        (S.disk storage.new) (J.disk journal.new) }
     ensures front { (front : List ℕ) → KeepsFront front (J.disk journal.old)
         → KeepsFront front (J.disk journal.new) }
     ensures at_rest { OnOk result ((xs : List ℕ) (writes : Writes)
         → IfSome (J.bytes journal.old) (IsNoForgery key.now context.now writes)
-        → Recovers key.now context.now xs writes (S.disk storage.old) (J.disk journal.old)
+        → RecoversUnlessForged key.now context.now xs writes
+        (S.disk storage.old) (J.disk journal.old)
         → RestsAtEither (S.disk storage.new) (J.disk journal.new) xs writes) }
 {
     // If no power was lost, what can be read may not be synced yet.

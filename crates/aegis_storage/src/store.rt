@@ -1,9 +1,9 @@
 //! Where the bytes of a file are kept.
 
-ghost use Rattle.std.specs.Prelude.{◌≡◌, ◌+◌, ◌≤◌, IfOk, IfSome, List, None, OnErr, OnOk, Option, Some, length, ℕ};
+ghost use Rattle.std.specs.Prelude.{◌≡◌, ◌+◌, ◌≤◌, ◌∷◌, [], IfOk, IfSome, List, None, OnErr, OnOk, Option, Some, length, ℕ};
 ghost use Rattle.std.specs.Io.KnownBytes.{Keeps};
 ghost use Rattle.aegis_storage.specs.Bytes.{ResizesTo, TearsAt, WritesAt, part_at};
-ghost use Rattle.aegis_storage.specs.Disk.{Adds, Disk, IsPossible, KeepsDisk, MakesCertain, MayAdd, Size, Write};
+ghost use Rattle.aegis_storage.specs.Disk.{Adds, Disk, IsPossible, MakesCertain, Size, Write, certain, certain_left};
 
 use crate::bytes::put;
 use std::alloc::Allocator;
@@ -21,7 +21,7 @@ pub const MAX_STORAGE_BYTES: u64 = 9_223_372_036_854_775_807;
 /// others may write the file too. The contracts then say nothing but that each call is safe and returns.
 ///
 /// Its ghost member `disk` is what a crash may leave of the bytes, where that is known: what was synced, and the
-/// changes since. For vectors and files it is `None`.
+/// changes since. A vector is certain of its items, as a disk that writes at once. For files it is `None`.
 pub trait Storage {
     // All the bytes, where they are known.
     ghost bytes: { Self → Option (List ℕ) } = { λ _. None };
@@ -48,8 +48,7 @@ pub trait Storage {
         ensures written { OnOk result (WritesAt (bytes self.old) (bytes self.new) at part.now) }
         ensures torn { OnErr result
             (TearsAt (bytes self.old) (bytes self.new) at (length part.now)) }
-        ensures pending { OnOk result (Adds (disk self.old) (disk self.new) (Write at part.now)) }
-        ensures maybe { OnErr result (MayAdd (disk self.old) (disk self.new) (Write at part.now)) };
+        ensures pending { Adds (disk self.old) (disk self.new) (Write at part.now ∷ []) };
 
     /// Cuts the bytes off at `size`, or fills them up to it with zeros. After an error they are as they were. Until a
     /// sync, a crash may leave the one size or the other, also after an error.
@@ -57,15 +56,14 @@ pub trait Storage {
         requires { size ≤ MAX_STORAGE_BYTES }
         ensures resized { OnOk result (ResizesTo (bytes self.old) (bytes self.new) size) }
         ensures kept { OnErr result (Keeps (bytes self.old) (bytes self.new)) }
-        ensures pending { OnOk result (Adds (disk self.old) (disk self.new) (Size size)) }
-        ensures maybe { OnErr result (MayAdd (disk self.old) (disk self.new) (Size size)) };
+        ensures pending { Adds (disk self.old) (disk self.new) (Size size ∷ []) };
 
     /// Returns once all that was written is where it outlasts a loss of power. After an error none of it is certain to.
     fn sync(&mut self) -> io::Result<()>
         ensures kept { Keeps (bytes self.old) (bytes self.new) }
         ensures certain { OnOk result
             (MakesCertain (bytes self.old) (disk self.old) (disk self.new)) }
-        ensures uncertain { OnErr result (KeepsDisk (disk self.old) (disk self.new)) };
+        ensures pending { Adds (disk self.old) (disk self.new) [] };
 
     /// What can be read is one of the contents that a crash may leave.
     ghost possible: { (storage : Self) → IsPossible (bytes storage) (disk storage) };
@@ -74,7 +72,9 @@ pub trait Storage {
 impl<A: Allocator> Storage for Vec<u8, A> {
     ghost bytes = { λ v. Some v.items };
 
-    ghost possible = { λ _. tt };
+    ghost disk = { λ v. Some (certain v.items) };
+
+    ghost possible = { λ v. certain_left v.items };
 
     fn size(&self) -> io::Result<u64> {
         Ok(self.as_slice().len() as u64)
@@ -90,6 +90,7 @@ impl<A: Allocator> Storage for Vec<u8, A> {
         Ok(())
     }
 
+    #[tactic(auto, using(crate::proofs::Disks::unmade))]
     fn write_at(&mut self, at: u64, part: &[u8]) -> io::Result<()> {
         let start = at as usize;
         let end = start + part.len();
@@ -100,6 +101,7 @@ impl<A: Allocator> Storage for Vec<u8, A> {
         Ok(())
     }
 
+    #[tactic(auto, using(crate::proofs::Disks::unmade, crate::proofs::Disks::made))]
     fn set_size(&mut self, size: u64) -> io::Result<()> {
         self.resize(size as usize, 0)?;
         Ok(())

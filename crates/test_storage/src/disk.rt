@@ -85,12 +85,14 @@ impl Storage for TestDisk {
         Storage::read_at(&self.current()?, at, out)
     }
 
+    #[tactic(auto, using(crate::proofs::Changes::same))]
     fn write_at(&mut self, at: u64, part: &[u8]) -> io::Result<()> {
         let write = PendingWrite::new(self.alloc, at, part)?;
         self.pending.push(PendingChange::Write(write))?;
         self.count()
     }
 
+    #[tactic(auto, using(crate::proofs::Changes::same, crate::proofs::Changes::pushed))]
     fn set_size(&mut self, size: u64) -> io::Result<()> {
         self.count()?;
         self.pending.push(PendingChange::Size(NewSize { size }))?;

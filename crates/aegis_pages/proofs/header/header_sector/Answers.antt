@@ -1,46 +1,24 @@
-use Rattle.std.proofs.Common.{◌≡◌, ◌+◌, ◌<◌, ◌^◌, ◌∙◌, ap, arith, length, refl, replicate, sym}
-use Rattle.aegis_storage.specs.Bytes.{overwritten}
+use Rattle.std.proofs.Common.{◌≡◌, ◌<◌, ◌^◌, arith, refl, sym}
+use Rattle.std.proofs.lemmas.List.{append-nil}
+use Rattle.aegis_pages.specs.Headers.{header_text}
+use Rattle.aegis_pages.specs.Layouts.{associated_data}
+use Rattle.aegis_pages.specs.declared.layout.TheConstants.{HEADER_NUMBER}
+use Rattle.aegis_pages.proofs.BoxFacts.{moved}
 use Rattle.aegis_pages.proofs.HeaderFacts.{made_nonce, made_sector}
 use Rattle.aegis_pages.proofs.header.header_sector.Goals as goal
 
 pub returns-clause-header : goal.returns-clause-header
 returns-clause-header g c =
-    let n = c.nonce_bytes-text.result in
-    let most = c.nonce_bytes-text.ensures.most in
-    let front : length c.clear.result ≡ 33 = omega arith in
-    let first : length c.put.new.bytes ≡ 512 = omega (arith, c.put.auto.bytes) in
-    let second : length c.put-2.new.bytes ≡ 512 = omega (arith, first, c.put-2.auto.bytes) in
-    let third : length c.put-3.new.bytes ≡ 512 = omega (arith, second, c.put-3.auto.bytes) in
+    let layout = c.args.layout.now in
+    let text : c.array_of-text.result ≡ header_text c.args.counter c.args.len =
+    rw (c.array_of-text.ensures, c.to_le_bytes.ensures, c.to_le_bytes-2.ensures, append-nil) refl in
     let countable : c.args.counter < 2 ^ 64 = omega arith in
-    made_sector c.args.layout.now c.args.counter c.args.len (replicate 512 0) c.put.new.bytes c.put-2.new.bytes c.put-3.new.bytes c.to_le_bytes.result c.to_le_bytes-2.result
-    c.seal_box.new.sealed n (33 + n + 16 + 32)
-    (record {
-      nonce = c.nonce_bytes-text.ensures.value;
-      size = c.clear.ensures.size;
-      within = c.requires;
-      countable = countable;
-      clear_put = c.put.ensures ∙ ap (overwritten (replicate 512 0) 0) c.clear.ensures.clear;
-      clear_long = sym (ap length c.clear.ensures.clear) ∙ front;
-      counter_put = c.put-2.ensures;
-      counter_is = c.to_le_bytes.ensures;
-      len_put = c.put-3.ensures;
-      len_is = c.to_le_bytes-2.ensures;
-      long = first;
-      next_long = second;
-      last_long = third;
-      most = most;
-      end_is = refl;
-      sealed_long = c.seal_box.auto.sealed;
-      opens = c.seal_box.ensures.opens;
-    })
+    made_sector layout c.args.counter c.args.len c.clear.result c.args.nonce.now c.encrypt_in_place-tag.new.mc c.encrypt_in_place-tag.result _ c.array_of.result
+    c.clear.ensures.size c.requires countable c.array_of.ensures c.clear.ensures.clear (omega arith) (omega (arith, c.nonce_bytes.ensures.value, c.nonce_bytes.ensures.key)) (omega arith) (omega arith)
+    (moved g.L.LaneState.VARIANT layout.variant c.array_of-text.result (header_text c.args.counter c.args.len) c.cipher.result.key layout.key c.cipher.result.nonce c.args.nonce.now
+    c.associated_data-ad.result (associated_data layout HEADER_NUMBER) _ _ _ _ (sym c.cipher.ensures.variant) text c.cipher.ensures.key c.cipher.ensures.nonce c.associated_data-ad.ensures refl refl
+    (sym c.encrypt_in_place-tag.ensures))
 
 pub returns-clause-nonce : goal.returns-clause-nonce
 returns-clause-nonce g c =
-    let n = c.nonce_bytes-text.result in
-    let most = c.nonce_bytes-text.ensures.most in
-    let front : length c.clear.result ≡ 33 = omega arith in
-    let first : length c.put.new.bytes ≡ 512 = omega (arith, c.put.auto.bytes) in
-    let second : length c.put-2.new.bytes ≡ 512 = omega (arith, first, c.put-2.auto.bytes) in
-    let third : length c.put-3.new.bytes ≡ 512 = omega (arith, second, c.put-3.auto.bytes) in
-    made_nonce c.args.layout.now c.put-3.new.bytes c.seal_box.new.sealed c.args.nonce.now n (33 + n + 16 + 32) c.nonce_bytes-text.ensures.value most third refl c.seal_box.auto.sealed
-    c.seal_box.ensures.nonce
+    made_nonce c.args.layout.now c.clear.result c.args.nonce.now _ c.array_of.result c.array_of.ensures (omega arith) (omega (arith, c.nonce_bytes.ensures.value, c.nonce_bytes.ensures.key))

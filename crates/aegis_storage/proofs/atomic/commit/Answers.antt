@@ -1,20 +1,14 @@
-use Rattle.std.proofs.Common.{◌≡◌, ◌++◌, ◌∙◌, arith, inl, inr, refl, ap, length, take, List, ℕ}
+use Rattle.std.proofs.Common.{◌≡◌, ◌++◌, ◌∙◌, arith, inr, refl, ap, length, take, List, ℕ}
 use Rattle.std.proofs.lemmas.List.{take_at}
 use Rattle.aegis_storage.specs.Journal.{IsJournal}
 use Rattle.aegis_storage.specs.Pending.{writes_of}
-use Rattle.aegis_storage.proofs.Disks.{on_ok_map}
+use Rattle.aegis_storage.proofs.Disks.{left, on_ok_map}
 use Rattle.aegis_storage.proofs.Fronts.{emptied_front}
-use Rattle.aegis_storage.proofs.Journals.{finish, middle, over_gives, rest_recovers, torn_journal}
+use Rattle.aegis_storage.proofs.Journals.{finish, middle, over_gives, torn_journal}
 use Rattle.aegis_storage.proofs.atomic.commit.Goals as goal
 
 begins : (front bytes rest : List ℕ) → length front ≡ 33 → bytes ≡ front ++ rest → take 33 bytes ≡ front
 begins front bytes rest long is = ap (take 33) is ∙ take_at front rest 33 long
-
-pub returns-then-is_empty-clause-recovers : goal.returns-then-is_empty-clause-recovers
-returns-then-is_empty-clause-recovers g c xs rest = rest_recovers _ _ xs _ _ _ xs (inl refl) rest
-
-pub returns-in_err-content-clause-recovers : goal.returns-in_err-content-clause-recovers
-returns-in_err-content-clause-recovers g c xs rest = rest_recovers _ _ xs _ _ _ xs (inl refl) rest
 
 pub returns-in_err-write_journal-clause-recovers : goal.returns-in_err-write_journal-clause-recovers
 returns-in_err-write_journal-clause-recovers g c xs rest =
@@ -24,15 +18,15 @@ pub returns-in_err-write_and_sync-clause-recovers : goal.returns-in_err-write_an
 returns-in_err-write_and_sync-clause-recovers g c xs rest =
     let whole : IsJournal c.args.key.now c.args.context.now (writes_of c.args.writes.now) c.deref.result.now = rw c.deref.ensures.value c.in_ok-content.ensures.whole in
     middle _ _ xs _ c.deref.result.now _ _
-    (over_gives _ _ _ xs _ c.deref.result.now xs _ whole (inr refl) (c.write_and_sync.ensures.torn xs rest.storage_is))
+    (over_gives _ _ _ xs _ c.deref.result.now xs _ whole (inr refl) (left _ _ _ _ c.write_and_sync.ensures.pending rest.storage_is))
     (c.in_ok-write_journal.ensures.certain rest.journal_is)
 
 pub returns-clause-recovers : goal.returns-clause-recovers
 returns-clause-recovers g c xs rest =
     let whole : IsJournal c.args.key.now c.args.context.now (writes_of c.args.writes.now) c.deref.result.now = rw c.deref.ensures.value c.in_ok-content.ensures.whole in
     finish _ _ xs _ c.deref.result.now _ _ _
-    (over_gives _ _ _ xs _ c.deref.result.now xs _ whole (inr refl) (c.write_and_sync.ensures.torn xs rest.storage_is))
-    (c.in_ok-write_and_sync.ensures.certain xs rest.storage_is) (inr refl) (c.empty.ensures.torn c.deref.result.now (c.in_ok-write_journal.ensures.certain rest.journal_is))
+    (over_gives _ _ _ xs _ c.deref.result.now xs _ whole (inr refl) (left _ _ _ _ c.write_and_sync.ensures.pending rest.storage_is))
+    (c.in_ok-write_and_sync.ensures.certain xs rest.storage_is) (inr refl) (left _ _ _ _ c.empty.ensures.pending (c.in_ok-write_journal.ensures.certain rest.journal_is))
 
 pub returns-clause-at_rest : goal.returns-clause-at_rest
 returns-clause-at_rest g c =
@@ -44,12 +38,6 @@ returns-clause-at_rest g c =
       };
     })
     c.empty.ensures.certain
-
-pub returns-in_err-size-clause-recovers : goal.returns-in_err-size-clause-recovers
-returns-in_err-size-clause-recovers g c xs rest = rest_recovers _ _ xs _ _ _ xs (inl refl) rest
-
-pub returns-then-branch-ne0-clause-recovers : goal.returns-then-branch-ne0-clause-recovers
-returns-then-branch-ne0-clause-recovers g c xs rest = rest_recovers _ _ xs _ _ _ xs (inl refl) rest
 
 pub returns-in_err-write_journal-clause-front : goal.returns-in_err-write_journal-clause-front
 returns-in_err-write_journal-clause-front g c empty =
@@ -64,4 +52,4 @@ returns-in_err-write_and_sync-clause-front g c empty =
 pub returns-clause-front : goal.returns-clause-front
 returns-clause-front g c empty =
     let front = begins c.args.front.now c.deref.result.now _ (omega arith) (c.deref.ensures.value ∙ c.in_ok-content.ensures.journal) in
-    emptied_front c.args.front.now c.deref.result.now _ (inr front) (c.empty.ensures.torn c.deref.result.now (c.in_ok-write_journal.ensures.certain empty))
+    emptied_front c.args.front.now c.deref.result.now _ (inr front) (left _ _ _ _ c.empty.ensures.pending (c.in_ok-write_journal.ensures.certain empty))

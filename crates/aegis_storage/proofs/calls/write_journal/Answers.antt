@@ -1,7 +1,7 @@
 use Rattle.std.proofs.Common.{◌≡◌, ◌∙◌, ◌++◌, [], Some, ap, arith, drop, length, refl, take, List, ℕ}
 use Rattle.std.proofs.lemmas.List.{length-take, take-append-drop}
 use Rattle.aegis_storage.specs.Disk.{certain}
-use Rattle.aegis_storage.proofs.Disks.{on_ok_map}
+use Rattle.aegis_storage.proofs.Disks.{left, on_ok_map}
 use Rattle.aegis_storage.proofs.Fronts.{front_begins, front_stays}
 use Rattle.aegis_storage.proofs.calls.write_journal.Goals as goal
 
@@ -10,14 +10,14 @@ joined xs ys bytes first rest = rw (first, rest) (take-append-drop 33 bytes)
 
 pub returns-in_err-append-clause-torn : goal.returns-in_err-append-clause-torn
 returns-in_err-append-clause-torn g c empty =
-    front_begins _ c.split_at.result.0.now _ (omega (arith, ap length c.split_at.ensures.front, length-take 33 c.args.content.now)) (c.append.ensures.torn [] empty refl)
+    front_begins _ c.split_at.result.0.now _ (omega (arith, ap length c.split_at.ensures.front, length-take 33 c.args.content.now)) (left _ _ _ _ c.append.ensures.pending empty)
 
 pub returns-clause-torn : goal.returns-clause-torn
 returns-clause-torn g c empty =
     let enough = c.requires.front in
     let long : length c.split_at.result.0.now ≡ 33 = omega (arith, ap length c.split_at.ensures.front, length-take 33 c.args.content.now, enough) in
-    front_stays _ c.split_at.result.0.now _ _ c.split_at.ensures.front (omega (arith, long, ap length c.split_at.ensures.front))
-    (c.append-2.ensures.torn c.split_at.result.0.now (c.in_ok-append.ensures.certain [] empty refl) long)
+    front_stays _ c.split_at.result.0.now _ _ _ c.split_at.ensures.front (omega (arith, long, ap length c.split_at.ensures.front)) long
+    (left _ _ _ _ c.append-2.ensures.pending (c.in_ok-append.ensures.certain [] empty refl))
 
 pub returns-clause-certain : goal.returns-clause-certain
 returns-clause-certain g c =

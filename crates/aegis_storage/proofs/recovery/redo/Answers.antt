@@ -1,12 +1,9 @@
 use Rattle.aegis_storage.specs.Disk.{after_writes}
 use Rattle.aegis_storage.specs.Journal.{IsJournal}
 use Rattle.aegis_storage.specs.Pending.{writes_of}
-use Rattle.aegis_storage.proofs.Disks.{on_ok_map}
-use Rattle.aegis_storage.proofs.Journals.{certain_gives, known_other, known_whole, over_gives}
+use Rattle.aegis_storage.proofs.Disks.{left, on_ok_map}
+use Rattle.aegis_storage.proofs.Journals.{known_other, known_whole, over_gives}
 use Rattle.aegis_storage.proofs.recovery.redo.Goals as goal
-
-pub returns-in_err-writes-clause-torn : goal.returns-in_err-writes-clause-torn
-returns-in_err-writes-clause-torn g c a b xs is gives = certain_gives _ _ a b _ xs _ is gives
 
 pub returns-in-Some-clause-recovered : goal.returns-in-Some-clause-recovered
 returns-in-Some-clause-recovered g c =
@@ -16,7 +13,7 @@ returns-in-Some-clause-recovered g c =
 pub returns-in-Some-clause-torn : goal.returns-in-Some-clause-torn
 returns-in-Some-clause-torn g c a b xs is gives =
     let whole : IsJournal c.args.key.now c.args.context.now (writes_of c.deref.result.now) c.args.journal.now = rw c.deref.ensures.value (rw c.in-Some.is at c.in_ok-writes.ensures.some) in
-    over_gives _ _ _ a b _ xs _ whole (gives.whole _ whole) (c.write_and_sync.ensures.torn xs is)
+    over_gives _ _ _ a b _ xs _ whole (gives.whole _ whole) (left _ _ _ _ c.write_and_sync.ensures.pending is)
 
 pub returns-in-Some-clause-certain : goal.returns-in-Some-clause-certain
 returns-in-Some-clause-certain g c =
@@ -27,6 +24,3 @@ returns-in-Some-clause-certain g c =
 
 pub returns-in-None-clause-recovered : goal.returns-in-None-clause-recovered
 returns-in-None-clause-recovered g c = known_other _ _ _ _ (rw c.in-None.is at c.in_ok-writes.ensures.none)
-
-pub returns-in-None-clause-torn : goal.returns-in-None-clause-torn
-returns-in-None-clause-torn g c a b xs is gives = certain_gives _ _ a b _ xs _ is gives

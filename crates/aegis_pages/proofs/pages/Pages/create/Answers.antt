@@ -2,7 +2,7 @@ use Rattle.std.proofs.Common.{◌+◌, ◌∙◌, ap, arith, rules, ℕ}
 use Rattle.std.proofs.lemmas.Result.{err_from_is_err_and}
 use Rattle.aegis_pages.specs.Layouts.{IsPageSize}
 use Rattle.aegis_pages.specs.OpenFile.{HasText, IsCommitted}
-use Rattle.aegis_pages.proofs.KnownFacts.{create_begins, known_map}
+use Rattle.aegis_pages.proofs.KnownFacts.{create_begins, if_both, known_map}
 use Rattle.aegis_pages.proofs.OpenFileFacts.{created_has, sealed_empty}
 use Rattle.aegis_pages.proofs.pages.Pages.create.Goals as goal
 
@@ -24,9 +24,9 @@ returns-clause-created g c =
 
 pub returns-clause-certain : goal.returns-clause-certain
 unfolding IsCommitted
-returns-clause-certain g c disk journal_disk storage_is journal_is =
+returns-clause-certain g c = if_both (g.S.Storage.disk c.args.storage) (g.J.Storage.disk c.args.journal) _ (λ disk journal_disk storage_is journal_is.
     let begun = c.in_ok-begin_file.ensures.certain disk storage_is in record {
       bytes = begun.bytes;
       rests = record { storage_is = begun.is; journal_is = c.in_ok-begin_journal.ensures.certain journal_disk journal_is };
       is = sealed_empty c.new-layout.result begun.bytes begun.so;
-    }
+    })

@@ -1,6 +1,8 @@
 use Rattle.std.proofs.Common.{◌+◌, ◌-◌, ◌≤◌, ◌++◌, ◌∙◌, ap, arith, length, refl, replicate, sym, take}
 use Rattle.std.proofs.lemmas.List.{with_items_is}
 use Rattle.aegis_storage.specs.Bytes.{overwritten}
+use Rattle.aegis_storage.specs.Disk.{Write}
+use Rattle.aegis_storage.proofs.Disks.{made}
 use Rattle.aegis_storage.proofs.Overwriting.{overwritten_resized}
 use Rattle.aegis_storage.proofs.store.VecU8Storage.write_at.Goals.{then-end-as_slice+in_ok-resize, else-end-as_slice}
 use Rattle.aegis_storage.proofs.store.VecU8Storage.write_at.Goals as goal
@@ -20,3 +22,6 @@ returns-clause-written g c =
           rw w.self-is (ap (λ xs. overwritten xs at part) longer ∙ overwritten_resized old.items at part short)
       | else-end-as_slice w ↦ rw w.self-is refl
     ]
+
+pub returns-clause-pending : goal.returns-clause-pending
+returns-clause-pending g c = made _ _ (Write c.args.at c.args.part.now) (returns-clause-written g c)

@@ -2,7 +2,7 @@ use Rattle.std.proofs.Common.{◌≡◌, ◌∙◌, List, OnOk, OnErr, Result, O
 use Rattle.aegis_storage.specs.Bytes.{overwritten}
 use Rattle.aegis_storage.specs.Disk.{applied}
 use Rattle.test_storage.specs.Pending.{bytes_of, changes_of}
-use Rattle.test_storage.proofs.Changes.{applied_pushed}
+use Rattle.test_storage.proofs.Changes.{applied_pushed, pushed}
 use Rattle.test_storage.proofs.disk.TestDiskStorage.write_at.Goals as goal
 
 all_ok : {T E P : Type 0} (r : Result T E) → P → OnOk r P
@@ -24,3 +24,7 @@ returns-clause-written c = all_ok c.count.result (is_written c)
 
 pub returns-clause-torn : goal.returns-clause-torn
 returns-clause-torn c = all_err c.count.result (inr (c.args.part.now, omega arith, is_written c))
+
+pub returns-clause-pending : goal.returns-clause-pending
+returns-clause-pending c =
+    rw (c.in_ok-write.ensures.place, c.in_ok-write.ensures.bytes) at (pushed c.args.self.now.synced.items c.args.self.now.pending.items c.push.new.self.items _ c.in_ok-push.ensures.items)
