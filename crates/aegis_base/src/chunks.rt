@@ -19,6 +19,18 @@ pub fn counted(total: u64, more: u64) -> Result<u64, Error>
     Ok(total + more)
 }
 
+/// Returns the length in bytes of a message of `total` bytes after `more` bytes, which the limit has room for.
+#[inline(always)]
+pub fn counted_within(total: u64, more: usize) -> u64
+    requires { total + more ≤ MAX_AEAD_BYTES }
+    ensures { result ≡ total + more }
+{
+    match counted(total, more as u64) {
+        Ok(sum) => sum,
+        Err(_) => unreachable!(),
+    }
+}
+
 /// Returns the length of all chunks together, in bytes, or `None` exactly if it is more than [`MAX_AEAD_BYTES`].
 pub fn chunks_len(chunks: &[&[u8]]) -> Option<u64>
     ensures within { length (joined chunks.now) ≤ MAX_AEAD_BYTES

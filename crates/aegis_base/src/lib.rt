@@ -11,7 +11,7 @@ mod saved;
 mod state;
 mod vectors;
 
-pub use chunks::{chunks_len, counted};
+pub use chunks::{chunks_len, counted, counted_within};
 pub use constants::{C0, C1, bit_lengths};
 pub use error::{Error, MAX_AEAD_BYTES, Tag};
 pub use lane_block::block_in_all_lanes;

@@ -152,7 +152,8 @@ impl<S: LaneState, U, const KEY_BYTES: usize, const TAG_BYTES: usize> Cipher<
             ≡ seal S.VARIANT TAG_BYTES self.key self.nonce (joined ad.now) mc.old }
     {
         let mut run = Run::<S>::begin_with(&self.key, &self.nonce, ad);
-        run.pass(Pass::Seal, mc);
+        let total = mc.len() as u64;
+        run.pass(Pass::Seal, mc, total);
         run.tag()
     }
 
@@ -178,7 +179,8 @@ impl<S: LaneState, U, const KEY_BYTES: usize, const TAG_BYTES: usize> Cipher<
         ensures error { IfErr result (λ e. e ≡ Error.InvalidTag) }
     {
         let mut run = Run::<S>::begin_with(&self.key, &self.nonce, ad);
-        run.pass(Pass::Open, mc);
+        let total = mc.len() as u64;
+        run.pass(Pass::Open, mc, total);
         if run.has_tag(tag) {
             Ok(())
         } else {
@@ -297,7 +299,8 @@ impl<S: LaneState, U, const KEY_BYTES: usize, const TAG_BYTES: usize> Cipher<
         ensures { out.new ≡ keystream S.VARIANT self.key self.nonce (length out.old) }
     {
         out.fill(0);
-        Run::<S>::begin(&self.key, &self.nonce, &[]).pass(Pass::Seal, out);
+        let total = out.len() as u64;
+        Run::<S>::begin(&self.key, &self.nonce, &[]).pass(Pass::Seal, out, total);
     }
 
     /// Xors a message in place with the keystream from its beginning. A second such call restores the message.
@@ -305,7 +308,8 @@ impl<S: LaneState, U, const KEY_BYTES: usize, const TAG_BYTES: usize> Cipher<
         ensures xored { mc.new ≡ xor_keystream S.VARIANT self.key self.nonce mc.old }
         ensures undone { xor_keystream S.VARIANT self.key self.nonce mc.new ≡ mc.old }
     {
-        Run::<S>::begin(&self.key, &self.nonce, &[]).pass(Pass::Keystream, mc);
+        let total = mc.len() as u64;
+        Run::<S>::begin(&self.key, &self.nonce, &[]).pass(Pass::Keystream, mc, total);
     }
 
     /// Returns an encryptor, which seals a message in chunks, with the associated data `ad`.

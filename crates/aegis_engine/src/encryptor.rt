@@ -7,7 +7,7 @@ ghost use Rattle.aegis_base.specs.Run.{Encrypts, Stands, Takes};
 
 use crate::pass::Pass;
 use crate::run::Run;
-use aegis_base::{LaneState, MAX_AEAD_BYTES};
+use aegis_base::{LaneState, MAX_AEAD_BYTES, counted_within};
 use std::fmt;
 use std::marker::Model;
 
@@ -54,7 +54,8 @@ impl<S: LaneState, const TAG_BYTES: usize> Encryptor<S, TAG_BYTES> {
         ensures written { Encrypts S.VARIANT self.old buffer.old buffer.new }
         ensures length { self.new.message_bytes ≡ self.old.message_bytes + length buffer.old }
     {
-        self.run.pass(Pass::Seal, buffer);
+        let total = counted_within(self.run.message_bytes(), buffer.len());
+        self.run.pass(Pass::Seal, buffer, total);
     }
 
     /// Seals the next chunk into `out`, which must be as long as the chunk. The chunk must have at most `remaining`
@@ -66,7 +67,8 @@ impl<S: LaneState, const TAG_BYTES: usize> Encryptor<S, TAG_BYTES> {
         ensures written { Encrypts S.VARIANT self.old plaintext.now out.new }
         ensures length { self.new.message_bytes ≡ self.old.message_bytes + length plaintext.now }
     {
-        self.run.pass_from(Pass::Seal, plaintext, out);
+        let total = counted_within(self.run.message_bytes(), plaintext.len());
+        self.run.pass_from(Pass::Seal, plaintext, out, total);
     }
 
     /// Returns how many more bytes the message may have, of [`MAX_AEAD_BYTES`].

@@ -11,7 +11,7 @@ ghost use Rattle.aegis_base.specs.Run.{Stands, Takes};
 use crate::pass::ZEROS;
 use crate::run::Run;
 use crate::tag::{folded_tag, same_bytes};
-use aegis_base::{Error, LaneState, MAX_AEAD_BYTES};
+use aegis_base::{Error, LaneState, MAX_AEAD_BYTES, counted_within};
 use std::alloc::AllocError;
 use std::fmt;
 use std::marker::Model;
@@ -111,7 +111,7 @@ pub fn mac_at_once<S: LaneState, const TAG_BYTES: usize>(
     ensures { result ≡ mac S.VARIANT TAG_BYTES key.now nonce.now input.now }
 {
     let mut run = Run::<S>::begin(key, nonce, &[]);
-    run.absorb(input);
+    run.absorb(input, input.len() as u64);
     run.mac()
 }
 
@@ -144,7 +144,8 @@ impl<S: LaneState, const KEY_BYTES: usize, const TAG_BYTES: usize> Mac<S, KEY_BY
         ensures taken { Takes S.VARIANT self.old self.new input.now }
         ensures length { self.new.message_bytes ≡ self.old.message_bytes + length input.now }
     {
-        self.run.absorb(input);
+        let total = counted_within(self.run.message_bytes(), input.len());
+        self.run.absorb(input, total);
     }
 
     // Takes in all chunks, in order.

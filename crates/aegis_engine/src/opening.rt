@@ -34,9 +34,9 @@ impl<S: LaneState> Run<S> {
         if chunk.len() > dst.len() - so_far {
             return Err(Error::OutputBufferTooSmall);
         }
-        let _end = counted(self.message_bytes(), chunk.len() as u64)?;
+        let total = counted(self.message_bytes(), chunk.len() as u64)?;
         let part = &mut dst[so_far..so_far + chunk.len()];
-        self.pass_from(Pass::Open, chunk, part);
+        self.pass_from(Pass::Open, chunk, part, total);
         Ok(())
     }
 

@@ -28,10 +28,11 @@ fn piece_len(total: u64, left: usize) -> usize
 
 impl<S: LaneState> Run<S> {
     /// Copies the next bytes of a message from `source` to `out`, which is as long, and processes them there as `pass`
-    /// does.
+    /// does. With them, the message has `total` bytes.
     #[inline(always)]
-    pub fn pass_from(&mut self, pass: Pass, source: &[u8], out: &mut [u8])
-        requires within { self.old.message_bytes + length source.now < 2 ^ 63 }
+    pub fn pass_from(&mut self, pass: Pass, source: &[u8], out: &mut [u8], total: u64)
+        requires counted { total ≡ self.old.message_bytes + length source.now }
+        requires within { total < 2 ^ 63 }
         requires lengths { length source.now ≡ length out.old }
         ensures taken { Takes S.VARIANT self.old self.new (absorbed pass source.now out.new) }
         ensures written { Encrypts S.VARIANT self.old (absorbed pass source.now out.new)
@@ -43,7 +44,7 @@ impl<S: LaneState> Run<S> {
             let end = at + piece_len(self.message_bytes, source.len() - at);
             let part = &mut out[at..end];
             part.copy_from_slice(&source[at..end]);
-            self.pass(pass, part);
+            self.pass(pass, part, total - (source.len() - end) as u64);
             at = end;
         }
     }
@@ -60,7 +61,8 @@ impl<S: LaneState> Run<S> {
         for chunk in chunks {
             let end = at + chunk.len();
             let part = &mut out[at..end];
-            self.pass_from(Pass::Seal, chunk, part);
+            let total = self.message_bytes() + chunk.len() as u64;
+            self.pass_from(Pass::Seal, chunk, part, total);
             at = end;
         }
     }
@@ -87,7 +89,8 @@ impl<S: LaneState> Run<S> {
         for piece in source.chunks(COPY_BYTES) {
             let at = out.len();
             out.extend_from_slice(piece)?;
-            self.pass(pass, &mut out[at..]);
+            let total = self.message_bytes + piece.len() as u64;
+            self.pass(pass, &mut out[at..], total);
         }
         Ok(())
     }

@@ -155,7 +155,8 @@ fn begun<S: LaneState>(key: &[u8], nonce: &[u8], ad: &[&[u8]]) -> (S, u64)
         message_bytes: 0,
     };
     for piece in ad {
-        run.absorb(piece);
+        let total = run.message_bytes() + piece.len() as u64;
+        run.absorb(piece, total);
     }
     (run.padded(), run.message_bytes)
 }
@@ -222,10 +223,11 @@ impl<S: LaneState> Run<S> {
         MAX_AEAD_BYTES - self.message_bytes
     }
 
-    /// Takes in the next bytes of an input that is not encrypted.
+    /// Takes in the next bytes of an input that is not encrypted. With them, it has `total` bytes.
     #[inline(always)]
-    pub fn absorb(&mut self, bytes: &[u8])
-        requires { self.old.message_bytes + length bytes.now < 2 ^ 63 }
+    pub fn absorb(&mut self, bytes: &[u8], total: u64)
+        requires counted { total ≡ self.old.message_bytes + length bytes.now }
+        requires within { total < 2 ^ 63 }
         ensures taken { Takes S.VARIANT self.old self.new bytes.now }
         ensures length { self.new.message_bytes ≡ self.old.message_bytes + length bytes.now }
     {
@@ -233,14 +235,16 @@ impl<S: LaneState> Run<S> {
         let mut block = self.block;
         self.state = absorb_bytes(self.state, &mut block, self.message_bytes, bytes);
         self.block = block;
-        self.message_bytes += bytes.len() as u64;
+        self.message_bytes = total;
     }
 
     /// Processes the next bytes of a message in place: each byte is xored with the keystream, and the lanes take in the
-    /// bytes that `pass` selects.
+    /// bytes that `pass` selects. With them, the message has `total` bytes: the caller has counted them, since a
+    /// message has a limit, and a keystream has none.
     #[inline(always)]
-    pub fn pass(&mut self, pass: Pass, mc: &mut [u8])
-        requires { self.old.message_bytes + length mc.old < 2 ^ 63 }
+    pub fn pass(&mut self, pass: Pass, mc: &mut [u8], total: u64)
+        requires counted { total ≡ self.old.message_bytes + length mc.old }
+        requires within { total < 2 ^ 63 }
         ensures taken { Takes S.VARIANT self.old self.new (absorbed pass mc.old mc.new) }
         ensures written { Encrypts S.VARIANT self.old (absorbed pass mc.old mc.new)
             (sealed pass mc.old mc.new) }
@@ -251,7 +255,7 @@ impl<S: LaneState> Run<S> {
         let mut block = self.block;
         self.state = pass_bytes(self.state, &mut block, self.message_bytes, pass, mc);
         self.block = block;
-        self.message_bytes += mc.len() as u64;
+        self.message_bytes = total;
     }
 
     /// Returns the lanes after all bytes: if a rate block is open, it is taken in, padded with zeros.

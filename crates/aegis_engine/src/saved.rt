@@ -18,7 +18,7 @@ use crate::pass::{Pass, RateBlock, ZEROS};
 use crate::pieces::COPY_BYTES;
 use crate::run::{Run, absorb_bytes, pass_bytes};
 use crate::tag::same_bytes;
-use aegis_base::{LaneState, MAX_AEAD_BYTES, SavedLanes, SavedRows};
+use aegis_base::{LaneState, MAX_AEAD_BYTES, SavedLanes, SavedRows, counted_within};
 
 /// The mark of a run from its beginning to its end. Other bytes are unlikely to have it by chance.
 pub const BEGUN: u64 = 0x6165_6769_732d_7275;
@@ -135,7 +135,7 @@ impl SavedRun {
     {
         let state = self.lanes::<S>();
         let state = pass_bytes(state, &mut self.block, self.message_bytes, pass, mc);
-        self.message_bytes += mc.len() as u64;
+        self.message_bytes = counted_within(self.message_bytes, mc.len());
         self.keep(state);
     }
 
@@ -198,7 +198,7 @@ impl SavedRun {
     {
         let state = self.lanes::<S>();
         let state = absorb_bytes(state, &mut self.block, self.message_bytes, input);
-        self.message_bytes += input.len() as u64;
+        self.message_bytes = counted_within(self.message_bytes, input.len());
         self.keep(state);
     }
 

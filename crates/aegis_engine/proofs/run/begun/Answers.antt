@@ -19,10 +19,15 @@ loop-piece-init g c =
           g.met.S.LaneState.one_two_or_four c.new.ensures.updates c.new.ensures.lanes;
     }
 
-pub absorb-requires : goal.absorb-requires
-absorb-requires g c =
+pub overflow_add-total : goal.overflow_add-total
+overflow_add-total g c =
     let within = chunk-within c.args.ad.now c.loop-piece.piece-index c.loop-piece-test.true in
-    omega (arith, c.loop-piece.invariant.counted, c.requires.associated_data_within)
+    omega (arith, c.loop-piece.invariant.counted, c.requires.associated_data_within, c.message_bytes.ensures)
+
+pub absorb-requires-clause-within : goal.absorb-requires-clause-within
+absorb-requires-clause-within g c =
+    let within = chunk-within c.args.ad.now c.loop-piece.piece-index c.loop-piece-test.true in
+    omega (arith, c.loop-piece.invariant.counted, c.requires.associated_data_within, c.message_bytes.ensures)
 
 pub loop-piece-preserved : goal.loop-piece-preserved
 loop-piece-preserved g c =

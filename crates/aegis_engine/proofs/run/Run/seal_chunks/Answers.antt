@@ -19,7 +19,7 @@ slice_bounds-part-end g c =
 pub pass_from-requires-clause-within : goal.pass_from-requires-clause-within
 pass_from-requires-clause-within g c =
     let more = chunk-within c.args.chunks.now c.loop-chunk.chunk-index c.loop-chunk-test.true in
-    omega (arith, c.loop-chunk.invariant.at, c.loop-chunk.invariant.counted, c.requires.lengths, c.requires.within)
+    omega (arith, c.loop-chunk.invariant.at, c.loop-chunk.invariant.counted, c.requires.lengths, c.requires.within, c.message_bytes.ensures)
 
 pub loop-chunk-preserved : goal.loop-chunk-preserved
 loop-chunk-preserved g c =
