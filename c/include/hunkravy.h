@@ -195,8 +195,8 @@ HUNKRAVY_MUST_USE int hunkravy_state_decrypt_check(hunkravy_state *st, const uin
 
 /*
  * Verifies that `mac` is the tag of the chunks, and ends the state: it is one of zeros. `m` holds what all the chunks
- * were decrypted to, `mlen` bytes: nothing checks that length. If they are at several places, pass 0 bytes and erase
- * them yourself; if they were only checked, pass 0 bytes.
+ * were decrypted to, `mlen` bytes. If they are at several places, pass 0 bytes and erase them yourself; if they were
+ * only checked, pass 0 bytes. Any other length returns HUNKRAVY_WRONG_MESSAGE_LENGTH.
  *
  * After HUNKRAVY_OK the chunks that were decrypted are the message. After HUNKRAVY_INVALID_TAG the state has ended too,
  * and each of the `mlen` bytes at `m` is 0xaa. After any other code the state is as it was, and the chunks are still
@@ -265,14 +265,16 @@ enum hunkravy_code {
     HUNKRAVY_WRONG_VARIANT = -8,
     /* The context of a record stream has more than HUNKRAVY_RECORD_MAX_CONTEXT_BYTES. */
     HUNKRAVY_CONTEXT_TOO_LONG = -9,
-    /* The header is that of no known version of record streams. */
+    /* The header is not that of a record stream. */
     HUNKRAVY_UNKNOWN_HEADER = -10,
     /* A record has less than HUNKRAVY_RECORD_BYTES. */
     HUNKRAVY_WRONG_RECORD_LENGTH = -11,
     /* The page size is less than HUNKRAVY_PAGE_MIN_SIZE or more than HUNKRAVY_PAGE_MAX_SIZE. */
     HUNKRAVY_WRONG_PAGE_SIZE = -12,
     /* The text of a file has more than HUNKRAVY_PAGE_MAX_TEXT_BYTES, or a page begins after so many. */
-    HUNKRAVY_TEXT_TOO_LONG = -13
+    HUNKRAVY_TEXT_TOO_LONG = -13,
+    /* The message has neither 0 bytes nor as many as were decrypted. */
+    HUNKRAVY_WRONG_MESSAGE_LENGTH = -14
 };
 
 /* Returns what a code means, in English. */

@@ -50,7 +50,11 @@ extern "C" {
 /* How many bytes a text may have. */
 #define HUNKRAVY_PAGE_MAX_TEXT_BYTES (UINT64_C(1) << 60)
 
-/* Returns where a page begins in a file of this variant and page size. */
+/*
+ * Returns where page `number` begins in a file of this variant and page size. Returns UINT64_MAX, where no file has a page,
+ * if no variant has this number, the size is not one that a page may have, or the page would begin after
+ * HUNKRAVY_PAGE_MAX_TEXT_BYTES of the contents.
+ */
 uint64_t hunkravy_page_place(uint32_t variant, uint32_t page_size, uint64_t number);
 
 /*

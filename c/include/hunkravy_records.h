@@ -3,7 +3,7 @@
  * by AEGIS-256 with a tag of 32 bytes. No byte of a message comes out before its tag is verified, and a record opens
  * only at its place in its stream. The last record is marked: a stream is whole only if its last record was opened.
  *
- * The bytes of a stream are a header of 4 bytes and a record for each message, one after the other. A record is a head
+ * The bytes of a stream are a header of 4 bytes, AGR2, and a record for each message, one after the other. A record is a head
  * of 5 bytes, the ciphertext, and the tag. They are the streams of the Rattle library's `aegis::record`, so its limits
  * hold: HUNKRAVY_RECORD_MAX_MESSAGE_BYTES for a message, HUNKRAVY_RECORD_MAX_CONTEXT_BYTES for the context, and
  * HUNKRAVY_MAX_BYTES for the whole stream.
@@ -42,7 +42,7 @@ extern "C" {
  * ended. A stream that has ended is zeros, which each call but a begin refuses. Never seal with two copies of a stream.
  */
 typedef struct hunkravy_record_stream {
-    uint64_t opaque[11];
+    uint64_t opaque[10];
     const uint8_t *context;
     size_t contextlen;
 } hunkravy_record_stream;
@@ -61,6 +61,17 @@ HUNKRAVY_MUST_USE int hunkravy_record_begin(hunkravy_record_stream *st, const ui
  */
 HUNKRAVY_MUST_USE int hunkravy_record_begin_open(hunkravy_record_stream *st, const uint8_t *k,
     const uint8_t *prefix, const uint8_t *context, size_t contextlen, const uint8_t *header);
+
+/*
+ * Begins to open a stream at its record of number `number`, counted from 0, whose earlier records have messages of
+ * `before` bytes together. `st` may hold anything before. A wrong position is not found here: the record then does not
+ * open. Nothing is known of the earlier records, and the stream is whole only if its last record was opened.
+ *
+ * Returns HUNKRAVY_OK, HUNKRAVY_CONTEXT_TOO_LONG, or HUNKRAVY_MESSAGE_TOO_LONG if the record would begin past the limit
+ * of a stream. After any code but HUNKRAVY_OK the stream is zeros.
+ */
+HUNKRAVY_MUST_USE int hunkravy_record_begin_open_at(hunkravy_record_stream *st, const uint8_t *k,
+    const uint8_t *prefix, const uint8_t *context, size_t contextlen, uint64_t number, uint64_t before);
 
 /*
  * Seals the next message, which is not the last one, in place: its `mlen` bytes are at `record +

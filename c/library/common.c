@@ -32,13 +32,15 @@ const char *hunkravy_error_text(int code)
     case HUNKRAVY_CONTEXT_TOO_LONG:
         return "the context of the record stream is too long";
     case HUNKRAVY_UNKNOWN_HEADER:
-        return "the header is that of no known record stream";
+        return "the header is not that of a record stream";
     case HUNKRAVY_WRONG_RECORD_LENGTH:
         return "the record has no room for its head and its tag";
     case HUNKRAVY_WRONG_PAGE_SIZE:
         return "a page has no such size";
     case HUNKRAVY_TEXT_TOO_LONG:
         return "the text of the file is too long";
+    case HUNKRAVY_WRONG_MESSAGE_LENGTH:
+        return "the message has not as many bytes as were decrypted";
     default:
         return "no code of this library";
     }

@@ -70,6 +70,8 @@ int hunkravy_proved_record_begin(uint64_t *st, const uint8_t *k, const uint8_t *
     size_t contextlen, uint8_t *header);
 int hunkravy_proved_record_begin_open(uint64_t *st, const uint8_t *k, const uint8_t *prefix, const uint8_t *context,
     size_t contextlen, const uint8_t *header);
+int hunkravy_proved_record_begin_open_at(uint64_t *st, const uint8_t *k, const uint8_t *prefix, const uint8_t *context,
+    size_t contextlen, uint64_t number, uint64_t before);
 int hunkravy_proved_record_seal(uint64_t *st, const uint8_t *context, size_t contextlen, uint8_t *record,
     size_t recordlen);
 int hunkravy_proved_record_seal_last(uint64_t *st, const uint8_t *context, size_t contextlen, uint8_t *record,

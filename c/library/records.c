@@ -7,7 +7,7 @@
 
 #include <string.h>
 
-typedef char a_record_has_88_bytes_in_a_stream[offsetof(hunkravy_record_stream, context) == 88 ? 1 : -1];
+typedef char a_record_has_80_bytes_in_a_stream[offsetof(hunkravy_record_stream, context) == 80 ? 1 : -1];
 
 /* The length of the record of `mlen` bytes, or one that the proved exports refuse if they are too many. */
 static size_t record_bytes(size_t mlen)
@@ -40,6 +40,14 @@ int hunkravy_record_begin_open(hunkravy_record_stream *st, const uint8_t *k, con
     memset(st, 0, sizeof *st);
     return keep(st, context, contextlen,
         hunkravy_proved_record_begin_open(st->opaque, k, prefix, IN(context, contextlen), header));
+}
+
+int hunkravy_record_begin_open_at(hunkravy_record_stream *st, const uint8_t *k, const uint8_t *prefix,
+    const uint8_t *context, size_t contextlen, uint64_t number, uint64_t before)
+{
+    memset(st, 0, sizeof *st);
+    return keep(st, context, contextlen,
+        hunkravy_proved_record_begin_open_at(st->opaque, k, prefix, IN(context, contextlen), number, before));
 }
 
 int hunkravy_record_seal(hunkravy_record_stream *st, uint8_t *record, size_t mlen)

@@ -415,9 +415,20 @@ static void check_variant(const struct variant *variant)
         check_page(variant, SIZES[i], next_number() % (MOST_TEXT / SIZES[i]));
         HOLDS(hunkravy_page_place(variant->number, SIZES[i], 0) == HUNKRAVY_PAGE_FIRST);
         HOLDS(hunkravy_page_place(variant->number, SIZES[i], 3) == 4096 + 3 * length);
+        HOLDS(hunkravy_page_place(variant->number, SIZES[i], UINT64_C(1) << 32) == 4096 + (length << 32));
+        HOLDS(hunkravy_page_place(variant->number, SIZES[i], MOST_TEXT / SIZES[i]) != UINT64_MAX);
+        HOLDS(hunkravy_page_place(variant->number, SIZES[i], MOST_TEXT / SIZES[i] + 1) == UINT64_MAX);
     }
     check_page_limits(variant);
     check_headers(variant);
+}
+
+static void check_wrong_places(void)
+{
+    HOLDS(hunkravy_page_place(6, HUNKRAVY_PAGE_DEFAULT_SIZE, 0) == UINT64_MAX);
+    HOLDS(hunkravy_page_place(HUNKRAVY_AEGIS256, HUNKRAVY_PAGE_MIN_SIZE - 1, 0) == UINT64_MAX);
+    HOLDS(hunkravy_page_place(HUNKRAVY_AEGIS256, HUNKRAVY_PAGE_MAX_SIZE + 1, 0) == UINT64_MAX);
+    HOLDS(hunkravy_page_place(HUNKRAVY_AEGIS256, HUNKRAVY_PAGE_DEFAULT_SIZE, UINT64_MAX) == UINT64_MAX);
 }
 
 int main(void)

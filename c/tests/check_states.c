@@ -203,7 +203,12 @@ static void check_opening(const struct message *given)
           HUNKRAVY_WRONG_TAG_LENGTH);
     HOLDS(hunkravy_state_decrypt_final(&st, mc, given->length, NULL, 0) ==
           HUNKRAVY_WRONG_TAG_LENGTH);
-    HOLDS(memcmp(&st, &copy, sizeof st) == 0);
+    HOLDS(hunkravy_state_decrypt_final(&st, mc, given->length + 1, given->tag, given->maclen) ==
+          HUNKRAVY_WRONG_MESSAGE_LENGTH);
+    HOLDS(given->length < 2 ||
+          hunkravy_state_decrypt_final(&st, mc, given->length - 1, given->wrong, given->maclen) ==
+              HUNKRAVY_WRONG_MESSAGE_LENGTH);
+    HOLDS(memcmp(&st, &copy, sizeof st) == 0 && memcmp(mc, given->plain, given->length) == 0);
     HOLDS(hunkravy_state_decrypt_final(&st, mc, given->length, given->tag, given->maclen) ==
           HUNKRAVY_OK);
     HOLDS(memcmp(mc, given->plain, given->length) == 0);
@@ -488,8 +493,7 @@ static void check_random_state(const struct variant *calls)
         HOLDS(hunkravy_state_decrypt_in_place_unverified(st, bytes, length) == HUNKRAVY_OK);
         HOLDS(hunkravy_state_decrypt_check(st, bytes, length) == HUNKRAVY_OK);
         fill(tag, sizeof tag);
-        HOLDS(hunkravy_state_decrypt_final(st, bytes, length, tag, 32) == HUNKRAVY_INVALID_TAG);
-        HOLDS(all_are(bytes, length, 0xaa));
+        HOLDS(hunkravy_state_decrypt_final(st, NULL, 0, tag, 32) == HUNKRAVY_INVALID_TAG);
     } else {
         HOLDS(hunkravy_mac_update(st, bytes, length) == HUNKRAVY_OK);
         code = hunkravy_mac_final(st, tag, 32);

@@ -7,8 +7,12 @@ ghost use Rattle.aegis_c_calls.specs.Calls.{DecryptInPlace, EncryptInPlace, Mac,
 ghost use Rattle.aegis_c_calls.specs.Codes.{lengths_code};
 ghost use Rattle.aegis_c_calls.specs.Numbers.{key_bytes_of, variant_of};
 
-use aegis_c_calls::variant::key_bytes;
-use aegis_c_numbers::message;
+use crate::by_variant::by_variant;
+use aegis_128::{State128X1, State128X2, State128X4};
+use aegis_256::{State256X1, State256X2, State256X4};
+use aegis_c_calls::message as calls;
+use aegis_c_calls::refusal::{Refusal, code};
+use aegis_c_calls::variant::*;
 
 /// Returns the length of the variant's keys, and of its nonces, in bytes. Returns 0 if no variant has this number.
 #[unsafe(no_mangle)]
@@ -30,7 +34,11 @@ pub extern "C" fn hunkravy_proved_check_lengths(
 ) -> i32
     ensures { result ≡ lengths_code (variant_of variant) klen npublen mlen adlen maclen }
 {
-    message::check_lengths(variant, npublen, klen, mlen, adlen, maclen)
+    by_variant!(
+        variant,
+        Refusal::WrongVariant,
+        calls::check_lengths::<N>(npublen, klen, mlen, adlen, maclen)
+    )
 }
 
 /// Encrypts `mc` in place, and writes the tag, of 16 or 32 bytes, to `mac`.
@@ -46,7 +54,11 @@ pub extern "C" fn hunkravy_proved_encrypt_in_place(
     ensures { EncryptInPlace (variant_of variant) k.now npub.now ad.now
         mc.old mc.new mac.old mac.new result }
 {
-    message::encrypt_in_place(variant, mc, ad, npub, k, mac)
+    by_variant!(
+        variant,
+        Refusal::WrongVariant,
+        calls::encrypt_in_place::<N>(mc, ad, npub, k, mac)
+    )
 }
 
 /// Decrypts `mc` in place. If `mac` is not its tag, each byte of `mc` is 0xaa, and the code is `INVALID_TAG`.
@@ -62,7 +74,11 @@ pub extern "C" fn hunkravy_proved_decrypt_in_place(
     ensures { DecryptInPlace (variant_of variant) k.now npub.now ad.now
         mc.old mc.new mac.now result }
 {
-    message::decrypt_in_place(variant, mc, ad, npub, k, mac)
+    by_variant!(
+        variant,
+        Refusal::WrongVariant,
+        calls::decrypt_in_place::<N>(mc, ad, npub, k, mac)
+    )
 }
 
 /// Overwrites `out` with keystream.
@@ -70,7 +86,11 @@ pub extern "C" fn hunkravy_proved_decrypt_in_place(
 pub extern "C" fn hunkravy_proved_stream(variant: u32, out: &mut [u8], npub: &[u8], k: &[u8]) -> i32
     ensures { Stream (variant_of variant) k.now npub.now out.old out.new result }
 {
-    message::stream(variant, out, npub, k)
+    by_variant!(
+        variant,
+        Refusal::WrongVariant,
+        calls::stream::<N>(out, npub, k)
+    )
 }
 
 /// Xors `mc` with keystream, in place.
@@ -83,7 +103,11 @@ pub extern "C" fn hunkravy_proved_stream_xor_in_place(
 ) -> i32
     ensures { StreamXorInPlace (variant_of variant) k.now npub.now mc.old mc.new result }
 {
-    message::stream_xor_in_place(variant, mc, npub, k)
+    by_variant!(
+        variant,
+        Refusal::WrongVariant,
+        calls::stream_xor_in_place::<N>(mc, npub, k)
+    )
 }
 
 /// Writes the MAC of `input`, of 16 or 32 bytes, to `out`.
@@ -97,7 +121,11 @@ pub extern "C" fn hunkravy_proved_mac(
 ) -> i32
     ensures { Mac (variant_of variant) k.now npub.now input.now out.old out.new result }
 {
-    message::mac(variant, input, npub, k, out)
+    by_variant!(
+        variant,
+        Refusal::WrongVariant,
+        calls::mac::<N>(input, npub, k, out)
+    )
 }
 
 /// Returns `DONE` if `mac` is the MAC of `input`, and `INVALID_TAG` if it is not.
@@ -111,5 +139,9 @@ pub extern "C" fn hunkravy_proved_mac_verify(
 ) -> i32
     ensures { MacVerify (variant_of variant) k.now npub.now input.now mac.now result }
 {
-    message::mac_verify(variant, input, npub, k, mac)
+    by_variant!(
+        variant,
+        Refusal::WrongVariant,
+        calls::mac_verify::<N>(input, npub, k, mac)
+    )
 }

@@ -6,7 +6,12 @@
 ghost use Rattle.aegis_c_calls.specs.Numbers.{variant_of};
 ghost use Rattle.aegis_c_calls.specs.PageCalls.{PageHeaderOpen, PageHeaderSeal, PageOpen, PageSeal, header_of};
 
-use aegis_c_numbers::page;
+use crate::by_variant::by_variant;
+use aegis_128::{State128X1, State128X2, State128X4};
+use aegis_256::{State256X1, State256X2, State256X4};
+use aegis_c_calls::page as calls;
+use aegis_c_calls::refusal::{Refusal, code};
+use aegis_c_calls::variant::*;
 
 /// Seals the text of a page in place: `page` has as many bytes as a nonce, the text, and 32 bytes.
 #[unsafe(no_mangle)]
@@ -20,7 +25,11 @@ pub extern "C" fn hunkravy_proved_page_seal(
 ) -> i32
     ensures { PageSeal (variant_of variant) k.now id.now npub.now number page.old page.new result }
 {
-    page::page_seal(variant, page, id, number, npub, k)
+    by_variant!(
+        variant,
+        Refusal::WrongVariant,
+        calls::page_seal::<N>(page, id, number, npub, k)
+    )
 }
 
 /// Opens a page in place. If no text is sealed to it at this number, each of its bytes is 0xaa, and the result is
@@ -35,7 +44,11 @@ pub extern "C" fn hunkravy_proved_page_open(
 ) -> i32
     ensures { PageOpen (variant_of variant) k.now id.now number page.old page.new result }
 {
-    page::page_open(variant, page, id, number, k)
+    by_variant!(
+        variant,
+        Refusal::WrongVariant,
+        calls::page_open::<N>(page, id, number, k)
+    )
 }
 
 /// Writes the sector of a header to `sector`.
@@ -53,7 +66,11 @@ pub extern "C" fn hunkravy_proved_page_header_seal(
     ensures { PageHeaderSeal (variant_of variant) k.now id.now npub.now page_bytes counter len
         sector.old sector.new result }
 {
-    page::page_header_seal(variant, sector, page_bytes, id, counter, len, npub, k)
+    by_variant!(
+        variant,
+        Refusal::WrongVariant,
+        calls::page_header_seal::<N>(sector, page_bytes, id, counter, len, npub, k)
+    )
 }
 
 /// Opens the header in `sector`.
@@ -71,5 +88,9 @@ pub extern "C" fn hunkravy_proved_page_header_open(
         (header_of page_bytes.old id.old counter.old len.old)
         (header_of page_bytes.new id.new counter.new len.new) result }
 {
-    page::page_header_open(variant, sector, k, page_bytes, id, counter, len)
+    by_variant!(
+        variant,
+        Refusal::WrongVariant,
+        calls::page_header_open::<N>(sector, k, page_bytes, id, counter, len)
+    )
 }

@@ -3,10 +3,11 @@
 //!
 //! Each returns a code of `aegis_c_calls::refusal`. After a code but that of an invalid tag, nothing has changed.
 
-ghost use Rattle.aegis_c_calls.specs.RecordCalls.{RecordBegin, RecordBeginOpen, RecordLen, RecordOpen, RecordSeal, RecordSealLast};
+ghost use Rattle.aegis_c_calls.specs.RecordCalls.{RecordBegin, RecordBeginOpen, RecordBeginOpenAt, RecordLen, RecordOpen, RecordSeal, RecordSealLast};
 
+use aegis_c_calls::record;
 use aegis_c_calls::record::state::RecordState;
-use aegis_c_numbers::record;
+use aegis_c_calls::refusal::code;
 
 /// Begins to seal a stream at `st`, and writes its header.
 #[unsafe(no_mangle)]
@@ -20,10 +21,10 @@ pub extern "C" fn hunkravy_proved_record_begin(
     ensures { RecordBegin k.now prefix.now context.now st.old st.new
         header.old header.new result }
 {
-    record::begin(st, k, prefix, context, header)
+    code(record::begin(st, k, prefix, context, header))
 }
 
-/// Begins to open the stream of this header at `st`.
+/// Begins to open a stream with this header at `st`.
 #[unsafe(no_mangle)]
 pub extern "C" fn hunkravy_proved_record_begin_open(
     st: &mut RecordState,
@@ -34,7 +35,22 @@ pub extern "C" fn hunkravy_proved_record_begin_open(
 ) -> i32
     ensures { RecordBeginOpen k.now prefix.now context.now st.old st.new header.now result }
 {
-    record::begin_open(st, k, prefix, context, header)
+    code(record::begin_open(st, k, prefix, context, header))
+}
+
+/// Begins to open at `st` a stream at the record of this number, which so many bytes of messages come before.
+#[unsafe(no_mangle)]
+pub extern "C" fn hunkravy_proved_record_begin_open_at(
+    st: &mut RecordState,
+    k: &[u8; 32],
+    prefix: &[u8; 24],
+    context: &[u8],
+    number: u64,
+    before: u64,
+) -> i32
+    ensures { RecordBeginOpenAt k.now prefix.now context.now number before st.old st.new result }
+{
+    code(record::begin_open_at(st, k, prefix, context, number, before))
 }
 
 /// Seals the next message in place: `bytes` has 5 bytes, the message, and 32 bytes.
@@ -46,7 +62,7 @@ pub extern "C" fn hunkravy_proved_record_seal(
 ) -> i32
     ensures { RecordSeal context.now st.old st.new bytes.old bytes.new result }
 {
-    record::seal(st, context, bytes)
+    code(record::seal(st, context, bytes))
 }
 
 /// Seals the last message in place, and ends the stream.
@@ -58,7 +74,7 @@ pub extern "C" fn hunkravy_proved_record_seal_last(
 ) -> i32
     ensures { RecordSealLast context.now st.old st.new bytes.old bytes.new result }
 {
-    record::seal_last(st, context, bytes)
+    code(record::seal_last(st, context, bytes))
 }
 
 /// Finds how many bytes the next record has, from its first five.
@@ -70,7 +86,7 @@ pub extern "C" fn hunkravy_proved_record_len(
 ) -> i32
     ensures { RecordLen st.now head.now record_len.old record_len.new result }
 {
-    record::len(st, head, record_len)
+    code(record::len(st, head, record_len))
 }
 
 /// Opens the next record in place. `is_last` becomes 1 for the last record, which ends the stream, and 0 for another.
@@ -85,5 +101,5 @@ pub extern "C" fn hunkravy_proved_record_open(
     ensures { RecordOpen context.now st.old st.new bytes.old bytes.new is_last.old is_last.new
         result }
 {
-    record::open(st, context, bytes, is_last)
+    code(record::open(st, context, bytes, is_last))
 }

@@ -9,8 +9,45 @@ ghost use Rattle.aegis_c_calls.specs.Calls.{MacFinal, MacFinalVerify, MacInit, M
 ghost use Rattle.aegis_c_calls.specs.Codes.{chunk_code};
 ghost use Rattle.aegis_c_calls.specs.Numbers.{variant_of};
 
-use aegis_c_calls::state::{DECRYPTING, ENCRYPTING, MESSAGE, State};
-use aegis_c_numbers::state;
+use crate::by_variant::by_variant;
+use aegis_128::{State128X1, State128X2, State128X4};
+use aegis_256::{State256X1, State256X2, State256X4};
+use aegis_base::SavedLanes;
+use aegis_c_calls::refusal::{Refusal, code};
+use aegis_c_calls::state as calls;
+use aegis_c_calls::state::{DECRYPTING, ENCRYPTING, MAC, MESSAGE, State};
+use aegis_c_calls::variant::*;
+
+// The calls on a chunk for one variant, each with its code, so that an export branches to it and does nothing after it:
+// a chunk of 64 bytes then takes a twentieth less time.
+
+#[inline(never)]
+fn encrypted<S: SavedLanes>(st: &mut State, mc: &mut [u8]) -> i32
+    ensures { StateEncryptInPlace (Some S.VARIANT) st.old st.new mc.old mc.new result }
+{
+    code(calls::encrypt_in_place::<S>(st, mc))
+}
+
+#[inline(never)]
+fn decrypted<S: SavedLanes>(st: &mut State, mc: &mut [u8]) -> i32
+    ensures { StateDecryptInPlaceUnverified (Some S.VARIANT) st.old st.new mc.old mc.new result }
+{
+    code(calls::decrypt_in_place_unverified::<S>(st, mc))
+}
+
+#[inline(never)]
+fn checked<S: SavedLanes>(st: &mut State, c: &[u8]) -> i32
+    ensures { StateDecryptCheck (Some S.VARIANT) st.old st.new c.now result }
+{
+    code(calls::decrypt_check::<S>(st, c))
+}
+
+#[inline(never)]
+fn updated<S: SavedLanes>(st: &mut State, input: &[u8]) -> i32
+    ensures { MacUpdate (Some S.VARIANT) st.old st.new input.now result }
+{
+    code(calls::mac_update::<S>(st, input))
+}
 
 /// Begins a message of the variant with the associated data `ad` at `st`. Its next call decides whether it is encrypted
 /// or decrypted.
@@ -24,7 +61,11 @@ pub extern "C" fn hunkravy_proved_state_init(
 ) -> i32
     ensures { StateInit (variant_of variant) variant k.now npub.now ad.now st.old st.new result }
 {
-    state::init(variant, st, ad, npub, k)
+    by_variant!(
+        variant,
+        Refusal::WrongVariant,
+        calls::begin::<N>(st, variant, MESSAGE, ad, npub, k)
+    )
 }
 
 /// Returns the code of [`hunkravy_proved_state_encrypt_in_place`] for so many bytes.
@@ -32,7 +73,11 @@ pub extern "C" fn hunkravy_proved_state_init(
 pub extern "C" fn hunkravy_proved_state_may_encrypt(st: &State, mlen: usize) -> i32
     ensures { result ≡ chunk_code (variant_of st.now.variant) st.now MESSAGE ENCRYPTING mlen }
 {
-    state::may_encrypt(st, mlen)
+    by_variant!(
+        st.variant,
+        Refusal::WrongState,
+        calls::may_encrypt(st, mlen)
+    )
 }
 
 /// Returns the code of [`hunkravy_proved_state_decrypt_in_place_unverified`] for so many bytes.
@@ -40,7 +85,11 @@ pub extern "C" fn hunkravy_proved_state_may_encrypt(st: &State, mlen: usize) -> 
 pub extern "C" fn hunkravy_proved_state_may_decrypt(st: &State, clen: usize) -> i32
     ensures { result ≡ chunk_code (variant_of st.now.variant) st.now MESSAGE DECRYPTING clen }
 {
-    state::may_decrypt(st, clen)
+    by_variant!(
+        st.variant,
+        Refusal::WrongState,
+        calls::may_decrypt(st, clen)
+    )
 }
 
 /// Encrypts the next bytes of the message in place.
@@ -48,7 +97,7 @@ pub extern "C" fn hunkravy_proved_state_may_decrypt(st: &State, clen: usize) -> 
 pub extern "C" fn hunkravy_proved_state_encrypt_in_place(st: &mut State, mc: &mut [u8]) -> i32
     ensures { StateEncryptInPlace (variant_of st.old.variant) st.old st.new mc.old mc.new result }
 {
-    state::encrypt_in_place(st, mc)
+    by_variant!(st.variant, Refusal::WrongState, chunk encrypted(st, mc))
 }
 
 /// Writes the tag of the message, of 16 or 32 bytes, to `mac`, and ends the state.
@@ -56,7 +105,11 @@ pub extern "C" fn hunkravy_proved_state_encrypt_in_place(st: &mut State, mc: &mu
 pub extern "C" fn hunkravy_proved_state_encrypt_final(st: &mut State, mac: &mut [u8]) -> i32
     ensures { StateEncryptFinal (variant_of st.old.variant) st.old st.new mac.old mac.new result }
 {
-    state::encrypt_final(st, mac)
+    by_variant!(
+        st.variant,
+        Refusal::WrongState,
+        calls::encrypt_final(st, mac)
+    )
 }
 
 /// Decrypts the next bytes of the ciphertext in place, before the tag is verified.
@@ -68,7 +121,7 @@ pub extern "C" fn hunkravy_proved_state_decrypt_in_place_unverified(
     ensures { StateDecryptInPlaceUnverified (variant_of st.old.variant) st.old st.new
         mc.old mc.new result }
 {
-    state::decrypt_in_place_unverified(st, mc)
+    by_variant!(st.variant, Refusal::WrongState, chunk decrypted(st, mc))
 }
 
 /// Takes in the next bytes of the ciphertext, without writing the message.
@@ -76,7 +129,7 @@ pub extern "C" fn hunkravy_proved_state_decrypt_in_place_unverified(
 pub extern "C" fn hunkravy_proved_state_decrypt_check(st: &mut State, c: &[u8]) -> i32
     ensures { StateDecryptCheck (variant_of st.old.variant) st.old st.new c.now result }
 {
-    state::decrypt_check(st, c)
+    by_variant!(st.variant, Refusal::WrongState, chunk checked(st, c))
 }
 
 /// Returns `DONE` if `mac` is the tag of the message. If it is not, each byte of `m` is 0xaa, and the code is
@@ -90,7 +143,11 @@ pub extern "C" fn hunkravy_proved_state_decrypt_final(
     ensures { StateDecryptFinal (variant_of st.old.variant) st.old st.new
         m.old m.new mac.now result }
 {
-    state::decrypt_final(st, m, mac)
+    by_variant!(
+        st.variant,
+        Refusal::WrongState,
+        calls::decrypt_final(st, m, mac)
+    )
 }
 
 /// Begins a MAC of the variant at `st`.
@@ -103,7 +160,11 @@ pub extern "C" fn hunkravy_proved_mac_init(
 ) -> i32
     ensures { MacInit (variant_of variant) variant k.now npub.now st.old st.new result }
 {
-    state::mac_init(variant, st, npub, k)
+    by_variant!(
+        variant,
+        Refusal::WrongVariant,
+        calls::begin::<N>(st, variant, MAC, &[], npub, k)
+    )
 }
 
 /// Takes in the next bytes of the input of a MAC.
@@ -111,7 +172,7 @@ pub extern "C" fn hunkravy_proved_mac_init(
 pub extern "C" fn hunkravy_proved_mac_update(st: &mut State, input: &[u8]) -> i32
     ensures { MacUpdate (variant_of st.old.variant) st.old st.new input.now result }
 {
-    state::mac_update(st, input)
+    by_variant!(st.variant, Refusal::WrongState, chunk updated(st, input))
 }
 
 /// Writes the MAC of the input so far, of 16 or 32 bytes, to `mac`. The state is unchanged.
@@ -119,7 +180,7 @@ pub extern "C" fn hunkravy_proved_mac_update(st: &mut State, input: &[u8]) -> i3
 pub extern "C" fn hunkravy_proved_mac_final(st: &State, mac: &mut [u8]) -> i32
     ensures { MacFinal (variant_of st.now.variant) st.now mac.old mac.new result }
 {
-    state::mac_final(st, mac)
+    by_variant!(st.variant, Refusal::WrongState, calls::mac_final(st, mac))
 }
 
 /// Returns `DONE` if `mac` is the MAC of the input so far, and `INVALID_TAG` if it is not. The state is unchanged.
@@ -127,5 +188,9 @@ pub extern "C" fn hunkravy_proved_mac_final(st: &State, mac: &mut [u8]) -> i32
 pub extern "C" fn hunkravy_proved_mac_final_verify(st: &State, mac: &[u8]) -> i32
     ensures { MacFinalVerify (variant_of st.now.variant) st.now mac.now result }
 {
-    state::mac_final_verify(st, mac)
+    by_variant!(
+        st.variant,
+        Refusal::WrongState,
+        calls::mac_final_verify(st, mac)
+    )
 }

@@ -7,7 +7,7 @@ use Rattle.aegis_base.specs.Mac.{mac}
 use Rattle.aegis_base.specs.Message.{Opens, ciphertext, keystream, seal, tag as tag_of, xor_keystream}
 use Rattle.aegis_engine.specs.Saved.{HasChecked, HasSealed, HasTaken, IsSaved}
 use Rattle.aegis_engine.specs.declared.cipher.TheConstants.{ERASED}
-use Rattle.aegis_c_calls.specs.Codes.{chunk_code, final_code, lengths_code, mac_code, mac_final_code, message_code, stream_code, variant_code}
+use Rattle.aegis_c_calls.specs.Codes.{chunk_code, final_code, lengths_code, mac_code, mac_final_code, message_code, opened_code, stream_code, variant_code}
 use Rattle.aegis_c_calls.specs.Numbers.{the}
 use Rattle.aegis_c_calls.specs.declared.refusal.TheConstants.{DONE, INVALID_TAG}
 use Rattle.aegis_c_calls.specs.declared.state.State.{State}
@@ -110,11 +110,11 @@ pub record StateEncryptFinal (variant : Option Variant) (old new : State) (tag t
   pub kept : code ≢ DONE → tag' ≡ tag
 
 -- The call returns `DONE` exactly if the message is sealed to its ciphertext and this tag, unless a length or the state
--- is wrong. If no message is, it erases every byte of `opened`. Both end the state; and if a length or the state is
+-- is wrong. If no message is, it erases every byte of `opened`, which has all bytes of the message or none. Both end the state; and if a length or the state is
 -- wrong, it changes nothing.
 pub record StateDecryptFinal (variant : Option Variant) (old new : State) (opened opened' tag : List ℕ) (code : ℤ) : Type 0 where
-  pub answered : code ≢ INVALID_TAG → code ≡ final_code variant old MESSAGE DECRYPTING (length tag)
-  pub lengths : code ≡ INVALID_TAG → final_code variant old MESSAGE DECRYPTING (length tag) ≡ DONE
+  pub answered : code ≢ INVALID_TAG → code ≡ opened_code variant old (length opened) (length tag)
+  pub lengths : code ≡ INVALID_TAG → opened_code variant old (length opened) (length tag) ≡ DONE
   pub right : (key nonce ad m : List ℕ) → code ≡ DONE → IsSaved (the variant) old.run key nonce ad m
       → Opens (the variant) (length tag) key nonce ad (ciphertext (the variant) key nonce ad m) tag m
   pub accepted : (key nonce ad m m' : List ℕ) → IsSaved (the variant) old.run key nonce ad m

@@ -6,10 +6,10 @@ use Rattle.aegis_base.specs.declared.error.TheConstants.{MAX_AEAD_BYTES}
 use Rattle.aegis_engine.specs.declared.saved.SavedRun.{SavedRun}
 use Rattle.aegis_engine.specs.declared.saved.TheConstants.{BEGUN}
 use Rattle.aegis_c_calls.specs.declared.refusal.Refusal.{Refusal}
-use Rattle.aegis_c_calls.specs.declared.refusal.Refusal.TheVariants.{InvalidTag, WrongNonceLength, WrongKeyLength, MessageTooLong, DataTooLong, WrongTagLength, WrongState, WrongVariant, ContextTooLong, UnknownHeader, WrongRecordLength, WrongPageSize, TextTooLong}
-use Rattle.aegis_c_calls.specs.declared.refusal.TheConstants.{DONE, INVALID_TAG, WRONG_NONCE_LENGTH, WRONG_KEY_LENGTH, MESSAGE_TOO_LONG, DATA_TOO_LONG, WRONG_TAG_LENGTH, WRONG_STATE, WRONG_VARIANT, CONTEXT_TOO_LONG, UNKNOWN_HEADER, WRONG_RECORD_LENGTH, WRONG_PAGE_SIZE, TEXT_TOO_LONG}
+use Rattle.aegis_c_calls.specs.declared.refusal.Refusal.TheVariants.{InvalidTag, WrongNonceLength, WrongKeyLength, MessageTooLong, DataTooLong, WrongTagLength, WrongState, WrongVariant, ContextTooLong, UnknownHeader, WrongRecordLength, WrongPageSize, TextTooLong, WrongMessageLength}
+use Rattle.aegis_c_calls.specs.declared.refusal.TheConstants.{DONE, INVALID_TAG, WRONG_NONCE_LENGTH, WRONG_KEY_LENGTH, MESSAGE_TOO_LONG, DATA_TOO_LONG, WRONG_TAG_LENGTH, WRONG_STATE, WRONG_VARIANT, CONTEXT_TOO_LONG, UNKNOWN_HEADER, WRONG_RECORD_LENGTH, WRONG_PAGE_SIZE, TEXT_TOO_LONG, WRONG_MESSAGE_LENGTH}
 use Rattle.aegis_c_calls.specs.declared.state.State.{State}
-use Rattle.aegis_c_calls.specs.declared.state.TheConstants.{MAC}
+use Rattle.aegis_c_calls.specs.declared.state.TheConstants.{DECRYPTING, MAC, MESSAGE}
 
 -- of a refusal
 abbrev pub number_of : Refusal → ℤ
@@ -26,6 +26,7 @@ number_of UnknownHeader = UNKNOWN_HEADER
 number_of WrongRecordLength = WRONG_RECORD_LENGTH
 number_of WrongPageSize = WRONG_PAGE_SIZE
 number_of TextTooLong = TEXT_TOO_LONG
+number_of WrongMessageLength = WRONG_MESSAGE_LENGTH
 
 -- of what a body returns
 abbrev pub code_of : {Y : Type 0} → Result Y Refusal → ℤ
@@ -91,6 +92,11 @@ chunk_code variant st begun role more = state_code variant st begun role (more_c
 -- for a state and the length of the tag at its end
 abbrev pub final_code : Option Variant → State → ℕ → ℕ → ℕ → ℤ
 final_code variant st begun role tag = state_code variant st begun role (tag_code tag)
+
+-- the same for a message that was decrypted, at the end of which there may be no bytes of it, or all
+abbrev pub opened_code : Option Variant → State → ℕ → ℕ → ℤ
+opened_code variant st opened tag =
+    state_code variant st MESSAGE DECRYPTING (if opened == 0 || opened == st.run.message_bytes then tag_code tag else WRONG_MESSAGE_LENGTH)
 
 -- for a state and the length of its MAC; the state of a MAC has no associated data
 abbrev pub mac_final_code : Option Variant → State → ℕ → ℤ

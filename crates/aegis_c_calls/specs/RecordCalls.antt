@@ -6,33 +6,38 @@ use Rattle.aegis.specs.Calls.{message_in, with_message}
 use Rattle.aegis.specs.Fault.{length_at}
 use Rattle.aegis.specs.Progress.{Begun, record_of}
 use Rattle.aegis.specs.Records.{AreRecords}
-use Rattle.aegis.specs.RecordStream.{header, limit}
-use Rattle.aegis.specs.declared.record.version.Version.{Version}
+use Rattle.aegis.specs.RecordStream.{header}
+use Rattle.aegis.specs.declared.record.version.TheConstants.{MAX_MESSAGE_BYTES}
 use Rattle.aegis.specs.declared.record.version.Version.TheVariants.{Second}
 use Rattle.aegis_c_calls.specs.declared.refusal.TheConstants.{DONE, INVALID_TAG, UNKNOWN_HEADER}
-use Rattle.aegis_c_calls.specs.RecordCodes.{context_code, head_code, record_code}
-use Rattle.aegis_c_calls.specs.RecordStates.{after_record, first_of, progress_of, version_of}
+use Rattle.aegis_c_calls.specs.RecordCodes.{context_code, head_code, position_code, record_code}
+use Rattle.aegis_c_calls.specs.RecordStates.{after_record, first_of, next_position, progress_of, state_at}
 use Rattle.aegis_c_calls.specs.declared.record.state.RecordState.{RecordState}
-use Rattle.aegis_c_calls.specs.declared.record.state.TheConstants.{ENDED, OPENING, SEALING, SECOND}
+use Rattle.aegis_c_calls.specs.declared.record.state.TheConstants.{ENDED, OPENING, SEALING}
 
 -- The call begins to seal a stream, and writes its header; or it changes nothing.
 pub record RecordBegin (key prefix context : List ℕ) (old new : RecordState) (bytes bytes' : List ℕ) (code : ℤ) : Type 0 where
   pub answered : code ≡ context_code (length context) DONE
   pub written : code ≡ DONE → bytes' ≡ header Second
-  pub first : code ≡ DONE → new ≡ first_of SEALING SECOND key prefix
+  pub first : code ≡ DONE → new ≡ first_of SEALING key prefix
   pub begun : code ≡ DONE → Begun (progress_of new context) [] bytes'
   pub state_kept : code ≢ DONE → new ≡ old
   pub kept : code ≢ DONE → bytes' ≡ bytes
 
--- The call begins to open a stream with this header, if a version has it; or it changes nothing.
+-- The call begins to open a stream, if this is its header; or it changes nothing.
 pub record RecordBeginOpen (key prefix context : List ℕ) (old new : RecordState) (bytes : List ℕ) (code : ℤ) : Type 0 where
   pub answered : code ≢ UNKNOWN_HEADER → code ≡ context_code (length context) DONE
-  pub known : (v : Version) → bytes ≡ header v → code ≢ UNKNOWN_HEADER
-  pub unknown : ((v : Version) → bytes ≢ header v) → code ≡ UNKNOWN_HEADER
-  pub found : code ≡ DONE → bytes ≡ header (version_of new.version)
-  pub one : code ≡ DONE → (v : Version) → bytes ≡ header v → version_of new.version ≡ v
-  pub first : code ≡ DONE → new ≡ first_of OPENING new.version key prefix
+  pub known : bytes ≡ header Second → code ≢ UNKNOWN_HEADER
+  pub unknown : bytes ≢ header Second → code ≡ UNKNOWN_HEADER
+  pub first : code ≡ DONE → new ≡ first_of OPENING key prefix
   pub begun : code ≡ DONE → Begun (progress_of new context) [] bytes
+  pub state_kept : code ≢ DONE → new ≡ old
+
+-- The call begins to open a stream at the record of this number, which so many bytes of messages come before; or it changes
+-- nothing. Nothing is known of the records before it.
+pub record RecordBeginOpenAt (key prefix context : List ℕ) (number before : ℕ) (old new : RecordState) (code : ℤ) : Type 0 where
+  pub answered : code ≡ context_code (length context) (position_code (next_position (state_at OPENING number before key prefix)))
+  pub at : code ≡ DONE → new ≡ state_at OPENING number before key prefix
   pub state_kept : code ≢ DONE → new ≡ old
 
 -- The call seals the next message where it lies, and the bytes become its record; or it changes nothing.
@@ -53,7 +58,7 @@ pub record RecordSealLast (context : List ℕ) (old new : RecordState) (bytes by
   pub ended : code ≡ DONE → new ≡ ENDED
   pub whole : code ≡ DONE → (ms : List (List ℕ)) (before : List ℕ)
       → Begun (progress_of old context) ms before
-      → AreRecords (version_of old.version) old.key old.prefix context (ms ++ message_in bytes ∷ []) (before ++ bytes')
+      → AreRecords Second old.key old.prefix context (ms ++ message_in bytes ∷ []) (before ++ bytes')
   pub state_kept : code ≢ DONE → new ≡ old
   pub kept : code ≢ DONE → bytes' ≡ bytes
 
@@ -61,7 +66,7 @@ pub record RecordSealLast (context : List ℕ) (old new : RecordState) (bytes by
 pub record RecordLen (st : RecordState) (head : List ℕ) (old new : ℕ) (code : ℤ) : Type 0 where
   pub answered : code ≡ head_code st head
   pub found : code ≡ DONE → new ≡ 37 + length_at (drop 1 head)
-  pub is_length : code ≡ DONE → (context : List ℕ) (flag : ℕ) (m body : List ℕ) → length m ≤ limit (version_of st.version)
+  pub is_length : code ≡ DONE → (context : List ℕ) (flag : ℕ) (m body : List ℕ) → length m ≤ MAX_MESSAGE_BYTES
       → head ++ body ≡ record_of (progress_of st context) flag m → new ≡ length (head ++ body)
   pub kept : code ≢ DONE → new ≡ old
 
@@ -85,7 +90,7 @@ pub record RecordOpen (context : List ℕ) (old new : RecordState) (bytes bytes'
   pub ended : code ≡ DONE → flag' ≡ 1 → new ≡ ENDED
   pub whole : code ≡ DONE → flag' ≡ 1 → (ms : List (List ℕ)) (before : List ℕ)
       → Begun (progress_of old context) ms before
-      → AreRecords (version_of old.version) old.key old.prefix context (ms ++ message_in bytes' ∷ []) (before ++ bytes)
+      → AreRecords Second old.key old.prefix context (ms ++ message_in bytes' ∷ []) (before ++ bytes)
   pub erased : code ≡ INVALID_TAG → bytes' ≡ replicate (length bytes) ERASED
   pub kept : code ≢ DONE → code ≢ INVALID_TAG → bytes' ≡ bytes
   pub state_kept : code ≢ DONE → new ≡ old

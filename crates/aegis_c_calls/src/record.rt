@@ -3,32 +3,29 @@
 //!
 //! C owns the `state` between two calls, and passes the stream's context to each call again. C may pass a state that no
 //! call has begun, or one that it has changed. So `check` looks at its mark and its two numbers, and each call is safe
-//! for any other bytes. `cipher` seals and opens the bytes of a record, and `data` has its associated data and its
-//! nonce.
+//! for any other bytes. `cipher` seals and opens the bytes of a record.
 
 ghost use Rattle.std.specs.Prelude.{◌≡◌, ◌+◌, ◌≤◌};
 ghost use Rattle.aegis_base.specs.declared.error.TheConstants.{MAX_AEAD_BYTES};
 ghost use Rattle.aegis.specs.RecordStream.{start_at};
 ghost use Rattle.aegis_c_calls.specs.Codes.{code_of};
-ghost use Rattle.aegis_c_calls.specs.RecordCalls.{RecordBegin, RecordBeginOpen, RecordLen, RecordOpen, RecordSeal, RecordSealLast};
+ghost use Rattle.aegis_c_calls.specs.RecordCalls.{RecordBegin, RecordBeginOpen, RecordBeginOpenAt, RecordLen, RecordOpen, RecordSeal, RecordSealLast};
 ghost use Rattle.aegis_c_calls.specs.RecordStates.{after_record, first_of, next_position};
 
 use crate::refusal::Refusal;
 use aegis::ERASED;
-use aegis::record::{MAX_CONTEXT_BYTES, RECORD_BYTES, Version};
+use aegis::record::{MAX_CONTEXT_BYTES, MAX_MESSAGE_BYTES, RECORD_BYTES, Version};
 use check::{check_record, check_state};
 use cipher::{open_record, seal_record};
-use data::{number_of, version};
 use state::*;
 
 mod check;
 mod cipher;
-mod data;
 pub mod state;
 
 // Returns a state at the first record of a stream.
-fn first(mark: u64, version: u64, key: &[u8; 32], prefix: &[u8; 24]) -> RecordState
-    ensures { result ≡ first_of mark version key.now prefix.now }
+fn first(mark: u64, key: &[u8; 32], prefix: &[u8; 24]) -> RecordState
+    ensures { result ≡ first_of mark key.now prefix.now }
 {
     RecordState {
         mark,
@@ -36,7 +33,6 @@ fn first(mark: u64, version: u64, key: &[u8; 32], prefix: &[u8; 24]) -> RecordSt
         before: 0,
         key: *key,
         prefix: *prefix,
-        version,
     }
 }
 
@@ -50,7 +46,7 @@ fn advance(st: &mut RecordState, bytes: usize)
     st.before += bytes as u64 - RECORD_BYTES;
 }
 
-/// Begins to seal a stream, in version 2, and writes its header.
+/// Begins to seal a stream, and writes its header.
 pub fn begin(
     st: &mut RecordState,
     key: &[u8; 32],
@@ -65,11 +61,11 @@ pub fn begin(
         return Err(Refusal::ContextTooLong);
     }
     header.copy_from_slice(Version::Second.header());
-    *st = first(SEALING, SECOND, key, prefix);
+    *st = first(SEALING, key, prefix);
     Ok(())
 }
 
-/// Begins to open a stream, of the version that has this header.
+/// Begins to open a stream with this header.
 pub fn begin_open(
     st: &mut RecordState,
     key: &[u8; 32],
@@ -80,13 +76,38 @@ pub fn begin_open(
     ensures { RecordBeginOpen key.now prefix.now context.now st.old st.new header.now
         (code_of result) }
 {
-    let Some(number) = number_of(header) else {
+    if header.as_slice() != Version::Second.header() {
         return Err(Refusal::UnknownHeader);
-    };
+    }
     if context.len() > MAX_CONTEXT_BYTES {
         return Err(Refusal::ContextTooLong);
     }
-    *st = first(OPENING, number, key, prefix);
+    *st = first(OPENING, key, prefix);
+    Ok(())
+}
+
+/// Begins to open a stream at the record of this number, which so many bytes of messages come before.
+pub fn begin_open_at(
+    st: &mut RecordState,
+    key: &[u8; 32],
+    prefix: &[u8; 24],
+    context: &[u8],
+    number: u64,
+    before: u64,
+) -> Result<(), Refusal>
+    ensures { RecordBeginOpenAt key.now prefix.now context.now number before st.old st.new
+        (code_of result) }
+{
+    if context.len() > MAX_CONTEXT_BYTES {
+        return Err(Refusal::ContextTooLong);
+    }
+    let mut begun = first(OPENING, key, prefix);
+    begun.number = number;
+    begun.before = before;
+    if check_state(&begun, OPENING).is_err() {
+        return Err(Refusal::MessageTooLong);
+    }
+    *st = begun;
     Ok(())
 }
 
@@ -120,7 +141,7 @@ pub fn len(st: &RecordState, head: &[u8; 5], bytes: &mut usize) -> Result<(), Re
         return Err(Refusal::InvalidTag);
     }
     let length = u32::from_le_bytes([head[1], head[2], head[3], head[4]]);
-    if length > version(st).limit() {
+    if length as usize > MAX_MESSAGE_BYTES {
         return Err(Refusal::MessageTooLong);
     }
     *bytes = RECORD_BYTES as usize + length as usize;

@@ -33,6 +33,8 @@ pub enum Refusal {
     WrongPageSize,
     /// The text of a file has more than `MAX_TEXT_BYTES` bytes, or a page begins after so many.
     TextTooLong,
+    /// A message has not as many bytes as were decrypted.
+    WrongMessageLength,
 }
 
 /// The code of a call that has succeeded.
@@ -64,6 +66,8 @@ pub const WRONG_PAGE_SIZE: i32 = -12;
 
 pub const TEXT_TOO_LONG: i32 = -13;
 
+pub const WRONG_MESSAGE_LENGTH: i32 = -14;
+
 // Returns the code of a refusal.
 fn number(refusal: Refusal) -> i32
     ensures { result ≡ number_of refusal }
@@ -82,6 +86,7 @@ fn number(refusal: Refusal) -> i32
         Refusal::WrongRecordLength => WRONG_RECORD_LENGTH,
         Refusal::WrongPageSize => WRONG_PAGE_SIZE,
         Refusal::TextTooLong => TEXT_TOO_LONG,
+        Refusal::WrongMessageLength => WRONG_MESSAGE_LENGTH,
     }
 }
 

@@ -171,13 +171,16 @@ pub fn encrypt_final<S: SavedLanes>(st: &mut State, mac: &mut [u8]) -> Result<()
 }
 
 /// Refuses `mac` exactly if it is not the tag of a message that was decrypted; then every byte of `m` is `ERASED`. Both
-/// end the state.
+/// end the state. `m` is the whole message, or empty.
 #[inline(never)]
 pub fn decrypt_final<S: SavedLanes>(st: &mut State, m: &mut [u8], mac: &[u8]) -> Result<(), Refusal>
     ensures { StateDecryptFinal (Some S.VARIANT) st.old st.new m.old m.new mac.now
         (code_of result) }
 {
     check_state(st, MESSAGE, DECRYPTING)?;
+    if m.len() > 0 && m.len() as u64 != st.run.message_bytes {
+        return Err(Refusal::WrongMessageLength);
+    }
     let is_right = if let Some(tag) = mac.as_array() {
         st.run.has_tag::<S, 16>(tag)
     } else if let Some(tag) = mac.as_array() {

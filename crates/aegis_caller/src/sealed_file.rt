@@ -5,6 +5,7 @@ ghost use Rattle.aegis_base.specs.declared.error.TheConstants.{MAX_AEAD_BYTES};
 ghost use Rattle.aegis.specs.RecordStream.{start_at};
 ghost use Rattle.aegis_files.specs.Range.{AreFrom, IsTextFrom, part_of, part_of_text};
 ghost use Rattle.aegis.specs.declared.record.error.RecordError.{RecordError};
+ghost use Rattle.aegis.specs.declared.record.version.Version.TheVariants.{Second};
 ghost use Rattle.aegis_files.specs.SealedFile.{IsFileOf, IsSealedFile};
 
 use aegis::aegis256::Key;
@@ -62,6 +63,7 @@ pub fn open_part<A: Allocator + Copy>(
     records: &[u8],
 ) -> Result<Vec<u8, A>, FileError>
     requires context_within { length context.now ≤ MAX_CONTEXT_BYTES }
+    requires version { range.position.version ≡ Second }
     requires start_within { start_at range.position ≤ MAX_AEAD_BYTES }
     ensures opened { IfOk result (λ part. (flag : ℕ) × (messages : List (List ℕ))
         × (rest : List ℕ) × (0 < length messages)

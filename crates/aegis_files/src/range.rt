@@ -4,6 +4,7 @@ ghost use Rattle.std.specs.Prelude.{◌≡◌, ◌<◌, ◌≤◌, ◌⊎◌, If
 ghost use Rattle.std.specs.Bool.{OnFalse, OnTrue};
 ghost use Rattle.aegis_base.specs.declared.error.TheConstants.{MAX_AEAD_BYTES};
 ghost use Rattle.aegis.specs.RecordStream.{start_at};
+ghost use Rattle.aegis.specs.declared.record.version.Version.TheVariants.{Second};
 ghost use Rattle.aegis_files.specs.Range.{OpensRange, StopsRange};
 
 use crate::error::FileError;
@@ -83,6 +84,7 @@ pub fn open_range<R: Read, W: Write, A: Allocator + Copy>(
     output: &mut W,
 ) -> Result<OpenedRange, FileError>
     requires context_within { length context.now ≤ MAX_CONTEXT_BYTES }
+    requires version { range.position.version ≡ Second }
     requires start_within { start_at range.position ≤ MAX_AEAD_BYTES }
     ensures opened { IfOk result (λ opened. IfSome (R.remaining input.old) (λ stream.
         OpensRange key.now prefix.now context.now range opened stream (R.remaining input.new)

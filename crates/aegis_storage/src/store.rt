@@ -21,7 +21,8 @@ pub const MAX_STORAGE_BYTES: u64 = 9_223_372_036_854_775_807;
 /// others may write the file too. The contracts then say nothing but that each call is safe and returns.
 ///
 /// Its ghost member `disk` is what a crash may leave of the bytes, where that is known: what was synced, and the
-/// changes since. A vector is certain of its items, as a disk that writes at once. For files it is `None`.
+/// changes since. A crash is an event of this model: a vector is certain of its items in the model, as a disk that
+/// writes at once would be, and is still lost when its process ends. For files `disk` is `None`.
 pub trait Storage {
     // All the bytes, where they are known.
     ghost bytes: { Self → Option (List ℕ) } = { λ _. None };
@@ -58,7 +59,8 @@ pub trait Storage {
         ensures kept { OnErr result (Keeps (bytes self.old) (bytes self.new)) }
         ensures pending { Adds (disk self.old) (disk self.new) (Size size ∷ []) };
 
-    /// Returns once all that was written is where it outlasts a loss of power. After an error none of it is certain to.
+    /// Returns once a crash leaves all that was written. For a file the system must ensure that; a vector's contract
+    /// speaks of the model alone. After an error nothing more is certain.
     fn sync(&mut self) -> io::Result<()>
         ensures kept { Keeps (bytes self.old) (bytes self.new) }
         ensures certain { OnOk result

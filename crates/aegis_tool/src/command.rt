@@ -3,7 +3,6 @@
 use crate::shown::Name;
 use clap::{Arg, ArgAction, ArgMatches, Command, value_parser};
 use std::alloc::{AllocError, Global};
-use std::num::NonZeroU64;
 
 /// A file, or standard input or output.
 #[derive(Clone, Copy)]
@@ -48,13 +47,11 @@ pub struct Transfer<'a> {
     pub is_new: bool,
 }
 
-/// The part of a text that is opened.
+/// The part of the contents that is opened: at most `length` bytes, from byte `from` on.
 #[derive(Clone, Copy)]
-pub enum Span {
-    /// So many bytes from a byte on.
-    Bytes { from: u64, length: u64 },
-    /// So many records from a number on.
-    Records { first: u64, count: NonZeroU64 },
+pub struct Span {
+    pub from: u64,
+    pub length: u64,
 }
 
 /// The action that a command line asks for.
@@ -65,13 +62,11 @@ pub enum Action<'a> {
     },
     Seal(Transfer<'a>),
     Open(Transfer<'a>),
-    /// Opens a part of a text.
+    /// Opens a part of the contents.
     OpenPart {
         span: Span,
         paths: Transfer<'a>,
     },
-    /// The argument of `--records` is not understood, or has no records.
-    NoSpan,
     Rekey {
         new_key: &'a str,
         paths: Transfer<'a>,
@@ -110,14 +105,6 @@ fn length_argument<'a>(alloc: Global) -> Arg<'a> {
         .help("Write at most N bytes")
 }
 
-fn records_argument<'a>(alloc: Global) -> Result<Arg<'a>, AllocError> {
-    Arg::new(alloc, "A..B")
-        .long("records")
-        .help("Records A to B-1")
-        .conflicts_with("BYTE")?
-        .conflicts_with("N")
-}
-
 fn input_argument<'a>(alloc: Global) -> Arg<'a> {
     Arg::new(alloc, "IN").help("The file to read; standard input if it is - or missing")
 }
@@ -145,8 +132,7 @@ fn quiet_argument<'a>(alloc: Global) -> Arg<'a> {
 fn with_part<'a>(alloc: Global, command: Command<'a>) -> Result<Command<'a>, AllocError> {
     command
         .arg(from_argument(alloc))?
-        .arg(length_argument(alloc))?
-        .arg(records_argument(alloc)?)
+        .arg(length_argument(alloc))
 }
 
 fn keygen<'a>(alloc: Global) -> Result<Command<'a>, AllocError> {
@@ -252,29 +238,15 @@ fn transfer_of<'a>(matches: &ArgMatches<'a>) -> Transfer<'a> {
     }
 }
 
-// The records `A..B`, at least one.
-fn records_of(text: &str) -> Option<Span> {
-    let (first, end) = text.split_once("..")?;
-    let (first, end): (u64, u64) = (first.parse().ok()?, end.parse().ok()?);
-    let count = NonZeroU64::new(end.checked_sub(first)?)?;
-    Some(Span::Records { first, count })
-}
-
 // The action of `open`.
 fn open_of<'a>(found: &ArgMatches<'a>) -> Action<'a> {
     let paths = transfer_of(found);
-    if let Some(text) = found.get_str("A..B") {
-        return match records_of(text) {
-            Some(span) => Action::OpenPart { span, paths },
-            None => Action::NoSpan,
-        };
-    }
     let from: Option<u64> = found.get_one("BYTE");
     let length: Option<u64> = found.get_one("N");
     if from.is_none() && length.is_none() {
         return Action::Open(paths);
     }
-    let span = Span::Bytes {
+    let span = Span {
         from: from.unwrap_or(0),
         length: length.unwrap_or(u64::MAX),
     };

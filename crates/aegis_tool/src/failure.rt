@@ -1,8 +1,9 @@
 //! The errors of commands, and the exit statuses.
 
 use crate::command::Place;
-use crate::shown::{Name, Verified};
-use aegis::record::RecordError;
+use crate::range::{FIRST, FRONT_BYTES};
+use crate::shown::{Lost, Name, Verified};
+use aegis::record::{RECORD_BYTES, RecordError, RecordPosition};
 use aegis_files::FileError;
 use std::alloc::AllocError;
 use std::io;
@@ -13,10 +14,12 @@ use thiserror::Error;
 pub enum Failure<'a> {
     #[error("{0} is not a sealed file: its first bytes after the prefix are not AGR2")]
     NotSealed(Name<'a>),
-    #[error("{0}: the key is not the one it was sealed under, or the file is damaged from its first record")]
-    Key(Name<'a>),
-    #[error("{0} is damaged from record {1}{2}")]
-    Damaged(Name<'a>, u64, Verified),
+    #[error("{0} is a sealed file of version 1 (AGR1), which this program does not open")]
+    FirstVersion(Name<'a>),
+    #[error("{0}: the key is not the one it was sealed under, or the file is damaged in its first record{1}")]
+    Key(Name<'a>, Lost),
+    #[error("{0} is damaged{1}; record {2} does not open{3}")]
+    Damaged(Name<'a>, Verified, u64, Lost),
     #[error("{0} is damaged: where a record should begin is none{1}")]
     NoRecord(Name<'a>, Verified),
     #[error("{0} is cut off{1}")]
@@ -27,14 +30,12 @@ pub enum Failure<'a> {
     Trailing(Name<'a>),
     #[error("{0} is longer than a sealed file may be")]
     TooLong(Name<'a>),
-    #[error("{0}: the key is not the one it was sealed under, or the file is damaged in record {1} or before it")]
-    DamagedPart(Name<'a>, u64),
+    #[error("{0}: the key is not the one it was sealed under, or the file is damaged before record {1}, or in it{2}")]
+    DamagedPart(Name<'a>, u64, Lost),
     #[error("{0} is damaged in the part or before it")]
     NoPart(Name<'a>),
     #[error("{0} is cut off in the part or before it")]
     TruncatedPart(Name<'a>),
-    #[error("{0} has only {1} records")]
-    PastRecords(Name<'a>, u64),
     #[error("{0} has only {1} bytes of text")]
     PastBytes(Name<'a>, u64),
     #[error("{0} was changed while it was read")]
@@ -77,8 +78,6 @@ pub enum Failure<'a> {
     Random(io::Error),
     #[error("a part is opened of a file alone: name IN")]
     NoFile,
-    #[error("--records takes A..B, A less than B: the records A to B-1, from 0")]
-    NoSpan,
     #[error("there is no command; --help lists them")]
     NoCommand,
     #[error("out of memory")]
@@ -105,7 +104,8 @@ impl<'a> Failure<'a> {
     pub fn status(&self) -> u8 {
         match self {
             Failure::NotSealed(_)
-            | Failure::Key(_)
+            | Failure::FirstVersion(_)
+            | Failure::Key(..)
             | Failure::Damaged(..)
             | Failure::NoRecord(..)
             | Failure::Truncated(..)
@@ -115,20 +115,14 @@ impl<'a> Failure<'a> {
             | Failure::DamagedPart(..)
             | Failure::NoPart(_)
             | Failure::TruncatedPart(_)
-            | Failure::PastRecords(..)
             | Failure::PastBytes(..) => REFUSED,
-            Failure::NoCommand | Failure::NoFile | Failure::NoSpan => MISUSED,
+            Failure::NoCommand | Failure::NoFile => MISUSED,
             _ => FAILED,
         }
     }
 
-    /// Returns the failure of reading `input` and writing `output`, after the verified bytes of the text.
-    pub fn of_files(
-        error: FileError,
-        input: Place<'a>,
-        output: Place<'a>,
-        verified: Verified,
-    ) -> Self {
+    /// Returns the failure of reading `input` and writing `output`.
+    pub fn of_files(error: FileError, input: Place<'a>, output: Place<'a>, seen: Seen) -> Self {
         let input = input.input_name();
         match error {
             FileError::Read(error) => Failure::Input(input, error),
@@ -137,16 +131,20 @@ impl<'a> Failure<'a> {
                 _ => Failure::Output(output.output_name(), error),
             },
             FileError::TooLong => Failure::TooLong(input),
-            FileError::Stream(fault) => Failure::of_stream(fault, input, verified),
+            FileError::Stream(fault) => Failure::of_stream(fault, input, seen),
         }
     }
 
-    // The failure of a sealed file with this fault, after the verified bytes of its text.
-    fn of_stream(fault: RecordError, input: Name<'a>, verified: Verified) -> Self {
+    // The failure of a sealed file with this fault.
+    fn of_stream(fault: RecordError, input: Name<'a>, seen: Seen) -> Self {
+        let verified = seen.verified;
         match fault {
+            RecordError::Header if seen.is_first_version => Failure::FirstVersion(input),
             RecordError::Header => Failure::NotSealed(input),
-            RecordError::Damaged(0) => Failure::Key(input),
-            RecordError::Damaged(number) => Failure::Damaged(input, number, verified),
+            RecordError::Damaged(0) => Failure::Key(input, seen.lost(0)),
+            RecordError::Damaged(number) => {
+                Failure::Damaged(input, verified, number, seen.lost(number))
+            }
             RecordError::Flag | RecordError::TooLong => Failure::NoRecord(input, verified),
             RecordError::Truncated => Failure::Truncated(input, verified),
             RecordError::Trailing => Failure::Trailing(input),
@@ -155,20 +153,83 @@ impl<'a> Failure<'a> {
     }
 
     /// Returns the failure of opening a part of `input`, and writing `output`.
-    pub fn of_part(error: PartError, input: Place<'a>, output: Place<'a>) -> Self {
+    pub fn of_part(error: PartError, input: Place<'a>, output: Place<'a>, seen: Seen) -> Self {
         let name = input.input_name();
         match error {
-            PartError::PastRecords(records) => Failure::PastRecords(name, records),
+            PartError::FirstVersion => Failure::FirstVersion(name),
             PartError::PastBytes(bytes) => Failure::PastBytes(name, bytes),
             PartError::Changed => Failure::Changed(name),
             PartError::File(FileError::Stream(fault)) => match fault {
-                RecordError::Damaged(number) => Failure::DamagedPart(name, number),
+                RecordError::Damaged(number) => {
+                    Failure::DamagedPart(name, number, seen.lost(number))
+                }
                 RecordError::Flag | RecordError::TooLong => Failure::NoPart(name),
                 RecordError::Truncated => Failure::TruncatedPart(name),
-                _ => Failure::of_stream(fault, name, Verified(None)),
+                _ => Failure::of_stream(fault, name, seen),
             },
-            PartError::File(error) => Failure::of_files(error, input, output, Verified(None)),
+            PartError::File(error) => Failure::of_files(error, input, output, seen),
         }
+    }
+
+    /// Returns the failure of finding the records of `input` by their lengths.
+    pub fn of_outline(error: PartError, input: Place<'a>) -> Self {
+        match error {
+            PartError::File(error) => {
+                Failure::of_files(error, input, Place::Standard, Seen::NOTHING)
+            }
+            _ => Failure::of_part(error, input, Place::Standard, Seen::NOTHING),
+        }
+    }
+}
+
+/// What is known of a sealed file when an error is found in it.
+#[derive(Clone, Copy)]
+pub struct Seen {
+    /// Whether its header is that of version 1.
+    pub is_first_version: bool,
+    /// How many bytes of the contents are right, if they were counted.
+    pub verified: Verified,
+    /// The record at which reading began.
+    pub start: RecordPosition,
+    /// How many bytes were read of the records from that one on, if they were counted.
+    pub read: Option<u64>,
+    /// At which byte of the contents the first record begins that was not opened.
+    pub next: u64,
+}
+
+impl Seen {
+    /// Nothing is known.
+    pub const NOTHING: Seen = Seen {
+        is_first_version: false,
+        verified: Verified(None),
+        start: FIRST,
+        read: None,
+        next: 0,
+    };
+
+    /// What is known of a whole file, of which so many bytes were read, and so many bytes of its contents verified.
+    pub fn whole(is_first_version: bool, read: u64, verified: u64) -> Self {
+        Seen {
+            is_first_version,
+            verified: Verified(Some(verified)),
+            start: FIRST,
+            read: Some(read.saturating_sub(FRONT_BYTES)),
+            next: verified,
+        }
+    }
+
+    // The bytes of the contents that the record of this number has, if it is the last one that was read.
+    fn lost(&self, number: u64) -> Lost {
+        let Some(read) = self.read else {
+            return Lost(None);
+        };
+        let records = number.saturating_sub(self.start.number).saturating_add(1);
+        let end = self
+            .start
+            .before
+            .saturating_add(read)
+            .saturating_sub(records.saturating_mul(RECORD_BYTES));
+        Lost(Some((self.next, end)))
     }
 }
 
@@ -176,9 +237,9 @@ impl<'a> Failure<'a> {
 #[derive(Debug, Drop)]
 pub enum PartError {
     File(FileError),
-    /// The part begins after the last record. The file has so many records.
-    PastRecords(u64),
-    /// The part begins after the last byte of the text, which has so many bytes.
+    /// The header is that of version 1.
+    FirstVersion,
+    /// The part begins after the last byte of the contents, which have so many bytes.
     PastBytes(u64),
     /// The record in which the part begins was found, and another was there when it was read.
     Changed,

@@ -1,11 +1,12 @@
 //! What can be seen of a sealed file without its key.
 
 use crate::command::{Place, Transfer};
-use crate::failure::{Failure, printed};
+use crate::failure::{Failure, PartError, printed};
 use crate::output::refuse_inputs;
 use crate::progress::Counted;
-use crate::shown::{Name, Verified};
-use aegis::record::{RECORD_BYTES, RECORD_HEAD_BYTES, RecordError, RecordOpener, Version};
+use crate::range::{lengths, read_prefix};
+use crate::shown::Name;
+use aegis::record::{RECORD_BYTES, RECORD_HEAD_BYTES, RecordError};
 use aegis_files::{FileError, fill};
 use std::fs::File;
 use std::io::Read;
@@ -37,16 +38,15 @@ fn skip<R: Read>(input: &mut R, count: usize) -> Result<u64, FileError> {
     Ok(missing.saturating_add(last))
 }
 
-// Goes from record to record by their lengths. The opener's key is never used.
-fn outline_of<R: Read>(input: &mut R) -> Result<Outline, FileError> {
-    let mut front = [0; 28];
-    if missing_in(input, &mut front)? > 0 {
-        return Err(FileError::Stream(RecordError::Header));
-    }
-    let lengths = RecordOpener::new(&[0; 32], &[0; 24], &[], &front[24..])?;
-    if lengths.position().version != Version::Second {
-        return Err(FileError::Stream(RecordError::Header));
-    }
+// Goes from record to record by their lengths.
+fn outline_of<R: Read>(input: &mut R) -> Result<Outline, PartError> {
+    read_prefix(input)?;
+    outline_of_records(input).map_err(PartError::File)
+}
+
+// The outline of the records that follow the prefix and the header.
+fn outline_of_records<R: Read>(input: &mut R) -> Result<Outline, FileError> {
+    let lengths = lengths();
     let mut seen = Outline {
         records: 0,
         text_bytes: 0,
@@ -81,12 +81,7 @@ fn outline_of_file<'a>(rt: &HostRuntime, name: &'a str) -> Result<Outline, Failu
     let file = File::open(rt, name).map_err(|error| Failure::Input(Name(name), error))?;
     match outline_of(&mut Counted::new(file, None)) {
         Ok(seen) => Ok(seen),
-        Err(error) => Err(Failure::of_files(
-            error,
-            Place::File(name),
-            Place::Standard,
-            Verified(None),
-        )),
+        Err(error) => Err(Failure::of_outline(error, Place::File(name))),
     }
 }
 
@@ -101,12 +96,7 @@ pub fn info<'a>(rt: &HostRuntime, paths: Transfer<'a>) -> Result<(), Failure<'a>
         Place::File(name) => outline_of_file(rt, name)?,
         _ => match outline_of(&mut Counted::new(rt.stdin(), None)) {
             Ok(seen) => seen,
-            Err(error) => return Err(Failure::of_files(
-                error,
-                input,
-                Place::Standard,
-                Verified(None),
-            )),
+            Err(error) => return Err(Failure::of_outline(error, input)),
         },
     };
     if seen.missing > 0 {

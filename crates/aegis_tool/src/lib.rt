@@ -29,7 +29,6 @@ fn act<'a>(rt: &HostRuntime, action: Option<Action<'a>>) -> Result<(), Stopped<'
         Some(Action::OpenPart { span, paths }) => {
             transfer::open_part(rt, span, at_the_start(rt, paths))
         }
-        Some(Action::NoSpan) => Err(Stopped::from(Failure::NoSpan)),
         Some(Action::Rekey { new_key, paths }) => {
             transfer::rekey(rt, new_key, at_the_start(rt, paths))
         }

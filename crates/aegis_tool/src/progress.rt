@@ -2,6 +2,7 @@
 
 ghost use Rattle.std.specs.Prelude.{None};
 
+use aegis::record::Version;
 use std::io;
 use std::io::{ErrorKind, Read, Write};
 use std::time::Instant;
@@ -54,6 +55,7 @@ pub struct Counted<'a, R: Read + Drop> {
     read: u64,
     said: u64,
     has_ended: bool,
+    first_bytes: [u8; 28],
 }
 
 impl<'a, R: Read + Drop> Counted<'a, R> {
@@ -65,7 +67,18 @@ impl<'a, R: Read + Drop> Counted<'a, R> {
             read: 0,
             said: 0,
             has_ended: false,
+            first_bytes: [0; 28],
         }
+    }
+
+    /// How many bytes were read.
+    pub fn count(&self) -> u64 {
+        self.read
+    }
+
+    /// Whether bytes 24 to 27 are the header of version 1.
+    pub fn is_first_version(&self) -> bool {
+        &self.first_bytes[24..] == Version::First.header()
     }
 
     /// Ends the line that shows the progress, if one was shown.
@@ -88,6 +101,9 @@ impl<R: Read + Drop> Read for Counted<'_, R> {
         }
         let count = self.inner.read(buf)?;
         self.has_ended = count == 0;
+        for (place, byte) in (self.read..28).zip(buf[..count].iter()) {
+            self.first_bytes[place as usize] = *byte;
+        }
         self.read = self.read.saturating_add(count as u64);
         if self.read.saturating_sub(self.said) >= STEP {
             self.said = self.read;

@@ -1,8 +1,9 @@
-//! A part of the text of a sealed file: the record in which it begins is found by the lengths of those before it, which
-//! are not verified. What is said of the part is said by the records that were opened.
+//! A part of the contents of a sealed file: the record in which it begins is found by the lengths of those before it,
+//! which are not verified. A part is what the records that were opened say.
 
-ghost use Rattle.std.specs.Prelude.{◌≤◌};
+ghost use Rattle.std.specs.Prelude.{◌≡◌, ◌≤◌};
 ghost use Rattle.std.specs.Bool.{OnTrue};
+ghost use Rattle.aegis.specs.declared.record.version.Version.TheVariants.{Second};
 
 use crate::command::Span;
 use crate::failure::PartError;
@@ -11,30 +12,34 @@ use aegis::record::{
 };
 use aegis_files::{FileError, OpenedRange, TextRange, fill};
 use std::fs::File;
-use std::io::{Seek, SeekFrom};
-use std::num::NonZeroU64;
+use std::io::{Read, Seek, SeekFrom};
 
-/// Where a part of a text begins, and how long it is.
+/// How many bytes a file has in front of its first record: the prefix and the header.
+pub const FRONT_BYTES: u64 = 28;
+
+/// The position of the first record of a file.
+pub const FIRST: RecordPosition = RecordPosition {
+    version: Version::Second,
+    number: 0,
+    before: 0,
+};
+
+/// Where a part of the contents begins, and how long it is.
 #[derive(Clone, Copy)]
 pub struct Start {
     pub prefix: [u8; 24],
     pub range: TextRange,
-    span: Span,
+    /// The byte of the contents at which the part begins.
+    pub from: u64,
 }
 
 impl Start {
     /// Returns an error if the part begins after the last one of the records that were opened.
     pub fn reached(&self, opened: &OpenedRange) -> Result<(), PartError> {
         let OpenedRange { end, is_last, .. } = *opened;
-        let (is_reached, past) = match self.span {
-            Span::Bytes { from, .. } => (from <= end.before, PartError::PastBytes(end.before)),
-            Span::Records { first, .. } => {
-                (first < end.number, PartError::PastRecords(end.number))
-            }
-        };
-        match (is_reached, is_last) {
+        match (self.from <= end.before, is_last) {
             (true, _) => Ok(()),
-            (false, true) => Err(past),
+            (false, true) => Err(PartError::PastBytes(end.before)),
             (false, false) => Err(PartError::Changed),
         }
     }
@@ -42,24 +47,39 @@ impl Start {
 
 /// Whether a file that a system holds can have a record where the range begins.
 pub fn is_reachable(range: &TextRange) -> bool
-    ensures { OnTrue result ((range.now.position.number ≤ MOST)
+    ensures version { OnTrue result (range.now.position.version ≡ Second) }
+    ensures place { OnTrue result ((range.now.position.number ≤ MOST)
         × (range.now.position.before ≤ MOST)) }
 {
-    range.position.number <= MOST && range.position.before <= MOST
+    matches!(range.position.version, Version::Second)
+        && range.position.number <= MOST
+        && range.position.before <= MOST
 }
 
-// How many bytes a file has in front of its first record: the prefix and the header.
-const FRONT_BYTES: usize = 28;
-
-/// The most records, and the most bytes of text, that come before a record in any file.
+/// The most records, and the most bytes of contents, that come before a record in any file.
 pub const MOST: u64 = 1 << 54;
 
-// Fills a buffer from a file.
-fn read(file: &mut File, buffer: &mut [u8], short: RecordError) -> Result<(), FileError> {
-    if fill(file, buffer)? < buffer.len() {
+// Fills a buffer from an input, which ends with this fault if it is shorter.
+fn read<R: Read>(input: &mut R, buffer: &mut [u8], short: RecordError) -> Result<(), FileError> {
+    if fill(input, buffer)? < buffer.len() {
         return Err(FileError::Stream(short));
     }
     Ok(())
+}
+
+/// Reads the prefix and the header of a sealed file, and returns the prefix.
+pub fn read_prefix<R: Read>(input: &mut R) -> Result<[u8; 24], PartError> {
+    let mut prefix = [0; 24];
+    read(input, &mut prefix, RecordError::Header)?;
+    let mut header = [0; 4];
+    read(input, &mut header, RecordError::Header)?;
+    if header.as_slice() == Version::First.header() {
+        return Err(PartError::FirstVersion);
+    }
+    if header.as_slice() != Version::Second.header() {
+        return Err(PartError::File(FileError::Stream(RecordError::Header)));
+    }
+    Ok(prefix)
 }
 
 // Goes to a byte of a file.
@@ -68,6 +88,11 @@ fn seek(file: &mut File, byte: u64) -> Result<(), FileError> {
         Ok(_) => Ok(()),
         Err(error) => Err(FileError::Read(error)),
     }
+}
+
+/// An opener that finds the lengths of records. Its key is never used.
+pub fn lengths() -> RecordOpener<'static> {
+    RecordOpener::begin_at(&[0; 32], &[0; 24], &[], FIRST)
 }
 
 // A record whose place is known, and not its bytes.
@@ -101,23 +126,13 @@ fn byte_of(position: RecordPosition) -> u64 {
         .number
         .saturating_mul(RECORD_BYTES)
         .saturating_add(position.before)
-        .saturating_add(FRONT_BYTES as u64)
-}
-
-// What is looked for in a file.
-#[derive(Clone, Copy)]
-enum Target {
-    Byte(u64),
-    Record(u64),
+        .saturating_add(FRONT_BYTES)
 }
 
 impl Found {
-    // Whether the target is in this record.
-    fn has(&self, target: Target) -> bool {
-        match target {
-            Target::Byte(byte) => byte.saturating_sub(self.position.before) < self.message_len,
-            Target::Record(number) => self.position.number >= number,
-        }
+    // Whether a byte of the contents is in this record.
+    fn has(&self, byte: u64) -> bool {
+        byte.saturating_sub(self.position.before) < self.message_len
     }
 
     // The position of the record after this one.
@@ -130,84 +145,34 @@ impl Found {
     }
 }
 
-// Finds the record that a target is in, or the last one.
-fn find(lengths: &RecordOpener<'_>, file: &mut File, target: Target) -> Result<Found, FileError> {
-    let mut position = lengths.position();
+// Finds the record that a byte of the contents is in, or the last one.
+fn find(file: &mut File, byte: u64) -> Result<RecordPosition, FileError> {
+    let lengths = lengths();
+    let mut position = FIRST;
     for _ in 0..MOST {
         seek(file, byte_of(position))?;
-        let found = look(lengths, file, position)?;
-        if found.is_last || found.has(target) {
-            return Ok(found);
+        let found = look(&lengths, file, position)?;
+        if found.is_last || found.has(byte) {
+            return Ok(position);
         }
         position = found.next();
     }
     Err(FileError::TooLong)
 }
 
-// The range of a part by bytes.
-fn range_of_bytes(
-    lengths: &RecordOpener<'_>,
-    file: &mut File,
-    from: u64,
-    length: u64,
-) -> Result<TextRange, FileError> {
-    let position = find(lengths, file, Target::Byte(from))?.position;
-    Ok(TextRange {
-        position,
-        skip: from.saturating_sub(position.before),
-        length,
-    })
-}
-
-// The range of a part by records: the bytes from the first of them to the one after the last. If the last record of the
-// file comes before the part, that one is opened for its place, and for no text.
-fn range_of_records(
-    lengths: &RecordOpener<'_>,
-    file: &mut File,
-    first: u64,
-    count: NonZeroU64,
-) -> Result<TextRange, FileError> {
-    let found = find(lengths, file, Target::Record(first))?;
-    if !found.has(Target::Record(first)) {
-        return Ok(TextRange {
-            position: found.position,
-            skip: u64::MAX,
-            length: 0,
-        });
-    }
-    let end = Target::Record(first.saturating_add(count.get()));
-    let after = find(lengths, file, end)?;
-    let length = if after.has(end) {
-        after.position.before.saturating_sub(found.position.before)
-    } else {
-        u64::MAX
-    };
-    Ok(TextRange {
-        position: found.position,
-        skip: 0,
-        length,
-    })
-}
-
-/// Finds the record in which a part of the text begins, and goes to its first byte. The file's key is not used: the
+/// Finds the record in which a part of the contents begins, and goes to its first byte. The file's key is not used: the
 /// lengths are not authenticated until the records are opened.
-pub fn start_of(file: &mut File, span: Span) -> Result<Start, FileError> {
-    let mut prefix = [0; 24];
-    read(file, &mut prefix, RecordError::Header)?;
-    let mut header = [0; 4];
-    read(file, &mut header, RecordError::Header)?;
-    let lengths = RecordOpener::new(&[0; 32], &[0; 24], &[], &header)?;
-    if lengths.position().version != Version::Second {
-        return Err(FileError::Stream(RecordError::Header));
-    }
-    let range = match span {
-        Span::Bytes { from, length } => range_of_bytes(&lengths, file, from, length)?,
-        Span::Records { first, count } => range_of_records(&lengths, file, first, count)?,
-    };
-    seek(file, byte_of(range.position))?;
+pub fn start_of(file: &mut File, span: Span) -> Result<Start, PartError> {
+    let prefix = read_prefix(file)?;
+    let position = find(file, span.from)?;
+    seek(file, byte_of(position))?;
     Ok(Start {
         prefix,
-        range,
-        span,
+        range: TextRange {
+            position,
+            skip: span.from.saturating_sub(position.before),
+            length: span.length,
+        },
+        from: span.from,
     })
 }

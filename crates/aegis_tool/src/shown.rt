@@ -41,6 +41,23 @@ impl fmt::Display for Verified {
     }
 }
 
+/// The bytes of the contents that a damaged record has, by its length, if that is known.
+#[derive(Clone, Copy, Debug)]
+pub struct Lost(pub Option<(u64, u64)>);
+
+impl fmt::Display for Lost {
+    fn fmt<W: fmt::Write>(&self, f: &mut fmt::Formatter<W>) -> fmt::Result {
+        match self.0 {
+            Some((from, end)) if from < end => write!(
+                f,
+                ", with bytes {from} to {} of the contents by its length; --from {end} opens what follows, if the length is right",
+                end - 1
+            ),
+            _ => Ok(()),
+        }
+    }
+}
+
 /// The text of a message of several lines, each with its characters escaped as those of a name.
 #[derive(Clone, Copy, Debug)]
 pub struct Lines<'a>(pub &'a str);

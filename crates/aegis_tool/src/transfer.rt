@@ -1,7 +1,7 @@
 //! Sealing, opening and checking files, and drawing keys.
 
 use crate::command::{Place, Span, Transfer};
-use crate::failure::{Failure, PartError, Stopped, printed};
+use crate::failure::{Failure, PartError, Seen, Stopped, printed};
 use crate::key;
 use crate::key::KeyFile;
 use crate::output::{
@@ -9,7 +9,7 @@ use crate::output::{
 };
 use crate::progress::{Counted, Display, Measured};
 use crate::range::{Start, is_reachable, start_of};
-use crate::shown::{Name, Verified};
+use crate::shown::Name;
 use crate::terminal::TextOnly;
 use aegis::aegis256::Key;
 use aegis_files::{FileError, open_range, open_stream, rekey_stream, seal_stream};
@@ -80,27 +80,49 @@ fn carry<R: Read, W: Write>(
     Ok(())
 }
 
+// What is known of a sealed file after a task has failed, which has written so many bytes.
+fn seen<R: Read + Drop>(task: &Task, input: &Counted<'_, R>, written: u64) -> Seen {
+    match task {
+        Task::Open { .. } => Seen::whole(input.is_first_version(), input.count(), written),
+        Task::OpenPart { start, .. } => {
+            let position = start.range.position;
+            Seen {
+                start: position,
+                read: Some(input.count()),
+                next: if written == 0 {
+                    position.before
+                } else {
+                    start.from.saturating_add(written)
+                },
+                ..Seen::NOTHING
+            }
+        }
+        Task::Seal { .. } | Task::Rekey { .. } => Seen {
+            is_first_version: input.is_first_version(),
+            ..Seen::NOTHING
+        },
+    }
+}
+
 // Carries out a task, and returns how many bytes were written.
-fn carry_out<'a, R: Read, W: Write + Drop>(
+fn carry_out<'a, R: Read + Drop, W: Write + Drop>(
     rt: &HostRuntime,
     task: &Task,
     paths: Transfer<'a>,
-    input: &mut R,
+    input: &mut Counted<'_, R>,
     output: W,
 ) -> Result<u64, Stopped<'a>> {
     let mut output = Measured::new(output);
     let Err(error) = carry(rt.alloc(), task, input, &mut output) else {
         return Ok(output.written);
     };
+    let seen = seen(task, input, output.written);
     let failure = match (task, error) {
-        (Task::Open { .. }, PartError::File(error)) => {
-            let verified = Verified(Some(output.written));
-            Failure::of_files(error, paths.input, paths.output, verified)
+        (Task::OpenPart { .. }, error) => {
+            Failure::of_part(error, paths.input, paths.output, seen)
         }
-        (Task::Seal { .. } | Task::Rekey { .. }, PartError::File(error)) => {
-            Failure::of_files(error, paths.input, paths.output, Verified(None))
-        }
-        (_, error) => Failure::of_part(error, paths.input, paths.output),
+        (_, PartError::File(error)) => { Failure::of_files(error, paths.input, paths.output, seen) }
+        (_, error) => Failure::of_part(error, paths.input, paths.output, seen),
     };
     Err(Stopped {
         failure,
@@ -109,11 +131,11 @@ fn carry_out<'a, R: Read, W: Write + Drop>(
 }
 
 // Reads the input, and writes the output, which is whole or is said to be incomplete.
-fn write_to<'a, R: Read>(
+fn write_to<'a, R: Read + Drop>(
     rt: &HostRuntime,
     task: &Task,
     paths: Transfer<'a>,
-    input: &mut R,
+    input: &mut Counted<'_, R>,
 ) -> Result<(), Stopped<'a>> {
     let name = match paths.output {
         Place::File(name) => name,
@@ -244,11 +266,11 @@ pub fn open_part<'a>(rt: &HostRuntime, span: Span, paths: Transfer<'a>) -> Resul
     match start_of(&mut file, span) {
         Ok(start) => {
             let key = key.key;
-            write_to(rt, &Task::OpenPart { key, start }, paths, &mut file)
+            let mut input = Counted::new(file, None);
+            write_to(rt, &Task::OpenPart { key, start }, paths, &mut input)
         }
         Err(error) => {
-            let error = PartError::File(error);
-            let failure = Failure::of_part(error, paths.input, paths.output);
+            let failure = Failure::of_part(error, paths.input, paths.output, Seen::NOTHING);
             Err(Stopped::from(failure))
         }
     }
@@ -273,11 +295,11 @@ pub fn rekey<'a>(
 }
 
 // Reads a sealed file, and discards its text. Returns how many bytes it has.
-fn check_from<'a, R: Read>(
+fn check_from<'a, R: Read + Drop>(
     rt: &HostRuntime,
     task: &Task,
     paths: Transfer<'a>,
-    input: &mut R,
+    input: &mut Counted<'_, R>,
 ) -> Result<u64, Failure<'a>> {
     carry_out(rt, task, paths, input, io::sink()).map_err(|stopped| stopped.failure)
 }

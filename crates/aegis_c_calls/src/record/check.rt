@@ -1,16 +1,15 @@
 //! What C passes: a state, and the lengths of a record and of a context.
 
 ghost use Rattle.std.specs.Prelude.{◌≡◌, ◌≢◌, ◌+◌, ◌<◌, ◌≤◌, ℤ, IfErr, IfNone, IfOk, IfSome, OnOk};
-ghost use Rattle.aegis.specs.RecordStream.{limit, start_at};
+ghost use Rattle.aegis.specs.RecordStream.{start_at};
 ghost use Rattle.aegis_c_calls.specs.Codes.{number_of};
 ghost use Rattle.aegis_c_calls.specs.RecordCodes.{mark_code, record_code};
-ghost use Rattle.aegis_c_calls.specs.RecordStates.{next_position, version_of};
+ghost use Rattle.aegis_c_calls.specs.RecordStates.{next_position};
 ghost use Rattle.aegis_c_calls.specs.declared.refusal.TheConstants.{DONE, INVALID_TAG, WRONG_STATE};
 
-use crate::record::data::version;
 use crate::record::state::RecordState;
 use crate::refusal::Refusal;
-use aegis::record::{MAX_CONTEXT_BYTES, RECORD_BYTES};
+use aegis::record::{MAX_CONTEXT_BYTES, MAX_MESSAGE_BYTES, RECORD_BYTES};
 use aegis_base::MAX_AEAD_BYTES;
 
 // How many bytes the header of a stream has.
@@ -62,7 +61,7 @@ pub fn check_record(
 ) -> Result<(), Refusal>
     ensures context { OnOk result (context ≤ MAX_CONTEXT_BYTES) }
     ensures room { OnOk result (RECORD_BYTES ≤ bytes) }
-    ensures within { OnOk result (bytes ≤ RECORD_BYTES + limit (version_of st.now.version)) }
+    ensures within { OnOk result (bytes ≤ RECORD_BYTES + MAX_MESSAGE_BYTES) }
     ensures fits { OnOk result (start_at (next_position st.now) + bytes ≤ MAX_AEAD_BYTES) }
     ensures right { OnOk result (record_code st.now mark context bytes ≡ DONE) }
     ensures wrong { IfErr result (λ refusal.
@@ -74,7 +73,7 @@ pub fn check_record(
     if bytes < RECORD_BYTES as usize {
         return Err(Refusal::WrongRecordLength);
     }
-    let most = RECORD_BYTES as usize + version(st).limit() as usize;
+    let most = RECORD_BYTES as usize + MAX_MESSAGE_BYTES;
     if bytes > most || bytes as u64 > MAX_AEAD_BYTES - start {
         return Err(Refusal::MessageTooLong);
     }

@@ -3,20 +3,18 @@
 ghost use Rattle.std.specs.Prelude.{◌≡◌, ◌+◌, ◌≤◌, IfSome, IsSome, List, length, ℕ};
 ghost use Rattle.aegis.specs.Calls.{message_in, with_message};
 ghost use Rattle.aegis.specs.Progress.{record_of};
-ghost use Rattle.aegis.specs.RecordStream.{limit};
-ghost use Rattle.aegis_c_calls.specs.RecordStates.{progress_of, version_of};
+ghost use Rattle.aegis_c_calls.specs.RecordStates.{progress_of};
 
-use crate::record::data::position;
-use crate::record::state::RecordState;
+use crate::record::state::{RecordState, position};
 use aegis::record::placed::{RecordCipher, open_record_in_place, seal_record_in_place};
-use aegis::record::{MAX_CONTEXT_BYTES, RECORD_BYTES};
+use aegis::record::{MAX_CONTEXT_BYTES, MAX_MESSAGE_BYTES, RECORD_BYTES};
 
 /// Seals the next message, with this flag, where it lies: `bytes` has 5 bytes for its head, the message, and 32 bytes
 /// for its tag.
 pub fn seal_record(st: &RecordState, flag: u8, context: &[u8], bytes: &mut [u8])
     requires context { length context.now ≤ MAX_CONTEXT_BYTES }
     requires room { RECORD_BYTES ≤ length bytes.old }
-    requires within { length bytes.old ≤ RECORD_BYTES + limit (version_of st.now.version) }
+    requires within { length bytes.old ≤ RECORD_BYTES + MAX_MESSAGE_BYTES }
     ensures { bytes.new ≡ record_of (progress_of st.now context.now) flag (message_in bytes.old) }
 {
     let cipher = RecordCipher {
@@ -31,7 +29,7 @@ pub fn seal_record(st: &RecordState, flag: u8, context: &[u8], bytes: &mut [u8])
 /// then not be used.
 pub fn open_record(st: &RecordState, context: &[u8], bytes: &mut [u8]) -> Option<u8>
     requires context { length context.now ≤ MAX_CONTEXT_BYTES }
-    requires within { length bytes.old ≤ RECORD_BYTES + limit (version_of st.now.version) }
+    requires within { length bytes.old ≤ RECORD_BYTES + MAX_MESSAGE_BYTES }
     ensures room { IfSome result (λ flag. RECORD_BYTES ≤ length bytes.old) }
     ensures known { IfSome result (λ flag. flag ≤ 1) }
     ensures opened { IfSome result (λ flag. bytes.old

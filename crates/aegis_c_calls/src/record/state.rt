@@ -1,6 +1,11 @@
 //! The state of a record stream, which C owns between two calls.
 
-/// A record stream between two calls: what it is sealed under, and the position of its next record.
+ghost use Rattle.std.specs.Prelude.{◌≡◌};
+ghost use Rattle.aegis_c_calls.specs.RecordStates.{next_position};
+
+use aegis::record::{RecordPosition, Version};
+
+/// A record stream between two calls: its key and prefix, and the position of its next record.
 #[repr(C)]
 #[derive(Clone, Copy)]
 pub struct RecordState {
@@ -12,8 +17,6 @@ pub struct RecordState {
     pub before: u64,
     pub key: [u8; 32],
     pub prefix: [u8; 24],
-    /// [`FIRST`] or [`SECOND`].
-    pub version: u64,
 }
 
 /// The mark of a stream that is sealed. Other bytes are unlikely to have it by chance.
@@ -22,12 +25,6 @@ pub const SEALING: u64 = 0x6165_6769_735f_7273;
 /// The mark of a stream that is opened.
 pub const OPENING: u64 = 0x6165_6769_735f_726f;
 
-/// The number of the format's first version, `AGR1`.
-pub const FIRST: u64 = 1;
-
-/// The number of the second version, `AGR2`.
-pub const SECOND: u64 = 2;
-
 /// A state after its end: zeros.
 pub const ENDED: RecordState = RecordState {
     mark: 0,
@@ -35,8 +32,18 @@ pub const ENDED: RecordState = RecordState {
     before: 0,
     key: [0; 32],
     prefix: [0; 24],
-    version: 0,
 };
 
+/// Returns the position of the next record of a state's stream.
+pub fn position(st: &RecordState) -> RecordPosition
+    ensures { result ≡ next_position st.now }
+{
+    RecordPosition {
+        version: Version::Second,
+        number: st.number,
+        before: st.before,
+    }
+}
+
 // The size of a state in the header.
-const _: () = prove!(size_of::<RecordState>() == 88);
+const _: () = prove!(size_of::<RecordState>() == 80);

@@ -2,8 +2,7 @@ use Rattle.std.proofs.Common.{◌+◌, ◌∙◌, [], ap, arith, length, rules, 
 use Rattle.std.proofs.lemmas.List.{append-nil}
 use Rattle.aegis.specs.Progress.{record_of}
 use Rattle.aegis.proofs.Stepwise.{head_len}
-use Rattle.aegis_c_calls.proofs.Begun.{limit_within}
-use Rattle.aegis_c_calls.specs.RecordStates.{progress_of, version_of}
+use Rattle.aegis_c_calls.specs.RecordStates.{progress_of}
 use Rattle.aegis_c_calls.proofs.record.len.Goals as goal
 
 pub returns : goal.returns
@@ -13,7 +12,7 @@ returns c = record {
   is_length = λ _ context flag m body low e.
       let p = progress_of c.args.st.now context in
       ap (λ n. 37 + n) c.from_le_bytes-length.ensures
-      ∙ sym (head_len p c.args.head.now c.told-head flag m body [] (omega (arith, low, limit_within (version_of c.args.st.now.version))) (e ∙ sym (append-nil (record_of p flag m))))
+      ∙ sym (head_len p c.args.head.now c.told-head flag m body [] low (e ∙ sym (append-nil (record_of p flag m))))
       ∙ sym (ap length e);
   kept = search rules;
 }

@@ -5,7 +5,7 @@ ghost use Rattle.aegis_base.specs.Variant.{Aegis256};
 ghost use Rattle.aegis_storage.specs.Disk.{certain};
 ghost use Rattle.aegis_pages.specs.OpenFile.{AreCommitted, HasCommitted, HasText, IsStoredAs};
 
-use crate::reopened_file::saved;
+use crate::pages::reopened_file::saved;
 use aegis_pages::laws::{text_has_its_length, whole_is_written};
 use aegis_pages::{DEFAULT_PAGE_BYTES, Nonces, PagesError, SealedPages};
 use std::alloc::Allocator;

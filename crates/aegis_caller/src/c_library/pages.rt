@@ -1,0 +1,61 @@
+//! Pages and headers of files in place: what was sealed is opened.
+
+ghost use Rattle.std.specs.Prelude.{◌≡◌, IsOk, OnOk, Some, length};
+ghost use Rattle.aegis_base.specs.Variant.{key_length};
+ghost use Rattle.aegis_c_calls.specs.PageCalls.{text_in};
+ghost use Rattle.aegis_c_calls.specs.PageCodes.{header_seal_code, page_seal_code};
+ghost use Rattle.aegis_c_calls.specs.declared.refusal.TheConstants.{DONE};
+
+use aegis_base::LaneState;
+use aegis_c_calls::page::{page_header_open, page_header_seal, page_open, page_seal};
+use aegis_c_calls::refusal::Refusal;
+use aegis_pages::FileHeader;
+
+/// Seals a page and opens it. Its text is then what it was.
+pub fn page_sealed_and_opened<S: LaneState, const N: usize>(
+    page: &mut [u8],
+    id: &[u8; 24],
+    number: u64,
+    npub: &[u8],
+    k: &[u8],
+) -> Result<(), Refusal>
+    requires { N ≡ key_length S.VARIANT.family }
+    ensures done { page_seal_code (Some S.VARIANT) (length k.now) (length npub.now)
+        (length page.old) number ≡ DONE → IsOk result }
+    ensures text { OnOk result (text_in S.VARIANT page.new ≡ text_in S.VARIANT page.old) }
+{
+    page_seal::<S, N>(page, id, number, npub, k)?;
+    page_open::<S, N>(page, id, number, k)?;
+    Ok(())
+}
+
+/// Seals a header and opens it. What was found is then what was sealed.
+pub fn header_sealed_and_opened<S: LaneState, const N: usize>(
+    header: &FileHeader,
+    npub: &[u8],
+    k: &[u8],
+    found: &mut FileHeader,
+) -> Result<(), Refusal>
+    requires { N ≡ key_length S.VARIANT.family }
+    ensures done { header_seal_code (Some S.VARIANT) (length k.now) (length npub.now)
+        header.now.page_bytes header.now.len ≡ DONE → IsOk result }
+    ensures found { OnOk result (found.new ≡ header.now) }
+{
+    let FileHeader {
+        page_bytes,
+        id,
+        counter,
+        len,
+    } = *header;
+    let mut sector = [0; 512];
+    page_header_seal::<S, N>(&mut sector, page_bytes, &id, counter, len, npub, k)?;
+    page_header_open::<S, N>(
+        &sector,
+        k,
+        &mut found.page_bytes,
+        &mut found.id,
+        &mut found.counter,
+        &mut found.len,
+    )?;
+    Ok(())
+}

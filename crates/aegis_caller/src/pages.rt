@@ -1,0 +1,9 @@
+//! Files in place, and storages under them.
+
+pub mod both_or_none;
+pub mod kept_commitment;
+pub mod kept_in_memory;
+pub mod page_counter;
+pub mod page_table;
+pub mod reopened_file;
+pub mod replaced_value;
