@@ -15,7 +15,7 @@ ROOT = pathlib.Path(".")
 SKIPPED = {"out", ".git", "target"}
 PAGES = [page for page in sorted(ROOT.glob("**/*.md")) if not SKIPPED & set(page.parts)]
 SOURCES = sorted(ROOT.glob("crates/*/src/**/*.rt"))
-DECISIONS = ROOT / "docs/maintainers/DECISIONS.md"
+DECISIONS = ROOT / "docs/DECISIONS.md"
 MOST_LINES = {"README.md": 125, "docs/CALLING.md": 150, "docs/PROOFS.md": 250, "Makefile": 120}
 # The pages that have to show something in a language.
 SHOWN = {"README.md": "rust rs c python", "docs/CALLING.md": "rust", "python/README.md": "python"}

@@ -80,7 +80,7 @@ fn key_argument<'a>(alloc: Global) -> Arg<'a> {
         .long("key-file")
         .short('k')
         .required(true)
-        .help("The key file, as keygen writes it")
+        .help("The key file, as keygen writes it; standard input if it is -")
 }
 
 fn new_key_argument<'a>(alloc: Global) -> Arg<'a> {
@@ -88,14 +88,14 @@ fn new_key_argument<'a>(alloc: Global) -> Arg<'a> {
         .long("new-key-file")
         .short('n')
         .required(true)
-        .help("The key file to seal under")
+        .help("The key file to seal under; standard input if it is -")
 }
 
 fn from_argument<'a>(alloc: Global) -> Arg<'a> {
     Arg::new(alloc, "BYTE")
         .long("from")
         .value_parser(value_parser!(u64))
-        .help("Start at this byte of the text (from 0)")
+        .help("Start at this byte of the contents (from 0)")
 }
 
 fn length_argument<'a>(alloc: Global) -> Arg<'a> {
@@ -128,7 +128,7 @@ fn quiet_argument<'a>(alloc: Global) -> Arg<'a> {
         .help("Print nothing but errors")
 }
 
-// Adds the arguments that name a part of the text.
+// Adds the arguments that name a part of the contents.
 fn with_part<'a>(alloc: Global, command: Command<'a>) -> Result<Command<'a>, AllocError> {
     command
         .arg(from_argument(alloc))?
@@ -166,7 +166,7 @@ fn open<'a>(alloc: Global) -> Result<Command<'a>, AllocError> {
 
 fn rekey<'a>(alloc: Global) -> Result<Command<'a>, AllocError> {
     let command = Command::new(alloc, "rekey")
-        .about("Seals the text of a sealed file under another key")
+        .about("Seals the contents of a sealed file under another key")
         .arg(key_argument(alloc))?
         .arg(new_key_argument(alloc))?;
     with_files(alloc, command)
@@ -174,7 +174,7 @@ fn rekey<'a>(alloc: Global) -> Result<Command<'a>, AllocError> {
 
 fn check<'a>(alloc: Global) -> Result<Command<'a>, AllocError> {
     Command::new(alloc, "check")
-        .about("Opens a sealed file without writing its text")
+        .about("Opens a sealed file without writing its contents")
         .arg(key_argument(alloc))?
         .arg(quiet_argument(alloc))?
         .arg(input_argument(alloc))

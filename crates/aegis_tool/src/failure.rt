@@ -36,7 +36,7 @@ pub enum Failure<'a> {
     NoPart(Name<'a>),
     #[error("{0} is cut off in the part or before it")]
     TruncatedPart(Name<'a>),
-    #[error("{0} has only {1} bytes of text")]
+    #[error("{0} has only {1} bytes of contents")]
     PastBytes(Name<'a>, u64),
     #[error("{0} was changed while it was read")]
     Changed(Name<'a>),
@@ -68,7 +68,7 @@ pub enum Failure<'a> {
     OverKey(Name<'a>, Name<'a>),
     #[error("standard output is a terminal: name OUT, redirect the output by >, or write - for OUT to print it anyway")]
     Terminal,
-    #[error("the text is not one that a terminal can show: name OUT, redirect the output by >, or write - for OUT to print it anyway")]
+    #[error("the contents are not text that a terminal can show: name OUT, redirect the output by >, or write - for OUT to print it anyway")]
     NoText,
     #[error("the key file {0} cannot be read: {1}")]
     KeyFile(Name<'a>, io::Error),
@@ -78,6 +78,8 @@ pub enum Failure<'a> {
     Random(io::Error),
     #[error("a part is opened of a file alone: name IN")]
     NoFile,
+    #[error("standard input is the key: name IN, and the other key file if there are two")]
+    StandardKey,
     #[error("there is no command; --help lists them")]
     NoCommand,
     #[error("out of memory")]
@@ -116,7 +118,7 @@ impl<'a> Failure<'a> {
             | Failure::NoPart(_)
             | Failure::TruncatedPart(_)
             | Failure::PastBytes(..) => REFUSED,
-            Failure::NoCommand | Failure::NoFile => MISUSED,
+            Failure::NoCommand | Failure::NoFile | Failure::StandardKey => MISUSED,
             _ => FAILED,
         }
     }

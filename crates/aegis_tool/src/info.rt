@@ -85,7 +85,7 @@ fn outline_of_file<'a>(rt: &HostRuntime, name: &'a str) -> Result<Outline, Failu
     }
 }
 
-/// Prints the number of records and of bytes of text of a sealed file, if it consists of whole records. No tag is
+/// Prints the number of records and of bytes of contents of a sealed file, if it consists of whole records. No tag is
 /// verified.
 pub fn info<'a>(rt: &HostRuntime, paths: Transfer<'a>) -> Result<(), Failure<'a>> {
     if !paths.quiet {
@@ -106,7 +106,7 @@ pub fn info<'a>(rt: &HostRuntime, paths: Transfer<'a>) -> Result<(), Failure<'a>
         return Ok(());
     }
     printed(println!(rt;
-        "{} records, {} bytes of text, not verified",
+        "{} records, {} bytes of contents, not verified",
         seen.records, seen.text_bytes
     ))
 }

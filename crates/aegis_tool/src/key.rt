@@ -7,6 +7,7 @@ use aegis::aegis256::Key;
 use aegis_files::{FileError, fill};
 use hex::FromHex;
 use std::fs::File;
+use std::io::Read;
 use std::os::unix::fs::MetadataExt;
 use std::random::RandomSource;
 use std::{io, str};
@@ -38,9 +39,9 @@ fn parse(bytes: &[u8]) -> Option<Key> {
 }
 
 // Reads a key file, or as much of it as shows that it is none.
-fn read_key(file: &mut File) -> io::Result<Option<Key>> {
+fn read_key<R: Read>(input: &mut R) -> io::Result<Option<Key>> {
     let mut bytes = [0; MOST_BYTES + 1];
-    match fill(file, &mut bytes) {
+    match fill(input, &mut bytes) {
         Ok(count) => Ok(parse(&bytes[..count])),
         Err(FileError::Read(error)) => Err(error),
         Err(_) => Err(io::Error::from(io::ErrorKind::OutOfMemory)),
@@ -56,8 +57,29 @@ pub struct KeyFile<'a> {
     pub identity: Option<Identity>,
 }
 
-/// Reads the key of a key file. Warns on standard error if its mode lets others read or change it, unless `quiet`.
+/// The name of a key file that is standard input.
+pub const STANDARD: &str = "-";
+
+// Reads the key of standard input.
+fn read_standard<'a>(rt: &HostRuntime) -> Result<KeyFile<'a>, Failure<'a>> {
+    let name = Name("standard input");
+    match read_key(&mut rt.stdin()) {
+        Ok(Some(key)) => Ok(KeyFile {
+            key,
+            name,
+            identity: None,
+        }),
+        Ok(None) => Err(Failure::NoKey(name)),
+        Err(error) => Err(Failure::KeyFile(name, error)),
+    }
+}
+
+/// Reads the key of a key file, or of standard input if the name is [`STANDARD`]. Warns on standard error if the mode
+/// of the file lets others read or change it, unless `quiet`.
 pub fn read<'a>(rt: &HostRuntime, name: &'a str, quiet: bool) -> Result<KeyFile<'a>, Failure<'a>> {
+    if name == STANDARD {
+        return read_standard(rt);
+    }
     let unreadable = |error| Failure::KeyFile(Name(name), error);
     let mut file = File::open(rt, name).map_err(unreadable)?;
     let Some(key) = read_key(&mut file).map_err(unreadable)? else {

@@ -24,6 +24,7 @@ Files:
   its name once it is complete. A run that is interrupted leaves that file. It may
   hold plaintext; delete it once no run writes it. Only --force replaces a file.
   seal cannot see that a command before a pipe failed.
-  A key file has 64 hexadecimal digits and a line feed.
-  On standard output a text is written as it is opened: use it only if the exit
-  status is 0.";
+  A key file has 64 hexadecimal digits and a line feed. With -k - the key is read
+  from standard input: age -d key.age | hunkravy open -k - IN OUT
+  On standard output contents are written as they are opened: use them only if
+  the exit status is 0.";

@@ -28,14 +28,14 @@ fn write_escaped<W: fmt::Write>(
     Ok(())
 }
 
-/// How many bytes of a text were verified before a fault, if they were counted.
+/// How many bytes of the contents were verified before a fault, if they were counted.
 #[derive(Clone, Copy, Debug)]
 pub struct Verified(pub Option<u64>);
 
 impl fmt::Display for Verified {
     fn fmt<W: fmt::Write>(&self, f: &mut fmt::Formatter<W>) -> fmt::Result {
         match self.0 {
-            Some(bytes) => write!(f, "; the first {bytes} bytes of the text are right"),
+            Some(bytes) => write!(f, "; the first {bytes} bytes of the contents are right"),
             None => Ok(()),
         }
     }

@@ -225,6 +225,14 @@ fn transfer<'a>(
     }
 }
 
+// Reads the key, which may come from standard input only if the input does not.
+fn key_of<'a>(rt: &HostRuntime, paths: Transfer<'a>) -> Result<KeyFile<'a>, Failure<'a>> {
+    match paths.input {
+        Place::Default | Place::Standard if paths.key == key::STANDARD => Err(Failure::StandardKey),
+        _ => key::read(rt, paths.key, paths.quiet),
+    }
+}
+
 // Draws the prefix of a new sealed file.
 fn draw_prefix<'a>(rt: &HostRuntime) -> Result<[u8; 24], Failure<'a>> {
     let mut prefix = [0; 24];
@@ -236,7 +244,7 @@ fn draw_prefix<'a>(rt: &HostRuntime) -> Result<[u8; 24], Failure<'a>> {
 
 /// Seals a file under a prefix that is drawn at random.
 pub fn seal<'a>(rt: &HostRuntime, paths: Transfer<'a>) -> Result<(), Stopped<'a>> {
-    let key = key::read(rt, paths.key, paths.quiet)?;
+    let key = key_of(rt, paths)?;
     refuse_inputs(rt, paths, &[&key])?;
     refuse_terminal(rt, paths.output)?;
     let prefix = draw_prefix(rt)?;
@@ -250,14 +258,14 @@ pub fn seal<'a>(rt: &HostRuntime, paths: Transfer<'a>) -> Result<(), Stopped<'a>
 /// Opens a sealed file. On standard output the text is written as it is opened, so the exit status must be checked
 /// before the text is used.
 pub fn open<'a>(rt: &HostRuntime, paths: Transfer<'a>) -> Result<(), Stopped<'a>> {
-    let key = key::read(rt, paths.key, paths.quiet)?;
+    let key = key_of(rt, paths)?;
     refuse_inputs(rt, paths, &[&key])?;
     transfer(rt, &Task::Open { key: key.key }, paths, &[&key])
 }
 
 /// Opens a part of the text of a sealed file, without the rest of it.
 pub fn open_part<'a>(rt: &HostRuntime, span: Span, paths: Transfer<'a>) -> Result<(), Stopped<'a>> {
-    let key = key::read(rt, paths.key, paths.quiet)?;
+    let key = key_of(rt, paths)?;
     refuse_inputs(rt, paths, &[&key])?;
     let Place::File(name) = paths.input else {
         return Err(Stopped::from(Failure::NoFile));
@@ -282,8 +290,17 @@ pub fn rekey<'a>(
     new_key: &'a str,
     paths: Transfer<'a>,
 ) -> Result<(), Stopped<'a>> {
-    let key = key::read(rt, paths.key, paths.quiet)?;
-    let new = key::read(rt, new_key, paths.quiet)?;
+    let key = key_of(rt, paths)?;
+    if new_key == key::STANDARD && paths.key == key::STANDARD {
+        return Err(Stopped::from(Failure::StandardKey));
+    }
+    let new = key_of(
+        rt,
+        Transfer {
+            key: new_key,
+            ..paths
+        },
+    )?;
     refuse_inputs(rt, paths, &[&key, &new])?;
     refuse_terminal(rt, paths.output)?;
     let task = Task::Rekey {
@@ -306,12 +323,12 @@ fn check_from<'a, R: Read + Drop>(
 
 /// Opens a sealed file without writing its text, and prints how many bytes it has.
 pub fn check<'a>(rt: &HostRuntime, paths: Transfer<'a>) -> Result<(), Failure<'a>> {
-    let key = key::read(rt, paths.key, paths.quiet)?;
+    let key = key_of(rt, paths)?;
     if !paths.quiet {
         refuse_inputs(rt, paths, &[&key])?;
     }
     let task = Task::Open { key: key.key };
-    let text_bytes = match paths.input {
+    let bytes = match paths.input {
         Place::File(name) => {
             let file = File::open(rt, name).map_err(|error| Failure::Input(Name(name), error))?;
             let shown = display(rt, paths.quiet, length_of(&file));
@@ -330,7 +347,7 @@ pub fn check<'a>(rt: &HostRuntime, paths: Transfer<'a>) -> Result<(), Failure<'a
     if paths.quiet {
         return Ok(());
     }
-    printed(println!(rt; "{text_bytes} bytes of text, all verified"))
+    printed(println!(rt; "{bytes} bytes of contents, all verified"))
 }
 
 // The failure of `keygen`, which has no `--force`.

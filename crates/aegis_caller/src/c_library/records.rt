@@ -65,16 +65,16 @@ pub fn opened_at(
     prefix: &[u8; 24],
     context: &[u8],
     position: RecordPosition,
-    record: &mut [u8],
+    bytes: &mut [u8],
 ) -> Result<u8, Refusal>
     requires { position.version ≡ Second }
-    ensures { IfOk result (λ flag. record.old
+    ensures { IfOk result (λ flag. bytes.old
         ≡ record_of (progress_at k.now prefix.now context.now position) flag
-        (message_in record.new)) }
+        (message_in bytes.new)) }
 {
     begin_open_at(st, k, prefix, context, position.number, position.before)?;
     let mut is_last = 0;
-    open(st, context, record, &mut is_last)?;
+    open(st, context, bytes, &mut is_last)?;
     Ok(is_last)
 }
 
