@@ -20,8 +20,8 @@ LIBRARY = $(OUT)/$(FOLDER)/libhunkravy.a
 
 STORED_LINES = crates/test_agreement/data
 OWN_HEADERS = hunkravy.h hunkravy_records.h hunkravy_pages.h
-HEADERS = $(OWN_HEADERS) aegis_compat.h sodium_compat.h
-C_EXAMPLES = seal chunks records pages libaegis libaegis_chunks libsodium
+HEADERS = $(OWN_HEADERS) sodium_compat.h
+C_EXAMPLES = seal chunks records pages libsodium
 
 # The names that the library exports: the calls that its headers declare.
 EXPORTS = sed -nE 's/^(HUNKRAVY_MUST_USE )?(int|size_t|uint64_t|void|const char) \*?(hunkravy_[a-z0-9_]*)\(.*/\3/p' $(OWN_HEADERS:%=c/include/%)
@@ -84,13 +84,13 @@ check-c-aarch64: export ASAN_OPTIONS = detect_leaks=0
 CLANG = $(shell command -v clang)
 
 check-header:
-	for header in $(HEADERS); do for form in HUNKRAVY_COMPAT HUNKRAVY_COMPAT_WRITTEN; do for compiler in $(CC) $(CLANG); do \
+	for header in $(HEADERS); do for compiler in $(CC) $(CLANG); do \
 		for standard in c99 c11 c17 c2x c++11 c++14 c++17 c++20; do \
 			case $$standard in c++*) language=c++ ;; *) language=c ;; esac; \
 			echo "#include \"$$header\"" | \
-				$$compiler -std=$$standard $(C_FLAGS) -D$$form -fsyntax-only -x $$language - || exit 1; \
+				$$compiler -std=$$standard $(C_FLAGS) -fsyntax-only -x $$language - || exit 1; \
 		done; \
-	done; done; done
+	done; done
 	other_library() { \
 		printf '#include <stdint.h>\n#undef __GLIBC__\n#include "hunkravy.h"\n' | $(CC) -Ic/include $${1-} -fsyntax-only -x c -; \
 	} && other_library -DHUNKRAVY_GLIBC && ! other_library 2> /dev/null
@@ -104,8 +104,8 @@ check-header:
 	fi
 
 # The C programs: the examples, and the tests, which read the stored lines.
-C_TESTS = check_calls check_states check_records check_pages check_libaegis check_libsodium
-C_PROGRAMS = $(C_EXAMPLES) $(C_TESTS) check_libaegis_written
+C_TESTS = check_calls check_states check_records check_pages check_libsodium
+C_PROGRAMS = $(C_EXAMPLES) $(C_TESTS)
 
 # The library whose calls the sanitizers see: its sources, over the proved exports of one level.
 SANITIZED = c/library/*.c c/levels/choose.c -DHUNKRAVY_LEVEL=0
