@@ -33,9 +33,9 @@ install-tool: $(TOOL_LEVELS:%=$(OUT)/%/hunkravy)
 	install -D -m 644 $(TOOL_PAGES)/zsh "$(DESTDIR)$(ZSH_COMPLETIONS)/_hunkravy"
 	install -D -m 644 $(TOOL_PAGES)/fish "$(DESTDIR)$(PREFIX)/share/fish/vendor_completions.d/hunkravy.fish"
 
-# The tests of the program that need files, pipes and kills: some minutes, and 100 MB of disk.
+# The tests of the program that need files, pipes and kills: a minute or two, and 300 MB of disk.
 check-tool: $(OUT)/$(lastword $(TOOL_LEVELS))/hunkravy
-	tools/check_tool.sh $< $(VERSION)
+	tools/check_tool.sh "$(abspath $<)" $(VERSION)
 
 # Writes the manual page and the completions by what the program's help says. check-tool compares them with it.
 tool-pages: $(OUT)/$(lastword $(TOOL_LEVELS))/hunkravy

@@ -32,23 +32,29 @@ fn check_sealed<R: Abort>(rt: &R, sealed: &[u8], tag: &[u8; 16], call: &str) -> 
     Ok(())
 }
 
-// Passes the chunks to an encryptor, which writes over a copy of the message. Returns the tag, and what `remaining`
-// returns.
-fn seal_each<S: LaneState>(
-    encryptor: Encryptor<S, 16>,
-    is_in_place: bool,
+// The call by which an encryptor takes its chunks.
+#[derive(Clone, Copy)]
+enum Update {
+    InPlace,
+    Copied,
+}
+
+// Passes chunks to an encryptor, which writes over a copy of the message. Returns the tag, and what `remaining` returns.
+fn seal_each<S: LaneState, const TAG_BYTES: usize>(
+    encryptor: Encryptor<S, TAG_BYTES>,
+    update: Update,
+    chunks: &[&[u8]],
     buffer: &mut [u8],
-) -> ([u8; 16], u64) {
+) -> ([u8; TAG_BYTES], u64) {
     let mut encryptor = encryptor;
     let mut rest = buffer;
-    for chunk in chunks() {
+    for chunk in chunks {
         let length = chunk.len().min(rest.len());
         let (sealed, after) = rest.split_at_mut(length);
         if sealed.len() == chunk.len() && encryptor.remaining() > chunk.len() as u64 {
-            if is_in_place {
-                encryptor.update_in_place(sealed);
-            } else {
-                encryptor.update(chunk, sealed);
+            match update {
+                Update::InPlace => encryptor.update_in_place(sealed),
+                Update::Copied => encryptor.update(chunk, sealed),
             }
         }
         rest = after;
@@ -59,10 +65,10 @@ fn seal_each<S: LaneState>(
 
 #[test]
 fn an_encryptor_takes_chunks(rt: HostRuntime) -> Result<(), Fail> {
-    for is_in_place in [false, true] {
+    for update in [Update::InPlace, Update::Copied] {
         let mut sealed = MESSAGE;
         let encryptor = aegis128l().encryptor(&ASSOCIATED_DATA);
-        let (tag, remaining) = seal_each(encryptor, is_in_place, &mut sealed);
+        let (tag, remaining) = seal_each(encryptor, update, &chunks(), &mut sealed);
         check_sealed(&rt, &sealed, &tag, "an encryptor")?;
         assert_eq!(rt; remaining, MAX_AEAD_BYTES - 114);
     }

@@ -1,5 +1,7 @@
 //! MACs: each call once, and clones.
 
+ghost use Rattle.std.specs.Prelude.{◌≡◌};
+
 use crate::tests::{assert_bytes, bytes_of};
 use aegis::aegis128l::Aegis128LMac;
 use aegis::aegis256x4::Aegis256X4Mac;

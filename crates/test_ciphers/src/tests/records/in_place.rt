@@ -1,7 +1,8 @@
 //! Records that are opened or sealed in the buffer that holds them.
 
+ghost use Rattle.std.specs.Prelude.{◌≤◌};
+
 use crate::tests::assert_bytes;
-use crate::tests::records::assert_error;
 use crate::tests::records::streams::{CONTEXT, KEY, MESSAGES, PREFIX, SECOND};
 use aegis::ERASED;
 use aegis::record::{
@@ -19,51 +20,79 @@ fn opened(opener: &mut RecordOpener<'_>, bytes: &mut [u8]) -> Result<OpenedInPla
     opener.open_next_in_place(bytes)
 }
 
-// Asserts what opening has returned.
-fn assert_ok<R: Abort>(
-    rt: &R,
-    found: Result<OpenedInPlace, RecordError>,
-    message_len: usize,
-    is_last: bool,
-) {
-    let expected = OpenedInPlace {
-        message_len,
-        is_last,
-    };
-    assert_eq!(rt; found, Ok(expected));
+// Opens the next record of a stream, which ends before this byte.
+fn opened_before(
+    opener: &mut RecordOpener<'_>,
+    stream: &mut [u8; 81],
+    end: usize,
+) -> Result<OpenedInPlace, RecordError>
+    requires start { 41 ≤ end }
+    requires end { end ≤ 81 }
+{
+    opened(opener, &mut stream[41..end])
 }
 
-// A record with a wrong tag, then the right one in the same buffer, then one after the last.
+// Asserts what opening the last record of a stream returns, and what the buffer then holds.
+fn check_last<R: Abort>(
+    rt: &R,
+    opener: &mut RecordOpener<'_>,
+    stream: &[u8; 81],
+    end: usize,
+    answer: Result<OpenedInPlace, RecordError>,
+    expected: &[u8; 81],
+)
+    requires start { 41 ≤ end }
+    requires end { end ≤ 81 }
+{
+    let mut buffer = *stream;
+    let found = opened_before(opener, &mut buffer, end);
+    assert_eq!(rt; found, answer);
+    assert_bytes(rt, &buffer, expected, stream);
+}
+
+// The last record with a wrong tag, truncated, whole, and once more.
 #[test]
 fn records_are_opened_in_their_buffer(rt: HostRuntime) -> Result<(), Fail> {
+    let mut first = SECOND;
     let mut opener = RecordOpener::new(&KEY, &PREFIX, &CONTEXT, &SECOND[..4])?;
-    let mut buffer = SECOND;
-    assert_ok(&rt, opened(&mut opener, &mut buffer[4..]), 0, false);
+    opened(&mut opener, &mut first[4..])?;
 
-    buffer[80] ^= 1;
-    let mut expected = buffer;
-    expected[46..49].fill(ERASED);
-    let refused = opened(&mut opener, &mut buffer[41..]).err();
-    assert_error(&rt, refused, RecordError::Damaged(1), &"a wrong tag");
-    assert_bytes(&rt, &buffer, &expected, &"a wrong tag");
-
-    buffer = SECOND;
-    let refused = opened(&mut opener, &mut buffer[41..80]).err();
-    assert_error(&rt, refused, RecordError::Truncated, &"a truncated record");
-    assert_bytes(&rt, &buffer, &SECOND, &"a truncated record");
-
-    assert_ok(&rt, opened(&mut opener, &mut buffer[41..]), 3, true);
-    expected = SECOND;
-    expected[46..49].copy_from_slice(MESSAGES[1]);
-    assert_bytes(&rt, &buffer, &expected, &"the last record");
-    let refused = opened(&mut opener, &mut buffer[4..]).err();
-    assert_error(
+    let mut wrong = SECOND;
+    wrong[80] ^= 1;
+    let mut erased = wrong;
+    erased[46..49].fill(ERASED);
+    check_last(
         &rt,
-        refused,
-        RecordError::Trailing,
-        &"after the last record",
+        &mut opener,
+        &wrong,
+        81,
+        Err(RecordError::Damaged(1)),
+        &erased,
     );
-    assert_bytes(&rt, &buffer, &expected, &"after the last record");
+    check_last(
+        &rt,
+        &mut opener,
+        &SECOND,
+        80,
+        Err(RecordError::Truncated),
+        &SECOND,
+    );
+
+    let last = OpenedInPlace {
+        message_len: 3,
+        is_last: true,
+    };
+    let mut message = SECOND;
+    message[46..49].copy_from_slice(MESSAGES[1]);
+    check_last(&rt, &mut opener, &SECOND, 81, Ok(last), &message);
+    check_last(
+        &rt,
+        &mut opener,
+        &SECOND,
+        81,
+        Err(RecordError::Trailing),
+        &SECOND,
+    );
     Ok(())
 }
 
