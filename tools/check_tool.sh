@@ -1,33 +1,29 @@
 #!/bin/bash
-# Tests the file tool with files, links, pipes, terminals, full devices, calls that fail, and kills, which no proof covers.
-# `make check-tool` runs it: each scene of tools/check_tool is a program, and as many as there are processors run side by side.
-#
-#   check_tool.sh TOOL VERSION [SCENE..]
+# check_tool.sh TOOL VERSION [SCENE..]: tests the file tool with files, links, pipes, terminals, full devices, calls that fail
+# and kills, which no proof covers. `make check-tool` runs it. Each file test_*.py of tools/check_tool is a scene, and as many
+# as there are processors (RT_JOBS) run side by side.
 set -euo pipefail
-cd "$(dirname "$0")/check_tool"
-[[ $1 = /* ]] || { echo "$0: name TOOL from the root" >&2; exit 1; }
-export TOOL=$1 VERSION=$2 PYTHONDONTWRITEBYTECODE=1 CALLS_LIBRARY
+export TOOL VERSION=$2 CALLS_LIBRARY work PYTHONDONTWRITEBYTECODE=1
+TOOL=$(realpath "$1")
 shift 2
+cd "$(dirname "$0")/check_tool"
 work=$(mktemp -d)
 trap 'rm -rf "$work"' EXIT
+chmod 711 "$work"
 CALLS_LIBRARY=$work/calls.so
 "${CC:-gcc}" -shared -fPIC -O1 calls.c -ldl -o "$CALLS_LIBRARY"
 
-# Runs a scene, and prints what it printed once it has ended.
+# Runs a scene, and prints its result, what it left out, and if it failed all that it printed.
 scene() {
-    local begun=$SECONDS status=0
-    TMPDIR=$2 python3 "test_$1.py" > "$2/$1.log" 2>&1 || status=$?
-    grep '^left out: ' "$2/$1.log" || true
-    if [ $status = 0 ] && grep -q '^Ran [1-9]' "$2/$1.log"; then
+    local begun=$SECONDS log=$work/$1.log
+    if TMPDIR=$work python3 -m unittest "$1" > "$log" 2>&1 && grep -q '^Ran [1-9]' "$log"; then
+        grep '^left out: ' "$log" || true
         echo "passed: $1, $((SECONDS - begun)) s"
     else
-        cat "$2/$1.log"
+        cat "$log"
         echo "failed: $1"
         return 1
     fi
 }
 export -f scene
-scenes=${*:-calls long contents command_line outputs folders terminals}
-# Each file of tests is run.
-diff <(printf 'test_%s.py\n' $scenes | sort) <(ls test_*.py) > /dev/null || [ $# != 0 ] || { echo 'a scene is left out' >&2; exit 1; }
-printf '%s\n' $scenes | xargs -P "${RT_JOBS:-$(nproc)}" -I{} bash -c 'scene {} '"$work"
+ls test_*.py | sed 's/\.py$//' | grep -x "${*:-.*}" | xargs -P "${RT_JOBS:-$(nproc)}" -I{} bash -c 'scene {}'

@@ -35,7 +35,7 @@ install-tool: $(TOOL_LEVELS:%=$(OUT)/%/hunkravy)
 
 # The tests of the program that need files, pipes and kills: a minute or two, and 300 MB of disk.
 check-tool: $(OUT)/$(lastword $(TOOL_LEVELS))/hunkravy
-	tools/check_tool.sh "$(abspath $<)" $(VERSION)
+	tools/check_tool.sh $< $(VERSION)
 
 # Writes the manual page and the completions by what the program's help says. check-tool compares them with it.
 tool-pages: $(OUT)/$(lastword $(TOOL_LEVELS))/hunkravy

@@ -1,6 +1,6 @@
-"""What the scenes of this folder share: a folder of their own, with keys and sealed files, and runs of the program in it.
+"""What the scenes of this folder share: a folder with keys and sealed files, and runs of the program in it.
 
-`make check-tool` sets TOOL to the program, VERSION to its version, and CALLS_LIBRARY to the library of calls.c.
+TOOL is the program, VERSION its version, and CALLS_LIBRARY the library of calls.c, as tools/check_tool.sh sets them.
 """
 
 import os
@@ -14,28 +14,22 @@ import tempfile
 import time
 import unittest
 
-TOOL = os.path.abspath(os.environ["TOOL"])
-CALLS = os.path.abspath(os.environ["CALLS_LIBRARY"])
+TOOL, CALLS = os.environ["TOOL"], os.environ["CALLS_LIBRARY"]
 ROOT = pathlib.Path(__file__).resolve().parents[2]
 KEY = bytes(range(32))
 PIECE = 65_536
 IS_ROOT = os.geteuid() == 0
 
 
-def write(name, contents, mode=0o600):
-    """Writes a file, and returns its name."""
+def write(name, contents):
+    """Writes a file of mode 0600, and returns its name."""
     pathlib.Path(name).write_bytes(contents if isinstance(contents, bytes) else contents.encode())
-    os.chmod(name, mode)
+    os.chmod(name, 0o600)
     return name
 
 
 def read(name):
     return pathlib.Path(name).read_bytes()
-
-
-def cut(name, length):
-    """The first bytes of a file."""
-    return write("cut", read(name)[:length])
 
 
 def flipped(name, place):
@@ -51,7 +45,7 @@ def parts(folder="."):
 
 
 def wait_until(is_so):
-    """Waits until a function returns something true, for ten seconds, and returns that."""
+    """Waits for a result that is true, and returns it."""
     for _ in range(1000):
         if found := is_so():
             return found
@@ -59,19 +53,22 @@ def wait_until(is_so):
     raise AssertionError("it did not come about in ten seconds")
 
 
+def limit(kind, most):
+    """A function that sets the soft limit of a process."""
+    return lambda: resource.setrlimit(kind, (most, resource.getrlimit(kind)[1]))
+
+
 class Scene(unittest.TestCase):
-    """Tests of the program, each in a folder of its own that has a key, `other` (a key), `small` (1,000 bytes), `text`
+    """Tests of the program, each in a folder of its own with the keys `key` and `other`, `small` (1,000 bytes), `text`
     (200,000 bytes), and `sealed`, the sealed file of `text`."""
 
     @classmethod
     def setUpClass(cls):
         cls.model = tempfile.mkdtemp()
         cls.addClassCleanup(shutil.rmtree, cls.model)
-        with_folder = f"{cls.model}/"
-        write(with_folder + "key", KEY.hex() + "\n")
-        write(with_folder + "other", "ab" * 32 + "\n")
-        write(with_folder + "small", os.urandom(1000))
-        write(with_folder + "text", os.urandom(200_000))
+        for name, contents in ("key", KEY.hex() + "\n"), ("other", "ab" * 32), ("small", os.urandom(1000)):
+            write(f"{cls.model}/{name}", contents)
+        write(f"{cls.model}/text", os.urandom(200_000))
         subprocess.run([TOOL, "seal", "-k", "key", "text", "sealed"], check=True, cwd=cls.model)
 
     def setUp(self):
@@ -80,68 +77,57 @@ class Scene(unittest.TestCase):
         self.addCleanup(shutil.rmtree, folder)
         self.addCleanup(os.chdir, os.getcwd())
         os.chdir(folder)
-        self.said, self.status = "", 0
 
     def left_out(self, what):
         """Leaves the rest of the test out, with a line that the gate counts."""
         print(f"left out: {what}", flush=True)
         self.skipTest(what)
 
-    # ---- Runs
-
-    def run_of(self, status, command, says=(), lacks=(), **options):
-        """Runs a command, which must end with this status, print what the expressions of `says` match, and nothing that
-        those of `lacks` do."""
-        options.setdefault("stdin", subprocess.DEVNULL)
-        ran = subprocess.run(command, stdout=subprocess.PIPE, stderr=subprocess.STDOUT, timeout=300, check=False, **options)
-        self.ended(command, ran.returncode, ran.stdout, status, says, lacks)
-        return ran.stdout
-
     def ended(self, command, found, printed, status, says=(), lacks=()):
-        """Asserts how a run has ended, and what it has printed."""
+        """Asserts that a command ended with this status, or one of these, and printed what the expressions of `says` match,
+        and nothing that those of `lacks` do."""
         self.said, self.status = printed.decode(errors="surrogateescape"), found
-        statuses = status if isinstance(status, tuple) else (status,)
-        self.assertIn(found, statuses, f"the status of {command}, which printed: {self.said}")
+        self.assertIn(found, status if isinstance(status, tuple) else (status,), f"{command}: {self.said}")
         for text in (says,) if isinstance(says, str) else says:
             self.assertRegex(self.said, re.compile(text, re.M), f"{command}")
         for text in (lacks,) if isinstance(lacks, str) else lacks:
             self.assertNotRegex(self.said, re.compile(text, re.M), f"{command}")
 
-    def tool(self, status, words, says=(), lacks=(), **options):
-        """Runs the program with these words, which are a list if a space does not end each."""
-        return self.run_of(status, [TOOL, *(words.split(" ") if isinstance(words, str) else words)], says, lacks, **options)
+    def run_of(self, status, command, says=(), lacks=(), **options):
+        """Runs a command."""
+        output = {"stdin": subprocess.DEVNULL, "stdout": subprocess.PIPE, "stderr": subprocess.STDOUT}
+        ran = subprocess.run(command, timeout=300, check=False, **output, **options)
+        self.ended(command, ran.returncode, ran.stdout, status, says, lacks)
 
-    def shell(self, status, command, says=(), lacks=(), **options):
-        """Runs a command of bash, in which $tool is the program."""
-        options["env"] = {**os.environ, "tool": TOOL, **options.get("env", {})}
-        return self.run_of(status, ["bash", "-c", command], says, lacks, **options)
+    def tool(self, status, words, says=(), lacks=(), **options):
+        """Runs the program with these words, a list or a text with spaces between them."""
+        self.run_of(status, [TOOL, *(words.split(" ") if isinstance(words, str) else words)], says, lacks, **options)
+
+    def shell(self, status, command, says=(), lacks=(), **settings):
+        """Runs a command of bash, in which $tool is the program, with these settings in the environment."""
+        self.run_of(status, ["bash", "-c", command], says, lacks, env={**os.environ, "tool": TOOL, **settings})
 
     def terminal(self, status, command, says=(), lacks=()):
         """Runs a command of bash in a terminal of its own, and returns what it has printed."""
         process, terminal = pty.fork()
         if process == 0:
-            os.environ["tool"] = TOOL
-            os.execvp("bash", ["bash", "-c", command])
-        printed = bytearray()
+            os.execvpe("bash", ["bash", "-c", command], {**os.environ, "tool": TOOL})
+        printed = b""
         try:
             while piece := os.read(terminal, PIECE):
                 printed += piece
         except OSError:
-            pass
-        os.close(terminal)
-        found = os.waitstatus_to_exitcode(os.waitpid(process, 0)[1])
-        self.ended(command, found, bytes(printed), status, says, lacks)
-        return bytes(printed)
+            os.close(terminal)
+        self.ended(command, os.waitstatus_to_exitcode(os.waitpid(process, 0)[1]), printed, status, says, lacks)
+        return printed
 
-    def begun(self, words):
-        """Begins a run of the program, which is ended by `ends`."""
-        return subprocess.Popen([TOOL, *words.split(" ")], stdout=subprocess.PIPE, stderr=subprocess.STDOUT)
+    def begun(self, words, **options):
+        """Begins a run of the program."""
+        return subprocess.Popen([TOOL, *words.split(" ")], stdout=subprocess.PIPE, stderr=subprocess.STDOUT, **options)
 
-    def ends(self, begun, status, says=(), lacks=()):
-        printed, _ = begun.communicate(timeout=300)
-        self.ended(begun.args, begun.returncode, printed, status, says, lacks)
-
-    # ---- Files
+    def ends(self, run, status, says=(), lacks=()):
+        printed, _ = run.communicate(timeout=300)
+        self.ended(run.args, run.returncode, printed, status, says, lacks)
 
     def is_same(self, name, other):
         self.assertTrue(read(name) == (read(other) if isinstance(other, str) else other), f"{name} is another file")
@@ -153,10 +139,10 @@ class Scene(unittest.TestCase):
 
     def is_missing(self, *names):
         for name in names:
-            self.assertFalse(os.path.lexists(name), f"{name} is left: {self.said}")
+            self.assertFalse(os.path.lexists(name), f"{name} is left")
 
     def no_parts(self, folder="."):
-        self.assertEqual(parts(folder), [], self.said)
+        self.assertEqual(parts(folder), [])
 
     def is_rejected(self, name, options="", says=()):
         """The file, or a part of it, is not opened, and no output is left or printed."""
@@ -168,15 +154,3 @@ class Scene(unittest.TestCase):
             self.is_same("printed", b"")
         else:
             self.tool(1, f"check -k key {name}", says)
-
-
-def limited():
-    """Sets a limit of 8 MB on the memory of the process."""
-    resource.setrlimit(resource.RLIMIT_AS, (8_000 * 1024, 8_000 * 1024))
-
-
-def with_little_stack():
-    """Sets the least stack that a run may have: 128 KB, and what the environment and the command line take of it."""
-    words = sum(len(name) + len(value) + 2 for name, value in os.environ.items())
-    _, most = resource.getrlimit(resource.RLIMIT_STACK)
-    resource.setrlimit(resource.RLIMIT_STACK, (128 * 1024 + words + 4096, most))

@@ -2,10 +2,12 @@
 
 import os
 import re
-import unittest
+import resource
 
-from scene import CALLS, Scene, cut, parts, read, with_little_stack, write
+from scene import CALLS, Scene, limit, parts, read, write
 
+# The least stack that a run may have: 128 KB, and what the environment and the command line take of it.
+STACK = 132 * 1024 + sum(len(name) + len(value) + 2 for name, value in os.environ.items())
 STAYS = "is not removed, and may hold plaintext or a key"
 
 
@@ -15,7 +17,7 @@ class Calls(Scene):
         if os.path.exists("noted"):
             os.remove("noted")
         noted = {"LD_PRELOAD": CALLS, "CALLS": os.path.abspath("noted"), **settings}
-        self.tool(status, words, says, lacks, env={**os.environ, **noted}, preexec_fn=with_little_stack)
+        self.tool(status, words, says, lacks, env={**os.environ, **noted}, preexec_fn=limit(resource.RLIMIT_STACK, STACK))
         return read("noted").decode().split() if os.path.exists("noted") else []
 
     def each(self, status, words, setting, **settings):
@@ -61,7 +63,7 @@ class Calls(Scene):
 
     # A folder that is renamed just before a name in it is removed: it is said that the file stays.
     def test_a_folder_that_moves_at_the_end(self):
-        for status, command in (1, f"open -k key {cut('sealed', 1000)} moving/out"), (3, "seal -k key small moving/out"):
+        for status, command in (1, f"open -k key {write('cut', read('sealed')[:-1])} moving/out"), (3, "seal -k key small moving/out"):
             os.mkdir("moving")
             self.with_calls(status, command, STAYS, MOVES="moving")
             os.rename("moving.moved", f"moved-{status}")
@@ -78,12 +80,12 @@ class Calls(Scene):
     def test_an_input_that_goes_on_after_its_end(self):
         self.with_calls(0, "seal -k key small out", GOES_ON="1")
         self.opens("out", read("small"))
-        self.with_calls(1, f"info {cut('sealed', 140_000)}", "at least 56747 bytes are missing$", GOES_ON="1")
+        self.with_calls(1, f"info {write('cut', read('sealed')[:140_000])}", "at least 56747 bytes are missing$", GOES_ON="1")
 
     # If the caller has closed standard error, the next file that is opened could get its descriptor, and a message.
     def test_no_message_in_an_output(self):
         for closed in "sealed out 2>&-", "sealed out >&- 2>&-", "sealed out <sealed >&- 2>&-", "- out <sealed 2>&-":
-            self.shell(0, f"$tool open -k key {closed}", env={"LD_PRELOAD": CALLS, "LINK_FAILS": "1"})
+            self.shell(0, f"$tool open -k key {closed}", LD_PRELOAD=CALLS, LINK_FAILS="1")
             self.is_same("out", "text")
             os.remove("out")
 
@@ -180,8 +182,12 @@ class Calls(Scene):
 
     def test_each_call_fails_on_standard_output(self):
         for command in "seal -k key text", "open -k key sealed":
-            count = 0
-            for count, _ in self.each_printed(command):
+            for number in range(1, 1000):
+                write("noted", "")
+                settings = {"LD_PRELOAD": CALLS, "CALLS": os.path.abspath("noted"), "AT": str(number)}
+                self.shell((0, 3), f"exec $tool {command} > printed", **settings)
+                if b"here" not in read("noted"):
+                    break
                 printed = read("printed")
                 if command.startswith("open"):
                     self.assertTrue(read("text").startswith(printed))
@@ -189,17 +195,4 @@ class Calls(Scene):
                     self.assertTrue(self.status == 0 or not printed or "incomplete: discard it" in self.said)
                 else:
                     self.tool(0 if self.status == 0 else 1, "check -k key printed")
-            self.assertGreater(count, 8)
-
-    def each_printed(self, command):
-        for number in range(1, 1000):
-            write("noted", "")
-            settings = {"LD_PRELOAD": CALLS, "CALLS": os.path.abspath("noted"), "AT": str(number)}
-            self.shell((0, 3), f"exec $tool {command} > printed", env=settings)
-            if b"here" not in read("noted"):
-                return
-            yield number, command
-
-
-if __name__ == "__main__":
-    unittest.main()
+            self.assertGreater(number, 8)
