@@ -2,14 +2,13 @@
 .PHONY: check-rust check-raf
 
 # Its tests and those of the calls below it, over the library with both levels and over each level alone: the stored lines,
-# forgeries, the samples of the crate's pages, its examples, and three other implementations. The programs that measure it run.
+# forgeries, the samples of the crate's pages, and its examples. The programs that measure it run.
 check-rust: $(addprefix check-rust-,both $(RUNNABLE)) check-bench
 
-check-rust-%: $(OUT)/%/libhunkravy.a $(OUT)/%/driver
+check-rust-%: $(OUT)/%/libhunkravy.a
 	cd rust && export HUNKRAVY_LIB_DIR="$(CURDIR)/$(<D)" CARGO_TARGET_DIR="$(CURDIR)/$(<D)/cargo" && \
 		cargo test --offline && \
 		for example in seal records store; do cargo run --offline --example $$example || exit 1; done
-	$(OUT)/$*/driver
 
 # ---- Files in place
 
