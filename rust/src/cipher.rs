@@ -3,7 +3,7 @@
 use crate::error::{accepted, done};
 use crate::run::Run;
 use crate::variant::assert_tag_bytes;
-use crate::{Decryptor, Encryptor, Error, Tag, Variant, chunks_len};
+use crate::{Decryptor, Encryptor, Error, Tag, Variant};
 use alloc::vec::Vec;
 use core::fmt;
 
@@ -200,8 +200,7 @@ impl<V: Variant, const TAG_BYTES: usize> Cipher<V, TAG_BYTES> {
     /// use hunkravy::aegis128l::{Aegis128L, Error};
     ///
     /// let cipher = Aegis128L::<16>::new(&[1; 16], &[2; 16]);
-    /// let mut ciphertext = [0; 5];
-    /// let tag = cipher.seal_chunks(b"header", &[b"AEGIS"], &mut ciphertext);
+    /// let (ciphertext, tag) = Aegis128L::<16>::new(&[1; 16], &[2; 16]).encrypt(b"AEGIS", b"header");
     ///
     /// let mut buffer = [0; 5];
     /// let mut decryptor = cipher.decryptor(b"header", &mut buffer);
@@ -217,103 +216,6 @@ impl<V: Variant, const TAG_BYTES: usize> Cipher<V, TAG_BYTES> {
     ) -> Decryptor<'a, V, TAG_BYTES> {
         let run = Run::new(&self.key, &self.nonce, associated_data);
         Decryptor::new(run, plaintext)
-    }
-
-    /// Seals a list of chunks into `out`: the ciphertext of the chunks one after the other. Returns its tag.
-    ///
-    /// # Panics
-    ///
-    /// If `out` is not as long as the chunks together ([`chunks_len`]), before it has changed.
-    ///
-    /// ```
-    /// use hunkravy::aegis128l::Aegis128L;
-    ///
-    /// let cipher = Aegis128L::<16>::new(&[1; 16], &[2; 16]);
-    /// let mut ciphertext = [0; 10];
-    /// let tag = cipher.seal_chunks(b"header", &[b"AEGIS", b" fast"], &mut ciphertext);
-    /// assert_eq!((ciphertext.to_vec(), tag), cipher.encrypt(b"AEGIS fast", b"header"));
-    /// ```
-    #[track_caller]
-    #[must_use = "the message cannot be opened without its tag"]
-    pub fn seal_chunks(&self, ad: &[u8], chunks: &[&[u8]], out: &mut [u8]) -> Tag<TAG_BYTES> {
-        assert_eq!(
-            chunks_len(chunks),
-            Some(out.len() as u64),
-            "the ciphertext is as long as the chunks"
-        );
-        let mut encryptor = self.encryptor(ad);
-        let mut rest = out;
-        for chunk in chunks {
-            let (ciphertext, after) = rest.split_at_mut(chunk.len());
-            encryptor.update(chunk, ciphertext);
-            rest = after;
-        }
-        encryptor.finalize()
-    }
-
-    /// Opens a list of chunks at the front of `dst`, and returns the message. A chunk that does not fit is left out, as if
-    /// [`Decryptor::update`] had refused it.
-    ///
-    /// # Errors
-    ///
-    /// As [`Decryptor::finalize`].
-    ///
-    /// ```
-    /// use hunkravy::aegis256::{Aegis256, Error};
-    ///
-    /// let cipher = Aegis256::<32>::new(&[1; 32], &[2; 32]);
-    /// let mut ciphertext = [0; 10];
-    /// let tag = cipher.seal_chunks(b"header", &[b"AEGIS fast"], &mut ciphertext);
-    ///
-    /// let mut buffer = [0; 100];
-    /// let (first, second) = ciphertext.split_at(3);
-    /// let message = cipher.open_chunks(b"header", &[first, second], &tag, &mut buffer)?;
-    /// assert_eq!(message, b"AEGIS fast");
-    /// # Ok::<(), Error>(())
-    /// ```
-    #[track_caller]
-    pub fn open_chunks<'a>(
-        &self,
-        ad: &[u8],
-        chunks: &[&[u8]],
-        tag: &Tag<TAG_BYTES>,
-        dst: &'a mut [u8],
-    ) -> Result<&'a mut [u8], Error> {
-        let mut decryptor = self.decryptor(ad, dst);
-        for chunk in chunks {
-            // A chunk that is refused changes nothing.
-            let _ = decryptor.update(chunk);
-        }
-        decryptor.finalize(tag)
-    }
-
-    /// Opens a list of chunks at the front of `dst`, as [`open_chunks`](Self::open_chunks) does, and returns the message's
-    /// length in bytes.
-    ///
-    /// For a caller that uses `dst` afterwards.
-    ///
-    /// # Errors
-    ///
-    /// As [`Decryptor::finalize`].
-    ///
-    /// ```
-    /// use hunkravy::aegis256::{Aegis256, Error};
-    ///
-    /// let cipher = Aegis256::<32>::new(&[1; 32], &[2; 32]);
-    /// let mut buffer = *b"no ciphertext";
-    /// let refused = cipher.open_chunks_len(b"", &[b"nope"], &[0; 32], &mut buffer);
-    /// assert_eq!(refused, Err(Error::InvalidTag));
-    /// assert_eq!(&buffer, b"\0\0\0\0iphertext");
-    /// ```
-    #[track_caller]
-    pub fn open_chunks_len(
-        &self,
-        ad: &[u8],
-        chunks: &[&[u8]],
-        tag: &Tag<TAG_BYTES>,
-        dst: &mut [u8],
-    ) -> Result<usize, Error> {
-        Ok(self.open_chunks(ad, chunks, tag, dst)?.len())
     }
 }
 

@@ -96,28 +96,6 @@ impl<'a, V: Variant, const TAG_BYTES: usize> Decryptor<'a, V, TAG_BYTES> {
         let written = mem::take(&mut self.written);
         Ok(&mut mem::take(&mut self.plaintext)[..written])
     }
-
-    /// Leaves the message in the destination if the tag is right, and returns its length in bytes.
-    ///
-    /// For a caller that uses the destination afterwards.
-    ///
-    /// # Errors
-    ///
-    /// As [`finalize`](Self::finalize).
-    ///
-    /// ```
-    /// use hunkravy::aegis128l::{Aegis128L, Error};
-    ///
-    /// let cipher = Aegis128L::<16>::new(&[1; 16], &[2; 16]);
-    /// let mut buffer = [0; 100];
-    /// let tag = cipher.encryptor(b"").finalize();
-    /// let length = cipher.decryptor(b"", &mut buffer).finalize_len(&tag)?;
-    /// assert_eq!(length, 0);
-    /// # Ok::<(), Error>(())
-    /// ```
-    pub fn finalize_len(self, tag: &Tag<TAG_BYTES>) -> Result<usize, Error> {
-        Ok(self.finalize(tag)?.len())
-    }
 }
 
 /// Leaves zeros in the place of what was written.

@@ -6,6 +6,8 @@
 #![deny(missing_docs)]
 #![deny(unsafe_op_in_unsafe_fn)]
 
+use core::marker::PhantomData;
+
 /// What each byte of a buffer is after a refused opening in place.
 pub const ERASED: u8 = 0xaa;
 
@@ -26,6 +28,8 @@ pub enum Refusal {
     WrongTagLength,
     /// The state was not begun, or has ended; or it is of a message in the other direction, or a MAC and no message.
     WrongState,
+    /// The context of a record stream has more than 65,535 bytes.
+    ContextTooLong,
     /// No version of record streams has this header.
     UnknownHeader,
     /// A record has fewer bytes than a record of no message.
@@ -49,6 +53,7 @@ fn read(code: i32) -> Answer {
         -5 => Err(Refusal::DataTooLong),
         -6 => Err(Refusal::WrongTagLength),
         -7 => Err(Refusal::WrongState),
+        -9 => Err(Refusal::ContextTooLong),
         -10 => Err(Refusal::UnknownHeader),
         -11 => Err(Refusal::WrongRecordLength),
         -12 => Err(Refusal::WrongPageSize),
@@ -258,7 +263,7 @@ unsafe extern "C" {
         textlen: &mut u64,
     ) -> i32;
     fn hunkravy_record_begin(
-        st: &mut Records,
+        st: &mut Records<'_>,
         k: &[u8; 32],
         prefix: &[u8; 24],
         context: In,
@@ -266,18 +271,27 @@ unsafe extern "C" {
         header: &mut [u8; 4],
     ) -> i32;
     fn hunkravy_record_begin_open(
-        st: &mut Records,
+        st: &mut Records<'_>,
         k: &[u8; 32],
         prefix: &[u8; 24],
         context: In,
         contextlen: usize,
         header: &[u8; 4],
     ) -> i32;
-    fn hunkravy_record_seal(st: &mut Records, record: Out, mlen: usize) -> i32;
-    fn hunkravy_record_seal_last(st: &mut Records, record: Out, mlen: usize) -> i32;
-    fn hunkravy_record_len(st: &Records, head: &[u8; 5], recordlen: &mut usize) -> i32;
+    fn hunkravy_record_begin_open_at(
+        st: &mut Records<'_>,
+        k: &[u8; 32],
+        prefix: &[u8; 24],
+        context: In,
+        contextlen: usize,
+        number: u64,
+        before: u64,
+    ) -> i32;
+    fn hunkravy_record_seal(st: &mut Records<'_>, record: Out, mlen: usize) -> i32;
+    fn hunkravy_record_seal_last(st: &mut Records<'_>, record: Out, mlen: usize) -> i32;
+    fn hunkravy_record_len(st: &Records<'_>, head: &[u8; 5], recordlen: &mut usize) -> i32;
     fn hunkravy_record_open(
-        st: &mut Records,
+        st: &mut Records<'_>,
         record: Out,
         recordlen: usize,
         mlen: &mut usize,
@@ -540,40 +554,74 @@ pub const RECORD_HEAD_BYTES: usize = 5;
 /// How many bytes a record has more than its message: its head, and a tag after it.
 pub const RECORD_BYTES: usize = 37;
 
-/// A record stream with no context between two calls, as the library reads and writes it. It is overwritten when it is
-/// dropped.
+/// A record stream between two calls, as the library reads and writes it. It points to its context, which it borrows. It is
+/// overwritten when it is dropped.
 #[repr(C)]
-pub struct Records {
-    opaque: [u64; 11],
+pub struct Records<'c> {
+    opaque: [u64; OPAQUE_WORDS],
     context: *const u8,
     context_len: usize,
+    borrowed: PhantomData<&'c [u8]>,
 }
 
-impl Records {
+const OPAQUE_WORDS: usize = 11;
+
+// SAFETY: it has numbers, and the pointer of a shared slice, which may be used from any thread as the slice may be.
+unsafe impl Send for Records<'_> {}
+// SAFETY: as above; and a shared stream is only read.
+unsafe impl Sync for Records<'_> {}
+
+impl<'c> Records<'c> {
     /// A stream that every call refuses but the one that begins it.
     const ENDED: Self = Self {
-        opaque: [0; 11],
+        opaque: [0; OPAQUE_WORDS],
         context: core::ptr::null(),
         context_len: 0,
+        borrowed: PhantomData,
     };
 
     /// Begins to seal a stream. Returns it and its header.
-    pub fn begin(k: &[u8; 32], prefix: &[u8; 24]) -> (Self, [u8; 4]) {
+    pub fn begin(
+        k: &[u8; 32],
+        prefix: &[u8; 24],
+        context: &'c [u8],
+    ) -> Result<(Self, [u8; 4]), Refusal> {
         let (mut st, mut header) = (Self::ENDED, [0; 4]);
-        let context = core::ptr::null();
-        // SAFETY: each pointer is that of a borrowed value of the length that the library reads or writes; the context has no
-        // byte.
-        let code = unsafe { hunkravy_record_begin(&mut st, k, prefix, context, 0, &mut header) };
-        assert_eq!(read(code), Ok(()), "the context is not too long");
-        (st, header)
+        let (bytes, length) = (context.as_ptr(), context.len());
+        // SAFETY: each pointer is that of a borrowed value of the length that the library reads or writes. The context is
+        // borrowed for as long as the stream points to it.
+        read(unsafe { hunkravy_record_begin(&mut st, k, prefix, bytes, length, &mut header) })?;
+        Ok((st, header))
     }
 
     /// Begins to open a stream that has this header.
-    pub fn begin_open(k: &[u8; 32], prefix: &[u8; 24], header: &[u8; 4]) -> Result<Self, Refusal> {
+    pub fn begin_open(
+        k: &[u8; 32],
+        prefix: &[u8; 24],
+        context: &'c [u8],
+        header: &[u8; 4],
+    ) -> Result<Self, Refusal> {
         let mut st = Self::ENDED;
-        let context = core::ptr::null();
+        let (bytes, length) = (context.as_ptr(), context.len());
         // SAFETY: as above.
-        read(unsafe { hunkravy_record_begin_open(&mut st, k, prefix, context, 0, header) })?;
+        read(unsafe { hunkravy_record_begin_open(&mut st, k, prefix, bytes, length, header) })?;
+        Ok(st)
+    }
+
+    /// Begins to open a stream at its record of a number, whose messages before it have so many bytes together.
+    pub fn begin_open_at(
+        k: &[u8; 32],
+        prefix: &[u8; 24],
+        context: &'c [u8],
+        number: u64,
+        before: u64,
+    ) -> Result<Self, Refusal> {
+        let mut st = Self::ENDED;
+        let (bytes, length) = (context.as_ptr(), context.len());
+        // SAFETY: as above.
+        read(unsafe {
+            hunkravy_record_begin_open_at(&mut st, k, prefix, bytes, length, number, before)
+        })?;
         Ok(st)
     }
 
@@ -613,10 +661,10 @@ impl Records {
     }
 }
 
-impl Drop for Records {
+impl Drop for Records<'_> {
     fn drop(&mut self) {
         // SAFETY: the pointer is that of an exclusive borrow of an array.
-        unsafe { core::ptr::write_volatile(&mut self.opaque, [0; 11]) }
+        unsafe { core::ptr::write_volatile(&mut self.opaque, [0; OPAQUE_WORDS]) }
     }
 }
 

@@ -104,28 +104,6 @@ impl<V: Variant, const TAG_BYTES: usize> Mac<V, TAG_BYTES> {
         self.run.mac()
     }
 
-    /// Returns the MAC of the input with chunks after it.
-    ///
-    /// # Panics
-    ///
-    /// If the input is then longer than [`MAX_AEAD_BYTES`](crate::MAX_AEAD_BYTES).
-    ///
-    /// ```
-    /// use hunkravy::aegis256::Aegis256Mac;
-    ///
-    /// let mac = Aegis256Mac::<16>::new(&[1; 32]);
-    /// let at_once = mac.clone().finalize_chunks(&[b"the input"]);
-    /// assert_eq!(at_once, mac.finalize_chunks(&[b"the ", b"input"]));
-    /// ```
-    #[track_caller]
-    #[must_use]
-    pub fn finalize_chunks(mut self, chunks: &[&[u8]]) -> Tag<TAG_BYTES> {
-        for chunk in chunks {
-            self.update(chunk);
-        }
-        self.finalize()
-    }
-
     /// Checks that `expected` is the MAC of the input. The comparison looks at every byte.
     ///
     /// # Errors

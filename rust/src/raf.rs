@@ -48,6 +48,7 @@ mod error;
 mod io;
 mod journal;
 mod layout;
+mod lock;
 mod probe;
 mod recovery;
 mod rng;
@@ -61,7 +62,11 @@ pub use derive::derive_key;
 pub use error::{Error, Result};
 pub use io::{Beside, FileIo, JournalChoice, JournalFile, NoJournal, RafIo};
 pub use probe::{RafInfo, probe};
-pub use rng::{OsRng, RafRng};
+#[cfg(not(feature = "raf"))]
+pub use rng::NoRng;
+#[cfg(feature = "raf")]
+pub use rng::OsRng;
+pub use rng::{DefaultRng, RafRng};
 
 use crate::wipe::wipe;
 use alloc::vec;
@@ -71,6 +76,7 @@ use core::fmt;
 use journal::{JournalSeal, PREFIX_BYTES, PendingWrite};
 use layout::{Layout, SECTOR_BYTES, journal_key};
 use std::io::ErrorKind;
+#[cfg(feature = "raf")]
 use std::path::Path;
 
 /// The size of a page for most uses, in bytes of text.
@@ -90,7 +96,7 @@ pub const MAX_SIZE: u64 = 1 << 60;
 ///
 /// After an error in the middle of a commit the file is broken: each later call that reads, changes or commits it returns
 /// [`Error::Broken`], and if it has a journal, opening it again gives the text of before the commit or the one after it.
-pub struct Raf<A: Algorithm, I: RafIo = FileIo, R: RafRng = OsRng, J: RafIo = JournalFile> {
+pub struct Raf<A: Algorithm, I: RafIo = FileIo, R: RafRng = DefaultRng, J: RafIo = JournalFile> {
     io: I,
     journal: J,
     rng: R,
@@ -110,6 +116,7 @@ pub struct Raf<A: Algorithm, I: RafIo = FileIo, R: RafRng = OsRng, J: RafIo = Jo
     is_cut_short: bool,
 }
 
+#[cfg(feature = "raf")]
 impl<A: Algorithm> Raf<A> {
     /// Creates a file at a path where there is none, as [`RafBuilder::create_file`] does.
     pub fn create_file(path: impl AsRef<Path>, key: &A::Key) -> Result<Self> {
@@ -120,7 +127,9 @@ impl<A: Algorithm> Raf<A> {
     pub fn open_file(path: impl AsRef<Path>, key: &A::Key) -> Result<Self> {
         RafBuilder::new().open_file(path, key)
     }
+}
 
+impl<A: Algorithm> Raf<A> {
     /// Derives the key of a file, or of a family of files, from a master key: [`derive_key`] for the keys of this algorithm.
     pub fn derive_master_key(master_key: &A::Key, context: &[u8]) -> Result<A::Key> {
         let mut key = A::Key::default();

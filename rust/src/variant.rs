@@ -151,8 +151,10 @@ macro_rules! module {
             #[doc = concat!("use hunkravy::", stringify!($module), "::{", stringify!($cipher), ", Decryptor, Error};")]
             ///
             #[doc = concat!("let cipher = ", stringify!($cipher), "::new(&[1; ", $bytes, "], &[2; ", $bytes, "]);")]
-            /// let mut ciphertext = [0; 7];
-            /// let tag = cipher.seal_chunks(b"header", &[b"a chunk"], &mut ciphertext);
+            /// let mut ciphertext = *b"a chunk";
+            /// let mut encryptor = cipher.encryptor(b"header");
+            /// encryptor.update_in_place(&mut ciphertext);
+            /// let tag = encryptor.finalize();
             ///
             /// let mut buffer = [0; 7];
             /// let mut decryptor: Decryptor<'_, 16> = cipher.decryptor(b"header", &mut buffer);

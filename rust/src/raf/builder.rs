@@ -4,7 +4,7 @@ use super::changes::Changes;
 use super::io::{Beside, FileIo, JournalChoice, JournalFile, RafIo, journal_path};
 use super::layout::{ID_BYTES, Layout, is_chunk_size};
 use super::recovery::recover;
-use super::rng::{OsRng, RafRng};
+use super::rng::{DefaultRng, RafRng};
 use super::{Algorithm, DEFAULT_CHUNK_SIZE, Error, Raf, Result};
 use crate::exports::PageHeader;
 use alloc::vec;
@@ -16,7 +16,7 @@ use std::path::Path;
 const DEFAULT_BUFFER_LIMIT: usize = 16 << 20;
 
 /// How a file is created or opened.
-pub struct RafBuilder<A: Algorithm, R: RafRng = OsRng, J: JournalChoice = Beside> {
+pub struct RafBuilder<A: Algorithm, R: RafRng = DefaultRng, J: JournalChoice = Beside> {
     chunk_size: u32,
     truncate: bool,
     buffer_limit: usize,
@@ -28,9 +28,10 @@ pub struct RafBuilder<A: Algorithm, R: RafRng = OsRng, J: JournalChoice = Beside
 impl<A: Algorithm> RafBuilder<A> {
     /// The default: pages of [`DEFAULT_CHUNK_SIZE`], the system's random bytes, 16 MiB of changes in memory, and no file is
     /// overwritten.
+    #[cfg(feature = "raf")]
     #[allow(clippy::new_without_default)]
     pub fn new() -> Self {
-        Self::with_rng(OsRng::default())
+        Self::with_rng(DefaultRng::default())
     }
 
     /// The default, but nonces and ids come from `rng`.

@@ -1,7 +1,6 @@
 //! Why a call failed.
 
 use core::fmt;
-use std::fs::TryLockError;
 use std::io;
 
 /// Why a call failed. The documentation of the call says what it leaves.
@@ -69,15 +68,6 @@ impl std::error::Error for Error {
 impl From<io::Error> for Error {
     fn from(error: io::Error) -> Self {
         Error::Io(error)
-    }
-}
-
-impl From<TryLockError> for Error {
-    fn from(error: TryLockError) -> Self {
-        match error {
-            TryLockError::Error(error) => Error::Io(error),
-            TryLockError::WouldBlock => Error::Locked,
-        }
     }
 }
 

@@ -1,5 +1,6 @@
 //! Where the bytes of a file and of its journal are kept.
 
+use super::lock::{lock, unlock};
 use super::{Error, Result};
 use alloc::vec::Vec;
 use std::ffi::OsString;
@@ -142,7 +143,7 @@ impl RafIo for FileIo {
     }
 
     fn lock(&mut self) -> Result<()> {
-        self.file.try_lock()?;
+        lock(&self.file)?;
         self.locked_by = Some(process::id());
         self.check_path()
     }
@@ -168,7 +169,7 @@ impl RafIo for FileIo {
 impl Drop for FileIo {
     fn drop(&mut self) {
         if self.locked_by == Some(process::id()) {
-            let _ = self.file.unlock();
+            let _ = unlock(&self.file);
         }
     }
 }

@@ -71,12 +71,13 @@ fn the_commitment_of_the_small_file() {
 #[test]
 fn derived_keys() {
     let text = b"hunkravy raf file key v1";
-    let mac = Aegis256Mac::<32>::new(&KEY);
-    let expected = mac.finalize_chunks(&[text, b"a context"]);
-    assert_eq!(derive_key(&KEY, b"a context").unwrap(), expected);
-    let mac = Aegis128LMac::<16>::new(&[5; 16]);
-    let expected = mac.finalize_chunks(&[text]);
-    assert_eq!(derive_key(&[5; 16], b"").unwrap(), expected);
+    let mut mac = Aegis256Mac::<32>::new(&KEY);
+    mac.update(text);
+    mac.update(b"a context");
+    assert_eq!(derive_key(&KEY, b"a context").unwrap(), mac.finalize());
+    let mut mac = Aegis128LMac::<16>::new(&[5; 16]);
+    mac.update(text);
+    assert_eq!(derive_key(&[5; 16], b"").unwrap(), mac.finalize());
 }
 
 /// The proved crate writes the same journal by the same nonces, and then the same file: its test `a_commit_of_the_small_file`

@@ -1,0 +1,46 @@
+//! Sealed files: files of any length that are encrypted and decrypted as they are written and read.
+//!
+//! They are those of the program `hunkravy`: each opens what the other has sealed. `docs/FILES.md` in the repository of
+//! Hunkravy has the format.
+//!
+//! ```
+//! use hunkravy::files::{SealedReader, SealedWriter};
+//! use std::io::{Read, Write};
+//!
+//! let key = [1; 32];
+//! let mut writer = SealedWriter::new(Vec::new(), &key)?;
+//! writer.write_all(b"the contents")?;
+//! let file = writer.finish()?;
+//!
+//! let mut contents = String::new();
+//! SealedReader::new(&file[..], &key).read_to_string(&mut contents)?;
+//! assert_eq!(contents, "the contents");
+//! # Ok::<(), std::io::Error>(())
+//! ```
+
+mod key;
+mod reader;
+mod seek;
+mod writer;
+
+pub use crate::records::Key;
+pub use key::read_key;
+pub use reader::SealedReader;
+pub use writer::SealedWriter;
+
+use crate::records::{Error, HEADER_BYTES, Prefix};
+use std::io;
+
+/// The context of the record stream in a sealed file.
+const CONTEXT: &[u8] = b"hunkravy v1";
+
+/// The number of bytes of the contents in each record but the last two.
+const PIECE_BYTES: usize = 65_536;
+
+/// The number of bytes of a file in front of its first record.
+const HEAD_BYTES: usize = size_of::<Prefix>() + HEADER_BYTES;
+
+/// The error of reading a file that has a fault.
+fn invalid_data(fault: Error) -> io::Error {
+    io::Error::new(io::ErrorKind::InvalidData, fault)
+}
