@@ -35,6 +35,18 @@ impl<R: Read + Seek> SealedReader<R> {
         Ok(())
     }
 
+    /// Moves to a place that is given from the start, from the position or from the end, and returns it.
+    fn locate_from(&mut self, to: SeekFrom) -> io::Result<u64> {
+        let before = self.position;
+        let place = match to {
+            SeekFrom::Start(place) => Some(place),
+            SeekFrom::Current(by) => before.checked_add_signed(by),
+            SeekFrom::End(by) => self.locate_end()?.checked_add_signed(by),
+        };
+        self.locate(place.unwrap_or(before))?;
+        place.ok_or_else(|| ErrorKind::InvalidInput.into())
+    }
+
     /// Moves to the end of the contents, and returns their length.
     fn locate_end(&mut self) -> io::Result<u64> {
         self.open_record_of(None)?;
@@ -149,13 +161,11 @@ impl<R: Read + Seek> Seek for SealedReader<R> {
     fn seek(&mut self, to: SeekFrom) -> io::Result<u64> {
         self.check()?;
         let before = self.position;
-        let place = match to {
-            SeekFrom::Start(place) => Some(place),
-            SeekFrom::Current(by) => before.checked_add_signed(by),
-            SeekFrom::End(by) => self.locate_end()?.checked_add_signed(by),
-        };
-        self.locate(place.unwrap_or(before))?;
-        place.ok_or_else(|| ErrorKind::InvalidInput.into())
+        let sought = self.locate_from(to);
+        if sought.is_err() {
+            self.position = before;
+        }
+        sought
     }
 
     /// Returns the place of the next byte. Nothing is moved.

@@ -82,12 +82,10 @@ fn step(random: &mut Random, reader: &mut (impl BufRead + Seek), expected: &mut 
             );
         }
         1 => {
-            let count = random.below(200) as usize;
-            let (mut one, mut other) = (vec![0; count], vec![0; count]);
-            assert_eq!(
-                reader.read_exact(&mut one).is_ok(),
-                expected.read_exact(&mut other).is_ok()
-            );
+            let count = random.below(200);
+            let (mut one, mut other) = (Vec::new(), Vec::new());
+            reader.take(count).read_to_end(&mut one).unwrap();
+            expected.take(count).read_to_end(&mut other).unwrap();
             assert_eq!(one, other);
         }
         _ => {
@@ -99,8 +97,7 @@ fn step(random: &mut Random, reader: &mut (impl BufRead + Seek), expected: &mut 
             expected.consume(count / 2);
         }
     }
-    // Reading exactly moves to the end if there are too few bytes.
-    expected.set_position(reader.stream_position().unwrap());
+    assert_eq!(reader.stream_position().unwrap(), expected.position());
 }
 
 /// Places that no contents have.
@@ -154,7 +151,7 @@ fn errors_of_seeks() {
             while seek_fails(&file, &contents, to, calls) {
                 calls += 1;
             }
-            assert!(calls > 5);
+            assert!(calls > 3, "{to:?} {calls}");
         }
     }
 }
@@ -187,7 +184,10 @@ fn seek_fails(file: &[u8], contents: &[u8], to: SeekFrom, calls: usize) -> bool 
     }
     let place = reader.stream_position().unwrap() as usize;
     let mut rest = Vec::new();
-    reader.read_to_end(&mut rest).unwrap();
+    if let Err(error) = reader.read_to_end(&mut rest) {
+        assert_eq!(error.kind(), ErrorKind::WouldBlock);
+        reader.read_to_end(&mut rest).unwrap();
+    }
     assert!(rest == contents.get(place..).unwrap_or(&[]));
     sought.is_err()
 }
