@@ -13,7 +13,7 @@ type Result<T> = std::result::Result<T, Box<dyn Error + Send + Sync>>;
 const CONTEXT: &[u8] = b"hunkravy example: messages";
 
 /// Sends messages, after the prefix of their stream, which is random, and its header.
-fn send(to: &mut UnixStream, key: &Key, messages: &[&str], last: &str) -> Result<()> {
+fn send(to: &mut impl Write, key: &Key, messages: &[&str], last: &str) -> Result<()> {
     let prefix: Prefix = read(&mut File::open("/dev/urandom")?)?;
     let mut sealer = Sealer::new(key, &prefix, CONTEXT)?;
     to.write_all(&prefix)?;
@@ -29,7 +29,7 @@ fn send(to: &mut UnixStream, key: &Key, messages: &[&str], last: &str) -> Result
 }
 
 /// Prints the messages as they come. Only after `Ok` are they all that were sent.
-fn receive(from: &mut UnixStream, key: &Key) -> Result<()> {
+fn receive(from: &mut impl Read, key: &Key) -> Result<()> {
     let prefix = read(from)?;
     let header: [u8; HEADER_BYTES] = read(from)?;
     let mut opener = Opener::new(key, &prefix, CONTEXT, &header)?;
