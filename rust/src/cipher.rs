@@ -25,6 +25,21 @@ use core::fmt;
 /// assert_eq!(message, b"a message");
 /// # Ok::<(), Error>(())
 /// ```
+///
+/// A cipher of one lane is used once:
+///
+/// ```compile_fail,E0382
+/// let cipher = hunkravy::aegis128l::Aegis128L::<16>::new(&[1; 16], &[2; 16]);
+/// let _first = cipher.encrypt(b"a message", b"");
+/// let _second = cipher.encrypt(b"another message", b"");
+/// ```
+///
+/// ```compile_fail,E0382
+/// let cipher = hunkravy::aegis256::Aegis256::<16>::new(&[1; 32], &[2; 32]);
+/// let _first = cipher.encrypt(b"a message", b"");
+/// let _second = cipher.encrypt(b"another message", b"");
+/// ```
+#[must_use]
 pub struct Cipher<V: Variant, const TAG_BYTES: usize> {
     key: V::Key,
     nonce: V::Nonce,
@@ -60,6 +75,7 @@ impl<V: Variant, const TAG_BYTES: usize> Cipher<V, TAG_BYTES> {
     /// assert_eq!((ciphertext.len(), tag.len()), (9, 32));
     /// ```
     #[track_caller]
+    #[must_use = "the message cannot be opened without its tag"]
     pub fn encrypt(self, m: &[u8], ad: &[u8]) -> (Vec<u8>, Tag<TAG_BYTES>) {
         let mut mc = m.to_vec();
         let tag = self.encrypt_in_place(&mut mc, ad);
@@ -158,6 +174,7 @@ impl<V: Variant, const TAG_BYTES: usize> Cipher<V, TAG_BYTES> {
     /// let ciphertext = cipher.stream_xor(b"a message");
     /// assert_eq!(cipher.stream_xor(&ciphertext), b"a message");
     /// ```
+    #[must_use]
     pub fn stream_xor(self, m: &[u8]) -> Vec<u8> {
         let mut mc = m.to_vec();
         self.stream_xor_in_place(&mut mc);

@@ -29,6 +29,7 @@ use core::{fmt, mem};
 /// assert_eq!(decryptor.finalize(&tag)?, b"AEGIS is fast");
 /// # Ok::<(), Error>(())
 /// ```
+#[must_use = "the message is erased without `finalize`"]
 pub struct Decryptor<'a, V: Variant, const TAG_BYTES: usize> {
     run: Run<V>,
     plaintext: &'a mut [u8],

@@ -23,6 +23,7 @@ use core::fmt;
 /// let at_once = Aegis128L::<16>::new(&key, &nonce).encrypt(b"AEGIS fast", b"header");
 /// assert_eq!((chunks.concat(), tag), at_once);
 /// ```
+#[must_use = "the message cannot be opened without its tag"]
 pub struct Encryptor<V: Variant, const TAG_BYTES: usize> {
     run: Run<V>,
 }
@@ -89,6 +90,7 @@ impl<V: Variant, const TAG_BYTES: usize> Encryptor<V, TAG_BYTES> {
     /// encryptor.update_in_place(&mut [0; 100]);
     /// assert_eq!(encryptor.remaining(), MAX_AEAD_BYTES - 100);
     /// ```
+    #[must_use]
     pub fn remaining(&self) -> u64 {
         self.run.remaining()
     }

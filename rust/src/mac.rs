@@ -22,6 +22,7 @@ use core::fmt;
 /// mac.verify(&tag)?;
 /// # Ok::<(), Error>(())
 /// ```
+#[must_use]
 pub struct Mac<V: Variant, const TAG_BYTES: usize> {
     run: Run<V>,
 }
@@ -85,6 +86,7 @@ impl<V: Variant, const TAG_BYTES: usize> Mac<V, TAG_BYTES> {
     /// mac.update(&[0; 100]);
     /// assert_eq!(mac.remaining(), MAX_AEAD_BYTES - 100);
     /// ```
+    #[must_use]
     pub fn remaining(&self) -> u64 {
         self.run.remaining()
     }

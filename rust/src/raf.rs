@@ -96,6 +96,7 @@ pub const MAX_SIZE: u64 = 1 << 60;
 ///
 /// After an error in the middle of a commit the file is broken: each later call that reads, changes or commits it returns
 /// [`Error::Broken`], and if it has a journal, opening it again gives the text of before the commit or the one after it.
+#[must_use]
 pub struct Raf<A: Algorithm, I: RafIo = FileIo, R: RafRng = DefaultRng, J: RafIo = JournalFile> {
     io: I,
     journal: J,
@@ -140,6 +141,7 @@ impl<A: Algorithm> Raf<A> {
 
 impl<A: Algorithm, I: RafIo, R: RafRng, J: RafIo> Raf<A, I, R, J> {
     /// Returns the number of bytes of the text.
+    #[must_use]
     pub fn size(&self) -> u64 {
         self.size
     }
@@ -410,5 +412,77 @@ impl<A: Algorithm, I: RafIo, R: RafRng, J: RafIo> fmt::Debug for Raf<A, I, R, J>
         f.debug_struct("Raf")
             .field("size", &self.size)
             .finish_non_exhaustive()
+    }
+}
+
+#[cfg(test)]
+mod tests {
+    use super::layout::Layout;
+    use super::{Aegis256, Error, MAX_SIZE, NoJournal, RafBuilder, RafIo, RafRng, Result};
+    use crate::exports::PageHeader;
+    use alloc::vec::Vec;
+    use std::io::{self, ErrorKind};
+
+    /// A file of its header alone, which nothing writes.
+    struct Header(Vec<u8>);
+
+    impl RafIo for Header {
+        fn read_at(&mut self, buf: &mut [u8], offset: u64) -> io::Result<()> {
+            let rest = self.0.get(offset as usize..).unwrap_or(&[]);
+            let part = rest.get(..buf.len()).ok_or(ErrorKind::UnexpectedEof)?;
+            buf.copy_from_slice(part);
+            Ok(())
+        }
+
+        fn write_at(&mut self, _data: &[u8], _offset: u64) -> io::Result<()> {
+            Err(ErrorKind::Unsupported.into())
+        }
+
+        fn get_size(&mut self) -> io::Result<u64> {
+            Ok(self.0.len() as u64)
+        }
+
+        fn set_size(&mut self, _size: u64) -> io::Result<()> {
+            Err(ErrorKind::Unsupported.into())
+        }
+    }
+
+    struct Zeros;
+
+    impl RafRng for Zeros {
+        fn fill(&mut self, buf: &mut [u8]) -> Result<()> {
+            buf.fill(0);
+            Ok(())
+        }
+    }
+
+    /// The last byte of the longest text may be written, and none after it.
+    #[test]
+    fn the_longest_text() {
+        let header = PageHeader {
+            page_size: 256,
+            text_len: MAX_SIZE,
+            ..PageHeader::default()
+        };
+        let layout = Layout::<Aegis256>::of(&[7; 32], &header);
+        let sector = layout.header(0, MAX_SIZE, &[1; 32]).to_vec();
+        let builder = RafBuilder::<Aegis256>::with_rng(Zeros).journal(NoJournal);
+        let mut file = builder.open(Header(sector), &[7; 32]).unwrap();
+        assert_eq!(file.size(), MAX_SIZE);
+        // Its page is not there.
+        let written = file.write(&[1], MAX_SIZE - 1);
+        assert!(matches!(written, Err(Error::Io(_))), "{written:?}");
+        for (data, offset) in [
+            (&[1, 2][..], MAX_SIZE - 1),
+            (&[1], MAX_SIZE),
+            (&[], MAX_SIZE + 1),
+        ] {
+            let written = file.write(data, offset);
+            assert!(matches!(written, Err(Error::TooLong)), "{written:?}");
+        }
+        assert!(matches!(file.write(&[], MAX_SIZE), Ok(0)));
+        assert!(file.truncate(MAX_SIZE).is_ok());
+        assert!(matches!(file.truncate(MAX_SIZE + 1), Err(Error::TooLong)));
+        file.discard();
     }
 }

@@ -139,6 +139,19 @@ mod tests {
         assert_eq!(buffer, [0, 0xff]);
     }
 
+    /// What a chunk has left is erased also if opening it panics: it is counted before.
+    #[cfg(feature = "std")]
+    #[test]
+    fn a_decryptor_that_panics_erases() {
+        use std::panic::{AssertUnwindSafe, catch_unwind};
+        let mut buffer = [0xff; 4];
+        let mut decryptor = Decryptor::<16>::new(Run::ended(), &mut buffer);
+        let update = AssertUnwindSafe(|| decryptor.update(&[1; 3]));
+        assert!(catch_unwind(update).is_err());
+        drop(decryptor);
+        assert_eq!(buffer, [0, 0, 0, 0xff]);
+    }
+
     #[test]
     fn an_encryptor_counts() {
         let mut encryptor = Encryptor::<16>::new(nearly_full());

@@ -102,11 +102,13 @@ impl<R> SealedReader<R> {
     }
 
     /// Returns the inner reader.
+    #[must_use]
     pub fn get_ref(&self) -> &R {
         &self.inner
     }
 
     /// Returns the inner reader, of which more bytes may have been read than were returned.
+    #[must_use]
     pub fn into_inner(self) -> R {
         self.inner
     }
@@ -215,7 +217,7 @@ impl<R: Read> SealedReader<R> {
     /// the bytes is not overwritten: all of it has been read, and nothing was opened since.
     fn grow(&mut self, end: usize) -> io::Result<()> {
         let bytes = &mut self.record.0;
-        let more = end.min(bytes.len().max(FIRST_BYTES / 2) * 2) - bytes.len();
+        let more = end.min(FIRST_BYTES.max(2 * bytes.len())) - bytes.len();
         let taken = bytes.try_reserve_exact(more);
         taken.map_err(|_| ErrorKind::OutOfMemory)?;
         bytes.resize(bytes.len() + more, 0);

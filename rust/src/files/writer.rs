@@ -63,6 +63,7 @@ impl<W: Write> SealedWriter<W> {
     }
 
     /// Returns the inner writer. Writing to it damages the file.
+    #[must_use]
     pub fn get_ref(&self) -> &W {
         &self.inner
     }

@@ -16,6 +16,7 @@ use std::path::Path;
 const DEFAULT_BUFFER_LIMIT: usize = 16 << 20;
 
 /// How a file is created or opened.
+#[must_use]
 pub struct RafBuilder<A: Algorithm, R: RafRng = DefaultRng, J: JournalChoice = Beside> {
     chunk_size: u32,
     truncate: bool,

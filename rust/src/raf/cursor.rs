@@ -4,6 +4,7 @@ use super::{Algorithm, Raf, RafIo, RafRng};
 use std::io::{self, Read, Seek, SeekFrom, Write};
 
 /// A place in the text of a file, which each read and write moves on. [`Raf::cursor`] returns one.
+#[must_use]
 pub struct RafCursor<'a, A: Algorithm, I: RafIo, R: RafRng, J: RafIo> {
     file: &'a mut Raf<A, I, R, J>,
     offset: u64,

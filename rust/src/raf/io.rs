@@ -620,6 +620,24 @@ mod tests {
         fs::remove_file(&path).unwrap();
     }
 
+    /// The mode of a journal is that for the group that it gets.
+    #[test]
+    fn a_mode_in_the_group_of_the_file() {
+        let path = std::env::temp_dir().join(format!("hunkravy-groups-{}", std::process::id()));
+        let at = with_journal(&path);
+        let file = File::create(&path).unwrap();
+        file.set_permissions(Permissions::from_mode(0o660)).unwrap();
+        // Only root can give files to a group that it is not in.
+        let is_given = chown(&path, None, Some(65533)).is_ok();
+        let made = JournalFile::at(Some(at.clone())).open(true).map(|_| ());
+        made.unwrap();
+        let (journal, of) = (at.metadata().unwrap(), path.metadata().unwrap());
+        assert_eq!(of.gid() == 65533, is_given);
+        assert_eq!((journal.mode() & 0o777, journal.gid()), (0o660, of.gid()));
+        fs::remove_file(&at).unwrap();
+        fs::remove_file(&path).unwrap();
+    }
+
     #[test]
     fn modes_in_other_groups() {
         for (of, in_its_group, in_another) in [
