@@ -11,12 +11,20 @@ use std::path::Path;
 use std::slice;
 use std::sync::atomic::{AtomicUsize, Ordering::SeqCst};
 
-/// The lengths of a page's text, of a page, and of a record of a whole piece: no other allocation of the program has one of
-/// them.
+/// The lengths of a page's text, of a page, and of a record of a whole piece.
 const CHUNK_BYTES: usize = 1009;
 const PAGE_BYTES: usize = 32 + CHUNK_BYTES + 32;
 const RECORD_BYTES: usize = 65_536 + 37;
-const LENGTHS: [usize; 3] = [CHUNK_BYTES, PAGE_BYTES, RECORD_BYTES];
+/// Longer and longer messages, and how much memory is taken for their records, in steps.
+const MESSAGES: [usize; 3] = [1100, 200_000, 500_000];
+const GROWN: [usize; 5] = [1137, 2 * RECORD_BYTES, 200_037, 2 * 200_037, 500_037];
+
+/// Whether an allocation is that of a text. No others of the program have these lengths.
+fn is_of_text(layout: Layout) -> bool {
+    let lengths = [CHUNK_BYTES, PAGE_BYTES, RECORD_BYTES];
+    let is_one = lengths.contains(&layout.size()) || GROWN.contains(&layout.size());
+    layout.align() == 1 && is_one
+}
 const LIMIT: usize = 1 << 20;
 /// A text is of this byte, in which a freed page is recognized.
 const MARK: u8 = 0xc7;
@@ -44,7 +52,7 @@ unsafe impl GlobalAlloc for Counting {
 
     unsafe fn dealloc(&self, place: *mut u8, layout: Layout) {
         NOW.fetch_sub(layout.size(), SeqCst);
-        if layout.align() == 1 && LENGTHS.contains(&layout.size()) {
+        if is_of_text(layout) {
             // SAFETY: it is not freed yet, and each of its bytes was written.
             let bytes = unsafe { slice::from_raw_parts(place, layout.size()) };
             FREED.fetch_add(1, SeqCst);
@@ -140,6 +148,24 @@ fn read_announced(path: &Path) {
     assert_eq!(error.kind(), ErrorKind::InvalidData);
 }
 
+/// Reads longer and longer records.
+fn longer_records() {
+    let mut sealer = Sealer::new(&[7; 32], &[1; 24], b"hunkravy v1").unwrap();
+    let mut file = [&[1; 24][..], &sealer.header()].concat();
+    for length in MESSAGES {
+        sealer.seal_next(&vec![MARK; length], &mut file).unwrap();
+    }
+    sealer.seal_last(&[], &mut file).unwrap();
+    let freed = FREED.load(SeqCst);
+    let mut reader = SealedReader::new(&file[..], &[7; 32]);
+    assert_eq!(
+        std::io::copy(&mut reader, &mut std::io::sink()).unwrap(),
+        701_100
+    );
+    drop(reader);
+    assert_eq!(FREED.load(SeqCst) - freed, GROWN.len() + 1);
+}
+
 /// A sealed file takes a record and what is constant. A record that is announced takes no more than twice what is there of
 /// it.
 fn of_a_sealed_file(path: &Path) {
@@ -152,6 +178,7 @@ fn of_a_sealed_file(path: &Path) {
         let most = most_of(|| read_announced(path));
         assert!(most < RECORD_BYTES + 3 * count + 5_000, "{most} of {count}");
     }
+    longer_records();
     fs::remove_file(path).unwrap();
 }
 
