@@ -20,7 +20,7 @@ mod vectors;
 
 use std::path::Path;
 
-fn main() -> std::io::Result<()> {
+pub fn main() -> std::io::Result<()> {
     let variants = contender::variants();
     agreement::check(&variants, &measure::SIZES);
     println!("The contenders agree at each size.");

@@ -12,6 +12,14 @@ $(OUT)/%/driver: $(wildcard bench/*.rs $(STORED_LINES)/*) rust/src/exports.rs $(
 	CPU=$* $(RUSTC) $(if $(filter x86-64%,$*),-C target-cpu=$*) -C no-vectorize-slp bench/driver.rs \
 		-L native=$(OUT)/$* -l static=hunkravy -o $@
 
+# The same program, only to check: compiled once, and linked with each library.
+$(OUT)/libdriver.rlib: $(wildcard bench/*.rs $(STORED_LINES)/*) rust/src/exports.rs | $(OUT)
+	CPU= $(RUSTC) --crate-type rlib -C lto=off -C no-vectorize-slp bench/driver.rs -o $@
+
+$(OUT)/%/check-driver: $(OUT)/libdriver.rlib $(OUT)/%/libhunkravy.a
+	echo 'fn main() -> std::io::Result<()> { driver::main() }' | rustc --edition 2024 --crate-name check_driver \
+		--extern driver=$< -L native=$(OUT)/$* -l static=hunkravy -o $@ -
+
 # Compares the library with look-up tables and AES instructions, with libsodium if it is installed, each way to seal with
 # the one in place, and encrypted files with a plain one. Writes the tables of BENCH_FOLDER and of bench/.
 bench: $(OUT)/$(BENCH_CPU)/driver bench-peers bench-states bench-tool bench-calls bench-pages bench-python

@@ -1,15 +1,27 @@
 # The Cargo package over the C library, and its tests.
-.PHONY: check-rust check-raf
+.PHONY: check-rust check-rust-both check-rust-tool check-raf
 
-# Its tests and those of the calls below it, over the library with both levels and over each level alone: the stored lines,
-# forgeries, the samples of the crate's pages, its examples, and three other implementations. The programs that measure it run.
-check-rust: $(addprefix check-rust-,both $(RUNNABLE)) check-bench
+# A test of the package over a library, without debug information, which takes a quarter of the time of compiling.
+CARGO_TEST = cd rust && CARGO_PROFILE_DEV_DEBUG=0 HUNKRAVY_LIB_DIR="$(CURDIR)/$(OUT)/$(1)" \
+	CARGO_TARGET_DIR="$(CURDIR)/$(OUT)/$(1)/cargo" cargo test --offline
 
-check-rust-%: $(OUT)/%/libhunkravy.a $(OUT)/%/driver
-	cd rust && export HUNKRAVY_LIB_DIR="$(CURDIR)/$(<D)" CARGO_TARGET_DIR="$(CURDIR)/$(<D)/cargo" && \
-		cargo test --offline && \
-		for example in seal records store; do cargo run --offline --example $$example || exit 1; done
-	$(OUT)/$*/driver
+# All tests over the library with both levels: the stored lines, forgeries, damaged and torn files, the samples of the crate's
+# pages, its examples. Over each level alone those that call all of the library, and one-shot calls beside three other
+# implementations. The programs that measure it run.
+check-rust: check-rust-both $(RUNNABLE:%=check-rust-%) check-bench
+
+check-rust-both: $(OUT)/both/libhunkravy.a $(OUT)/both/check-driver
+	$(call CARGO_TEST,both)
+	$(OUT)/both/check-driver
+
+check-rust-%: $(OUT)/%/libhunkravy.a $(OUT)/%/check-driver
+	$(call CARGO_TEST,$*) --lib --test lines --test destinations --test sealed
+	$(call CARGO_TEST,$*) --test raf formats
+	$(OUT)/$*/check-driver
+
+# Whether the package and the file tool open each other's files.
+check-rust-tool: $(OUT)/$(lastword $(TOOL_LEVELS))/hunkravy $(LIBRARY)
+	export HUNKRAVY_TOOL="$(CURDIR)/$<"; $(call CARGO_TEST,$(FOLDER)) --test tool
 
 # ---- Files in place
 

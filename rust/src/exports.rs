@@ -38,6 +38,8 @@ pub enum Refusal {
     WrongPageSize,
     /// The text of a file has more than 2^60 bytes, or a page begins after so many.
     TextTooLong,
+    /// The message that is to be erased has neither 0 bytes nor as many as were decrypted.
+    WrongMessageLength,
 }
 
 /// What a call returns.
@@ -58,6 +60,7 @@ fn read(code: i32) -> Answer {
         -11 => Err(Refusal::WrongRecordLength),
         -12 => Err(Refusal::WrongPageSize),
         -13 => Err(Refusal::TextTooLong),
+        -14 => Err(Refusal::WrongMessageLength),
         other => unreachable!("the library does not return {other}"),
     }
 }
@@ -440,7 +443,8 @@ impl State {
         call!(hunkravy_state_decrypt_check(self), c.as_ptr)
     }
 
-    /// `Ok` exactly if `mac` is the tag of the message. Otherwise every byte at `m` is [`ERASED`]. Ends the state.
+    /// `Ok` exactly if `mac` is the tag of the message. Otherwise every byte at `m` is [`ERASED`]. Ends the state. `m` is the
+    /// whole message, or has no byte.
     pub fn decrypt_final(&mut self, m: &mut [u8], mac: &[u8]) -> Answer {
         call!(hunkravy_state_decrypt_final(self), m.as_mut_ptr, mac.as_ptr)
     }
@@ -564,7 +568,7 @@ pub struct Records<'c> {
     borrowed: PhantomData<&'c [u8]>,
 }
 
-const OPAQUE_WORDS: usize = 11;
+const OPAQUE_WORDS: usize = 10;
 
 // SAFETY: it has numbers, and the pointer of a shared slice, which may be used from any thread as the slice may be.
 unsafe impl Send for Records<'_> {}

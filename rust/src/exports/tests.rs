@@ -79,15 +79,15 @@ fn assert_refused(st: &State, message: Refusal, mac: Refusal, bytes: usize) {
 
 /// Checks that each call that ends a message has the one answer, and that ends a MAC the other, and changes nothing.
 fn assert_not_ended(st: &State, message: Refusal, mac: Refusal, tag_bytes: usize) {
-    let (mut m, mut tags) = ([0x77; 64], [0x66; 40]);
+    let mut tags = [0x66; 40];
     let tag = &mut tags[..tag_bytes];
     let mut copy = st.clone();
     assert_eq!(copy.encrypt_final(tag), Err(message));
-    assert_eq!(copy.decrypt_final(&mut m, tag), Err(message));
+    assert_eq!(copy.decrypt_final(&mut [], tag), Err(message));
     assert_eq!(copy.mac_final(tag), Err(mac));
     assert_eq!(copy.mac_final_verify(tag), Err(mac));
     assert_eq!(contents(&copy), contents(st));
-    assert_eq!((m, tags), ([0x77; 64], [0x66; 40]));
+    assert_eq!(tags, [0x66; 40]);
 }
 
 #[test]
@@ -103,6 +103,8 @@ fn a_state_that_was_not_begun_or_has_ended_is_refused() {
         let answer = accepted.decrypt_final(&mut mc, &tag);
         assert_eq!((answer, &mc[..]), (Ok(()), MESSAGE));
         let mut refused = begun(variant, AD);
+        let answer = refused.decrypt_in_place_unverified(&mut mc);
+        assert_eq!(answer, Ok(()));
         let answer = refused.decrypt_final(&mut mc, &tag);
         assert_eq!(answer, Err(Refusal::InvalidTag));
         assert_eq!(mc, [ERASED; 150]);
@@ -142,6 +144,24 @@ fn a_tag_of_another_length_is_refused() {
             let st = begun_mac(variant);
             assert_not_ended(&st, Refusal::WrongState, Refusal::WrongTagLength, tag_bytes);
         }
+    }
+}
+
+/// What is erased after a wrong tag is the whole message or nothing.
+#[test]
+fn a_message_of_another_length_is_refused() {
+    for variant in &VARIANTS {
+        let (mc, tag) = sealed(variant);
+        let mut st = begun(variant, AD);
+        assert_eq!(st.decrypt_check(&mc), Ok(()));
+        let before = contents(&st);
+        let mut m = [0x77; 200];
+        for length in [1, 149, 151, 200] {
+            let answer = st.decrypt_final(&mut m[..length], &[0; 32]);
+            assert_eq!(answer, Err(Refusal::WrongMessageLength));
+        }
+        assert_eq!((contents(&st), m), (before, [0x77; 200]));
+        assert_eq!(st.decrypt_final(&mut m[..150], &tag), Ok(()));
     }
 }
 
