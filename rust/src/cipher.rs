@@ -9,12 +9,12 @@ use core::fmt;
 
 /// A cipher with tags of `TAG_BYTES` bytes, 16 or 32: a key and a nonce.
 ///
-/// A nonce must be used for one message or one keystream under a key, and never again; nothing checks it. The one-shot calls
-/// take the cipher; the chunked calls borrow it to start. The ciphers of more than one lane are `Copy`.
+/// Use a nonce for one message or one keystream under a key, and never again. Nothing checks this. The functions for one
+/// message consume the cipher, and the functions for chunks borrow it. Ciphers of more than one lane are `Copy`.
 ///
-/// Lengths are in bytes. Associated data and a message have at most [`MAX_AEAD_BYTES`](crate::MAX_AEAD_BYTES) each, and a
-/// call that seals or opens more panics before it has changed anything; keystreams have no limit. No call allocates but
-/// [`encrypt`](Self::encrypt), [`decrypt`](Self::decrypt) and [`stream_xor`](Self::stream_xor).
+/// Lengths are in bytes. Associated data and a message have at most [`MAX_AEAD_BYTES`](crate::MAX_AEAD_BYTES) each: with more
+/// the functions panic before they have changed anything. Keystreams have no limit. Only [`encrypt`](Self::encrypt),
+/// [`decrypt`](Self::decrypt) and [`stream_xor`](Self::stream_xor) allocate.
 ///
 /// ```
 /// use hunkravy::aegis128l::{Aegis128L, Error};
@@ -26,7 +26,7 @@ use core::fmt;
 /// # Ok::<(), Error>(())
 /// ```
 ///
-/// A cipher of one lane is used once:
+/// A cipher of one lane encrypts one message:
 ///
 /// ```compile_fail,E0382
 /// let cipher = hunkravy::aegis128l::Aegis128L::<16>::new(&[1; 16], &[2; 16]);
@@ -66,7 +66,7 @@ impl<V: Variant, const TAG_BYTES: usize> Cipher<V, TAG_BYTES> {
         }
     }
 
-    /// Returns the ciphertext of a message and its tag, which covers the associated data `ad` too.
+    /// Encrypts a message. Returns its ciphertext and its tag, which authenticates the associated data `ad` too.
     ///
     /// ```
     /// use hunkravy::aegis128x2::Aegis128X2;
@@ -82,7 +82,7 @@ impl<V: Variant, const TAG_BYTES: usize> Cipher<V, TAG_BYTES> {
         (mc, tag)
     }
 
-    /// Turns the message at `mc` into its ciphertext, and returns its tag, which covers the associated data `ad` too.
+    /// Encrypts the message at `mc` in place. Returns its tag, which authenticates the associated data `ad` too.
     ///
     /// ```
     /// use hunkravy::aegis128x4::Aegis128X4;
@@ -100,11 +100,11 @@ impl<V: Variant, const TAG_BYTES: usize> Cipher<V, TAG_BYTES> {
         tag
     }
 
-    /// Returns the message of a ciphertext. The comparison of the tags looks at every byte.
+    /// Decrypts a ciphertext, and returns its message. Comparing the tags reads each byte.
     ///
     /// # Errors
     ///
-    /// [`Error::InvalidTag`] if no message is sealed to this ciphertext and tag.
+    /// [`Error::InvalidTag`] if authentication fails.
     ///
     /// ```
     /// use hunkravy::aegis256::{Aegis256, Error};
@@ -123,12 +123,11 @@ impl<V: Variant, const TAG_BYTES: usize> Cipher<V, TAG_BYTES> {
         Ok(mc)
     }
 
-    /// Turns the ciphertext at `mc` into its message. The comparison of the tags looks at every byte.
+    /// Decrypts the ciphertext at `mc` in place. Comparing the tags reads each byte.
     ///
     /// # Errors
     ///
-    /// [`Error::InvalidTag`] if no message is sealed to this ciphertext and tag. Every byte of `mc` is then
-    /// [`ERASED`](crate::ERASED).
+    /// [`Error::InvalidTag`] if authentication fails. Each byte of `mc` is then [`ERASED`](crate::ERASED).
     ///
     /// ```
     /// use hunkravy::aegis256x2::{Aegis256X2, Error};
@@ -150,7 +149,7 @@ impl<V: Variant, const TAG_BYTES: usize> Cipher<V, TAG_BYTES> {
         accepted(V::EXPORTS.decrypt_in_place(mc, ad, nonce, key, tag))
     }
 
-    /// Fills `out` with the keystream from its beginning, whatever `out` held. `TAG_BYTES` has no effect on it.
+    /// Overwrites `out` with the keystream from its beginning. `TAG_BYTES` has no effect on it.
     ///
     /// ```
     /// use hunkravy::aegis128x4::Aegis128X4;
@@ -165,7 +164,7 @@ impl<V: Variant, const TAG_BYTES: usize> Cipher<V, TAG_BYTES> {
         done(V::EXPORTS.stream(out, self.nonce.as_ref(), self.key.as_ref()));
     }
 
-    /// Returns a message xored with the keystream from its beginning. There is no tag: changes are not detected.
+    /// Returns a message xored with the keystream from its beginning. There is no tag, so changes are not detected.
     ///
     /// ```
     /// use hunkravy::aegis256x4::Aegis256X4;
@@ -181,7 +180,7 @@ impl<V: Variant, const TAG_BYTES: usize> Cipher<V, TAG_BYTES> {
         mc
     }
 
-    /// Xors the bytes at `mc` with the keystream from its beginning. Done twice, it restores them.
+    /// Xors the bytes at `mc` with the keystream from its beginning. Calling it twice restores them.
     ///
     /// ```
     /// use hunkravy::aegis128l::Aegis128L;
@@ -196,7 +195,7 @@ impl<V: Variant, const TAG_BYTES: usize> Cipher<V, TAG_BYTES> {
         done(V::EXPORTS.stream_xor_in_place(mc, self.nonce.as_ref(), self.key.as_ref()));
     }
 
-    /// Starts to seal a message that comes in chunks.
+    /// Begins to encrypt a message in chunks.
     ///
     /// ```
     /// use hunkravy::aegis128l::Aegis128L;
@@ -211,7 +210,7 @@ impl<V: Variant, const TAG_BYTES: usize> Cipher<V, TAG_BYTES> {
         Encryptor::new(Run::new(&self.key, &self.nonce, associated_data))
     }
 
-    /// Starts to open a message that comes in chunks, in `plaintext`, which has room for all of it.
+    /// Begins to decrypt a message in chunks, into `plaintext`, which has room for the whole message.
     ///
     /// ```
     /// use hunkravy::aegis128l::{Aegis128L, Error};

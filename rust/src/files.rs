@@ -1,7 +1,6 @@
-//! Sealed files: files of any length that are encrypted and decrypted as they are written and read.
+//! Sealed files: encrypted files of any length, which are written from beginning to end and read from any place.
 //!
-//! They are those of the program `hunkravy`: each opens what the other has sealed. `docs/FILES.md` in the repository of
-//! Hunkravy has the format.
+//! They are the files of the program `hunkravy`. `docs/FILES.md` in the repository of Hunkravy has the format.
 //!
 //! ```
 //! use hunkravy::files::{SealedReader, SealedWriter};
@@ -34,7 +33,7 @@ use std::io;
 /// The context of the record stream in a sealed file.
 const CONTEXT: &[u8] = b"hunkravy v1";
 
-/// The number of bytes of the contents in each record but the last two.
+/// The number of bytes of the contents in a record that [`SealedWriter`] writes. The last two records have less.
 const PIECE_BYTES: usize = 65_536;
 
 /// The number of bytes of a file in front of its first record.

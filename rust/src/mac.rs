@@ -1,13 +1,13 @@
-//! MACs of an input that comes in chunks.
+//! MACs of an input in chunks.
 
 use crate::run::Run;
 use crate::variant::assert_tag_bytes;
 use crate::{Error, Tag, Variant};
 use core::fmt;
 
-/// The MAC of an input that comes in chunks of any lengths.
+/// The MAC of an input in chunks of any lengths.
 ///
-/// Use its key for nothing else. A clone continues on its own from the input so far.
+/// Use its key for nothing else. A clone has the input so far, and continues independently.
 ///
 /// ```
 /// use hunkravy::aegis128l::{Aegis128LMac, Error};
@@ -33,7 +33,7 @@ impl<V: Variant, const TAG_BYTES: usize> Mac<V, TAG_BYTES> {
         Self { run }
     }
 
-    /// Returns the MAC of no input so far under a key and a nonce of zeros. `TAG_BYTES` is 16 or 32: with another length the
+    /// Begins a MAC under a key, with a zeroed nonce. `TAG_BYTES` is 16 or 32: with another length the
     /// program does not compile.
     ///
     /// ```
@@ -47,7 +47,7 @@ impl<V: Variant, const TAG_BYTES: usize> Mac<V, TAG_BYTES> {
         Self::new_with_nonce(key, &V::Nonce::default())
     }
 
-    /// Returns the MAC of no input so far under a key and a nonce. `TAG_BYTES` is 16 or 32: with another length the program
+    /// Begins a MAC under a key and a nonce. `TAG_BYTES` is 16 or 32: with another length the program
     /// does not compile.
     ///
     /// ```
@@ -60,7 +60,7 @@ impl<V: Variant, const TAG_BYTES: usize> Mac<V, TAG_BYTES> {
         Self::of(Run::of_mac(key, nonce))
     }
 
-    /// Takes in the next chunk of the input.
+    /// Adds the next chunk of the input.
     ///
     /// # Panics
     ///
@@ -106,7 +106,7 @@ impl<V: Variant, const TAG_BYTES: usize> Mac<V, TAG_BYTES> {
         self.run.mac()
     }
 
-    /// Checks that `expected` is the MAC of the input. The comparison looks at every byte.
+    /// Checks that `expected` is the MAC of the input. The comparison reads each byte.
     ///
     /// # Errors
     ///

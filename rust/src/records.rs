@@ -1,11 +1,11 @@
-//! Record streams: a list of messages, each of which is encrypted and decrypted on its own, by AEGIS-256.
+//! Record streams: lists of messages, each of which is encrypted and decrypted on its own with AEGIS-256.
 //!
-//! For messages over a socket, or a file that is too long for memory. A record opens only at its place in its stream, so none
-//! can be changed, left out, repeated or moved. The last record is marked, so a stream that was truncated is detected.
+//! They are for messages over a socket, and for more data than memory holds. A record opens only at its place in its stream, so
+//! none can be changed, left out, repeated or moved. The last record is marked, so a truncated stream is detected.
 //!
-//! A stream has a header of [`HEADER_BYTES`] and a record for each message. Its prefix is sent or stored beside it, and needs
-//! not be secret. **Use a prefix for one stream only under a key**: generate it at random. The context is what the stream
-//! belongs to, such as the name of a protocol. It is authenticated, and not a part of the stream.
+//! A stream has a header of [`HEADER_BYTES`] and a record for each message. Its prefix is sent or stored beside it, and does
+//! not have to be secret. **Use a prefix for one stream only under a key**: generate it at random. The context names what the
+//! stream belongs to, such as a protocol. It is authenticated, and is not a part of the stream.
 //!
 //! ```
 //! use hunkravy::records::{Error, Opener, Sealer};
@@ -37,7 +37,7 @@ pub use error::Error;
 pub use opener::{Opened, OpenedInPlace, Opener};
 pub use sealer::Sealer;
 
-/// What is sent or stored beside a stream: 24 bytes that are used for this stream only under its key.
+/// The prefix of a stream: 24 bytes that are used for no other stream under its key.
 pub type Prefix = [u8; 24];
 
 /// The number of bytes of a stream's header.

@@ -53,7 +53,7 @@ impl<V: Variant> Run<V> {
         tag
     }
 
-    /// Turns the next bytes of the ciphertext into those of the message, whatever the tag will be.
+    /// Decrypts the next bytes of the ciphertext. They are not verified.
     #[track_caller]
     pub fn open_unverified(&mut self, chunk: &mut [u8]) {
         done(self.state.decrypt_in_place_unverified(chunk));
@@ -139,7 +139,7 @@ mod tests {
         assert_eq!(buffer, [0, 0xff]);
     }
 
-    /// What a chunk has left is erased also if opening it panics: it is counted before.
+    /// A chunk is counted before it is decrypted, so that it is erased also if that panics.
     #[cfg(feature = "std")]
     #[test]
     fn a_decryptor_that_panics_erases() {

@@ -9,8 +9,9 @@ use std::path::Path;
 /// The most bytes of a key file: the digits, and two bytes of white space.
 const MOST_BYTES: usize = 66;
 
-/// Reads the key of a key file, as `hunkravy keygen` writes it: 64 hexadecimal digits, and then a line feed, or at most two
-/// bytes of white space.
+/// Reads a key file of `hunkravy keygen`: 64 hexadecimal digits, and then at most two bytes of white space.
+///
+/// The mode of the file is not checked. Make sure that only its owner can read it.
 ///
 /// # Errors
 ///

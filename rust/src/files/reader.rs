@@ -10,30 +10,29 @@ use std::io::{self, BufRead, ErrorKind, Read};
 /// The number of bytes by which memory for a record is taken first: those of a record of a whole piece.
 const FIRST_BYTES: usize = RECORD_BYTES + PIECE_BYTES;
 
-/// Reads the contents of a sealed file. Only verified bytes are returned.
+/// Decrypts a sealed file, which it reads from an inner reader. It returns only verified bytes.
 ///
-/// **The file is whole only if reading has come to its end without an error**: then the last record was opened, and nothing
-/// follows it. Before that the bytes are a verified prefix of the contents. Nothing is read from the inner reader before the
-/// first read or seek.
+/// **The file is whole only if reading reaches the end without an error.** Then the last record was verified, and nothing
+/// follows it. Earlier bytes are a verified prefix of the contents. Nothing is read from the inner reader before the first
+/// read or seek.
 ///
-/// Over a reader that is [`Seek`](io::Seek) it is `Seek` too. Only the records that have the bytes are then read and verified,
-/// at their places. So nothing is known of the others, but that bytes at the end of the contents are followed by nothing. A
-/// place past the end may be sought, and has no bytes.
+/// Over an inner reader that is [`Seek`](io::Seek) it is `Seek` too. A seek reads and verifies only the record that has the
+/// place. The records before it are not verified. A place past the end may be sought, and reading there returns no bytes.
 ///
 /// # Errors
 ///
-/// A fault of the file is an error of kind [`ErrorKind::InvalidData`], and the [`Error`](crate::records::Error) that it holds
-/// ([`io::Error::get_ref`], [`io::Error::downcast`]) is the first fault. All bytes before it were returned. Each call after it
-/// returns the same fault.
+/// A fault of the file is an error of kind [`ErrorKind::InvalidData`]. It holds the first fault, a
+/// [`records::Error`](crate::records::Error), which [`io::Error::get_ref`] and [`io::Error::downcast`] return. All bytes in
+/// front of the fault were returned. After a fault every function returns it again.
 ///
-/// An error of the inner reader, such as [`ErrorKind::WouldBlock`], or of memory, [`ErrorKind::OutOfMemory`], is passed on. The
-/// next read goes on where it was. [`ErrorKind::Interrupted`] is not passed on: the read is tried again. After such an error of a
-/// seek the place is as it was, but reading needs another seek first.
+/// An error of the inner reader, such as [`ErrorKind::WouldBlock`], is returned, and the next read continues. So is
+/// [`ErrorKind::OutOfMemory`]. After [`ErrorKind::Interrupted`] the inner reader is read again. If the inner reader fails in a
+/// seek, the position is unchanged, and every read fails until another seek succeeds.
 ///
 /// # Memory
 ///
-/// Memory for one record is taken, as its bytes come, and is overwritten when it is dropped. The records that `hunkravy` and
-/// [`SealedWriter`](super::SealedWriter) write have at most 64 KiB, those of other programs up to 16 MiB.
+/// Memory is allocated for one record as its bytes arrive, and is overwritten when the reader is dropped. Records have up to 64
+/// KiB in files of `hunkravy` and [`SealedWriter`](super::SealedWriter), and up to 16 MiB in those of other programs.
 ///
 /// ```
 /// use hunkravy::files::{SealedReader, SealedWriter};
@@ -69,9 +68,9 @@ pub struct SealedReader<R> {
     pub(super) length: usize,
     /// The place of the next byte in the contents.
     pub(super) position: u64,
-    /// The place of the next byte of the inner reader in the file.
+    /// How many bytes were read from the inner reader before the first seek.
     pub(super) taken: u64,
-    /// The place of the file's first byte in the inner reader, if it was sought.
+    /// The place of the file's first byte in the inner reader, which the first seek finds out.
     pub(super) base: Option<u64>,
     /// Whether nothing follows the last record.
     pub(super) is_at_end: bool,
@@ -81,7 +80,7 @@ pub struct SealedReader<R> {
 }
 
 impl<R> SealedReader<R> {
-    /// Returns a reader of the contents of the sealed file that `inner` reads from here on.
+    /// Returns a reader of a sealed file. The file begins at the next byte of `inner`, and ends at the end of `inner`.
     pub fn new(inner: R, key: &Key) -> Self {
         Self {
             inner,
@@ -107,7 +106,7 @@ impl<R> SealedReader<R> {
         &self.inner
     }
 
-    /// Returns the inner reader, of which more bytes may have been read than were returned.
+    /// Returns the inner reader. Bytes that were read from it and not returned are lost.
     #[must_use]
     pub fn into_inner(self) -> R {
         self.inner
@@ -213,8 +212,8 @@ impl<R: Read> SealedReader<R> {
         Ok(())
     }
 
-    /// Takes more memory for a record of `end` bytes, as many bytes as there are, or as a whole piece needs. The old place of
-    /// the bytes is not overwritten: all of it has been read, and nothing was opened since.
+    /// Makes the buffer for a record of `end` bytes longer: to twice its length, or to that of a whole piece. The memory of the
+    /// old buffer is freed without overwriting it, since each of its bytes is ciphertext by now.
     fn grow(&mut self, end: usize) -> io::Result<()> {
         let bytes = &mut self.record.0;
         let more = end.min(FIRST_BYTES.max(2 * bytes.len())) - bytes.len();
@@ -253,7 +252,7 @@ impl<R: Read> Read for SealedReader<R> {
 }
 
 impl<R: Read> BufRead for SealedReader<R> {
-    /// Returns the rest of the message of a record. It is empty only at the end of the contents.
+    /// Returns the verified bytes of a record from the position on. They are empty only at the end of the contents.
     fn fill_buf(&mut self) -> io::Result<&[u8]> {
         self.check()?;
         if self.is_lost {

@@ -4,8 +4,8 @@ use super::{CONTEXT, HEAD_BYTES, PIECE_BYTES, SealedReader};
 use crate::records::{Error, HEADER_BYTES, Opener, Position, RECORD_BYTES, RECORD_HEAD_BYTES};
 use std::io::{self, ErrorKind, Read, Seek, SeekFrom};
 
-/// Returns the position of a record in a file of so many bytes, if it was sealed in whole pieces: of the one that has a place
-/// of the contents, or of the last one if there is none.
+/// Returns the position of the record that has a place of the contents, or of the last record if none has it. The file has
+/// `file_bytes` bytes and was sealed in whole pieces. Returns `None` if no such file has that length.
 fn in_whole_pieces(file_bytes: u64, place: Option<u64>) -> Option<Position> {
     let records = file_bytes.checked_sub((HEAD_BYTES + RECORD_BYTES) as u64)?;
     let whole = (PIECE_BYTES + RECORD_BYTES) as u64;
@@ -146,7 +146,6 @@ impl<R: Read + Seek> SealedReader<R> {
         let place = self.base.unwrap_or(0).checked_add(offset);
         self.inner
             .seek(SeekFrom::Start(place.ok_or(ErrorKind::InvalidInput)?))?;
-        self.taken = offset;
         self.start = position.before;
         self.length = 0;
         self.filled = 0;
@@ -156,7 +155,7 @@ impl<R: Read + Seek> SealedReader<R> {
 }
 
 impl<R: Read + Seek> Seek for SealedReader<R> {
-    /// Moves to a place of the contents, and opens the record that has it. [`SeekFrom::End`] opens the last record, and checks
+    /// Moves to a place of the contents, and verifies the record that has it. [`SeekFrom::End`] verifies the last record too, and
     /// that nothing follows it.
     fn seek(&mut self, to: SeekFrom) -> io::Result<u64> {
         self.check()?;

@@ -9,14 +9,14 @@ use alloc::vec::Vec;
 use core::fmt;
 use std::io::{self, ErrorKind, Write};
 
-/// Writes a sealed file, whose contents are what is written to it.
+/// Encrypts bytes into a sealed file, which it writes to an inner writer.
 ///
-/// **Call [`finish`](Self::finish) at the end: without it the file does not open.** Dropping never finishes, so that a program
-/// that stops half way leaves no file that opens.
+/// **Call [`finish`](Self::finish) at the end: without it the file does not open.** Dropping the writer never finishes the
+/// file. So a program that ends early leaves no file that opens.
 ///
-/// The contents are sealed in pieces of 65,536 bytes. [`flush`](Write::flush) flushes the inner writer, to which the bytes of
-/// an incomplete piece are not written yet. A writer that has failed stays failed. Memory is taken for one piece, and is
-/// overwritten when it is dropped.
+/// Bytes are encrypted and written in pieces of 65,536 bytes. [`flush`](Write::flush) flushes the inner writer, and leaves an
+/// incomplete piece in memory. After an error of the inner writer in `write` or `finish`, every function returns an error.
+/// The buffer for one piece is overwritten when the writer is dropped.
 ///
 /// ```
 /// use hunkravy::files::SealedWriter;
@@ -40,11 +40,11 @@ pub struct SealedWriter<W: Write> {
 }
 
 impl<W: Write> SealedWriter<W> {
-    /// Begins a file under a key: writes its first bytes, with a prefix that the system's source of random bytes gives.
+    /// Begins a file: generates its prefix at random, and writes its first 28 bytes.
     ///
     /// # Errors
     ///
-    /// An error of that source, or of the inner writer.
+    /// An error of the system's source of random bytes, or of the inner writer.
     pub fn new(mut inner: W, key: &Key) -> io::Result<Self> {
         let mut prefix = Prefix::default();
         random::fill(&mut random::open()?, &mut prefix)?;
@@ -72,7 +72,7 @@ impl<W: Write> SealedWriter<W> {
     ///
     /// # Errors
     ///
-    /// An error of the inner writer, or that the writer has failed before. The file then does not open.
+    /// An error of the inner writer, now or earlier. Unless flushing it failed, the file does not open.
     pub fn finish(mut self) -> io::Result<W> {
         self.check()?;
         if self.filled > 0 {
@@ -110,7 +110,7 @@ fn too_long(error: Error) -> io::Error {
 }
 
 impl<W: Write> Write for SealedWriter<W> {
-    /// Takes as many bytes as the piece has room for, and writes the piece once it is full.
+    /// Adds bytes to the current piece, as many as fit, and writes the piece if it is full.
     fn write(&mut self, data: &[u8]) -> io::Result<usize> {
         self.check()?;
         let count = data.len().min(PIECE_BYTES - self.filled);

@@ -9,7 +9,7 @@ use crate::wipe::wipe;
 use alloc::vec::Vec;
 use std::io;
 
-/// The length of the prefix of the record stream, after the front.
+/// The length of the prefix of the record stream.
 pub const PREFIX_BYTES: usize = 24;
 /// The length of the place with which a message begins.
 const PLACE_BYTES: usize = 8;
@@ -22,10 +22,10 @@ pub struct PendingWrite {
     pub bytes: Vec<u8>,
 }
 
-/// What a journal is sealed under, and what it begins with.
+/// The key, the first bytes and the prefix of a journal.
 pub struct JournalSeal {
     pub key: [u8; 32],
-    pub front: [u8; CLEAR_BYTES],
+    pub start: [u8; CLEAR_BYTES],
     pub prefix: [u8; PREFIX_BYTES],
 }
 
@@ -47,11 +47,10 @@ pub fn commit(
     empty(journal)
 }
 
-/// Writes a journal, and syncs it: the front first, so that a longer journal begins with all of it, whatever a crash
-/// leaves.
+/// Writes a journal, and syncs it: the first bytes first, so that a longer journal begins with them after any crash.
 fn write_journal(journal: &mut impl RafIo, bytes: &[u8]) -> io::Result<()> {
-    let (front, rest) = bytes.split_at(CLEAR_BYTES);
-    journal.write_at(front, 0)?;
+    let (start, rest) = bytes.split_at(CLEAR_BYTES);
+    journal.write_at(start, 0)?;
     journal.sync()?;
     journal.write_at(rest, CLEAR_BYTES as u64)?;
     journal.sync()
@@ -71,15 +70,14 @@ pub fn empty(journal: &mut impl RafIo) -> io::Result<()> {
     journal.sync()
 }
 
-/// Returns the journal of the writes, of which there is at least one: the front, the prefix, and a record stream with a
-/// record for each write.
+/// Returns the journal of one or more writes: its first bytes, the prefix, and a record stream with a record for each write.
 fn journal_bytes(seal: &JournalSeal, writes: &[PendingWrite]) -> Vec<u8> {
     const WITHIN: &str = "a page is not too long for a record";
     let mut sealer = Sealer::new(&seal.key, &seal.prefix, &[]).expect("the context is empty");
     let bytes_of = |write: &PendingWrite| PLACE_BYTES + write.bytes.len() + RECORD_BYTES;
     let length: usize = writes.iter().map(bytes_of).sum();
     let mut journal = Vec::with_capacity(CLEAR_BYTES + PREFIX_BYTES + HEADER_BYTES + length);
-    journal.extend_from_slice(&seal.front);
+    journal.extend_from_slice(&seal.start);
     journal.extend_from_slice(&seal.prefix);
     journal.extend_from_slice(&sealer.header());
     let message = |write: &PendingWrite| [&write.place.to_le_bytes(), &write.bytes[..]].concat();
@@ -95,7 +93,7 @@ fn journal_bytes(seal: &JournalSeal, writes: &[PendingWrite]) -> Vec<u8> {
 
 /// Returns the writes of a journal, or `None` if the bytes are no whole journal under this key.
 pub fn journaled_writes(key: &[u8; 32], journal: &[u8]) -> Option<Vec<PendingWrite>> {
-    let (_front, rest) = journal.split_first_chunk::<CLEAR_BYTES>()?;
+    let (_start, rest) = journal.split_first_chunk::<CLEAR_BYTES>()?;
     let (prefix, rest) = rest.split_first_chunk::<PREFIX_BYTES>()?;
     let (header, mut rest) = rest.split_first_chunk::<HEADER_BYTES>()?;
     let mut opener = Opener::new(key, prefix, &[], header).ok()?;
@@ -133,18 +131,18 @@ mod tests {
     fn a_seal_that_was_dropped() {
         let seal = JournalSeal {
             key: [1; 32],
-            front: [2; CLEAR_BYTES],
+            start: [2; CLEAR_BYTES],
             prefix: [3; PREFIX_BYTES],
         };
         assert_eq!(left_of(seal, |seal| &seal.key), [0; 32]);
     }
 
-    /// What is sealed is opened, but for a write past the last byte that a file may have.
+    /// A journal opens if its writes are within the longest file.
     #[test]
     fn places() {
         let seal = JournalSeal {
             key: [1; 32],
-            front: [2; CLEAR_BYTES],
+            start: [2; CLEAR_BYTES],
             prefix: [3; PREFIX_BYTES],
         };
         for (place, is_within) in [

@@ -1,4 +1,4 @@
-//! Locks on files, as `File::try_lock` of Rust 1.89 and later takes them.
+//! Locks on files, with `flock`. `File::try_lock` needs Rust 1.89.
 
 use super::{Error, Result};
 use core::ffi::c_int;

@@ -1,15 +1,15 @@
-//! Where nonces and ids come from.
+//! Sources of random bytes.
 
 use super::Result;
 
-/// Generates nonces and ids.
+/// A source of random bytes, for nonces and ids.
 pub trait RafRng {
-    /// Fills `buf` with random bytes, or returns an error: what is in `buf` is then not used. The bytes must not be those of an
-    /// earlier call for the same key.
+    /// Fills `buf` with random bytes. After an error the bytes of `buf` are not used. **No call may give the bytes of an earlier
+    /// one** under the same key.
     fn fill(&mut self, buf: &mut [u8]) -> Result<()>;
 }
 
-/// The system's random bytes, of `/dev/urandom`.
+/// The system's source of random bytes, `/dev/urandom`.
 #[cfg(feature = "raf")]
 #[derive(Debug, Default)]
 pub struct OsRng(Option<std::fs::File>);
@@ -25,12 +25,12 @@ impl RafRng for OsRng {
     }
 }
 
-/// What a type has for its source of random bytes if it names none.
+/// The default source of random bytes of [`Raf`](super::Raf) and [`RafBuilder`](super::RafBuilder).
 #[cfg(feature = "raf")]
 pub type DefaultRng = OsRng;
 
-/// No source of random bytes: the program has to give one by [`RafBuilder::with_rng`](super::RafBuilder::with_rng), since the
-/// feature `raf` is not set.
+/// No source of random bytes, since the feature `raf` is not set. Give one to
+/// [`RafBuilder::with_rng`](super::RafBuilder::with_rng).
 #[cfg(not(feature = "raf"))]
 #[derive(Debug)]
 pub enum NoRng {}
@@ -42,6 +42,6 @@ impl RafRng for NoRng {
     }
 }
 
-/// What a type has for its source of random bytes if it names none.
+/// The default source of random bytes of [`Raf`](super::Raf) and [`RafBuilder`](super::RafBuilder).
 #[cfg(not(feature = "raf"))]
 pub type DefaultRng = NoRng;

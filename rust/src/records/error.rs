@@ -3,7 +3,8 @@
 use crate::exports::Refusal;
 use core::fmt;
 
-/// Why a stream is not sealed or not opened. The first six are faults of the stream's bytes: the first one, read from the start.
+/// The error of a [`Sealer`](super::Sealer) or an [`Opener`](super::Opener). The first six variants are faults of a stream. An
+/// opener returns the first fault, in the order of the bytes.
 ///
 /// ```
 /// assert_eq!(hunkravy::records::Error::Damaged(3).to_string(), "record 3 is damaged");
@@ -19,8 +20,8 @@ pub enum Error {
     Flag,
     /// A message has more than [`MAX_MESSAGE_BYTES`](super::MAX_MESSAGE_BYTES).
     TooLong,
-    /// The record of this number, from 0, is not that of any message: it was changed or moved, or the key, the prefix or the
-    /// context is another.
+    /// Authentication of the record of this number, counted from 0, fails. It was changed or moved, or the key, the prefix or
+    /// the context is wrong.
     Damaged(u64),
     /// Bytes follow the last record.
     Trailing,

@@ -18,7 +18,7 @@ pub struct Opened<'b> {
     pub rest: &'b [u8],
 }
 
-/// A record that was opened where it lies.
+/// A record that was opened in place.
 #[derive(Debug, PartialEq, Eq)]
 #[must_use]
 pub struct OpenedInPlace<'b> {
@@ -30,13 +30,11 @@ pub struct OpenedInPlace<'b> {
     pub rest: &'b mut [u8],
 }
 
-/// Opens the records of a stream, in their order. Its state is overwritten when it is dropped.
+/// Decrypts the records of a stream, in their order. Its state is overwritten when it is dropped.
 ///
-/// The messages before the last one may be those of a stream that was truncated: all of them are there only once the last
-/// record was opened, and [`finish`](Self::finish) returns `Ok`.
+/// The stream is whole only if [`finish`](Self::finish) returns `Ok`. Until then it may be truncated.
 ///
-/// After an error each further call returns the same error. So after [`Error::Damaged`] no other bytes are tried in the place
-/// of a record.
+/// After an error every function returns the same error. So no record is tried again with other bytes.
 #[must_use]
 pub struct Opener<'c> {
     records: Records<'c>,
@@ -70,7 +68,7 @@ impl<'c> Opener<'c> {
 
     /// Begins to open a stream at one of its records, without those before it.
     ///
-    /// The position needs not be verified: a record opens only at its own. Nothing is known of the records before it.
+    /// The position does not have to be verified: a record opens only at its own. The records before it are not verified.
     ///
     /// # Errors
     ///
@@ -122,8 +120,9 @@ impl<'c> Opener<'c> {
         matches!(self.end, Some(End::Last))
     }
 
-    /// Returns how many bytes the next record has, from its first five, to read so many. **They are not verified**: do not
-    /// allocate the number before the bytes are there. It is at most 16 MiB and 37 bytes.
+    /// Returns the length of the next record in bytes, from its first five bytes. It is at most 16 MiB and 37 bytes.
+    ///
+    /// **The length is not verified**: allocate memory for a record as its bytes arrive.
     ///
     /// # Errors
     ///
@@ -141,12 +140,12 @@ impl<'c> Opener<'c> {
         })
     }
 
-    /// Opens the next record, with which `bytes` begin. They have at least that record, or all that is left of the stream.
+    /// Opens the next record, which is at the beginning of `bytes`. `bytes` has the whole record, or the rest of the stream.
     ///
     /// # Errors
     ///
-    /// The first fault of the stream, [`Error::Truncated`] if `bytes` are too few, or [`Error::StreamTooLong`]. After the last
-    /// record it is [`Error::Trailing`].
+    /// The first fault of the stream, or [`Error::StreamTooLong`]. [`Error::Truncated`] if `bytes` ends before the record
+    /// does. [`Error::Trailing`] after the last record.
     ///
     /// ```
     /// use hunkravy::records::{Error, Opener, Sealer};
@@ -178,8 +177,10 @@ impl<'c> Opener<'c> {
         })
     }
 
-    /// Opens the next record where it lies, as [`open_next`](Self::open_next) does in a vector. After [`Error::Damaged`] each
-    /// byte of the record is [`ERASED`](crate::ERASED). After any other error `bytes` are as they were.
+    /// Opens the next record in place. The arguments and the errors are those of [`open_next`](Self::open_next).
+    ///
+    /// After [`Error::Damaged`] each byte of the record is [`ERASED`](crate::ERASED). After any other error `bytes` is
+    /// unchanged.
     ///
     /// ```
     /// use hunkravy::records::{Error, HEADER_BYTES, Opener, Sealer};
@@ -210,7 +211,7 @@ impl<'c> Opener<'c> {
         })
     }
 
-    /// Checks that the stream was opened as a whole. `rest` is what follows the records that were opened.
+    /// Checks that the whole stream was opened. `rest` has the bytes after the records that were opened.
     ///
     /// # Errors
     ///

@@ -7,10 +7,10 @@ use crate::wipe::wipe;
 use alloc::vec::Vec;
 use core::fmt;
 
-/// Seals the messages of a stream. Its state is overwritten when it is dropped.
+/// Encrypts the messages of a stream. Its state is overwritten when it is dropped.
 ///
-/// A stream whose last message was not sealed by [`seal_last`](Self::seal_last) or
-/// [`seal_last_in_place`](Self::seal_last_in_place) does not open as a whole.
+/// End each stream with [`seal_last`](Self::seal_last) or [`seal_last_in_place`](Self::seal_last_in_place): without it the
+/// stream is truncated.
 ///
 /// ```
 /// use hunkravy::records::{Error, Sealer};
@@ -47,7 +47,7 @@ impl<'c> Sealer<'c> {
         Ok(Self { records, header })
     }
 
-    /// Returns the header, with which the stream begins.
+    /// Returns the header: the first bytes of the stream.
     #[must_use = "a stream does not open without its header"]
     pub fn header(&self) -> [u8; HEADER_BYTES] {
         self.header
@@ -78,8 +78,8 @@ impl<'c> Sealer<'c> {
         self.append(message, stream, true)
     }
 
-    /// Seals the next message where it lies, between the first [`RECORD_HEAD_BYTES`] and the last 32 bytes of `record`, whatever
-    /// these hold: all of `record` becomes the record of the message.
+    /// Encrypts the next message in place. The message is at `record`, after [`RECORD_HEAD_BYTES`] bytes and before 32 bytes of
+    /// any contents. All of `record` becomes the record of the message.
     ///
     /// # Errors
     ///
@@ -103,7 +103,7 @@ impl<'c> Sealer<'c> {
         self.seal(record, false)
     }
 
-    /// Seals the last message where it lies, as [`seal_next_in_place`](Self::seal_next_in_place) does with another.
+    /// Encrypts the last message in place. `record` holds it as for [`seal_next_in_place`](Self::seal_next_in_place).
     ///
     /// # Errors
     ///

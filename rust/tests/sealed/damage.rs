@@ -123,6 +123,8 @@ fn check_sought(damaged: &Damaged, contents: &[u8], place: usize, to: SeekFrom) 
     let mut reader = SealedReader::new(Cursor::new(&damaged.bytes), &damaged.key);
     let fault = match reader.seek(to) {
         Ok(found) => {
+            let is_from_end = matches!(to, SeekFrom::End(_));
+            assert!(!is_from_end || damaged.cause != Some(Error::Trailing));
             assert_eq!(found, place as u64, "{} {to:?}", damaged.name);
             let (bytes, fault) = read_all(&mut reader, 3);
             let is_right = match fault {

@@ -221,10 +221,17 @@ fn only_what_is_needed_is_read() {
             28 + WHOLE_BYTES,
         ),
         (SeekFrom::Start(40 * 65_536), 40 * 65_536, 28 + 46),
+        (
+            SeekFrom::Start(contents.len() as u64),
+            contents.len(),
+            28 + 37,
+        ),
         (SeekFrom::End(0), contents.len(), 28 + 37),
         (SeekFrom::End(-9), 40 * 65_536, 28 + 37 + 46),
     ] {
-        let inner = Counted(Cursor::new(&file), 0);
+        let bytes = [&[0x41; 9], &file[..]].concat();
+        let mut inner = Counted(Cursor::new(&bytes), 0);
+        inner.0.set_position(9);
         let mut reader = SealedReader::new(inner, &key());
         assert_eq!(reader.seek(to).unwrap(), place as u64);
         assert!(reader.get_ref().1 <= most, "{to:?} {}", reader.get_ref().1);

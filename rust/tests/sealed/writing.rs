@@ -124,6 +124,31 @@ fn written(file: &mut impl Write, contents: &[u8]) -> io::Result<()> {
     writer.finish().map(|_| ())
 }
 
+/// Cannot be flushed.
+struct Unflushed(Vec<u8>);
+
+impl Write for Unflushed {
+    fn write(&mut self, data: &[u8]) -> io::Result<usize> {
+        self.0.write(data)
+    }
+
+    fn flush(&mut self) -> io::Result<()> {
+        Err(ErrorKind::StorageFull.into())
+    }
+}
+
+/// The inner writer is flushed at the end, after everything is written.
+#[test]
+fn writers_that_cannot_be_flushed() {
+    let mut file = Unflushed(Vec::new());
+    let mut writer = SealedWriter::new(&mut file, &key()).unwrap();
+    writer.write_all(b"contents").unwrap();
+    assert_eq!(writer.flush().unwrap_err().kind(), ErrorKind::StorageFull);
+    let finished = writer.finish().map(|_| ());
+    assert_eq!(finished.unwrap_err().kind(), ErrorKind::StorageFull);
+    assert_eq!(read(&file.0).unwrap(), b"contents");
+}
+
 /// Takes no more than so many bytes.
 struct Full(usize);
 
