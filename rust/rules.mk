@@ -1,27 +1,32 @@
 # The Cargo package over the C library, and its tests.
 .PHONY: check-rust check-rust-both check-rust-tool check-raf
 
-# A test of the package over a library, without debug information, which takes a quarter of the time of compiling.
-CARGO_TEST = cd rust && CARGO_PROFILE_DEV_DEBUG=0 HUNKRAVY_LIB_DIR="$(CURDIR)/$(OUT)/$(1)" \
-	CARGO_TARGET_DIR="$(CURDIR)/$(OUT)/$(1)/cargo" cargo test --offline
+# Cargo on the package over a library, without debug information, which takes a quarter of the time of compiling.
+CARGO = cd rust && CARGO_PROFILE_DEV_DEBUG=0 HUNKRAVY_LIB_DIR="$(CURDIR)/$(OUT)/$(1)" \
+	CARGO_TARGET_DIR="$(CURDIR)/$(OUT)/$(1)/cargo" cargo
 
 # All tests over the library with both levels: the stored lines, forgeries, damaged and torn files, the samples of the crate's
-# pages, its examples. Over each level alone those that call all of the library, and one-shot calls beside three other
-# implementations. The programs that measure it run.
+# pages, its examples; and the lints, one of which finds what its oldest compiler lacks. Over each level alone the tests that
+# call all of the library. Over each library one-shot calls beside three other implementations. The programs that measure run.
 check-rust: check-rust-both $(RUNNABLE:%=check-rust-%) check-bench
 
 check-rust-both: $(OUT)/both/libhunkravy.a $(OUT)/both/check-driver
-	$(call CARGO_TEST,both)
+	$(call CARGO,both) test --offline
+	if cargo clippy --version > /dev/null 2>&1; then \
+		$(call CARGO,both) clippy --offline --all-targets -- -D warnings; \
+	else \
+		echo 'left out: the lints of the Cargo package, since cargo clippy is not installed'; \
+	fi
 	$(OUT)/both/check-driver
 
 check-rust-%: $(OUT)/%/libhunkravy.a $(OUT)/%/check-driver
-	$(call CARGO_TEST,$*) --lib --test lines --test destinations --test sealed
-	$(call CARGO_TEST,$*) --test raf formats
+	$(call CARGO,$*) test --offline --lib --test lines --test destinations --test sealed
+	$(call CARGO,$*) test --offline --test raf formats
 	$(OUT)/$*/check-driver
 
 # Whether the package and the file tool open each other's files.
 check-rust-tool: $(OUT)/$(lastword $(TOOL_LEVELS))/hunkravy $(LIBRARY)
-	export HUNKRAVY_TOOL="$(CURDIR)/$<"; $(call CARGO_TEST,$(FOLDER)) --test tool
+	export HUNKRAVY_TOOL="$(CURDIR)/$<"; $(call CARGO,$(FOLDER)) test --offline --test tool
 
 # ---- Files in place
 

@@ -629,6 +629,12 @@ impl<'c> Records<'c> {
         Ok(st)
     }
 
+    /// Sets the bytes of all messages so far, as if the stream were nearly as long as it may be.
+    #[cfg(test)]
+    pub fn set_before(&mut self, before: u64) {
+        self.opaque[2] = before;
+    }
+
     /// Seals the next message in place: it has [`RECORD_HEAD_BYTES`] in front of it, and 32 bytes after it for the tag. The
     /// last one ends the stream.
     pub fn seal(&mut self, record: &mut [u8], is_last: bool) -> Answer {

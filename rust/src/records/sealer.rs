@@ -155,3 +155,34 @@ impl fmt::Debug for Sealer<'_> {
         f.write_str("Sealer { .. }")
     }
 }
+
+/// The limit on the length of a stream, which is more than any buffer has.
+#[cfg(test)]
+mod tests {
+    use super::{Error, Sealer};
+    use crate::MAX_AEAD_BYTES;
+    use alloc::vec;
+
+    /// Neither a vector nor a buffer has changed after the error, and a shorter message may follow.
+    #[test]
+    fn the_longest_stream() {
+        let mut sealer = Sealer::new(&[1; 32], &[2; 24], b"context").unwrap();
+        sealer.records.set_before(MAX_AEAD_BYTES - 4 - 37 - 10);
+        let mut stream = vec![3; 5];
+        let sealed = sealer.seal_next(&[9; 11], &mut stream);
+        assert_eq!(
+            (sealed, &stream[..]),
+            (Err(Error::StreamTooLong), &[3; 5][..])
+        );
+        // The message does not stay behind the end of the vector.
+        for byte in &mut stream.spare_capacity_mut()[..37 + 11] {
+            // SAFETY: the record was written there.
+            assert_eq!(unsafe { byte.assume_init_read() }, 0);
+        }
+        let mut record = [7; 37 + 11];
+        let sealed = sealer.seal_next_in_place(&mut record);
+        assert_eq!((sealed, record), (Err(Error::StreamTooLong), [7; 37 + 11]));
+        sealer.seal_last(&[0; 10], &mut stream).unwrap();
+        assert_eq!(stream.len(), 5 + 37 + 10);
+    }
+}

@@ -27,7 +27,7 @@ fn written_in_any_lengths() {
     let mut prefixes = Vec::new();
     for length in LENGTHS {
         for most in [1, 999, PIECE_BYTES, usize::MAX] {
-            if most == 1 && length > 2 * PIECE_BYTES {
+            if most == 1 && length > PIECE_BYTES + 1 {
                 continue;
             }
             let mut writer = SealedWriter::new(Slow::new(Vec::new(), 50_000), &key()).unwrap();
@@ -47,7 +47,7 @@ fn written_in_any_lengths() {
     prefixes.dedup();
     assert_eq!(
         prefixes.len(),
-        4 * LENGTHS.len() - 1,
+        4 * LENGTHS.len() - 2,
         "no prefix is used twice"
     );
 }
