@@ -1,17 +1,17 @@
-//! The calls of `libhunkravy.a` as safe calls over slices.
+//! The functions of `libhunkravy.a` as safe functions over slices.
 //!
-//! The library checks each length, and Rust's borrows ensure all else that a caller must. This file needs nothing else of
-//! the crate: a program that is built without cargo may include it as a module by `#[path]`.
+//! The library checks each length, and borrowing ensures everything else. This file needs nothing else of the crate: a program
+//! that is built without Cargo can include it as a module with `#[path]`.
 #![allow(dead_code)]
 #![deny(missing_docs)]
 #![deny(unsafe_op_in_unsafe_fn)]
 
 use core::marker::PhantomData;
 
-/// What each byte of a buffer is after a refused opening in place.
+/// Each byte of a buffer in place after authentication has failed: 0xaa.
 pub const ERASED: u8 = 0xaa;
 
-/// Why a call was refused: the first of the wrong lengths, or else the tag.
+/// The error of a function: the first wrong length, or else the tag.
 #[derive(Clone, Copy, Debug, PartialEq, Eq)]
 pub enum Refusal {
     /// The tag is not that of the message, whose buffer is then all [`ERASED`]; or the MAC is not that of the input.
@@ -42,7 +42,7 @@ pub enum Refusal {
     WrongMessageLength,
 }
 
-/// What a call returns.
+/// The result of a function.
 pub type Answer = Result<(), Refusal>;
 
 fn read(code: i32) -> Answer {
@@ -81,7 +81,7 @@ pub struct State {
 const _: () = assert!(size_of::<State>() == 672);
 
 impl State {
-    /// A state that every call refuses but the one that begins it.
+    /// A state that has ended. Only the functions that begin one accept it.
     pub const ENDED: Self = Self {
         mark: 0,
         rows: [[0; 128]; 4],
@@ -361,7 +361,7 @@ impl Variant {
         )
     }
 
-    /// Writes keystream to `out`, whatever was there.
+    /// Overwrites `out` with keystream.
     pub fn stream(&self, out: &mut [u8], npub: &[u8], k: &[u8]) -> Answer {
         call!(
             hunkravy_stream(self.number),
@@ -381,7 +381,7 @@ impl Variant {
         )
     }
 
-    /// Writes the MAC of `input` to `mac`. A nonce of zeros stands for none.
+    /// Writes the MAC of `input` to `mac`. Use a zeroed nonce if there is none.
     pub fn mac(&self, input: &[u8], npub: &[u8], k: &[u8], mac: &mut [u8]) -> Answer {
         call!(
             hunkravy_mac(self.number),
@@ -403,7 +403,7 @@ impl Variant {
         )
     }
 
-    /// Begins a message. If it is refused, the state is [`State::ENDED`].
+    /// Begins a message. After an error the state is [`State::ENDED`].
     pub fn state_init(&self, st: &mut State, ad: &[u8], npub: &[u8], k: &[u8]) -> Answer {
         call!(
             hunkravy_state_init(self.number, st),
@@ -413,7 +413,7 @@ impl Variant {
         )
     }
 
-    /// Begins a MAC. If it is refused, the state is [`State::ENDED`].
+    /// Begins a MAC. After an error the state is [`State::ENDED`].
     pub fn mac_init(&self, st: &mut State, npub: &[u8], k: &[u8]) -> Answer {
         call!(hunkravy_mac_init(self.number, st), npub.as_ptr, k.as_ptr)
     }
@@ -430,7 +430,7 @@ impl State {
         call!(hunkravy_state_encrypt_final(self), mac.as_mut_ptr)
     }
 
-    /// Turns the next bytes of the ciphertext into as many of its message, whatever the tag will be.
+    /// Decrypts the next bytes of the ciphertext. They are not verified.
     pub fn decrypt_in_place_unverified(&mut self, mc: &mut [u8]) -> Answer {
         call!(
             hunkravy_state_decrypt_in_place_unverified(self),
@@ -465,7 +465,7 @@ impl State {
     }
 }
 
-/// What a header of a file of sealed pages has.
+/// The contents of a header of a file of sealed pages.
 #[derive(Clone, Copy, Debug, Default, PartialEq, Eq)]
 pub struct PageHeader {
     /// How many bytes of text a page has, from 256 to 65,536.
@@ -576,7 +576,7 @@ unsafe impl Send for Records<'_> {}
 unsafe impl Sync for Records<'_> {}
 
 impl<'c> Records<'c> {
-    /// A stream that every call refuses but the one that begins it.
+    /// A stream that has ended. Only the functions that begin one accept it.
     const ENDED: Self = Self {
         opaque: [0; OPAQUE_WORDS],
         context: core::ptr::null(),
@@ -612,7 +612,7 @@ impl<'c> Records<'c> {
         Ok(st)
     }
 
-    /// Begins to open a stream at its record of a number, whose messages before it have so many bytes together.
+    /// Begins to open a stream at the record of this number. The messages before it have `before` bytes together.
     pub fn begin_open_at(
         k: &[u8; 32],
         prefix: &[u8; 24],
@@ -652,7 +652,7 @@ impl<'c> Records<'c> {
         })
     }
 
-    /// Returns how many bytes the next record has, by its head, which is not verified.
+    /// Returns the length of the next record in bytes, from its head. The length is not verified.
     pub fn record_len(&self, head: &[u8; RECORD_HEAD_BYTES]) -> Result<usize, Refusal> {
         let mut length = 0;
         // SAFETY: each pointer is that of a borrowed value of the length that the library reads or writes.
