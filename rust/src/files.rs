@@ -27,8 +27,7 @@ pub use key::read_key;
 pub use reader::SealedReader;
 pub use writer::SealedWriter;
 
-use crate::records::{Error, HEADER_BYTES, Prefix};
-use std::io;
+use crate::records::{HEADER_BYTES, Prefix};
 
 /// The context of the record stream in a sealed file.
 const CONTEXT: &[u8] = b"hunkravy v1";
@@ -38,8 +37,3 @@ const PIECE_BYTES: usize = 65_536;
 
 /// The number of bytes of a file in front of its first record.
 const HEAD_BYTES: usize = size_of::<Prefix>() + HEADER_BYTES;
-
-/// The error of reading a file that has a fault.
-fn invalid_data(fault: Error) -> io::Error {
-    io::Error::new(io::ErrorKind::InvalidData, fault)
-}

@@ -1,6 +1,6 @@
 //! Opening a file.
 
-use super::{CONTEXT, HEAD_BYTES, Key, PIECE_BYTES, invalid_data};
+use super::{CONTEXT, HEAD_BYTES, Key, PIECE_BYTES};
 use crate::records::{Error, Opener, Prefix, RECORD_BYTES, RECORD_HEAD_BYTES};
 use crate::wipe::Wiped;
 use alloc::vec::Vec;
@@ -123,12 +123,12 @@ impl<R> SealedReader<R> {
     /// Keeps the fault, and returns it as an error.
     pub(super) fn fail(&mut self, fault: Error) -> io::Error {
         self.fault = Some(fault);
-        invalid_data(fault)
+        fault.into()
     }
 
     /// Returns the fault again, if there was one.
     pub(super) fn check(&self) -> io::Result<()> {
-        self.fault.map_or(Ok(()), |fault| Err(invalid_data(fault)))
+        self.fault.map_or(Ok(()), |fault| Err(fault.into()))
     }
 }
 

@@ -2,12 +2,12 @@
 
 use super::{CONTEXT, HEAD_BYTES, Key, PIECE_BYTES};
 use crate::random;
-use crate::records::{Error, Prefix, RECORD_BYTES, RECORD_HEAD_BYTES, Sealer};
+use crate::records::{Prefix, RECORD_BYTES, RECORD_HEAD_BYTES, Sealer};
 use crate::wipe::Wiped;
 use alloc::vec;
 use alloc::vec::Vec;
 use core::fmt;
-use std::io::{self, ErrorKind, Write};
+use std::io::{self, Write};
 
 /// Encrypts bytes into a sealed file, which it writes to an inner writer.
 ///
@@ -48,7 +48,7 @@ impl<W: Write> SealedWriter<W> {
     pub fn new(mut inner: W, key: &Key) -> io::Result<Self> {
         let mut prefix = Prefix::default();
         random::fill(&mut random::open()?, &mut prefix)?;
-        let sealer = Sealer::new(key, &prefix, CONTEXT).map_err(io::Error::other)?;
+        let sealer = Sealer::new(key, &prefix, CONTEXT)?;
         let mut head = [0; HEAD_BYTES];
         head[..prefix.len()].copy_from_slice(&prefix);
         head[prefix.len()..].copy_from_slice(&sealer.header());
@@ -79,7 +79,7 @@ impl<W: Write> SealedWriter<W> {
             self.write_record()?;
         }
         let mut last = Vec::new();
-        self.sealer.seal_last(&[], &mut last).map_err(too_long)?;
+        self.sealer.seal_last(&[], &mut last)?;
         self.inner.write_all(&last)?;
         self.inner.flush()?;
         Ok(self.inner)
@@ -97,16 +97,12 @@ impl<W: Write> SealedWriter<W> {
         let record = &mut self.record.0[..RECORD_BYTES + self.filled];
         // It stays so after an error or a panic.
         self.has_failed = true;
-        self.sealer.seal_next_in_place(record).map_err(too_long)?;
+        self.sealer.seal_next_in_place(record)?;
         self.inner.write_all(record)?;
         self.filled = 0;
         self.has_failed = false;
         Ok(())
     }
-}
-
-fn too_long(error: Error) -> io::Error {
-    io::Error::new(ErrorKind::InvalidInput, error)
 }
 
 impl<W: Write> Write for SealedWriter<W> {

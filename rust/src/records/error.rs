@@ -48,6 +48,14 @@ impl fmt::Display for Error {
 
 impl core::error::Error for Error {}
 
+/// An error of kind [`InvalidData`](std::io::ErrorKind::InvalidData), which holds this one.
+#[cfg(feature = "std")]
+impl From<Error> for std::io::Error {
+    fn from(error: Error) -> Self {
+        std::io::Error::new(std::io::ErrorKind::InvalidData, error)
+    }
+}
+
 /// The error of beginning a stream.
 pub(super) fn of_begin(refusal: Refusal) -> Error {
     match refusal {

@@ -1,6 +1,6 @@
 //! Record streams.
 
-use crate::support::{CONTEXT, MESSAGES, data, key, sealed};
+use crate::support::{CONTEXT, MESSAGES, data, fault_of, key, sealed};
 use hunkravy::records::*;
 use std::fs;
 
@@ -227,6 +227,9 @@ fn errors() {
     texts.sort();
     texts.dedup();
     assert_eq!(texts.len(), errors.len());
+    for error in errors {
+        assert_eq!(fault_of(&error.into()), error);
+    }
     let source: Box<dyn std::error::Error + Send + Sync> = Error::Flag.into();
     assert!(source.source().is_none());
 }
