@@ -17,7 +17,7 @@ mod sample;
 
 use std::path::Path;
 
-pub fn main() -> std::io::Result<()> {
+fn main() -> std::io::Result<()> {
     let variants = contender::variants();
     agreement::check(&variants, &measure::SIZES);
     println!("The contenders agree at each size.");
