@@ -292,10 +292,11 @@ static void check_texts(void)
         "the state was not begun, has ended, or is for other calls",
         "no variant has this number",
         "the context of the record stream is too long",
-        "the header is that of no known record stream",
+        "the header is not that of a record stream",
         "the record has no room for its head and its tag",
         "a page has no such size",
-        "the text of the file is too long"};
+        "the text of the file is too long",
+        "the message has not as many bytes as were decrypted"};
     static const int codes[] = {HUNKRAVY_OK,
                                 HUNKRAVY_INVALID_TAG,
                                 HUNKRAVY_WRONG_NONCE_LENGTH,
@@ -309,12 +310,13 @@ static void check_texts(void)
                                 HUNKRAVY_UNKNOWN_HEADER,
                                 HUNKRAVY_WRONG_RECORD_LENGTH,
                                 HUNKRAVY_WRONG_PAGE_SIZE,
-                                HUNKRAVY_TEXT_TOO_LONG};
+                                HUNKRAVY_TEXT_TOO_LONG,
+                                HUNKRAVY_WRONG_MESSAGE_LENGTH};
 
-    for (int i = 0; i < 14; i++) {
+    for (int i = 0; i < 15; i++) {
         HOLDS(codes[i] == -i && strcmp(hunkravy_error_text(-i), texts[i]) == 0);
     }
-    HOLDS(strcmp(hunkravy_error_text(-14), "no code of this library") == 0);
+    HOLDS(strcmp(hunkravy_error_text(-15), "no code of this library") == 0);
     HOLDS(strcmp(hunkravy_error_text(1), "no code of this library") == 0);
     HOLDS(strcmp(hunkravy_version(), HUNKRAVY_VERSION) == 0);
 }
