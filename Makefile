@@ -26,7 +26,8 @@ sources = $(shell python3 tools/crates.py sources $(1))
 # $(call build,CRATE,FLAGS,COMMAND,FILE): proves a crate and builds it as the rule's target, by rt's command, which writes
 # FILE. In the gate PROVED is set: the crate is then built over the libraries that `rt ci` has just proved.
 PROVED =
-build = $(if $(PROVED),python3 tools/proved.py build $(1) $@ $(2),cd crates/$(1) && $(3) && cp $(4) "$(CURDIR)/$@")
+HAS_KIT = command -v rt > /dev/null || { echo 'rt is not installed: it proves and builds the crates, and a release needs none' >&2; exit 1; }
+build = $(if $(PROVED),python3 tools/proved.py build $(1) $@ $(2),$(HAS_KIT) && cd crates/$(1) && $(3) && cp $(4) "$(CURDIR)/$@")
 
 # ---- The line program
 

@@ -1,6 +1,6 @@
 # The C library, for Linux, and its tests. What follows builds with stock gcc, and proves nothing but that library.
 .PHONY: c-library c-libraries install check-c check-header check-c++ check-sanitized check-rebuilt check-shared \
-	check-level check-sodium check-time check-install gcc-aarch64-linux-gnu qemu-user
+	check-level check-sodium check-musl check-time check-install gcc-aarch64-linux-gnu qemu-user
 
 CC = gcc
 C_FLAGS = -Wall -Wextra -Wpedantic -Werror -Ic/include
@@ -48,7 +48,7 @@ $(OUT)/%/libhunkravy.a: $(OUT)/%/aegis_c.a $(CALLS)
 SONAME = libhunkravy.so.0
 
 $(OUT)/%/$(SONAME): $(OUT)/%/libhunkravy.a
-	(echo '{ global:'; $(EXPORTS) | sed 's/$$/;/'; echo 'local: *; };') > $(@D)/exports.map
+	(echo 'HUNKRAVY_0 { global:'; $(EXPORTS) | sed 's/$$/;/'; echo 'local: *; };') > $(@D)/exports.map
 	$(TOOLS_$*)$(CC) -shared -s -Wl,-soname,$(SONAME),--version-script=$(@D)/exports.map,-z,defs,-z,relro,-z,now \
 		-Wl,--whole-archive $< -Wl,--no-whole-archive -o $@
 
@@ -91,9 +91,6 @@ check-header:
 				$$compiler -std=$$standard $(C_FLAGS) -fsyntax-only -x $$language - || exit 1; \
 		done; \
 	done; done
-	other_library() { \
-		printf '#include <stdint.h>\n#undef __GLIBC__\n#include "hunkravy.h"\n' | $(CC) -Ic/include $${1-} -fsyntax-only -x c -; \
-	} && other_library -DHUNKRAVY_GLIBC && ! other_library 2> /dev/null
 	uses() { \
 		printf '#include "sodium_compat.h"\nvoid f(void);\nvoid f(void) { %s; }\n' "$$1" | \
 			$(CC) $(C_FLAGS) -c -o /dev/null -x c -; \
@@ -150,10 +147,20 @@ check-rebuilt: $(OUT)/both/libhunkravy.a
 
 # The tests over the shared library, which exports the calls of the headers and nothing else.
 check-shared: $(OUT)/both/$(SONAME)
-	diff <($(EXPORTS) | sort) <(nm -D --defined-only $< | awk '{ print $$3 }' | sort)
+	diff <($(EXPORTS) | sed 's/$$/@@HUNKRAVY_0/' | sort) <(nm -D --defined-only $< | awk '$$2 == "T" { print $$3 }' | sort)
 	for program in $(C_TESTS); do \
 		$(CC) -std=c99 $(C_FLAGS) -O2 c/tests/$$program.c $< -Wl,-rpath,"$(CURDIR)/$(<D)" -o $(<D)/$$program-shared && \
 		$(<D)/$$program-shared $(STORED_LINES) || exit 1; \
+	done
+
+# The tests with another C library than glibc, over the library with both levels and over each level alone. The test of libsodium's
+# names goes on after abort, which musl's does not allow.
+check-musl: $(addprefix check-musl-,both $(RUNNABLE))
+
+check-musl-%: $(OUT)/%/libhunkravy.a
+	for program in $(filter-out check_libsodium,$(C_TESTS)); do \
+		musl-gcc -static -std=c99 $(C_FLAGS) -O2 c/tests/$$program.c $< -o $(OUT)/$*/$$program-musl && \
+		LEVEL=$(patsubst x86-64-v%,%,$(filter x86%,$*)) $(OUT)/$*/$$program-musl $(STORED_LINES) || exit 1; \
 	done
 
 # That each name is bound to the build for this processor's level, and that no build has instructions of another level.
@@ -186,8 +193,8 @@ check-sodium: $(OUT)/both/libhunkravy.a
 
 # ---- Installing
 
-# Installs the headers, the libraries, the examples, and the file that pkg-config reads, which finds the others from where it
-# lies itself.
+# Installs the headers, the libraries, the examples, and the files that pkg-config and CMake read, which find the others from
+# where they lie themselves.
 EXAMPLES_FOLDER = $(PREFIX)/share/doc/hunkravy/examples
 LIBRARIES = $(PREFIX)/lib
 SHARED = $(OUT)/$(FOLDER)/$(SONAME)
@@ -200,7 +207,10 @@ install: $(LIBRARY) $(SHARED)
 	install -m 644 $(C_EXAMPLES:%=c/examples/%.c) "$(DESTDIR)$(EXAMPLES_FOLDER)"
 	include=$$(realpath -m --relative-to="$(DESTDIR)$(LIBRARIES)/pkgconfig" "$(DESTDIR)$(PREFIX)/include") && \
 		sed -e "s|@INCLUDE@|$$include|" -e 's|@VERSION@|$(VERSION)|' c/include/hunkravy.pc.in \
-		> "$(DESTDIR)$(LIBRARIES)/pkgconfig/hunkravy.pc"
+		> "$(DESTDIR)$(LIBRARIES)/pkgconfig/hunkravy.pc" && \
+		install -D -m 644 c/include/hunkravy-config.cmake "$(DESTDIR)$(LIBRARIES)/cmake/hunkravy/hunkravy-config.cmake" && \
+		echo "get_filename_component(_hunkravy_include \"\$${CMAKE_CURRENT_LIST_DIR}/../../pkgconfig/$$include\" ABSOLUTE)" \
+		> "$(DESTDIR)$(LIBRARIES)/cmake/hunkravy/hunkravy-include.cmake"
 
 # Builds and runs the examples that are installed at PREFIX, by what pkg-config says of it: over the shared library, and over
 # the static one.
@@ -211,3 +221,14 @@ check-install: | $(OUT) $(if $(filter aarch64,$(FOLDER)),gcc-aarch64-linux-gnu q
 			$$(pkg-config --cflags --libs-only-L hunkravy) $$library -o $(OUT)/$$example-installed" && \
 		$(RUN_$(FOLDER)) $(OUT)/$$example-installed || exit 1; \
 	done; done
+	if command -v cmake > /dev/null; then \
+		rm -rf $(OUT)/cmake && mkdir $(OUT)/cmake && \
+		printf '%s\n' 'cmake_minimum_required(VERSION 3.10)' 'project(installed C)' 'find_package(hunkravy REQUIRED)' \
+			'foreach(kind hunkravy static)' 'add_executable(seal-$${kind} "$(EXAMPLES_FOLDER)/seal.c")' \
+			'target_link_libraries(seal-$${kind} hunkravy::$${kind})' 'endforeach()' > $(OUT)/cmake/CMakeLists.txt && \
+		cmake -S $(OUT)/cmake -B $(OUT)/cmake/build -DCMAKE_PREFIX_PATH="$(PREFIX);$(LIBRARIES)" > /dev/null && \
+		cmake --build $(OUT)/cmake/build > /dev/null && \
+		$(OUT)/cmake/build/seal-hunkravy && $(OUT)/cmake/build/seal-static; \
+	else \
+		echo 'left out: the example by CMake, which is not installed'; \
+	fi

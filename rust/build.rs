@@ -37,15 +37,22 @@ fn main() {
     println!("cargo::rustc-link-lib=static=hunkravy");
 }
 
-/// An error if there is no library for a target. One with another C library than glibc, as musl, would link with it,
-/// and crash at the first call.
+/// The targets that there is a library for.
+const TARGETS: [&str; 4] = [
+    "x86_64-unknown-linux-gnu",
+    "x86_64-unknown-linux-musl",
+    "aarch64-unknown-linux-gnu",
+    "aarch64-unknown-linux-musl",
+];
+
+/// Returns an error if there is no library for a target.
 pub fn check_target(target: &str) -> Result<(), String> {
-    match target {
-        "x86_64-unknown-linux-gnu" | "aarch64-unknown-linux-gnu" => Ok(()),
-        _ => Err(format!(
-            "{ARCHIVE} is for x86_64-unknown-linux-gnu and aarch64-unknown-linux-gnu, with glibc, not for {target}"
-        )),
+    if TARGETS.contains(&target) {
+        return Ok(());
     }
+    Err(format!(
+        "{ARCHIVE} is for Linux on x86_64 and aarch64, with glibc or musl, not for {target}"
+    ))
 }
 
 /// The folder with the library: that of the variable if it is set, that of the package if it came with one, and otherwise the

@@ -5,7 +5,7 @@
 # the stored lines.
 set -euo pipefail
 archive=$(realpath "$1") shared=$(realpath "$2") lines=$(realpath "$3")
-tests=$PWD/c/tests include=$PWD/c/include levels=$PWD/c/levels start=$PWD/dist/start.sh
+tests=$PWD/c/tests include=$PWD/c/include start=$PWD/dist/start.sh
 work=$(mktemp -d)
 trap 'rm -rf "$work"' EXIT
 cd "$work"
@@ -30,21 +30,47 @@ for level in v2 v3; do
         END { if (sections < 40 || bad) { print "a function begins at no multiple of 64 bytes: " bad; exit 1 } }'
 done
 
-# Each call is bound to the build of this level: the program prints where each is, from its own start.
+# Each name jumps through a pointer to the build of this level: the program prints where each pointer leads, from its own start,
+# and fails if a pointer can be written.
 nm hunkravy.o | awk 'sub(/^hunkravy_v3_/, "", $3) { print "EXPORT(" $3 ")" }' > exports.h
 [ "$(wc -l < exports.h)" -ge 30 ] || fail 'the build for x86-64-v3 has no calls'
 cat > level.c << 'END'
+#include <signal.h>
+#include <stdint.h>
 #include <stdio.h>
+#include <stdlib.h>
+#include <string.h>
+#include <unistd.h>
 extern char __executable_start;
 extern int hunkravy_level(void);
+/* The pointer of the instruction jmp *OFFSET(%rip). */
+static char **pointer_of(void (*name)(void))
+{
+    const unsigned char *code = (const unsigned char *)name;
+    int32_t offset;
+    if (code[0] != 0xff || code[1] != 0x25) {
+        exit(100);
+    }
+    memcpy(&offset, code + 2, sizeof offset);
+    return (char **)(code + 6 + offset);
+}
+static void end(int number)
+{
+    (void)number;
+    _exit(hunkravy_level());
+}
 #define EXPORT(NAME) extern void hunkravy_##NAME(void);
 #include "exports.h"
 #undef EXPORT
-#define EXPORT(NAME) printf("%016tx %s\n", (char *)hunkravy_##NAME - &__executable_start, #NAME);
+#define EXPORT(NAME) printf("%016tx %s\n", *(last = pointer_of(hunkravy_##NAME)) - &__executable_start, #NAME);
 int main(void)
 {
+    char **volatile last;
 #include "exports.h"
-    return hunkravy_level();
+    fflush(stdout);
+    signal(SIGSEGV, end);
+    *last = 0;
+    return 101;
 }
 END
 gcc -O1 -fPIC -pie -I. level.c "$archive" -o level
@@ -56,9 +82,7 @@ is_bound() {
     nm level | awk -v name="^hunkravy_v$1_" 'sub(name, "", $3) { print $1, $3 }' | diff <(sort found) <(sort) ||
         fail "calls are not bound to the build for x86-64-v$1"
 }
-# The features that the higher level needs, as the library and the script that starts the tool look for them.
-[ "$(grep -o 'supports("[a-z0-9]*")' "$levels/choose.c" | sed 's/.*("//; s/")//' | paste -sd ' ')" = 'avx2 bmi2 fma' ] ||
-    fail 'choose.c looks for other features'
+# The features that the higher level needs, as the script that starts the tool looks for them.
 grep -q '^for feature in avx2 bmi2 fma; do$' "$start" || fail 'start.sh looks for other features'
 level=3
 for feature in avx2 bmi2 fma; do

@@ -42,11 +42,6 @@
 #include <stddef.h>
 #include <stdint.h>
 
-/* glibc binds each call to the build for the processor. Another C library may run other code in its place. */
-#if defined(__x86_64__) && __STDC_HOSTED__ && !defined(__GLIBC__) && !defined(HUNKRAVY_GLIBC)
-#error "with another C library than glibc, as musl, the calls crash or give wrong answers: define HUNKRAVY_GLIBC if it is glibc"
-#endif
-
 #ifdef __cplusplus
 extern "C" {
 #endif

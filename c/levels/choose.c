@@ -1,9 +1,10 @@
 /*
- * The names of the library's calls, over its builds for two processor levels.
+ * The names of the library's functions, over its builds for two processor levels.
  *
- * Each name is bound once, when a program is loaded: to the build for x86-64-v3 if the processor and the system have
- * AVX2, BMI2 and FMA, and otherwise to that for x86-64-v2. join.sh compiles this file and writes exports.h, a line
- * EXPORT(NAME) for each call. With HUNKRAVY_LEVEL the library is one build alone, and nothing is chosen.
+ * Each name jumps through a pointer. A constructor sets all pointers once, to the build for x86-64-v3 if the processor and
+ * the system have AVX2, BMI2 and FMA, and then makes their page read-only. Before that they lead to the build for
+ * x86-64-v2. join.sh compiles this file and writes exports.h, a line EXPORT(NAME) for each function. With HUNKRAVY_LEVEL the
+ * library is one build alone, and nothing is chosen.
  */
 int hunkravy_level(void);
 
@@ -16,14 +17,30 @@ int hunkravy_level(void)
 
 #else
 
-#include <features.h>
+#include <cpuid.h>
+#include <stddef.h>
+#include <stdint.h>
+#include <sys/mman.h>
 
-/* Returns whether the processor has what the higher level needs. It may run before any constructor. */
+/* Returns whether the system saves the registers of AVX. */
+static int saves_avx(void)
+{
+    uint32_t low, high;
+    __asm__("xgetbv" : "=a"(low), "=d"(high) : "c"(0));
+    return (low & 6) == 6;
+}
+
+/* Returns whether the processor and the system have what the higher level needs. */
 static int has_level_3(void)
 {
-    __builtin_cpu_init();
-    return __builtin_cpu_supports("avx2") && __builtin_cpu_supports("bmi2")
-           && __builtin_cpu_supports("fma");
+    unsigned eax, ebx, ecx, edx;
+    if (!__get_cpuid(1, &eax, &ebx, &ecx, &edx) || !(ecx & bit_OSXSAVE) || !(ecx & bit_AVX) || !(ecx & bit_FMA)) {
+        return 0;
+    }
+    if (!__get_cpuid_count(7, 0, &eax, &ebx, &ecx, &edx) || !(ebx & bit_AVX2) || !(ebx & bit_BMI2)) {
+        return 0;
+    }
+    return saves_avx();
 }
 
 int hunkravy_level(void)
@@ -31,38 +48,47 @@ int hunkravy_level(void)
     return has_level_3() ? 3 : 2;
 }
 
-#define LEVELS(NAME)                                                                               \
-    __attribute__((visibility("hidden"))) void hunkravy_v2_##NAME(void);                           \
-    __attribute__((visibility("hidden"))) void hunkravy_v3_##NAME(void);
-
-#ifdef __GLIBC__
-
-/* The loader asks the resolver once and binds the name to what it returns. */
+#define HIDDEN __attribute__((visibility("hidden")))
 #define EXPORT(NAME)                                                                               \
-    LEVELS(NAME)                                                                                   \
-    static void (*resolve_##NAME(void))(void)                                                      \
-    {                                                                                              \
-        return has_level_3() ? hunkravy_v3_##NAME : hunkravy_v2_##NAME;                            \
-    }                                                                                              \
-    void hunkravy_##NAME(void) __attribute__((ifunc("resolve_" #NAME)));
+    HIDDEN void hunkravy_v2_##NAME(void);                                                          \
+    HIDDEN void hunkravy_v3_##NAME(void);
+#include "exports.h"
+#undef EXPORT
 
-#else
+struct functions {
+#define EXPORT(NAME) void (*NAME)(void);
+#include "exports.h"
+#undef EXPORT
+};
 
-/* Without ifunc the name jumps through a pointer, which a constructor sets. */
+/* The pointers have a page of their own. */
+enum { PAGE = 4096 };
+static union {
+    struct functions functions;
+    char page[PAGE];
+} hunkravy_chosen __attribute__((aligned(PAGE), used)) = {{
+#define EXPORT(NAME) hunkravy_v2_##NAME,
+#include "exports.h"
+#undef EXPORT
+}};
+
+/* A page that cannot be made read-only stays as it is: the pointers are right. */
+__attribute__((constructor)) static void choose(void)
+{
+    if (has_level_3()) {
+#define EXPORT(NAME) hunkravy_chosen.functions.NAME = hunkravy_v3_##NAME;
+#include "exports.h"
+#undef EXPORT
+    }
+    (void)mprotect(&hunkravy_chosen, sizeof hunkravy_chosen, PROT_READ);
+}
+
 #define EXPORT(NAME)                                                                               \
-    LEVELS(NAME)                                                                                   \
-    static void (*chosen_##NAME)(void) __attribute__((used)) = hunkravy_v2_##NAME;                 \
-    __attribute__((constructor)) static void choose_##NAME(void)                                   \
+    void hunkravy_##NAME(void);                                                                    \
+    __attribute__((naked)) void hunkravy_##NAME(void)                                              \
     {                                                                                              \
-        if (has_level_3()) {                                                                       \
-            chosen_##NAME = hunkravy_v3_##NAME;                                                    \
-        }                                                                                          \
-    }                                                                                              \
-    __asm__(".text\n.globl hunkravy_" #NAME "\n.type hunkravy_" #NAME ", @function\n"              \
-            "hunkravy_" #NAME ": jmp *chosen_" #NAME "(%rip)\n");
-
-#endif
-
+        __asm__("jmp *hunkravy_chosen+%c0(%%rip)" : : "i"(offsetof(struct functions, NAME)));      \
+    }
 #include "exports.h"
 
 #endif

@@ -438,6 +438,7 @@ int main(void)
     HOLDS(HUNKRAVY_PAGE_MAX_ADDED_BYTES == HUNKRAVY_AEGIS256_NONCE_BYTES + TAG);
     /* Such a page lies in one block of a disk. */
     HOLDS(HUNKRAVY_PAGE_DEFAULT_SIZE + HUNKRAVY_PAGE_MAX_ADDED_BYTES == 4096);
+    check_wrong_places();
     for (size_t i = 0; i < COUNT(VARIANTS); i++) {
         check_variant(&VARIANTS[i]);
     }
