@@ -63,7 +63,8 @@ $(OUT)/line-program: $(call sources,aegis_vectors) crates.txt | $(OUT)
 test:
 	@RT_JOBS=$(CHECKS) .ci/checks
 
-# What runs in minutes, before any proof: the line program on every stored line, and tests of each layer.
+# What runs in minutes, with no proof: the tests of C, Rust and Python over the last library that was proved, and some before
+# any proof.
 quick: | $(OUT)
 	tools/quick.sh
 

@@ -59,6 +59,7 @@ $(OUT)/%/aegis_c.a: FLAGS = $(if $(filter aarch64,$*),--target=$(ARM),--cpu=$*)
 $(OUT)/%/aegis_c.a: $(call sources,aegis_c) crates.txt
 	mkdir -p $(@D)
 	$(call build,aegis_c,$(FLAGS),rt lib $(FLAGS),out/libaegis_c.a)
+	. tools/revision.sh && revision > $(@D)/revision
 
 # The packages that have the tools for ARM.
 $(OUT)/aarch64/aegis_c.a: | gcc-aarch64-linux-gnu

@@ -1,5 +1,5 @@
 # The Python package: its wheels, with the native module, and its tests.
-.PHONY: check-python
+.PHONY: check-python python-package
 
 # A wheel for each processor, with the library of its folder.
 WHEEL_NAME = $(OUT)/hunkravy-$(VERSION)-cp311-abi3-manylinux_2_17
@@ -14,8 +14,11 @@ $(WHEEL): $(OUT)/both/libhunkravy.a $(PACKAGE)
 $(WHEEL_aarch64): $(OUT)/aarch64/libhunkravy.a $(PACKAGE)
 	CC=$(TOOLS_aarch64)gcc python3 python/build_wheel.py $(OUT) $< aarch64
 
+# The package, unpacked from its wheel.
+python-package: $(WHEEL)
+	rm -rf $(OUT)/python && mkdir $(OUT)/python && python3 -m zipfile -e $(WHEEL) $(OUT)/python
+
 # The tests of the package as the wheel has it, with files of the tool: see tools/check_python.sh.
 check-python: export HUNKRAVY_TOOL = $(CURDIR)/$(OUT)/$(lastword $(TOOL_LEVELS))/hunkravy
-check-python: $(WHEEL) $(OUT)/$(lastword $(TOOL_LEVELS))/hunkravy
-	rm -rf $(OUT)/python && mkdir $(OUT)/python && python3 -m zipfile -e $(WHEEL) $(OUT)/python
+check-python: python-package $(OUT)/$(lastword $(TOOL_LEVELS))/hunkravy
 	tools/check_python.sh "$(CURDIR)/$(OUT)/python" "$(CURDIR)/$(OUT)/both/libhunkravy.a"

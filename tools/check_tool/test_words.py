@@ -64,7 +64,9 @@ class Words(Scene):
                 self.tool(status, "check -q -k shaped sealed", "key file shaped has no key" if status else ())
         for wrong in "small", "/dev/null", "/dev/zero":
             self.tool(3, f"seal -k {wrong} small out", f"key file {wrong} has no key", "chmod")
-        self.shell(0, "$tool check -q -k <(cat key) sealed")
+        self.shell(0, "$tool check -q -k <(cat key) sealed; $tool check -q -k - sealed < key")
+        self.shell((2, 3), "$tool seal -k - - out < key")
+        self.is_missing("out")
 
     def test_warning_on_the_mode_of_a_key(self):
         os.chmod("key", 0o644)
