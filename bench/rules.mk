@@ -12,9 +12,9 @@ $(OUT)/%/driver: $(wildcard bench/*.rs $(STORED_LINES)/*) rust/src/exports.rs $(
 	CPU=$* $(RUSTC) $(if $(filter x86-64%,$*),-C target-cpu=$*) -C no-vectorize-slp bench/driver.rs \
 		-L native=$(OUT)/$* -l static=hunkravy -o $@
 
-# The same program, only to check: compiled once, and linked with each library.
+# The same program, only to check: compiled once, without optimization, and linked with each library.
 $(OUT)/libdriver.rlib: $(wildcard bench/*.rs $(STORED_LINES)/*) rust/src/exports.rs | $(OUT)
-	CPU= $(RUSTC) --crate-type rlib -C lto=off -C no-vectorize-slp bench/driver.rs -o $@
+	CPU= rustc --edition 2024 --crate-type rlib bench/driver.rs -o $@
 
 $(OUT)/%/check-driver: $(OUT)/libdriver.rlib $(OUT)/%/libhunkravy.a
 	echo 'fn main() -> std::io::Result<()> { driver::main() }' | rustc --edition 2024 --crate-name check_driver \
