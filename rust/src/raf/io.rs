@@ -609,7 +609,7 @@ mod tests {
                 assert_eq!(open(false).is_ok(), is_safe, "{mode:o} {other:o}");
             }
             set(0o600);
-            for (user, is_safe) in [(65534, group_may), (0, true)] {
+            for (user, is_safe) in [(65532, group_may), (0, true)] {
                 if chown(&at, Some(user), None).is_ok() {
                     assert_eq!(open(false).is_ok(), is_safe, "{mode:o} {user}");
                 }
