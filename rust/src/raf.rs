@@ -1,7 +1,8 @@
 //! Encrypted files that are read and written at any place.
 //!
-//! The contents are split into pages, each of which is encrypted on its own. Changes stay in memory until [`Raf::commit`].
-//! [`Raf::sync`] and dropping commit too. **After a crash all changes of a commit are there, or none.** A commit writes its
+//! The contents are split into pages, each of which is encrypted on its own. [`Raf::batch`] makes several changes together: it
+//! commits them, or discards them if one of them fails. Outside a batch changes stay in memory until [`Raf::commit`]; then
+//! [`Raf::sync`] and dropping commit too, as the names that they are taken from do. **After a crash all changes of a commit are there, or none.** A commit writes its
 //! changes to the journal first, the file `PATH.journal` beside the file. It removes the journal at the end. Opening completes a
 //! commit that was interrupted.
 //!
@@ -17,8 +18,7 @@
 //! # let master_key = [1; 32];
 //! let key = Raf::<Aegis256>::derive_master_key(&master_key, b"my-app/files")?;
 //! let mut file = Raf::<Aegis256>::create_file(&path, &key)?;
-//! file.write(b"a line of a text", 7)?;
-//! file.commit()?;
+//! file.batch(|file| file.write(b"a line of a text", 7))?;
 //! # drop(file);
 //!
 //! let mut file = Raf::<Aegis256>::open_file(&path, &key)?;
@@ -39,6 +39,7 @@
 //! around them is tested against the proved crate, and not proved.
 
 mod algorithm;
+mod batch;
 mod builder;
 mod changes;
 mod commitment;

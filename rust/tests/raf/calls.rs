@@ -580,3 +580,53 @@ fn derived_keys() {
         Err(Error::ContextTooLong)
     ));
 }
+
+/// A batch is committed by itself, whatever the limit on changes in memory.
+#[test]
+fn a_batch() {
+    let disks = disks(Bytes::default());
+    let mut file = created(&disks, 0);
+    let before = calls(&disks);
+    let written = file.batch(|file| {
+        file.write(&[1; 1000], 0)?;
+        assert_eq!(calls(&disks), before);
+        file.write(b"end", 2000)
+    });
+    assert_eq!(written.unwrap(), 3);
+    core::mem::forget(file);
+    let mut file = opened(&disks);
+    let mut end = [0; 3];
+    assert_eq!((file.size(), file.read(&mut end, 2000).unwrap()), (2003, 3));
+    assert_eq!(&end, b"end");
+}
+
+/// A batch that fails, panics or is not committed leaves the contents as they were, and commits what was changed before it.
+#[test]
+fn a_batch_that_fails() {
+    let disks = disks(Bytes::default());
+    let mut file = created(&disks, usize::MAX);
+    file.write(b"before", 0).unwrap();
+    let failed: Result<()> = file.batch(|file| {
+        file.write(b"lost", 0)?;
+        Err(Error::TooLong)
+    });
+    assert!(matches!(failed, Err(Error::TooLong)));
+    let unwound = std::panic::catch_unwind(std::panic::AssertUnwindSafe(|| {
+        let _ = file.batch(|file| -> Result<()> {
+            file.truncate(0)?;
+            panic!("in the middle of a batch");
+        });
+    }));
+    assert!(unwound.is_err());
+    let failed = file.batch(|file| {
+        disks.0.log.borrow_mut().reads_left = 0;
+        file.write(&[1; 256], 0)
+    });
+    assert!(matches!(failed, Err(Error::Io(_))));
+    disks.0.log.borrow_mut().reads_left = usize::MAX;
+    let mut contents = [0; 7];
+    assert_eq!(file.read(&mut contents, 0).unwrap(), 6);
+    assert_eq!(&contents, b"before\0");
+    drop(file);
+    assert_eq!(opened(&disks).size(), 6);
+}
