@@ -378,25 +378,37 @@ impl<A: Algorithm, I: RafIo, R: RafRng, J: RafIo> Raf<A, I, R, J> {
         sector: &[u8; SECTOR_BYTES],
         counter: u64,
     ) -> Result<Vec<PendingWrite>> {
-        let mut nonce = A::Nonce::default();
+        let nonces = self.nonces(self.changes.len() + 1)?;
         let mut writes = vec![PendingWrite {
             place: 0,
             bytes: sector.to_vec(),
         }];
-        for (number, text) in self.changes.iter() {
-            self.rng.fill(nonce.as_mut())?;
+        for ((number, text), nonce) in self.changes.iter().zip(&nonces) {
             let mut bytes = vec![0; self.layout.page_bytes()];
             self.layout.text(&mut bytes).copy_from_slice(text);
-            self.layout.seal(number, &nonce, &mut bytes);
+            self.layout.seal(number, nonce, &mut bytes);
             let place = self.layout.page_place(number);
             writes.push(PendingWrite { place, bytes });
         }
-        self.rng.fill(nonce.as_mut())?;
+        let nonce = &nonces[self.changes.len()];
         writes.push(PendingWrite {
             place: 0,
-            bytes: self.layout.header(counter, self.size, &nonce).to_vec(),
+            bytes: self.layout.header(counter, self.size, nonce).to_vec(),
         });
         Ok(writes)
+    }
+
+    /// Returns nonces that are generated in one call.
+    fn nonces(&mut self, count: usize) -> Result<Vec<A::Nonce>> {
+        let mut nonce = A::Nonce::default();
+        let bytes = nonce.as_ref().len();
+        let mut random = vec![0; count * bytes];
+        self.rng.fill(&mut random)?;
+        let of_bytes = |bytes: &[u8]| {
+            nonce.as_mut().copy_from_slice(bytes);
+            nonce
+        };
+        Ok(random.chunks_exact(bytes).map(of_bytes).collect())
     }
 }
 

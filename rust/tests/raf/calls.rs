@@ -309,7 +309,7 @@ fn locks_that_are_refused() {
 }
 
 /// Each commit that makes the file longer sets its size. Then it writes the front of the journal and syncs it, the rest of it
-/// and syncs it, then the file and syncs it, and then empties the journal and syncs it.
+/// and syncs it, then the file, neighbouring pages in one call, and syncs it, and then empties the journal and syncs it.
 #[test]
 fn the_calls_of_a_commit() {
     let disks = disks(Bytes::default());
@@ -327,8 +327,6 @@ fn the_calls_of_a_commit() {
         (journal, None),
         (file, Some(0)),
         (file, Some(4096)),
-        (file, Some(4416)),
-        (file, Some(4736)),
         (file, Some(0)),
         (file, None),
         (journal, Some(u64::MAX)),
@@ -418,8 +416,8 @@ fn a_source_of_random_bytes_that_fails() {
             .create(disks.0.clone(), &KEY);
         assert!(matches!(refused, Err(Error::Io(_))));
     }
-    // Two pages, the header, and the prefix.
-    for left in 0..4 {
+    // The nonces of two pages and of the header, and the prefix.
+    for left in 0..2 {
         let mut file = RafBuilder::<Aegis256>::new()
             .rng(FailingRandom(Random(5), left))
             .journal(disks.1.clone())
@@ -436,7 +434,7 @@ fn a_source_of_random_bytes_that_fails() {
         assert_eq!(calls(&disks), count);
         assert_eq!(*disks.0.bytes.borrow(), bytes);
     }
-    let mut file = RafBuilder::<Aegis256>::with_rng(FailingRandom(Random(5), 4))
+    let mut file = RafBuilder::<Aegis256>::with_rng(FailingRandom(Random(5), 2))
         .journal(disks.1.clone())
         .open(disks.0.clone(), &KEY)
         .unwrap();
@@ -629,4 +627,20 @@ fn a_batch_that_fails() {
     assert_eq!(&contents, b"before\0");
     drop(file);
     assert_eq!(opened(&disks).size(), 6);
+}
+
+/// A commit without a journal writes the file alone.
+#[test]
+fn a_commit_without_a_journal() {
+    let disks = disks(Bytes::default());
+    let builder = RafBuilder::<Aegis256>::with_rng(Random(5)).chunk_size(256);
+    let mut file = builder
+        .journal(NoJournal)
+        .create(disks.0.clone(), &KEY)
+        .unwrap();
+    file.write(&[1; 600], 0).unwrap();
+    disks.0.log.borrow_mut().calls.clear();
+    file.commit().unwrap();
+    let expected = [Some(u64::MAX - 5056), Some(0), Some(4096), Some(0), None];
+    assert_eq!(places(&disks), expected.map(|place| (Part::File, place)));
 }
