@@ -187,7 +187,8 @@ impl<A: Algorithm, I: RafIo, R: RafRng, J: RafIo> Raf<A, I, R, J> {
     ///
     /// # Errors
     ///
-    /// [`Error::TooLong`], [`Error::Damaged`], [`Error::Io`] or [`Error::Broken`]: nothing has changed. Or an error of
+    /// [`Error::TooLong`], [`Error::Damaged`], [`Error::Io`] or [`Error::Broken`]: nothing has changed. If memory does not suffice
+    /// it is an [`Error::Io`] of kind [`OutOfMemory`](std::io::ErrorKind::OutOfMemory). Or an error of
     /// [`commit`](Raf::commit): the change is in memory as that function says. With a limit of `usize::MAX` no write commits.
     pub fn write(&mut self, data: &[u8], offset: u64) -> Result<usize> {
         // It stays so if the change fails, or if a panic ends it.
@@ -215,10 +216,12 @@ impl<A: Algorithm, I: RafIo, R: RafRng, J: RafIo> Raf<A, I, R, J> {
             return Ok(());
         }
         let chunk_size = u64::from(self.layout.chunk_size);
+        let pages = offset.min(self.size) / chunk_size..end.div_ceil(chunk_size);
+        Changes::check_room(pages.end - pages.start, chunk_size)?;
         let mut changes = Changes::default();
-        for number in offset.min(self.size) / chunk_size..end.div_ceil(chunk_size) {
+        for number in pages {
             self.change_page(number, data, offset)?;
-            changes.set(number, self.layout.text(&mut self.page));
+            changes.set(number, self.layout.text(&mut self.page))?;
         }
         self.changes.append(changes);
         self.size = self.size.max(end);

@@ -644,3 +644,22 @@ fn a_commit_without_a_journal() {
     let expected = [Some(u64::MAX - 5056), Some(0), Some(4096), Some(0), None];
     assert_eq!(places(&disks), expected.map(|place| (Part::File, place)));
 }
+
+/// A write far past the end, for whose zeros there is no memory, changes nothing.
+#[test]
+fn a_write_without_memory() {
+    let disks = disks(Bytes::default());
+    let mut file = created(&disks, usize::MAX);
+    file.write(b"before", 0).unwrap();
+    for offset in [1 << 50, MAX_SIZE - 1] {
+        let failed = file.write(b"x", offset);
+        assert!(
+            matches!(failed, Err(Error::Io(error)) if error.kind() == io::ErrorKind::OutOfMemory)
+        );
+        assert!(matches!(file.truncate(offset), Err(Error::Io(_))));
+        assert_eq!(file.size(), 6);
+    }
+    file.commit().unwrap();
+    drop(file);
+    assert_eq!(opened(&disks).size(), 6);
+}
