@@ -83,11 +83,33 @@ sys.exit(bool(dead))
 END
 done
 
+# The sums in each package and in the wheel are those of all of its files, and programs that are built over the shared library
+# depend on this version of it.
+for package in "$dist"/*.deb; do
+    rm -rf "$work/one"
+    dpkg-deb -R "$package" "$work/one"
+    (cd "$work/one" && md5sum --quiet -c DEBIAN/md5sums && diff <(find usr -type f | sort) <(cut -c 35- DEBIAN/md5sums | sort)) ||
+        fail "other sums in $package"
+done
+[ "$(dpkg-deb -I "$dist/libhunkravy0_${version}_amd64.deb" shlibs)" = "libhunkravy 0 libhunkravy0 (>= $version)" ] ||
+    fail 'programs depend on another version of the library'
+python3 - "$dist"/*.whl << 'END' || fail 'the RECORD of a wheel has other sums'
+import base64, csv, hashlib, sys, zipfile
+for name in sys.argv[1:]:
+    wheel = zipfile.ZipFile(name)
+    files = {entry: wheel.read(entry) for entry in wheel.namelist() if not entry.endswith("/")}
+    record = next(entry for entry in files if entry.endswith("/RECORD"))
+    sums = lambda data: "sha256=" + base64.urlsafe_b64encode(hashlib.sha256(data).digest()).decode().rstrip("=")
+    expected = {entry: [sums(data), str(len(data))] for entry, data in files.items()} | {record: ["", ""]}
+    assert {row[0]: row[1:] for row in csv.reader(files[record].decode().splitlines())} == expected, name
+END
+
 # The script that starts the tool chooses the build by /proc/cpuinfo, which the second run reads by a grep that finds nothing.
+# It is found by a link, passes each word on, and becomes the build.
 start=$work/start
 for level in x86-64-v2 x86-64-v3; do
     mkdir -p "$start/lib/hunkravy/$level"
-    printf '#!/bin/sh\necho %s "$@"\n' $level > "$start/lib/hunkravy/$level/hunkravy"
+    printf '#!/bin/sh\necho %s $$; printf "<%%s>" "$@"\n' $level > "$start/lib/hunkravy/$level/hunkravy"
     chmod +x "$start/lib/hunkravy/$level/hunkravy"
 done
 install -D "$work/empty/$name/bin/hunkravy" "$start/bin/hunkravy"
@@ -95,9 +117,12 @@ best=x86-64-v3
 for feature in avx2 bmi2 fma; do
     grep -m 1 -q -w $feature /proc/cpuinfo || best=x86-64-v2
 done
-[ "$("$start/bin/hunkravy" word)" = "$best word" ] || fail 'the tool is not started for the level of this processor'
+ln -s "$start/bin/hunkravy" "$work/by-link"
+sh -c 'echo "$1" $$; exec "$0" "a word" ""' "$work/by-link" "$best" > "$work/started"
+[ "$(sed -n 1p "$work/started")" = "$(sed -n 2p "$work/started")" ] || fail 'the tool is not started for the level of this processor'
+[ "$(sed -n 3p "$work/started")" = '<a word><>' ] || fail 'the tool gets other words'
 mkdir "$start/none" && printf '#!/bin/sh\nexit 1\n' > "$start/none/grep" && chmod +x "$start/none/grep"
-[ "$(PATH=$start/none:$PATH "$start/bin/hunkravy" word)" = 'x86-64-v2 word' ] || fail 'the tool is not started on an older processor'
+PATH=$start/none:$PATH "$start/bin/hunkravy" | grep -q '^x86-64-v2 ' || fail 'the tool is not started on an older processor'
 
 # Used with no kit and nothing of the repository in PATH.
 tests=$PWD/tools/use_dist.sh

@@ -3,6 +3,7 @@
 - A sample in ```rust stands in a crate, one in ```c in an example of C, and one in ```rs in an example of Rust, line breaks
   aside. Those of the module docs of `aegis` stand in another crate. Samples in ```python are run (tools/check_python.sh).
 - A link to a file of the repository leads to one, and its fragment to a heading.
+- A source in Rattle or Rust is named by a `mod` item of the one above it, so no module of tests is left out.
 - A line of a contract has at most 100 columns, one of a source or a page at most 120, but for imports, attributes, tables
   and links; a decision has at most five lines, and some pages have a length of their own.
 """
@@ -103,6 +104,17 @@ def dead_links():
                 yield f"{page}: it links to {link}, a heading that is not there"
 
 
+def unnamed_modules():
+    """Yields each source that no `mod` item names, which is then neither proved nor run."""
+    rust = [path for folder in ("src", "tests/raf", "tests/sealed") for path in sorted(ROOT.glob(f"rust/{folder}/**/*.rs"))]
+    for path in [*SOURCES, *rust]:
+        roots = [path.with_name(f"{root}{path.suffix}") for root in ("lib", "main")]
+        above = [root for root in roots if root.exists()] or [path.parent.with_suffix(path.suffix)]
+        named = [re.search(rf"^(pub )?mod {path.stem};", read(source), re.M) for source in above]
+        if path not in roots and not any(named):
+            yield f"{path}: no `mod` item names it"
+
+
 def long_lines(path):
     """Yields the place of each line that is too long."""
     inside = False
@@ -127,7 +139,7 @@ def long_texts():
             yield f"{page}: {count} lines, and at most {most} are allowed"
 
 
-found = [*strange_samples(), *dead_links(), *long_texts()]
+found = [*strange_samples(), *dead_links(), *long_texts(), *unnamed_modules()]
 found += [place for path in [*SOURCES, *PAGES] for place in long_lines(path)]
 print("\n".join(found), end="\n" if found else "")
 sys.exit(bool(found))

@@ -207,14 +207,13 @@ static inline void read_answer(struct line *line, char *text)
 }
 
 /*
- * Hands each line of FOLDER/NAME.in, with its answer in FOLDER/NAME.out, to `check`. Returns how
- * many there are.
+ * Hands each line of FOLDER/NAME.in, and its answer in FOLDER/NAME.out, to `each`. Returns how often
+ * that returned 1.
  */
-static inline size_t for_each_line(const char *folder, const char *name,
-                                   void (*check)(const struct line *))
+static inline size_t for_each_pair(const char *folder, const char *name,
+                                   size_t (*each)(char *text, char *answer))
 {
-    static char text[4 * MOST_BYTES];
-    static struct line line;
+    static char text[4 * MOST_BYTES], answer[4 * MOST_BYTES];
     char path[2][1024];
     FILE *lines, *answers;
     size_t count = 0;
@@ -225,16 +224,35 @@ static inline size_t for_each_line(const char *folder, const char *name,
     answers = fopen(path[1], "r");
     HOLDS(lines != NULL && answers != NULL);
     while (fgets(text, sizeof text, lines) != NULL) {
-        read_line(&line, text);
-        HOLDS(fgets(text, sizeof text, answers) != NULL);
-        read_answer(&line, text);
-        check(&line);
-        count++;
+        HOLDS(fgets(answer, sizeof answer, answers) != NULL);
+        answer[strcspn(answer, "\n")] = '\0';
+        count += each(text, answer);
     }
     fclose(lines);
     fclose(answers);
     HOLDS(count > 0);
     return count;
+}
+
+/* What a line is handed to. */
+static void (*check_of_line)(const struct line *);
+
+static inline size_t check_pair(char *text, char *answer)
+{
+    static struct line line;
+
+    read_line(&line, text);
+    read_answer(&line, answer);
+    check_of_line(&line);
+    return 1;
+}
+
+/* Hands each line, with its answer, to `check`. Returns how many there are. */
+static inline size_t for_each_line(const char *folder, const char *name,
+                                   void (*check)(const struct line *))
+{
+    check_of_line = check;
+    return for_each_pair(folder, name, check_pair);
 }
 
 #endif

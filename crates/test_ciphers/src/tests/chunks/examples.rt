@@ -39,7 +39,8 @@ enum Update {
     Copied,
 }
 
-// Passes chunks to an encryptor, which writes over a copy of the message. Returns the tag, and what `remaining` returns.
+// Passes chunks to an encryptor, which writes over a copy of the message. Returns the tag, and what `remaining`
+// returns.
 fn seal_each<S: LaneState, const TAG_BYTES: usize>(
     encryptor: Encryptor<S, TAG_BYTES>,
     update: Update,
