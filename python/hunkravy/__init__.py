@@ -1,6 +1,6 @@
-"""The AEGIS ciphers and their MACs.
+"""The AEGIS ciphers, their MACs, and sealed files.
 
-A message is encrypted at once or in chunks, and none of a decrypted message can be read before its tag was verified:
+A message is encrypted in one call or in chunks, and no byte of a decrypted message can be read before its tag is verified:
 
 >>> from hunkravy import Aegis256, InvalidTag
 >>> cipher = Aegis256(Aegis256.generate_key())
@@ -11,17 +11,27 @@ b'a message'
 >>> try:
 ...     cipher.decrypt(nonce, ciphertext, b"another header")
 ... except InvalidTag:
-...     print("refused")
-refused
+...     print("not authentic")
+not authentic
 
-Never use a nonce twice under one key. No call detects it.
+Never use a nonce twice under one key: nothing detects it.
 
-The work is done by a C library over proved exports. This package around it is tested, and not proved. All objects may be
-used by several threads. While the library works, other threads run.
+The ciphers are a C library with a proved core. This package is tested, and not proved. Several threads may use an
+object, and other threads run while the library works on 4 KiB or more.
 """
 
-from ._ciphers import Aegis128L, Aegis128X2, Aegis128X4, Aegis256, Aegis256X2, Aegis256X4
-from ._library import InvalidTag, level
+from ._ciphers import (
+    Aegis128L,
+    Aegis128X2,
+    Aegis128X4,
+    Aegis256,
+    Aegis256X2,
+    Aegis256X4,
+    Cipher,
+    Decryptor,
+    Encryptor,
+)
+from ._files import SealedFileError, SealedReader, SealedWriter, read_key
 from ._macs import (
     Aegis128LMac,
     Aegis128X2Mac,
@@ -29,8 +39,9 @@ from ._macs import (
     Aegis256Mac,
     Aegis256X2Mac,
     Aegis256X4Mac,
+    Mac,
 )
-from ._states import Decryptor, Encryptor
+from ._native import LEVEL as _LEVEL, InvalidTag
 from ._version import VERSION as __version__
 
 __all__ = [
@@ -46,9 +57,24 @@ __all__ = [
     "Aegis256X2Mac",
     "Aegis256X4",
     "Aegis256X4Mac",
+    "Cipher",
     "Decryptor",
     "Encryptor",
     "InvalidTag",
+    "Mac",
+    "SealedFileError",
+    "SealedReader",
+    "SealedWriter",
     "__version__",
     "level",
+    "read_key",
 ]
+
+
+def level() -> int:
+    """Returns which build of the library runs: 3 or 2 for x86-64-v3 or x86-64-v2, and 0 on ARM.
+
+    >>> level() in (0, 2, 3)
+    True
+    """
+    return _LEVEL

@@ -1,63 +1,60 @@
-"""The ciphers: messages at once, and keystreams."""
+"""The ciphers: messages in one call or in chunks, and keystreams."""
 
 from __future__ import annotations
 
-import ctypes
-import operator
 import os
-from typing import TYPE_CHECKING, Any, Optional
+from typing import TYPE_CHECKING, Optional
 
-from . import _library as library
-from . import _variants as variants
-from ._states import Decryptor, Encryptor
+from . import _native, _variants as variants
 
 if TYPE_CHECKING:
     from _typeshed import ReadableBuffer, WriteableBuffer
+    from typing_extensions import Self
+
+NO_DATA = b""
 
 
-class Cipher(variants.Variant, library.Secret):
-    """A cipher with a key. `tag_length` is the number of bytes of its tags, 16 or 32.
+class Cipher(variants.Variant, variants.Secret):
+    """A cipher with a key: `Aegis256` or another of the six variants.
 
-    Data, associated data and nonces may be any buffers of bytes: bytes, bytearray, memoryview, mmap, array and the like. A key,
-    a nonce or a tag of a wrong length, or an output buffer of a wrong length, is a `ValueError`.
+    `key` has `KEY_BYTES` bytes. `tag_length` is the length of its tags in bytes, 16 or 32. Another length of either is a
+    `ValueError`.
+
+    Keys, nonces, data and associated data may be any contiguous buffers of bytes, such as bytes, bytearray, memoryview,
+    mmap and array. A nonce has `NONCE_BYTES` bytes. Another length of a nonce or of an output buffer is a `ValueError`,
+    and then nothing is written.
     """
 
-    __slots__ = ("_key", "_tag_length")
+    __slots__ = ("_cipher", "_tag_length")
 
     def __init__(self, key: ReadableBuffer, tag_length: int = 32) -> None:
-        self._key = library.exactly("key", key, self.KEY_BYTES)
-        self._tag_length = library.tag_length_of(tag_length)
+        self._cipher = _native.Cipher(self._VARIANT, key, tag_length)
+        self._tag_length = int(tag_length)
 
     @classmethod
     def generate_key(cls) -> bytes:
-        """Returns a key that is drawn at random."""
+        """Returns a random key."""
         return os.urandom(cls.KEY_BYTES)
 
     @classmethod
     def generate_nonce(cls) -> bytes:
-        """Returns a nonce that is drawn at random.
+        """Returns a random nonce.
 
-        Nonces of 32 bytes may be drawn for any number of messages, and those of 16 bytes for up to 2^48 under one key.
+        Nonces of 32 bytes may be random for any number of messages, and those of 16 bytes for up to 2^48 messages under
+        one key.
         """
         return os.urandom(cls.NONCE_BYTES)
 
     @property
     def tag_length(self) -> int:
-        """The number of bytes of a tag."""
+        """The length of a tag in bytes."""
         return self._tag_length
 
     def encrypt(
-        self,
-        nonce: ReadableBuffer,
-        data: ReadableBuffer,
-        associated_data: Optional[ReadableBuffer] = None,
+        self, nonce: ReadableBuffer, data: ReadableBuffer, associated_data: Optional[ReadableBuffer] = None
     ) -> bytes:
-        """Encrypts a message. Returns the ciphertext, with its tag after it."""
-        message = memoryview(data).cast("B")
-        sealed = bytearray(len(message) + self._tag_length)
-        sealed[: len(message)] = message
-        self._in_place(library.encrypt_in_place, sealed, self._inputs(nonce, associated_data))
-        return bytes(sealed)
+        """Returns the ciphertext of a message, with its tag after it."""
+        return self._cipher.encrypt(nonce, data, NO_DATA if associated_data is None else associated_data)
 
     def encrypt_into(
         self,
@@ -66,30 +63,21 @@ class Cipher(variants.Variant, library.Secret):
         associated_data: Optional[ReadableBuffer],
         buf: WriteableBuffer,
     ) -> int:
-        """Encrypts a message into a buffer, which has the message's length and the tag's. Returns that length.
+        """Encrypts a message into a buffer of the message's length and the tag's. Returns that length.
 
-        The message, the nonce and the associated data may lie in the buffer, but not in another map of its memory.
+        The other arguments may lie in the buffer. Until the method returns, the buffer may hold the message. If it
+        raises an exception, nothing was written.
         """
-        message = memoryview(data).cast("B")
-        length = len(message) + self._tag_length
-        inputs = self._inputs(nonce, associated_data)
-        with library.writable(buf, length) as sealed:
-            sealed[: len(message)] = message
-            self._in_place(library.encrypt_in_place, sealed, inputs)
-        return length
+        return self._cipher.encrypt(nonce, data, NO_DATA if associated_data is None else associated_data, buf)
 
     def decrypt(
-        self,
-        nonce: ReadableBuffer,
-        data: ReadableBuffer,
-        associated_data: Optional[ReadableBuffer] = None,
+        self, nonce: ReadableBuffer, data: ReadableBuffer, associated_data: Optional[ReadableBuffer] = None
     ) -> bytes:
-        """Decrypts a ciphertext that has its tag after it. Raises `InvalidTag` if it is another's, or if there is none."""
-        sealed = bytearray(memoryview(data).cast("B"))
-        length = self._in_place(
-            library.decrypt_in_place, sealed, self._inputs(nonce, associated_data)
-        )
-        return bytes(memoryview(sealed)[:length])
+        """Returns the message of a ciphertext that has its tag after it.
+
+        Raises `InvalidTag` if the tag is wrong, or if the data are shorter than a tag.
+        """
+        return self._cipher.decrypt(nonce, data, NO_DATA if associated_data is None else associated_data)
 
     def decrypt_into(
         self,
@@ -98,77 +86,102 @@ class Cipher(variants.Variant, library.Secret):
         associated_data: Optional[ReadableBuffer],
         buf: WriteableBuffer,
     ) -> int:
-        """Decrypts a ciphertext into a buffer of the message's length, and returns that length.
+        """Decrypts a ciphertext that has its tag after it into a buffer of the message's length. Returns that length.
 
-        If it raises `InvalidTag`, each byte of the buffer is 0xaa, if the ciphertext has a tag at all.
+        The other arguments may lie in the buffer. Raises `InvalidTag` if the tag is wrong: each byte of the buffer is
+        then 0xaa. If the data are shorter than a tag, `InvalidTag` is raised and nothing is written.
         """
-        sealed = bytearray(memoryview(data).cast("B"))
-        length = max(len(sealed) - self._tag_length, 0)
-        inputs = self._inputs(nonce, associated_data)
-        with library.writable(buf, length) as message:
-            try:
-                self._in_place(library.decrypt_in_place, sealed, inputs)
-            except library.InvalidTag:
-                message[:] = memoryview(sealed)[:length]
-                raise
-            message[:] = memoryview(sealed)[:length]
-        return length
+        return self._cipher.decrypt(nonce, data, NO_DATA if associated_data is None else associated_data, buf)
 
     def encryptor(
         self, nonce: ReadableBuffer, associated_data: Optional[ReadableBuffer] = None
     ) -> Encryptor:
         """Begins a message that is encrypted in chunks."""
-        return Encryptor._of(self._begin(nonce, associated_data), self._tag_length)
+        return Encryptor._of(self._begin(nonce, associated_data))
 
     def decryptor(
         self, nonce: ReadableBuffer, associated_data: Optional[ReadableBuffer] = None
     ) -> Decryptor:
-        """Begins a ciphertext that comes in chunks."""
-        return Decryptor._of(self._begin(nonce, associated_data), self._tag_length)
+        """Begins a ciphertext that is decrypted in chunks."""
+        return Decryptor._of(self._begin(nonce, associated_data))
 
     def keystream(self, nonce: ReadableBuffer, length: int) -> bytes:
-        """Returns so many bytes of the keystream. A nonce must not be used for a message and for a keystream."""
-        out = bytearray(operator.index(length))
-        nonce_and_key = self._nonce_and_key(nonce)
-        library.check(
-            library.stream(self._VARIANT, library.pointer(out), len(out), *nonce_and_key)
-        )
-        return bytes(out)
+        """Returns the first bytes of a keystream. Never use a nonce for a message and for a keystream."""
+        return self._cipher.keystream(nonce, length)
 
-    def _nonce_and_key(self, nonce: ReadableBuffer) -> tuple[bytes, int, bytes, int]:
-        start, key = library.exactly("nonce", nonce, self.NONCE_BYTES), self._key
-        return start, len(start), key, len(key)
+    def _begin(self, nonce: ReadableBuffer, associated_data: Optional[ReadableBuffer]) -> _native.State:
+        return self._cipher.begin(nonce, NO_DATA if associated_data is None else associated_data)
 
-    def _inputs(
-        self, nonce: ReadableBuffer, associated_data: Optional[ReadableBuffer]
-    ) -> tuple[bytes, int, bytes, int, bytes, int]:
-        """The associated data, the nonce and the key, each with its length, as they are now."""
-        data = library.associated(associated_data)
-        return (data, len(data), *self._nonce_and_key(nonce))
 
-    def _begin(
-        self, nonce: ReadableBuffer, associated_data: Optional[ReadableBuffer]
-    ) -> library.State:
-        state = library.State()
-        inputs = self._inputs(nonce, associated_data)
-        library.check(library.state_init(self._VARIANT, state, *inputs))
-        return state
+class Chunks(variants.Secret):
+    """A message in chunks. Each method raises `RuntimeError` once the message has ended.
 
-    def _in_place(
-        self,
-        call: Any,
-        sealed: bytearray | memoryview,
-        inputs: tuple[bytes, int, bytes, int, bytes, int],
-    ) -> int:
-        """Encrypts or decrypts in place the bytes of a buffer in front of their tag. Returns how many there are."""
-        tag_length = self._tag_length
-        length = len(sealed) - tag_length
-        if length < 0:
-            raise library.InvalidTag
-        first = library.first_byte(sealed)
-        place = ctypes.addressof(first)
-        library.check(call(self._VARIANT, place, length, *inputs, place + length, tag_length))
-        return length
+    A method that raises `TypeError`, `ValueError` or `MemoryError` has taken nothing in.
+    """
+
+    __slots__ = ("_state",)
+    _state: _native.State
+
+    def __init__(self) -> None:
+        raise TypeError(f"only ciphers make {type(self).__name__} objects, with `encryptor` and `decryptor`")
+
+    @classmethod
+    def _of(cls, state: _native.State) -> Self:
+        chunks = cls.__new__(cls)
+        chunks._state = state
+        return chunks
+
+
+class Encryptor(Chunks):
+    """A message that is encrypted in chunks, which `Cipher.encryptor` begins.
+
+    >>> from hunkravy import Aegis128L
+    >>> cipher, nonce = Aegis128L(bytes(16)), bytes(16)
+    >>> encryptor = cipher.encryptor(nonce)
+    >>> ciphertext = encryptor.update(b"a mes") + encryptor.update(b"sage") + encryptor.finalize()
+    >>> ciphertext == cipher.encrypt(nonce, b"a message")
+    True
+    """
+
+    __slots__ = ()
+
+    def update(self, data: ReadableBuffer) -> bytes:
+        """Returns the ciphertext of the next chunk."""
+        return self._state.encrypt(data)
+
+    def finalize(self) -> bytes:
+        """Ends the message, and returns its tag."""
+        return self._state.final()
+
+
+class Decryptor(Chunks):
+    """A ciphertext that is decrypted in chunks, which `Cipher.decryptor` begins.
+
+    The message is kept in memory, and no byte of it can be read until `finalize` has verified the tag.
+
+    >>> from hunkravy import Aegis128L
+    >>> cipher, nonce = Aegis128L(bytes(16)), bytes(16)
+    >>> ciphertext = cipher.encrypt(nonce, b"a message")
+    >>> decryptor = cipher.decryptor(nonce)
+    >>> decryptor.update(ciphertext[:5])
+    >>> decryptor.update(ciphertext[5:-32])
+    >>> decryptor.finalize(ciphertext[-32:])
+    b'a message'
+    """
+
+    __slots__ = ()
+
+    def update(self, data: ReadableBuffer) -> None:
+        """Takes in the next chunk of the ciphertext, without its tag."""
+        self._state.decrypt(data)
+
+    def finalize(self, tag: ReadableBuffer) -> bytes:
+        """Ends the ciphertext, and returns its message.
+
+        Raises `InvalidTag`, and erases the message, if the tag is wrong. A tag of another length is a `ValueError`, and
+        then the ciphertext has not ended.
+        """
+        return self._state.decrypt_final(tag)
 
 
 class Aegis128L(variants.Aegis128L, Cipher):

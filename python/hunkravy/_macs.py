@@ -2,22 +2,22 @@
 
 from __future__ import annotations
 
-import threading
 from copy import deepcopy
 from typing import TYPE_CHECKING, Any, Optional
 
-from . import _library as library
-from . import _variants as variants
+from . import _native, _variants as variants
 
 if TYPE_CHECKING:
     from _typeshed import ReadableBuffer
     from typing_extensions import Self
 
 
-class Mac(variants.Variant, library.Secret):
-    """The MAC of an input that comes in chunks. The key must be used for nothing but MACs.
+class Mac(variants.Variant, variants.Secret):
+    """The MAC of an input that comes in chunks: `Aegis256Mac` or another of the six variants.
 
-    `tag_length` is the number of bytes of the MAC, 16 or 32. The nonce is one of zeros if none is given.
+    `key` has `KEY_BYTES` bytes, and must be used for nothing but MACs. `message` is the first chunk of the input, as in
+    `hmac.new`: it is not a nonce. `nonce` has `NONCE_BYTES` bytes, and is zeros if it is left out. `tag_length` is the
+    length of the MAC in bytes, 16 or 32. Another length of a key or a nonce is a `ValueError`.
 
     >>> from hunkravy import Aegis128LMac
     >>> mac = Aegis128LMac(bytes(16))
@@ -26,72 +26,55 @@ class Mac(variants.Variant, library.Secret):
     >>> mac.verify(Aegis128LMac(bytes(16), b"the input").digest())
     """
 
-    __slots__ = ("_digest_size", "_lock", "_state")
+    __slots__ = ("_digest_size", "_state")
+    _state: _native.State
 
     def __init__(
         self,
         key: ReadableBuffer,
-        data: Optional[ReadableBuffer] = None,
+        message: Optional[ReadableBuffer] = None,
         *,
         nonce: Optional[ReadableBuffer] = None,
         tag_length: int = 32,
     ) -> None:
-        size = self.NONCE_BYTES
-        start = library.exactly("nonce", bytes(size) if nonce is None else nonce, size)
-        found = library.exactly("key", key, self.KEY_BYTES)
-        self._digest_size = library.tag_length_of(tag_length)
-        # A signal handler that uses the MAC that it interrupts must not wait for itself.
-        self._lock = threading.RLock()
-        self._state = library.State()
-        library.check(
-            library.mac_init(self._VARIANT, self._state, start, len(start), found, len(found))
-        )
-        if data is not None:
-            self.update(data)
+        cipher = _native.Cipher(self._VARIANT, key, tag_length)
+        self._state = cipher.begin(bytes(self.NONCE_BYTES) if nonce is None else nonce)
+        self._digest_size = int(tag_length)
+        if message is not None:
+            self._state.mac_update(message)
 
     @property
     def digest_size(self) -> int:
-        """The number of bytes of the MAC."""
+        """The length of the MAC in bytes."""
         return self._digest_size
 
     def update(self, data: ReadableBuffer) -> None:
-        """Takes in the next bytes of the input."""
-        chunk = library.readable(data)
-        with self._lock:
-            library.check(library.mac_update(self._state, chunk, len(chunk)))
+        """Takes in the next chunk of the input."""
+        self._state.mac_update(data)
 
     def digest(self) -> bytes:
-        """Returns the MAC of the input so far. More of it may follow."""
-        mac = bytearray(self._digest_size)
-        with self._lock:
-            library.check(library.mac_final(self._state, library.pointer(mac), len(mac)))
-        return bytes(mac)
+        """Returns the MAC of the input so far. More input may follow."""
+        return self._state.final()
 
     def hexdigest(self) -> str:
-        """Returns the MAC of the input so far in hexadecimal digits."""
+        """Returns the MAC of the input so far in hexadecimal digits. More input may follow."""
         return self.digest().hex()
 
     def verify(self, mac: ReadableBuffer) -> None:
-        """Raises `InvalidTag` unless this is the MAC of the input so far. The time does not tell where they differ.
+        """Raises `InvalidTag` unless this is the MAC of the input so far. More input may follow.
 
-        Bytes of another length are a `ValueError`.
+        The time does not depend on where they differ. Bytes of another length are a `ValueError`.
         """
-        expected = library.exactly("MAC", mac, self._digest_size)
-        with self._lock:
-            library.check(
-                library.mac_final_verify(self._state, expected, len(expected))
-            )
+        self._state.mac_verify(mac)
 
     def copy(self) -> Self:
-        """Returns a MAC that has taken in the same input.
+        """Returns a MAC that has taken in the same input, with a state of its own.
 
-        It has the attributes of a subclass too, but for those in slots.
+        If a subclass has attributes, the copy has them too, except those in slots.
         """
         other = type(self).__new__(type(self))
         other._digest_size = self._digest_size
-        other._lock = threading.RLock()
-        with self._lock:
-            other._state = library.State.from_buffer_copy(self._state)
+        other._state = self._state.mac_copy()
         if hasattr(self, "__dict__"):
             other.__dict__.update(self.__dict__)
         return other

@@ -2,7 +2,7 @@
 
 from __future__ import annotations
 
-from typing import ClassVar
+from typing import ClassVar, NoReturn, SupportsIndex
 
 
 class Variant:
@@ -12,7 +12,20 @@ class Variant:
     KEY_BYTES: ClassVar[int]
     NONCE_BYTES: ClassVar[int]
     name: ClassVar[str]
-    _VARIANT: ClassVar[int]
+    # That of none, which the native module refuses.
+    _VARIANT: ClassVar[int] = 6
+
+
+class Secret:
+    """An object that is neither copied nor pickled: each is a `TypeError`."""
+
+    __slots__ = ()
+
+    def __reduce_ex__(self, protocol: SupportsIndex) -> NoReturn:
+        raise TypeError(f"{type(self).__name__} objects have a secret, and cannot be copied or pickled")
+
+    def __getstate__(self) -> NoReturn:
+        self.__reduce_ex__(0)
 
 
 class Of128(Variant):

@@ -1,9 +1,10 @@
 """Buffers of other types, wrong lengths, and objects that have ended."""
 
 import array
+import ctypes
 import mmap
 import unittest
-from typing import TYPE_CHECKING, Callable
+from typing import TYPE_CHECKING, Any, Callable
 
 import hunkravy
 from hunkravy import Aegis128L, Aegis256, Aegis256Mac
@@ -36,80 +37,231 @@ class Buffers(unittest.TestCase):
         array_of_bytes = array.array("B", bytes(len(sealed)))
         buffers: list[WriteableBuffer] = [bytearray(len(sealed)), array_of_bytes, mapped]
         for buffer in buffers:
-            CIPHER.encrypt_into(NONCE, message, None, buffer)
+            self.assertEqual(CIPHER.encrypt_into(NONCE, message, None, buffer), len(sealed))
             self.assertEqual(bytes(memoryview(buffer)), sealed)
         numbers = array.array("I", bytes(len(message)))
-        CIPHER.decrypt_into(NONCE, memoryview(sealed), None, numbers)
+        self.assertEqual(CIPHER.decrypt_into(NONCE, memoryview(sealed), None, numbers), len(message))
         self.assertEqual(numbers.tobytes(), message)
 
-    def test_a_message_is_encrypted_where_it_lies(self) -> None:
-        message = bytes(range(100))
-        buffer = bytearray(message + bytes(32))
-        CIPHER.encrypt_into(NONCE, memoryview(buffer)[:100], None, buffer)
-        self.assertEqual(buffer, CIPHER.encrypt(NONCE, message))
-        CIPHER.decrypt_into(NONCE, buffer, None, memoryview(buffer)[:100])
-        self.assertEqual(buffer[:100], message)
+    def test_names_of_arguments(self) -> None:
+        buffer = bytearray(41)
+        sealed = CIPHER.encrypt(nonce=NONCE, data=b"a message", associated_data=b"header")
+        CIPHER.encrypt_into(nonce=NONCE, data=b"a message", associated_data=b"header", buf=buffer)
+        self.assertEqual(buffer, sealed)
+        self.assertEqual(CIPHER.decrypt(nonce=NONCE, data=sealed, associated_data=b"header"), b"a message")
+        mac = Aegis256Mac(key=KEY, message=b"input", nonce=NONCE, tag_length=16)
+        self.assertEqual(mac.digest(), Aegis256Mac(KEY, b"input", tag_length=16).digest())
+
+    def test_every_overlap(self) -> None:
+        """The message, the nonce and the associated data lie where the output is written, at each distance."""
+        start = bytes(range(200))
+        for first in range(0, 69, 3):
+            for nonce in (0, 10, 60, 100, 150):
+                for header in (slice(0, 0), slice(0, 40), slice(50, 132), slice(120, 200)):
+                    buffer = bytearray(start)
+                    view = memoryview(buffer)
+                    expected = CIPHER.encrypt(start[nonce : nonce + 32], start[first : first + 100], start[header])
+                    CIPHER.encrypt_into(view[nonce : nonce + 32], view[first : first + 100], view[header], view[40:172])
+                    self.assertEqual(buffer, start[:40] + expected + start[172:])
+        for first in range(0, 68, 3):
+            buffer = bytearray(start)
+            view = memoryview(buffer)
+            view[first : first + 132] = CIPHER.encrypt(NONCE, start[:100], b"header")
+            CIPHER.decrypt_into(NONCE, view[first : first + 132], b"header", view[34:134])
+            self.assertEqual(buffer[34:134], start[:100])
+
+    def test_nothing_is_written_after_an_error(self) -> None:
+        wrong: list[tuple[Any, Any, Any]] = [
+            (b"", bytes(9), None), (5, bytes(9), None), (NONCE, 5, None), (NONCE, bytes(9), 5), (NONCE, bytes(8), None),
+            (NONCE, bytes(10), None), (NONCE, "text", None), (NONCE, bytes(9), "text"), (None, bytes(9), None),
+        ]
+        for nonce, data, header in wrong:
+            buffer = bytearray(b"a" * 41)
+            with self.assertRaises((TypeError, ValueError)):
+                CIPHER.encrypt_into(nonce, data, header, buffer)
+            data = bytes(32 + len(data)) if isinstance(data, bytes) else data
+            with self.assertRaises((TypeError, ValueError)):
+                CIPHER.decrypt_into(nonce, bytes(73) if data == bytes(41) else data, header, buffer)
+            self.assertEqual(buffer, b"a" * 41)
+        buffer = bytearray(b"a" * 41)
+        with self.assertRaises(hunkravy.InvalidTag):
+            CIPHER.decrypt_into(NONCE, bytes(31), None, buffer)
+        self.assertEqual(buffer, b"a" * 41)
+        with self.assertRaises(hunkravy.InvalidTag):
+            CIPHER.decrypt_into(NONCE, bytes(73), None, buffer)
+        self.assertEqual(buffer, b"\xaa" * 41)
+
+    def test_buffers_are_held_and_given_back(self) -> None:
+        buffers = [bytearray(data) for data in (NONCE, b"a message", b"header", bytes(41), bytes(9), KEY)]
+        nonce, data, header, output, opened, key = buffers
+        cipher = Aegis256(key)
+        cipher.encrypt_into(nonce, data, header, output)
+        cipher.decrypt_into(nonce, output, header, opened)
+        with self.assertRaises(hunkravy.InvalidTag):
+            cipher.decrypt(nonce, output, data)
+        with self.assertRaises(ValueError):
+            cipher.encrypt_into(nonce, data, header, opened)
+        with self.assertRaises(TypeError):
+            cipher.encrypt_into(nonce, data, header, b"")  # type: ignore[arg-type]
+        cipher.encryptor(nonce, header).update(data)
+        cipher.decryptor(nonce, header).update(data)
+        mac = Aegis256Mac(key, data, nonce=nonce)
+        with self.assertRaises(hunkravy.InvalidTag):
+            mac.verify(nonce)
+        for buffer in buffers:
+            # Raises BufferError while anybody holds it.
+            buffer.append(0)
 
 
-class Refusals(unittest.TestCase):
+class Errors(unittest.TestCase):
     def test_wrong_lengths(self) -> None:
         for wrong in (b"", bytes(31), bytes(33)):
-            with self.assertRaises(ValueError):
-                Aegis256(wrong)
-            with self.assertRaises(ValueError):
-                CIPHER.encrypt(wrong, b"")
-            with self.assertRaises(ValueError):
-                CIPHER.decrypt(wrong, bytes(100))
-            with self.assertRaises(ValueError):
-                CIPHER.encryptor(wrong)
-            with self.assertRaises(ValueError):
-                Aegis256Mac(KEY, nonce=wrong)
-            with self.assertRaises(ValueError):
-                Aegis256Mac(KEY).verify(wrong)
-            with self.assertRaises(ValueError):
-                CIPHER.decryptor(NONCE).finalize(wrong)
-            with self.assertRaises(ValueError):
-                CIPHER.encrypt_into(NONCE, b"", None, bytearray(wrong))
-        for tag_length in (0, 15, 17, 31, 33):
-            with self.assertRaises(ValueError):
-                Aegis256(KEY, tag_length)
+            calls: list[tuple[str, Callable[[], object]]] = [
+                ("key", lambda: Aegis256(wrong)),
+                ("key", lambda: Aegis256Mac(wrong)),
+                ("nonce", lambda: CIPHER.encrypt(wrong, b"")),
+                ("nonce", lambda: CIPHER.decrypt(wrong, bytes(100))),
+                ("nonce", lambda: CIPHER.encryptor(wrong)),
+                ("nonce", lambda: CIPHER.decryptor(wrong)),
+                ("nonce", lambda: CIPHER.keystream(wrong, 10)),
+                ("nonce", lambda: Aegis256Mac(KEY, nonce=wrong)),
+                ("MAC", lambda: Aegis256Mac(KEY).verify(wrong)),
+                ("tag", lambda: CIPHER.decryptor(NONCE).finalize(wrong)),
+                ("output buffer", lambda: CIPHER.encrypt_into(NONCE, b"", None, bytearray(wrong))),
+            ]
+            for name, call in calls:
+                with self.assertRaisesRegex(ValueError, f"^the {name} must have 32 bytes, not {len(wrong)}$"):
+                    call()
+
+    def test_lengths_of_tags(self) -> None:
+        for length in range(-1, 70):
+            for make in (lambda: Aegis256(KEY, length), lambda: Aegis256Mac(KEY, tag_length=length)):
+                if length in (16, 32):
+                    make()
+                else:
+                    with self.assertRaisesRegex(ValueError, f"^tag_length must be 16 or 32, not {length}$"):
+                        make()
+        for wrong in ("16", 16.0, None, 1 << 80):
+            with self.assertRaises((TypeError, OverflowError)):
+                Aegis256(KEY, wrong)  # type: ignore[arg-type]
 
     def test_no_tag(self) -> None:
         for length in (0, 1, 31):
             with self.assertRaises(hunkravy.InvalidTag):
                 CIPHER.decrypt(NONCE, bytes(length))
 
+    def test_texts(self) -> None:
+        with self.assertRaisesRegex(hunkravy.InvalidTag, "tag is wrong"):
+            CIPHER.decrypt(NONCE, bytes(40))
+        with self.assertRaisesRegex(hunkravy.InvalidTag, "tag is wrong"):
+            Aegis256Mac(KEY).verify(bytes(32))
+        with self.assertRaisesRegex(TypeError, "^only the six variants are made, such as Aegis256$"):
+            hunkravy.Cipher(KEY)
+        with self.assertRaisesRegex(TypeError, "^only the six variants are made, such as Aegis256$"):
+            hunkravy.Mac(b"")
+
     def test_wrong_types(self) -> None:
-        for wrong in ("text", 5, None, [1, 2]):
+        wrong: Any
+        for wrong in ("text", 5, None, [1, 2], memoryview(bytes(64))[::2]):
+            calls: list[Callable[[], object]] = [
+                lambda: CIPHER.encrypt(NONCE, wrong),
+                lambda: CIPHER.encryptor(NONCE).update(wrong),
+                lambda: CIPHER.decryptor(NONCE).update(wrong),
+                lambda: CIPHER.decryptor(NONCE).finalize(wrong),
+                lambda: Aegis256Mac(KEY).update(wrong),
+                lambda: Aegis256Mac(KEY).verify(wrong),
+                lambda: Aegis128L(wrong),
+                lambda: CIPHER.keystream(wrong, 5),
+            ]
+            for call in calls:
+                with self.assertRaises((TypeError, BufferError)):
+                    call()
+        for output in (bytes(32), memoryview(bytearray(32)).toreadonly(), memoryview(bytearray(64))[::2], None, 5):
+            with self.assertRaises((TypeError, BufferError)):
+                CIPHER.encrypt_into(NONCE, b"", None, output)  # type: ignore[arg-type]
+
+    def test_lengths_past_limits(self) -> None:
+        """Buffers that claim lengths which no memory has. Nothing of them is read."""
+        huge: Any = (ctypes.c_char * (1 << 62)).from_address(1 << 12)
+        calls: list[Callable[[], object]] = [
+            lambda: CIPHER.encrypt(NONCE, huge),
+            lambda: CIPHER.encrypt(NONCE, b"", huge),
+            lambda: CIPHER.decrypt(NONCE, huge),
+            lambda: CIPHER.encrypt_into(NONCE, huge, None, huge),
+            lambda: CIPHER.encrypt_into(NONCE, b"", huge, bytearray(32)),
+            lambda: CIPHER.encryptor(NONCE, huge),
+            lambda: CIPHER.encryptor(NONCE).update(huge),
+            lambda: CIPHER.decryptor(NONCE).update(huge),
+            lambda: Aegis256Mac(KEY, huge),
+            lambda: CIPHER.keystream(NONCE, (1 << 63) - 1),
+            lambda: CIPHER.keystream(NONCE, 1 << 62),
+            lambda: CIPHER.keystream(NONCE, 1 << 64),
+            lambda: CIPHER.keystream(NONCE, -1),
+        ]
+        for call in calls:
+            with self.assertRaises((ValueError, MemoryError, OverflowError)):
+                call()
+        for wrong in (b"abc", [1, 2], "3", 2.0, None):
             with self.assertRaises(TypeError):
-                CIPHER.encrypt(NONCE, wrong)  # type: ignore[arg-type]
-            with self.assertRaises(TypeError):
-                Aegis128L(wrong)  # type: ignore[arg-type]
-        with self.assertRaisesRegex(ValueError, "^the buffer is read-only$"):
-            CIPHER.encrypt_into(NONCE, b"", None, bytes(32))  # type: ignore[arg-type]
+                CIPHER.keystream(NONCE, wrong)  # type: ignore[arg-type]
 
     def test_each_changed_bit(self) -> None:
-        sealed = CIPHER.encrypt(NONCE, b"a message", b"header")
-        for bit in range(8 * len(sealed)):
-            forged = bytearray(sealed)
-            forged[bit // 8] ^= 1 << bit % 8
-            with self.assertRaises(hunkravy.InvalidTag):
-                CIPHER.decrypt(NONCE, forged, b"header")
+        for tag_length in (16, 32):
+            cipher = Aegis256(KEY, tag_length)
+            sealed = cipher.encrypt(NONCE, b"a message", b"header")
+            for bit in range(8 * len(sealed)):
+                forged = bytearray(sealed)
+                forged[bit // 8] ^= 1 << bit % 8
+                with self.assertRaises(hunkravy.InvalidTag):
+                    cipher.decrypt(NONCE, forged, b"header")
+                decryptor = cipher.decryptor(NONCE, b"header")
+                decryptor.update(forged[:9])
+                with self.assertRaises(hunkravy.InvalidTag):
+                    decryptor.finalize(forged[9:])
+
+    def test_each_changed_bit_of_a_mac(self) -> None:
+        for tag_length in (16, 32):
+            mac = Aegis256Mac(KEY, b"the input", tag_length=tag_length)
+            for bit in range(8 * tag_length):
+                forged = bytearray(mac.digest())
+                forged[bit // 8] ^= 1 << bit % 8
+                with self.assertRaises(hunkravy.InvalidTag):
+                    mac.verify(forged)
 
     def test_after_the_end(self) -> None:
-        encryptor = CIPHER.encryptor(NONCE)
+        encryptor, decryptor = CIPHER.encryptor(NONCE), CIPHER.decryptor(NONCE)
         encryptor.finalize()
-        decryptor = CIPHER.decryptor(NONCE)
         with self.assertRaises(hunkravy.InvalidTag):
             decryptor.finalize(bytes(32))
-        calls: list[Callable[[], bytes]] = [
+        calls: list[Callable[[], object]] = [
             encryptor.finalize,
             lambda: encryptor.update(b""),
             lambda: decryptor.finalize(bytes(32)),
+            lambda: decryptor.update(b""),
+            lambda: decryptor.update(b"more"),
         ]
         for call in calls:
-            with self.assertRaisesRegex(RuntimeError, "^the message has ended$"):
+            with self.assertRaisesRegex(RuntimeError, "has ended"):
                 call()
+
+    def test_an_error_takes_nothing_in(self) -> None:
+        """After a wrong argument the message goes on."""
+        encryptor, decryptor, mac = CIPHER.encryptor(NONCE), CIPHER.decryptor(NONCE), Aegis256Mac(KEY)
+        sealed = b""
+        for chunk in (b"a ", b"message"):
+            for update in (encryptor.update, decryptor.update, mac.update):
+                with self.assertRaises(TypeError):
+                    update("text")  # type: ignore[arg-type]
+            sealed += encryptor.update(chunk)
+            decryptor.update(sealed[-len(chunk) :])
+            mac.update(chunk)
+        tag = encryptor.finalize()
+        self.assertEqual(sealed + tag, CIPHER.encrypt(NONCE, b"a message"))
+        for wrong in (bytes(16), b""):
+            with self.assertRaises(ValueError):
+                decryptor.finalize(wrong)
+        self.assertEqual(decryptor.finalize(tag), b"a message")
+        mac.verify(Aegis256Mac(KEY, b"a message").digest())
 
 
 if __name__ == "__main__":

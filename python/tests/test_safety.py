@@ -2,14 +2,18 @@
 
 import copy
 import ctypes
+import io
+import os
+import pathlib
 import pickle
-import tracemalloc
+import resource
+import subprocess
+import sys
 import unittest
 from typing import Any, Callable
 
 import hunkravy
-from hunkravy import Aegis128L, Aegis256, Aegis256Mac, Decryptor, Encryptor
-from hunkravy._library import State
+from hunkravy import Aegis256, Aegis256Mac, Decryptor, Encryptor, SealedWriter
 from vectors import CIPHERS
 
 KEY, NONCE = bytes(range(32)), bytes(32)
@@ -33,16 +37,6 @@ class Lying(bytes):
 
 class Long(Lying):
     said = 1 << 40
-
-
-class NoTag:
-    """A number that is equal to each other one."""
-
-    def __eq__(self, other: object) -> bool:
-        return True
-
-    def __hash__(self) -> int:
-        return 0
 
 
 class Lies(unittest.TestCase):
@@ -84,22 +78,13 @@ class Lies(unittest.TestCase):
             self.assertEqual(Aegis256Mac(KEY, message).digest(), tag)
             Aegis256Mac(KEY, b"a message").verify(kind(tag))
 
-    def test_numbers(self) -> None:
-        self.assertEqual(Aegis256(KEY, NoTag()).tag_length, 16)  # type: ignore[arg-type]
-        self.assertEqual(type(Aegis256(KEY, 32.0).tag_length), int)  # type: ignore[arg-type]
-        for wrong in (b"abc", [1, 2], "3", 2.0, None):
-            with self.assertRaises(TypeError):
-                CIPHER.keystream(NONCE, wrong)  # type: ignore[arg-type]
-        with self.assertRaises(ValueError):
-            CIPHER.keystream(NONCE, -1)
-
     def test_lengths_of_a_subclass(self) -> None:
         class Other(Aegis256):
             KEY_BYTES = 3
             NONCE_BYTES = 3
 
-        with self.assertRaises(RuntimeError):
-            Other(b"key").encrypt(b"non", b"a message")
+        with self.assertRaises(ValueError):
+            Other(b"key")
 
 
 class Begun(unittest.TestCase):
@@ -107,35 +92,38 @@ class Begun(unittest.TestCase):
         short = bytes(range(5))
         kinds: list[Any] = [Encryptor, Decryptor]
         for kind in kinds:
-            for arguments in ((), (5, 16), (short, 16), (State(), 16)):
+            for arguments in ((), (5, 16), (short, 16), (CIPHER._cipher, 16)):
                 with self.assertRaises(TypeError):
                     kind(*arguments)
             with self.assertRaises(AttributeError):
                 kind.__new__(kind).update(b"a chunk")
         self.assertEqual(short, bytes(range(5)))
 
-    def test_a_buffer_that_has_all(self) -> None:
-        """The message, the nonce and the associated data lie where the ciphertext is written."""
-        start = bytes(range(132))
-        for first in (0, 32):
-            buffer = bytearray(start)
-            view = memoryview(buffer)
-            CIPHER.encrypt_into(view[10:42], view[first : first + 100], view[90:], buffer)
-            self.assertEqual(buffer, CIPHER.encrypt(start[10:42], start[first : first + 100], start[90:]))
-        buffer = bytearray(CIPHER.encrypt(NONCE, bytes(100), b"header") + NONCE)
-        CIPHER.decrypt_into(memoryview(buffer)[132:], memoryview(buffer)[:132], b"header", memoryview(buffer)[64:])
-        self.assertEqual(buffer[64:], bytes(100))
+    def test_native_objects(self) -> None:
+        """Native objects are made whole or not at all."""
+        state = type(CIPHER.encryptor(NONCE)._state)
+        makers: list[Callable[[], object]] = [
+            state, lambda: state.__new__(state), lambda: object.__new__(state), type(CIPHER._cipher),
+            lambda: object.__new__(type(CIPHER._cipher)), lambda: Aegis256.__new__(Aegis256).tag_length,
+            lambda: Aegis256Mac.__new__(Aegis256Mac).digest(), lambda: type("Sub", (state,), {}),
+        ]
+        for make in makers:
+            with self.assertRaises((TypeError, AttributeError)):
+                make()
 
-    def test_a_wrong_nonce_writes_nothing(self) -> None:
-        for wrong in (b"", 5):
-            buffer = bytearray(b"a" * 41)
-            with self.assertRaises((TypeError, ValueError)):
-                CIPHER.encrypt_into(wrong, bytes(9), None, buffer)  # type: ignore[arg-type]
-            with self.assertRaises((TypeError, ValueError)):
-                CIPHER.encrypt_into(NONCE, bytes(9), 5, buffer)  # type: ignore[arg-type]
-            with self.assertRaises((TypeError, ValueError)):
-                CIPHER.decrypt_into(wrong, bytes(73), None, buffer)  # type: ignore[arg-type]
-            self.assertEqual(buffer, b"a" * 41)
+    def test_roles(self) -> None:
+        """The library refuses a state in another role."""
+        encryptor, decryptor, mac = CIPHER.encryptor(NONCE)._state, CIPHER.decryptor(NONCE)._state, Aegis256Mac(KEY)._state
+        encryptor.encrypt(b"a chunk")
+        decryptor.decrypt(b"a chunk")
+        calls: list[Callable[[], object]] = [
+            lambda: encryptor.decrypt(b"a chunk"), lambda: encryptor.mac_update(b""), lambda: mac.encrypt(b"a chunk"),
+            lambda: decryptor.encrypt(b"a chunk"), decryptor.final, lambda: mac.decrypt_final(bytes(32)),
+            lambda: encryptor.decrypt_final(bytes(32)), lambda: mac.decrypt(b""), lambda: encryptor.mac_verify(bytes(32)),
+        ]
+        for call in calls:
+            with self.assertRaises(RuntimeError):
+                call()
 
 
 class Copies(unittest.TestCase):
@@ -177,8 +165,11 @@ class Copies(unittest.TestCase):
 
     def test_nothing_else_is_copied_or_pickled(self) -> None:
         copiers: list[Callable[[Any], Any]] = [copy.copy, copy.deepcopy]
-        secrets: list[Any] = [CIPHER, CIPHER.encryptor(NONCE), CIPHER.decryptor(NONCE), State()]
+        secrets: list[Any] = [CIPHER, CIPHER.encryptor(NONCE), CIPHER.decryptor(NONCE)]
         secrets += [cipher(bytes(cipher.KEY_BYTES)) for cipher, _ in CIPHERS.values()]
+        writer = SealedWriter(io.BytesIO(), KEY)
+        self.addCleanup(writer.close)
+        secrets.append(writer)
         for secret in secrets:
             for copied in copiers:
                 with self.assertRaises(TypeError):
@@ -205,73 +196,87 @@ class Drawn(unittest.TestCase):
 
 
 class Memory(unittest.TestCase):
-    def zeros(self, *places: Any) -> None:
-        """Each place has bytes, and all of them are zero."""
-        for place in places:
-            data = bytes(place)
-            self.assertGreater(len(data), 0)
-            self.assertEqual(data, bytes(len(data)))
+    """What is left in memory of objects and of chunks."""
 
-    def decrypted(self) -> tuple[Decryptor, list[bytearray]]:
-        """A decryptor, and where it keeps the message."""
-        decryptor = CIPHER.decryptor(NONCE)
-        sealed = CIPHER.encrypt(NONCE, b"a message in chunks")
-        decryptor.update(sealed[:5])
-        decryptor.update(sealed[5:19])
-        chunks = list(decryptor._message)
-        self.assertEqual(b"".join(chunks), b"a message in chunks")
-        return decryptor, chunks
-
-    def test_a_refused_message(self) -> None:
-        decryptor, chunks = self.decrypted()
+    def test_ended_states(self) -> None:
+        encryptor, decryptor = CIPHER.encryptor(NONCE), CIPHER.decryptor(NONCE)
+        decryptor.update(b"a chunk")
+        for state in (encryptor._state, decryptor._state):
+            self.assertGreater(len(set(contents(state)[:672])), 50)
+        encryptor.finalize()
         with self.assertRaises(hunkravy.InvalidTag):
             decryptor.finalize(bytes(32))
-        self.zeros(*chunks)
+        for state in (encryptor._state, decryptor._state):
+            self.assertEqual(contents(state), bytes(len(contents(state))))
 
-    def test_a_message_that_was_returned_or_dropped(self) -> None:
-        decryptor, chunks = self.decrypted()
-        sealed = CIPHER.encrypt(NONCE, b"a message in chunks")
-        self.assertEqual(decryptor.finalize(sealed[19:]), b"a message in chunks")
-        self.zeros(*chunks)
-        decryptor, chunks = self.decrypted()
-        del decryptor
-        self.zeros(*chunks)
+    def test_freed_objects(self) -> None:
+        """A program of its own reads the memory of objects after they are freed."""
+        environment = dict(os.environ, PYTHONPATH=os.pathsep.join(sys.path))
+        subprocess.run([sys.executable, "-c", FREED], env=environment, timeout=60, check=True)
 
-    def test_overwriting_takes_no_memory(self) -> None:
-        decryptor = CIPHER.decryptor(NONCE)
-        decryptor.update(bytes(1 << 20))
-        chunks = list(decryptor._message)
-        tracemalloc.start()
-        with self.assertRaises(hunkravy.InvalidTag):
-            decryptor.finalize(bytes(32))
-        peak = tracemalloc.get_traced_memory()[1]
-        tracemalloc.stop()
-        self.assertLess(peak, 1 << 16)
-        self.zeros(*chunks)
+    def test_nothing_leaks(self) -> None:
+        """Many objects and calls, those that fail too, take no more memory than some."""
+        sealed = CIPHER.encrypt(NONCE, bytes(5000))
 
-    def test_empty_chunks_are_not_kept(self) -> None:
-        decryptor = CIPHER.decryptor(NONCE)
-        for _ in range(3):
-            decryptor.update(b"")
-        self.assertEqual(decryptor._message, [])
-        self.assertEqual(decryptor.finalize(CIPHER.encrypt(NONCE, b"")), b"")
+        def calls() -> None:
+            for _ in range(2000):
+                CIPHER.decrypt(NONCE, sealed)
+                CIPHER.encrypt_into(NONCE, bytes(9), b"header", bytearray(41))
+                CIPHER.encryptor(NONCE, b"header").update(bytes(5000))
+                decryptor = CIPHER.decryptor(NONCE)
+                decryptor.update(sealed)
+                mac = Aegis256Mac(KEY, bytes(5000)).copy()
+                for call in (decryptor.finalize, mac.verify, mac.update, Aegis256, CIPHER.encryptor):
+                    for wrong in (bytes(32), b"", "text", None):
+                        try:
+                            call(wrong)  # type: ignore[operator]
+                        except (hunkravy.InvalidTag, TypeError, ValueError, RuntimeError):
+                            pass
 
-    def test_states(self) -> None:
-        mac = Aegis256Mac(KEY)
-        owners: list[Any] = [CIPHER.encryptor(NONCE), CIPHER.decryptor(NONCE), mac, mac.copy(), copy.copy(mac)]
-        states = [owner._state for owner in owners]
-        self.assertEqual(len({ctypes.addressof(state) for state in states}), 5)
-        # In places that outlast them.
-        places = [bytearray(state) for state in states]
-        for owner, place in zip(owners, places):
-            self.assertNotEqual(place, bytes(672))
-            owner._state = State.from_buffer(place)
-        del owner, owners, mac
-        self.zeros(*places)
-        ended = Aegis128L(bytes(16)).encryptor(bytes(16))
-        state = ended._state
-        ended.finalize()
-        self.zeros(state)
+        def resident() -> int:
+            return int(pathlib.Path("/proc/self/statm").read_text().split()[1]) * resource.getpagesize()
+
+        calls()
+        before = resident()
+        for _ in range(5):
+            calls()
+        self.assertLess(resident() - before, 4 << 20)
+
+
+def contents(native: Any) -> bytes:
+    """The fields of a native object after its lock and the length of tags."""
+    return ctypes.string_at(id(native) + 40, type(native).__basicsize__ - 40)
+
+
+# Objects of 512 bytes or more are freed by the C library, whose own fields take the first 32.
+FREED = """
+import ctypes
+from hunkravy import Aegis256, Aegis256Mac, SealedReader, SealedWriter
+import io
+
+key, nonce = bytes(range(32)), bytes(range(32, 64))
+kept = []
+cipher = Aegis256(key)
+file = io.BytesIO()
+with SealedWriter(file, key) as writer:
+    pass
+made = [lambda: cipher.encryptor(nonce)._state, lambda: cipher.decryptor(nonce)._state,
+        lambda: Aegis256Mac(key, bytes(100))._state, lambda: Aegis256(key)._cipher,
+        lambda: SealedReader(io.BytesIO(file.getvalue()), key)._records]
+for make in made:
+    native = make()
+    # Memory after it, so that it stays mapped.
+    kept.append(make())
+    place, length = id(native), type(native).__basicsize__
+    before = ctypes.string_at(place, length)
+    del native
+    after = ctypes.string_at(place, length)
+    secret = before[32:]
+    assert sum(map(bool, secret)) > 16, make
+    for start in range(0, len(secret) - 8):
+        part = secret[start : start + 8]
+        assert part.count(0) > 3 or part not in after, (make, start)
+"""
 
 
 if __name__ == "__main__":

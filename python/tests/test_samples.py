@@ -32,7 +32,7 @@ class Samples(unittest.TestCase):
                 exec(sample, names)
 
     def test_each_module(self) -> None:
-        for name, count in (("", 4), ("._ciphers", 3), ("._states", 2), ("._macs", 4), ("._library", 1)):
+        for name, count in (("", 5), ("._ciphers", 13), ("._macs", 5)):
             module = importlib.import_module(f"hunkravy{name}")
             failed, attempted = doctest.testmod(module)
             self.assertEqual(failed, 0, name)

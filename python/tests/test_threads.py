@@ -1,24 +1,57 @@
-"""One object, used by several threads."""
+"""One object that several threads use, and several that work at the same time."""
 
 import concurrent.futures
+import contextlib
+import mmap
 import random
+import threading
+import time
 import unittest
 from typing import Callable
 
-from hunkravy import Aegis128L, Aegis256Mac
+from hunkravy import Aegis128L, Aegis256, Aegis256Mac, InvalidTag
+
+# Zeros that take no memory, and that the library works on for a quarter of a second or more.
+ZEROS = mmap.mmap(-1, 1 << 28, flags=mmap.MAP_PRIVATE | mmap.MAP_ANONYMOUS)
+
+
+class Work:
+    """Work in another thread, with the moments at which it began and ended."""
+
+    def __init__(self, work: Callable[[], object]) -> None:
+        self.begun = self.ended = 0.0
+        self._begins = threading.Event()
+        self._work = work
+        self._thread = threading.Thread(target=self._run)
+
+    def _run(self) -> None:
+        self._begins.set()
+        self.begun = time.monotonic()
+        self._work()
+        self.ended = time.monotonic()
+
+    def __enter__(self) -> "Work":
+        self._thread.start()
+        self._begins.wait()
+        # So that the work holds its locks.
+        time.sleep(0.02)
+        return self
+
+    def __exit__(self, *_: object) -> None:
+        self._thread.join()
 
 
 class Threads(unittest.TestCase):
     def test_one_cipher(self) -> None:
         cipher = Aegis128L(bytes(16))
 
-        def sealed_and_opened(number: int) -> bool:
+        def round_trip(number: int) -> bool:
             message = random.Random(number).randbytes(1000 * number)
             nonce = number.to_bytes(16, "little")
             return cipher.decrypt(nonce, cipher.encrypt(nonce, message)) == message
 
         with concurrent.futures.ThreadPoolExecutor(8) as threads:
-            self.assertTrue(all(threads.map(sealed_and_opened, range(200))))
+            self.assertTrue(all(threads.map(round_trip, range(200))))
 
     def test_one_mac(self) -> None:
         chunk = bytes(10_000)
@@ -28,33 +61,110 @@ class Threads(unittest.TestCase):
                 self.assertIsNone(taken)
         mac.verify(Aegis256Mac(bytes(32), 200 * chunk).digest())
 
-    def test_each_call_of_a_mac_waits_for_another_thread(self) -> None:
-        mac = Aegis256Mac(bytes(32))
-        digest = mac.digest()
-        calls: list[Callable[[], object]] = [
-            lambda: mac.verify(digest),
-            mac.digest,
-            mac.copy,
-            lambda: mac.update(b"more"),
-        ]
-        for call in calls:
-            with concurrent.futures.ThreadPoolExecutor(1) as threads:
-                with mac._lock:
-                    called = threads.submit(call)
-                    with self.assertRaises(concurrent.futures.TimeoutError):
-                        called.result(0.05)
-                called.result(10)
+    def test_one_message(self) -> None:
+        """Chunks of several threads are encrypted one after the other: each byte of the keystream once."""
+        cipher, nonce, chunk = Aegis256(bytes(32)), bytes(32), bytes(10_000)
+        encryptor = cipher.encryptor(nonce)
+        with concurrent.futures.ThreadPoolExecutor(8) as threads:
+            parts = set(threads.map(encryptor.update, [chunk] * 200))
+        sealed = cipher.encrypt(nonce, 200 * chunk)
+        self.assertEqual(parts, {sealed[start : start + 10_000] for start in range(0, 2_000_000, 10_000)})
+        self.assertEqual(encryptor.finalize(), sealed[-32:])
 
-    def test_a_message_that_ends_while_another_thread_waits(self) -> None:
-        encryptor = Aegis128L(bytes(16)).encryptor(bytes(16))
-        with concurrent.futures.ThreadPoolExecutor(1) as threads:
-            with encryptor._lock:
-                called = threads.submit(encryptor.update, b"more")
-                with self.assertRaises(concurrent.futures.TimeoutError):
-                    called.result(0.05)
-                encryptor.finalize()
-            with self.assertRaisesRegex(RuntimeError, "^the message has ended$"):
-                called.result(10)
+    def test_a_message_that_several_threads_end(self) -> None:
+        cipher, nonce = Aegis256(bytes(32)), bytes(32)
+        for _ in range(50):
+            encryptor = cipher.encryptor(nonce)
+            encryptor.update(bytes(10_000))
+            ended = []
+
+            def end() -> None:
+                try:
+                    ended.append(encryptor.finalize())
+                except RuntimeError:
+                    pass
+
+            with concurrent.futures.ThreadPoolExecutor(4) as threads:
+                for _ in range(4):
+                    threads.submit(end)
+            self.assertEqual(ended, [cipher.encrypt(nonce, bytes(10_000))[-32:]])
+
+    def test_other_threads_run(self) -> None:
+        """While the library works, Python runs in other threads."""
+        mac, cipher = Aegis256Mac(bytes(32)), Aegis256(bytes(32))
+        buffer = bytearray(len(ZEROS) // 4 + 32)
+        works: list[Callable[[], object]] = [
+            lambda: mac.update(ZEROS),
+            lambda: cipher.encrypt_into(bytes(32), memoryview(ZEROS)[: len(ZEROS) // 4], None, buffer),
+            lambda: cipher.encrypt(bytes(32), b"", ZEROS),
+            lambda: cipher.encryptor(bytes(32), ZEROS),
+        ]
+        for work in works:
+            moments = []
+            with Work(work) as working:
+                while not working.ended:
+                    moments.append(time.monotonic())
+            longest = max(after - before for before, after in zip(moments, moments[1:]))
+            self.assertGreater(len(moments), 100)
+            self.assertLess(longest, (working.ended - working.begun) / 2)
+
+    def test_each_method_waits_for_another_thread(self) -> None:
+        mac, cipher = Aegis256Mac(bytes(32)), Aegis256(bytes(32))
+        encryptor = cipher.encryptor(bytes(32))
+        digest = mac.digest()
+        calls: list[Callable[[], object]] = [mac.digest, lambda: mac.verify(digest), mac.copy, lambda: mac.update(b"")]
+        for call in calls:
+            with Work(lambda: mac.update(ZEROS)) as working:
+                with contextlib.suppress(InvalidTag):
+                    call()
+                returned = time.monotonic()
+            self.assertGreater(returned, working.ended - 0.01)
+        with Work(lambda: encryptor.update(memoryview(ZEROS)[: len(ZEROS) // 8])) as working:
+            encryptor.finalize()
+            returned = time.monotonic()
+        self.assertGreater(returned, working.ended - 0.05)
+
+    def test_a_copy_waits_for_no_other(self) -> None:
+        """It has a lock of its own."""
+        mac = Aegis256Mac(bytes(32), b"the input")
+        other = mac.copy()
+        with Work(lambda: mac.update(ZEROS)) as working:
+            digest = other.digest()
+            returned = time.monotonic()
+        self.assertLess(returned, working.ended)
+        self.assertEqual(digest, Aegis256Mac(bytes(32), b"the input").digest())
+
+    def test_a_buffer_that_is_in_use(self) -> None:
+        """It cannot be resized until the method returns."""
+        mac, buffer = Aegis256Mac(bytes(32)), bytearray(1 << 28)
+        with Work(lambda: mac.update(buffer)):
+            with self.assertRaises(BufferError):
+                buffer.append(0)
+        buffer.append(0)
+
+    def test_a_message_that_changes(self) -> None:
+        """The message is copied before it is encrypted, so each ciphertext is that of one message or of the other."""
+        cipher, nonce = Aegis256(bytes(32)), bytes(32)
+        zeros, ones = bytes(1 << 20), b"\1" * (1 << 20)
+        message = bytearray(zeros)
+        expected = {cipher.encrypt(nonce, zeros), cipher.encrypt(nonce, ones)}
+        done = threading.Event()
+
+        def change() -> None:
+            while not done.is_set():
+                message[:] = ones
+                message[:] = zeros
+
+        thread = threading.Thread(target=change)
+        thread.start()
+        try:
+            for _ in range(30):
+                self.assertIn(cipher.encrypt(nonce, message), expected)
+                encryptor = cipher.encryptor(nonce)
+                self.assertIn(encryptor.update(message) + encryptor.finalize(), expected)
+        finally:
+            done.set()
+            thread.join()
 
 
 class Chunks(unittest.TestCase):

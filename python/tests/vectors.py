@@ -4,8 +4,7 @@ import pathlib
 from typing import Iterator, NamedTuple
 
 import hunkravy
-from hunkravy._ciphers import Cipher
-from hunkravy._macs import Mac
+from hunkravy import Cipher, Mac
 
 CIPHERS: dict[str, tuple[type[Cipher], type[Mac]]] = {
     "aegis128l": (hunkravy.Aegis128L, hunkravy.Aegis128LMac),
@@ -36,7 +35,7 @@ def joined(field: str) -> bytes:
 
 
 def written(data: bytes) -> str:
-    """The field that stands for bytes in an answer."""
+    """The field of bytes in an answer."""
     return data.hex() or "-"
 
 

@@ -1,0 +1,415 @@
+"""Sealed files, the files of the tool `hunkravy`: encrypted contents that are written and read like files."""
+
+from __future__ import annotations
+
+import io
+import os
+import re
+import threading
+import warnings
+from typing import TYPE_CHECKING, BinaryIO, Optional, Union
+
+from . import _native, _variants as variants
+
+if TYPE_CHECKING:
+    from types import TracebackType
+
+    from _typeshed import ReadableBuffer, WriteableBuffer
+
+PREFIX_BYTES = 24
+HEADER = b"AGR2"
+HEAD_BYTES = 5
+TAG_BYTES = 32
+RECORD_BYTES = HEAD_BYTES + TAG_BYTES
+# A piece of the contents is the message of a record. These are those that are written, and the longest that is read.
+PIECE_BYTES = 1 << 16
+MOST_PIECE_BYTES = 1 << 24
+
+# 64 digits, and at most two bytes of white space.
+KEY_FILE = re.compile(rb"([0-9A-Fa-f]{64})(?:[\t-\r ]{0,2}|\xc2[\x85\xa0])")
+
+CAUSES = {
+    "header": "the file does not begin with the header of a sealed file",
+    "truncated": "the file ends before the end of its last record",
+    "flag": "the flag of record {} is neither 0 nor 1",
+    "too_long": "the length of record {} is more than 16 MiB",
+    "damaged": "record {} is damaged, or was encrypted with another key",
+    "trailing": "bytes follow the last record",
+}
+
+
+class SealedFileError(ValueError):
+    """A sealed file is damaged, truncated or not one, or the key is another.
+
+    `cause` is "header", "truncated", "flag", "too_long", "damaged" or "trailing". `record` is the number of the record
+    that was read, counted from 0.
+    """
+
+    def __init__(self, cause: str, record: int) -> None:
+        super().__init__(cause, record)
+        self.cause = cause
+        self.record = record
+
+    def __str__(self) -> str:
+        return CAUSES[self.cause].format(self.record)
+
+
+def read_key(path: Union[str, os.PathLike[str]]) -> bytes:
+    """Returns the key of a key file of the tool: 64 hexadecimal digits, and at most two bytes of white space.
+
+    Raises `ValueError` if the file is another, and `OSError` if it cannot be read.
+    """
+    with open(path, "rb") as file:
+        found = KEY_FILE.fullmatch(file.read(67))
+    if found is None:
+        raise ValueError(f"{os.fspath(path)!r} is not a key file")
+    return bytes.fromhex(found[1].decode())
+
+
+class Sealed(variants.Secret, io.RawIOBase):
+    """What readers and writers share: the file beneath, and a lock, so that threads take turns."""
+
+    def __init__(self, file: BinaryIO) -> None:
+        self._file = file
+        self._lock = threading.Lock()
+
+    def _check_open(self) -> None:
+        if self.closed:
+            raise ValueError("I/O operation on closed file")
+
+
+class SealedWriter(Sealed):
+    """Writes a sealed file to `file`, a file object that is open for writing bytes.
+
+    `key` has 32 bytes. The file is complete only once `close` has returned, or a `with` block of the writer has ended
+    without an exception. Otherwise it does not open: after an exception in the block, after an exception of a method, or
+    if the writer is dropped. `file` is not closed.
+
+    Bytes are written in pieces of 65,536. The last piece is written by `close`, and not by `flush`. In a `with` block
+    `close` takes effect at its end, so an `io.TextIOWrapper` inside it may close the writer.
+    """
+
+    def __init__(self, file: BinaryIO, key: ReadableBuffer) -> None:
+        super().__init__(file)
+        self._is_entered = False
+        # False while a method writes, so it stays false if an exception ends one.
+        self._may_finish = False
+        prefix = os.urandom(PREFIX_BYTES)
+        self._records = _native.Records(key, prefix)
+        self._record = bytearray(RECORD_BYTES + PIECE_BYTES)
+        self._filled = 0
+        self._length = 0
+        self._write_all(prefix + self._records.begin())
+        self._may_finish = True
+
+    def writable(self) -> bool:
+        """Returns true."""
+        self._check_open()
+        return True
+
+    def tell(self) -> int:
+        """Returns the number of bytes of contents that were written."""
+        self._check_open()
+        return self._length
+
+    def write(self, data: ReadableBuffer) -> int:
+        """Writes all of the data, and returns their length. After an exception the file cannot be completed."""
+        with self._lock, memoryview(data) as view, view.cast("B") as contents:
+            self._check_open()
+            self._check_may_finish()
+            self._may_finish = False
+            self._take_in(contents)
+            self._may_finish = True
+            return len(contents)
+
+    def close(self) -> None:
+        """Completes the file, unless a method raised an exception before: then it raises `OSError`.
+
+        In a `with` block of the writer the file is completed at its end.
+        """
+        with self._lock:
+            if self.closed:
+                return
+            try:
+                if not self._is_entered:
+                    self._finish()
+            finally:
+                super().close()
+
+    def __enter__(self) -> SealedWriter:
+        self._check_open()
+        self._is_entered = True
+        return self
+
+    def __exit__(
+        self,
+        kind: Optional[type[BaseException]],
+        error: Optional[BaseException],
+        traceback: Optional[TracebackType],
+    ) -> None:
+        with self._lock:
+            try:
+                if kind is None:
+                    self._finish()
+            finally:
+                self._may_finish = False
+                super().close()
+
+    def __del__(self) -> None:
+        # That of the base class would complete the file.
+        super().close()
+        if self._may_finish:
+            warnings.warn(f"{type(self).__name__} was dropped: its file is not complete", ResourceWarning, source=self)
+
+    def _check_may_finish(self) -> None:
+        if not self._may_finish:
+            raise OSError("the file cannot be completed, since writing was interrupted")
+
+    def _take_in(self, contents: memoryview) -> None:
+        """Copies contents to the record, which is written when it is full."""
+        start = 0
+        while start < len(contents):
+            part = contents[start : start + PIECE_BYTES - self._filled]
+            place = HEAD_BYTES + self._filled
+            self._record[place : place + len(part)] = part
+            self._filled += len(part)
+            self._length += len(part)
+            start += len(part)
+            if self._filled == PIECE_BYTES:
+                self._write_record(is_last=False)
+
+    def _write_record(self, is_last: bool) -> None:
+        with memoryview(self._record)[: RECORD_BYTES + self._filled] as record:
+            self._records.seal(record, is_last)
+            self._write_all(bytes(record))
+        self._filled = 0
+
+    def _write_all(self, data: bytes) -> None:
+        while data:
+            written = self._file.write(data)
+            if not isinstance(written, int) or not 0 < written <= len(data):
+                raise OSError(f"the file has written {written} of {len(data)} bytes")
+            data = data[written:]
+
+    def _finish(self) -> None:
+        self._check_may_finish()
+        self._may_finish = False
+        if self._filled:
+            self._write_record(is_last=False)
+        self._write_record(is_last=True)
+        self._file.flush()
+
+
+class SealedReader(Sealed):
+    """Reads the contents of a sealed file from `file`, a file object that is open for reading bytes.
+
+    `key` has 32 bytes. Each byte that is returned was verified, with its place in the contents. The end of the contents
+    is returned only after the last record was verified and `file` has ended. A fault raises `SealedFileError`, and each
+    later call raises it again. The first one may come when the reader is made. `file` is not closed.
+
+    If `file` can seek, the reader can: the place is found with the lengths of the records before it, whose contents are
+    not verified. Reading single lines is fast with an `io.BufferedReader` around the reader.
+    """
+
+    def __init__(self, file: BinaryIO, key: ReadableBuffer) -> None:
+        super().__init__(file)
+        # The record that is being read, the piece that was opened last, and how many bytes of contents are before it.
+        self._record = bytearray()
+        self._piece = memoryview(b"")
+        self._start = 0
+        self._is_last = False
+        # The number of the next record.
+        self._number = 0
+        self._position = 0
+        # What each later call raises.
+        self._error: Optional[Exception] = None
+        self._can_seek = hasattr(file, "seekable") and file.seekable()
+        self._first = file.tell() if self._can_seek else 0
+        self._read_record(PREFIX_BYTES + len(HEADER))
+        if self._record[PREFIX_BYTES:] != HEADER:
+            raise SealedFileError("header", 0)
+        self._records = _native.Records(key, self._record[:PREFIX_BYTES])
+        self._begin_at(0, 0)
+
+    def readable(self) -> bool:
+        """Returns true."""
+        self._check_open()
+        return True
+
+    def seekable(self) -> bool:
+        """Returns whether the file beneath can seek."""
+        self._check_open()
+        return self._can_seek
+
+    def tell(self) -> int:
+        """Returns the position in the contents."""
+        self._check_open()
+        return self._position
+
+    def readinto(self, buffer: WriteableBuffer) -> Optional[int]:
+        """Fills the buffer with the next bytes of the contents, and returns how many. If they are fewer than the buffer
+        has, the contents end there, or the next call raises an exception.
+
+        Returns None if `file` does not block and has no bytes yet.
+        """
+        with self._lock, memoryview(buffer) as view, view.cast("B") as out:
+            self._begin_call()
+            filled = 0
+            try:
+                while filled < len(out) and self._has_more():
+                    filled += self._copy(out[filled:])
+            except (SealedFileError, OSError) as error:
+                # After an error of `file` the next call goes on.
+                self._error = error if isinstance(error, SealedFileError) else None
+                if filled == 0 and isinstance(error, BlockingIOError):
+                    return None
+                if filled == 0:
+                    raise
+            else:
+                self._error = None
+            return filled
+
+    def seek(self, offset: int, whence: int = os.SEEK_SET) -> int:
+        """Goes to a position in the contents, and returns it. No bytes are read after the end of the contents.
+
+        Verifies the record that has the position, and with `os.SEEK_END` the last one.
+        """
+        with self._lock:
+            if not self.seekable():
+                raise io.UnsupportedOperation("the file cannot seek")
+            if whence not in (os.SEEK_SET, os.SEEK_CUR, os.SEEK_END):
+                raise ValueError(f"whence must be 0, 1 or 2, not {whence}")
+            self._begin_call()
+            try:
+                position = self._sought(offset, whence)
+                self._go_to(max(position, 0))
+            except SealedFileError as error:
+                self._error = error
+                raise
+            self._position = max(position, 0)
+            self._error = None
+            if position < 0:
+                raise ValueError(f"the position {position} is before the contents")
+            return position
+
+    def close(self) -> None:
+        """Drops the key and what was read."""
+        with self._lock:
+            self._piece = memoryview(b"")
+            self._record = bytearray()
+            # Its key and its state are overwritten.
+            self.__dict__.pop("_records", None)
+            super().close()
+
+    def _begin_call(self) -> None:
+        """Raises the error of an earlier call. If an exception ends this one anywhere, that stays an error."""
+        self._check_open()
+        if self._error is not None:
+            raise self._error
+        self._error = OSError("an earlier call of the reader was interrupted")
+
+    def _fault(self, cause: str) -> SealedFileError:
+        return SealedFileError(cause, self._number)
+
+    def _sought(self, offset: int, whence: int) -> int:
+        """The position that `seek` goes to."""
+        if whence == os.SEEK_CUR:
+            return self._position + offset
+        if whence == os.SEEK_END:
+            self._go_to(None)
+            return self._start + len(self._piece) + offset
+        return offset
+
+    def _has_more(self) -> bool:
+        """Opens records until one has bytes at the position. Returns false at the end of the contents."""
+        while self._start + len(self._piece) <= self._position:
+            if self._is_last:
+                self._check_end()
+                return False
+            self._open_next()
+        return True
+
+    def _copy(self, out: memoryview) -> int:
+        """Copies bytes of the piece, from the position on."""
+        part = self._piece[self._position - self._start :][: len(out)]
+        out[: len(part)] = part
+        self._position += len(part)
+        return len(part)
+
+    def _read_record(self, length: int) -> None:
+        """Reads until the record has so many bytes, or the file ends. Memory is taken as bytes come.
+
+        After an exception of the file it can be called again.
+        """
+        while len(self._record) < length:
+            most = min(length - len(self._record), max(len(self._record), PIECE_BYTES + RECORD_BYTES))
+            data = self._file.read(most)
+            if data is None:
+                raise BlockingIOError("the file has no bytes yet")
+            if not data:
+                return
+            self._record += data
+
+    def _check_end(self) -> None:
+        self._read_record(1)
+        if self._record:
+            raise self._fault("trailing")
+
+    def _read_head(self) -> int:
+        """Reads the head of the next record, and returns the length of its piece, which is not verified."""
+        self._read_record(HEAD_BYTES)
+        if self._record[:1] > b"\1":
+            raise self._fault("flag")
+        if len(self._record) < HEAD_BYTES:
+            raise self._fault("truncated")
+        length = int.from_bytes(self._record[1:HEAD_BYTES], "little")
+        if length > MOST_PIECE_BYTES:
+            raise self._fault("too_long")
+        return length
+
+    def _open_next(self) -> None:
+        length = RECORD_BYTES + self._read_head()
+        self._read_record(length)
+        if len(self._record) < length:
+            raise self._fault("truncated")
+        start = self._start + len(self._piece)
+        record, self._record = self._record, bytearray()
+        try:
+            self._is_last = self._records.open(record)
+        except _native.InvalidTag:
+            raise self._fault("damaged") from None
+        self._start = start
+        self._piece = memoryview(record)[HEAD_BYTES:-TAG_BYTES].toreadonly()
+        self._number += 1
+
+    def _begin_at(self, number: int, before: int) -> None:
+        """Begins at a record, of which nothing is read."""
+        self._records.begin_open_at(number, before)
+        self._record = bytearray()
+        self._piece = memoryview(b"")
+        self._start = before
+        self._is_last = False
+        self._number = number
+
+    def _go_to(self, position: Optional[int]) -> None:
+        """Opens the record that has the position, or the last one if there is none."""
+        end = self._start + len(self._piece)
+        if self._is_last and (position is None or position >= end):
+            return
+        if position is not None and self._start <= position < end:
+            return
+        # From the next record, or from the first one.
+        number, before = self._number, end
+        if position is not None and position < end:
+            number, before = 0, 0
+        while True:
+            self._file.seek(self._first + PREFIX_BYTES + len(HEADER) + RECORD_BYTES * number + before)
+            self._record, self._number = bytearray(), number
+            length = self._read_head()
+            if self._record[0] == 1 or (position is not None and position < before + length):
+                break
+            number, before = number + 1, before + length
+        head = self._record
+        self._begin_at(number, before)
+        self._record = head
+        self._open_next()

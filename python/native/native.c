@@ -1,0 +1,728 @@
+/*
+ * The module hunkravy._native: the C library with the buffers, the exceptions and the threads of Python. The package's
+ * Python files give its functions names, defaults and types.
+ *
+ * It is written for the stable interface of Python 3.11, so one extension file serves that version and all later ones.
+ * Each function is called with the interpreter's lock, and releases it while the library works on much. An object that
+ * changes has a lock of its own, which is held meanwhile. Buffers are held until a function returns, so they keep their
+ * place and their length.
+ */
+#define PY_SSIZE_T_CLEAN
+#define Py_LIMITED_API 0x030B0000
+#include <Python.h>
+
+#include <stdbool.h>
+#include <stdlib.h>
+#include <string.h>
+
+#include "hunkravy.h"
+#include "hunkravy_records.h"
+
+/* The longest keys and nonces, and the longest tags. */
+#define MOST_KEY_BYTES HUNKRAVY_AEGIS256_KEY_BYTES
+#define MOST_TAG_BYTES HUNKRAVY_LONG_TAG_BYTES
+
+/* Work on fewer bytes takes less time than releasing the interpreter's lock may cost. */
+#define RELEASE_FROM 4096
+
+/* Slots of types have functions as `void *`, which POSIX converts to and ISO C does not. */
+#define SLOT(function) (__extension__(void *)(function))
+
+/* The context of sealed files. */
+static const uint8_t CONTEXT[] = "hunkravy v1";
+#define CONTEXT_BYTES (sizeof CONTEXT - 1)
+
+/* ---- What the types share */
+
+/* Returns what has a name in the module of an object, or null with an exception. */
+static PyObject *of_module(PyObject *object, const char *name)
+{
+    PyObject *module = PyType_GetModule(Py_TYPE(object));
+    return module == NULL ? NULL : PyObject_GetAttrString(module, name);
+}
+
+/* Returns the result if the code is HUNKRAVY_OK. Otherwise drops it, and returns null with the code's exception. */
+static void *result_of(void *object, int code, void *result)
+{
+    if (code == HUNKRAVY_OK) {
+        return result;
+    }
+    Py_XDECREF(result);
+    if (code == HUNKRAVY_INVALID_TAG) {
+        PyObject *error = of_module(object, "InvalidTag");
+        if (error != NULL) {
+            PyErr_SetString(error, hunkravy_error_text(code));
+            Py_DECREF(error);
+        }
+    } else {
+        PyErr_SetString(code == HUNKRAVY_WRONG_STATE ? PyExc_RuntimeError : PyExc_ValueError, hunkravy_error_text(code));
+    }
+    return NULL;
+}
+
+/* Returns whether a length is right. If it is not, sets an exception. */
+static bool has_length(const char *name, Py_ssize_t found, size_t length)
+{
+    if ((size_t)found != length) {
+        PyErr_Format(PyExc_ValueError, "%s must have %zu bytes, not %zd", name, length, found);
+    }
+    return (size_t)found == length;
+}
+
+/* Copies bytes, of which there may be none, at a null pointer. The places may overlap. */
+static void copy(uint8_t *to, const void *from, size_t length)
+{
+    if (length != 0) {
+        memmove(to, from, length);
+    }
+}
+
+/* Releases the interpreter's lock if work on so many bytes is long enough. Returns what `end` needs. */
+static PyThreadState *begin_work(size_t length)
+{
+    return length < RELEASE_FROM ? NULL : PyEval_SaveThread();
+}
+
+static void end_work(PyThreadState *released)
+{
+    if (released != NULL) {
+        PyEval_RestoreThread(released);
+    }
+}
+
+/* The first fields of each object that changes. */
+typedef struct {
+    PyObject_HEAD
+    PyThread_type_lock lock;
+} Locked;
+
+/* The same with the lock of an object, which it waits for without the interpreter's. */
+static PyThreadState *lock(void *object, size_t length)
+{
+    PyThread_type_lock own = ((Locked *)object)->lock;
+    if (!PyThread_acquire_lock(own, NOWAIT_LOCK)) {
+        PyThreadState *released = PyEval_SaveThread();
+        PyThread_acquire_lock(own, WAIT_LOCK);
+        PyEval_RestoreThread(released);
+    }
+    return begin_work(length);
+}
+
+static void unlock(void *object, PyThreadState *released)
+{
+    end_work(released);
+    PyThread_release_lock(((Locked *)object)->lock);
+}
+
+/* Makes an object, whose fields after its lock are zeros. */
+static void *new_object(PyTypeObject *type)
+{
+    PyObject *object = PyType_GenericAlloc(type, 0);
+    if (object != NULL && (((Locked *)object)->lock = PyThread_allocate_lock()) == NULL) {
+        Py_CLEAR(object);
+        PyErr_NoMemory();
+    }
+    return object;
+}
+
+/* Overwrites and frees an object of so many bytes. */
+static void free_object(PyObject *object, size_t length)
+{
+    PyTypeObject *type = Py_TYPE(object);
+    if (((Locked *)object)->lock != NULL) {
+        PyThread_free_lock(((Locked *)object)->lock);
+    }
+    hunkravy_wipe((uint8_t *)object + sizeof(PyObject), length - sizeof(PyObject));
+    PyObject_Free(object);
+    Py_DECREF(type);
+}
+
+/* Makes bytes, which are written at `*out`. */
+static PyObject *new_bytes(size_t length, uint8_t **out)
+{
+    PyObject *bytes = PyBytes_FromStringAndSize(NULL, (Py_ssize_t)length);
+    *out = bytes == NULL ? NULL : (uint8_t *)PyBytes_AsString(bytes);
+    return bytes;
+}
+
+/* ---- A message in chunks, or a MAC. The library knows which, and refuses the functions of another. */
+
+/* A chunk that was decrypted, which is secret until the tag is verified. */
+typedef struct Chunk {
+    struct Chunk *previous;
+    size_t length;
+    uint8_t bytes[];
+} Chunk;
+
+typedef struct {
+    PyObject_HEAD
+    PyThread_type_lock lock;
+    size_t tag_bytes;
+    bool is_mac;
+    hunkravy_state state;
+    /* The last chunk of a message that is decrypted, and the length of all of them. */
+    Chunk *last;
+    size_t length;
+} State;
+
+static void free_chunk(Chunk *chunk)
+{
+    hunkravy_wipe(chunk, sizeof *chunk + chunk->length);
+    free(chunk);
+}
+
+static void free_chunks(State *self)
+{
+    while (self->last != NULL) {
+        Chunk *chunk = self->last;
+        self->last = chunk->previous;
+        free_chunk(chunk);
+    }
+    self->length = 0;
+}
+
+static void state_free(PyObject *object)
+{
+    free_chunks((State *)object);
+    free_object(object, sizeof(State));
+}
+
+/* Returns the ciphertext of the next chunk. */
+static PyObject *encrypt_chunk(State *self, const Py_buffer *data)
+{
+    uint8_t *out;
+    size_t length = (size_t)data->len;
+    PyObject *result = new_bytes(length, &out);
+    if (result == NULL) {
+        return NULL;
+    }
+    copy(out, data->buf, length);
+    PyThreadState *released = lock(self, length);
+    int code = hunkravy_state_encrypt_in_place(&self->state, out, length);
+    unlock(self, released);
+    return result_of(self, code, result);
+}
+
+/* Takes in the next chunk of a ciphertext, and keeps what it is decrypted to. */
+static PyObject *decrypt_chunk(State *self, const Py_buffer *data)
+{
+    size_t length = (size_t)data->len;
+    Chunk *chunk = length > HUNKRAVY_MAX_BYTES ? NULL : malloc(sizeof(Chunk) + length);
+    if (chunk == NULL) {
+        return PyErr_NoMemory();
+    }
+    chunk->length = length;
+    copy(chunk->bytes, data->buf, length);
+    PyThreadState *released = lock(self, length);
+    int code = hunkravy_state_decrypt_in_place_unverified(&self->state, chunk->bytes, length);
+    if (code == HUNKRAVY_OK && length != 0) {
+        chunk->previous = self->last;
+        self->last = chunk;
+        self->length += length;
+    } else {
+        free_chunk(chunk);
+    }
+    unlock(self, released);
+    return result_of(self, code, Py_NewRef(Py_None));
+}
+
+/* Verifies the tag of a ciphertext, and copies the message to `out` if it is right. Erases the chunks in both cases. */
+static int finish(State *self, const Py_buffer *tag, uint8_t *out)
+{
+    uint8_t *end = out + self->length;
+    int code = hunkravy_state_decrypt_final(&self->state, NULL, 0, tag->buf, self->tag_bytes);
+    for (const Chunk *chunk = self->last; code == HUNKRAVY_OK && chunk != NULL; chunk = chunk->previous) {
+        end -= chunk->length;
+        memcpy(end, chunk->bytes, chunk->length);
+    }
+    free_chunks(self);
+    return code;
+}
+
+/* Ends a ciphertext, and returns its message. */
+static PyObject *decrypt_final(State *self, const Py_buffer *tag)
+{
+    uint8_t *out;
+    PyObject *message = NULL;
+    PyThreadState *released = lock(self, 0);
+    if (has_length("the tag", tag->len, self->tag_bytes) && (message = new_bytes(self->length, &out)) != NULL) {
+        PyThreadState *working = begin_work(self->length);
+        int code = finish(self, tag, out);
+        end_work(working);
+        message = result_of(self, code, message);
+    }
+    unlock(self, released);
+    return message;
+}
+
+/* Takes in the next bytes of the input of a MAC. */
+static PyObject *mac_update(State *self, const Py_buffer *data)
+{
+    PyThreadState *released = lock(self, (size_t)data->len);
+    int code = hunkravy_mac_update(&self->state, data->buf, (size_t)data->len);
+    unlock(self, released);
+    return result_of(self, code, Py_NewRef(Py_None));
+}
+
+static PyObject *mac_verify(State *self, const Py_buffer *mac)
+{
+    if (!has_length("the MAC", mac->len, self->tag_bytes)) {
+        return NULL;
+    }
+    PyThreadState *released = lock(self, 0);
+    int code = hunkravy_mac_final_verify(&self->state, mac->buf, self->tag_bytes);
+    unlock(self, released);
+    return result_of(self, code, Py_NewRef(Py_None));
+}
+
+/* The methods that take bytes. */
+#define STATE_METHOD(NAME)                                                                                             \
+    static PyObject *state_##NAME(PyObject *object, PyObject *argument)                                                \
+    {                                                                                                                  \
+        Py_buffer bytes;                                                                                               \
+        if (PyObject_GetBuffer(argument, &bytes, PyBUF_SIMPLE) < 0) {                                                  \
+            return NULL;                                                                                               \
+        }                                                                                                              \
+        PyObject *result = NAME((State *)object, &bytes);                                                              \
+        PyBuffer_Release(&bytes);                                                                                      \
+        return result;                                                                                                 \
+    }
+
+STATE_METHOD(encrypt_chunk)
+STATE_METHOD(decrypt_chunk)
+STATE_METHOD(decrypt_final)
+STATE_METHOD(mac_update)
+STATE_METHOD(mac_verify)
+
+/* Returns the tag of a message that was encrypted, which ends, or the MAC of the input so far. */
+static PyObject *state_final(PyObject *object, PyObject *none)
+{
+    State *self = (State *)object;
+    uint8_t tag[MOST_TAG_BYTES];
+    (void)none;
+    PyThreadState *released = lock(self, 0);
+    int code = self->is_mac ? hunkravy_mac_final(&self->state, tag, self->tag_bytes)
+                            : hunkravy_state_encrypt_final(&self->state, tag, self->tag_bytes);
+    unlock(self, released);
+    return code == HUNKRAVY_OK ? PyBytes_FromStringAndSize((const char *)tag, (Py_ssize_t)self->tag_bytes)
+                               : result_of(self, code, NULL);
+}
+
+/* Returns a MAC with a copy of the state, and a lock of its own. */
+static PyObject *state_mac_copy(PyObject *object, PyObject *none)
+{
+    State *self = (State *)object, *other = new_object(Py_TYPE(object));
+    (void)none;
+    if (other != NULL) {
+        PyThreadState *released = lock(self, 0);
+        other->tag_bytes = self->tag_bytes;
+        other->is_mac = self->is_mac;
+        other->state = self->state;
+        unlock(self, released);
+    }
+    return (PyObject *)other;
+}
+
+static PyMethodDef state_methods[] = {
+    {"encrypt", state_encrypt_chunk, METH_O, NULL},
+    {"decrypt", state_decrypt_chunk, METH_O, NULL},
+    {"decrypt_final", state_decrypt_final, METH_O, NULL},
+    {"mac_update", state_mac_update, METH_O, NULL},
+    {"mac_verify", state_mac_verify, METH_O, NULL},
+    {"mac_copy", state_mac_copy, METH_NOARGS, NULL},
+    {"final", state_final, METH_NOARGS, NULL},
+    {NULL, NULL, 0, NULL},
+};
+
+/* ---- A cipher with its key: messages in one call, and keystreams */
+
+typedef struct {
+    PyObject_HEAD
+    PyThread_type_lock lock;
+    unsigned int variant;
+    /* The length of the key, and of nonces. */
+    size_t key_bytes;
+    size_t tag_bytes;
+    uint8_t key[MOST_KEY_BYTES];
+} Cipher;
+
+/* The arguments of a message in one call. Only a call that writes to a buffer has an output. */
+typedef struct {
+    Py_buffer nonce;
+    Py_buffer data;
+    Py_buffer associated;
+    Py_buffer output;
+} Arguments;
+
+static PyObject *cipher_new(PyTypeObject *type, PyObject *arguments, PyObject *named)
+{
+    Py_buffer key;
+    unsigned int variant;
+    Py_ssize_t tag_length;
+    Cipher *self = NULL;
+    (void)named;
+    if (!PyArg_ParseTuple(arguments, "Iy*n", &variant, &key, &tag_length)) {
+        return NULL;
+    }
+    if (hunkravy_key_bytes(variant) == 0) {
+        PyErr_SetString(PyExc_TypeError, "only the six variants are made, such as Aegis256");
+    } else if (tag_length != HUNKRAVY_SHORT_TAG_BYTES && tag_length != HUNKRAVY_LONG_TAG_BYTES) {
+        PyErr_Format(PyExc_ValueError, "tag_length must be 16 or 32, not %zd", tag_length);
+    } else if (has_length("the key", key.len, hunkravy_key_bytes(variant))) {
+        self = new_object(type);
+    }
+    if (self != NULL) {
+        self->variant = variant;
+        self->key_bytes = (size_t)key.len;
+        self->tag_bytes = (size_t)tag_length;
+        copy(self->key, key.buf, self->key_bytes);
+    }
+    PyBuffer_Release(&key);
+    return (PyObject *)self;
+}
+
+static void cipher_free(PyObject *object)
+{
+    free_object(object, sizeof(Cipher));
+}
+
+static void release(Arguments *arguments)
+{
+    PyBuffer_Release(&arguments->nonce);
+    PyBuffer_Release(&arguments->data);
+    PyBuffer_Release(&arguments->associated);
+    PyBuffer_Release(&arguments->output);
+}
+
+/* Checks the lengths, and sets `length` to that of the result. */
+static bool check(Cipher *self, const Arguments *arguments, bool is_decrypted, size_t *length)
+{
+    size_t given = (size_t)arguments->data.len;
+    int code = HUNKRAVY_OK;
+    if (!has_length("the nonce", arguments->nonce.len, self->key_bytes)) {
+        return false;
+    }
+    if (is_decrypted && given < self->tag_bytes) {
+        code = HUNKRAVY_INVALID_TAG;
+    } else if (given > HUNKRAVY_MAX_BYTES) {
+        code = HUNKRAVY_MESSAGE_TOO_LONG;
+    }
+    *length = is_decrypted ? given - self->tag_bytes : given + self->tag_bytes;
+    result_of(self, code, NULL);
+    return code == HUNKRAVY_OK;
+}
+
+/*
+ * Encrypts to `out`, and writes the tag after the ciphertext; or decrypts the bytes in front of their tag. The data are
+ * copied first, with the interpreter's lock, so no thread of Python can change them meanwhile.
+ */
+static int transform(const Cipher *self, const Arguments *arguments, const uint8_t *nonce, const uint8_t *associated,
+    uint8_t *out, bool is_decrypted)
+{
+    size_t associated_length = (size_t)arguments->associated.len, key_bytes = self->key_bytes;
+    size_t length = (size_t)arguments->data.len - (is_decrypted ? self->tag_bytes : 0);
+    uint8_t tag[MOST_TAG_BYTES];
+    int code;
+    if (is_decrypted) {
+        memcpy(tag, (const uint8_t *)arguments->data.buf + length, self->tag_bytes);
+    }
+    copy(out, arguments->data.buf, length);
+    PyThreadState *released = begin_work(length + associated_length);
+    if (is_decrypted) {
+        code = hunkravy_decrypt_in_place(self->variant, out, length, associated, associated_length, nonce, key_bytes,
+            self->key, key_bytes, tag, self->tag_bytes);
+    } else {
+        code = hunkravy_encrypt_in_place(self->variant, out, length, associated, associated_length, nonce, key_bytes,
+            self->key, key_bytes, out + length, self->tag_bytes);
+    }
+    end_work(released);
+    return code;
+}
+
+/* Transforms to new bytes, and returns them. */
+static PyObject *to_new(Cipher *self, const Arguments *arguments, size_t length, bool is_decrypted)
+{
+    uint8_t *out;
+    PyObject *result = new_bytes(length, &out);
+    if (result == NULL) {
+        return NULL;
+    }
+    int code = transform(self, arguments, arguments->nonce.buf, arguments->associated.buf, out, is_decrypted);
+    return result_of(self, code, result);
+}
+
+/* Transforms to the output, and returns its length. The inputs may lie there: what is read later is copied. */
+static PyObject *to_output(Cipher *self, const Arguments *arguments, size_t length, bool is_decrypted)
+{
+    uint8_t nonce[MOST_KEY_BYTES], *associated;
+    size_t associated_length = (size_t)arguments->associated.len;
+    if (!has_length("the output buffer", arguments->output.len, length)) {
+        return NULL;
+    }
+    if ((associated = PyMem_Malloc(associated_length)) == NULL) {
+        return PyErr_NoMemory();
+    }
+    copy(nonce, arguments->nonce.buf, (size_t)arguments->nonce.len);
+    copy(associated, arguments->associated.buf, associated_length);
+    int code = transform(self, arguments, nonce, associated, arguments->output.buf, is_decrypted);
+    PyMem_Free(associated);
+    return result_of(self, code, PyLong_FromSize_t(length));
+}
+
+/* The arguments are the nonce, the data, the associated data and perhaps the output. */
+static PyObject *in_one_call(PyObject *object, PyObject *given, bool is_decrypted)
+{
+    Cipher *self = (Cipher *)object;
+    Arguments arguments = {.output = {.obj = NULL}};
+    PyObject *result = NULL;
+    size_t length;
+    if (!PyArg_ParseTuple(given, "y*y*y*|w*", &arguments.nonce, &arguments.data, &arguments.associated,
+                          &arguments.output)) {
+        return NULL;
+    }
+    if (check(self, &arguments, is_decrypted, &length)) {
+        result = PyTuple_Size(given) == 3 ? to_new(self, &arguments, length, is_decrypted)
+                                          : to_output(self, &arguments, length, is_decrypted);
+    }
+    release(&arguments);
+    return result;
+}
+
+static PyObject *cipher_encrypt(PyObject *object, PyObject *given)
+{
+    return in_one_call(object, given, false);
+}
+
+static PyObject *cipher_decrypt(PyObject *object, PyObject *given)
+{
+    return in_one_call(object, given, true);
+}
+
+static PyObject *cipher_keystream(PyObject *object, PyObject *given)
+{
+    const Cipher *self = (Cipher *)object;
+    Py_buffer nonce;
+    Py_ssize_t length;
+    uint8_t *out;
+    PyObject *result = NULL;
+    if (!PyArg_ParseTuple(given, "y*n", &nonce, &length)) {
+        return NULL;
+    }
+    if (length < 0) {
+        PyErr_SetString(PyExc_ValueError, "length must not be negative");
+    } else if (has_length("the nonce", nonce.len, self->key_bytes)) {
+        result = new_bytes((size_t)length, &out);
+    }
+    if (result != NULL) {
+        PyThreadState *released = begin_work((size_t)length);
+        int code = hunkravy_stream(self->variant, out, (size_t)length, nonce.buf, self->key_bytes, self->key,
+            self->key_bytes);
+        end_work(released);
+        result = result_of(object, code, result);
+    }
+    PyBuffer_Release(&nonce);
+    return result;
+}
+
+/* Begins a message in chunks, or a MAC, in a new state. */
+static int begin_state(const Cipher *self, State *state, const Arguments *arguments)
+{
+    size_t length = (size_t)arguments->associated.len, key_bytes = self->key_bytes;
+    const uint8_t *nonce = arguments->nonce.buf;
+    state->tag_bytes = self->tag_bytes;
+    if (state->is_mac) {
+        return hunkravy_mac_init(self->variant, &state->state, nonce, key_bytes, self->key, key_bytes);
+    }
+    PyThreadState *released = begin_work(length);
+    int code = hunkravy_state_init(self->variant, &state->state, arguments->associated.buf, length, nonce, key_bytes,
+        self->key, key_bytes);
+    end_work(released);
+    return code;
+}
+
+/* The arguments are the nonce, and the associated data unless it is a MAC. */
+static PyObject *cipher_begin(PyObject *object, PyObject *given)
+{
+    Cipher *self = (Cipher *)object;
+    Arguments arguments;
+    State *state = NULL;
+    PyObject *type = of_module(object, "State");
+    memset(&arguments, 0, sizeof arguments);
+    if (type != NULL && PyArg_ParseTuple(given, "y*|y*", &arguments.nonce, &arguments.associated) &&
+        has_length("the nonce", arguments.nonce.len, self->key_bytes)) {
+        state = new_object((PyTypeObject *)type);
+    }
+    if (state != NULL) {
+        state->is_mac = PyTuple_Size(given) == 1;
+        state = result_of(object, begin_state(self, state, &arguments), state);
+    }
+    release(&arguments);
+    Py_XDECREF(type);
+    return (PyObject *)state;
+}
+
+static PyMethodDef cipher_methods[] = {
+    {"encrypt", cipher_encrypt, METH_VARARGS, NULL},
+    {"decrypt", cipher_decrypt, METH_VARARGS, NULL},
+    {"keystream", cipher_keystream, METH_VARARGS, NULL},
+    {"begin", cipher_begin, METH_VARARGS, NULL},
+    {NULL, NULL, 0, NULL},
+};
+
+/* ---- The record stream of a sealed file */
+
+typedef struct {
+    PyObject_HEAD
+    PyThread_type_lock lock;
+    uint8_t key[HUNKRAVY_RECORD_KEY_BYTES];
+    uint8_t prefix[HUNKRAVY_RECORD_PREFIX_BYTES];
+    hunkravy_record_stream stream;
+} Records;
+
+static PyObject *records_new(PyTypeObject *type, PyObject *arguments, PyObject *named)
+{
+    Py_buffer key, prefix;
+    Records *self = NULL;
+    (void)named;
+    if (!PyArg_ParseTuple(arguments, "y*y*", &key, &prefix)) {
+        return NULL;
+    }
+    if (has_length("the key", key.len, sizeof self->key) && has_length("the prefix", prefix.len, sizeof self->prefix)) {
+        self = new_object(type);
+    }
+    if (self != NULL) {
+        copy(self->key, key.buf, sizeof self->key);
+        copy(self->prefix, prefix.buf, sizeof self->prefix);
+    }
+    PyBuffer_Release(&key);
+    PyBuffer_Release(&prefix);
+    return (PyObject *)self;
+}
+
+static void records_free(PyObject *object)
+{
+    free_object(object, sizeof(Records));
+}
+
+/* Begins to seal, and returns the header. */
+static PyObject *records_begin(PyObject *object, PyObject *none)
+{
+    Records *self = (Records *)object;
+    uint8_t header[HUNKRAVY_RECORD_HEADER_BYTES];
+    (void)none;
+    PyThreadState *released = lock(self, 0);
+    int code = hunkravy_record_begin(&self->stream, self->key, self->prefix, CONTEXT, CONTEXT_BYTES, header);
+    unlock(self, released);
+    return code == HUNKRAVY_OK ? PyBytes_FromStringAndSize((const char *)header, sizeof header)
+                               : result_of(object, code, NULL);
+}
+
+/* Begins to open at the record of a number, whose messages before it have so many bytes together. */
+static PyObject *records_begin_open_at(PyObject *object, PyObject *given)
+{
+    Records *self = (Records *)object;
+    unsigned long long number, before;
+    if (!PyArg_ParseTuple(given, "KK", &number, &before)) {
+        return NULL;
+    }
+    PyThreadState *released = lock(self, 0);
+    int code = hunkravy_record_begin_open_at(&self->stream, self->key, self->prefix, CONTEXT, CONTEXT_BYTES, number,
+        before);
+    unlock(self, released);
+    return result_of(object, code, Py_NewRef(Py_None));
+}
+
+/* Seals a message where it lies in its record. */
+static PyObject *records_seal(PyObject *object, PyObject *given)
+{
+    Records *self = (Records *)object;
+    Py_buffer record;
+    int is_last, code = HUNKRAVY_WRONG_RECORD_LENGTH;
+    if (!PyArg_ParseTuple(given, "w*p", &record, &is_last)) {
+        return NULL;
+    }
+    if (record.len >= HUNKRAVY_RECORD_BYTES) {
+        size_t length = (size_t)record.len - HUNKRAVY_RECORD_BYTES;
+        PyThreadState *released = lock(self, length);
+        code = is_last ? hunkravy_record_seal_last(&self->stream, record.buf, length)
+                       : hunkravy_record_seal(&self->stream, record.buf, length);
+        unlock(self, released);
+    }
+    PyBuffer_Release(&record);
+    return result_of(object, code, Py_NewRef(Py_None));
+}
+
+/* Opens a record where it lies. Returns whether it is the last one. */
+static PyObject *records_open(PyObject *object, PyObject *given)
+{
+    Records *self = (Records *)object;
+    Py_buffer record;
+    size_t length;
+    int is_last = 0;
+    if (!PyArg_ParseTuple(given, "w*", &record)) {
+        return NULL;
+    }
+    PyThreadState *released = lock(self, (size_t)record.len);
+    int code = hunkravy_record_open(&self->stream, record.buf, (size_t)record.len, &length, &is_last);
+    unlock(self, released);
+    PyBuffer_Release(&record);
+    return result_of(object, code, PyBool_FromLong(is_last));
+}
+
+static PyMethodDef records_methods[] = {
+    {"begin", records_begin, METH_NOARGS, NULL},
+    {"begin_open_at", records_begin_open_at, METH_VARARGS, NULL},
+    {"seal", records_seal, METH_VARARGS, NULL},
+    {"open", records_open, METH_VARARGS, NULL},
+    {NULL, NULL, 0, NULL},
+};
+
+/* ---- The module */
+
+#define SPEC(NAME, TYPE, FLAGS)                                                                                        \
+    static PyType_Spec NAME##_spec = {"hunkravy._native." #TYPE, sizeof(TYPE), 0, Py_TPFLAGS_DEFAULT | (FLAGS),        \
+                                      NAME##_slots}
+
+static PyType_Slot cipher_slots[] = {
+    {Py_tp_new, SLOT(cipher_new)}, {Py_tp_dealloc, SLOT(cipher_free)}, {Py_tp_methods, cipher_methods}, {0, NULL}};
+static PyType_Slot records_slots[] = {
+    {Py_tp_new, SLOT(records_new)}, {Py_tp_dealloc, SLOT(records_free)}, {Py_tp_methods, records_methods}, {0, NULL}};
+static PyType_Slot state_slots[] = {
+    {Py_tp_dealloc, SLOT(state_free)}, {Py_tp_methods, state_methods}, {0, NULL}};
+SPEC(cipher, Cipher, 0);
+SPEC(records, Records, 0);
+SPEC(state, State, Py_TPFLAGS_DISALLOW_INSTANTIATION);
+
+static int execute(PyObject *module)
+{
+    PyType_Spec *specs[] = {&cipher_spec, &state_spec, &records_spec};
+    PyObject *invalid_tag = PyErr_NewExceptionWithDoc("hunkravy.InvalidTag",
+        "The tag is not that of the message, or the MAC is not that of the input.", NULL, NULL);
+    int result = PyModule_AddObjectRef(module, "InvalidTag", invalid_tag);
+    Py_XDECREF(invalid_tag);
+    if (result == 0) {
+        result = PyModule_AddIntConstant(module, "LEVEL", hunkravy_level());
+    }
+    for (size_t i = 0; result == 0 && i < sizeof specs / sizeof specs[0]; i++) {
+        PyObject *type = PyType_FromModuleAndSpec(module, specs[i], NULL);
+        result = type == NULL ? -1 : PyModule_AddType(module, (PyTypeObject *)type);
+        Py_XDECREF(type);
+    }
+    return result;
+}
+
+static PyModuleDef_Slot slots[] = {
+    {Py_mod_exec, SLOT(execute)},
+    {0, NULL},
+};
+
+static struct PyModuleDef definition = {
+    .m_base = PyModuleDef_HEAD_INIT,
+    .m_name = "hunkravy._native",
+    .m_slots = slots,
+};
+
+PyMODINIT_FUNC PyInit__native(void)
+{
+    return PyModuleDef_Init(&definition);
+}

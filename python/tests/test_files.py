@@ -1,0 +1,567 @@
+"""Sealed files: what is written, what is read, and each damaged file of the tests that the tool and the packages share."""
+
+import csv
+import io
+import os
+import pathlib
+import shutil
+import subprocess
+import tarfile
+import tempfile
+import threading
+import tracemalloc
+import unittest
+import warnings
+from typing import Any, BinaryIO, Iterator, Optional, cast
+from unittest import mock
+
+from hunkravy import SealedFileError, SealedReader, SealedWriter, read_key
+
+DATA = pathlib.Path(__file__).parents[2] / "crates" / "hunkravy" / "data"
+KEY = read_key(DATA / "key")
+PREFIX = bytes(range(24))
+PIECE = 65_536
+
+
+def sealed(contents: bytes, key: bytes = KEY) -> bytes:
+    """The sealed file of contents."""
+    file = io.BytesIO()
+    with SealedWriter(file, key) as writer:
+        writer.write(contents)
+    return file.getvalue()
+
+
+def record(file: bytes, number: int) -> tuple[int, int]:
+    """Where a record of a file begins and ends."""
+    start = 28
+    for _ in range(number):
+        start += 37 + int.from_bytes(file[start + 1 : start + 5], "little")
+    return start, start + 37 + int.from_bytes(file[start + 1 : start + 5], "little")
+
+
+class Slow(io.RawIOBase):
+    """A file that reads and writes only some bytes at a time, and fails or has nothing at chosen calls."""
+
+    def __init__(self, data: bytes = b"", most: int = 7, fails: Optional[dict[int, Any]] = None) -> None:
+        self.file, self.most, self.fails, self.calls = io.BytesIO(data), most, fails or {}, 0
+
+    def _call(self) -> Any:
+        self.calls += 1
+        answer = self.fails.get(self.calls, self)
+        if isinstance(answer, BaseException):
+            raise answer
+        return answer
+
+    def read(self, size: int = -1) -> Any:
+        answer = self._call()
+        return self.file.read(min(size, self.most)) if answer is self else answer
+
+    def write(self, data: Any) -> Any:
+        answer = self._call()
+        return self.file.write(data[: self.most]) if answer is self else answer
+
+
+def slow(data: bytes = b"", most: int = 7, fails: Optional[dict[int, Any]] = None) -> BinaryIO:
+    return cast(BinaryIO, Slow(data, most, fails))
+
+
+def damaged_files() -> Iterator[tuple[str, bytes, bytes, str, int]]:
+    """The names, the bytes and the keys of the damaged files, their causes, and how many bytes are verified before."""
+    whole = (DATA / "records.sealed").read_bytes()
+    with open(DATA / "damaged.csv", newline="") as file:
+        for row in csv.DictReader(file):
+            data, key = whole, KEY
+            for operation in filter(None, row["operations"].split(";")):
+                name, *words = operation.split(" ")
+                if name == "wrongkey":
+                    key = bytes(32)
+                elif name == "append":
+                    data += bytes.fromhex(words[0])
+                elif name == "cut":
+                    data = data[: int(words[0])]
+                else:
+                    data = changed(data, name, int(words[0]), words[1])
+            yield row["name"], data, key, row["cause"], int(row["verified"])
+
+
+def changed(data: bytes, name: str, offset: int, argument: str) -> bytes:
+    """What an operation at an offset makes of data."""
+    new, end = b"", offset
+    if name == "remove":
+        end += int(argument)
+    else:
+        assert name in ("set", "insert"), name
+        new = bytes.fromhex(argument)
+        end += len(new) if name == "set" else 0
+    return data[:offset] + new + data[end:]
+
+
+class Damaged(unittest.TestCase):
+    contents = b"0123456789abcdefghijkl"
+
+    def read(self, file: BinaryIO, key: bytes, size: int) -> tuple[bytes, str]:
+        """The bytes that were read before a fault, and its cause."""
+        found = b""
+        try:
+            reader = SealedReader(file, key)
+        except SealedFileError as error:
+            return found, error.cause
+        try:
+            while part := reader.read(size):
+                found += part
+        except SealedFileError as error:
+            # It stays.
+            for call in (lambda: reader.read(1), lambda: reader.readinto(bytearray(1)), reader.readall):
+                with self.assertRaises(SealedFileError) as again:
+                    call()
+                self.assertEqual(again.exception.args, error.args)
+            cause = f"damaged {error.record}" if error.cause == "damaged" else error.cause
+            return found, cause
+        self.assertEqual(reader.read(1), b"")
+        return found, "none"
+
+    def test_each_file(self) -> None:
+        count = 0
+        for name, data, key, cause, verified in damaged_files():
+            for size in (1, 3, 100):
+                for file in (io.BytesIO(data), slow(data, 1), slow(data, 11)):
+                    with self.subTest(name, size=size):
+                        found, said = self.read(file, key, size)
+                        self.assertEqual((said, len(found)), (cause, verified))
+                        self.assertTrue(self.contents.startswith(found) or found == b"xyz")
+            count += 1
+        self.assertEqual(count, 126)
+
+    def test_each_flipped_bit(self) -> None:
+        whole = (DATA / "records.sealed").read_bytes()
+        for bit in range(8 * len(whole)):
+            data = bytearray(whole)
+            data[bit // 8] ^= 1 << bit % 8
+            found, cause = self.read(io.BytesIO(data), KEY, 5)
+            self.assertNotEqual(cause, "none")
+            self.assertTrue(self.contents.startswith(found))
+
+    def test_each_flipped_bit_by_position(self) -> None:
+        """What is read at a position is right, or an error."""
+        whole = (DATA / "records.sealed").read_bytes()
+        errors = 0
+        for bit in range(8 * 28, 8 * len(whole)):
+            data = bytearray(whole)
+            data[bit // 8] ^= 1 << bit % 8
+            for position in (0, 9, 10, 16, 17, 21, 22, 30):
+                try:
+                    with SealedReader(io.BytesIO(data), KEY) as reader:
+                        reader.seek(position)
+                        found = cast(bytes, reader.read(3))
+                        self.assertTrue(self.contents[position:].startswith(found))
+                except SealedFileError:
+                    errors += 1
+        self.assertGreater(errors, 3000)
+
+    def test_texts(self) -> None:
+        for cause, text in (
+            ("header", "the file does not begin with the header of a sealed file"),
+            ("damaged", "record 3 is damaged, or was encrypted with another key"),
+        ):
+            self.assertEqual(str(SealedFileError(cause, 3)), text)
+
+    def test_a_record_that_announces_much(self) -> None:
+        """No more memory is taken than for what comes."""
+        data = (DATA / "records.sealed").read_bytes()[:28] + b"\0" + (1 << 24).to_bytes(4, "little") + bytes(200_000)
+        tracemalloc.start()
+        reader = SealedReader(io.BytesIO(data), KEY)
+        with self.assertRaises(SealedFileError):
+            reader.read(1)
+        self.assertLess(tracemalloc.get_traced_memory()[1], 1 << 20)
+        tracemalloc.stop()
+
+
+class Writing(unittest.TestCase):
+    def test_pieces(self) -> None:
+        """The records are those of the tool, whatever lengths are written."""
+        for length in (0, 1, PIECE - 1, PIECE, PIECE + 1, 2 * PIECE, 200_000):
+            contents = os.urandom(length)
+            file = io.BytesIO()
+            with mock.patch("os.urandom", return_value=PREFIX), SealedWriter(file, KEY) as writer:
+                for start in range(0, length, 7_777):
+                    self.assertEqual(writer.write(contents[start : start + 7_777]), len(contents[start:][:7_777]))
+                self.assertEqual(writer.tell(), length)
+                writer.write(b"")
+            data = file.getvalue()
+            self.assertEqual(len(data), length + 37 * -(-length // PIECE) + 65)
+            self.assertEqual(data[:28], PREFIX + b"AGR2")
+            self.assertEqual(data[-37:-32], b"\1" + bytes(4))
+            with mock.patch("os.urandom", return_value=PREFIX):
+                self.assertEqual(sealed(contents), data)
+            self.assertEqual(SealedReader(io.BytesIO(data), KEY).read(), contents)
+
+    def test_no_two_files_have_a_prefix(self) -> None:
+        self.assertEqual(len({sealed(b"")[:24] for _ in range(64)}), 64)
+
+    def test_a_file_of_the_records(self) -> None:
+        """What is written is a file like the stored one, with other pieces."""
+        stored = (DATA / "records.sealed").read_bytes()
+        with mock.patch("os.urandom", return_value=stored[:24]):
+            data = sealed(Damaged.contents[:10])
+        self.assertEqual(data[: record(data, 0)[1]], stored[: record(stored, 0)[1]])
+
+    def test_only_the_end_completes_a_file(self) -> None:
+        file = io.BytesIO()
+        writer = SealedWriter(file, KEY)
+        writer.write(bytes(100_000))
+        writer.flush()
+        self.assertEqual(len(file.getvalue()), 28 + 37 + PIECE)
+        with self.assertRaisesRegex(SealedFileError, "^the file ends before"):
+            SealedReader(io.BytesIO(file.getvalue()), KEY).read()
+        writer.close()
+        writer.close()
+        self.assertEqual(SealedReader(io.BytesIO(file.getvalue()), KEY).read(), bytes(100_000))
+        for call in (lambda: writer.write(b"more"), writer.tell, writer.writable, writer.__enter__):
+            with self.assertRaises(ValueError):
+                call()
+
+    def assert_incomplete(self, file: io.BytesIO) -> None:
+        with self.assertRaisesRegex(SealedFileError, "^the file ends before"):
+            SealedReader(io.BytesIO(file.getvalue()), KEY).read()
+
+    def test_an_exception_in_a_block(self) -> None:
+        for contents in (b"", b"contents", bytes(2 * PIECE)):
+            file = io.BytesIO()
+            with self.assertRaises(KeyError), SealedWriter(file, KEY) as writer:
+                writer.write(contents)
+                raise KeyError
+            self.assertTrue(writer.closed)
+            self.assert_incomplete(file)
+            writer.close()
+            self.assert_incomplete(file)
+
+    def test_a_wrapper_in_a_block(self) -> None:
+        """Wrappers close what they wrap, also after an exception."""
+        file = io.BytesIO()
+        with SealedWriter(file, KEY) as writer, io.TextIOWrapper(cast(BinaryIO, writer)) as text:
+            text.write("contents")
+        self.assertEqual(SealedReader(io.BytesIO(file.getvalue()), KEY).read(), b"contents")
+        file = io.BytesIO()
+        with self.assertRaises(KeyError):
+            with SealedWriter(file, KEY) as writer, io.BufferedWriter(writer) as buffered:
+                buffered.write(b"contents")
+                raise KeyError
+        self.assert_incomplete(file)
+
+    def test_a_writer_that_is_dropped(self) -> None:
+        file = io.BytesIO()
+        with self.assertWarnsRegex(ResourceWarning, "not complete"):
+            SealedWriter(file, KEY).write(b"contents")
+        self.assert_incomplete(file)
+
+    def test_files_that_write_little(self) -> None:
+        with mock.patch("os.urandom", return_value=PREFIX):
+            file = Slow(most=1000)
+            with SealedWriter(cast(BinaryIO, file), KEY) as writer:
+                writer.write(bytes(100_000))
+            self.assertEqual(file.file.getvalue(), sealed(bytes(100_000)))
+
+    def test_files_that_fail(self) -> None:
+        """Each call of the file fails in turn, and no file is complete then."""
+        for answer in (OSError("full"), KeyboardInterrupt(), None, 0, -1, 1 << 20):
+            failed = 0
+            while self.fails_at(failed + 1, answer):
+                failed += 1
+            self.assertEqual(failed, 13)
+
+    def fails_at(self, number: int, answer: Any) -> bool:
+        """Whether writing fails if a call of the file does so."""
+        file = Slow(most=10_000, fails={number: answer})
+        try:
+            with SealedWriter(cast(BinaryIO, file), KEY) as writer:
+                writer.write(bytes(100_000))
+        except (OSError, KeyboardInterrupt):
+            if number > 1:
+                self.assert_incomplete(file.file)
+            return True
+        self.assertEqual(SealedReader(io.BytesIO(file.file.getvalue()), KEY).read(), bytes(100_000))
+        return False
+
+    def test_an_error_that_is_ignored(self) -> None:
+        file = Slow(most=1 << 20, fails={2: OSError("full")})
+        with self.assertRaisesRegex(OSError, "cannot be completed"):
+            with SealedWriter(cast(BinaryIO, file), KEY) as writer:
+                with self.assertRaises(OSError):
+                    writer.write(bytes(PIECE))
+                with self.assertRaisesRegex(OSError, "cannot be completed"):
+                    writer.write(b"more")
+        self.assert_incomplete(file.file)
+
+    def test_what_a_file_keeps_is_not_changed_later(self) -> None:
+        parts: list[bytes] = []
+
+        class Keeps:
+            def write(self, data: bytes) -> int:
+                parts.append(data)
+                return len(data)
+
+            def flush(self) -> None:
+                pass
+
+        with SealedWriter(cast(BinaryIO, Keeps()), KEY) as writer:
+            writer.write(bytes(3 * PIECE))
+        self.assertEqual(SealedReader(io.BytesIO(b"".join(parts)), KEY).read(), bytes(3 * PIECE))
+
+    def test_threads(self) -> None:
+        file = io.BytesIO()
+        with SealedWriter(file, KEY) as writer:
+            threads = [threading.Thread(target=writer.write, args=(bytes([i]) * 50_000,)) for i in range(20)]
+            for thread in threads:
+                thread.start()
+            for thread in threads:
+                thread.join()
+        contents = cast(bytes, SealedReader(io.BytesIO(file.getvalue()), KEY).read())
+        parts = {contents[start : start + 50_000] for start in range(0, len(contents), 50_000)}
+        self.assertEqual(parts, {bytes([i]) * 50_000 for i in range(20)})
+
+
+class Reading(unittest.TestCase):
+    def test_with_the_standard_library(self) -> None:
+        contents = "".join(f"line {number}\n" for number in range(30_000)).encode()
+        data = sealed(contents)
+        with io.BufferedReader(SealedReader(io.BytesIO(data), KEY)) as lines:
+            self.assertEqual(lines.readlines(), contents.splitlines(keepends=True))
+        copied = io.BytesIO()
+        shutil.copyfileobj(SealedReader(slow(data, 1000), KEY), copied)
+        self.assertEqual(copied.getvalue(), contents)
+        with io.TextIOWrapper(io.BufferedReader(SealedReader(io.BytesIO(data), KEY))) as text:
+            self.assertEqual(text.read(), contents.decode())
+
+    def test_tar(self) -> None:
+        """With pieces of 10 bytes too, at whose bounds no read is short."""
+        file = io.BytesIO()
+        with SealedWriter(file, KEY) as writer, tarfile.open(fileobj=writer, mode="w") as archive:
+            for name in ("one", "two", "three"):
+                entry = tarfile.TarInfo(name)
+                entry.size = 100_000
+                archive.addfile(entry, io.BytesIO(name[:1].encode() * entry.size))
+        for mode in ("r|", "r:", "r"):
+            with tarfile.open(fileobj=SealedReader(io.BytesIO(file.getvalue()), KEY), mode=mode) as archive:
+                for entry in archive:
+                    member = archive.extractfile(entry)
+                    assert member is not None
+                    self.assertEqual(member.read(), entry.name[:1].encode() * 100_000)
+        file.getbuffer()[100_000] ^= 1
+        with self.assertRaises(SealedFileError), SealedReader(io.BytesIO(file.getvalue()), KEY) as reader:
+            with tarfile.open(fileobj=reader, mode="r:") as archive:
+                archive.getmembers()
+                for entry in archive:
+                    member = archive.extractfile(entry)
+                    assert member is not None
+                    member.read()
+
+    def test_each_position(self) -> None:
+        data = (DATA / "records.sealed").read_bytes()
+        contents = Damaged.contents
+        for before in (b"", b"before"):
+            file = io.BytesIO(before + data)
+            file.seek(len(before))
+            reader = SealedReader(file, KEY)
+            self.assertTrue(reader.seekable())
+            for first in range(25):
+                for second in range(25):
+                    for position in (first, second):
+                        self.assertEqual(reader.seek(position), position)
+                        self.assertEqual(reader.tell(), position)
+                    self.assertEqual(reader.read(4), contents[second : second + 4])
+                    self.assertEqual(reader.tell(), second + len(contents[second : second + 4]))
+            self.assertEqual(reader.seek(-3, os.SEEK_END), 19)
+            self.assertEqual(reader.seek(1, os.SEEK_CUR), 20)
+            self.assertEqual(reader.readall(), b"kl")
+            self.assertEqual(reader.seek(0, os.SEEK_END), 22)
+            self.assertEqual(reader.read(1), b"")
+
+    def test_wrong_positions(self) -> None:
+        reader = SealedReader(open_records(), KEY)
+        reader.seek(12)
+        for offset, whence in ((-1, 0), (-13, 1), (-23, 2), (0, 3)):
+            with self.assertRaises(ValueError):
+                reader.seek(offset, whence)
+        reader.seek(12)
+        self.assertEqual(reader.read(2), b"cd")
+        with self.assertRaises(io.UnsupportedOperation):
+            SealedReader(slow((DATA / "records.sealed").read_bytes()), KEY).seek(0)
+
+    def test_an_end_that_is_not_verified(self) -> None:
+        """The end is that of a verified record, which nothing follows."""
+        data = (DATA / "records.sealed").read_bytes()
+        for wrong, cause in ((data[:-37], "truncated"), (data[:-1] + b"?", "damaged"), (data + b"?", "trailing")):
+            with SealedReader(io.BytesIO(wrong), KEY) as reader, self.assertRaises(SealedFileError) as raised:
+                reader.seek(0, os.SEEK_END)
+                reader.read(1)
+            self.assertEqual(raised.exception.cause, cause)
+
+    def test_a_skipped_record_may_be_damaged(self) -> None:
+        data = bytearray((DATA / "records.sealed").read_bytes())
+        data[40] ^= 1
+        reader = SealedReader(io.BytesIO(data), KEY)
+        reader.seek(10)
+        self.assertEqual(reader.read(), Damaged.contents[10:])
+        with self.assertRaises(SealedFileError):
+            reader.seek(9)
+
+    def test_files_that_fail(self) -> None:
+        """After an error of the file beneath, reading goes on where it was. After another exception it does not."""
+        contents = os.urandom(100_000)
+        data = sealed(contents)
+        for number in (3, 4, 5, 6, 20):
+            reader = SealedReader(slow(data, 5000, {number: OSError("broken")}), KEY)
+            found, errors = b"", 0
+            while True:
+                try:
+                    part = cast(bytes, reader.read(999))
+                except OSError:
+                    errors += 1
+                    continue
+                found += part
+                if not part:
+                    break
+            self.assertEqual(found, contents)
+            self.assertLessEqual(errors, 1)
+            reader = SealedReader(slow(data, 5000, {number: KeyboardInterrupt()}), KEY)
+            with self.assertRaises(KeyboardInterrupt):
+                reader.readall()
+            for _ in range(2):
+                with self.assertRaisesRegex(OSError, "interrupted"):
+                    reader.read(1)
+
+    def test_files_that_do_not_block(self) -> None:
+        contents = os.urandom(100_000)
+        reader = SealedReader(slow(sealed(contents), 5000, {number: None for number in range(3, 300, 2)}), KEY)
+        found, nothing = b"", 0
+        while (part := cast(Optional[bytes], reader.read(999))) != b"":
+            found, nothing = found + (part or b""), nothing + (part is None)
+        self.assertEqual(found, contents)
+        self.assertGreater(nothing, 10)
+
+    def test_threads(self) -> None:
+        contents = b"".join(number.to_bytes(8, "big") for number in range(50_000))
+        reader = SealedReader(io.BytesIO(sealed(contents)), KEY)
+        found: list[bytes] = []
+
+        def read() -> None:
+            while part := reader.read(8):
+                found.append(part)
+
+        threads = [threading.Thread(target=read) for _ in range(4)]
+        for thread in threads:
+            thread.start()
+        for thread in threads:
+            thread.join()
+        self.assertEqual(b"".join(sorted(found)), contents)
+
+    def test_after_the_end(self) -> None:
+        file = open_records()
+        with SealedReader(file, KEY) as reader:
+            pass
+        calls = (lambda: reader.read(1), lambda: reader.seek(0), reader.tell, reader.readable, reader.seekable)
+        for call in calls:
+            with self.assertRaises(ValueError):
+                call()
+        reader.close()
+        self.assertFalse(file.closed)
+
+    def test_wrong_arguments(self) -> None:
+        for key in (b"", bytes(31), bytes(33)):
+            with self.assertRaisesRegex(ValueError, "^the key must have 32 bytes, not"):
+                SealedReader(open_records(), key)
+            with warnings.catch_warnings(), self.assertRaisesRegex(ValueError, "^the key must have 32 bytes, not"):
+                SealedWriter(io.BytesIO(), key)
+        with self.assertRaises(TypeError):
+            SealedReader(cast(BinaryIO, io.StringIO("text" * 100)), KEY)
+
+
+def open_records() -> BinaryIO:
+    """The stored file."""
+    return io.BytesIO((DATA / "records.sealed").read_bytes())
+
+
+class Keys(unittest.TestCase):
+    digits = b"00112233445566778899aabbccddeeFF" * 2
+
+    def test_each_form(self) -> None:
+        accepted = [b"", b"\n", b"\r\n", b" ", b"\t\v", b"\f\n", b"\xc2\x85", b"\xc2\xa0"]
+        rejected = [b"\n\n\n", b"\x1c", b"\x1f\n", b"\0", b"0", b"\xa0", b"\xc2", b"\xe2\x80\x80", b"\n0", b"g"]
+        with tempfile.TemporaryDirectory() as folder:
+            path = pathlib.Path(folder) / "key"
+            for end in accepted + rejected:
+                path.write_bytes(self.digits + end)
+                if end in accepted:
+                    self.assertEqual(read_key(path), bytes.fromhex(self.digits.decode()))
+                else:
+                    self.assert_rejected(path)
+            for wrong in (b"", b"\n", self.digits[:-1], self.digits[:-1] + b"\n", b" " + self.digits,
+                          self.digits[:-1] + b"g", b"\xef\xbb\xbf" + self.digits, self.digits[:-2] + "é".encode()):
+                path.write_bytes(wrong)
+                self.assert_rejected(path)
+            with self.assertRaises(FileNotFoundError):
+                read_key(str(path) + "-missing")
+
+    def assert_rejected(self, path: pathlib.Path) -> None:
+        with self.assertRaisesRegex(ValueError, "is not a key file$") as raised:
+            read_key(path)
+        self.assertNotIn("00112233", str(raised.exception))
+
+
+class Tool(unittest.TestCase):
+    """The files of the tool that HUNKRAVY_TOOL is the path of, and these."""
+
+    tool = os.environ.get("HUNKRAVY_TOOL", "")
+
+    def setUp(self) -> None:
+        if not self.tool:
+            self.skipTest("HUNKRAVY_TOOL is not set to the tool hunkravy")
+        self.assertTrue(os.access(self.tool, os.X_OK), f"HUNKRAVY_TOOL={self.tool} is not a program")
+        folder = tempfile.TemporaryDirectory()
+        self.addCleanup(folder.cleanup)
+        self.folder = pathlib.Path(folder.name)
+
+    def run_tool(self, *arguments: object) -> "subprocess.CompletedProcess[bytes]":
+        return subprocess.run([self.tool, *map(str, arguments)], cwd=self.folder, capture_output=True)
+
+    def test_exchange(self) -> None:
+        self.assertEqual(self.run_tool("keygen", "key").returncode, 0)
+        key = read_key(self.folder / "key")
+        for length in (0, 1, PIECE - 1, PIECE, PIECE + 1, 200_000):
+            contents = os.urandom(length)
+            names = [self.folder / f"{name}{length}" for name in ("contents", "tool", "package", "opened")]
+            names[0].write_bytes(contents)
+            self.assertEqual(self.run_tool("seal", "-k", "key", names[0], names[1]).returncode, 0)
+            data = names[1].read_bytes()
+            self.assertEqual(SealedReader(io.BytesIO(data), key).read(), contents)
+            with mock.patch("os.urandom", return_value=data[:24]):
+                self.assertEqual(sealed(contents, key), data)
+            names[2].write_bytes(sealed(contents, key))
+            self.assertEqual(self.run_tool("open", "-k", "key", names[2], names[3]).returncode, 0)
+            self.assertEqual(names[3].read_bytes(), contents)
+
+    def test_damaged_files(self) -> None:
+        (self.folder / "zeros").write_text("00" * 32 + "\n")
+        for name, data, key, cause, verified in damaged_files():
+            with self.subTest(name):
+                (self.folder / "sealed").write_bytes(data)
+                key_file = DATA / "key" if key == KEY else self.folder / "zeros"
+                opened = self.run_tool("open", "-k", key_file, "sealed", "-")
+                self.assertEqual((opened.returncode, len(opened.stdout)), (0 if cause == "none" else 1, verified))
+
+    def test_key_files(self) -> None:
+        ends = [b"", b"\n", b"\r\n", b"\t\v", b"\f", b"\xc2\x85", b"\xc2\xa0", b"\x1c", b"\0", b"0", b"\n\n\n", b"\xa0"]
+        for end in ends:
+            with self.subTest(end):
+                path = self.folder / "key"
+                path.write_bytes(Keys.digits + end)
+                try:
+                    (self.folder / "sealed").write_bytes(sealed(b"contents", read_key(path)))
+                    expected = 0
+                except ValueError:
+                    expected = 3
+                self.assertEqual(self.run_tool("check", "-k", "key", "sealed").returncode, expected)
+
+
+if __name__ == "__main__":
+    unittest.main()
