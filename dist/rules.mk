@@ -5,7 +5,7 @@
 HAS_ARM = $(shell command -v aarch64-linux-gnu-gcc)
 
 dist: $(OUT)/both/libhunkravy.a $(OUT)/both/$(SONAME) $(LEVELS:%=$(OUT)/%/hunkravy) $(WHEEL) \
-		$(if $(HAS_ARM),$(OUT)/aarch64/libhunkravy.a $(OUT)/aarch64/$(SONAME))
+		$(if $(HAS_ARM),$(OUT)/aarch64/libhunkravy.a $(OUT)/aarch64/$(SONAME) $(WHEEL_aarch64))
 	tools/pack.sh $(VERSION) $(OUT)
 
 # Packs the same builds once more, in a copy of the repository in another folder, which has to give the same bytes; compares

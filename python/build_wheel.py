@@ -2,8 +2,9 @@
 
 `pip install .` calls `build_wheel`, as pyproject.toml says. `make` calls
 
-    build_wheel.py FOLDER LIBRARY MACHINE     with the C compiler CC
+    build_wheel.py FOLDER LIBRARY MACHINE
 
+The C compiler is that of the variable CC, with the flags of CFLAGS after its own.
 The headers and the library are those of the release, or of the repository, that this file is in.
 """
 
@@ -65,7 +66,8 @@ def native_module(archive: pathlib.Path) -> bytes:
     headers = [f"-I{include()}", f"-I{sysconfig.get_path('include')}"]
     with tempfile.TemporaryDirectory() as folder:
         module = pathlib.Path(folder) / "module.so"
-        command = [os.environ.get("CC", "cc"), *FLAGS, *headers, str(HERE / "native" / "native.c"), str(archive)]
+        flags = [*FLAGS, *os.environ.get("CFLAGS", "").split()]
+        command = [os.environ.get("CC", "cc"), *flags, *headers, str(HERE / "native" / "native.c"), str(archive)]
         subprocess.run([*command, *LINK_FLAGS, "-o", str(module)], check=True)
         return module.read_bytes()
 

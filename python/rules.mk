@@ -1,13 +1,21 @@
-# The Python package over the shared library, and its tests.
+# The Python package: its wheels, with the native module, and its tests.
 .PHONY: check-python
 
-WHEEL = $(OUT)/hunkravy-$(VERSION)-py3-none-manylinux_2_17_x86_64.whl
+# A wheel for each processor, with the library of its folder.
+WHEEL_NAME = $(OUT)/hunkravy-$(VERSION)-cp311-abi3-manylinux_2_17
+WHEEL = $(WHEEL_NAME)_x86_64.whl
+WHEEL_aarch64 = $(WHEEL_NAME)_aarch64.whl
+PACKAGE = python/build_wheel.py python/pyproject.toml python/README.md python/native/native.c $(wildcard python/hunkravy/*) \
+	c/include/hunkravy.h c/include/hunkravy_records.h LICENSE
 
-$(WHEEL): tools/make_wheel.py python/README.md $(wildcard python/hunkravy/*) VERSION $(OUT)/both/$(SONAME)
-	python3 $< $(VERSION) $(OUT)/both/$(SONAME) $(OUT)
+$(WHEEL): $(OUT)/both/libhunkravy.a $(PACKAGE)
+	CC="$(CC)" python3 python/build_wheel.py $(OUT) $< x86_64
 
-# The tests of the package as the wheel has it: the stored lines, buffers, refusals and threads, the samples of its pages, its
-# examples, and its types, where mypy is installed.
-check-python: $(WHEEL)
+$(WHEEL_aarch64): $(OUT)/aarch64/libhunkravy.a $(PACKAGE)
+	CC=$(TOOLS_aarch64)gcc python3 python/build_wheel.py $(OUT) $< aarch64
+
+# The tests of the package as the wheel has it, with files of the tool: see tools/check_python.sh.
+check-python: export HUNKRAVY_TOOL = $(CURDIR)/$(OUT)/$(lastword $(TOOL_LEVELS))/hunkravy
+check-python: $(WHEEL) $(OUT)/$(lastword $(TOOL_LEVELS))/hunkravy
 	rm -rf $(OUT)/python && mkdir $(OUT)/python && python3 -m zipfile -e $(WHEEL) $(OUT)/python
-	tools/check_python.sh "$(CURDIR)/$(OUT)/python"
+	tools/check_python.sh "$(CURDIR)/$(OUT)/python" "$(CURDIR)/$(OUT)/both/libhunkravy.a"

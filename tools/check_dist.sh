@@ -41,7 +41,7 @@ done
 for package in "$dist"/*.deb; do
     dpkg-deb -x "$package" "$work/system"
 done
-python3 -m pip install --quiet --no-index --no-deps --disable-pip-version-check --root-user-action=ignore --target "$work/site" "$dist"/*.whl
+python3 -m pip install --quiet --no-index --no-deps --disable-pip-version-check --root-user-action=ignore --target "$work/site" "$dist"/*_x86_64.whl
 
 # One version, licence and holder. What is proved is of this revision, or of none.
 name=hunkravy-$version-x86_64-linux
@@ -61,12 +61,13 @@ for licence in "$work"/empty/*/LICENSE "$work"/system/usr/share/doc/*/copyright 
     [ "$(grep -ihoE 'copyright:? (\(c\) )?2026 .*' "$licence" | sed 's/.*2026 //')" = 'The Hunkravy authors' ] || fail "$licence has another holder"
 done
 
-# The library runs on glibc 2.17, and the tool on 2.34.
+# The library and the Python module run on glibc 2.17, and the tool on 2.34.
 newest() {
     objdump -T "$1" | grep -o 'GLIBC_[0-9.]*' | sed 's/GLIBC_//' | sort -V | tail -n 1
 }
-[ "$(printf '%s\n' 2.17 "$(newest "$work/empty/$name/lib/libhunkravy.so.0")" | sort -V | tail -n 1)" = 2.17 ] ||
-    fail 'the library needs a glibc newer than 2.17'
+for file in "$work/empty/$name/lib/libhunkravy.so.0" "$work/site/hunkravy/_native.abi3.so"; do
+    [ "$(printf '%s\n' 2.17 "$(newest "$file")" | sort -V | tail -n 1)" = 2.17 ] || fail "$file needs a glibc newer than 2.17"
+done
 [ "$(printf '%s\n' 2.34 "$(newest "$work/empty/$name/lib/hunkravy/x86-64-v2/hunkravy")" | sort -V | tail -n 1)" = 2.34 ] ||
     fail 'the tool needs a glibc newer than 2.34'
 

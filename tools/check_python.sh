@@ -1,17 +1,59 @@
 #!/bin/bash
-# check_python.sh FOLDER: the tests of the Python package that lies unpacked in a folder, which run the samples of its pages and
-# its example too, and its types. Some versions of unittest pass with no tests.
+# check_python.sh FOLDER LIBRARY: the tests of the Python package that lies unpacked in a folder, which run the samples of its
+# pages and its example too; the same tests of a native module over the library with gcc's sanitizers; what the module exports
+# and needs; and the types of the package and of its tests.
 set -euo pipefail
-cd "$(dirname "$0")/../python/tests"
-export PYTHONPATH=$1 PYTHONDONTWRITEBYTECODE=1
-log=$(mktemp)
-trap 'rm -f "$log"' EXIT
+folder=$1 library=$2
+cd "$(dirname "$0")/../python"
+work=$(mktemp -d)
+trap 'rm -rf "$work"' EXIT
+export PYTHONDONTWRITEBYTECODE=1
 
-python3 -W error -m unittest 2>&1 | tee "$log"
-grep -qE '^Ran [1-9][0-9]* tests' "$log"
+fail() {
+    echo "check_python.sh: $*" >&2
+    exit 1
+}
 
+# run_tests FOLDER: runs the tests with the package of a folder. Some versions of unittest pass with no tests, and the last test
+# counts them.
+run_tests() {
+    (cd tests && PYTHONPATH=$1 python3 -W error -m unittest -v) > "$work/log" 2>&1 || { cat "$work/log"; fail 'a test failed'; }
+    sed -n 's/.* \.\.\. skipped /left out: a Python test: /p' "$work/log" | sort -u
+    grep -E '^Ran [1-9][0-9]* tests' "$work/log"
+    grep -qE '^test_all_tests .* ok$' "$work/log" || fail 'the tests were not counted'
+}
+
+run_tests "$folder"
+
+# The module has its own library, exports nothing of it, and compares no secrets itself.
+module=$folder/hunkravy/_native.abi3.so
+[ "$(nm -D --defined-only "$module" | awk '{ print $3 }')" = PyInit__native ] || fail 'the native module exports another name'
+if nm -D --undefined-only "$module" | grep hunkravy; then fail 'the native module needs a library'; fi
+if grep -nE 'memcmp|strcmp' native/native.c; then fail 'the native module compares bytes'; fi
+
+# With the sanitizers. Python itself leaks.
+sanitizer=$(gcc -print-file-name=libasan.so)
+if [ -e "$sanitizer" ]; then
+    CC=gcc CFLAGS='-O1 -g -fsanitize=address,undefined -fno-sanitize-recover' \
+        python3 build_wheel.py "$work" "$library" "$(uname -m)" > "$work/wheel"
+    python3 -m zipfile -e "$(cat "$work/wheel")" "$work/sanitized"
+    HUNKRAVY_SANITIZED=1 LD_PRELOAD=$sanitizer ASAN_OPTIONS=detect_leaks=0:allocator_may_return_null=1 PYTHONMALLOC=malloc \
+        run_tests "$work/sanitized"
+else
+    echo 'left out: the native module with sanitizers, which gcc does not have'
+fi
+
+if command -v clang > /dev/null; then
+    clang --analyze --analyzer-output text -Xclang -analyzer-werror -std=c11 -I../c/include \
+        "-I$(python3 -c 'import sysconfig; print(sysconfig.get_path("include"))')" native/native.c
+else
+    echo 'left out: the native module by the analyzer of clang, which is not installed'
+fi
+
+# Of the package as sources: as an installed one, which PYTHONPATH would make of it, it is not checked.
 if command -v mypy > /dev/null; then
-    MYPYPATH=$1 mypy --strict --cache-dir=/dev/null ./*.py
+    (cd "$folder" && env -u PYTHONPATH mypy --strict --cache-dir=/dev/null -p hunkravy)
+    (cd tests && env -u PYTHONPATH MYPYPATH="$folder" mypy --strict --cache-dir=/dev/null ./*.py ../examples/*.py)
 else
     echo 'left out: the types of the Python package by mypy, which is not installed'
 fi

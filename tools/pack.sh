@@ -1,5 +1,5 @@
 #!/bin/bash
-# pack.sh VERSION OUT: writes to OUT/dist the archives, the Debian packages and the wheel of what was built in OUT, and their
+# pack.sh VERSION OUT: writes to OUT/dist the archives, the Debian packages and the wheels of what was built in OUT, and their
 # sums. Equal builds give equal bytes: files are sorted, and their times are that of the commit.
 set -euo pipefail
 version=$1 out=$2
@@ -43,15 +43,20 @@ archive() {
 }
 
 # The pages that are shipped.
-PAGES='README.md SECURITY.md CHANGELOG.md docs/FILES.md docs/PAGES.md docs/DIFFERENCES.md rust/README.md'
+PAGES='README.md SECURITY.md CHANGELOG.md docs/FILES.md docs/PAGES.md docs/DIFFERENCES.md rust/README.md python/README.md'
 
-# What the archives of both processors have.
+# common FOLDER MACHINE: what the archives of both processors have.
 common() {
     cp LICENSE "$1"
     proved > "$1/PROVED.md"
     mkdir -p "$1/rust/lib"
     cp -R rust/Cargo.toml rust/Cargo.lock rust/build.rs rust/src rust/examples "$1/rust"
     cp "$1/lib/libhunkravy.a" "$1/rust/lib"
+    mkdir "$1/python"
+    cp -R python/build_wheel.py python/pyproject.toml python/hunkravy python/native python/examples "$1/python"
+    rm -rf "$1"/python/*/__pycache__
+    cp "$out/hunkravy-$version"-*"_$2.whl" "$1/python"
+    cp "$out/hunkravy-$version"-*"_$2.whl" "$out/dist"
     # shellcheck disable=SC2086
     python3 tools/ship_pages.py "$1" $PAGES
 }
@@ -91,16 +96,13 @@ MAINTAINER="Hunkravy maintainers <maintainers@users.noreply.hunkravy.example>"
 name=hunkravy-$version-x86_64-linux
 install_to "$work/$name" install PREFIX=
 install_to "$work/$name" install-tool PREFIX= CPU=both
-common "$work/$name"
-mkdir "$work/$name/python"
-cp "$out"/hunkravy-"$version"-*.whl "$work/$name/python"
-cp "$out"/hunkravy-"$version"-*.whl "$out/dist"
+common "$work/$name" x86_64
 archive "$name"
 
 if [ -f "$out/aarch64/libhunkravy.a" ]; then
     name=hunkravy-$version-aarch64-linux
     install_to "$work/$name" install PREFIX= TARGET=aarch64-unknown-linux-gnu
-    common "$work/$name"
+    common "$work/$name" aarch64
     archive "$name"
 fi
 

@@ -23,13 +23,14 @@ if [ -d "$folder/rust" ] && command -v cargo > /dev/null; then
     env -u PKG_CONFIG_PATH CARGO_TARGET_DIR="$work/target" cargo run -q --offline --manifest-path "$folder/rust/Cargo.toml" --example seal
 fi
 
-# Python.
+# Python: the wheel, and the sources.
 if [ -d "$folder/python" ]; then
-    python3 -m zipfile -e "$folder"/python/*.whl packages
-    env -u LD_LIBRARY_PATH PYTHONPATH=packages python3 -c '
-from hunkravy import Aegis256
-cipher, nonce = Aegis256(Aegis256.generate_key()), Aegis256.generate_nonce()
-assert cipher.decrypt(nonce, cipher.encrypt(nonce, b"a message"), None) == b"a message"'
+    for source in "$folder"/python/*.whl "$folder/python"; do
+        rm -rf packages
+        python3 -m pip install --quiet --no-index --no-deps --disable-pip-version-check --root-user-action=ignore \
+            --target packages "$source"
+        env -u LD_LIBRARY_PATH PYTHONPATH=packages python3 "$folder/python/examples/session_token.py"
+    done
 fi
 
 # The tool.

@@ -7,7 +7,7 @@ import os
 import re
 import threading
 import warnings
-from typing import TYPE_CHECKING, BinaryIO, Optional, Union
+from typing import TYPE_CHECKING, Any, BinaryIO, Optional, Union
 
 from . import _native, _variants as variants
 
@@ -15,6 +15,17 @@ if TYPE_CHECKING:
     from types import TracebackType
 
     from _typeshed import ReadableBuffer, WriteableBuffer
+    from typing_extensions import Self
+
+    class RawFile(io.RawIOBase, BinaryIO):  # type: ignore[misc]
+        """A raw file that functions which take a file object accept."""
+
+        def __enter__(self) -> Self: ...
+        def read(self, size: int = -1, /) -> Union[bytes, Any]: ...
+        def readall(self) -> Union[bytes, Any]: ...
+
+else:
+    RawFile = io.RawIOBase
 
 PREFIX_BYTES = 24
 HEADER = b"AGR2"
@@ -66,7 +77,7 @@ def read_key(path: Union[str, os.PathLike[str]]) -> bytes:
     return bytes.fromhex(found[1].decode())
 
 
-class Sealed(variants.Secret, io.RawIOBase):
+class Sealed(variants.Secret, RawFile):  # type: ignore[misc]
     """What readers and writers share: the file beneath, and a lock, so that threads take turns."""
 
     def __init__(self, file: BinaryIO) -> None:
@@ -99,7 +110,8 @@ class SealedWriter(Sealed):
         self._record = bytearray(RECORD_BYTES + PIECE_BYTES)
         self._filled = 0
         self._length = 0
-        self._write_all(prefix + self._records.begin())
+        self._records.begin()
+        self._write_all(prefix + HEADER)
         self._may_finish = True
 
     def writable(self) -> bool:
@@ -136,7 +148,7 @@ class SealedWriter(Sealed):
             finally:
                 super().close()
 
-    def __enter__(self) -> SealedWriter:
+    def __enter__(self) -> Self:
         self._check_open()
         self._is_entered = True
         return self
@@ -384,7 +396,7 @@ class SealedReader(Sealed):
 
     def _begin_at(self, number: int, before: int) -> None:
         """Begins at a record, of which nothing is read."""
-        self._records.begin_open_at(number, before)
+        self._records.begin(number, before)
         self._record = bytearray()
         self._piece = memoryview(b"")
         self._start = before

@@ -28,7 +28,7 @@
 /* Slots of types have functions as `void *`, which POSIX converts to and ISO C does not. */
 #define SLOT(function) (__extension__(void *)(function))
 
-/* The context of sealed files. */
+/* The context of sealed files, without its last byte, which is zero. */
 static const uint8_t CONTEXT[] = "hunkravy v1";
 #define CONTEXT_BYTES (sizeof CONTEXT - 1)
 
@@ -48,14 +48,11 @@ static void *result_of(void *object, int code, void *result)
         return result;
     }
     Py_XDECREF(result);
-    if (code == HUNKRAVY_INVALID_TAG) {
-        PyObject *error = of_module(object, "InvalidTag");
-        if (error != NULL) {
-            PyErr_SetString(error, hunkravy_error_text(code));
-            Py_DECREF(error);
-        }
-    } else {
-        PyErr_SetString(code == HUNKRAVY_WRONG_STATE ? PyExc_RuntimeError : PyExc_ValueError, hunkravy_error_text(code));
+    PyObject *error = code == HUNKRAVY_INVALID_TAG ? of_module(object, "InvalidTag")
+        : Py_NewRef(code == HUNKRAVY_WRONG_STATE ? PyExc_RuntimeError : PyExc_ValueError);
+    if (error != NULL) {
+        PyErr_SetString(error, hunkravy_error_text(code));
+        Py_DECREF(error);
     }
     return NULL;
 }
@@ -77,7 +74,7 @@ static void copy(uint8_t *to, const void *from, size_t length)
     }
 }
 
-/* Releases the interpreter's lock if work on so many bytes is long enough. Returns what `end` needs. */
+/* Releases the interpreter's lock if work on so many bytes is long enough. Returns what `end_work` needs. */
 static PyThreadState *begin_work(size_t length)
 {
     return length < RELEASE_FROM ? NULL : PyEval_SaveThread();
@@ -524,37 +521,30 @@ static PyObject *cipher_keystream(PyObject *object, PyObject *given)
     return result;
 }
 
-/* Begins a message in chunks, or a MAC, in a new state. */
-static int begin_state(const Cipher *self, State *state, const Arguments *arguments)
-{
-    size_t length = (size_t)arguments->associated.len, key_bytes = self->key_bytes;
-    const uint8_t *nonce = arguments->nonce.buf;
-    state->tag_bytes = self->tag_bytes;
-    if (state->is_mac) {
-        return hunkravy_mac_init(self->variant, &state->state, nonce, key_bytes, self->key, key_bytes);
-    }
-    PyThreadState *released = begin_work(length);
-    int code = hunkravy_state_init(self->variant, &state->state, arguments->associated.buf, length, nonce, key_bytes,
-        self->key, key_bytes);
-    end_work(released);
-    return code;
-}
-
-/* The arguments are the nonce, and the associated data unless it is a MAC. */
+/* Begins a message in chunks. The arguments are the nonce, and the associated data, without which it is a MAC. */
 static PyObject *cipher_begin(PyObject *object, PyObject *given)
 {
-    Cipher *self = (Cipher *)object;
+    const Cipher *self = (Cipher *)object;
     Arguments arguments;
     State *state = NULL;
     PyObject *type = of_module(object, "State");
     memset(&arguments, 0, sizeof arguments);
-    if (type != NULL && PyArg_ParseTuple(given, "y*|y*", &arguments.nonce, &arguments.associated) &&
+    if (type != NULL && PyType_Check(type) && PyType_GetSlot((PyTypeObject *)type, Py_tp_dealloc) == SLOT(state_free) &&
+        PyArg_ParseTuple(given, "y*|y*", &arguments.nonce, &arguments.associated) &&
         has_length("the nonce", arguments.nonce.len, self->key_bytes)) {
         state = new_object((PyTypeObject *)type);
     }
     if (state != NULL) {
+        const uint8_t *nonce = arguments.nonce.buf, *associated = arguments.associated.buf, *key = self->key;
+        size_t length = (size_t)arguments.associated.len, key_bytes = self->key_bytes;
+        state->tag_bytes = self->tag_bytes;
         state->is_mac = PyTuple_Size(given) == 1;
-        state = result_of(object, begin_state(self, state, &arguments), state);
+        PyThreadState *released = begin_work(length);
+        int code = state->is_mac
+            ? hunkravy_mac_init(self->variant, &state->state, nonce, key_bytes, key, key_bytes)
+            : hunkravy_state_init(self->variant, &state->state, associated, length, nonce, key_bytes, key, key_bytes);
+        end_work(released);
+        state = result_of(object, code, state);
     }
     release(&arguments);
     Py_XDECREF(type);
@@ -604,30 +594,22 @@ static void records_free(PyObject *object)
     free_object(object, sizeof(Records));
 }
 
-/* Begins to seal, and returns the header. */
-static PyObject *records_begin(PyObject *object, PyObject *none)
+/*
+ * Begins to open at a record: the arguments are its number, and how many bytes the messages before it have. Without
+ * arguments it begins to seal.
+ */
+static PyObject *records_begin(PyObject *object, PyObject *given)
 {
     Records *self = (Records *)object;
     uint8_t header[HUNKRAVY_RECORD_HEADER_BYTES];
-    (void)none;
-    PyThreadState *released = lock(self, 0);
-    int code = hunkravy_record_begin(&self->stream, self->key, self->prefix, CONTEXT, CONTEXT_BYTES, header);
-    unlock(self, released);
-    return code == HUNKRAVY_OK ? PyBytes_FromStringAndSize((const char *)header, sizeof header)
-                               : result_of(object, code, NULL);
-}
-
-/* Begins to open at the record of a number, whose messages before it have so many bytes together. */
-static PyObject *records_begin_open_at(PyObject *object, PyObject *given)
-{
-    Records *self = (Records *)object;
     unsigned long long number, before;
-    if (!PyArg_ParseTuple(given, "KK", &number, &before)) {
+    if (!PyArg_ParseTuple(given, "|KK", &number, &before)) {
         return NULL;
     }
     PyThreadState *released = lock(self, 0);
-    int code = hunkravy_record_begin_open_at(&self->stream, self->key, self->prefix, CONTEXT, CONTEXT_BYTES, number,
-        before);
+    int code = PyTuple_Size(given) == 0
+        ? hunkravy_record_begin(&self->stream, self->key, self->prefix, CONTEXT, CONTEXT_BYTES, header)
+        : hunkravy_record_begin_open_at(&self->stream, self->key, self->prefix, CONTEXT, CONTEXT_BYTES, number, before);
     unlock(self, released);
     return result_of(object, code, Py_NewRef(Py_None));
 }
@@ -670,8 +652,7 @@ static PyObject *records_open(PyObject *object, PyObject *given)
 }
 
 static PyMethodDef records_methods[] = {
-    {"begin", records_begin, METH_NOARGS, NULL},
-    {"begin_open_at", records_begin_open_at, METH_VARARGS, NULL},
+    {"begin", records_begin, METH_VARARGS, NULL},
     {"seal", records_seal, METH_VARARGS, NULL},
     {"open", records_open, METH_VARARGS, NULL},
     {NULL, NULL, 0, NULL},
@@ -679,48 +660,38 @@ static PyMethodDef records_methods[] = {
 
 /* ---- The module */
 
-#define SPEC(NAME, TYPE, FLAGS)                                                                                        \
-    static PyType_Spec NAME##_spec = {"hunkravy._native." #TYPE, sizeof(TYPE), 0, Py_TPFLAGS_DEFAULT | (FLAGS),        \
-                                      NAME##_slots}
-
 static PyType_Slot cipher_slots[] = {
     {Py_tp_new, SLOT(cipher_new)}, {Py_tp_dealloc, SLOT(cipher_free)}, {Py_tp_methods, cipher_methods}, {0, NULL}};
-static PyType_Slot records_slots[] = {
-    {Py_tp_new, SLOT(records_new)}, {Py_tp_dealloc, SLOT(records_free)}, {Py_tp_methods, records_methods}, {0, NULL}};
 static PyType_Slot state_slots[] = {
     {Py_tp_dealloc, SLOT(state_free)}, {Py_tp_methods, state_methods}, {0, NULL}};
-SPEC(cipher, Cipher, 0);
-SPEC(records, Records, 0);
-SPEC(state, State, Py_TPFLAGS_DISALLOW_INSTANTIATION);
+static PyType_Slot records_slots[] = {
+    {Py_tp_new, SLOT(records_new)}, {Py_tp_dealloc, SLOT(records_free)}, {Py_tp_methods, records_methods}, {0, NULL}};
+
+/* Only `Cipher.begin` makes states. */
+static PyType_Spec specs[] = {
+    {"hunkravy._native.Cipher", sizeof(Cipher), 0, Py_TPFLAGS_DEFAULT, cipher_slots},
+    {"hunkravy._native.State", sizeof(State), 0, Py_TPFLAGS_DEFAULT | Py_TPFLAGS_DISALLOW_INSTANTIATION, state_slots},
+    {"hunkravy._native.Records", sizeof(Records), 0, Py_TPFLAGS_DEFAULT, records_slots},
+};
 
 static int execute(PyObject *module)
 {
-    PyType_Spec *specs[] = {&cipher_spec, &state_spec, &records_spec};
     PyObject *invalid_tag = PyErr_NewExceptionWithDoc("hunkravy.InvalidTag",
         "The tag is not that of the message, or the MAC is not that of the input.", NULL, NULL);
     int result = PyModule_AddObjectRef(module, "InvalidTag", invalid_tag);
     Py_XDECREF(invalid_tag);
-    if (result == 0) {
-        result = PyModule_AddIntConstant(module, "LEVEL", hunkravy_level());
-    }
+    result = result < 0 ? result : PyModule_AddIntConstant(module, "LEVEL", hunkravy_level());
     for (size_t i = 0; result == 0 && i < sizeof specs / sizeof specs[0]; i++) {
-        PyObject *type = PyType_FromModuleAndSpec(module, specs[i], NULL);
+        PyObject *type = PyType_FromModuleAndSpec(module, &specs[i], NULL);
         result = type == NULL ? -1 : PyModule_AddType(module, (PyTypeObject *)type);
         Py_XDECREF(type);
     }
     return result;
 }
 
-static PyModuleDef_Slot slots[] = {
-    {Py_mod_exec, SLOT(execute)},
-    {0, NULL},
-};
-
+static PyModuleDef_Slot slots[] = {{Py_mod_exec, SLOT(execute)}, {0, NULL}};
 static struct PyModuleDef definition = {
-    .m_base = PyModuleDef_HEAD_INIT,
-    .m_name = "hunkravy._native",
-    .m_slots = slots,
-};
+    .m_base = PyModuleDef_HEAD_INIT, .m_name = "hunkravy._native", .m_slots = slots};
 
 PyMODINIT_FUNC PyInit__native(void)
 {

@@ -135,7 +135,11 @@ class Errors(unittest.TestCase):
 
     def test_lengths_of_tags(self) -> None:
         for length in range(-1, 70):
-            for make in (lambda: Aegis256(KEY, length), lambda: Aegis256Mac(KEY, tag_length=length)):
+            makers: list[Callable[[], object]] = [
+                lambda: Aegis256(KEY, length),
+                lambda: Aegis256Mac(KEY, tag_length=length),
+            ]
+            for make in makers:
                 if length in (16, 32):
                     make()
                 else:

@@ -152,7 +152,7 @@ class Damaged(unittest.TestCase):
                 try:
                     with SealedReader(io.BytesIO(data), KEY) as reader:
                         reader.seek(position)
-                        found = cast(bytes, reader.read(3))
+                        found = reader.read(3)
                         self.assertTrue(self.contents[position:].startswith(found))
                 except SealedFileError:
                     errors += 1
@@ -238,7 +238,7 @@ class Writing(unittest.TestCase):
     def test_a_wrapper_in_a_block(self) -> None:
         """Wrappers close what they wrap, also after an exception."""
         file = io.BytesIO()
-        with SealedWriter(file, KEY) as writer, io.TextIOWrapper(cast(BinaryIO, writer)) as text:
+        with SealedWriter(file, KEY) as writer, io.TextIOWrapper(writer) as text:
             text.write("contents")
         self.assertEqual(SealedReader(io.BytesIO(file.getvalue()), KEY).read(), b"contents")
         file = io.BytesIO()
@@ -315,7 +315,7 @@ class Writing(unittest.TestCase):
                 thread.start()
             for thread in threads:
                 thread.join()
-        contents = cast(bytes, SealedReader(io.BytesIO(file.getvalue()), KEY).read())
+        contents = SealedReader(io.BytesIO(file.getvalue()), KEY).read()
         parts = {contents[start : start + 50_000] for start in range(0, len(contents), 50_000)}
         self.assertEqual(parts, {bytes([i]) * 50_000 for i in range(20)})
 
@@ -414,7 +414,7 @@ class Reading(unittest.TestCase):
             found, errors = b"", 0
             while True:
                 try:
-                    part = cast(bytes, reader.read(999))
+                    part = reader.read(999)
                 except OSError:
                     errors += 1
                     continue
@@ -434,7 +434,7 @@ class Reading(unittest.TestCase):
         contents = os.urandom(100_000)
         reader = SealedReader(slow(sealed(contents), 5000, {number: None for number in range(3, 300, 2)}), KEY)
         found, nothing = b"", 0
-        while (part := cast(Optional[bytes], reader.read(999))) != b"":
+        while (part := reader.read(999)) != b"":
             found, nothing = found + (part or b""), nothing + (part is None)
         self.assertEqual(found, contents)
         self.assertGreater(nothing, 10)

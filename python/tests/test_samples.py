@@ -1,14 +1,17 @@
 """The samples of the pages and of the modules, the example, and that all tests are found."""
 
+import contextlib
 import doctest
 import importlib
 import pathlib
+import re
 import runpy
 import subprocess
 import sys
 import tempfile
 import unittest
 
+import hunkravy
 from hunkravy import Aegis256
 
 HERE = pathlib.Path(__file__).parent
@@ -23,13 +26,24 @@ def samples(page: pathlib.Path) -> list[str]:
 
 class Samples(unittest.TestCase):
     def test_each_page(self) -> None:
-        for page, count in ((HERE.parent / "README.md", 2), (HERE.parents[1] / "README.md", 1)):
+        for page, count in ((HERE.parent / "README.md", 3), (HERE.parents[1] / "README.md", 1)):
             found = samples(page)
             self.assertGreaterEqual(len(found), count, page)
             names: dict[str, object] = {}
-            for sample in found:
-                self.assertIn("assert", sample)
-                exec(sample, names)
+            with tempfile.TemporaryDirectory() as folder, contextlib.chdir(folder):
+                for sample in found:
+                    self.assertIn("assert", sample)
+                    exec(sample, names)
+
+    def test_names(self) -> None:
+        """The page names each class and function."""
+        page = (HERE.parent / "README.md").read_text()
+        for name in hunkravy.__all__:
+            is_between = re.fullmatch("Aegis(128X[24]|256|256X2)Mac", name)
+            self.assertTrue(name == "__version__" or is_between or f"`{name}" in page, name)
+        for kind in (hunkravy.Cipher, hunkravy.Mac):
+            for name in vars(kind):
+                self.assertTrue(name.startswith("_") or name in ("tag_length", "digest_size") or f"`.{name}(" in page, name)
 
     def test_each_module(self) -> None:
         for name, count in (("", 5), ("._ciphers", 13), ("._macs", 5)):
@@ -84,7 +98,7 @@ class Example(unittest.TestCase):
 class Found(unittest.TestCase):
     def test_all_tests(self) -> None:
         found = unittest.defaultTestLoader.discover(str(HERE))
-        self.assertGreaterEqual(found.countTestCases(), 33)
+        self.assertEqual(found.countTestCases(), 81)
 
 
 if __name__ == "__main__":
