@@ -18,12 +18,12 @@ fail() {
 # counts them.
 run_tests() {
     (cd tests && PYTHONPATH=$1 python3 -W error -m unittest -v) > "$work/log" 2>&1 || { cat "$work/log"; fail 'a test failed'; }
-    sed -n 's/.* \.\.\. skipped /left out: a Python test: /p' "$work/log" | sort -u
     grep -E '^Ran [1-9][0-9]* tests' "$work/log"
     grep -qE '^test_all_tests .* ok$' "$work/log" || fail 'the tests were not counted'
 }
 
 run_tests "$folder"
+sed -n 's/.* \.\.\. skipped /left out: a Python test: /p' "$work/log" | sort -u
 
 # The module has its own library, exports nothing of it, and compares no secrets itself.
 module=$folder/hunkravy/_native.abi3.so

@@ -19,6 +19,9 @@ from vectors import CIPHERS
 KEY, NONCE = bytes(range(32)), bytes(32)
 CIPHER = Aegis256(KEY)
 
+# The address sanitizer keeps freed memory, and does not let it be read.
+not_sanitized = unittest.skipIf("HUNKRAVY_SANITIZED" in os.environ, "freed memory under the address sanitizer")
+
 
 class Lying(bytes):
     """Bytes that have another length, as far as they say."""
@@ -209,11 +212,13 @@ class Memory(unittest.TestCase):
         for state in (encryptor._state, decryptor._state):
             self.assertEqual(contents(state), bytes(len(contents(state))))
 
+    @not_sanitized
     def test_freed_objects(self) -> None:
         """A program of its own reads the memory of objects after they are freed."""
         environment = dict(os.environ, PYTHONPATH=os.pathsep.join(sys.path))
         subprocess.run([sys.executable, "-c", FREED], env=environment, timeout=60, check=True)
 
+    @not_sanitized
     def test_nothing_leaks(self) -> None:
         """Many objects and calls, those that fail too, take no more memory than some."""
         sealed = CIPHER.encrypt(NONCE, bytes(5000))
