@@ -100,11 +100,12 @@ class SealedWriter(Sealed):
     `close` takes effect at its end, so an `io.TextIOWrapper` inside it may close the writer.
     """
 
+    # False while a method writes, so it stays false if an exception ends one.
+    _may_finish = False
+
     def __init__(self, file: BinaryIO, key: ReadableBuffer) -> None:
         super().__init__(file)
         self._is_entered = False
-        # False while a method writes, so it stays false if an exception ends one.
-        self._may_finish = False
         prefix = os.urandom(PREFIX_BYTES)
         self._records = _native.Records(key, prefix)
         self._record = bytearray(RECORD_BYTES + PIECE_BYTES)
@@ -329,6 +330,7 @@ class SealedReader(Sealed):
             return self._position + offset
         if whence == os.SEEK_END:
             self._go_to(None)
+            self._check_end()
             return self._start + len(self._piece) + offset
         return offset
 

@@ -393,7 +393,6 @@ class Reading(unittest.TestCase):
         for wrong, cause in ((data[:-37], "truncated"), (data[:-1] + b"?", "damaged"), (data + b"?", "trailing")):
             with SealedReader(io.BytesIO(wrong), KEY) as reader, self.assertRaises(SealedFileError) as raised:
                 reader.seek(0, os.SEEK_END)
-                reader.read(1)
             self.assertEqual(raised.exception.cause, cause)
 
     def test_a_skipped_record_may_be_damaged(self) -> None:
