@@ -80,6 +80,7 @@ Metadata-Version: 2.1
 Name: {PROJECT["name"]}
 Version: {version()}
 Summary: {PROJECT["description"]}
+License: {PROJECT["license"]["text"]}
 Requires-Python: {PROJECT["requires-python"]}
 {classifiers}Description-Content-Type: text/markdown
 

@@ -87,7 +87,7 @@ static void end_work(PyThreadState *released)
     }
 }
 
-/* The first fields of each object that changes. */
+/* The first fields of each object. */
 typedef struct {
     PyObject_HEAD
     PyThread_type_lock lock;
@@ -410,16 +410,17 @@ static bool check(Cipher *self, const Arguments *arguments, bool is_decrypted, s
 }
 
 /*
- * Encrypts to `out`, and writes the tag after the ciphertext; or decrypts the bytes in front of their tag. The data are
- * copied first, with the interpreter's lock, so no thread of Python can change them meanwhile.
+ * Encrypts to `out`, and writes the tag after the ciphertext; or decrypts the bytes in front of their tag. The nonce and
+ * the data are copied first, with the interpreter's lock, so no thread of Python can change them meanwhile.
  */
-static int transform(const Cipher *self, const Arguments *arguments, const uint8_t *nonce, const uint8_t *associated,
-    uint8_t *out, bool is_decrypted)
+static int transform(const Cipher *self, const Arguments *arguments, const uint8_t *associated, uint8_t *out,
+    bool is_decrypted)
 {
     size_t associated_length = (size_t)arguments->associated.len, key_bytes = self->key_bytes;
     size_t length = (size_t)arguments->data.len - (is_decrypted ? self->tag_bytes : 0);
-    uint8_t tag[MOST_TAG_BYTES];
+    uint8_t nonce[MOST_KEY_BYTES], tag[MOST_TAG_BYTES];
     int code;
+    copy(nonce, arguments->nonce.buf, key_bytes);
     if (is_decrypted) {
         memcpy(tag, (const uint8_t *)arguments->data.buf + length, self->tag_bytes);
     }
@@ -444,24 +445,23 @@ static PyObject *to_new(Cipher *self, const Arguments *arguments, size_t length,
     if (result == NULL) {
         return NULL;
     }
-    int code = transform(self, arguments, arguments->nonce.buf, arguments->associated.buf, out, is_decrypted);
+    int code = transform(self, arguments, arguments->associated.buf, out, is_decrypted);
     return result_of(self, code, result);
 }
 
-/* Transforms to the output, and returns its length. The inputs may lie there: what is read later is copied. */
+/* Transforms to the output, and returns its length. The inputs may lie there, so the associated data are copied too. */
 static PyObject *to_output(Cipher *self, const Arguments *arguments, size_t length, bool is_decrypted)
 {
-    uint8_t nonce[MOST_KEY_BYTES], *associated;
     size_t associated_length = (size_t)arguments->associated.len;
     if (!has_length("the output buffer", arguments->output.len, length)) {
         return NULL;
     }
-    if ((associated = PyMem_Malloc(associated_length)) == NULL) {
+    uint8_t *associated = PyMem_Malloc(associated_length);
+    if (associated == NULL) {
         return PyErr_NoMemory();
     }
-    copy(nonce, arguments->nonce.buf, (size_t)arguments->nonce.len);
     copy(associated, arguments->associated.buf, associated_length);
-    int code = transform(self, arguments, nonce, associated, arguments->output.buf, is_decrypted);
+    int code = transform(self, arguments, associated, arguments->output.buf, is_decrypted);
     PyMem_Free(associated);
     return result_of(self, code, PyLong_FromSize_t(length));
 }
