@@ -37,7 +37,7 @@ PIECE_BYTES = 1 << 16
 MOST_PIECE_BYTES = 1 << 24
 
 # 64 digits, and at most two bytes of white space.
-KEY_FILE = re.compile(rb"([0-9A-Fa-f]{64})(?:[\t-\r ]{0,2}|\xc2[\x85\xa0])")
+KEY_FILE = re.compile(rb"([0-9A-Fa-f]{64})(?:\s{0,2}|\xc2[\x85\xa0])")
 
 CAUSES = {
     "header": "the file does not begin with the header of a sealed file",

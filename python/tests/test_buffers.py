@@ -187,11 +187,13 @@ class Errors(unittest.TestCase):
     def test_lengths_past_limits(self) -> None:
         """Buffers that claim lengths which no memory has. Nothing of them is read."""
         huge: Any = (ctypes.c_char * (1 << 62)).from_address(1 << 12)
+        output: Any = (ctypes.c_char * ((1 << 62) + 32)).from_address(1 << 12)
         calls: list[Callable[[], object]] = [
             lambda: CIPHER.encrypt(NONCE, huge),
             lambda: CIPHER.encrypt(NONCE, b"", huge),
             lambda: CIPHER.decrypt(NONCE, huge),
-            lambda: CIPHER.encrypt_into(NONCE, huge, None, huge),
+            lambda: CIPHER.encrypt_into(NONCE, huge, None, output),
+            lambda: CIPHER.decrypt_into(NONCE, output, None, huge),
             lambda: CIPHER.encrypt_into(NONCE, b"", huge, bytearray(32)),
             lambda: CIPHER.encryptor(NONCE, huge),
             lambda: CIPHER.encryptor(NONCE).update(huge),

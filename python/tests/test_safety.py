@@ -6,6 +6,7 @@ import io
 import os
 import pathlib
 import pickle
+import re
 import resource
 import subprocess
 import sys
@@ -13,7 +14,7 @@ import unittest
 from typing import Any, Callable
 
 import hunkravy
-from hunkravy import Aegis256, Aegis256Mac, Decryptor, Encryptor, SealedWriter
+from hunkravy import Aegis256, Aegis256Mac, Decryptor, Encryptor, SealedWriter, _native
 from vectors import CIPHERS
 
 KEY, NONCE = bytes(range(32)), bytes(32)
@@ -128,6 +129,44 @@ class Begun(unittest.TestCase):
             with self.assertRaises(RuntimeError):
                 call()
 
+    def test_record_streams(self) -> None:
+        """Records out of turn or of no length that records have."""
+        records = _native.Records(KEY, bytes(24))
+        calls: list[tuple[type[Exception], Callable[[], object]]] = [
+            (RuntimeError, lambda: records.seal(bytearray(40), False)),
+            (RuntimeError, lambda: records.open(bytearray(40))),
+            (ValueError, lambda: records.begin(1 << 60, 1 << 60)),
+            (RuntimeError, lambda: records.open(bytearray(40))),
+            (TypeError, lambda: records.begin("", 1)),  # type: ignore[call-overload]
+            (TypeError, lambda: records.open(bytes(40))),
+            (TypeError, lambda: records.seal(bytes(40), True)),
+        ]
+        for error, call in calls:
+            with self.assertRaises(error):
+                call()
+        records.begin()
+        for length in (0, 36):
+            with self.assertRaises(ValueError):
+                records.seal(bytearray(length), True)
+        record = bytearray(37)
+        records.seal(record, True)
+        with self.assertRaises(RuntimeError):
+            records.seal(bytearray(40), False)
+        records.begin(0, 0)
+        with self.assertRaises(ValueError):
+            records.open(bytearray(36))
+        self.assertIs(records.open(record), True)
+
+    def test_secrets_are_compared_by_the_library(self) -> None:
+        """In a time that does not depend on them."""
+        folder = pathlib.Path(__file__).parents[1]
+        for path, comparison in (
+            (folder / "hunkravy" / "_ciphers.py", "^(?! *>>>).*([!=]=|compare)"),
+            (folder / "hunkravy" / "_macs.py", "^(?! *>>>).*([!=]=|compare)"),
+            (folder / "native" / "native.c", "memcmp|strn?cmp"),
+        ):
+            self.assertIsNone(re.search(comparison, path.read_text(), re.M), path)
+
 
 class Copies(unittest.TestCase):
     def test_a_mac_has_a_state_of_its_own(self) -> None:
@@ -209,6 +248,8 @@ class Memory(unittest.TestCase):
         encryptor.finalize()
         with self.assertRaises(hunkravy.InvalidTag):
             decryptor.finalize(bytes(32))
+        with self.assertRaises(RuntimeError):
+            decryptor.update(b"another chunk")
         for state in (encryptor._state, decryptor._state):
             self.assertEqual(contents(state), bytes(len(contents(state))))
 
@@ -256,7 +297,7 @@ def contents(native: Any) -> bytes:
 # Objects of 512 bytes or more are freed by the C library, whose own fields take the first 32.
 FREED = """
 import ctypes
-from hunkravy import Aegis256, Aegis256Mac, SealedReader, SealedWriter
+from hunkravy import Aegis256, Aegis256Mac, InvalidTag, SealedReader, SealedWriter
 import io
 
 key, nonce = bytes(range(32)), bytes(range(32, 64))
@@ -281,6 +322,22 @@ for make in made:
     for start in range(0, len(secret) - 8):
         part = secret[start : start + 8]
         assert part.count(0) > 3 or part not in after, (make, start)
+
+# The chunks of a decryptor, the last of which a field of the state points to, behind the library's 672 bytes.
+message = bytes(range(256)) * 2
+ciphertext = cipher.encrypt(nonce, message)
+for end in (lambda: decryptor.finalize(ciphertext[-32:]), lambda: decryptor.finalize(bytes(32)), lambda: None):
+    decryptor = cipher.decryptor(nonce)
+    decryptor.update(ciphertext[:-32])
+    place = ctypes.c_void_p.from_address(id(decryptor._state) + 712).value
+    kept.append(bytes(1000))
+    assert ctypes.string_at(place + 16, len(message)) == message
+    try:
+        end()
+    except InvalidTag:
+        pass
+    del decryptor
+    assert message[64:128] not in ctypes.string_at(place, len(message)), end
 """
 
 
