@@ -168,12 +168,20 @@ class Damaged(unittest.TestCase):
     def test_a_record_that_announces_much(self) -> None:
         """No more memory is taken than for what comes."""
         data = (DATA / "records.sealed").read_bytes()[:28] + b"\0" + (1 << 24).to_bytes(4, "little") + bytes(200_000)
+        sizes = []
+
+        class Counts(io.BytesIO):
+            def read(self, size: Optional[int] = -1) -> bytes:
+                sizes.append(size)
+                return super().read(size)
+
         tracemalloc.start()
-        reader = SealedReader(io.BytesIO(data), KEY)
+        reader = SealedReader(Counts(data), KEY)
         with self.assertRaises(SealedFileError):
             reader.read(1)
         self.assertLess(tracemalloc.get_traced_memory()[1], 1 << 20)
         tracemalloc.stop()
+        self.assertLessEqual(max(cast("list[int]", sizes)), 200_000)
 
 
 class Writing(unittest.TestCase):
@@ -219,6 +227,13 @@ class Writing(unittest.TestCase):
         for call in (lambda: writer.write(b"more"), writer.tell, writer.writable, writer.__enter__):
             with self.assertRaises(ValueError):
                 call()
+
+    def test_buffers_of_the_file_are_written(self) -> None:
+        with tempfile.TemporaryDirectory() as folder, open(os.path.join(folder, "sealed"), "wb") as file:
+            with SealedWriter(file, KEY) as writer:
+                writer.write(b"contents")
+            with open(file.name, "rb") as written:
+                self.assertEqual(SealedReader(written, KEY).read(), b"contents")
 
     def assert_incomplete(self, file: io.BytesIO) -> None:
         with self.assertRaisesRegex(SealedFileError, "^the file ends before"):
@@ -401,8 +416,9 @@ class Reading(unittest.TestCase):
         reader = SealedReader(io.BytesIO(data), KEY)
         reader.seek(10)
         self.assertEqual(reader.read(), Damaged.contents[10:])
-        with self.assertRaises(SealedFileError):
-            reader.seek(9)
+        for call in (lambda: reader.seek(9), lambda: reader.read(1), lambda: reader.seek(10), reader.readall):
+            with self.assertRaisesRegex(SealedFileError, "^record 0 is damaged"):
+                call()
 
     def test_files_that_fail(self) -> None:
         """After an error of the file beneath, reading goes on where it was. After another exception it does not."""
