@@ -181,7 +181,7 @@ class Damaged(unittest.TestCase):
             reader.read(1)
         self.assertLess(tracemalloc.get_traced_memory()[1], 1 << 20)
         tracemalloc.stop()
-        self.assertLessEqual(max(cast("list[int]", sizes)), 200_000)
+        self.assertLess(max(cast("list[int]", sizes)), 1 << 18)
 
 
 class Writing(unittest.TestCase):
