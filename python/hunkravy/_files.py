@@ -295,7 +295,7 @@ class SealedReader(Sealed):
             self._begin_call()
             try:
                 position = self._sought(offset, whence)
-                self._go_to(max(position, 0))
+                self._go_to(position)
             except SealedFileError as error:
                 self._error = error
                 raise
