@@ -294,15 +294,16 @@ class SealedReader(Sealed):
                 raise ValueError(f"whence must be 0, 1 or 2, not {whence}")
             self._begin_call()
             try:
-                position = self._sought(offset, whence)
+                sought = self._sought(offset, whence)
+                position = self._position if sought < 0 else sought
                 self._go_to(position)
             except SealedFileError as error:
                 self._error = error
                 raise
-            self._position = max(position, 0)
+            self._position = position
             self._error = None
-            if position < 0:
-                raise ValueError(f"the position {position} is before the contents")
+            if sought < 0:
+                raise ValueError(f"the position {sought} is before the contents")
             return position
 
     def close(self) -> None:
@@ -393,7 +394,7 @@ class SealedReader(Sealed):
         except _native.InvalidTag:
             raise self._fault("damaged") from None
         self._start = start
-        self._piece = memoryview(record)[HEAD_BYTES:-TAG_BYTES].toreadonly()
+        self._piece = memoryview(record)[HEAD_BYTES:-TAG_BYTES]
         self._number += 1
 
     def _begin_at(self, number: int, before: int) -> None:

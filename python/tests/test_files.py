@@ -2,20 +2,23 @@
 
 import csv
 import io
+import itertools
 import os
 import pathlib
+import random
 import shutil
 import subprocess
 import tarfile
 import tempfile
 import threading
+import time
 import tracemalloc
 import unittest
 import warnings
 from typing import Any, BinaryIO, Iterator, Optional, cast
 from unittest import mock
 
-from hunkravy import SealedFileError, SealedReader, SealedWriter, read_key
+from hunkravy import SealedFileError, SealedReader, SealedWriter, _native, read_key
 
 DATA = pathlib.Path(__file__).parents[2] / "crates" / "hunkravy" / "data"
 KEY = read_key(DATA / "key")
@@ -31,12 +34,43 @@ def sealed(contents: bytes, key: bytes = KEY) -> bytes:
     return file.getvalue()
 
 
+def with_pieces(pieces: list[bytes]) -> bytes:
+    """The sealed file with these pieces, the last of which is that of the last record."""
+    records = _native.Records(KEY, PREFIX)
+    records.begin()
+    file = PREFIX + b"AGR2"
+    for number, piece in enumerate(pieces):
+        part = bytearray(5) + piece + bytearray(32)
+        records.seal(part, number == len(pieces) - 1)
+        file += part
+    return file
+
+
 def record(file: bytes, number: int) -> tuple[int, int]:
     """Where a record of a file begins and ends."""
     start = 28
     for _ in range(number):
         start += 37 + int.from_bytes(file[start + 1 : start + 5], "little")
     return start, start + 37 + int.from_bytes(file[start + 1 : start + 5], "little")
+
+
+class Unreliable(io.BytesIO):
+    """A file whose reads and seeks may fail, or read less."""
+
+    def __init__(self, data: bytes, numbers: random.Random, fails: float) -> None:
+        super().__init__(data)
+        self.numbers, self.fails = numbers, fails
+
+    def read(self, size: Optional[int] = -1) -> bytes:
+        if self.numbers.random() < self.fails:
+            raise OSError("broken")
+        assert size is not None
+        return super().read(self.numbers.randint(1, size))
+
+    def seek(self, offset: int, whence: int = 0) -> int:
+        if self.numbers.random() < self.fails:
+            raise OSError("broken")
+        return super().seek(offset, whence)
 
 
 class Slow(io.RawIOBase):
@@ -323,7 +357,7 @@ class Writing(unittest.TestCase):
         self.assertEqual(SealedReader(io.BytesIO(b"".join(parts)), KEY).read(), bytes(3 * PIECE))
 
     def test_threads(self) -> None:
-        file = io.BytesIO()
+        file = Turns()
         with SealedWriter(file, KEY) as writer:
             threads = [threading.Thread(target=writer.write, args=(bytes([i]) * 50_000,)) for i in range(20)]
             for thread in threads:
@@ -333,6 +367,27 @@ class Writing(unittest.TestCase):
         contents = SealedReader(io.BytesIO(file.getvalue()), KEY).read()
         parts = {contents[start : start + 50_000] for start in range(0, len(contents), 50_000)}
         self.assertEqual(parts, {bytes([i]) * 50_000 for i in range(20)})
+        self.assertEqual(file.most, 1)
+
+
+class Turns(io.BytesIO):
+    """A file whose calls take time, and which counts how many are in one."""
+
+    most = inside = 0
+
+    def _take_time(self) -> None:
+        self.inside += 1
+        self.most = max(self.most, self.inside)
+        time.sleep(0.01)
+        self.inside -= 1
+
+    def read(self, size: Optional[int] = -1) -> bytes:
+        self._take_time()
+        return super().read(size)
+
+    def write(self, data: Any) -> int:
+        self._take_time()
+        return super().write(data)
 
 
 class Reading(unittest.TestCase):
@@ -348,15 +403,18 @@ class Reading(unittest.TestCase):
             self.assertEqual(text.read(), contents.decode())
 
     def test_tar(self) -> None:
-        """With pieces of 10 bytes too, at whose bounds no read is short."""
+        """With pieces of 700 bytes too, at whose bounds no read is short."""
         file = io.BytesIO()
         with SealedWriter(file, KEY) as writer, tarfile.open(fileobj=writer, mode="w") as archive:
             for name in ("one", "two", "three"):
                 entry = tarfile.TarInfo(name)
                 entry.size = 100_000
                 archive.addfile(entry, io.BytesIO(name[:1].encode() * entry.size))
-        for mode in ("r|", "r:", "r"):
-            with tarfile.open(fileobj=SealedReader(io.BytesIO(file.getvalue()), KEY), mode=mode) as archive:
+        contents = SealedReader(io.BytesIO(file.getvalue()), KEY).read()
+        others = with_pieces([contents[start : start + 700] for start in range(0, len(contents), 700)])
+        for mode, data in itertools.product(("r|", "r:", "r"), (file.getvalue(), others)):
+            with tarfile.open(fileobj=SealedReader(io.BytesIO(data), KEY), mode=mode) as archive:
+                self.assertEqual(len(archive.getnames()), 3) if mode != "r|" else None
                 for entry in archive:
                     member = archive.extractfile(entry)
                     assert member is not None
@@ -391,13 +449,58 @@ class Reading(unittest.TestCase):
             self.assertEqual(reader.seek(0, os.SEEK_END), 22)
             self.assertEqual(reader.read(1), b"")
 
+    def test_as_a_plain_file(self) -> None:
+        """Random calls give what they give for a plain file, or errors that stay."""
+        numbers = random.Random(5)
+        ended = 0
+        for turn in range(300):
+            lengths = [numbers.choice((0, 0, 1, 2, 7, 100, 5000)) for _ in range(numbers.randint(0, 12))]
+            pieces = [numbers.randbytes(length) for length in [*lengths, numbers.choice((0, 0, 3))]]
+            plain = io.BytesIO(b"".join(pieces))
+            file = Unreliable(with_pieces(pieces), numbers, 0)
+            reader = SealedReader(file, KEY)
+            file.fails = 0.05 if turn % 2 else 0
+            try:
+                for _ in range(50):
+                    self.one_call(reader, plain, numbers)
+            except OSError:
+                ended += 1
+                for call in (lambda: reader.seek(0), lambda: reader.read(1)):
+                    with self.assertRaises(OSError):
+                        call()
+        self.assertGreater(ended, 10)
+
+    def one_call(self, reader: SealedReader, plain: io.BytesIO, numbers: random.Random) -> None:
+        """A call, which raises an error only if the reader no longer works."""
+        if numbers.random() < 0.5:
+            whence = numbers.randrange(3)
+            offset = numbers.randint(-6000, 6000) if whence else numbers.randint(0, 20_000)
+            base = (0, plain.tell(), len(plain.getvalue()))[whence]
+            if base + offset < 0:
+                with self.assertRaises(ValueError):
+                    reader.seek(offset, whence)
+            else:
+                self.assertEqual(reader.seek(offset, whence), plain.seek(base + offset))
+        size = numbers.choice((0, 1, 2, 100, 7000, 30_000))
+        while True:
+            try:
+                found = reader.read(size)
+                break
+            except OSError as error:
+                if "broken" not in str(error):
+                    raise
+        self.assertTrue(plain.getvalue()[plain.tell() :].startswith(found))
+        self.assertTrue(found or not size or plain.tell() >= len(plain.getvalue()))
+        plain.seek(len(found), 1)
+        self.assertEqual(reader.tell(), plain.tell())
+
     def test_wrong_positions(self) -> None:
         reader = SealedReader(open_records(), KEY)
         reader.seek(12)
         for offset, whence in ((-1, 0), (-13, 1), (-23, 2), (0, 3)):
             with self.assertRaises(ValueError):
                 reader.seek(offset, whence)
-        reader.seek(12)
+            self.assertEqual(reader.tell(), 12)
         self.assertEqual(reader.read(2), b"cd")
         with self.assertRaises(io.UnsupportedOperation):
             SealedReader(slow((DATA / "records.sealed").read_bytes()), KEY).seek(0)
@@ -456,7 +559,8 @@ class Reading(unittest.TestCase):
 
     def test_threads(self) -> None:
         contents = b"".join(number.to_bytes(8, "big") for number in range(50_000))
-        reader = SealedReader(io.BytesIO(sealed(contents)), KEY)
+        file = Turns(sealed(contents))
+        reader = SealedReader(file, KEY)
         found: list[bytes] = []
 
         def read() -> None:
@@ -469,6 +573,7 @@ class Reading(unittest.TestCase):
         for thread in threads:
             thread.join()
         self.assertEqual(b"".join(sorted(found)), contents)
+        self.assertEqual(file.most, 1)
 
     def test_after_the_end(self) -> None:
         file = open_records()
