@@ -1,5 +1,6 @@
 """Sealed files: what is written, what is read, and each damaged file of the tests that the tool and the packages share."""
 
+import concurrent.futures
 import csv
 import io
 import itertools
@@ -10,7 +11,6 @@ import shutil
 import subprocess
 import tarfile
 import tempfile
-import threading
 import time
 import tracemalloc
 import unittest
@@ -359,11 +359,9 @@ class Writing(unittest.TestCase):
     def test_threads(self) -> None:
         file = Turns()
         with SealedWriter(file, KEY) as writer:
-            threads = [threading.Thread(target=writer.write, args=(bytes([i]) * 50_000,)) for i in range(20)]
-            for thread in threads:
-                thread.start()
-            for thread in threads:
-                thread.join()
+            with concurrent.futures.ThreadPoolExecutor(20) as threads:
+                written = list(threads.map(writer.write, [bytes([i]) * 50_000 for i in range(20)]))
+        self.assertEqual(written, [50_000] * 20)
         contents = SealedReader(io.BytesIO(file.getvalue()), KEY).read()
         parts = {contents[start : start + 50_000] for start in range(0, len(contents), 50_000)}
         self.assertEqual(parts, {bytes([i]) * 50_000 for i in range(20)})
@@ -519,7 +517,7 @@ class Reading(unittest.TestCase):
         reader = SealedReader(io.BytesIO(data), KEY)
         reader.seek(10)
         self.assertEqual(reader.read(), Damaged.contents[10:])
-        for call in (lambda: reader.seek(9), lambda: reader.read(1), lambda: reader.seek(10), reader.readall):
+        for call in (lambda: reader.seek(9), lambda: reader.seek(10), lambda: reader.read(1), reader.readall):
             with self.assertRaisesRegex(SealedFileError, "^record 0 is damaged"):
                 call()
 
@@ -567,11 +565,9 @@ class Reading(unittest.TestCase):
             while part := reader.read(8):
                 found.append(part)
 
-        threads = [threading.Thread(target=read) for _ in range(4)]
-        for thread in threads:
-            thread.start()
-        for thread in threads:
-            thread.join()
+        with concurrent.futures.ThreadPoolExecutor(4) as threads:
+            for work in [threads.submit(read) for _ in range(4)]:
+                work.result()
         self.assertEqual(b"".join(sorted(found)), contents)
         self.assertEqual(file.most, 1)
 
