@@ -12,6 +12,7 @@ import subprocess
 import sys
 import unittest
 from typing import Any, Callable
+from unittest import mock
 
 import hunkravy
 from hunkravy import Aegis256, Aegis256Mac, Decryptor, Encryptor, SealedWriter, _native
@@ -114,6 +115,12 @@ class Begun(unittest.TestCase):
         for make in makers:
             with self.assertRaises((TypeError, AttributeError)):
                 make()
+
+    def test_a_changed_module(self) -> None:
+        """No other type than its own is used as a state."""
+        for wrong in (int, object, 5):
+            with mock.patch.object(_native, "State", wrong), self.assertRaises(SystemError):
+                CIPHER.encryptor(NONCE)
 
     def test_roles(self) -> None:
         """The library refuses a state in another role."""

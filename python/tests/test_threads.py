@@ -4,6 +4,7 @@ import concurrent.futures
 import contextlib
 import mmap
 import random
+import signal
 import threading
 import time
 import unittest
@@ -133,6 +134,21 @@ class Threads(unittest.TestCase):
             returned = time.monotonic()
         self.assertLess(returned, working.ended)
         self.assertEqual(digest, Aegis256Mac(bytes(32), b"the input").digest())
+
+    def test_a_signal_handler(self) -> None:
+        """It runs between two calls, and may use the object that it interrupts."""
+        mac, digests = Aegis256Mac(bytes(32)), []
+        previous = signal.signal(signal.SIGALRM, lambda *_: digests.append(mac.digest()))
+        signal.setitimer(signal.ITIMER_REAL, 0.001, 0.001)
+        count = 0
+        try:
+            while len(digests) < 20:
+                mac.update(bytes(1 << 20))
+                count += 1
+        finally:
+            signal.setitimer(signal.ITIMER_REAL, 0)
+            signal.signal(signal.SIGALRM, previous)
+        mac.verify(Aegis256Mac(bytes(32), bytes(count << 20)).digest())
 
     def test_a_buffer_that_is_in_use(self) -> None:
         """It cannot be resized until the method returns."""
