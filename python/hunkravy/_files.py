@@ -282,6 +282,13 @@ class SealedReader(Sealed):
                 self._error = None
             return filled
 
+    def readall(self) -> Union[bytes, Any]:
+        """Returns the rest of the contents. That of the base class reads less at a time."""
+        parts = []
+        while part := self.read(PIECE_BYTES):
+            parts.append(part)
+        return part if part is None and not parts else b"".join(parts)
+
     def seek(self, offset: int, whence: int = os.SEEK_SET) -> int:
         """Goes to a position in the contents, and returns it. No bytes are read after the end of the contents.
 

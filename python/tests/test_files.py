@@ -555,6 +555,9 @@ class Reading(unittest.TestCase):
             found, nothing = found + (part or b""), nothing + (part is None)
         self.assertEqual(found, contents)
         self.assertGreater(nothing, 10)
+        reader = SealedReader(slow(sealed(b"contents"), 5000, {2: None}), KEY)
+        self.assertIsNone(reader.readall())
+        self.assertEqual(reader.readall(), b"contents")
 
     def test_threads(self) -> None:
         contents = b"".join(number.to_bytes(8, "big") for number in range(50_000))
