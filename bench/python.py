@@ -72,8 +72,8 @@ def read(contents: bytes) -> Call:
 def c_library(path: str) -> Callable[[bytes], Call]:
     """The function of the C library that `encrypt_into` calls."""
     encrypt = ctypes.CDLL(path).hunkravy_encrypt
-    pointer, size = ctypes.c_void_p, ctypes.c_size_t
-    encrypt.argtypes = [ctypes.c_uint32, pointer, pointer, size, pointer, size, pointer, size, pointer, size, pointer, size]
+    data = [ctypes.c_void_p, ctypes.c_size_t]
+    encrypt.argtypes = [ctypes.c_uint32, ctypes.c_void_p, *data * 5]
 
     def call_of(message: bytes) -> Call:
         output = ctypes.create_string_buffer(len(message))

@@ -1,4 +1,4 @@
-"""Sealed files: what is written, what is read, and each damaged file of the tests that the tool and the packages share."""
+"""Sealed files: writing and reading, damaged files that the tests of the tool and of Rust read too, and the tool."""
 
 import concurrent.futures
 import csv
