@@ -131,7 +131,8 @@ class Begun(unittest.TestCase):
         calls: list[Callable[[], object]] = [
             lambda: encryptor.decrypt(b"a chunk"), lambda: encryptor.mac_update(b""), lambda: mac.encrypt(b"a chunk"),
             lambda: decryptor.encrypt(b"a chunk"), decryptor.final, lambda: mac.decrypt_final(bytes(32)),
-            lambda: encryptor.decrypt_final(bytes(32)), lambda: encryptor.mac_verify(bytes(32)), lambda: mac.decrypt(b""),
+            lambda: encryptor.decrypt_final(bytes(32)), lambda: encryptor.mac_verify(bytes(32)),
+            lambda: mac.decrypt(b""),
         ]
         for call in calls:
             with self.assertRaises(RuntimeError):
