@@ -1,7 +1,7 @@
 //! Measures the proved library beside the same ciphers over look-up tables and over the processor's AES instructions.
 //!
-//! `driver` checks that all agree, measures, and writes RESULTS.md and results.svg into the folder that it is given.
-//! `driver` with no folder only checks, every one-shot call of the C interface too: by the stored lines, and by what it refuses.
+//! `driver` checks that all agree, measures, and writes RESULTS.md and results.svg into the folder that it is given. With no
+//! folder it only checks.
 
 mod agreement;
 mod baseline;
@@ -10,13 +10,10 @@ mod contender;
 #[path = "../rust/src/exports.rs"]
 mod hunkravy;
 mod library;
-mod lines;
 mod measure;
 mod picture;
-mod refusals;
 mod report;
 mod sample;
-mod vectors;
 
 use std::path::Path;
 
@@ -24,9 +21,6 @@ fn main() -> std::io::Result<()> {
     let variants = contender::variants();
     agreement::check(&variants, &measure::SIZES);
     println!("The contenders agree at each size.");
-    println!("{} stored lines have their answers.", lines::check());
-    refusals::check();
-    println!("What is to be refused is refused.");
     let Some(folder) = std::env::args_os().nth(1) else {
         return Ok(());
     };

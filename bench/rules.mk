@@ -8,7 +8,7 @@ RUSTC = rustc -O --edition 2024
 BENCH_CPU = $(or $(CPU),x86-64-v2)
 BENCH_FOLDER = $(if $(filter x86-64-v2,$(BENCH_CPU)),bench,bench/$(BENCH_CPU))
 
-$(OUT)/%/driver: $(wildcard bench/*.rs $(STORED_LINES)/*) rust/src/exports.rs $(OUT)/%/libhunkravy.a
+$(OUT)/%/driver: $(wildcard bench/*.rs) rust/src/exports.rs $(OUT)/%/libhunkravy.a
 	CPU=$* $(RUSTC) $(if $(filter x86-64%,$*),-C target-cpu=$*) -C no-vectorize-slp bench/driver.rs \
 		-L native=$(OUT)/$* -l static=hunkravy -o $@
 
@@ -35,8 +35,9 @@ bench-pages: $(OUT)/$(BENCH_CPU)/bench/pages
 	$< /dev/shm/hunkravy-bench > $(OUT)/pages.md
 	cat bench/pages.md.in $(OUT)/pages.md > $(BENCH_FOLDER)/PAGES.md
 
-# Whether the programs of bench/package run, on little.
-check-bench: $(OUT)/both/bench/calls $(OUT)/both/bench/pages
+# Whether the programs that measure run, on little, and what they measure agrees.
+check-bench: $(OUT)/both/driver $(OUT)/both/bench/calls $(OUT)/both/bench/pages
+	$<
 	$(OUT)/both/bench/calls check
 	$(OUT)/both/bench/pages $(OUT)/bench-file check
 

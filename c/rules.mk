@@ -1,6 +1,6 @@
 # The C library, for Linux, and its tests. What follows builds with stock gcc, and proves nothing but that library.
-.PHONY: c-library c-libraries install check-c check-header check-c++ check-shared check-level check-sodium check-time \
-	check-install gcc-aarch64-linux-gnu qemu-user
+.PHONY: c-library c-libraries install check-c check-header check-c++ check-sanitized check-rebuilt check-shared \
+	check-level check-sodium check-time check-install gcc-aarch64-linux-gnu qemu-user
 
 CC = gcc
 C_FLAGS = -Wall -Wextra -Wpedantic -Werror -Ic/include
@@ -20,8 +20,8 @@ LIBRARY = $(OUT)/$(FOLDER)/libhunkravy.a
 
 STORED_LINES = crates/test_agreement/data
 OWN_HEADERS = hunkravy.h hunkravy_records.h hunkravy_pages.h
-HEADERS = $(OWN_HEADERS) aegis_compat.h sodium_compat.h
-C_EXAMPLES = seal chunks records pages libaegis libaegis_chunks libsodium
+HEADERS = $(OWN_HEADERS) sodium_compat.h
+C_EXAMPLES = $(basename $(notdir $(sort $(wildcard c/examples/*.c))))
 
 # The names that the library exports: the calls that its headers declare.
 EXPORTS = sed -nE 's/^(HUNKRAVY_MUST_USE )?(int|size_t|uint64_t|void|const char) \*?(hunkravy_[a-z0-9_]*)\(.*/\3/p' $(OWN_HEADERS:%=c/include/%)
@@ -73,27 +73,35 @@ gcc-aarch64-linux-gnu qemu-user:
 # ---- Its tests
 
 # Its headers, and over the library with both levels and over each level alone the examples, every call of each header
-# against the stored lines, and forgeries; the C programs with the calls of c/library under gcc's sanitizers too, and what
-# hunkravy_wipe leaves in memory. A level that this processor lacks is left out. For ARM the programs run under an emulator,
-# where the sanitizers do not look for leaks.
-check-c: $(if $(filter aarch64,$(FOLDER)),check-c-aarch64,check-header $(addprefix check-c-,both $(RUNNABLE)) check-shared \
-	check-level check-c++ check-sodium)
-check-c-aarch64: export ASAN_OPTIONS = detect_leaks=0
+# against the stored lines, and forgeries, and what hunkravy_wipe leaves in memory; then what does not depend on the level.
+# A level that this processor lacks is left out. For ARM the programs run under an emulator, where the sanitizers do not look
+# for leaks.
+check-c: $(if $(filter aarch64,$(FOLDER)),check-c-aarch64 check-sanitized,check-header $(addprefix check-c-,both $(RUNNABLE)) \
+	check-sanitized check-shared check-level check-c++ check-sodium check-rebuilt)
+check-sanitized: export ASAN_OPTIONS = detect_leaks=$(if $(filter aarch64,$(FOLDER)),0,1)
 
 # Each header compiles alone, by each standard of C and C++, and without a warning; and so does what is compiled here.
 CLANG = $(shell command -v clang)
 
 check-header:
-	for header in $(HEADERS); do for form in HUNKRAVY_COMPAT HUNKRAVY_COMPAT_WRITTEN; do for compiler in $(CC) $(CLANG); do \
+	for header in $(HEADERS); do for compiler in $(CC) $(CLANG); do \
 		for standard in c99 c11 c17 c2x c++11 c++14 c++17 c++20; do \
 			case $$standard in c++*) language=c++ ;; *) language=c ;; esac; \
 			echo "#include \"$$header\"" | \
-				$$compiler -std=$$standard $(C_FLAGS) -D$$form -fsyntax-only -x $$language - || exit 1; \
+				$$compiler -std=$$standard $(C_FLAGS) -fsyntax-only -x $$language - || exit 1; \
 		done; \
-	done; done; done
+	done; done
 	other_library() { \
 		printf '#include <stdint.h>\n#undef __GLIBC__\n#include "hunkravy.h"\n' | $(CC) -Ic/include $${1-} -fsyntax-only -x c -; \
 	} && other_library -DHUNKRAVY_GLIBC && ! other_library 2> /dev/null
+	uses() { \
+		printf '#include "sodium_compat.h"\nvoid f(void);\nvoid f(void) { %s; }\n' "$$1" | \
+			$(CC) $(C_FLAGS) -c -o /dev/null -x c -; \
+	} && for call in 'hunkravy_stream(0, 0, 0, 0, 0, 0, 0)' 'sodium_init()' \
+		'crypto_aead_aegis256_decrypt(0, 0, 0, 0, 0, 0, 0, 0, 0)'; do \
+		uses "int code = $$call; (void)code" && ! uses "$$call" 2> /dev/null || exit 1; \
+	done
+	! grep -n '^int hunkravy_' $(OWN_HEADERS:%=c/include/%) | grep -v 'hunkravy_level(void)'
 	if [ -n "$(CLANG)" ]; then \
 		for header in $(HEADERS); do \
 			echo "#include \"$$header\"" | $(CLANG) -std=c99 $(C_FLAGS) -Weverything -fsyntax-only -x c - || exit 1; \
@@ -103,28 +111,42 @@ check-header:
 		echo 'left out: the headers by clang, which is not installed'; \
 	fi
 
-# The C programs: the examples, and the tests, which read the stored lines.
-C_TESTS = check_calls check_states check_records check_pages check_libaegis check_libsodium
-C_PROGRAMS = $(C_EXAMPLES) $(C_TESTS) check_libaegis_written
-
-# The library whose calls the sanitizers see: its sources, over the proved exports of one level.
-SANITIZED = c/library/*.c c/levels/choose.c -DHUNKRAVY_LEVEL=0
+# The C programs: the examples, and the tests but those with a rule of their own. They read the stored lines.
+C_TESTS = $(filter-out check_time check_wipe,$(basename $(notdir $(sort $(wildcard c/tests/*.c)))))
+C_PROGRAMS = $(C_EXAMPLES) $(C_TESTS)
 
 # The archive has the calls of the headers, and no other name that is not local.
 check-c-%: $(OUT)/%/libhunkravy.a
 	diff <($(EXPORTS) | sort) <($(TOOLS_$*)nm --defined-only -g $< | awk 'NF == 3 { print $$3 }' | sort)
 	for program in $(C_PROGRAMS); do \
-		source=$${program%_written}; flags=; \
-		if [ $$source != $$program ]; then flags=-DHUNKRAVY_COMPAT_WRITTEN; fi; \
-		for library in '-O2 $<' '$(SANITIZERS) $(SANITIZED) $(OUT)/$(if $(filter both,$*),$(firstword $(LEVELS)),$*)/aegis_c.a'; do \
-			$(TOOLS_$*)$(CC) -std=c99 $(C_FLAGS) $$flags c/[et]*/$$source.c $$library -o $(OUT)/$*/$$program && \
+		$(TOOLS_$*)$(CC) -std=c99 $(C_FLAGS) -O2 c/[et]*/$$program.c $< -o $(OUT)/$*/$$program && \
+		LEVEL=$(if $(filter both,$*),,$(or $(patsubst x86-64-v%,%,$(filter x86%,$*)),0)) \
 			$(RUN_$*) $(OUT)/$*/$$program $(STORED_LINES) || exit 1; \
-		done; \
 	done
 	for compiler in $(TOOLS_$*)$(CC) $(if $(TOOLS_$*),,$(CLANG)); do \
 		$$compiler -std=c99 $(C_FLAGS) -O3 c/tests/check_wipe.c $< -o $(OUT)/$*/check_wipe && \
 		$(RUN_$*) $(OUT)/$*/check_wipe || exit 1; \
 	done
+
+# The programs with the calls of c/library under gcc's sanitizers, over the proved exports of one level. These get no null
+# pointer.
+SANITIZED_LEVEL = $(if $(filter aarch64,$(FOLDER)),aarch64,$(firstword $(LEVELS)))
+SANITIZED = $(OUT)/sanitized
+
+check-sanitized: $(OUT)/$(SANITIZED_LEVEL)/aegis_c.a
+	mkdir -p $(SANITIZED)
+	cp c/library/* c/levels/choose.c $(SANITIZED)
+	sed -i 's/^int hunkravy_proved_/__attribute__((nonnull)) &/' $(SANITIZED)/proved.h
+	for program in $(C_PROGRAMS); do \
+		$(TOOLS_$(FOLDER))$(CC) -std=c99 $(C_FLAGS) $(SANITIZERS) -DHUNKRAVY_LEVEL=0 c/[et]*/$$program.c $(SANITIZED)/*.c $< \
+			-o $(SANITIZED)/$$program && \
+		$(RUN_$(FOLDER)) $(SANITIZED)/$$program $(STORED_LINES) || exit 1; \
+	done
+
+# The library is built again once a file of each folder that it is made of is newer.
+check-rebuilt: $(OUT)/both/libhunkravy.a
+	$(MAKE) -q $<
+	for file in c/levels/join.sh c/library/calls.c c/include/hunkravy.h; do ! $(MAKE) -q -W $$file $< || exit 1; done
 
 # The tests over the shared library, which exports the calls of the headers and nothing else.
 check-shared: $(OUT)/both/$(SONAME)
@@ -141,7 +163,7 @@ check-level: $(OUT)/both/libhunkravy.a $(OUT)/both/$(SONAME)
 # The tests as C++, which call what the headers have.
 check-c++: $(OUT)/both/libhunkravy.a
 	for program in $(C_TESTS); do \
-		$(CC) -std=c++11 $(C_FLAGS) $(SANITIZERS) -x c++ c/tests/$$program.c -x none $< -o $(OUT)/both/$$program++ && \
+		$(CC) -std=c++11 $(C_FLAGS) -O2 -x c++ c/tests/$$program.c -x none $< -o $(OUT)/both/$$program++ && \
 		$(OUT)/both/$$program++ $(STORED_LINES) || exit 1; \
 	done
 

@@ -50,7 +50,7 @@ pub fn check_target(target: &str) -> Result<(), String> {
 
 /// The folder with the library: that of the variable if it is set, that of the package if it came with one, and otherwise the
 /// one that pkg-config knows.
-fn folder() -> Result<PathBuf, String> {
+pub fn folder() -> Result<PathBuf, String> {
     if let Some(folder) = env::var_os(FOLDER_VARIABLE) {
         return with_archive(folder.into(), FOLDER_VARIABLE);
     }

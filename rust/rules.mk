@@ -1,15 +1,30 @@
 # The Cargo package over the C library, and its tests.
-.PHONY: check-rust check-raf
+.PHONY: check-rust check-rust-both check-rust-tool check-raf
 
-# Its tests and those of the calls below it, over the library with both levels and over each level alone: the stored lines,
-# forgeries, the samples of the crate's pages, its examples, and three other implementations. The programs that measure it run.
-check-rust: $(addprefix check-rust-,both $(RUNNABLE)) check-bench
+# Cargo on the package over a library, without debug information, which takes a quarter of the time of compiling.
+CARGO = cd rust && CARGO_PROFILE_DEV_DEBUG=0 HUNKRAVY_LIB_DIR="$(CURDIR)/$(OUT)/$(1)" \
+	CARGO_TARGET_DIR="$(CURDIR)/$(OUT)/$(1)/cargo" cargo
 
-check-rust-%: $(OUT)/%/libhunkravy.a $(OUT)/%/driver
-	cd rust && export HUNKRAVY_LIB_DIR="$(CURDIR)/$(<D)" CARGO_TARGET_DIR="$(CURDIR)/$(<D)/cargo" && \
-		cargo test --offline && \
-		for example in seal records store; do cargo run --offline --example $$example || exit 1; done
-	$(OUT)/$*/driver
+# All tests over the library with both levels: the stored lines, forgeries, damaged and torn files, the samples of the crate's
+# pages, its examples; and the lints, one of which finds what its oldest compiler lacks. Over each level alone the tests that
+# call all of the library. The programs that measure run.
+check-rust: check-rust-both $(RUNNABLE:%=check-rust-%) check-bench
+
+check-rust-both: $(OUT)/both/libhunkravy.a
+	$(call CARGO,both) test --offline
+	if cargo clippy --version > /dev/null 2>&1; then \
+		$(call CARGO,both) clippy --offline --all-targets -- -D warnings; \
+	else \
+		echo 'left out: the lints of the Cargo package, since cargo clippy is not installed'; \
+	fi
+
+check-rust-%: $(OUT)/%/libhunkravy.a
+	$(call CARGO,$*) test --offline --lib --test lines --test destinations --test sealed
+	$(call CARGO,$*) test --offline --test raf formats
+
+# Whether the package and the file tool open each other's files.
+check-rust-tool: $(OUT)/$(lastword $(TOOL_LEVELS))/hunkravy $(LIBRARY)
+	export HUNKRAVY_TOOL="$(CURDIR)/$<"; $(call CARGO,$(FOLDER)) test --offline --test tool
 
 # ---- Files in place
 

@@ -5,7 +5,7 @@
 # the stored lines.
 set -euo pipefail
 archive=$(realpath "$1") shared=$(realpath "$2") lines=$(realpath "$3")
-tests=$PWD/c/tests include=$PWD/c/include
+tests=$PWD/c/tests include=$PWD/c/include levels=$PWD/c/levels start=$PWD/dist/start.sh
 work=$(mktemp -d)
 trap 'rm -rf "$work"' EXIT
 cd "$work"
@@ -56,6 +56,10 @@ is_bound() {
     nm level | awk -v name="^hunkravy_v$1_" 'sub(name, "", $3) { print $1, $3 }' | diff <(sort found) <(sort) ||
         fail "calls are not bound to the build for x86-64-v$1"
 }
+# The features that the higher level needs, as the library and the script that starts the tool look for them.
+[ "$(grep -o 'supports("[a-z0-9]*")' "$levels/choose.c" | sed 's/.*("//; s/")//' | paste -sd ' ')" = 'avx2 bmi2 fma' ] ||
+    fail 'choose.c looks for other features'
+grep -q '^for feature in avx2 bmi2 fma; do$' "$start" || fail 'start.sh looks for other features'
 level=3
 for feature in avx2 bmi2 fma; do
     grep -m 1 -q -w "$feature" /proc/cpuinfo || level=2
@@ -66,6 +70,10 @@ is_bound $level ./level
 if command -v qemu-x86_64 > /dev/null; then
     old='qemu-x86_64 -cpu Nehalem'
     is_bound 2 $old ./level
+    # Each feature is asked for: without it the lower build runs.
+    for feature in avx2 bmi2 fma; do
+        is_bound 2 qemu-x86_64 -cpu Haswell,-$feature ./level
+    done
     for library in "$archive" "$shared"; do
         gcc -std=c99 -O2 "-I$include" "$tests/check_states.c" "$library" -Wl,-rpath,"$(dirname "$shared")" -o states
         $old ./states "$lines"

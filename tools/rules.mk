@@ -33,7 +33,7 @@ install-tool: $(TOOL_LEVELS:%=$(OUT)/%/hunkravy)
 	install -D -m 644 $(TOOL_PAGES)/zsh "$(DESTDIR)$(ZSH_COMPLETIONS)/_hunkravy"
 	install -D -m 644 $(TOOL_PAGES)/fish "$(DESTDIR)$(PREFIX)/share/fish/vendor_completions.d/hunkravy.fish"
 
-# The tests of the program that need files, pipes and kills: some minutes, and 100 MB of disk.
+# The tests of the program that need files, pipes and kills: a minute or two, and 300 MB of disk.
 check-tool: $(OUT)/$(lastword $(TOOL_LEVELS))/hunkravy
 	tools/check_tool.sh $< $(VERSION)
 

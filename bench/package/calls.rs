@@ -20,7 +20,7 @@ struct Way<V: Variant> {
     xor: fn(Cipher<V, 16>, &[u8], &mut Vec<u8>),
 }
 
-fn ways<V: Variant>() -> [Way<V>; 4] {
+fn ways<V: Variant>() -> [Way<V>; 3] {
     [
         Way {
             name: "in place",
@@ -45,14 +45,6 @@ fn ways<V: Variant>() -> [Way<V>; 4] {
             name: "in chunks",
             seal: seal_in_chunks,
             open: open_in_chunks,
-            xor: xor_in_place,
-        },
-        Way {
-            name: "as a list",
-            seal: |cipher, message, out| cipher.seal_chunks(&[], &[message], out),
-            open: |cipher, ciphertext, tag, out| {
-                cipher.open_chunks_len(&[], &[ciphertext], tag, out).is_ok()
-            },
             xor: xor_in_place,
         },
     ]

@@ -12,7 +12,6 @@
  *   decryption verifies the tag and writes nothing.
  * - A parameter whose name ends in `_p` is null or points to a length, which the call sets. After a refused
  *   decryption the length is 0.
- * - `nsec` is not used; pass null.
  * - On more than crypto_aead_.._MESSAGEBYTES_MAX bytes encryption ends the program, and decryption returns -1.
  * - Never encrypt two messages with the same key and nonce.
  *
@@ -25,8 +24,8 @@
  *   header or sodium.h, and not both; in one program different files may.
  * - Random bytes come from getrandom. There is no call to replace their source.
  *
- * crypto_aead_aegis256_CALL has the parameters of hunkravy_sodium_CALL below, where its comment is, without
- * `variant` and with `nsec`; so have the calls of AEGIS-128L. HUNKRAVY_SODIUM_CALLS declares those of one variant.
+ * The functions of both variants are over hunkravy_sodium_encrypt and the other three below, whose comments say
+ * what each does. `nsec` is not used.
  */
 #ifndef SODIUM_COMPAT_H
 #define SODIUM_COMPAT_H
@@ -161,62 +160,117 @@ HUNKRAVY_MUST_USE static inline int hunkravy_sodium_decrypt(uint32_t variant, un
     return result;
 }
 
-/* ---- The calls of each variant. `nsec` is not used. NAME_keygen draws a key at random. */
-
-#define HUNKRAVY_SODIUM_CALLS(NAME, VARIANT)                                                             \
-    static inline size_t NAME##_keybytes(void) { return NAME##_KEYBYTES; }                               \
-    static inline size_t NAME##_nsecbytes(void) { return NAME##_NSECBYTES; }                             \
-    static inline size_t NAME##_npubbytes(void) { return NAME##_NPUBBYTES; }                             \
-    static inline size_t NAME##_abytes(void) { return NAME##_ABYTES; }                                   \
-    static inline size_t NAME##_messagebytes_max(void) { return NAME##_MESSAGEBYTES_MAX; }               \
-    static inline void NAME##_keygen(unsigned char k[NAME##_KEYBYTES])                                   \
-    {                                                                                                    \
-        randombytes_buf(k, NAME##_KEYBYTES);                                                             \
-    }                                                                                                    \
-    static inline int NAME##_encrypt_detached(unsigned char *c, unsigned char *mac,                      \
-        unsigned long long *maclen_p, const unsigned char *m, unsigned long long mlen,                   \
-        const unsigned char *ad, unsigned long long adlen, const unsigned char *nsec,                    \
-        const unsigned char *npub, const unsigned char *k)                                               \
-    {                                                                                                    \
-        (void)nsec;                                                                                      \
-        return hunkravy_sodium_encrypt_detached(VARIANT, c, mac, maclen_p, m, mlen, ad, adlen, npub, k); \
-    }                                                                                                    \
-    HUNKRAVY_MUST_USE static inline int NAME##_decrypt_detached(unsigned char *m, unsigned char *nsec,   \
-        const unsigned char *c, unsigned long long clen, const unsigned char *mac,                       \
-        const unsigned char *ad, unsigned long long adlen, const unsigned char *npub,                    \
-        const unsigned char *k)                                                                          \
-    {                                                                                                    \
-        (void)nsec;                                                                                      \
-        return hunkravy_sodium_decrypt_detached(VARIANT, m, c, clen, mac, ad, adlen, npub, k);           \
-    }                                                                                                    \
-    static inline int NAME##_encrypt(unsigned char *c, unsigned long long *clen_p, const unsigned char *m,\
-        unsigned long long mlen, const unsigned char *ad, unsigned long long adlen,                      \
-        const unsigned char *nsec, const unsigned char *npub, const unsigned char *k)                    \
-    {                                                                                                    \
-        (void)nsec;                                                                                      \
-        return hunkravy_sodium_encrypt(VARIANT, c, clen_p, m, mlen, ad, adlen, npub, k);                 \
-    }                                                                                                    \
-    HUNKRAVY_MUST_USE static inline int NAME##_decrypt(unsigned char *m, unsigned long long *mlen_p,     \
-        unsigned char *nsec, const unsigned char *c, unsigned long long clen, const unsigned char *ad,   \
-        unsigned long long adlen, const unsigned char *npub, const unsigned char *k)                     \
-    {                                                                                                    \
-        (void)nsec;                                                                                      \
-        return hunkravy_sodium_decrypt(VARIANT, m, mlen_p, c, clen, ad, adlen, npub, k);                 \
-    }
+/* ---- AEGIS-128L */
 
 #define crypto_aead_aegis128l_KEYBYTES 16U
 #define crypto_aead_aegis128l_NSECBYTES 0U
 #define crypto_aead_aegis128l_NPUBBYTES 16U
 #define crypto_aead_aegis128l_ABYTES HUNKRAVY_SODIUM_TAG_BYTES
 #define crypto_aead_aegis128l_MESSAGEBYTES_MAX HUNKRAVY_SODIUM_MOST_BYTES
-HUNKRAVY_SODIUM_CALLS(crypto_aead_aegis128l, HUNKRAVY_AEGIS128L)
+
+static inline size_t crypto_aead_aegis128l_keybytes(void) { return crypto_aead_aegis128l_KEYBYTES; }
+static inline size_t crypto_aead_aegis128l_nsecbytes(void) { return crypto_aead_aegis128l_NSECBYTES; }
+static inline size_t crypto_aead_aegis128l_npubbytes(void) { return crypto_aead_aegis128l_NPUBBYTES; }
+static inline size_t crypto_aead_aegis128l_abytes(void) { return crypto_aead_aegis128l_ABYTES; }
+static inline size_t crypto_aead_aegis128l_messagebytes_max(void) { return crypto_aead_aegis128l_MESSAGEBYTES_MAX; }
+
+/* Writes a random key to `k`. */
+static inline void crypto_aead_aegis128l_keygen(unsigned char k[crypto_aead_aegis128l_KEYBYTES])
+{
+    randombytes_buf(k, crypto_aead_aegis128l_KEYBYTES);
+}
+
+/* As hunkravy_sodium_encrypt_detached. */
+static inline int crypto_aead_aegis128l_encrypt_detached(unsigned char *c, unsigned char *mac, unsigned long long *maclen_p,
+    const unsigned char *m, unsigned long long mlen, const unsigned char *ad, unsigned long long adlen,
+    const unsigned char *nsec, const unsigned char *npub, const unsigned char *k)
+{
+    (void)nsec;
+    return hunkravy_sodium_encrypt_detached(HUNKRAVY_AEGIS128L, c, mac, maclen_p, m, mlen, ad, adlen, npub, k);
+}
+
+/* As hunkravy_sodium_decrypt_detached. */
+HUNKRAVY_MUST_USE static inline int crypto_aead_aegis128l_decrypt_detached(unsigned char *m, unsigned char *nsec,
+    const unsigned char *c, unsigned long long clen, const unsigned char *mac, const unsigned char *ad,
+    unsigned long long adlen, const unsigned char *npub, const unsigned char *k)
+{
+    (void)nsec;
+    return hunkravy_sodium_decrypt_detached(HUNKRAVY_AEGIS128L, m, c, clen, mac, ad, adlen, npub, k);
+}
+
+/* As hunkravy_sodium_encrypt. */
+static inline int crypto_aead_aegis128l_encrypt(unsigned char *c, unsigned long long *clen_p, const unsigned char *m,
+    unsigned long long mlen, const unsigned char *ad, unsigned long long adlen, const unsigned char *nsec,
+    const unsigned char *npub, const unsigned char *k)
+{
+    (void)nsec;
+    return hunkravy_sodium_encrypt(HUNKRAVY_AEGIS128L, c, clen_p, m, mlen, ad, adlen, npub, k);
+}
+
+/* As hunkravy_sodium_decrypt. */
+HUNKRAVY_MUST_USE static inline int crypto_aead_aegis128l_decrypt(unsigned char *m, unsigned long long *mlen_p,
+    unsigned char *nsec, const unsigned char *c, unsigned long long clen, const unsigned char *ad,
+    unsigned long long adlen, const unsigned char *npub, const unsigned char *k)
+{
+    (void)nsec;
+    return hunkravy_sodium_decrypt(HUNKRAVY_AEGIS128L, m, mlen_p, c, clen, ad, adlen, npub, k);
+}
+
+/* ---- AEGIS-256 */
 
 #define crypto_aead_aegis256_KEYBYTES 32U
 #define crypto_aead_aegis256_NSECBYTES 0U
 #define crypto_aead_aegis256_NPUBBYTES 32U
 #define crypto_aead_aegis256_ABYTES HUNKRAVY_SODIUM_TAG_BYTES
 #define crypto_aead_aegis256_MESSAGEBYTES_MAX HUNKRAVY_SODIUM_MOST_BYTES
-HUNKRAVY_SODIUM_CALLS(crypto_aead_aegis256, HUNKRAVY_AEGIS256)
+
+static inline size_t crypto_aead_aegis256_keybytes(void) { return crypto_aead_aegis256_KEYBYTES; }
+static inline size_t crypto_aead_aegis256_nsecbytes(void) { return crypto_aead_aegis256_NSECBYTES; }
+static inline size_t crypto_aead_aegis256_npubbytes(void) { return crypto_aead_aegis256_NPUBBYTES; }
+static inline size_t crypto_aead_aegis256_abytes(void) { return crypto_aead_aegis256_ABYTES; }
+static inline size_t crypto_aead_aegis256_messagebytes_max(void) { return crypto_aead_aegis256_MESSAGEBYTES_MAX; }
+
+/* Writes a random key to `k`. */
+static inline void crypto_aead_aegis256_keygen(unsigned char k[crypto_aead_aegis256_KEYBYTES])
+{
+    randombytes_buf(k, crypto_aead_aegis256_KEYBYTES);
+}
+
+/* As hunkravy_sodium_encrypt_detached. */
+static inline int crypto_aead_aegis256_encrypt_detached(unsigned char *c, unsigned char *mac, unsigned long long *maclen_p,
+    const unsigned char *m, unsigned long long mlen, const unsigned char *ad, unsigned long long adlen,
+    const unsigned char *nsec, const unsigned char *npub, const unsigned char *k)
+{
+    (void)nsec;
+    return hunkravy_sodium_encrypt_detached(HUNKRAVY_AEGIS256, c, mac, maclen_p, m, mlen, ad, adlen, npub, k);
+}
+
+/* As hunkravy_sodium_decrypt_detached. */
+HUNKRAVY_MUST_USE static inline int crypto_aead_aegis256_decrypt_detached(unsigned char *m, unsigned char *nsec,
+    const unsigned char *c, unsigned long long clen, const unsigned char *mac, const unsigned char *ad,
+    unsigned long long adlen, const unsigned char *npub, const unsigned char *k)
+{
+    (void)nsec;
+    return hunkravy_sodium_decrypt_detached(HUNKRAVY_AEGIS256, m, c, clen, mac, ad, adlen, npub, k);
+}
+
+/* As hunkravy_sodium_encrypt. */
+static inline int crypto_aead_aegis256_encrypt(unsigned char *c, unsigned long long *clen_p, const unsigned char *m,
+    unsigned long long mlen, const unsigned char *ad, unsigned long long adlen, const unsigned char *nsec,
+    const unsigned char *npub, const unsigned char *k)
+{
+    (void)nsec;
+    return hunkravy_sodium_encrypt(HUNKRAVY_AEGIS256, c, clen_p, m, mlen, ad, adlen, npub, k);
+}
+
+/* As hunkravy_sodium_decrypt. */
+HUNKRAVY_MUST_USE static inline int crypto_aead_aegis256_decrypt(unsigned char *m, unsigned long long *mlen_p,
+    unsigned char *nsec, const unsigned char *c, unsigned long long clen, const unsigned char *ad,
+    unsigned long long adlen, const unsigned char *npub, const unsigned char *k)
+{
+    (void)nsec;
+    return hunkravy_sodium_decrypt(HUNKRAVY_AEGIS256, m, mlen_p, c, clen, ad, adlen, npub, k);
+}
 
 #ifdef __cplusplus
 }

@@ -1,7 +1,7 @@
 /*
  * The calls at once, of all six variants: the stored lines by each form of a call, wrong lengths,
- * and null pointers for no bytes. Its parameter is the folder of the stored lines. It ends with
- * status 0 only if every result is right.
+ * and null pointers for no bytes. Its parameter is the folder of the stored lines. If the library has
+ * one build alone, LEVEL is the level of that. It ends with status 0 only if every result is right.
  */
 #include "check.h"
 
@@ -250,6 +250,10 @@ static void check_lengths(const struct variant *calls)
                            16) == HUNKRAVY_MESSAGE_TOO_LONG);
     HOLDS(hunkravy_decrypt(calls->number, bytes, bytes, 64, bytes, (size_t)HUNKRAVY_MAX_BYTES + 1,
                            k, right, k, right, mac, 32) == HUNKRAVY_DATA_TOO_LONG);
+    HOLDS(hunkravy_verify(calls->number, bytes, SIZE_MAX, bytes, SIZE_MAX, k, right, k, right, mac,
+                          17) == HUNKRAVY_MESSAGE_TOO_LONG);
+    HOLDS(hunkravy_verify(calls->number, bytes, 64, bytes, SIZE_MAX, k, right, k, right, mac, 17) ==
+          HUNKRAVY_DATA_TOO_LONG);
     HOLDS(hunkravy_decrypt_combined(calls->number, bytes, bytes, 15, NULL, 0, k, right, k, right,
                                     16) == HUNKRAVY_INVALID_TAG);
     HOLDS(hunkravy_decrypt_combined(calls->number, NULL, NULL, 0, NULL, 0, k, right, k, right,
@@ -274,19 +278,64 @@ static void check_wrong_variants(void)
     }
 }
 
-/* Each code has a text of its own, and another number has none of them. */
+/* The text of each code, from 0 down. */
 static void check_texts(void)
 {
-    const char *unknown = hunkravy_error_text(1);
+    static const char *const texts[] = {
+        "success",
+        "the tag is wrong: the bytes, the key, the nonce or the associated data are not those that were sealed",
+        "the nonce's length is not that of the variant",
+        "the key's length is not that of the variant",
+        "the message is too long",
+        "the associated data are too long",
+        "the tag has neither 16 nor 32 bytes",
+        "the state was not begun, has ended, or is for other calls",
+        "no variant has this number",
+        "the context of the record stream is too long",
+        "the header is that of no known record stream",
+        "the record has no room for its head and its tag",
+        "a page has no such size",
+        "the text of the file is too long"};
+    static const int codes[] = {HUNKRAVY_OK,
+                                HUNKRAVY_INVALID_TAG,
+                                HUNKRAVY_WRONG_NONCE_LENGTH,
+                                HUNKRAVY_WRONG_KEY_LENGTH,
+                                HUNKRAVY_MESSAGE_TOO_LONG,
+                                HUNKRAVY_DATA_TOO_LONG,
+                                HUNKRAVY_WRONG_TAG_LENGTH,
+                                HUNKRAVY_WRONG_STATE,
+                                HUNKRAVY_WRONG_VARIANT,
+                                HUNKRAVY_CONTEXT_TOO_LONG,
+                                HUNKRAVY_UNKNOWN_HEADER,
+                                HUNKRAVY_WRONG_RECORD_LENGTH,
+                                HUNKRAVY_WRONG_PAGE_SIZE,
+                                HUNKRAVY_TEXT_TOO_LONG};
 
-    HOLDS(strcmp(hunkravy_version(), HUNKRAVY_VERSION) == 0);
-    HOLDS(strcmp(hunkravy_error_text(HUNKRAVY_TEXT_TOO_LONG - 1), unknown) == 0);
-    for (int code = HUNKRAVY_OK; code >= HUNKRAVY_TEXT_TOO_LONG; code--) {
-        HOLDS(strcmp(hunkravy_error_text(code), unknown) != 0);
-        for (int other = HUNKRAVY_OK; other > code; other--) {
-            HOLDS(strcmp(hunkravy_error_text(code), hunkravy_error_text(other)) != 0);
-        }
+    for (int i = 0; i < 14; i++) {
+        HOLDS(codes[i] == -i && strcmp(hunkravy_error_text(-i), texts[i]) == 0);
     }
+    HOLDS(strcmp(hunkravy_error_text(-14), "no code of this library") == 0);
+    HOLDS(strcmp(hunkravy_error_text(1), "no code of this library") == 0);
+    HOLDS(strcmp(hunkravy_version(), HUNKRAVY_VERSION) == 0);
+}
+
+/* The constants of the headers that name lengths and limits. */
+static void check_constants(void)
+{
+    HOLDS(HUNKRAVY_AEGIS128_KEY_BYTES == 16 && HUNKRAVY_AEGIS256_KEY_BYTES == 32);
+    HOLDS(HUNKRAVY_AEGIS128_NONCE_BYTES == 16 && HUNKRAVY_AEGIS256_NONCE_BYTES == 32);
+    HOLDS(HUNKRAVY_AEGIS128_TAG_BYTES == 32 && HUNKRAVY_AEGIS256_TAG_BYTES == 32);
+    HOLDS(HUNKRAVY_SHORT_TAG_BYTES == 16 && HUNKRAVY_LONG_TAG_BYTES == 32);
+    HOLDS(HUNKRAVY_MAX_BYTES == UINT64_C(2305843009213693951));
+    HOLDS(HUNKRAVY_RECORD_KEY_BYTES == 32 && HUNKRAVY_RECORD_PREFIX_BYTES == 24);
+    HOLDS(HUNKRAVY_RECORD_HEADER_BYTES == 4 && HUNKRAVY_RECORD_HEAD_BYTES == 5);
+    HOLDS(HUNKRAVY_RECORD_BYTES == 37 && HUNKRAVY_RECORD_MAX_MESSAGE_BYTES == 16777216);
+    HOLDS(HUNKRAVY_RECORD_MAX_CONTEXT_BYTES == 65535);
+    HOLDS(HUNKRAVY_PAGE_ID_BYTES == 24 && HUNKRAVY_PAGE_TAG_BYTES == 32);
+    HOLDS(HUNKRAVY_PAGE_MAX_ADDED_BYTES == 64 && HUNKRAVY_PAGE_MIN_SIZE == 256);
+    HOLDS(HUNKRAVY_PAGE_MAX_SIZE == 65536 && HUNKRAVY_PAGE_DEFAULT_SIZE == 4032);
+    HOLDS(HUNKRAVY_PAGE_SECTOR_BYTES == 512 && HUNKRAVY_PAGE_FIRST == 4096);
+    HOLDS(HUNKRAVY_PAGE_MAX_TEXT_BYTES == UINT64_C(1152921504606846976));
 }
 
 /* No bytes may be a null pointer. */
@@ -329,10 +378,12 @@ int main(int count, char **arguments)
     static const char *const files[] = {"published", "wycheproof",     "seal",
                                         "open",      "stream",         "xor",
                                         "mac",       "seal-in-pieces", "open-in-pieces"};
+    const char *level = getenv("LEVEL");
     char version[32];
     size_t lines = 0;
 
     HOLDS(count == 2);
+    HOLDS(level == NULL || level[0] == '\0' || hunkravy_level() == atoi(level));
     snprintf(version, sizeof version, "%d.%d.%d", HUNKRAVY_VERSION_MAJOR, HUNKRAVY_VERSION_MINOR,
              HUNKRAVY_VERSION_PATCH);
     HOLDS(strcmp(version, HUNKRAVY_VERSION) == 0);
@@ -342,15 +393,12 @@ int main(int count, char **arguments)
     for (size_t i = 0; i < 6; i++) {
         check_lengths(&VARIANTS[i]);
         check_nothing(&VARIANTS[i]);
+        HOLDS(VARIANTS[i].number == i);
         HOLDS(hunkravy_key_bytes(VARIANTS[i].number) == VARIANTS[i].key_bytes);
-        HOLDS(VARIANTS[i].key_bytes ==
-              (i < 3 ? HUNKRAVY_AEGIS128_KEY_BYTES : HUNKRAVY_AEGIS256_KEY_BYTES));
     }
-    HOLDS(HUNKRAVY_AEGIS128_NONCE_BYTES == HUNKRAVY_AEGIS128_KEY_BYTES);
-    HOLDS(HUNKRAVY_AEGIS256_NONCE_BYTES == HUNKRAVY_AEGIS256_KEY_BYTES);
-    HOLDS(HUNKRAVY_AEGIS128_TAG_BYTES == TAG_BYTES && HUNKRAVY_AEGIS256_TAG_BYTES == TAG_BYTES);
     check_wrong_variants();
     check_texts();
+    check_constants();
     printf("hunkravy.h: %lu stored lines, %lu checks, all right\n", (unsigned long)lines, checks);
     return EXIT_SUCCESS;
 }

@@ -4,6 +4,9 @@
  * to find the same. Its parameter is the folder of the stored lines. It ends with status 0 only if
  * every result is right.
  */
+#ifndef _GNU_SOURCE
+#define _GNU_SOURCE
+#endif
 #ifdef WITH_LIBSODIUM
 #include <sodium.h>
 #define LIBRARY "libsodium itself"
@@ -13,6 +16,23 @@
 #endif
 
 #include "check.h"
+
+#ifndef WITH_LIBSODIUM
+#include <sys/syscall.h>
+#include <unistd.h>
+
+/* In the place of the system's: it gives at most 7 bytes, and is interrupted each third time. */
+ssize_t getrandom(void *bytes, size_t length, unsigned int flags)
+{
+    static int calls;
+
+    if (++calls % 3 == 0) {
+        errno = EINTR;
+        return -1;
+    }
+    return syscall(SYS_getrandom, bytes, length < 7 ? length : 7, flags);
+}
+#endif
 
 #include <setjmp.h>
 #include <signal.h>

@@ -3,18 +3,18 @@
 use crate::error::{accepted, done};
 use crate::run::Run;
 use crate::variant::assert_tag_bytes;
-use crate::{Decryptor, Encryptor, Error, Tag, Variant, chunks_len};
+use crate::{Decryptor, Encryptor, Error, Tag, Variant};
 use alloc::vec::Vec;
 use core::fmt;
 
 /// A cipher with tags of `TAG_BYTES` bytes, 16 or 32: a key and a nonce.
 ///
-/// A nonce must be used for one message or one keystream under a key, and never again; nothing checks it. The one-shot calls
-/// take the cipher; the chunked calls borrow it to start. The ciphers of more than one lane are `Copy`.
+/// Use a nonce for one message or one keystream under a key, and never again. Nothing checks this. The functions for one
+/// message consume the cipher, and the functions for chunks borrow it. Ciphers of more than one lane are `Copy`.
 ///
-/// Lengths are in bytes. Associated data and a message have at most [`MAX_AEAD_BYTES`](crate::MAX_AEAD_BYTES) each, and a
-/// call that seals or opens more panics before it has changed anything; keystreams have no limit. No call allocates but
-/// [`encrypt`](Self::encrypt), [`decrypt`](Self::decrypt) and [`stream_xor`](Self::stream_xor).
+/// Lengths are in bytes. Associated data and a message have at most [`MAX_AEAD_BYTES`](crate::MAX_AEAD_BYTES) each: with more
+/// the functions panic before they have changed anything. Keystreams have no limit. Only [`encrypt`](Self::encrypt),
+/// [`decrypt`](Self::decrypt) and [`stream_xor`](Self::stream_xor) allocate.
 ///
 /// ```
 /// use hunkravy::aegis128l::{Aegis128L, Error};
@@ -25,6 +25,21 @@ use core::fmt;
 /// assert_eq!(message, b"a message");
 /// # Ok::<(), Error>(())
 /// ```
+///
+/// A cipher of one lane encrypts one message:
+///
+/// ```compile_fail,E0382
+/// let cipher = hunkravy::aegis128l::Aegis128L::<16>::new(&[1; 16], &[2; 16]);
+/// let _first = cipher.encrypt(b"a message", b"");
+/// let _second = cipher.encrypt(b"another message", b"");
+/// ```
+///
+/// ```compile_fail,E0382
+/// let cipher = hunkravy::aegis256::Aegis256::<16>::new(&[1; 32], &[2; 32]);
+/// let _first = cipher.encrypt(b"a message", b"");
+/// let _second = cipher.encrypt(b"another message", b"");
+/// ```
+#[must_use]
 pub struct Cipher<V: Variant, const TAG_BYTES: usize> {
     key: V::Key,
     nonce: V::Nonce,
@@ -51,7 +66,7 @@ impl<V: Variant, const TAG_BYTES: usize> Cipher<V, TAG_BYTES> {
         }
     }
 
-    /// Returns the ciphertext of a message and its tag, which covers the associated data `ad` too.
+    /// Encrypts a message. Returns its ciphertext and its tag, which authenticates the associated data `ad` too.
     ///
     /// ```
     /// use hunkravy::aegis128x2::Aegis128X2;
@@ -60,13 +75,14 @@ impl<V: Variant, const TAG_BYTES: usize> Cipher<V, TAG_BYTES> {
     /// assert_eq!((ciphertext.len(), tag.len()), (9, 32));
     /// ```
     #[track_caller]
+    #[must_use = "the message cannot be opened without its tag"]
     pub fn encrypt(self, m: &[u8], ad: &[u8]) -> (Vec<u8>, Tag<TAG_BYTES>) {
         let mut mc = m.to_vec();
         let tag = self.encrypt_in_place(&mut mc, ad);
         (mc, tag)
     }
 
-    /// Turns the message at `mc` into its ciphertext, and returns its tag, which covers the associated data `ad` too.
+    /// Encrypts the message at `mc` in place. Returns its tag, which authenticates the associated data `ad` too.
     ///
     /// ```
     /// use hunkravy::aegis128x4::Aegis128X4;
@@ -84,11 +100,11 @@ impl<V: Variant, const TAG_BYTES: usize> Cipher<V, TAG_BYTES> {
         tag
     }
 
-    /// Returns the message of a ciphertext. The comparison of the tags looks at every byte.
+    /// Decrypts a ciphertext, and returns its message. Comparing the tags reads each byte.
     ///
     /// # Errors
     ///
-    /// [`Error::InvalidTag`] if no message is sealed to this ciphertext and tag.
+    /// [`Error::InvalidTag`] if authentication fails.
     ///
     /// ```
     /// use hunkravy::aegis256::{Aegis256, Error};
@@ -107,12 +123,11 @@ impl<V: Variant, const TAG_BYTES: usize> Cipher<V, TAG_BYTES> {
         Ok(mc)
     }
 
-    /// Turns the ciphertext at `mc` into its message. The comparison of the tags looks at every byte.
+    /// Decrypts the ciphertext at `mc` in place. Comparing the tags reads each byte.
     ///
     /// # Errors
     ///
-    /// [`Error::InvalidTag`] if no message is sealed to this ciphertext and tag. Every byte of `mc` is then
-    /// [`ERASED`](crate::ERASED).
+    /// [`Error::InvalidTag`] if authentication fails. Each byte of `mc` is then [`ERASED`](crate::ERASED).
     ///
     /// ```
     /// use hunkravy::aegis256x2::{Aegis256X2, Error};
@@ -134,7 +149,7 @@ impl<V: Variant, const TAG_BYTES: usize> Cipher<V, TAG_BYTES> {
         accepted(V::EXPORTS.decrypt_in_place(mc, ad, nonce, key, tag))
     }
 
-    /// Fills `out` with the keystream from its beginning, whatever `out` held. `TAG_BYTES` has no effect on it.
+    /// Overwrites `out` with the keystream from its beginning. `TAG_BYTES` has no effect on it.
     ///
     /// ```
     /// use hunkravy::aegis128x4::Aegis128X4;
@@ -149,7 +164,7 @@ impl<V: Variant, const TAG_BYTES: usize> Cipher<V, TAG_BYTES> {
         done(V::EXPORTS.stream(out, self.nonce.as_ref(), self.key.as_ref()));
     }
 
-    /// Returns a message xored with the keystream from its beginning. There is no tag: changes are not detected.
+    /// Returns a message xored with the keystream from its beginning. There is no tag, so changes are not detected.
     ///
     /// ```
     /// use hunkravy::aegis256x4::Aegis256X4;
@@ -158,13 +173,14 @@ impl<V: Variant, const TAG_BYTES: usize> Cipher<V, TAG_BYTES> {
     /// let ciphertext = cipher.stream_xor(b"a message");
     /// assert_eq!(cipher.stream_xor(&ciphertext), b"a message");
     /// ```
+    #[must_use]
     pub fn stream_xor(self, m: &[u8]) -> Vec<u8> {
         let mut mc = m.to_vec();
         self.stream_xor_in_place(&mut mc);
         mc
     }
 
-    /// Xors the bytes at `mc` with the keystream from its beginning. Done twice, it restores them.
+    /// Xors the bytes at `mc` with the keystream from its beginning. Calling it twice restores them.
     ///
     /// ```
     /// use hunkravy::aegis128l::Aegis128L;
@@ -179,7 +195,7 @@ impl<V: Variant, const TAG_BYTES: usize> Cipher<V, TAG_BYTES> {
         done(V::EXPORTS.stream_xor_in_place(mc, self.nonce.as_ref(), self.key.as_ref()));
     }
 
-    /// Starts to seal a message that comes in chunks.
+    /// Begins to encrypt a message in chunks.
     ///
     /// ```
     /// use hunkravy::aegis128l::Aegis128L;
@@ -194,14 +210,13 @@ impl<V: Variant, const TAG_BYTES: usize> Cipher<V, TAG_BYTES> {
         Encryptor::new(Run::new(&self.key, &self.nonce, associated_data))
     }
 
-    /// Starts to open a message that comes in chunks, in `plaintext`, which has room for all of it.
+    /// Begins to decrypt a message in chunks, into `plaintext`, which has room for the whole message.
     ///
     /// ```
     /// use hunkravy::aegis128l::{Aegis128L, Error};
     ///
     /// let cipher = Aegis128L::<16>::new(&[1; 16], &[2; 16]);
-    /// let mut ciphertext = [0; 5];
-    /// let tag = cipher.seal_chunks(b"header", &[b"AEGIS"], &mut ciphertext);
+    /// let (ciphertext, tag) = Aegis128L::<16>::new(&[1; 16], &[2; 16]).encrypt(b"AEGIS", b"header");
     ///
     /// let mut buffer = [0; 5];
     /// let mut decryptor = cipher.decryptor(b"header", &mut buffer);
@@ -217,103 +232,6 @@ impl<V: Variant, const TAG_BYTES: usize> Cipher<V, TAG_BYTES> {
     ) -> Decryptor<'a, V, TAG_BYTES> {
         let run = Run::new(&self.key, &self.nonce, associated_data);
         Decryptor::new(run, plaintext)
-    }
-
-    /// Seals a list of chunks into `out`: the ciphertext of the chunks one after the other. Returns its tag.
-    ///
-    /// # Panics
-    ///
-    /// If `out` is not as long as the chunks together ([`chunks_len`]), before it has changed.
-    ///
-    /// ```
-    /// use hunkravy::aegis128l::Aegis128L;
-    ///
-    /// let cipher = Aegis128L::<16>::new(&[1; 16], &[2; 16]);
-    /// let mut ciphertext = [0; 10];
-    /// let tag = cipher.seal_chunks(b"header", &[b"AEGIS", b" fast"], &mut ciphertext);
-    /// assert_eq!((ciphertext.to_vec(), tag), cipher.encrypt(b"AEGIS fast", b"header"));
-    /// ```
-    #[track_caller]
-    #[must_use = "the message cannot be opened without its tag"]
-    pub fn seal_chunks(&self, ad: &[u8], chunks: &[&[u8]], out: &mut [u8]) -> Tag<TAG_BYTES> {
-        assert_eq!(
-            chunks_len(chunks),
-            Some(out.len() as u64),
-            "the ciphertext is as long as the chunks"
-        );
-        let mut encryptor = self.encryptor(ad);
-        let mut rest = out;
-        for chunk in chunks {
-            let (ciphertext, after) = rest.split_at_mut(chunk.len());
-            encryptor.update(chunk, ciphertext);
-            rest = after;
-        }
-        encryptor.finalize()
-    }
-
-    /// Opens a list of chunks at the front of `dst`, and returns the message. A chunk that does not fit is left out, as if
-    /// [`Decryptor::update`] had refused it.
-    ///
-    /// # Errors
-    ///
-    /// As [`Decryptor::finalize`].
-    ///
-    /// ```
-    /// use hunkravy::aegis256::{Aegis256, Error};
-    ///
-    /// let cipher = Aegis256::<32>::new(&[1; 32], &[2; 32]);
-    /// let mut ciphertext = [0; 10];
-    /// let tag = cipher.seal_chunks(b"header", &[b"AEGIS fast"], &mut ciphertext);
-    ///
-    /// let mut buffer = [0; 100];
-    /// let (first, second) = ciphertext.split_at(3);
-    /// let message = cipher.open_chunks(b"header", &[first, second], &tag, &mut buffer)?;
-    /// assert_eq!(message, b"AEGIS fast");
-    /// # Ok::<(), Error>(())
-    /// ```
-    #[track_caller]
-    pub fn open_chunks<'a>(
-        &self,
-        ad: &[u8],
-        chunks: &[&[u8]],
-        tag: &Tag<TAG_BYTES>,
-        dst: &'a mut [u8],
-    ) -> Result<&'a mut [u8], Error> {
-        let mut decryptor = self.decryptor(ad, dst);
-        for chunk in chunks {
-            // A chunk that is refused changes nothing.
-            let _ = decryptor.update(chunk);
-        }
-        decryptor.finalize(tag)
-    }
-
-    /// Opens a list of chunks at the front of `dst`, as [`open_chunks`](Self::open_chunks) does, and returns the message's
-    /// length in bytes.
-    ///
-    /// For a caller that uses `dst` afterwards.
-    ///
-    /// # Errors
-    ///
-    /// As [`Decryptor::finalize`].
-    ///
-    /// ```
-    /// use hunkravy::aegis256::{Aegis256, Error};
-    ///
-    /// let cipher = Aegis256::<32>::new(&[1; 32], &[2; 32]);
-    /// let mut buffer = *b"no ciphertext";
-    /// let refused = cipher.open_chunks_len(b"", &[b"nope"], &[0; 32], &mut buffer);
-    /// assert_eq!(refused, Err(Error::InvalidTag));
-    /// assert_eq!(&buffer, b"\0\0\0\0iphertext");
-    /// ```
-    #[track_caller]
-    pub fn open_chunks_len(
-        &self,
-        ad: &[u8],
-        chunks: &[&[u8]],
-        tag: &Tag<TAG_BYTES>,
-        dst: &mut [u8],
-    ) -> Result<usize, Error> {
-        Ok(self.open_chunks(ad, chunks, tag, dst)?.len())
     }
 }
 

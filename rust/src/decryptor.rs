@@ -1,16 +1,16 @@
-//! Opening a message that comes in chunks.
+//! Decrypting a message in chunks.
 
 use crate::run::Run;
 use crate::wipe::wipe;
 use crate::{Error, Tag, Variant};
 use core::{fmt, mem};
 
-/// Opens a message that comes in chunks of any lengths, in a destination that it borrows for the whole message.
+/// Decrypts a message in chunks of any lengths, into a destination that it borrows for the whole message.
 ///
-/// [`Cipher::decryptor`](crate::Cipher::decryptor) starts one. Nothing can read the destination while it is
-/// borrowed, and [`finalize`](Self::finalize) returns the message in it only if the tag is right. After a wrong tag, or if
-/// the decryptor is dropped before, zeros overwrite the message, and the other bytes of the destination are as they were.
-/// That does not cover a decryptor that is leaked by [`mem::forget`](core::mem::forget).
+/// [`Cipher::decryptor`](crate::Cipher::decryptor) returns one. Nothing can read the destination while it is borrowed, and
+/// [`finalize`](Self::finalize) returns the message only if the tag is right. After a wrong tag, or if the decryptor is
+/// dropped before, zeros overwrite the message, and the rest of the destination is unchanged. A decryptor that is leaked, for
+/// example by [`mem::forget`](core::mem::forget), overwrites nothing.
 ///
 /// ```
 /// use hunkravy::aegis128l::{Aegis128L, Error};
@@ -29,6 +29,7 @@ use core::{fmt, mem};
 /// assert_eq!(decryptor.finalize(&tag)?, b"AEGIS is fast");
 /// # Ok::<(), Error>(())
 /// ```
+#[must_use = "the message is erased without `finalize`"]
 pub struct Decryptor<'a, V: Variant, const TAG_BYTES: usize> {
     run: Run<V>,
     plaintext: &'a mut [u8],
@@ -44,13 +45,13 @@ impl<'a, V: Variant, const TAG_BYTES: usize> Decryptor<'a, V, TAG_BYTES> {
         }
     }
 
-    /// Opens the next chunk of the ciphertext, after what is written to the destination.
+    /// Decrypts the next chunk of the ciphertext.
     ///
     /// # Errors
     ///
-    /// [`Error::OutputBufferTooSmall`] if the chunk does not fit in what remains of the destination, and otherwise
-    /// [`Error::MessageTooLong`] if the message would be longer than [`MAX_AEAD_BYTES`](crate::MAX_AEAD_BYTES). Neither
-    /// changes anything, and the decryptor may go on with another chunk.
+    /// [`Error::OutputBufferTooSmall`] if the chunk does not fit into the rest of the destination, and otherwise
+    /// [`Error::MessageTooLong`] if the message would be longer than [`MAX_AEAD_BYTES`](crate::MAX_AEAD_BYTES). Nothing has
+    /// changed then, and another chunk may follow.
     ///
     /// ```
     /// use hunkravy::aegis256x2::{Aegis256X2, Error};
@@ -74,12 +75,12 @@ impl<'a, V: Variant, const TAG_BYTES: usize> Decryptor<'a, V, TAG_BYTES> {
         Ok(())
     }
 
-    /// Returns the message, which is the front of the destination, if the tag is right.
+    /// Returns the message, which is at the beginning of the destination, if the tag is right.
     ///
     /// # Errors
     ///
-    /// [`Error::InvalidTag`] if no message is sealed to the chunks and this tag. Zeros are then left in the place of what
-    /// was written, and the rest of the destination is as it was.
+    /// [`Error::InvalidTag`] if authentication fails. Zeros then overwrite the message, and the rest of the destination is
+    /// unchanged.
     ///
     /// ```
     /// use hunkravy::aegis256x4::{Aegis256X4, Error};
@@ -96,31 +97,9 @@ impl<'a, V: Variant, const TAG_BYTES: usize> Decryptor<'a, V, TAG_BYTES> {
         let written = mem::take(&mut self.written);
         Ok(&mut mem::take(&mut self.plaintext)[..written])
     }
-
-    /// Leaves the message in the destination if the tag is right, and returns its length in bytes.
-    ///
-    /// For a caller that uses the destination afterwards.
-    ///
-    /// # Errors
-    ///
-    /// As [`finalize`](Self::finalize).
-    ///
-    /// ```
-    /// use hunkravy::aegis128l::{Aegis128L, Error};
-    ///
-    /// let cipher = Aegis128L::<16>::new(&[1; 16], &[2; 16]);
-    /// let mut buffer = [0; 100];
-    /// let tag = cipher.encryptor(b"").finalize();
-    /// let length = cipher.decryptor(b"", &mut buffer).finalize_len(&tag)?;
-    /// assert_eq!(length, 0);
-    /// # Ok::<(), Error>(())
-    /// ```
-    pub fn finalize_len(self, tag: &Tag<TAG_BYTES>) -> Result<usize, Error> {
-        Ok(self.finalize(tag)?.len())
-    }
 }
 
-/// Leaves zeros in the place of what was written.
+/// Overwrites the message with zeros.
 impl<V: Variant, const TAG_BYTES: usize> Drop for Decryptor<'_, V, TAG_BYTES> {
     fn drop(&mut self) {
         wipe(&mut self.plaintext[..self.written]);

@@ -1,13 +1,13 @@
-//! Sealing a message that comes in chunks.
+//! Encrypting a message in chunks.
 
 use crate::run::Run;
 use crate::{Tag, Variant};
 use core::fmt;
 
-/// Seals a message that comes in chunks of any lengths: a byte of ciphertext for each byte, and the tag at the end.
+/// Encrypts a message in chunks of any lengths: each byte to a byte of ciphertext, and the tag at the end.
 ///
-/// [`Cipher::encryptor`](crate::Cipher::encryptor) starts one. If it is dropped before [`finalize`](Self::finalize), there is no
-/// tag, and what was sealed cannot be opened.
+/// [`Cipher::encryptor`](crate::Cipher::encryptor) returns one. If it is dropped before [`finalize`](Self::finalize), there is
+/// no tag, and the ciphertext cannot be decrypted.
 ///
 /// ```
 /// use hunkravy::aegis128l::Aegis128L;
@@ -20,9 +20,10 @@ use core::fmt;
 /// }
 /// let tag = encryptor.finalize();
 ///
-/// let at_once = Aegis128L::<16>::new(&key, &nonce).encrypt(b"AEGIS fast", b"header");
-/// assert_eq!((chunks.concat(), tag), at_once);
+/// let in_one_call = Aegis128L::<16>::new(&key, &nonce).encrypt(b"AEGIS fast", b"header");
+/// assert_eq!((chunks.concat(), tag), in_one_call);
 /// ```
+#[must_use = "the message cannot be opened without its tag"]
 pub struct Encryptor<V: Variant, const TAG_BYTES: usize> {
     run: Run<V>,
 }
@@ -32,7 +33,7 @@ impl<V: Variant, const TAG_BYTES: usize> Encryptor<V, TAG_BYTES> {
         Self { run }
     }
 
-    /// Seals the next chunk into `ciphertext`, which has its length.
+    /// Encrypts the next chunk into `ciphertext`, which has the same length.
     ///
     /// # Panics
     ///
@@ -61,7 +62,7 @@ impl<V: Variant, const TAG_BYTES: usize> Encryptor<V, TAG_BYTES> {
         self.update_in_place(ciphertext);
     }
 
-    /// Seals the next chunk in place.
+    /// Encrypts the next chunk in place.
     ///
     /// # Panics
     ///
@@ -89,11 +90,12 @@ impl<V: Variant, const TAG_BYTES: usize> Encryptor<V, TAG_BYTES> {
     /// encryptor.update_in_place(&mut [0; 100]);
     /// assert_eq!(encryptor.remaining(), MAX_AEAD_BYTES - 100);
     /// ```
+    #[must_use]
     pub fn remaining(&self) -> u64 {
         self.run.remaining()
     }
 
-    /// Returns the tag of the message, which covers the associated data too.
+    /// Returns the tag of the message, which authenticates the associated data too.
     ///
     /// ```
     /// use hunkravy::aegis128x4::Aegis128X4;

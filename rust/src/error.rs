@@ -10,18 +10,18 @@ use core::fmt;
 /// ```
 pub const MAX_AEAD_BYTES: u64 = (1 << 61) - 1;
 
-/// Why a message was refused.
+/// The error of a function on messages and MACs.
 ///
 /// ```
 /// use hunkravy::aegis128l::{Aegis128L, Error};
 ///
-/// let refused = Aegis128L::<16>::new(&[1; 16], &[2; 16]).decrypt(b"no ciphertext", &[0; 16], b"");
-/// assert_eq!(refused, Err(Error::InvalidTag));
+/// let decrypted = Aegis128L::<16>::new(&[1; 16], &[2; 16]).decrypt(b"no ciphertext", &[0; 16], b"");
+/// assert_eq!(decrypted, Err(Error::InvalidTag));
 /// assert_eq!(Error::InvalidTag.to_string(), "Invalid tag");
 /// ```
 #[derive(Clone, Copy, Debug, PartialEq, Eq)]
 pub enum Error {
-    /// The tag is not that of the message, or the MAC not that of the input.
+    /// Authentication fails: the tag of the message, or the MAC of the input, is wrong.
     InvalidTag,
     /// The destination has no room for the chunk.
     OutputBufferTooSmall,
@@ -51,7 +51,7 @@ pub(crate) fn accepted(answer: Answer) -> Result<(), Error> {
     Ok(())
 }
 
-/// Panics if the library refused a length.
+/// Panics if the library returned an error for a length.
 #[track_caller]
 pub(crate) fn done(answer: Answer) {
     match answer {

@@ -1,15 +1,17 @@
-//! The calls of `libhunkravy.a` as safe calls over slices.
+//! The functions of `libhunkravy.a` as safe functions over slices.
 //!
-//! The library checks each length, and Rust's borrows ensure all else that a caller must. This file needs nothing else of
-//! the crate: a program that is built without cargo may include it as a module by `#[path]`.
+//! The library checks each length, and borrowing ensures everything else. This file needs nothing else of the crate: a program
+//! that is built without Cargo can include it as a module with `#[path]`.
 #![allow(dead_code)]
 #![deny(missing_docs)]
 #![deny(unsafe_op_in_unsafe_fn)]
 
-/// What each byte of a buffer is after a refused opening in place.
+use core::marker::PhantomData;
+
+/// Each byte of a buffer in place after authentication has failed: 0xaa.
 pub const ERASED: u8 = 0xaa;
 
-/// Why a call was refused: the first of the wrong lengths, or else the tag.
+/// The error of a function: the first wrong length, or else the tag.
 #[derive(Clone, Copy, Debug, PartialEq, Eq)]
 pub enum Refusal {
     /// The tag is not that of the message, whose buffer is then all [`ERASED`]; or the MAC is not that of the input.
@@ -26,6 +28,8 @@ pub enum Refusal {
     WrongTagLength,
     /// The state was not begun, or has ended; or it is of a message in the other direction, or a MAC and no message.
     WrongState,
+    /// The context of a record stream has more than 65,535 bytes.
+    ContextTooLong,
     /// No version of record streams has this header.
     UnknownHeader,
     /// A record has fewer bytes than a record of no message.
@@ -34,9 +38,11 @@ pub enum Refusal {
     WrongPageSize,
     /// The text of a file has more than 2^60 bytes, or a page begins after so many.
     TextTooLong,
+    /// The message that is to be erased has neither 0 bytes nor as many as were decrypted.
+    WrongMessageLength,
 }
 
-/// What a call returns.
+/// The result of a function.
 pub type Answer = Result<(), Refusal>;
 
 fn read(code: i32) -> Answer {
@@ -49,10 +55,12 @@ fn read(code: i32) -> Answer {
         -5 => Err(Refusal::DataTooLong),
         -6 => Err(Refusal::WrongTagLength),
         -7 => Err(Refusal::WrongState),
+        -9 => Err(Refusal::ContextTooLong),
         -10 => Err(Refusal::UnknownHeader),
         -11 => Err(Refusal::WrongRecordLength),
         -12 => Err(Refusal::WrongPageSize),
         -13 => Err(Refusal::TextTooLong),
+        -14 => Err(Refusal::WrongMessageLength),
         other => unreachable!("the library does not return {other}"),
     }
 }
@@ -73,7 +81,7 @@ pub struct State {
 const _: () = assert!(size_of::<State>() == 672);
 
 impl State {
-    /// A state that every call refuses but the one that begins it.
+    /// A state that has ended. Only the functions that begin one accept it.
     pub const ENDED: Self = Self {
         mark: 0,
         rows: [[0; 128]; 4],
@@ -258,7 +266,7 @@ unsafe extern "C" {
         textlen: &mut u64,
     ) -> i32;
     fn hunkravy_record_begin(
-        st: &mut Records,
+        st: &mut Records<'_>,
         k: &[u8; 32],
         prefix: &[u8; 24],
         context: In,
@@ -266,18 +274,27 @@ unsafe extern "C" {
         header: &mut [u8; 4],
     ) -> i32;
     fn hunkravy_record_begin_open(
-        st: &mut Records,
+        st: &mut Records<'_>,
         k: &[u8; 32],
         prefix: &[u8; 24],
         context: In,
         contextlen: usize,
         header: &[u8; 4],
     ) -> i32;
-    fn hunkravy_record_seal(st: &mut Records, record: Out, mlen: usize) -> i32;
-    fn hunkravy_record_seal_last(st: &mut Records, record: Out, mlen: usize) -> i32;
-    fn hunkravy_record_len(st: &Records, head: &[u8; 5], recordlen: &mut usize) -> i32;
+    fn hunkravy_record_begin_open_at(
+        st: &mut Records<'_>,
+        k: &[u8; 32],
+        prefix: &[u8; 24],
+        context: In,
+        contextlen: usize,
+        number: u64,
+        before: u64,
+    ) -> i32;
+    fn hunkravy_record_seal(st: &mut Records<'_>, record: Out, mlen: usize) -> i32;
+    fn hunkravy_record_seal_last(st: &mut Records<'_>, record: Out, mlen: usize) -> i32;
+    fn hunkravy_record_len(st: &Records<'_>, head: &[u8; 5], recordlen: &mut usize) -> i32;
     fn hunkravy_record_open(
-        st: &mut Records,
+        st: &mut Records<'_>,
         record: Out,
         recordlen: usize,
         mlen: &mut usize,
@@ -344,7 +361,7 @@ impl Variant {
         )
     }
 
-    /// Writes keystream to `out`, whatever was there.
+    /// Overwrites `out` with keystream.
     pub fn stream(&self, out: &mut [u8], npub: &[u8], k: &[u8]) -> Answer {
         call!(
             hunkravy_stream(self.number),
@@ -364,7 +381,7 @@ impl Variant {
         )
     }
 
-    /// Writes the MAC of `input` to `mac`. A nonce of zeros stands for none.
+    /// Writes the MAC of `input` to `mac`. Use a zeroed nonce if there is none.
     pub fn mac(&self, input: &[u8], npub: &[u8], k: &[u8], mac: &mut [u8]) -> Answer {
         call!(
             hunkravy_mac(self.number),
@@ -386,7 +403,7 @@ impl Variant {
         )
     }
 
-    /// Begins a message. If it is refused, the state is [`State::ENDED`].
+    /// Begins a message. After an error the state is [`State::ENDED`].
     pub fn state_init(&self, st: &mut State, ad: &[u8], npub: &[u8], k: &[u8]) -> Answer {
         call!(
             hunkravy_state_init(self.number, st),
@@ -396,7 +413,7 @@ impl Variant {
         )
     }
 
-    /// Begins a MAC. If it is refused, the state is [`State::ENDED`].
+    /// Begins a MAC. After an error the state is [`State::ENDED`].
     pub fn mac_init(&self, st: &mut State, npub: &[u8], k: &[u8]) -> Answer {
         call!(hunkravy_mac_init(self.number, st), npub.as_ptr, k.as_ptr)
     }
@@ -413,7 +430,7 @@ impl State {
         call!(hunkravy_state_encrypt_final(self), mac.as_mut_ptr)
     }
 
-    /// Turns the next bytes of the ciphertext into as many of its message, whatever the tag will be.
+    /// Decrypts the next bytes of the ciphertext. They are not verified.
     pub fn decrypt_in_place_unverified(&mut self, mc: &mut [u8]) -> Answer {
         call!(
             hunkravy_state_decrypt_in_place_unverified(self),
@@ -426,7 +443,8 @@ impl State {
         call!(hunkravy_state_decrypt_check(self), c.as_ptr)
     }
 
-    /// `Ok` exactly if `mac` is the tag of the message. Otherwise every byte at `m` is [`ERASED`]. Ends the state.
+    /// `Ok` exactly if `mac` is the tag of the message. Otherwise every byte at `m` is [`ERASED`]. Ends the state. `m` is the
+    /// whole message, or has no byte.
     pub fn decrypt_final(&mut self, m: &mut [u8], mac: &[u8]) -> Answer {
         call!(hunkravy_state_decrypt_final(self), m.as_mut_ptr, mac.as_ptr)
     }
@@ -447,7 +465,7 @@ impl State {
     }
 }
 
-/// What a header of a file of sealed pages has.
+/// The contents of a header of a file of sealed pages.
 #[derive(Clone, Copy, Debug, Default, PartialEq, Eq)]
 pub struct PageHeader {
     /// How many bytes of text a page has, from 256 to 65,536.
@@ -540,41 +558,81 @@ pub const RECORD_HEAD_BYTES: usize = 5;
 /// How many bytes a record has more than its message: its head, and a tag after it.
 pub const RECORD_BYTES: usize = 37;
 
-/// A record stream with no context between two calls, as the library reads and writes it. It is overwritten when it is
-/// dropped.
+/// A record stream between two calls, as the library reads and writes it. It points to its context, which it borrows. It is
+/// overwritten when it is dropped.
 #[repr(C)]
-pub struct Records {
-    opaque: [u64; 11],
+pub struct Records<'c> {
+    opaque: [u64; OPAQUE_WORDS],
     context: *const u8,
     context_len: usize,
+    borrowed: PhantomData<&'c [u8]>,
 }
 
-impl Records {
-    /// A stream that every call refuses but the one that begins it.
+const OPAQUE_WORDS: usize = 10;
+
+// SAFETY: it has numbers, and the pointer of a shared slice, which may be used from any thread as the slice may be.
+unsafe impl Send for Records<'_> {}
+// SAFETY: as above; and a shared stream is only read.
+unsafe impl Sync for Records<'_> {}
+
+impl<'c> Records<'c> {
+    /// A stream that has ended. Only the functions that begin one accept it.
     const ENDED: Self = Self {
-        opaque: [0; 11],
+        opaque: [0; OPAQUE_WORDS],
         context: core::ptr::null(),
         context_len: 0,
+        borrowed: PhantomData,
     };
 
     /// Begins to seal a stream. Returns it and its header.
-    pub fn begin(k: &[u8; 32], prefix: &[u8; 24]) -> (Self, [u8; 4]) {
+    pub fn begin(
+        k: &[u8; 32],
+        prefix: &[u8; 24],
+        context: &'c [u8],
+    ) -> Result<(Self, [u8; 4]), Refusal> {
         let (mut st, mut header) = (Self::ENDED, [0; 4]);
-        let context = core::ptr::null();
-        // SAFETY: each pointer is that of a borrowed value of the length that the library reads or writes; the context has no
-        // byte.
-        let code = unsafe { hunkravy_record_begin(&mut st, k, prefix, context, 0, &mut header) };
-        assert_eq!(read(code), Ok(()), "the context is not too long");
-        (st, header)
+        let (bytes, length) = (context.as_ptr(), context.len());
+        // SAFETY: each pointer is that of a borrowed value of the length that the library reads or writes. The context is
+        // borrowed for as long as the stream points to it.
+        read(unsafe { hunkravy_record_begin(&mut st, k, prefix, bytes, length, &mut header) })?;
+        Ok((st, header))
     }
 
     /// Begins to open a stream that has this header.
-    pub fn begin_open(k: &[u8; 32], prefix: &[u8; 24], header: &[u8; 4]) -> Result<Self, Refusal> {
+    pub fn begin_open(
+        k: &[u8; 32],
+        prefix: &[u8; 24],
+        context: &'c [u8],
+        header: &[u8; 4],
+    ) -> Result<Self, Refusal> {
         let mut st = Self::ENDED;
-        let context = core::ptr::null();
+        let (bytes, length) = (context.as_ptr(), context.len());
         // SAFETY: as above.
-        read(unsafe { hunkravy_record_begin_open(&mut st, k, prefix, context, 0, header) })?;
+        read(unsafe { hunkravy_record_begin_open(&mut st, k, prefix, bytes, length, header) })?;
         Ok(st)
+    }
+
+    /// Begins to open a stream at the record of this number. The messages before it have `before` bytes together.
+    pub fn begin_open_at(
+        k: &[u8; 32],
+        prefix: &[u8; 24],
+        context: &'c [u8],
+        number: u64,
+        before: u64,
+    ) -> Result<Self, Refusal> {
+        let mut st = Self::ENDED;
+        let (bytes, length) = (context.as_ptr(), context.len());
+        // SAFETY: as above.
+        read(unsafe {
+            hunkravy_record_begin_open_at(&mut st, k, prefix, bytes, length, number, before)
+        })?;
+        Ok(st)
+    }
+
+    /// Sets the bytes of all messages so far, as if the stream were nearly as long as it may be.
+    #[cfg(test)]
+    pub fn set_before(&mut self, before: u64) {
+        self.opaque[2] = before;
     }
 
     /// Seals the next message in place: it has [`RECORD_HEAD_BYTES`] in front of it, and 32 bytes after it for the tag. The
@@ -594,7 +652,7 @@ impl Records {
         })
     }
 
-    /// Returns how many bytes the next record has, by its head, which is not verified.
+    /// Returns the length of the next record in bytes, from its head. The length is not verified.
     pub fn record_len(&self, head: &[u8; RECORD_HEAD_BYTES]) -> Result<usize, Refusal> {
         let mut length = 0;
         // SAFETY: each pointer is that of a borrowed value of the length that the library reads or writes.
@@ -613,10 +671,10 @@ impl Records {
     }
 }
 
-impl Drop for Records {
+impl Drop for Records<'_> {
     fn drop(&mut self) {
         // SAFETY: the pointer is that of an exclusive borrow of an array.
-        unsafe { core::ptr::write_volatile(&mut self.opaque, [0; 11]) }
+        unsafe { core::ptr::write_volatile(&mut self.opaque, [0; OPAQUE_WORDS]) }
     }
 }
 

@@ -8,20 +8,23 @@ extern crate alloc;
 #[cfg(feature = "std")]
 extern crate std;
 
-mod chunks;
 mod cipher;
 mod decryptor;
 mod encryptor;
 mod error;
 mod exports;
-mod mac;
 #[cfg(feature = "std")]
+pub mod files;
+mod mac;
+#[cfg(feature = "raf-core")]
 pub mod raf;
+#[cfg(feature = "std")]
+mod random;
+pub mod records;
 mod run;
 mod variant;
 mod wipe;
 
-pub use chunks::chunks_len;
 pub use cipher::Cipher;
 pub use decryptor::Decryptor;
 pub use encryptor::Encryptor;

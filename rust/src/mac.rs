@@ -1,13 +1,13 @@
-//! MACs of an input that comes in chunks.
+//! MACs of an input in chunks.
 
 use crate::run::Run;
 use crate::variant::assert_tag_bytes;
 use crate::{Error, Tag, Variant};
 use core::fmt;
 
-/// The MAC of an input that comes in chunks of any lengths.
+/// The MAC of an input in chunks of any lengths.
 ///
-/// Use its key for nothing else. A clone continues on its own from the input so far.
+/// Use its key for nothing else. A clone has the input so far, and continues independently.
 ///
 /// ```
 /// use hunkravy::aegis128l::{Aegis128LMac, Error};
@@ -22,6 +22,7 @@ use core::fmt;
 /// mac.verify(&tag)?;
 /// # Ok::<(), Error>(())
 /// ```
+#[must_use]
 pub struct Mac<V: Variant, const TAG_BYTES: usize> {
     run: Run<V>,
 }
@@ -32,7 +33,7 @@ impl<V: Variant, const TAG_BYTES: usize> Mac<V, TAG_BYTES> {
         Self { run }
     }
 
-    /// Returns the MAC of no input so far under a key and a nonce of zeros. `TAG_BYTES` is 16 or 32: with another length the
+    /// Begins a MAC under a key, with a zeroed nonce. `TAG_BYTES` is 16 or 32: with another length the
     /// program does not compile.
     ///
     /// ```
@@ -46,7 +47,7 @@ impl<V: Variant, const TAG_BYTES: usize> Mac<V, TAG_BYTES> {
         Self::new_with_nonce(key, &V::Nonce::default())
     }
 
-    /// Returns the MAC of no input so far under a key and a nonce. `TAG_BYTES` is 16 or 32: with another length the program
+    /// Begins a MAC under a key and a nonce. `TAG_BYTES` is 16 or 32: with another length the program
     /// does not compile.
     ///
     /// ```
@@ -59,7 +60,7 @@ impl<V: Variant, const TAG_BYTES: usize> Mac<V, TAG_BYTES> {
         Self::of(Run::of_mac(key, nonce))
     }
 
-    /// Takes in the next chunk of the input.
+    /// Adds the next chunk of the input.
     ///
     /// # Panics
     ///
@@ -85,6 +86,7 @@ impl<V: Variant, const TAG_BYTES: usize> Mac<V, TAG_BYTES> {
     /// mac.update(&[0; 100]);
     /// assert_eq!(mac.remaining(), MAX_AEAD_BYTES - 100);
     /// ```
+    #[must_use]
     pub fn remaining(&self) -> u64 {
         self.run.remaining()
     }
@@ -104,29 +106,7 @@ impl<V: Variant, const TAG_BYTES: usize> Mac<V, TAG_BYTES> {
         self.run.mac()
     }
 
-    /// Returns the MAC of the input with chunks after it.
-    ///
-    /// # Panics
-    ///
-    /// If the input is then longer than [`MAX_AEAD_BYTES`](crate::MAX_AEAD_BYTES).
-    ///
-    /// ```
-    /// use hunkravy::aegis256::Aegis256Mac;
-    ///
-    /// let mac = Aegis256Mac::<16>::new(&[1; 32]);
-    /// let at_once = mac.clone().finalize_chunks(&[b"the input"]);
-    /// assert_eq!(at_once, mac.finalize_chunks(&[b"the ", b"input"]));
-    /// ```
-    #[track_caller]
-    #[must_use]
-    pub fn finalize_chunks(mut self, chunks: &[&[u8]]) -> Tag<TAG_BYTES> {
-        for chunk in chunks {
-            self.update(chunk);
-        }
-        self.finalize()
-    }
-
-    /// Checks that `expected` is the MAC of the input. The comparison looks at every byte.
+    /// Checks that `expected` is the MAC of the input. The comparison reads each byte.
     ///
     /// # Errors
     ///

@@ -1,12 +1,13 @@
 //! Encrypted files that are read and written at any place.
 //!
-//! A file is a text in pages, each of which is encrypted by itself. Changes stay in memory until [`Raf::commit`], which
-//! [`Raf::sync`] and dropping call too, and **after a crash all changes of a commit are there, or none**: they are sealed into a
-//! journal first, the file `PATH.journal` beside the file, which is removed at the end, and which opening completes.
+//! The contents are split into pages, each of which is encrypted on its own. Changes stay in memory until [`Raf::commit`].
+//! [`Raf::sync`] and dropping commit too. **After a crash all changes of a commit are there, or none.** A commit writes its
+//! changes to the journal first, the file `PATH.journal` beside the file. It removes the journal at the end. Opening completes a
+//! commit that was interrupted.
 //!
-//! What is read was written at this place of this file, or of a copy of it, or is a zero, though perhaps not last: an older
-//! page, or an older file, is not detected, unless [`Raf::commitment`] was kept elsewhere. After its text an older page has
-//! zeros, or what was cut off there.
+//! Bytes that are read are zeros, or were written at this place of this file or of a copy of it. They may be older ones: an
+//! older page, or an older file, is detected only if [`Raf::commitment`] was kept elsewhere. After the end of its contents an
+//! older page has zeros, or bytes that were truncated there.
 //!
 //! ```
 //! use hunkravy::raf::{Aegis256, Raf};
@@ -30,13 +31,12 @@
 //! # }
 //! ```
 //!
-//! The names are those of the module `raf` of the crate `aegis`. What differs: the format of the files is another, and so are
-//! the keys that are derived; there is no Merkle tree, in whose place stand [`Raf::commitment`] and [`Raf::verify`]; changes are
-//! committed; and a file is locked while it is open.
+//! The names are those of the module `raf` of the crate `aegis`. The format of the files and the derived keys are different.
+//! [`Raf::commitment`] and [`Raf::verify`] replace the Merkle tree. Changes are committed, and a file is locked while it is open.
 //!
-//! `docs/PAGES.md` in the repository of Hunkravy has the format, which its proved crate `aegis_pages` reads and writes too. Each
-//! page, each header and each record of a journal is sealed and opened by a proved call of the library, as it lies in the file.
-//! How files are read and written around those calls is tested against the proved crate, and not proved.
+//! `docs/PAGES.md` in the repository of Hunkravy has the format. The proved crate `aegis_pages` reads and writes it too. Proved
+//! functions of the library encrypt and decrypt each page, each header and each record of a journal. Reading and writing files
+//! around them is tested against the proved crate, and not proved.
 
 mod algorithm;
 mod builder;
@@ -48,6 +48,7 @@ mod error;
 mod io;
 mod journal;
 mod layout;
+mod lock;
 mod probe;
 mod recovery;
 mod rng;
@@ -61,7 +62,11 @@ pub use derive::derive_key;
 pub use error::{Error, Result};
 pub use io::{Beside, FileIo, JournalChoice, JournalFile, NoJournal, RafIo};
 pub use probe::{RafInfo, probe};
-pub use rng::{OsRng, RafRng};
+#[cfg(not(feature = "raf"))]
+pub use rng::NoRng;
+#[cfg(feature = "raf")]
+pub use rng::OsRng;
+pub use rng::{DefaultRng, RafRng};
 
 use crate::wipe::wipe;
 use alloc::vec;
@@ -71,26 +76,29 @@ use core::fmt;
 use journal::{JournalSeal, PREFIX_BYTES, PendingWrite};
 use layout::{Layout, SECTOR_BYTES, journal_key};
 use std::io::ErrorKind;
+#[cfg(feature = "raf")]
 use std::path::Path;
 
-/// The size of a page for most uses, in bytes of text.
+/// The default size of a page, in bytes of contents.
 pub const DEFAULT_CHUNK_SIZE: u32 = 4032;
 
-/// The most bytes of a text: 2^60.
+/// The most bytes of contents: 2^60.
 pub const MAX_SIZE: u64 = 1 << 60;
 
 /// An encrypted file. [`RafBuilder`] has all ways to create and to open one.
 ///
 /// Changes are kept in memory until a commit: [`commit`](Raf::commit), [`sync`](Raf::sync), dropping, and a
 /// [`write`](Raf::write) or [`truncate`](Raf::truncate) after which they are more than the
-/// [limit](RafBuilder::buffer_limit). **Dropping ignores the error of its commit**, so call `commit` first. No drop commits
-/// after a change or a commit that has failed or panicked, until the next `commit` that succeeds or
-/// [`discard`](Raf::discard), nor while its thread panics. A file that threads share by a mutex and in which one of them has
-/// panicked is dropped by another: call `discard` there.
+/// [limit](RafBuilder::buffer_limit).
 ///
-/// After an error in the middle of a commit the file is broken: each later call that reads, changes or commits it returns
-/// [`Error::Broken`], and if it has a journal, opening it again gives the text of before the commit or the one after it.
-pub struct Raf<A: Algorithm, I: RafIo = FileIo, R: RafRng = OsRng, J: RafIo = JournalFile> {
+/// **Dropping ignores the error of its commit**, so call `commit` first. After a change or a commit that has failed or panicked,
+/// dropping does not commit, until a `commit` succeeds or [`discard`](Raf::discard) is called. Dropping does not commit while its
+/// thread panics. If threads share the file through a mutex and one of them has panicked, call `discard` in the others.
+///
+/// After an error in the middle of a commit the file is broken: each function that reads, changes or commits it returns
+/// [`Error::Broken`]. If it has a journal, opening it again gives the contents before the commit or after it.
+#[must_use]
+pub struct Raf<A: Algorithm, I: RafIo = FileIo, R: RafRng = DefaultRng, J: RafIo = JournalFile> {
     io: I,
     journal: J,
     rng: R,
@@ -110,6 +118,7 @@ pub struct Raf<A: Algorithm, I: RafIo = FileIo, R: RafRng = OsRng, J: RafIo = Jo
     is_cut_short: bool,
 }
 
+#[cfg(feature = "raf")]
 impl<A: Algorithm> Raf<A> {
     /// Creates a file at a path where there is none, as [`RafBuilder::create_file`] does.
     pub fn create_file(path: impl AsRef<Path>, key: &A::Key) -> Result<Self> {
@@ -120,8 +129,10 @@ impl<A: Algorithm> Raf<A> {
     pub fn open_file(path: impl AsRef<Path>, key: &A::Key) -> Result<Self> {
         RafBuilder::new().open_file(path, key)
     }
+}
 
-    /// Derives the key of a file, or of a family of files, from a master key: [`derive_key`] for the keys of this algorithm.
+impl<A: Algorithm> Raf<A> {
+    /// Derives the key of a file, or of a family of files, from a master key, as [`derive_key`] does.
     pub fn derive_master_key(master_key: &A::Key, context: &[u8]) -> Result<A::Key> {
         let mut key = A::Key::default();
         derive::derive(master_key.as_ref(), context, key.as_mut())?;
@@ -130,17 +141,18 @@ impl<A: Algorithm> Raf<A> {
 }
 
 impl<A: Algorithm, I: RafIo, R: RafRng, J: RafIo> Raf<A, I, R, J> {
-    /// Returns the number of bytes of the text.
+    /// Returns the length of the contents in bytes.
+    #[must_use]
     pub fn size(&self) -> u64 {
         self.size
     }
 
-    /// Reads the text from `offset` on, and returns how many bytes: as many as `buf` has, or those up to the text's end.
+    /// Reads the contents from `offset` on. Returns how many bytes: as many as `buf` has, or those up to the end.
     ///
     /// # Errors
     ///
-    /// [`Error::Damaged`] with the number of a page that does not open, [`Error::Io`], or [`Error::Broken`]. Each byte of `buf`
-    /// is then zero.
+    /// [`Error::Damaged`] with the number of a page whose authentication fails, [`Error::Io`], or [`Error::Broken`]. Each byte of
+    /// `buf` is then zero.
     pub fn read(&mut self, buf: &mut [u8], offset: u64) -> Result<usize> {
         let read = self.read_each(buf, offset);
         if read.is_err() {
@@ -166,17 +178,16 @@ impl<A: Algorithm, I: RafIo, R: RafRng, J: RafIo> Raf<A, I, R, J> {
         Ok(count)
     }
 
-    /// Writes `data` over the text from `offset` on, and returns its length. The text grows if need be, with zeros up to
-    /// `offset`, which take memory too.
+    /// Writes `data` over the contents from `offset` on, and returns its length. If the contents end before `offset`, zeros fill
+    /// the gap. They take memory too.
     ///
-    /// The change is in memory, until a commit. **If the changes are then more than the
-    /// [limit](RafBuilder::buffer_limit), of 16 MiB by default, the write is a commit** of all of them.
+    /// The change is in memory until a commit. **If there are more changes than the [limit](RafBuilder::buffer_limit), by default
+    /// 16 MiB, the write commits all of them.**
     ///
     /// # Errors
     ///
-    /// [`Error::TooLong`], [`Error::Damaged`], [`Error::Io`] or [`Error::Broken`], and nothing has changed; or an error of the
-    /// commit, and the change is in memory as it is after an error of [`commit`](Raf::commit). With a limit of `usize::MAX`
-    /// there is no such commit.
+    /// [`Error::TooLong`], [`Error::Damaged`], [`Error::Io`] or [`Error::Broken`]: nothing has changed. Or an error of
+    /// [`commit`](Raf::commit): the change is in memory as that function says. With a limit of `usize::MAX` no write commits.
     pub fn write(&mut self, data: &[u8], offset: u64) -> Result<usize> {
         // It stays so if the change fails, or if a panic ends it.
         let was_cut_short = core::mem::replace(&mut self.is_cut_short, true);
@@ -213,8 +224,8 @@ impl<A: Algorithm, I: RafIo, R: RafRng, J: RafIo> Raf<A, I, R, J> {
         Ok(())
     }
 
-    /// Cuts the text off at `size`, or fills it up to it with zeros, in memory. The errors, and what they leave, are those of
-    /// [`write`](Raf::write). A file does not become shorter by it: the pages past the end stay there, sealed.
+    /// Truncates the contents to `size` bytes, or extends them with zeros, in memory. The errors are those of
+    /// [`write`](Raf::write). The file itself does not become shorter: the pages past the end stay in it, encrypted.
     pub fn truncate(&mut self, size: u64) -> Result<()> {
         if size > self.size {
             self.write(&[], size)?;
@@ -226,19 +237,21 @@ impl<A: Algorithm, I: RafIo, R: RafRng, J: RafIo> Raf<A, I, R, J> {
         Ok(())
     }
 
-    /// Writes all changes since the last commit, so that after a crash all of them are there, or none; with `Ok` all of them
-    /// are certain to be. If nothing has changed, nothing is written.
+    /// Writes all changes since the last commit. After a crash all of them are there, or none. After `Ok` all of them are there.
+    /// If nothing has changed, nothing is written.
     ///
-    /// A file that becomes longer gets its size first. The changed pages and the next header are sealed into the journal, then
-    /// written to their places, and then the journal is emptied, each with a sync.
+    /// If the file becomes longer, its size is set first. Then the changed pages and the next header are written to the journal,
+    /// then to the file, and then the journal is emptied. Each step ends with a sync.
     ///
     /// # Errors
     ///
-    /// [`Error::Broken`], [`Error::Moved`], [`Error::TooLong`], [`Error::Journal`] if another file has the journal's name,
-    /// [`Error::Io`] of a read, of a look at the file's path or at a size, of a size that the file cannot have, or of a place
-    /// where there can be no journal, or an error of the source of random bytes: the changes are still in memory, and in the
-    /// file nothing but its size may have changed. After any other [`Error::Io`] the file is broken. Open it again, which with
-    /// a journal gives the text of before the changes or the one after them.
+    /// - [`Error::Broken`], [`Error::Moved`], [`Error::TooLong`], [`Error::Journal`] if another file has the name of the journal,
+    ///   or an error of the source of random bytes. The changes are still in memory, and only the size of the file may have
+    ///   changed.
+    /// - [`Error::Io`] of reading the file, its path or a size, of setting a size that the file cannot have, or of making the
+    ///   journal: as above.
+    /// - After any other [`Error::Io`] the file is broken. Open it again: with a journal it has the contents before the changes or
+    ///   after them.
     pub fn commit(&mut self) -> Result<()> {
         self.is_cut_short = true;
         self.commit_all()?;
@@ -257,7 +270,7 @@ impl<A: Algorithm, I: RafIo, R: RafRng, J: RafIo> Raf<A, I, R, J> {
         let writes = self.sealed_writes(&sector, counter)?;
         let mut seal = JournalSeal {
             key: journal_key::<A>(&self.layout.key),
-            front: self.layout.journal_front(),
+            start: self.layout.journal_start(),
             prefix: [0; PREFIX_BYTES],
         };
         self.rng.fill(&mut seal.prefix)?;
@@ -288,19 +301,19 @@ impl<A: Algorithm, I: RafIo, R: RafRng, J: RafIo> Raf<A, I, R, J> {
         Ok(())
     }
 
-    /// Commits the changes, as [`commit`](Raf::commit) does.
+    /// Commits the changes: the same as [`commit`](Raf::commit).
     pub fn sync(&mut self) -> Result<()> {
         self.commit()
     }
 
-    /// Forgets all changes since the last commit.
+    /// Discards all changes since the last commit.
     pub fn discard(&mut self) {
         self.changes.clear();
         self.size = self.stored;
         self.is_cut_short = false;
     }
 
-    /// Returns a cursor at the start of the text, which reads, writes and seeks as a file does.
+    /// Returns a cursor at the start of the contents, which is `Read`, `Write` and `Seek`.
     pub fn cursor(&mut self) -> RafCursor<'_, A, I, R, J> {
         RafCursor::new(self)
     }
@@ -357,8 +370,8 @@ impl<A: Algorithm, I: RafIo, R: RafRng, J: RafIo> Raf<A, I, R, J> {
         Ok(())
     }
 
-    /// Returns the writes of a commit: that of the sector with which the file begins, which changes nothing but tells of which
-    /// file the journal is, those of the changed pages, and that of the next header.
+    /// Returns the writes of a commit: the first sector of the file, the changed pages, and the next header. The first sector does
+    /// not change: it shows to which file the journal belongs.
     fn sealed_writes(
         &mut self,
         sector: &[u8; SECTOR_BYTES],
@@ -401,5 +414,77 @@ impl<A: Algorithm, I: RafIo, R: RafRng, J: RafIo> fmt::Debug for Raf<A, I, R, J>
         f.debug_struct("Raf")
             .field("size", &self.size)
             .finish_non_exhaustive()
+    }
+}
+
+#[cfg(test)]
+mod tests {
+    use super::layout::Layout;
+    use super::{Aegis256, Error, MAX_SIZE, NoJournal, RafBuilder, RafIo, RafRng, Result};
+    use crate::exports::PageHeader;
+    use alloc::vec::Vec;
+    use std::io::{self, ErrorKind};
+
+    /// A file of its header alone, which nothing writes.
+    struct Header(Vec<u8>);
+
+    impl RafIo for Header {
+        fn read_at(&mut self, buf: &mut [u8], offset: u64) -> io::Result<()> {
+            let rest = self.0.get(offset as usize..).unwrap_or(&[]);
+            let part = rest.get(..buf.len()).ok_or(ErrorKind::UnexpectedEof)?;
+            buf.copy_from_slice(part);
+            Ok(())
+        }
+
+        fn write_at(&mut self, _data: &[u8], _offset: u64) -> io::Result<()> {
+            Err(ErrorKind::Unsupported.into())
+        }
+
+        fn get_size(&mut self) -> io::Result<u64> {
+            Ok(self.0.len() as u64)
+        }
+
+        fn set_size(&mut self, _size: u64) -> io::Result<()> {
+            Err(ErrorKind::Unsupported.into())
+        }
+    }
+
+    struct Zeros;
+
+    impl RafRng for Zeros {
+        fn fill(&mut self, buf: &mut [u8]) -> Result<()> {
+            buf.fill(0);
+            Ok(())
+        }
+    }
+
+    /// The last byte of the longest text may be written, and none after it.
+    #[test]
+    fn the_longest_text() {
+        let header = PageHeader {
+            page_size: 256,
+            text_len: MAX_SIZE,
+            ..PageHeader::default()
+        };
+        let layout = Layout::<Aegis256>::of(&[7; 32], &header);
+        let sector = layout.header(0, MAX_SIZE, &[1; 32]).to_vec();
+        let builder = RafBuilder::<Aegis256>::with_rng(Zeros).journal(NoJournal);
+        let mut file = builder.open(Header(sector), &[7; 32]).unwrap();
+        assert_eq!(file.size(), MAX_SIZE);
+        // Its page is not there.
+        let written = file.write(&[1], MAX_SIZE - 1);
+        assert!(matches!(written, Err(Error::Io(_))), "{written:?}");
+        for (data, offset) in [
+            (&[1, 2][..], MAX_SIZE - 1),
+            (&[1], MAX_SIZE),
+            (&[], MAX_SIZE + 1),
+        ] {
+            let written = file.write(data, offset);
+            assert!(matches!(written, Err(Error::TooLong)), "{written:?}");
+        }
+        assert!(matches!(file.write(&[], MAX_SIZE), Ok(0)));
+        assert!(file.truncate(MAX_SIZE).is_ok());
+        assert!(matches!(file.truncate(MAX_SIZE + 1), Err(Error::TooLong)));
+        file.discard();
     }
 }

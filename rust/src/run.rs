@@ -53,7 +53,7 @@ impl<V: Variant> Run<V> {
         tag
     }
 
-    /// Turns the next bytes of the ciphertext into those of the message, whatever the tag will be.
+    /// Decrypts the next bytes of the ciphertext. They are not verified.
     #[track_caller]
     pub fn open_unverified(&mut self, chunk: &mut [u8]) {
         done(self.state.decrypt_in_place_unverified(chunk));
@@ -137,6 +137,19 @@ mod tests {
         assert_eq!(decryptor.update(&[0; 1]), Err(Error::MessageTooLong));
         drop(decryptor);
         assert_eq!(buffer, [0, 0xff]);
+    }
+
+    /// A chunk is counted before it is decrypted, so that it is erased also if that panics.
+    #[cfg(feature = "std")]
+    #[test]
+    fn a_decryptor_that_panics_erases() {
+        use std::panic::{AssertUnwindSafe, catch_unwind};
+        let mut buffer = [0xff; 4];
+        let mut decryptor = Decryptor::<16>::new(Run::ended(), &mut buffer);
+        let update = AssertUnwindSafe(|| decryptor.update(&[1; 3]));
+        assert!(catch_unwind(update).is_err());
+        drop(decryptor);
+        assert_eq!(buffer, [0, 0, 0, 0xff]);
     }
 
     #[test]

@@ -7,10 +7,10 @@
 /// ```
 pub type Tag<const TAG_BYTES: usize> = [u8; TAG_BYTES];
 
-/// One of the six variants: the marker of a module, by which [`Cipher`](crate::Cipher),
-/// [`Encryptor`](crate::Encryptor), [`Decryptor`](crate::Decryptor) and [`Mac`](crate::Mac) are that module's.
+/// A variant of AEGIS. The marker of each module implements it, and is the first parameter of [`Cipher`](crate::Cipher),
+/// [`Encryptor`](crate::Encryptor), [`Decryptor`](crate::Decryptor) and [`Mac`](crate::Mac).
 ///
-/// Only the markers of this crate implement it. It is for code that is generic in the variant:
+/// No other type can implement it. It is for code that is generic in the variant:
 ///
 /// ```
 /// use hunkravy::{Cipher, Tag, Variant, aegis128l::Aegis128L, aegis256::Aegis256};
@@ -99,7 +99,7 @@ macro_rules! module {
             /// ```
             pub type Nonce = [u8; $bytes];
 
-            #[doc = concat!("The type that stands for ", $standard, ".")]
+            #[doc = concat!("The marker of ", $standard, ".")]
             ///
             /// ```
             #[doc = concat!("use hunkravy::{Cipher, ", stringify!($module), "::Algorithm};")]
@@ -122,7 +122,7 @@ macro_rules! module {
                 const CIPHER: &'static str = stringify!($cipher);
             }
 
-            #[doc = concat!($standard, " under a key and a nonce. [`Cipher`](crate::Cipher) has its calls.")]
+            #[doc = concat!($standard, " under a key and a nonce. [`Cipher`](crate::Cipher) has its functions.")]
             ///
             /// ```
             #[doc = concat!("use hunkravy::", stringify!($module), "::", stringify!($cipher), ";")]
@@ -132,7 +132,7 @@ macro_rules! module {
             /// ```
             pub type $cipher<const TAG_BYTES: usize> = crate::Cipher<Algorithm, TAG_BYTES>;
 
-            #[doc = concat!("Seals a message of ", $standard, " that comes in chunks.")]
+            #[doc = concat!("Encrypts a message of ", $standard, " in chunks.")]
             ///
             /// ```
             #[doc = concat!("use hunkravy::", stringify!($module), "::{", stringify!($cipher), ", Encryptor};")]
@@ -145,14 +145,16 @@ macro_rules! module {
             /// ```
             pub type Encryptor<const TAG_BYTES: usize> = crate::Encryptor<Algorithm, TAG_BYTES>;
 
-            #[doc = concat!("Opens a message of ", $standard, " that comes in chunks.")]
+            #[doc = concat!("Decrypts a message of ", $standard, " in chunks.")]
             ///
             /// ```
             #[doc = concat!("use hunkravy::", stringify!($module), "::{", stringify!($cipher), ", Decryptor, Error};")]
             ///
             #[doc = concat!("let cipher = ", stringify!($cipher), "::new(&[1; ", $bytes, "], &[2; ", $bytes, "]);")]
-            /// let mut ciphertext = [0; 7];
-            /// let tag = cipher.seal_chunks(b"header", &[b"a chunk"], &mut ciphertext);
+            /// let mut ciphertext = *b"a chunk";
+            /// let mut encryptor = cipher.encryptor(b"header");
+            /// encryptor.update_in_place(&mut ciphertext);
+            /// let tag = encryptor.finalize();
             ///
             /// let mut buffer = [0; 7];
             /// let mut decryptor: Decryptor<'_, 16> = cipher.decryptor(b"header", &mut buffer);
@@ -162,7 +164,7 @@ macro_rules! module {
             /// ```
             pub type Decryptor<'a, const TAG_BYTES: usize> = crate::Decryptor<'a, Algorithm, TAG_BYTES>;
 
-            #[doc = concat!("The MAC of ", $standard, ". [`Mac`](crate::Mac) has its calls.")]
+            #[doc = concat!("The MAC of ", $standard, ". [`Mac`](crate::Mac) has its functions.")]
             ///
             /// ```
             #[doc = concat!("use hunkravy::", stringify!($module), "::{", stringify!($mac), ", Error};")]
@@ -179,26 +181,26 @@ macro_rules! module {
 }
 
 module! {
-    /// Faster than AEGIS-256. At most 2^48 nonces may be drawn at random under one key.
+    /// Faster than AEGIS-256. Generate at most 2^48 random nonces under one key.
     mod aegis128l, "AEGIS-128L", Aegis128L, Aegis128LMac, AEGIS128L, 16
 }
 module! {
-    /// For data that another program seals or opens by it.
+    /// For data of other programs that use it.
     mod aegis128x2, "AEGIS-128X2", Aegis128X2, Aegis128X2Mac, AEGIS128X2, 16, derive(Clone, Copy)
 }
 module! {
-    /// For data that another program seals or opens by it.
+    /// For data of other programs that use it.
     mod aegis128x4, "AEGIS-128X4", Aegis128X4, Aegis128X4Mac, AEGIS128X4, 16, derive(Clone, Copy)
 }
 module! {
-    /// Use this one, unless you have a reason for another. Nonces may be drawn at random.
+    /// Use it unless you have a reason for another. Nonces may be random.
     mod aegis256, "AEGIS-256", Aegis256, Aegis256Mac, AEGIS256, 32
 }
 module! {
-    /// For data that another program seals or opens by it. Nonces may be drawn at random.
+    /// For data of other programs that use it. Nonces may be random.
     mod aegis256x2, "AEGIS-256X2", Aegis256X2, Aegis256X2Mac, AEGIS256X2, 32, derive(Clone, Copy)
 }
 module! {
-    /// For data that another program seals or opens by it. Nonces may be drawn at random.
+    /// For data of other programs that use it. Nonces may be random.
     mod aegis256x4, "AEGIS-256X4", Aegis256X4, Aegis256X4Mac, AEGIS256X4, 32, derive(Clone, Copy)
 }

@@ -8,6 +8,17 @@ pub(crate) fn wipe(bytes: &mut [u8]) {
     }
 }
 
+/// Bytes that are overwritten when they are dropped. A vector must not have grown: what it was copied from is not overwritten.
+#[cfg(feature = "std")]
+pub(crate) struct Wiped<T: AsMut<[u8]>>(pub T);
+
+#[cfg(feature = "std")]
+impl<T: AsMut<[u8]>> Drop for Wiped<T> {
+    fn drop(&mut self) {
+        wipe(self.0.as_mut());
+    }
+}
+
 #[cfg(test)]
 pub(crate) mod tests {
     use core::mem::MaybeUninit;

@@ -1,6 +1,7 @@
 //! For what the crate is built: which targets, and without the standard library.
 
-use std::fs;
+use std::fs::{self, Permissions};
+use std::os::unix::fs::PermissionsExt;
 use std::path::{Path, PathBuf};
 use std::process::Command;
 
@@ -37,79 +38,157 @@ fn targets() {
     }
 }
 
+/// The program `build.rs`, run as Cargo runs it, with a package of its own.
+struct Script {
+    program: PathBuf,
+    package: PathBuf,
+}
+
+impl Script {
+    fn new(name: &str) -> Self {
+        let package = folder(name);
+        let program = package.join("build");
+        let script = Path::new(env!("CARGO_MANIFEST_DIR")).join("build.rs");
+        compile(&["-o", program.to_str().unwrap()], &script);
+        Script { program, package }
+    }
+
+    /// Runs it with these variables alone, and returns the lines that it prints.
+    fn run(&self, variables: &[(&str, &Path)]) -> Vec<String> {
+        let mut command = Command::new(&self.program);
+        command
+            .env_clear()
+            .env("TARGET", "x86_64-unknown-linux-gnu");
+        command.env("PATH", std::env::var_os("PATH").unwrap());
+        command.env("CARGO_MANIFEST_DIR", &self.package);
+        command.env("PKG_CONFIG", "/nowhere/pkg-config");
+        let output = command.envs(variables.iter().copied()).output().unwrap();
+        let printed = String::from_utf8(output.stdout).unwrap();
+        printed.lines().map(str::to_owned).collect()
+    }
+
+    /// A folder with an archive in it.
+    fn with_archive(&self, name: &str) -> PathBuf {
+        let folder = self.package.join(name);
+        fs::create_dir_all(&folder).unwrap();
+        fs::write(folder.join("libhunkravy.a"), "").unwrap();
+        folder.canonicalize().unwrap()
+    }
+}
+
+/// Compiles a program with these arguments.
+fn compile(arguments: &[&str], program: &Path) {
+    let rustc = std::env::var_os("RUSTC").unwrap_or_else(|| "rustc".into());
+    let mut command = Command::new(rustc);
+    let status = command
+        .arg("--edition=2024")
+        .args(arguments)
+        .arg(program)
+        .status();
+    assert!(status.unwrap().success());
+}
+
 /// A build for another target fails, and says why.
 #[test]
 fn a_build_for_another_target() {
-    let script = Path::new(env!("CARGO_MANIFEST_DIR")).join("build.rs");
-    let program = folder("another-target").join("build");
-    let rustc = std::env::var_os("RUSTC").unwrap_or_else(|| "rustc".into());
-    let compiled = Command::new(rustc)
-        .args(["--edition=2024", "-o"])
-        .arg(&program)
-        .arg(script)
-        .status();
-    assert!(compiled.unwrap().success());
-    let run = |target| {
-        let output = Command::new(&program)
-            .env("TARGET", target)
-            .output()
-            .unwrap();
-        String::from_utf8(output.stdout).unwrap()
+    let script = Script::new("another-target");
+    let printed = script.run(&[("TARGET", Path::new("x86_64-unknown-linux-musl"))]);
+    let has = |start: &str| printed.iter().any(|line| line.starts_with(start));
+    assert!(
+        has("cargo::error=") && !has("cargo::rustc-link"),
+        "{printed:?}"
+    );
+    let printed = script.run(&[]);
+    let has = |start: &str| printed.iter().any(|line| line.starts_with(start));
+    assert!(
+        !has("cargo::error=") && has("cargo::rustc-link-lib"),
+        "{printed:?}"
+    );
+}
+
+/// The library is that of the variable, then that of the package, then that of pkg-config; and whatever would change that is
+/// looked at again.
+#[test]
+fn the_library_that_is_found() {
+    let script = Script::new("found");
+    let (named, installed) = (
+        script.with_archive("named"),
+        script.with_archive("installed"),
+    );
+    let pkg_config = script.package.join("pkg-config");
+    let text = format!(
+        "#!/bin/sh\n[ \"$*\" = '--variable=libdir hunkravy' ] && echo {}\n",
+        installed.display()
+    );
+    fs::write(&pkg_config, text).unwrap();
+    fs::set_permissions(&pkg_config, Permissions::from_mode(0o755)).unwrap();
+    let _ = fs::remove_dir_all(script.package.join("lib"));
+    let empty = script.package.join("named/none");
+
+    let finds = |variables: &[(&str, &Path)], folder: Option<&Path>| {
+        let printed = script.run(variables);
+        let has = |line: String| printed.contains(&line);
+        for variable in [
+            "HUNKRAVY_LIB_DIR",
+            "PKG_CONFIG",
+            "PKG_CONFIG_PATH",
+            "PKG_CONFIG_LIBDIR",
+            "PKG_CONFIG_SYSROOT_DIR",
+        ] {
+            assert!(
+                has(format!("cargo::rerun-if-env-changed={variable}")),
+                "{printed:?}"
+            );
+        }
+        let found: Vec<&String> = printed
+            .iter()
+            .filter(|line| line.contains("link-search"))
+            .collect();
+        let Some(folder) = folder else {
+            assert!(
+                found.is_empty() && has("cargo::rerun-if-changed=lib/libhunkravy.a".to_owned())
+            );
+            assert!(
+                printed
+                    .iter()
+                    .any(|line| line.starts_with("cargo::warning="))
+            );
+            return;
+        };
+        let folder = folder.display();
+        assert_eq!(
+            found,
+            [&format!("cargo::rustc-link-search=native={folder}")]
+        );
+        assert!(
+            has(format!("cargo::rerun-if-changed={folder}/libhunkravy.a")),
+            "{printed:?}"
+        );
     };
-    let printed = run("x86_64-unknown-linux-musl");
-    assert!(
-        printed.contains("cargo::error=") && !printed.contains("cargo::rustc-link"),
-        "{printed}"
-    );
-    let printed = run("x86_64-unknown-linux-gnu");
-    assert!(
-        !printed.contains("cargo::error=") && printed.contains("cargo::rustc-link-lib"),
-        "{printed}"
-    );
+    let (by_name, by_program) = (("HUNKRAVY_LIB_DIR", &*named), ("PKG_CONFIG", &*pkg_config));
+    finds(&[], None);
+    finds(&[by_program], Some(&installed));
+    finds(&[by_name], Some(&named));
+    // A name that is wrong is an error, and no other library is taken in its place.
+    finds(&[("HUNKRAVY_LIB_DIR", &*empty), by_program], None);
+    let own = script.with_archive("lib");
+    finds(&[by_program], Some(&own));
+    finds(&[by_name, by_program], Some(&named));
+    finds(&[("HUNKRAVY_LIB_DIR", &*empty), by_program], None);
 }
-
-/// A program that has no standard library: it brings what a program must have once, so it fails if this crate brings it
-/// too.
-const PROGRAM: &str = r#"
-#![no_std]
-use core::alloc::{GlobalAlloc, Layout};
-
-struct None;
-
-unsafe impl GlobalAlloc for None {
-    unsafe fn alloc(&self, _layout: Layout) -> *mut u8 {
-        core::ptr::null_mut()
-    }
-    unsafe fn dealloc(&self, _place: *mut u8, _layout: Layout) {}
-}
-
-#[global_allocator]
-static NONE: None = None;
-
-#[panic_handler]
-fn panic(_info: &core::panic::PanicInfo) -> ! {
-    loop {}
-}
-
-#[unsafe(no_mangle)]
-pub extern "C" fn sealed(byte: &mut u8) -> u8 {
-    let cipher = hunkravy::aegis256::Aegis256::<16>::new(&[1; 32], &[2; 32]);
-    cipher.encrypt_in_place(core::slice::from_mut(byte), b"header")[0]
-}
-"#;
 
 const MANIFEST: &str = r#"
 [package]
-name = "without-std"
+name = "NAME"
 version = "0.0.0"
 edition = "2024"
 
 [lib]
-path = "program.rs"
-crate-type = ["staticlib"]
+path = "PROGRAM"
+crate-type = ["lib", "staticlib"]
 
 [dependencies]
-hunkravy = { path = "CRATE", FEATURES }
+DEPENDENCY
 
 [profile.dev]
 panic = "abort"
@@ -123,35 +202,155 @@ fn folder(name: &str) -> PathBuf {
     folder
 }
 
-/// Builds the program over this crate with these features. Returns whether that is possible, and what Cargo has
-/// printed.
-fn build_program(name: &str, features: &str) -> (bool, String) {
+/// Runs a command of Cargo on a program of `tests/programs` over this crate, as this line of its manifest names it. Returns
+/// whether it succeeds, and what Cargo has printed.
+fn cargo(command: &str, program: &str, name: &str, dependency: &str) -> (bool, String) {
     let folder = folder(name);
-    let manifest = MANIFEST.replace("CRATE", env!("CARGO_MANIFEST_DIR"));
-    fs::write(
-        folder.join("Cargo.toml"),
-        manifest.replace("FEATURES", features),
-    )
-    .unwrap();
-    fs::write(folder.join("program.rs"), PROGRAM).unwrap();
+    let package = env!("CARGO_MANIFEST_DIR");
+    let program = format!("{package}/tests/programs/{program}.rs");
+    let manifest = MANIFEST.replace("NAME", name).replace("PROGRAM", &program);
+    let dependency = dependency.replace("PATH", &format!("path = \"{package}\""));
+    let manifest = manifest.replace("DEPENDENCY", &dependency);
+    fs::write(folder.join("Cargo.toml"), manifest).unwrap();
     let mut cargo = Command::new(env!("CARGO"));
-    cargo
-        .args(["build", "--offline", "--target-dir"])
-        .arg(folder.join("target"));
+    cargo.args([
+        command,
+        "--offline",
+        "--message-format=short",
+        "--target-dir",
+    ]);
+    cargo.arg(folder.join("target"));
     let output = cargo.current_dir(&folder).output().unwrap();
-    (
-        output.status.success(),
-        String::from_utf8_lossy(&output.stderr).into_owned(),
-    )
+    let printed = String::from_utf8_lossy(&output.stderr).into_owned();
+    (output.status.success(), printed)
 }
 
 /// Without its feature `std` the crate needs `core` and `alloc` alone. With it the same program has two panic handlers.
 #[test]
 fn without_the_standard_library() {
-    let (is_built, printed) = build_program("without-std", "default-features = false");
+    let dependency = "hunkravy = { PATH, default-features = false }";
+    let (is_built, printed) = cargo("build", "without_std", "without-std", dependency);
     assert!(is_built, "{printed}");
-    let (is_built, printed) = build_program("with-std", "default-features = true");
+    let (is_built, printed) = cargo("check", "without_std", "with-std", "hunkravy = { PATH }");
     assert!(!is_built && printed.contains("panic_impl"), "{printed}");
+}
+
+/// Manifests that name the features of the crate `aegis`, and this crate in its place.
+#[test]
+fn manifests_of_the_crate_aegis() {
+    for (program, features, is_right) in [
+        ("with_ciphers", "", true),
+        ("with_ciphers", ", features = [\"pure-rust\"]", true),
+        ("with_ciphers", ", default-features = false", true),
+        ("with_raf", ", features = [\"raf\"]", true),
+        (
+            "with_raf",
+            ", default-features = false, features = [\"raf\"]",
+            true,
+        ),
+        (
+            "with_raf_core",
+            ", default-features = false, features = [\"raf-core\"]",
+            true,
+        ),
+        // There the program gives the random bytes.
+        (
+            "with_raf",
+            ", default-features = false, features = [\"raf-core\"]",
+            false,
+        ),
+        (
+            "with_raf_core",
+            ", default-features = false, features = [\"std\"]",
+            false,
+        ),
+    ] {
+        let dependency = format!("aegis = {{ package = \"hunkravy\", PATH{features} }}");
+        let (is_built, printed) = cargo("check", program, "of-aegis", &dependency);
+        assert_eq!(is_built, is_right, "{dependency} {printed}");
+        assert!(
+            !is_built || !printed.contains("warning: unused"),
+            "{printed}"
+        );
+        assert!(is_built || printed.contains("error[E"), "{printed}");
+    }
+}
+
+/// Whoever drops a message, a tag, a state or an error is warned.
+#[test]
+fn results_that_must_be_used() {
+    let dependency = "aegis = { package = \"hunkravy\", PATH }";
+    let (is_built, printed) = cargo("check", "unused", "unused", dependency);
+    assert!(is_built, "{printed}");
+    let program = include_str!("programs/unused.rs");
+    let (before, body) = program.split_once("pub fn unused").unwrap();
+    let first = before.lines().count() + 2;
+    let is_warned = |line: usize| {
+        let place = format!("programs/unused.rs:{line}:");
+        printed
+            .lines()
+            .any(|text| text.contains(&place) && text.contains("unused"))
+    };
+    let statements: Vec<&str> = body
+        .lines()
+        .skip(1)
+        .take_while(|line| *line != "}")
+        .collect();
+    assert!(statements.len() > 40);
+    for (number, statement) in statements.iter().enumerate() {
+        assert!(is_warned(first + number), "{statement}");
+    }
+}
+
+/// Secrets are overwritten in an optimized program too.
+#[test]
+fn wiping() {
+    let folder = folder("wiping");
+    let library = build::folder().unwrap();
+    let library = library.to_str().unwrap();
+    let programs = Path::new(env!("CARGO_MANIFEST_DIR")).join("tests/programs");
+    let place = folder.to_str().unwrap();
+    let rlib = [
+        "-O",
+        "--crate-type=lib",
+        "--cfg",
+        "feature=\"std\"",
+        "--out-dir",
+        place,
+    ];
+    compile(&rlib, &programs.join("wipes.rs"));
+    let linked = [
+        "-O",
+        "-L",
+        place,
+        "--extern",
+        "wipes",
+        "-L",
+        library,
+        "-lstatic=hunkravy",
+        "--out-dir",
+        place,
+    ];
+    compile(&linked, &programs.join("left.rs"));
+    let output = Command::new(folder.join("left")).output().unwrap();
+    assert!(output.status.success(), "{output:?}");
+    assert_eq!(output.stdout, b"6 functions\n");
+}
+
+/// The library's struct of a stream has as many words in its header.
+#[test]
+fn structs() {
+    let header = include_str!("../../c/include/hunkravy_records.h");
+    let exports = include_str!("../src/exports.rs");
+    let number = |text: &str, start: &str| -> u32 {
+        let after = text.split(start).nth(1).expect("it is declared");
+        let digits = after.split(|c: char| !c.is_ascii_digit()).next();
+        digits.unwrap().parse().unwrap()
+    };
+    assert_eq!(
+        number(header, "uint64_t opaque["),
+        number(exports, "OPAQUE_WORDS: usize = ")
+    );
 }
 
 /// The page's samples are tests of the crate's documentation, so it has to have some.

@@ -32,6 +32,13 @@ fn records() {
 }
 
 #[test]
+fn seal() {
+    let printed = printed("seal", &[]);
+    assert_eq!(printed.lines().count(), 3);
+    assert!(printed.ends_with("opened, and refused with another header\n"));
+}
+
+#[test]
 fn store() {
     assert_eq!(printed("store", &[]), "");
     let folder = PathBuf::from(env!("CARGO_TARGET_TMPDIR")).join("store");

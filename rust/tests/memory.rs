@@ -1,16 +1,30 @@
 //! How much memory a file takes, and what is left in memory that was freed, as an allocator sees it. Both are one test,
 //! since they count all of the program.
 
+use hunkravy::files::{SealedReader, SealedWriter};
 use hunkravy::raf::{Aegis256, Raf, RafBuilder};
+use hunkravy::records::Sealer;
 use std::alloc::{GlobalAlloc, Layout, System};
-use std::fs;
+use std::fs::{self, File};
+use std::io::{ErrorKind, Read, Seek, SeekFrom, Write};
 use std::path::Path;
 use std::slice;
 use std::sync::atomic::{AtomicUsize, Ordering::SeqCst};
 
-/// The lengths of a page's text, and of a page: no other allocation of the program has one of them.
+/// The lengths of a page's text, of a page, and of a record of a whole piece.
 const CHUNK_BYTES: usize = 1009;
 const PAGE_BYTES: usize = 32 + CHUNK_BYTES + 32;
+const RECORD_BYTES: usize = 65_536 + 37;
+/// Longer and longer messages, and how much memory is taken for their records, in steps.
+const MESSAGES: [usize; 3] = [1100, 200_000, 500_000];
+const GROWN: [usize; 5] = [1137, 2 * RECORD_BYTES, 200_037, 2 * 200_037, 500_037];
+
+/// Whether an allocation is that of a text. No others of the program have these lengths.
+fn is_of_text(layout: Layout) -> bool {
+    let lengths = [CHUNK_BYTES, PAGE_BYTES, RECORD_BYTES];
+    let is_one = lengths.contains(&layout.size()) || GROWN.contains(&layout.size());
+    layout.align() == 1 && is_one
+}
 const LIMIT: usize = 1 << 20;
 /// A text is of this byte, in which a freed page is recognized.
 const MARK: u8 = 0xc7;
@@ -38,7 +52,7 @@ unsafe impl GlobalAlloc for Counting {
 
     unsafe fn dealloc(&self, place: *mut u8, layout: Layout) {
         NOW.fetch_sub(layout.size(), SeqCst);
-        if layout.align() == 1 && [CHUNK_BYTES, PAGE_BYTES].contains(&layout.size()) {
+        if is_of_text(layout) {
             // SAFETY: it is not freed yet, and each of its bytes was written.
             let bytes = unsafe { slice::from_raw_parts(place, layout.size()) };
             FREED.fetch_add(1, SeqCst);
@@ -90,8 +104,86 @@ fn read(path: &Path) {
     );
 }
 
+/// Writes 20 pieces and a part of one.
+fn seal(path: &Path) {
+    let mut writer = SealedWriter::new(File::create(path).unwrap(), &[7; 32]).unwrap();
+    for _ in 0..1250 {
+        writer.write_all(&[MARK; 1100]).unwrap();
+    }
+    writer.finish().unwrap();
+    // One that is dropped leaves nothing either.
+    let mut writer = SealedWriter::new(std::io::sink(), &[7; 32]).unwrap();
+    writer.write_all(&[MARK; 1100]).unwrap();
+}
+
+/// Reads all of it, and a part of it.
+fn unseal(path: &Path) {
+    let mut reader = SealedReader::new(File::open(path).unwrap(), &[7; 32]);
+    let mut buffer = [0; 1000];
+    let mut count = 0;
+    while let Ok(more @ 1..) = reader.read(&mut buffer) {
+        count += more;
+    }
+    assert_eq!(count, 1250 * 1100);
+    reader.seek(SeekFrom::Start(100_000)).unwrap();
+    reader.read_exact(&mut buffer).unwrap();
+    assert_eq!(buffer, [MARK; 1000]);
+}
+
+/// A file of a record that is announced as the longest one, of which so many bytes are there.
+fn announced(path: &Path, count: usize) {
+    let mut head = Sealer::new(&[7; 32], &[1; 24], b"hunkravy v1")
+        .unwrap()
+        .header()
+        .to_vec();
+    head.extend([0, 0, 0, 0, 1]);
+    head.splice(0..0, [1; 24]);
+    head.resize(head.len() + count, 0);
+    fs::write(path, head).unwrap();
+}
+
+fn read_announced(path: &Path) {
+    let mut reader = SealedReader::new(File::open(path).unwrap(), &[7; 32]);
+    let error = reader.read(&mut [0; 10]).unwrap_err();
+    assert_eq!(error.kind(), ErrorKind::InvalidData);
+}
+
+/// Reads longer and longer records.
+fn longer_records() {
+    let mut sealer = Sealer::new(&[7; 32], &[1; 24], b"hunkravy v1").unwrap();
+    let mut file = [&[1; 24][..], &sealer.header()].concat();
+    for length in MESSAGES {
+        sealer.seal_next(&vec![MARK; length], &mut file).unwrap();
+    }
+    sealer.seal_last(&[], &mut file).unwrap();
+    let freed = FREED.load(SeqCst);
+    let mut reader = SealedReader::new(&file[..], &[7; 32]);
+    assert_eq!(
+        std::io::copy(&mut reader, &mut std::io::sink()).unwrap(),
+        701_100
+    );
+    drop(reader);
+    assert_eq!(FREED.load(SeqCst) - freed, GROWN.len() + 1);
+}
+
+/// A sealed file takes a record and what is constant. A record that is announced takes no more than twice what is there of
+/// it.
+fn of_a_sealed_file(path: &Path) {
+    for done in [seal, unseal] {
+        let most = most_of(|| done(path));
+        assert!(most > RECORD_BYTES && most < RECORD_BYTES + 5_000, "{most}");
+    }
+    for count in [0, 100, 100_000, 1_000_000] {
+        announced(path, count);
+        let most = most_of(|| read_announced(path));
+        assert!(most < RECORD_BYTES + 3 * count + 5_000, "{most} of {count}");
+    }
+    longer_records();
+    fs::remove_file(path).unwrap();
+}
+
 /// A file takes the limit and a write over it, and in a commit twice as much again; one that is read takes no more than
-/// a page and what is constant. No page that was freed has any of the text left.
+/// a page and what is constant. No page and no record that was freed has any of the text left.
 #[test]
 fn of_a_file() {
     let path = std::env::temp_dir().join(format!("hunkravy-memory-{}", std::process::id()));
@@ -103,6 +195,7 @@ fn of_a_file() {
     let read = most_of(|| read(&path));
     assert!(read > PAGE_BYTES && read < PAGE_BYTES + 20_000, "{read}");
     fs::remove_file(&path).unwrap();
+    of_a_sealed_file(&path);
     assert!(FREED.load(SeqCst) > 10_000, "{FREED:?}");
     assert_eq!(UNWIPED.load(SeqCst), 0);
 }

@@ -125,9 +125,9 @@ fn copies() {
     }
     let (first, second) = twice(aegis::aegis128x2::Aegis128X2::<16>::new(&[1; 16], &[2; 16]));
     assert_eq!(first.encrypt(b"m", b""), second.encrypt(b"m", b""));
-    twice(aegis::aegis128x4::Aegis128X4::<16>::new(&[1; 16], &[2; 16]));
-    twice(aegis::aegis256x2::Aegis256X2::<16>::new(&[1; 32], &[2; 32]));
-    twice(aegis::aegis256x4::Aegis256X4::<16>::new(&[1; 32], &[2; 32]));
+    let _ = twice(aegis::aegis128x4::Aegis128X4::<16>::new(&[1; 16], &[2; 16]));
+    let _ = twice(aegis::aegis256x2::Aegis256X2::<16>::new(&[1; 32], &[2; 32]));
+    let _ = twice(aegis::aegis256x4::Aegis256X4::<16>::new(&[1; 32], &[2; 32]));
 }
 
 /// Each type can be handed to another thread, and looked at from two.

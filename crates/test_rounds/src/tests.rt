@@ -1,5 +1,6 @@
 //! The tests, and the comparison that they share.
 
+mod bodies;
 mod rounds;
 mod rows;
 

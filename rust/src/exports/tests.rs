@@ -1,8 +1,8 @@
 //! The calls on a state, in orders and with lengths that the crate does not make, and those on pages, headers and records.
 
 use super::{
-    Answer, ERASED, PageHeader, RECORD_BYTES, RECORD_HEAD_BYTES, Records, Refusal, State, VARIANTS,
-    Variant,
+    Answer, ERASED, OPAQUE_WORDS, PageHeader, RECORD_BYTES, RECORD_HEAD_BYTES, Records, Refusal,
+    State, VARIANTS, Variant,
 };
 use crate::MAX_AEAD_BYTES;
 use crate::wipe::tests::left_of;
@@ -79,15 +79,15 @@ fn assert_refused(st: &State, message: Refusal, mac: Refusal, bytes: usize) {
 
 /// Checks that each call that ends a message has the one answer, and that ends a MAC the other, and changes nothing.
 fn assert_not_ended(st: &State, message: Refusal, mac: Refusal, tag_bytes: usize) {
-    let (mut m, mut tags) = ([0x77; 64], [0x66; 40]);
+    let mut tags = [0x66; 40];
     let tag = &mut tags[..tag_bytes];
     let mut copy = st.clone();
     assert_eq!(copy.encrypt_final(tag), Err(message));
-    assert_eq!(copy.decrypt_final(&mut m, tag), Err(message));
+    assert_eq!(copy.decrypt_final(&mut [], tag), Err(message));
     assert_eq!(copy.mac_final(tag), Err(mac));
     assert_eq!(copy.mac_final_verify(tag), Err(mac));
     assert_eq!(contents(&copy), contents(st));
-    assert_eq!((m, tags), ([0x77; 64], [0x66; 40]));
+    assert_eq!(tags, [0x66; 40]);
 }
 
 #[test]
@@ -103,6 +103,8 @@ fn a_state_that_was_not_begun_or_has_ended_is_refused() {
         let answer = accepted.decrypt_final(&mut mc, &tag);
         assert_eq!((answer, &mc[..]), (Ok(()), MESSAGE));
         let mut refused = begun(variant, AD);
+        let answer = refused.decrypt_in_place_unverified(&mut mc);
+        assert_eq!(answer, Ok(()));
         let answer = refused.decrypt_final(&mut mc, &tag);
         assert_eq!(answer, Err(Refusal::InvalidTag));
         assert_eq!(mc, [ERASED; 150]);
@@ -142,6 +144,24 @@ fn a_tag_of_another_length_is_refused() {
             let st = begun_mac(variant);
             assert_not_ended(&st, Refusal::WrongState, Refusal::WrongTagLength, tag_bytes);
         }
+    }
+}
+
+/// What is erased after a wrong tag is the whole message or nothing.
+#[test]
+fn a_message_of_another_length_is_refused() {
+    for variant in &VARIANTS {
+        let (mc, tag) = sealed(variant);
+        let mut st = begun(variant, AD);
+        assert_eq!(st.decrypt_check(&mc), Ok(()));
+        let before = contents(&st);
+        let mut m = [0x77; 200];
+        for length in [1, 149, 151, 200] {
+            let answer = st.decrypt_final(&mut m[..length], &[0; 32]);
+            assert_eq!(answer, Err(Refusal::WrongMessageLength));
+        }
+        assert_eq!((contents(&st), m), (before, [0x77; 200]));
+        assert_eq!(st.decrypt_final(&mut m[..150], &tag), Ok(()));
     }
 }
 
@@ -377,35 +397,71 @@ fn with_room(message: &[u8]) -> Vec<u8> {
 
 #[test]
 fn records_open_in_their_order() {
-    let (mut records, header) = Records::begin(&[1; 32], &[2; 24]);
+    let (key, prefix, context) = (&[1; 32], &[2; 24], b"context");
+    let (mut records, header) = Records::begin(key, prefix, context).unwrap();
     let (mut first, mut last) = (with_room(b"first"), with_room(b""));
-    assert_eq!(
-        records.seal(&mut [0; 36], false),
-        Err(Refusal::WrongRecordLength)
-    );
+    let too_short = records.seal(&mut [0; 36], false);
+    assert_eq!(too_short, Err(Refusal::WrongRecordLength));
     assert_eq!(records.seal(&mut first, false), Ok(()));
     assert_eq!(records.seal(&mut last, true), Ok(()));
     assert_eq!(records.seal(&mut last, true), Err(Refusal::WrongState));
 
-    let unknown = Records::begin_open(&[1; 32], &[2; 24], b"none").map(|_| ());
+    let unknown = Records::begin_open(key, prefix, context, b"none").map(|_| ());
     assert_eq!(unknown, Err(Refusal::UnknownHeader));
-    let mut records = Records::begin_open(&[1; 32], &[2; 24], &header).unwrap();
+    let mut records = Records::begin_open(key, prefix, context, &header).unwrap();
     assert_eq!(records.record_len(first[..5].try_into().unwrap()), Ok(42));
     assert_eq!(records.record_len(&[2; 5]), Err(Refusal::InvalidTag));
     assert_eq!(records.open(&mut last.clone()), Err(Refusal::InvalidTag));
     assert_eq!(records.open(&mut first), Ok(false));
     assert_eq!(first[RECORD_HEAD_BYTES..10], *b"first");
+    let mut second = Records::begin_open_at(key, prefix, context, 1, 5).unwrap();
+    assert_eq!(second.open(&mut last.clone()), Ok(true));
+    let mut second = Records::begin_open_at(key, prefix, context, 1, 6).unwrap();
+    assert_eq!(second.open(&mut last.clone()), Err(Refusal::InvalidTag));
     assert_eq!(records.open(&mut last), Ok(true));
     assert_eq!(records.open(&mut last), Err(Refusal::WrongState));
+}
+
+/// The longest context, and the last place of a record, and one past them.
+#[test]
+fn records_within_the_limits() {
+    let (key, prefix) = (&[1; 32], &[2; 24]);
+    for (length, is_within) in [(65_535, true), (65_536, false)] {
+        let context = vec![0; length];
+        let refusals = [
+            Records::begin(key, prefix, &context).err(),
+            Records::begin_open(key, prefix, &context, b"AGR2").err(),
+            Records::begin_open_at(key, prefix, &context, 0, 0).err(),
+        ];
+        let expected = (!is_within).then_some(Refusal::ContextTooLong);
+        assert_eq!(refusals, [expected; 3]);
+    }
+    let most = MAX_AEAD_BYTES - 4;
+    for (number, before, is_within) in [
+        (0, most, true),
+        (0, most + 1, false),
+        (0, u64::MAX, false),
+        (1, most - 37, true),
+        (1, most - 36, false),
+        (most / 37, most % 37, true),
+        (most / 37, most % 37 + 1, false),
+        (most / 37 + 1, 0, false),
+        (u64::MAX / 37 + 1, 0, false),
+        (u64::MAX, u64::MAX, false),
+    ] {
+        let refusal = Records::begin_open_at(key, prefix, b"", number, before).err();
+        let expected = (!is_within).then_some(Refusal::MessageTooLong);
+        assert_eq!(refusal, expected, "{number} {before}");
+    }
 }
 
 /// Nothing of a stream's key is left.
 #[test]
 fn records_that_were_dropped() {
     let opaque = |records| left_of(records, |records: &Records| &records.opaque);
-    let (records, header) = Records::begin(&[1; 32], &[2; 24]);
-    assert_ne!(records.opaque, [0; 11]);
-    assert_eq!(opaque(records), [0; 11]);
-    let records = Records::begin_open(&[1; 32], &[2; 24], &header).unwrap();
-    assert_eq!(opaque(records), [0; 11]);
+    let (records, header) = Records::begin(&[1; 32], &[2; 24], b"context").unwrap();
+    assert_ne!(records.opaque, [0; OPAQUE_WORDS]);
+    assert_eq!(opaque(records), [0; OPAQUE_WORDS]);
+    let records = Records::begin_open(&[1; 32], &[2; 24], b"context", &header).unwrap();
+    assert_eq!(opaque(records), [0; OPAQUE_WORDS]);
 }

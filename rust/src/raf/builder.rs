@@ -4,7 +4,7 @@ use super::changes::Changes;
 use super::io::{Beside, FileIo, JournalChoice, JournalFile, RafIo, journal_path};
 use super::layout::{ID_BYTES, Layout, is_chunk_size};
 use super::recovery::recover;
-use super::rng::{OsRng, RafRng};
+use super::rng::{DefaultRng, RafRng};
 use super::{Algorithm, DEFAULT_CHUNK_SIZE, Error, Raf, Result};
 use crate::exports::PageHeader;
 use alloc::vec;
@@ -12,11 +12,12 @@ use core::marker::PhantomData;
 use std::io;
 use std::path::Path;
 
-/// How many bytes of changed pages are kept in memory before a write commits them, unless the builder is told otherwise.
+/// The default limit on bytes of changed pages in memory.
 const DEFAULT_BUFFER_LIMIT: usize = 16 << 20;
 
-/// How a file is created or opened.
-pub struct RafBuilder<A: Algorithm, R: RafRng = OsRng, J: JournalChoice = Beside> {
+/// Creates and opens files.
+#[must_use]
+pub struct RafBuilder<A: Algorithm, R: RafRng = DefaultRng, J: JournalChoice = Beside> {
     chunk_size: u32,
     truncate: bool,
     buffer_limit: usize,
@@ -26,14 +27,15 @@ pub struct RafBuilder<A: Algorithm, R: RafRng = OsRng, J: JournalChoice = Beside
 }
 
 impl<A: Algorithm> RafBuilder<A> {
-    /// The default: pages of [`DEFAULT_CHUNK_SIZE`], the system's random bytes, 16 MiB of changes in memory, and no file is
+    /// Returns the default: pages of [`DEFAULT_CHUNK_SIZE`], the system's random bytes, and 16 MiB of changes in memory. No file is
     /// overwritten.
+    #[cfg(feature = "raf")]
     #[allow(clippy::new_without_default)]
     pub fn new() -> Self {
-        Self::with_rng(OsRng::default())
+        Self::with_rng(DefaultRng::default())
     }
 
-    /// The default, but nonces and ids come from `rng`.
+    /// Returns the default with another source of random bytes.
     pub fn with_rng<R: RafRng>(rng: R) -> RafBuilder<A, R> {
         RafBuilder {
             chunk_size: DEFAULT_CHUNK_SIZE,
@@ -47,27 +49,26 @@ impl<A: Algorithm> RafBuilder<A> {
 }
 
 impl<A: Algorithm, R: RafRng, J: JournalChoice> RafBuilder<A, R, J> {
-    /// Sets the number of bytes of text in a page of a new file, from 256 to 65,536.
+    /// Sets the number of bytes of contents in a page of a new file, from 256 to 65,536.
     pub fn chunk_size(mut self, bytes: u32) -> Self {
         self.chunk_size = bytes;
         self
     }
 
-    /// Sets whether a file that exists is overwritten by a new one. A crash or an error of writing in between may leave neither.
+    /// Sets whether a new file overwrites an old one. A crash or an error of writing may then leave neither.
     pub fn truncate(mut self, truncate: bool) -> Self {
         self.truncate = truncate;
         self
     }
 
-    /// Sets how many bytes of changed pages may be kept in memory. A [`write`](Raf::write), or a [`truncate`](Raf::truncate) that
-    /// lengthens the text, after which there are more is a commit too, of all changes so far. The default is 16 MiB. With
-    /// `usize::MAX` none is.
+    /// Sets the limit on bytes of changed pages in memory. A [`write`](Raf::write), or a [`truncate`](Raf::truncate) that extends
+    /// the contents, commits all changes if there are more. The default is 16 MiB. With `usize::MAX` neither commits.
     pub fn buffer_limit(mut self, bytes: usize) -> Self {
         self.buffer_limit = bytes;
         self
     }
 
-    /// Sets where nonces and ids come from.
+    /// Sets the source of random bytes.
     pub fn rng<S: RafRng>(self, rng: S) -> RafBuilder<A, S, J> {
         let journal = self.journal;
         RafBuilder {
@@ -80,10 +81,11 @@ impl<A: Algorithm, R: RafRng, J: JournalChoice> RafBuilder<A, R, J> {
         }
     }
 
-    /// Sets where the journal is kept. The default is a [`JournalFile`](super::JournalFile) beside a file of the system, and none
-    /// for another storage: a crash or an error in a commit may then leave some of its changes, or damage it. With a journal that
-    /// is set, opening does not look at the one beside the file that a commit with the default may have left: open the file once
-    /// with the default.
+    /// Sets the journal. The default is a [`JournalFile`](super::JournalFile) beside a file of the system. Other storages have no
+    /// journal by default: a crash or an error in a commit may leave some of its changes, or damage the file.
+    ///
+    /// If a journal is set, opening does not complete a commit from the journal beside the file. Open the file once with the
+    /// default before.
     pub fn journal<K: RafIo>(self, journal: K) -> RafBuilder<A, R, K> {
         RafBuilder {
             chunk_size: self.chunk_size,
@@ -95,29 +97,29 @@ impl<A: Algorithm, R: RafRng, J: JournalChoice> RafBuilder<A, R, J> {
         }
     }
 
-    /// Makes the bytes of `io` a file with no text, and syncs it. A crash before it returns, or [`Error::Io`], may leave one
-    /// that does not open.
+    /// Creates an empty file in `io`, and syncs it. A crash before it returns, or [`Error::Io`], may leave a file that does not
+    /// open.
     ///
     /// # Errors
     ///
-    /// [`Error::ChunkSize`], an error of the source of random bytes, [`Error::Locked`], [`Error::Moved`],
-    /// [`Error::Journal`] if the journal is not empty, or [`io::ErrorKind::AlreadyExists`] if `io` is not and
-    /// [`truncate`](Self::truncate) was not set. Nothing was changed then. Or [`Error::Io`].
+    /// Nothing was changed after [`Error::ChunkSize`], an error of the source of random bytes, [`Error::Locked`],
+    /// [`Error::Moved`], [`Error::Journal`] if the journal is not empty, or [`io::ErrorKind::AlreadyExists`] if `io` is not empty
+    /// and [`truncate`](Self::truncate) was not set. Other errors are [`Error::Io`].
     pub fn create<I: RafIo>(mut self, io: I, key: &A::Key) -> Result<Raf<A, I, R, J::Journal>> {
         let draws = self.draw()?;
         self.begin(io, key, &draws)
     }
 
-    /// Opens the file that the bytes of `io` are, and completes a commit that was cut short, or leaves out all of it.
+    /// Opens the file in `io`. A commit that was interrupted is completed, or all of it is left out.
+    ///
+    /// If authentication of the header fails, since a crash has torn it, a whole journal under the key is used: its writes
+    /// overwrite the file, whichever file it is.
     ///
     /// # Errors
     ///
-    /// [`Error::Locked`]; [`Error::Moved`]; [`Error::Header`] if there is no header of this algorithm and key; or
-    /// [`Error::Journal`] if the journal is that of another file, or of another state of this one, or none. Nothing was
-    /// changed then, but an empty journal beside the file may be gone. Or [`Error::Io`]: nothing is lost, so open it again.
-    ///
-    /// If the file has no header that opens, as one that a crash has torn, a whole journal under the key is taken for its
-    /// own, and its writes are made over whatever the file is.
+    /// Nothing was changed after [`Error::Locked`], [`Error::Moved`], [`Error::Header`] if there is no header of this algorithm and
+    /// key, or [`Error::Journal`] if the journal belongs to another file or to another state of this one, or is no journal. Only
+    /// an empty journal beside the file may have been removed. After [`Error::Io`] nothing is lost: open the file again.
     pub fn open<I: RafIo>(self, mut io: I, key: &A::Key) -> Result<Raf<A, I, R, J::Journal>> {
         let mut builder = self.choose(&io);
         // Whoever has just made a file locks it next, and must not find it locked.
@@ -134,9 +136,9 @@ impl<A: Algorithm, R: RafRng, J: JournalChoice> RafBuilder<A, R, J> {
     ///
     /// # Errors
     ///
-    /// Those of [`create`](Self::create). If one of them says that nothing was changed, a file that was there is as it was, and
-    /// there is no new one, unless a journal, another name or a lock of the file appeared just after it was made, or the journal
-    /// that was set is locked, not empty, or moved: it is then empty.
+    /// Those of [`create`](Self::create). After an error that changes nothing, an old file is as it was, and there is no new file.
+    /// Exceptions, which leave an empty new file: a journal, another name or a lock of the file appeared just after it was
+    /// created; the journal that was set is locked, not empty, or moved.
     pub fn create_file(
         mut self,
         path: impl AsRef<Path>,
@@ -153,8 +155,7 @@ impl<A: Algorithm, R: RafRng, J: JournalChoice> RafBuilder<A, R, J> {
         self.begin(io, key, &draws)
     }
 
-    /// Opens the file at a path, and completes a commit that was cut short, or leaves out all of it. The errors are those of
-    /// [`open`](Self::open).
+    /// Opens the file at a path. The rest is that of [`open`](Self::open).
     pub fn open_file(
         self,
         path: impl AsRef<Path>,
@@ -174,7 +175,7 @@ impl<A: Algorithm, R: RafRng, J: JournalChoice> RafBuilder<A, R, J> {
         }
     }
 
-    /// Draws all random bytes that a new file needs, before anything is changed.
+    /// Generates all random bytes that a new file needs, before anything is changed.
     fn draw(&mut self) -> Result<Draws<A>> {
         if !is_chunk_size(self.chunk_size) {
             return Err(Error::ChunkSize);

@@ -1,21 +1,12 @@
 //! The pages that were changed since the last commit.
 
-use crate::wipe::wipe;
+use crate::wipe::Wiped;
 use alloc::boxed::Box;
 use std::collections::BTreeMap;
 
-/// The text of a page, which is overwritten when it is dropped.
-pub struct PageText(Box<[u8]>);
-
-impl Drop for PageText {
-    fn drop(&mut self) {
-        wipe(&mut self.0);
-    }
-}
-
-/// The texts of changed pages, by the numbers of the pages.
+/// The texts of changed pages, by the numbers of the pages. They are overwritten when they are dropped.
 #[derive(Default)]
-pub struct Changes(BTreeMap<u64, PageText>);
+pub struct Changes(BTreeMap<u64, Wiped<Box<[u8]>>>);
 
 impl Changes {
     /// Returns whether no page was changed.
@@ -35,7 +26,7 @@ impl Changes {
 
     /// Keeps a copy of the text of a page.
     pub fn set(&mut self, number: u64, text: &[u8]) {
-        self.0.insert(number, PageText(text.into()));
+        self.0.insert(number, Wiped(text.into()));
     }
 
     /// Takes over other changes, in place of those of the same pages.

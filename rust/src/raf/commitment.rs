@@ -5,10 +5,11 @@ use super::{Algorithm, Error, Raf, RafIo, RafRng, Result};
 use crate::Mac;
 
 impl<A: Algorithm, I: RafIo, R: RafRng, J: RafIo> Raf<A, I, R, J> {
-    /// Returns the commitment of the file as it was at the last commit: a MAC, under the key, of its header's counter and size,
-    /// and of the tag of each page. A file of which a page or the header is an older one has another commitment. Keep it where
-    /// nobody can set it back together with the file. The header is read by opening alone: open a file again to see whether it
-    /// was exchanged meanwhile.
+    /// Returns the commitment of the file at the last commit: a MAC, under the key, of the counter and the size in its header and
+    /// of the tag of each page. With an older page or an older header the commitment is different.
+    ///
+    /// Keep it where nobody can set it back together with the file. Computing it reads every tag. Only opening reads the header:
+    /// open the file again to see whether it was replaced.
     ///
     /// # Errors
     ///
@@ -17,11 +18,11 @@ impl<A: Algorithm, I: RafIo, R: RafRng, J: RafIo> Raf<A, I, R, J> {
         Ok(self.commitment_mac()?.finalize())
     }
 
-    /// Returns `Ok` if the file's commitment is `expected`. The comparison looks at every byte.
+    /// Returns `Ok` if the commitment of the file is `expected`. The comparison reads each byte.
     ///
     /// # Errors
     ///
-    /// [`Error::Commitment`] if it is another, [`Error::Io`] or [`Error::Broken`].
+    /// [`Error::Commitment`] if it is not, [`Error::Io`] or [`Error::Broken`].
     pub fn verify(&mut self, expected: &[u8; 32]) -> Result<()> {
         let mac = self.commitment_mac()?;
         mac.verify(expected).map_err(|_| Error::Commitment)

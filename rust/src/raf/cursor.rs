@@ -1,9 +1,10 @@
-//! A place in the text of a file.
+//! A position in the contents of a file.
 
 use super::{Algorithm, Raf, RafIo, RafRng};
 use std::io::{self, Read, Seek, SeekFrom, Write};
 
-/// A place in the text of a file, which each read and write moves on. [`Raf::cursor`] returns one.
+/// A position in the contents of a file, which each read and write advances. [`Raf::cursor`] returns one.
+#[must_use]
 pub struct RafCursor<'a, A: Algorithm, I: RafIo, R: RafRng, J: RafIo> {
     file: &'a mut Raf<A, I, R, J>,
     offset: u64,
@@ -24,7 +25,7 @@ impl<A: Algorithm, I: RafIo, R: RafRng, J: RafIo> Read for RafCursor<'_, A, I, R
 }
 
 impl<A: Algorithm, I: RafIo, R: RafRng, J: RafIo> Write for RafCursor<'_, A, I, R, J> {
-    /// Writes as [`Raf::write`] does. No bytes past the end do not make the text longer.
+    /// Writes with [`Raf::write`]. Writing no bytes past the end does not extend the contents.
     fn write(&mut self, data: &[u8]) -> io::Result<usize> {
         if data.is_empty() {
             self.file.check_is_whole()?;
@@ -35,7 +36,7 @@ impl<A: Algorithm, I: RafIo, R: RafRng, J: RafIo> Write for RafCursor<'_, A, I, 
         Ok(count)
     }
 
-    /// Commits the changes, as [`Raf::commit`] does.
+    /// Commits the changes with [`Raf::commit`].
     fn flush(&mut self) -> io::Result<()> {
         Ok(self.file.commit()?)
     }

@@ -6,12 +6,12 @@ use crate::exports::{AEGIS128L, AEGIS256};
 /// What the input of each derivation begins with.
 const DOMAIN: &[u8; 24] = b"hunkravy raf file key v1";
 
-/// Derives the key of a file, or of a family of files, from a master key. Both have `N` bytes: 16 or 32; with another length
-/// the program does not compile.
+/// Derives the key of a file, or of a family of files, from a master key. Both keys have `N` bytes: 16 or 32. Another length does
+/// not compile.
 ///
-/// The key is the MAC of `N` bytes, by AEGIS-128L or AEGIS-256, under the master key and a nonce of zeros, of the 24 bytes
-/// `hunkravy raf file key v1` and of the context. So other contexts give other keys, unless two MACs are equal by chance.
-/// Use the master key for nothing else. The crate `aegis` derives other keys.
+/// The key is the MAC of `N` bytes, with AEGIS-128L or AEGIS-256 under the master key and a zeroed nonce, of the 24 bytes
+/// `hunkravy raf file key v1` and the context. Different contexts give different keys, unless two MACs are equal by chance. Use
+/// the master key for nothing else. The crate `aegis` derives different keys.
 ///
 /// # Errors
 ///

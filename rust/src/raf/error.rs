@@ -1,39 +1,38 @@
-//! Why a call failed.
+//! The errors.
 
 use core::fmt;
-use std::fs::TryLockError;
 use std::io;
 
-/// Why a call failed. The documentation of the call says what it leaves.
+/// The error of a function on files. The documentation of the function has the state that it leaves.
 #[derive(Debug)]
 #[non_exhaustive]
 pub enum Error {
-    /// Reading, writing or drawing random bytes failed.
+    /// Reading, writing or generating random bytes failed.
     Io(io::Error),
-    /// There is no header that was written by this algorithm and under this key.
+    /// The file has no header of this algorithm and this key.
     Header,
-    /// The journal is that of another file, or of another state of this one, or the file of that name is no journal.
+    /// The journal belongs to another file, or to another state of this one, or the file of that name is no journal.
     Journal,
-    /// The page of this number was not written under the key for its place in this file.
+    /// Authentication of the page of this number fails.
     Damaged(u64),
-    /// The text would have more than [`MAX_SIZE`](super::MAX_SIZE) bytes, or 2^64 - 1 commits were made.
+    /// The contents would have more than [`MAX_SIZE`](super::MAX_SIZE) bytes, or 2^64 - 1 commits were made.
     TooLong,
     /// The chunk size is not from 256 to 65,536 bytes.
     ChunkSize,
     /// The context of a key has more bytes than it may have.
     ContextTooLong,
-    /// The file's commitment is another than the one that was expected.
+    /// The commitment of the file is not the expected one.
     Commitment,
     /// The file is open elsewhere, in this program or in another.
     Locked,
-    /// The file was renamed, removed or replaced while it was open, or it has several names (hard links): its journal
-    /// would not be found.
+    /// The file was renamed, removed or replaced while it was open, or it has several names (hard links). Its journal would not
+    /// be found.
     Moved,
     /// A commit has failed while it was written. Open the file again.
     Broken,
 }
 
-/// What a call returns.
+/// The result of a function on files.
 pub type Result<T> = core::result::Result<T, Error>;
 
 impl fmt::Display for Error {
@@ -69,15 +68,6 @@ impl std::error::Error for Error {
 impl From<io::Error> for Error {
     fn from(error: io::Error) -> Self {
         Error::Io(error)
-    }
-}
-
-impl From<TryLockError> for Error {
-    fn from(error: TryLockError) -> Self {
-        match error {
-            TryLockError::Error(error) => Error::Io(error),
-            TryLockError::WouldBlock => Error::Locked,
-        }
     }
 }
 

@@ -1,5 +1,6 @@
-//! Where the bytes of a file and of its journal are kept.
+//! Storages of a file and of its journal.
 
+use super::lock::{lock, unlock};
 use super::{Error, Result};
 use alloc::vec::Vec;
 use std::ffi::OsString;
@@ -9,51 +10,48 @@ use std::os::unix::fs::{FileExt, MetadataExt, OpenOptionsExt, PermissionsExt, fc
 use std::path::{Path, PathBuf};
 use std::process;
 
-/// Bytes that are read and written at any place.
+/// A storage: bytes that are read and written at any place.
 ///
-/// [`Raf`](super::Raf) calls it from one thread at a time. That a crash leaves all changes of a commit or none rests on
-/// [`sync`](RafIo::sync), and on this: until it has returned, a crash may leave any bytes where something was to be written,
-/// and the old size or the new one, but no other byte changes.
+/// [`Raf`](super::Raf) calls it from one thread at a time. Commits rely on [`sync`](RafIo::sync), and on this: before `sync` has
+/// returned, a crash may leave any bytes where something was written, and the old size or the new one. No other byte changes.
 pub trait RafIo {
-    /// Fills `buf` with the bytes from `offset` on. An error if there are fewer.
+    /// Fills `buf` with the bytes from `offset` on. Returns an error if there are fewer.
     fn read_at(&mut self, buf: &mut [u8], offset: u64) -> io::Result<()>;
 
-    /// Writes all of `data` over the bytes from `offset` on. A gap before them is filled with zeros.
+    /// Writes all of `data` over the bytes from `offset` on. Zeros fill a gap in front of them.
     fn write_at(&mut self, data: &[u8], offset: u64) -> io::Result<()>;
 
     /// Returns the number of bytes.
     fn get_size(&mut self) -> io::Result<u64>;
 
-    /// Cuts the bytes off at `size`, or fills them up to it with zeros.
+    /// Truncates the bytes to `size`, or extends them with zeros.
     fn set_size(&mut self, size: u64) -> io::Result<()>;
 
-    /// Returns once all that was written outlasts a loss of power.
+    /// Returns once everything that was written survives a loss of power.
     ///
-    /// The default does nothing. It is for bytes that no crash outlasts, as those in memory.
+    /// The default does nothing. It is for storages that do not survive a crash, such as memory.
     fn sync(&mut self) -> io::Result<()> {
         Ok(())
     }
 
-    /// Refuses all others that would write the bytes, until this is dropped. Called once, before anything but the size is read,
-    /// and before anything is written; [`Error::Locked`] if another one came first.
+    /// Locks the storage against all others, until it is dropped. Returns [`Error::Locked`] if another has locked it. It is called
+    /// once, before anything is written, and before anything is read except the size.
     ///
-    /// The default does nothing: the caller then has to see that nothing else writes the bytes.
+    /// The default does nothing: the caller must make sure that nothing else writes the bytes.
     fn lock(&mut self) -> Result<()> {
         Ok(())
     }
 
-    /// Returns the whole path of the journal, which is used if [`RafBuilder::journal`](super::RafBuilder::journal) sets no
-    /// other. If there is a file whose name it is without what follows the last dot, it is that of this file, as
-    /// [`JournalFile`] says.
+    /// Returns the whole path of the journal, for use if [`RafBuilder::journal`](super::RafBuilder::journal) sets no other. The
+    /// path without its last extension is that of the file, if there is one: [`JournalFile`] takes its owner and its mode.
     ///
-    /// The default is none: a crash or an error in a commit may then leave some of its changes, or damage the file.
+    /// The default is `None`: a crash or an error in a commit may then leave some of its changes, or damage the file.
     fn journal_path(&self) -> Option<PathBuf> {
         None
     }
 
-    /// Returns [`Error::Moved`] if whoever opens these bytes later would not find the journal at
-    /// [`journal_path`](RafIo::journal_path), or, of a journal, an error if there can be none. Called in each commit before
-    /// it writes any bytes.
+    /// Returns [`Error::Moved`] if a later opening would not find the journal at [`journal_path`](RafIo::journal_path). A journal
+    /// returns an error if it cannot be written. It is called in each commit, before any bytes are written.
     ///
     /// The default does nothing.
     fn check_path(&mut self) -> Result<()> {
@@ -61,9 +59,10 @@ pub trait RafIo {
     }
 }
 
-/// A file of the system, which is locked (as by `flock`) while a [`Raf`](super::Raf) is over it, and whose journal lies beside
-/// it: [`JournalFile`]. By its path a file with several names (hard links) is refused, since each of them would have a
-/// journal. Whoever may read the file can lock it too, by `flock`, and so keep all others out.
+/// A file of the system. It is locked with `flock` while a [`Raf`](super::Raf) uses it. Its journal is beside it: [`JournalFile`].
+///
+/// A file that was opened through a path and has several names (hard links) is rejected, since each name would have a journal.
+/// Any user who may read the file can lock it, and so keep all others out.
 #[derive(Debug)]
 pub struct FileIo {
     file: File,
@@ -75,11 +74,12 @@ pub struct FileIo {
 }
 
 impl FileIo {
-    /// The bytes of a file that is open for reading and writing, but not for appending, with which Linux writes at no
-    /// other place than the end. Its path is not known, so it has no journal but one that
-    /// [`RafBuilder::journal`](super::RafBuilder::journal) sets: a commit that was cut short is not completed. The name of a
-    /// file that was just made is not synced. A copy of the descriptor, as by [`File::try_clone`], has the same lock: open no
-    /// second [`Raf`](super::Raf) over one.
+    /// Returns the storage of a file that is open for reading and writing, and not for appending: Linux appends all writes to such
+    /// a file.
+    ///
+    /// The path is not known. So there is no journal unless [`RafBuilder::journal`](super::RafBuilder::journal) sets one, and a
+    /// commit that was interrupted is not completed. The name of a new file is not synced. A copy of the descriptor, for example of
+    /// [`File::try_clone`], has the same lock: open no second [`Raf`](super::Raf) over one.
     pub fn new(file: File) -> Self {
         FileIo {
             file,
@@ -89,12 +89,12 @@ impl FileIo {
         }
     }
 
-    /// Opens the file at a path, and makes it if there is none. What it holds is kept.
+    /// Opens the file at a path, and creates it if there is none. Its contents are kept.
     pub fn create(path: impl AsRef<Path>) -> Result<Self> {
         Self::with(File::options().create(true), path.as_ref(), false)
     }
 
-    /// Opens the file at a path, whose name was synced by whoever made it.
+    /// Opens the file at a path. Its name must have been synced when it was created.
     pub fn open(path: impl AsRef<Path>) -> Result<Self> {
         Self::with(&mut File::options(), path.as_ref(), true)
     }
@@ -142,7 +142,7 @@ impl RafIo for FileIo {
     }
 
     fn lock(&mut self) -> Result<()> {
-        self.file.try_lock()?;
+        lock(&self.file)?;
         self.locked_by = Some(process::id());
         self.check_path()
     }
@@ -163,17 +163,17 @@ impl RafIo for FileIo {
     }
 }
 
-/// Unlocks the file in the process that has locked it, also if another descriptor of it is open, as in a process that is being
-/// started.
+/// Unlocks the file in the process that has locked it, also if another descriptor of it is open, such as in a process that is
+/// being started.
 impl Drop for FileIo {
     fn drop(&mut self) {
         if self.locked_by == Some(process::id()) {
-            let _ = self.file.unlock();
+            let _ = unlock(&self.file);
         }
     }
 }
 
-/// The journal that keeps nothing: a crash or an error in a commit may leave some of its changes, or damage the file.
+/// No journal: a crash or an error in a commit may leave some of its changes, or damage the file.
 #[derive(Clone, Copy, Debug, Default)]
 pub struct NoJournal;
 
@@ -199,28 +199,28 @@ impl RafIo for NoJournal {
     }
 }
 
-/// The journal of a file at a path: a file beside it, whose name has `.journal` after that of the file. There is one only
-/// while a commit is written, and after one that was cut short. Symbolic links are followed, so that a file has one journal by
-/// whichever of them it is named. A commit needs a folder that the user may read and write.
+/// The journal of a file at a path: a file beside it, with `.journal` after its name. It exists only while a commit is written,
+/// and after a commit that was interrupted. Symbolic links are followed, so a file has the same journal through all of them. A
+/// commit needs a folder that the user may read and write.
 ///
-/// It gets the owner and the group of the file, where the system allows it, and the file's permissions to read and to write, so
-/// that whoever has both, for the file and for its folder, can complete a commit that was cut short. But:
+/// The journal gets the owner and the group of the file, where the system allows it, and its permissions to read and write. So
+/// the users who may read and write the file and its folder can complete a commit that was interrupted. Exceptions:
 ///
-/// - Its owner has both in any case.
-/// - All others get none that the group lacks, since the group could use theirs. They may then be unable to complete a commit,
-///   or, without the permission to write, to make one.
-/// - Where the owner or the group cannot be set, those of the file may have to wait until the journal's maker or root opens the
-///   file, if they have more permissions than all others get.
-/// - ACLs, and users and groups that a user namespace hides, are not looked at: whoever may write the journal by these can make
+/// - The owner of the journal may always read and write it.
+/// - All others get no permission that the group lacks. They may be unable to complete a commit, or to commit.
+/// - If the owner or the group cannot be set, the users of the file may have to wait until the maker of the journal or root opens
+///   the file.
+/// - ACLs, and users and groups that a user namespace hides, are not checked. Users who may write the journal through them can make
 ///   a crash leave some of the changes of a commit.
 ///
-/// A journal that is itself a link, or no file, or has other names (hard links), or that by its owner, group and mode someone
-/// may write who may not write the file, is refused, with [`io::ErrorKind::InvalidData`], and nothing is changed. Whoever owns a
-/// file of a group counts as one of it. A file of that name with up to 33 bytes may be what a crash has left of a journal:
-/// opening removes it, whatever it holds, and a commit an empty one. An empty one that cannot be removed counts as none for
-/// opening, and a commit fails, with the changes still in memory: it writes no journal that it has not made.
+/// A journal is rejected with [`io::ErrorKind::InvalidData`], and nothing is changed, if it is a link or no file, if it has several
+/// names (hard links), or if a user may write it who may not write the file, by owner, group and mode. The owner of a file counts
+/// as a member of its group.
 ///
-/// If there is no path, as for a storage in memory, it is as [`NoJournal`].
+/// A file of this name with up to 33 bytes may be the rest of a journal after a crash. Opening removes it, and a commit removes an
+/// empty one. If an empty one cannot be removed, opening ignores it, and a commit fails with the changes still in memory.
+///
+/// Without a path, such as for a storage in memory, it is the same as [`NoJournal`].
 #[derive(Debug)]
 pub struct JournalFile {
     path: Option<PathBuf>,
@@ -324,8 +324,8 @@ fn others(of: u32) -> u32 {
     of & (of >> 3) & OTHERS
 }
 
-/// Returns whether nobody may write a journal who may not write its file, as far as their owners, groups and modes show. Who
-/// has put a file into a group counts as one of it.
+/// Returns whether each user who may write a journal may write its file too, by their owners, groups and modes. The owner of a
+/// file counts as a member of its group.
 fn is_as_safe(journal: &Metadata, of: &Metadata) -> bool {
     let is_groups = journal.gid() == of.gid();
     let group_may = is_groups && of.mode() & GROUP_WRITES != 0;
@@ -335,8 +335,8 @@ fn is_as_safe(journal: &Metadata, of: &Metadata) -> bool {
         && (journal.mode() & OTHERS_WRITE == 0 || others_may)
 }
 
-/// Makes a journal, which follows no link. Whoever may write its file may complete its commit: it has the owner, the group and
-/// the permissions of the file, as far as the system lets them be set.
+/// Creates a journal, and follows no link. It gets the owner, the group and the permissions of the file, as far as the system
+/// allows, so that each user who may write the file may complete its commit.
 fn new_journal(path: &Path) -> io::Result<File> {
     let file = options().create_new(true).mode(OWNER).open(path)?;
     let Some(of) = found_at(&file_of(path))? else {
@@ -355,7 +355,7 @@ fn new_journal(path: &Path) -> io::Result<File> {
     }
 }
 
-/// The mode of the journal of a file of this mode. Whoever is in another group than the file's counts as all others do.
+/// The mode of the journal of a file of this mode. A journal in another group gives its group the rights of all others.
 fn mode_beside(of: u32, is_of_its_group: bool) -> u32 {
     let group = if is_of_its_group {
         of & GROUP
@@ -368,7 +368,7 @@ fn mode_beside(of: u32, is_of_its_group: bool) -> u32 {
 fn no_journal() -> io::Error {
     io::Error::new(
         io::ErrorKind::InvalidData,
-        "there can be no journal: what is at its path is no file, has other names, or could be written by others than its file",
+        "there can be no journal: its path has no regular file, or one with several names, or one that other users may write",
     )
 }
 
@@ -493,9 +493,9 @@ impl RafIo for JournalFile {
     }
 }
 
-/// What a builder takes for a journal: one that is set, or the one beside the file.
+/// The choice of a journal: one that is set, or the one beside the file.
 pub trait JournalChoice {
-    /// The journal.
+    /// The type of the journal.
     type Journal: RafIo;
 
     /// Returns the journal of a file.
@@ -616,6 +616,24 @@ mod tests {
             }
             fs::remove_file(&at).unwrap();
         }
+        fs::remove_file(&path).unwrap();
+    }
+
+    /// The mode of a journal is that for the group that it gets.
+    #[test]
+    fn a_mode_in_the_group_of_the_file() {
+        let path = std::env::temp_dir().join(format!("hunkravy-groups-{}", std::process::id()));
+        let at = with_journal(&path);
+        let file = File::create(&path).unwrap();
+        file.set_permissions(Permissions::from_mode(0o660)).unwrap();
+        // Only root can give files to a group that it is not in.
+        let is_given = chown(&path, None, Some(65533)).is_ok();
+        let made = JournalFile::at(Some(at.clone())).open(true).map(|_| ());
+        made.unwrap();
+        let (journal, of) = (at.metadata().unwrap(), path.metadata().unwrap());
+        assert_eq!(of.gid() == 65533, is_given);
+        assert_eq!((journal.mode() & 0o777, journal.gid()), (0o660, of.gid()));
+        fs::remove_file(&at).unwrap();
         fs::remove_file(&path).unwrap();
     }
 

@@ -4,15 +4,13 @@
 
 use super::io::RafIo;
 use super::layout::CLEAR_BYTES;
-use crate::exports::{RECORD_BYTES, RECORD_HEAD_BYTES, Records};
+use crate::records::{HEADER_BYTES, Opener, RECORD_BYTES, Sealer};
 use crate::wipe::wipe;
 use alloc::vec::Vec;
 use std::io;
 
-/// The length of the prefix of the record stream, after the front.
+/// The length of the prefix of the record stream.
 pub const PREFIX_BYTES: usize = 24;
-/// The length of the record stream's header.
-const HEADER_BYTES: usize = 4;
 /// The length of the place with which a message begins.
 const PLACE_BYTES: usize = 8;
 /// The last byte of a file lies below this place.
@@ -24,10 +22,10 @@ pub struct PendingWrite {
     pub bytes: Vec<u8>,
 }
 
-/// What a journal is sealed under, and what it begins with.
+/// The key, the first bytes and the prefix of a journal.
 pub struct JournalSeal {
     pub key: [u8; 32],
-    pub front: [u8; CLEAR_BYTES],
+    pub start: [u8; CLEAR_BYTES],
     pub prefix: [u8; PREFIX_BYTES],
 }
 
@@ -49,11 +47,10 @@ pub fn commit(
     empty(journal)
 }
 
-/// Writes a journal, and syncs it: the front first, so that a longer journal begins with all of it, whatever a crash
-/// leaves.
+/// Writes a journal, and syncs it: the first bytes first, so that a longer journal begins with them after any crash.
 fn write_journal(journal: &mut impl RafIo, bytes: &[u8]) -> io::Result<()> {
-    let (front, rest) = bytes.split_at(CLEAR_BYTES);
-    journal.write_at(front, 0)?;
+    let (start, rest) = bytes.split_at(CLEAR_BYTES);
+    journal.write_at(start, 0)?;
     journal.sync()?;
     journal.write_at(rest, CLEAR_BYTES as u64)?;
     journal.sync()
@@ -73,51 +70,45 @@ pub fn empty(journal: &mut impl RafIo) -> io::Result<()> {
     journal.sync()
 }
 
-/// Returns the journal of the writes, of which there is at least one: the front, the prefix, and a record stream with a
-/// record for each write.
+/// Returns the journal of one or more writes: its first bytes, the prefix, and a record stream with a record for each write.
 fn journal_bytes(seal: &JournalSeal, writes: &[PendingWrite]) -> Vec<u8> {
-    let (mut records, header) = Records::begin(&seal.key, &seal.prefix);
+    const WITHIN: &str = "a page is not too long for a record";
+    let mut sealer = Sealer::new(&seal.key, &seal.prefix, &[]).expect("the context is empty");
     let bytes_of = |write: &PendingWrite| PLACE_BYTES + write.bytes.len() + RECORD_BYTES;
     let length: usize = writes.iter().map(bytes_of).sum();
     let mut journal = Vec::with_capacity(CLEAR_BYTES + PREFIX_BYTES + HEADER_BYTES + length);
-    journal.extend_from_slice(&seal.front);
+    journal.extend_from_slice(&seal.start);
     journal.extend_from_slice(&seal.prefix);
-    journal.extend_from_slice(&header);
-    for (number, write) in writes.iter().enumerate() {
-        let start = journal.len();
-        journal.resize(start + RECORD_HEAD_BYTES, 0);
-        journal.extend_from_slice(&write.place.to_le_bytes());
-        journal.extend_from_slice(&write.bytes);
-        journal.resize(start + bytes_of(write), 0);
-        let answer = records.seal(&mut journal[start..], number + 1 == writes.len());
-        assert_eq!(answer, Ok(()), "a page is not too long for a record");
+    journal.extend_from_slice(&sealer.header());
+    let message = |write: &PendingWrite| [&write.place.to_le_bytes(), &write.bytes[..]].concat();
+    let (last, others) = writes.split_last().expect("there is a write");
+    for write in others {
+        let sealed = sealer.seal_next(&message(write), &mut journal);
+        sealed.expect(WITHIN);
     }
+    let sealed = sealer.seal_last(&message(last), &mut journal);
+    sealed.expect(WITHIN);
     journal
 }
 
 /// Returns the writes of a journal, or `None` if the bytes are no whole journal under this key.
 pub fn journaled_writes(key: &[u8; 32], journal: &[u8]) -> Option<Vec<PendingWrite>> {
-    let (_front, rest) = journal.split_first_chunk::<CLEAR_BYTES>()?;
+    let (_start, rest) = journal.split_first_chunk::<CLEAR_BYTES>()?;
     let (prefix, rest) = rest.split_first_chunk::<PREFIX_BYTES>()?;
     let (header, mut rest) = rest.split_first_chunk::<HEADER_BYTES>()?;
-    let mut records = Records::begin_open(key, prefix, header).ok()?;
+    let mut opener = Opener::new(key, prefix, &[], header).ok()?;
     let mut writes = Vec::new();
-    loop {
-        let length = records.record_len(rest.first_chunk()?).ok()?;
-        let (record, after) = rest.split_at_checked(length)?;
-        let mut record = record.to_vec();
-        let is_last = records.open(&mut record).ok()?;
-        writes.push(write_of(&record)?);
-        rest = after;
-        if is_last {
-            return rest.is_empty().then_some(writes);
-        }
+    while !opener.has_ended() {
+        let opened = opener.open_next(rest).ok()?;
+        writes.push(write_of(&opened.message)?);
+        rest = opened.rest;
     }
+    opener.finish(rest).ok()?;
+    Some(writes)
 }
 
-/// Returns the write of a record that was opened, or `None` if it is the record of no write.
-fn write_of(record: &[u8]) -> Option<PendingWrite> {
-    let message = &record[RECORD_HEAD_BYTES..RECORD_HEAD_BYTES + record.len() - RECORD_BYTES];
+/// Returns the write of a message, or `None` if it is that of no write.
+fn write_of(message: &[u8]) -> Option<PendingWrite> {
     let (place, bytes) = message.split_first_chunk::<PLACE_BYTES>()?;
     let place = u64::from_le_bytes(*place);
     let end = place.checked_add(bytes.len() as u64)?;
@@ -140,18 +131,18 @@ mod tests {
     fn a_seal_that_was_dropped() {
         let seal = JournalSeal {
             key: [1; 32],
-            front: [2; CLEAR_BYTES],
+            start: [2; CLEAR_BYTES],
             prefix: [3; PREFIX_BYTES],
         };
         assert_eq!(left_of(seal, |seal| &seal.key), [0; 32]);
     }
 
-    /// What is sealed is opened, but for a write past the last byte that a file may have.
+    /// A journal opens if its writes are within the longest file.
     #[test]
     fn places() {
         let seal = JournalSeal {
             key: [1; 32],
-            front: [2; CLEAR_BYTES],
+            start: [2; CLEAR_BYTES],
             prefix: [3; PREFIX_BYTES],
         };
         for (place, is_within) in [

@@ -20,7 +20,7 @@ const HEADER_TEXT_BYTES: usize = 16;
 const MAGIC: [u8; 4] = *b"AGP1";
 const JOURNAL_MAGIC: [u8; 4] = *b"AGPJ";
 
-/// What all pages and headers of a file are sealed under. The key is overwritten when it is dropped.
+/// The key, the page size and the id of a file. The key is overwritten when it is dropped.
 pub struct Layout<A: Algorithm> {
     pub key: A::Key,
     pub chunk_size: u32,
@@ -91,7 +91,7 @@ impl<A: Algorithm> Layout<A> {
     }
 
     /// The first bytes of the file's journals.
-    pub fn journal_front(&self) -> [u8; CLEAR_BYTES] {
+    pub fn journal_start(&self) -> [u8; CLEAR_BYTES] {
         self.named(JOURNAL_MAGIC)
     }
 
@@ -111,7 +111,7 @@ impl<A: Algorithm> Drop for Layout<A> {
     }
 }
 
-/// Returns whether a page may have so many bytes of text.
+/// Returns whether a page may have this number of bytes of contents.
 pub fn is_chunk_size(bytes: u32) -> bool {
     (256..=65_536).contains(&bytes)
 }
@@ -123,7 +123,7 @@ pub fn named_by(clear: &[u8; CLEAR_BYTES]) -> Option<(u8, u32)> {
     is_known.then_some((clear[4], chunk_size))
 }
 
-/// Returns the header in a sector, if it was sealed by this algorithm and under the key.
+/// Returns the header in a sector, if it is one of this algorithm and the key.
 pub fn open_header<A: Algorithm>(key: &A::Key, sector: &[u8; SECTOR_BYTES]) -> Option<PageHeader> {
     A::EXPORTS.page_header_open(sector, key.as_ref()).ok()
 }
@@ -150,10 +150,10 @@ pub fn commitment_nonce<A: Algorithm>() -> A::Nonce {
     nonce
 }
 
-/// Returns whether these bytes are not what a crash may leave of a journal of the file of this front. The front is
-/// certain before anything is written after it, so a longer journal begins with it.
-pub fn is_of_another(front: &[u8; CLEAR_BYTES], journal: &[u8]) -> bool {
-    journal.len() > CLEAR_BYTES && !journal.starts_with(front)
+/// Returns whether a journal is of another file than the one whose journals begin with `start`. A commit syncs these bytes
+/// before it writes any after them, so a longer journal begins with them after a crash.
+pub fn is_of_another(start: &[u8; CLEAR_BYTES], journal: &[u8]) -> bool {
+    journal.len() > CLEAR_BYTES && !journal.starts_with(start)
 }
 
 #[cfg(test)]

@@ -1,24 +1,24 @@
-//! What a file tells without its key.
+//! What a file shows without its key.
 
 use super::layout::{CLEAR_BYTES, SECTOR_BYTES, named_by};
 use super::{AlgorithmId, Error, RafIo, Result};
 
-/// What the clear part of a header names. Nothing has verified it.
+/// The clear part of a header. It is not verified.
 #[derive(Clone, Copy, Debug, PartialEq, Eq)]
 pub struct RafInfo {
     /// The algorithm.
     pub algorithm: AlgorithmId,
-    /// The number of bytes of text in a page.
+    /// The number of bytes of contents in a page.
     pub chunk_size: u32,
-    /// The number of bytes of the file. That of the text is encrypted.
+    /// The number of bytes of the file. The length of its contents is encrypted.
     pub file_size: u64,
 }
 
-/// Returns what a file names of itself. No key is needed, and nothing is verified or changed.
+/// Returns the clear part of the header of a file. No key is needed, and nothing is verified or changed.
 ///
 /// # Errors
 ///
-/// [`Error::Header`] if it is no file of this format, or [`Error::Io`].
+/// [`Error::Header`] if it is not a file of this format, or [`Error::Io`].
 pub fn probe(io: &mut impl RafIo) -> Result<RafInfo> {
     let file_size = io.get_size()?;
     if file_size < SECTOR_BYTES as u64 {

@@ -1,4 +1,4 @@
-//! What a file and its journal are when they are opened, and what is made of them.
+//! Opening a file and its journal: completing a commit that was interrupted.
 
 use super::io::{RafIo, read_all};
 use super::journal::{PendingWrite, empty, journaled_writes, write_and_sync};
@@ -8,12 +8,12 @@ use crate::exports::PageHeader;
 use crate::wipe::wipe;
 use std::io;
 
-/// Completes a commit that a crash or an error cut short, or leaves out all of it, and returns the file's header.
+/// Completes a commit that a crash or an error interrupted, or leaves out all of it. Returns the header of the file.
 ///
-/// A journal that is whole under this key, and whose commit began or ended with the file's header, byte for byte, is
-/// made again and emptied; so it is also if the file has no header. A torn one, which begins as this file's journals do
-/// or has no record, is emptied if the file has a header. Otherwise nothing is changed: the error is [`Error::Journal`]
-/// or [`Error::Header`].
+/// - A whole journal under this key is written to the file and emptied, if the file has no header, or if its header is the
+///   first or the last one of the commit, byte for byte.
+/// - A torn journal is emptied if the file has a header and the journal begins as those of this file do, or has no record.
+/// - Otherwise nothing is changed, and the error is [`Error::Journal`] or [`Error::Header`].
 pub fn recover<A: Algorithm>(
     io: &mut impl RafIo,
     journal: &mut impl RafIo,
@@ -57,10 +57,10 @@ fn check_journal<A: Algorithm>(
     let Some((sector, header)) = found else {
         return writes.map(|_| ()).ok_or(Error::Header);
     };
-    let front = Layout::<A>::of(key, &header).journal_front();
+    let start = Layout::<A>::of(key, &header).journal_start();
     let is_its_own = match writes {
         Some(writes) => is_of_commit(header_bytes::<A>(sector), writes),
-        None => !is_of_another(&front, journal),
+        None => !is_of_another(&start, journal),
     };
     if is_its_own {
         Ok(())
@@ -69,8 +69,8 @@ fn check_journal<A: Algorithm>(
     }
 }
 
-/// Returns whether a file that begins with this header is that of before a commit, whose first write is of the header of
-/// before, or that of after it, whose last write is of the next header.
+/// Returns whether the header of a file is the one before a commit, which its first write has, or the one after it, which its
+/// last write has.
 fn is_of_commit(header: &[u8], writes: &[PendingWrite]) -> bool {
     let has_header = |write: &PendingWrite| write.place == 0 && write.bytes.starts_with(header);
     writes.first().is_some_and(has_header) || writes.last().is_some_and(has_header)

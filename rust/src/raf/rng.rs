@@ -1,26 +1,47 @@
-//! Where nonces and ids come from.
+//! Sources of random bytes.
 
 use super::Result;
-use std::fs::File;
-use std::io::Read;
 
-/// Draws nonces and ids.
+/// A source of random bytes, for nonces and ids.
 pub trait RafRng {
-    /// Fills `buf` with random bytes, or returns an error: what is in `buf` is then not used. The bytes must not be those of an
-    /// earlier call for the same key.
+    /// Fills `buf` with random bytes. After an error the bytes of `buf` are not used. **No call may give the bytes of an earlier
+    /// one** under the same key.
     fn fill(&mut self, buf: &mut [u8]) -> Result<()>;
 }
 
-/// The system's random bytes, of `/dev/urandom`.
+/// The system's source of random bytes, `/dev/urandom`.
+#[cfg(feature = "raf")]
 #[derive(Debug, Default)]
-pub struct OsRng(Option<File>);
+pub struct OsRng(Option<std::fs::File>);
 
+#[cfg(feature = "raf")]
 impl RafRng for OsRng {
     fn fill(&mut self, buf: &mut [u8]) -> Result<()> {
         let file = match &mut self.0 {
             Some(file) => file,
-            none => none.insert(File::open("/dev/urandom")?),
+            none => none.insert(crate::random::open()?),
         };
-        Ok(file.read_exact(buf)?)
+        Ok(crate::random::fill(file, buf)?)
     }
 }
+
+/// The default source of random bytes of [`Raf`](super::Raf) and [`RafBuilder`](super::RafBuilder).
+#[cfg(feature = "raf")]
+pub type DefaultRng = OsRng;
+
+/// No source of random bytes, since the feature `raf` is not set. Give one to
+/// [`RafBuilder::with_rng`](super::RafBuilder::with_rng).
+#[cfg(not(feature = "raf"))]
+#[derive(Debug)]
+pub enum NoRng {}
+
+#[cfg(not(feature = "raf"))]
+impl RafRng for NoRng {
+    fn fill(&mut self, _buf: &mut [u8]) -> Result<()> {
+        match *self {}
+    }
+}
+
+/// The default source of random bytes of [`Raf`](super::Raf) and [`RafBuilder`](super::RafBuilder).
+#[cfg(not(feature = "raf"))]
+pub type DefaultRng = NoRng;

@@ -246,6 +246,68 @@ fn the_calls_of_a_creation() {
     file.verify(&commitment).unwrap();
 }
 
+/// A disk that another one has locked.
+struct LockedDisk(Disk);
+
+impl RafIo for LockedDisk {
+    fn read_at(&mut self, buf: &mut [u8], offset: u64) -> io::Result<()> {
+        self.0.read_at(buf, offset)
+    }
+
+    fn write_at(&mut self, data: &[u8], offset: u64) -> io::Result<()> {
+        self.0.write_at(data, offset)
+    }
+
+    fn get_size(&mut self) -> io::Result<u64> {
+        self.0.get_size()
+    }
+
+    fn set_size(&mut self, size: u64) -> io::Result<()> {
+        self.0.set_size(size)
+    }
+
+    fn sync(&mut self) -> io::Result<()> {
+        self.0.sync()
+    }
+
+    fn lock(&mut self) -> Result<()> {
+        Err(Error::Locked)
+    }
+}
+
+/// A file whose lock, or whose journal's, is refused is not changed or synced, also if a commit is to be completed.
+#[test]
+fn locks_that_are_refused() {
+    let disks = disks(Bytes::default());
+    let mut file = created(&disks, usize::MAX);
+    file.write(&[1; 600], 0).unwrap();
+    // All is written but the end of the file.
+    disks.0.log.borrow_mut().left = 1 + JOURNAL_CALLS + 2;
+    assert!(file.commit().is_err());
+    drop(file);
+    let mut log = disks.0.log.borrow_mut();
+    log.left = usize::MAX;
+    log.calls.clear();
+    drop(log);
+    let (file, journal) = (|| disks.0.clone(), || disks.1.clone());
+    let builder = || RafBuilder::<Aegis256>::new();
+    let of_file = builder().journal(journal()).open(LockedDisk(file()), &KEY);
+    assert!(matches!(of_file, Err(Error::Locked)));
+    let of_journal = builder().journal(LockedDisk(journal())).open(file(), &KEY);
+    assert!(matches!(of_journal, Err(Error::Locked)));
+    let builder = || builder().truncate(true);
+    let of_file = builder()
+        .journal(journal())
+        .create(LockedDisk(file()), &KEY);
+    assert!(matches!(of_file, Err(Error::Locked)));
+    let of_journal = builder()
+        .journal(LockedDisk(journal()))
+        .create(file(), &KEY);
+    assert!(matches!(of_journal, Err(Error::Locked)));
+    assert_eq!(calls(&disks), 0);
+    assert_eq!(opened(&disks).size(), 600);
+}
+
 /// Each commit that makes the file longer sets its size. Then it writes the front of the journal and syncs it, the rest of it
 /// and syncs it, then the file and syncs it, and then empties the journal and syncs it.
 #[test]

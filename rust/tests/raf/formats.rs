@@ -1,9 +1,11 @@
 //! The bytes of files and journals, which are those of the proved crate `aegis_pages`.
 
 use crate::support::{Bytes, KEY, disks};
+use hunkravy::Mac;
 use hunkravy::aegis128l::Aegis128LMac;
 use hunkravy::aegis256::Aegis256Mac;
 use hunkravy::raf::*;
+use hunkravy::records::Opener;
 
 /// The file's id, and then nonces that count up.
 struct Counter(Option<u64>);
@@ -71,12 +73,49 @@ fn the_commitment_of_the_small_file() {
 #[test]
 fn derived_keys() {
     let text = b"hunkravy raf file key v1";
-    let mac = Aegis256Mac::<32>::new(&KEY);
-    let expected = mac.finalize_chunks(&[text, b"a context"]);
-    assert_eq!(derive_key(&KEY, b"a context").unwrap(), expected);
-    let mac = Aegis128LMac::<16>::new(&[5; 16]);
-    let expected = mac.finalize_chunks(&[text]);
-    assert_eq!(derive_key(&[5; 16], b"").unwrap(), expected);
+    let mut mac = Aegis256Mac::<32>::new(&KEY);
+    mac.update(text);
+    mac.update(b"a context");
+    assert_eq!(derive_key(&KEY, b"a context").unwrap(), mac.finalize());
+    let mut mac = Aegis128LMac::<16>::new(&[5; 16]);
+    mac.update(text);
+    assert_eq!(derive_key(&[5; 16], b"").unwrap(), mac.finalize());
+}
+
+/// The stream of a journal is sealed under the MAC of its magic number, under the file's key and the nonce of 255s, in each
+/// algorithm.
+#[test]
+fn journals() {
+    fn journal_opens<A: Algorithm>() {
+        let mut key = A::Key::default();
+        key.as_mut().fill(7);
+        let disks = disks(Bytes::default());
+        let builder = || RafBuilder::<A>::with_rng(Counter(Some(5))).journal(disks.1.clone());
+        drop(builder().create(disks.0.clone(), &key).unwrap());
+        let sector = disks.0.bytes.borrow()[..512].to_vec();
+        let mut file = builder().open(disks.0.clone(), &key).unwrap();
+        file.write(b"a text", 0).unwrap();
+        // All is done but to empty the journal.
+        let calls = disks.0.log.borrow().calls.len();
+        disks.0.log.borrow_mut().left = 9;
+        assert!(file.commit().is_err(), "{calls}");
+        let mut nonce = A::Nonce::default();
+        nonce.as_mut().fill(255);
+        let mut mac = Mac::<A, 32>::new_with_nonce(&key, &nonce);
+        mac.update(b"AGPJ");
+        let journal = disks.1.bytes.borrow();
+        let (prefix, stream) = journal[33..].split_first_chunk().unwrap();
+        let (header, records) = stream.split_at(4);
+        let mut opener = Opener::new(&mac.finalize(), prefix, b"", header).unwrap();
+        let first = opener.open_next(records).unwrap().message;
+        assert_eq!(first, [&[0; 8][..], &sector].concat());
+    }
+    journal_opens::<Aegis128L>();
+    journal_opens::<Aegis128X2>();
+    journal_opens::<Aegis128X4>();
+    journal_opens::<Aegis256>();
+    journal_opens::<Aegis256X2>();
+    journal_opens::<Aegis256X4>();
 }
 
 /// The proved crate writes the same journal by the same nonces, and then the same file: its test `a_commit_of_the_small_file`

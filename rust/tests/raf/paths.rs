@@ -309,7 +309,7 @@ fn copies_of_descriptors() {
     probe(&mut copy()).unwrap();
     assert!(matches!(open(&path), Err(Error::Locked)));
     drop(over_copy);
-    open(&path).unwrap();
+    drop(open(&path).unwrap());
 }
 
 /// While another file has the name of the journal no commit is made, and the changes stay in memory.

@@ -1,9 +1,5 @@
-//! Sealing and opening in chunks, and MACs. Most tests compare with the one-shot calls, for each variant and length of
-//! tag.
+//! Sealing and opening in chunks, and MACs: each call once, and what no contract states.
 
-pub mod chunked;
-mod cuts;
-mod destinations;
 mod endings;
 mod examples;
 mod macs;

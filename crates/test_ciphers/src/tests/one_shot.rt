@@ -1,7 +1,6 @@
-//! One-shot calls, keystreams and texts: worked examples of the contracts, and tests of what no contract states.
+//! One-shot calls, keystreams and texts: worked examples, each call once, and what no contract states.
 
 mod examples;
-mod keystreams;
 mod lanes;
-mod openings;
+mod parts;
 mod texts;

@@ -1,7 +1,5 @@
 //! Record streams, and the comparisons that these tests share.
 
-mod by_hand;
-mod faults;
 mod in_place;
 mod memory;
 mod positions;

@@ -1,21 +1,13 @@
-//! The round: known blocks, a plain round compared with one by a table, and each round of the library compared with
-//! that.
-
-mod bodies;
-mod permutes;
-mod table;
-
-ghost use Rattle.std.specs.Prelude.{◌<◌};
+//! Blocks, and the round of FIPS 197 at known blocks: a plain round, and those of the library.
 
 use crate::tests::assert_bytes;
 use aegis_aes::field::power_254;
 use aegis_aes::{AesBlock, Row};
 use std::process::Abort;
 use std::simd::prelude::*;
-use table::{COLUMNS, round_by_table};
 
-// Blocks, their keys, and the blocks after a round.
-const KNOWN: [(u128, u128, u128); 4] = [
+/// Blocks, their keys, and the blocks after a round.
+pub const KNOWN: [(u128, u128, u128); 4] = [
     (0, 0, 0x63636363636363636363636363636363),
     (
         0x000102030405060708090a0b0c0d0e0f,
@@ -34,25 +26,6 @@ const KNOWN: [(u128, u128, u128); 4] = [
         0x89d810e8855ace682d1843d8cb128fe4,
     ),
 ];
-
-// How many blocks the rounds are compared at.
-const CASES: usize = 256 + 16 + KNOWN.len();
-
-// A block and its key: one of the 256 blocks of equal bytes, one of bytes that count up, or a known one.
-fn case(number: usize) -> (u128, u128)
-    requires { number < 276 }
-{
-    if number < 256 {
-        return (u128::from_be_bytes([number as u8; 16]), 0);
-    }
-    let number = number - 256;
-    if number < 16 {
-        let (counted, key, _) = KNOWN[1];
-        return (counted.rotate_left(8 * number as u32), key);
-    }
-    let (start, key, _) = KNOWN[number - 16];
-    (start, key)
-}
 
 // The block of the sixteen bytes that a number has, its highest byte first.
 fn block(bytes: u128) -> AesBlock {
@@ -82,22 +55,9 @@ fn blocks_combine_by_byte(rt: HostRuntime) {
 #[test]
 fn rounds_of_known_blocks(rt: HostRuntime) {
     for (start, key, end) in KNOWN {
-        let by_table = round_by_table(start.to_be_bytes(), key.to_be_bytes());
-        assert_block(&rt, AesBlock::from_bytes(&by_table), end);
+        let plain = plain_round(start.to_be_bytes(), key.to_be_bytes());
+        assert_block(&rt, AesBlock::from_bytes(&plain), end);
         assert_block(&rt, block(start).round(block(key)), end);
-    }
-}
-
-#[test]
-fn known_table_entries(rt: HostRuntime) {
-    let known = [
-        (0x00u8, [0xc6, 0x63, 0x63, 0xa5]),
-        (0x01, [0xf8, 0x7c, 0x7c, 0x84]),
-        (0x53, [0xc1, 0xed, 0xed, 0x2c]),
-        (0xff, [0x2c, 0x16, 0x16, 0x3a]),
-    ];
-    for (byte, column) in known {
-        assert_bytes(&rt, &COLUMNS[byte as usize].to_le_bytes(), &column, &byte);
     }
 }
 
@@ -131,8 +91,8 @@ fn plain_substitute(a: u8) -> u8 {
     b ^ b.rotate_left(1) ^ b.rotate_left(2) ^ b.rotate_left(3) ^ b.rotate_left(4) ^ 0x63
 }
 
-// A round with the key added last (FIPS 197, sections 5.1.1 to 5.1.4).
-fn plain_round(block: [u8; 16], key: [u8; 16]) -> [u8; 16] {
+/// A round with the key added last (FIPS 197, sections 5.1.1 to 5.1.4).
+pub fn plain_round(block: [u8; 16], key: [u8; 16]) -> [u8; 16] {
     let mut shifted = [0; 16];
     for c in 0..4usize {
         for r in 0..4usize {
@@ -149,16 +109,6 @@ fn plain_round(block: [u8; 16], key: [u8; 16]) -> [u8; 16] {
         }
     }
     end
-}
-
-#[test]
-fn the_table_makes_the_plain_round(rt: HostRuntime) {
-    for number in 0..CASES {
-        let (start, key) = case(number);
-        let plain = plain_round(start.to_be_bytes(), key.to_be_bytes());
-        let by_table = round_by_table(start.to_be_bytes(), key.to_be_bytes());
-        assert_bytes(&rt, &by_table, &plain, &start);
-    }
 }
 
 #[test]

@@ -1,4 +1,4 @@
-//! The ends of opening the worked example, and the destination after each.
+//! The ends of opening the worked example in chunks, and the destination after each.
 
 use crate::tests::{assert_bytes, bytes_of};
 use aegis::Error;
@@ -77,5 +77,31 @@ fn open_chunks_len(rt: HostRuntime) -> Result<(), Fail> {
     let opened = aegis128l().open_chunks_len(data, &chunks, &wrong_tag()?, &mut destination);
     assert_eq!(rt; opened, Err(Error::InvalidTag));
     assert_bytes(&rt, &destination, &then_unwritten([0; 114]), &"refused");
+    Ok(())
+}
+
+// The slice that is returned is the start of the destination itself: a write to it is seen there.
+#[test]
+fn start_of_the_destination(rt: HostRuntime) -> Result<(), Fail> {
+    let mut destination = [0xaa; 120];
+    let mut decryptor = aegis128l().decryptor(&ASSOCIATED_DATA, &mut destination);
+    decryptor.update(&ciphertext()?)?;
+    let opened = decryptor.finalize(&right_tag()?)?;
+    assert_bytes(&rt, opened, &MESSAGE, &"by a decryptor");
+    opened.fill(0x55);
+    assert_bytes(
+        &rt,
+        &destination,
+        &then_unwritten([0x55; 114]),
+        &"by a decryptor",
+    );
+
+    let mut destination = [0xaa; 120];
+    let sealed = ciphertext()?;
+    let tag = right_tag()?;
+    let opened = aegis128l().open_chunks(&ASSOCIATED_DATA, &[&sealed], &tag, &mut destination)?;
+    assert_bytes(&rt, opened, &MESSAGE, &"at once");
+    opened.fill(0x55);
+    assert_bytes(&rt, &destination, &then_unwritten([0x55; 114]), &"at once");
     Ok(())
 }

@@ -1,8 +1,9 @@
 //! Record streams, sealed and opened a record at a time.
 
 use crate::tests::assert_bytes;
-use crate::tests::records::streams::{CONTEXT, FIRST, KEY, MESSAGES, PREFIX, SECOND};
+use crate::tests::records::streams::{CONTEXT, KEY, MESSAGES, PREFIX, SECOND};
 use crate::tests::records::{assert_error, assert_opened};
+use aegis::MAX_AEAD_BYTES;
 use aegis::record::{Opened, RecordError, RecordOpener, RecordSealer, seal_records};
 use std::alloc::Allocator;
 use std::process::Abort;
@@ -34,20 +35,6 @@ pub fn opened<'b, A: Allocator>(
     opener.open_next(alloc, bytes)
 }
 
-// The error for which the header or the first record of a stream is refused.
-fn refusal<R: Abort + AllocGlobal>(rt: &R, stream: &[u8]) -> Option<RecordError> {
-    let (header, records) = stream.split_at(stream.len().min(4));
-    match RecordOpener::new(&KEY, &PREFIX, &CONTEXT, header) {
-        Ok(mut opener) => opened(rt.alloc(), &mut opener, records).err(),
-        Err(error) => Some(error),
-    }
-}
-
-// Asserts that error.
-fn check_refusal<R: Abort + AllocGlobal>(rt: &R, stream: &[u8], expected: RecordError) {
-    assert_error(rt, refusal(rt, stream), expected, &stream);
-}
-
 #[test]
 fn records_sealed_one_by_one_are_the_stream(rt: HostRuntime) -> Result<(), Fail> {
     let stream = sealed(rt.alloc())?;
@@ -67,19 +54,6 @@ fn records_opened_one_by_one_are_the_messages(rt: HostRuntime) -> Result<(), Fai
         rest = record.rest;
     }
     assert!(rt; rest.is_empty());
-    Ok(())
-}
-
-#[test]
-fn both_versions_are_opened_one_by_one(rt: HostRuntime) -> Result<(), Fail> {
-    for stream in [&FIRST, &SECOND] {
-        let (header, records) = stream.split_at(4);
-        let mut opener = RecordOpener::new(&KEY, &PREFIX, &CONTEXT, header)?;
-        let first = opened(rt.alloc(), &mut opener, records)?;
-        assert_opened(&rt, &first, MESSAGES[0], false);
-        let second = opened(rt.alloc(), &mut opener, first.rest)?;
-        assert_opened(&rt, &second, MESSAGES[1], true);
-    }
     Ok(())
 }
 
@@ -107,67 +81,35 @@ fn the_length_of_a_record_is_told(rt: HostRuntime) -> Result<(), Fail> {
 fn what_remains_is_counted(rt: HostRuntime) -> Result<(), Fail> {
     let mut stream = Vec::new(rt.alloc());
     let mut sealer = RecordSealer::new(&KEY, &PREFIX, &CONTEXT, &mut stream)?;
-    let before = sealer.remaining();
+    assert_eq!(rt; sealer.remaining(), MAX_AEAD_BYTES - 4);
     sealer.seal_next(b"one", &mut stream)?;
-    assert_eq!(rt; before.checked_sub(sealer.remaining()), Some(40));
-    let (header, records) = stream.split_at(stream.len().min(4));
-    let mut opener = RecordOpener::new(&KEY, &PREFIX, &CONTEXT, header)?;
-    assert_eq!(rt; opener.remaining(), before);
-    opened(rt.alloc(), &mut opener, records)?;
-    assert_eq!(rt; opener.remaining(), sealer.remaining());
+    assert_eq!(rt; sealer.remaining(), MAX_AEAD_BYTES - 44);
+    let opener = RecordOpener::begin_at(&KEY, &PREFIX, &CONTEXT, sealer.position());
+    assert_eq!(rt; opener.remaining(), MAX_AEAD_BYTES - 44);
     Ok(())
 }
 
+// A refused record may be opened again, and after the last one nothing is opened.
 #[test]
-fn each_kind_of_refusal(rt: HostRuntime) {
-    let mut stream = SECOND;
-    stream[9] ^= 1;
-    check_refusal(&rt, &stream, RecordError::Damaged(0));
-    stream[8] = 2;
-    check_refusal(&rt, &stream, RecordError::TooLong);
-    stream[4] = 2;
-    check_refusal(&rt, &stream, RecordError::Flag);
-    stream[3] = b'3';
-    check_refusal(&rt, &stream, RecordError::Header);
-    for length in 0..41 {
-        let expected = if length < 4 {
-            RecordError::Header
-        } else {
-            RecordError::Truncated
-        };
-        check_refusal(&rt, &SECOND[..length], expected);
-    }
-}
-
-#[test]
-fn after_the_last_record_nothing_is_opened(rt: HostRuntime) -> Result<(), Fail> {
+fn a_refusal_leaves_the_opener(rt: HostRuntime) -> Result<(), Fail> {
     let (header, records) = SECOND.split_at(4);
     let mut opener = RecordOpener::new(&KEY, &PREFIX, &CONTEXT, header)?;
     let first = opened(rt.alloc(), &mut opener, records)?;
-    opened(rt.alloc(), &mut opener, first.rest)?;
+    let cases = [
+        (&first.rest[..first.rest.len() / 2], RecordError::Truncated),
+        (records, RecordError::Damaged(1)),
+        (&[2], RecordError::Flag),
+    ];
+    for (bytes, error) in cases {
+        let refused = opened(rt.alloc(), &mut opener, bytes).err();
+        assert_error(&rt, refused, error, &bytes);
+    }
+    let second = opened(rt.alloc(), &mut opener, first.rest)?;
+    assert_opened(&rt, &second, MESSAGES[1], true);
     for bytes in [&[], records] {
         let refused = opened(rt.alloc(), &mut opener, bytes).err();
         assert_error(&rt, refused, RecordError::Trailing, &bytes);
     }
-    Ok(())
-}
-
-#[test]
-fn a_refused_record_may_be_opened_again(rt: HostRuntime) -> Result<(), Fail> {
-    let (header, records) = SECOND.split_at(4);
-    let mut opener = RecordOpener::new(&KEY, &PREFIX, &CONTEXT, header)?;
-    let first = opened(rt.alloc(), &mut opener, records)?;
-    let cut = opened(rt.alloc(), &mut opener, &first.rest[..first.rest.len() / 2]);
-    assert_error(&rt, cut.err(), RecordError::Truncated, &"a half");
-    let other = opened(rt.alloc(), &mut opener, records);
-    assert_error(
-        &rt,
-        other.err(),
-        RecordError::Damaged(1),
-        &"the first record",
-    );
-    let second = opened(rt.alloc(), &mut opener, first.rest)?;
-    assert_opened(&rt, &second, MESSAGES[1], true);
     Ok(())
 }
 

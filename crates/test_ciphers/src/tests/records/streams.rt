@@ -3,7 +3,6 @@
 ghost use Rattle.std.specs.Prelude.{◌≤◌, length};
 
 use crate::tests::assert_bytes;
-use crate::tests::records::assert_error;
 use aegis::MAX_AEAD_BYTES;
 use aegis::record::{RecordError, migrate, open_records, records_len, seal_records};
 use std::alloc::Allocator;
@@ -96,38 +95,10 @@ pub fn migrated<A: Allocator + Copy>(alloc: A, stream: &[u8]) -> Result<Vec<u8, 
 }
 
 #[test]
-fn the_first_version_is_migrated(rt: HostRuntime) -> Result<(), Fail> {
-    let stream = migrated(rt.alloc(), &FIRST)?;
-    assert_bytes(&rt, &stream, &MIGRATED, &"the stream");
-    Ok(())
-}
-
-#[test]
-fn the_second_version_is_migrated(rt: HostRuntime) -> Result<(), Fail> {
-    let stream = migrated(rt.alloc(), &SECOND)?;
-    assert_bytes(&rt, &stream, &MIGRATED, &"the stream");
-    Ok(())
-}
-
-#[test]
-fn a_damaged_stream_is_not_migrated(rt: HostRuntime) {
-    let mut stream = FIRST;
-    stream[80] ^= 1;
-    let refused = migrated(rt.alloc(), &stream).err();
-    assert_error(&rt, refused, RecordError::Damaged(1), &"the last bit");
-}
-
-// A stream does not open under another key, prefix or context.
-#[test]
-fn only_its_own_keys_open_a_stream(rt: HostRuntime) {
-    let key = [1; 32];
-    let others: [(&[u8; 32], &[u8; 24], &[u8]); 3] = [
-        (&key, &PREFIX, &CONTEXT),
-        (&KEY, &NEW_PREFIX, &CONTEXT),
-        (&KEY, &PREFIX, b"context"),
-    ];
-    for (key, prefix, context) in others {
-        assert!(rt; context.len() < 8);
-        assert!(rt; open_records(rt.alloc(), key, prefix, context, &SECOND).is_err());
+fn both_versions_are_migrated(rt: HostRuntime) -> Result<(), Fail> {
+    for stream in [&FIRST, &SECOND] {
+        let new = migrated(rt.alloc(), stream)?;
+        assert_bytes(&rt, &new, &MIGRATED, &stream);
     }
+    Ok(())
 }

@@ -1,4 +1,4 @@
-// Notes the calls that look at, name, remove and sync files. tools/check_tool.sh puts this library before the C library.
+// Notes the calls that look at, name, remove and sync files. The scene of calls loads this library before the C library.
 //
 //   CALLS=FILE      appends the name of each call to the file
 //   LINK_FAILS=1    link fails, as on a file system that has no links

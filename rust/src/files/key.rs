@@ -1,0 +1,139 @@
+//! Key files.
+
+use super::Key;
+use crate::wipe::Wiped;
+use std::fs::File;
+use std::io::{self, ErrorKind, Read};
+use std::path::Path;
+
+/// The most bytes of a key file: the digits, and two bytes of white space.
+const MOST_BYTES: usize = 66;
+
+/// Reads a key file of `hunkravy keygen`: 64 hexadecimal digits, and then at most two bytes of white space.
+///
+/// The mode of the file is not checked. Make sure that only its owner can read it.
+///
+/// # Errors
+///
+/// [`ErrorKind::InvalidData`] if the file has anything else, or an error of reading it.
+///
+/// ```no_run
+/// use hunkravy::files::{SealedReader, read_key};
+/// use std::fs::File;
+///
+/// let key = read_key("backup.key")?;
+/// let reader = SealedReader::new(File::open("backup.sealed")?, &key);
+/// # Ok::<(), std::io::Error>(())
+/// ```
+pub fn read_key(path: impl AsRef<Path>) -> io::Result<Key> {
+    let mut bytes = Wiped([0; MOST_BYTES + 1]);
+    let count = read_all(&mut File::open(path)?, &mut bytes.0)?;
+    let no_key = || io::Error::new(ErrorKind::InvalidData, "no key: 64 hexadecimal digits");
+    key_of(&bytes.0[..count]).ok_or_else(no_key)
+}
+
+/// Reads to the end of the file or of the buffer, and returns how many bytes.
+fn read_all(file: &mut impl Read, buf: &mut [u8]) -> io::Result<usize> {
+    let mut count = 0;
+    while count < buf.len() {
+        match file.read(&mut buf[count..]) {
+            Ok(0) => break,
+            Ok(more) => count += more,
+            Err(error) if error.kind() == ErrorKind::Interrupted => (),
+            Err(error) => return Err(error),
+        }
+    }
+    Ok(count)
+}
+
+/// Returns the key of the bytes of a key file.
+fn key_of(bytes: &[u8]) -> Option<Key> {
+    if bytes.len() > MOST_BYTES {
+        return None;
+    }
+    let digits = core::str::from_utf8(bytes).ok()?.trim_end();
+    let mut key = [0; 32];
+    if digits.len() != 2 * key.len() {
+        return None;
+    }
+    for (byte, pair) in key.iter_mut().zip(digits.as_bytes().chunks_exact(2)) {
+        *byte = digit(pair[0])? << 4 | digit(pair[1])?;
+    }
+    Some(key)
+}
+
+/// Returns the value of a hexadecimal digit.
+fn digit(byte: u8) -> Option<u8> {
+    (byte as char).to_digit(16).map(|value| value as u8)
+}
+
+#[cfg(test)]
+mod tests {
+    use super::{key_of, read_all};
+    use alloc::format;
+    use std::io::{self, ErrorKind, Read};
+
+    #[test]
+    fn keys() {
+        let digits = "00fF1aA2".repeat(8);
+        let key = key_of(digits.as_bytes()).unwrap();
+        assert_eq!(key[..8], [0, 0xff, 0x1a, 0xa2, 0, 0xff, 0x1a, 0xa2]);
+        for end in [
+            "",
+            "\n",
+            "\r\n",
+            "  ",
+            "\t\n",
+            "\u{b}\u{c}",
+            "\u{85}",
+            "\u{a0}",
+        ] {
+            assert_eq!(
+                key_of(format!("{digits}{end}").as_bytes()),
+                Some(key),
+                "{end:?}"
+            );
+        }
+        for end in ["\n\n\n", "0", "\0", ".", "\n.", "\u{2028}"] {
+            assert_eq!(key_of(format!("{digits}{end}").as_bytes()), None, "{end:?}");
+        }
+        for bytes in ["", "\n", &digits[1..], &digits[2..], &format!(" {digits}")] {
+            assert_eq!(key_of(bytes.as_bytes()), None, "{bytes:?}");
+        }
+        for wrong in ["g", "G", "/", ":", "@", "`", " ", "+", "-"] {
+            assert_eq!(
+                key_of(digits.replacen('0', wrong, 1).as_bytes()),
+                None,
+                "{wrong:?}"
+            );
+        }
+        let mut bytes = digits.into_bytes();
+        bytes[5] = 0xff;
+        assert_eq!(key_of(&bytes), None);
+    }
+
+    /// A file that gives a byte a read, is interrupted before each, and then fails.
+    struct Slow(bool, u8);
+
+    impl Read for Slow {
+        fn read(&mut self, buf: &mut [u8]) -> io::Result<usize> {
+            self.0 = !self.0;
+            if self.0 {
+                return Err(ErrorKind::Interrupted.into());
+            }
+            self.1 = self.1.checked_sub(1).ok_or(ErrorKind::Other)?;
+            buf[0] = self.1;
+            Ok(1)
+        }
+    }
+
+    #[test]
+    fn short_reads() {
+        let mut buf = [9; 4];
+        assert_eq!(read_all(&mut Slow(false, 4), &mut buf).unwrap(), 4);
+        assert_eq!(buf, [3, 2, 1, 0]);
+        assert_eq!(read_all(&mut &[1, 2, 3][..], &mut buf).unwrap(), 3);
+        let error = read_all(&mut Slow(false, 3), &mut buf).unwrap_err();
+        assert_eq!(error.kind(), ErrorKind::Other);
+    }
+}

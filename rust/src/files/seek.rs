@@ -1,0 +1,174 @@
+//! Moving to a place in the contents.
+
+use super::{CONTEXT, HEAD_BYTES, PIECE_BYTES, SealedReader};
+use crate::records::{Error, HEADER_BYTES, Opener, Position, RECORD_BYTES, RECORD_HEAD_BYTES};
+use std::io::{self, ErrorKind, Read, Seek, SeekFrom};
+
+/// Returns the position of the record that has a place of the contents, or of the last record if none has it. The file has
+/// `file_bytes` bytes and was sealed in whole pieces. Returns `None` if no such file has that length.
+fn in_whole_pieces(file_bytes: u64, place: Option<u64>) -> Option<Position> {
+    let records = file_bytes.checked_sub((HEAD_BYTES + RECORD_BYTES) as u64)?;
+    let whole = (PIECE_BYTES + RECORD_BYTES) as u64;
+    let rest = records % whole;
+    if (1..=RECORD_BYTES as u64).contains(&rest) {
+        return None;
+    }
+    let pieces = records.div_ceil(whole);
+    let contents = records - pieces * RECORD_BYTES as u64;
+    let number = match place {
+        Some(place) if place < contents => place / PIECE_BYTES as u64,
+        _ => pieces,
+    };
+    let before = contents.min(number * PIECE_BYTES as u64);
+    Some(Position { number, before })
+}
+
+impl<R: Read + Seek> SealedReader<R> {
+    /// Moves to a place of the contents, so that the record is open that has it, or the last one.
+    fn locate(&mut self, place: u64) -> io::Result<()> {
+        let end = self.start + self.length as u64;
+        let is_here = place == self.position || (self.start..end).contains(&place);
+        if self.is_lost || !is_here {
+            self.open_record_of(Some(place))?;
+        }
+        self.position = place;
+        Ok(())
+    }
+
+    /// Moves to a place that is given from the start, from the position or from the end, and returns it.
+    fn locate_from(&mut self, to: SeekFrom) -> io::Result<u64> {
+        let before = self.position;
+        let place = match to {
+            SeekFrom::Start(place) => Some(place),
+            SeekFrom::Current(by) => before.checked_add_signed(by),
+            SeekFrom::End(by) => self.locate_end()?.checked_add_signed(by),
+        };
+        self.locate(place.unwrap_or(before))?;
+        place.ok_or_else(|| ErrorKind::InvalidInput.into())
+    }
+
+    /// Moves to the end of the contents, and returns their length.
+    fn locate_end(&mut self) -> io::Result<u64> {
+        self.open_record_of(None)?;
+        self.is_lost = true;
+        self.check_end()?;
+        self.is_lost = false;
+        self.position = self.start + self.length as u64;
+        Ok(self.position)
+    }
+
+    /// Opens the record that has a place of the contents, or the last one if none has it. It is tried first where it would be
+    /// in whole pieces.
+    fn open_record_of(&mut self, place: Option<u64>) -> io::Result<()> {
+        self.begin()?;
+        self.find_base()?;
+        self.is_lost = true;
+        let file_bytes = self.inner.seek(SeekFrom::End(0))?;
+        let file_bytes = file_bytes.saturating_sub(self.base.unwrap_or(0));
+        let guess = in_whole_pieces(file_bytes, place);
+        let is_open = match guess {
+            Some(position) => self.open_at(position)?.is_ok() && self.is_open_at(place),
+            None => false,
+        };
+        if !is_open {
+            let position = self.find(place)?;
+            self.open_at(position)?.map_err(|fault| self.fail(fault))?;
+        }
+        self.is_lost = false;
+        Ok(())
+    }
+
+    /// Returns whether the record that was opened has the place, or is the last one.
+    fn is_open_at(&self, place: Option<u64>) -> bool {
+        let end = self.start + self.length as u64;
+        self.opener.as_ref().is_some_and(Opener::has_ended)
+            || place.is_some_and(|place| place < end)
+    }
+
+    /// Finds out where the file begins in the inner reader, before that is moved.
+    fn find_base(&mut self) -> io::Result<()> {
+        if self.base.is_none() {
+            let base = self.inner.stream_position()?.checked_sub(self.taken);
+            self.base = Some(base.ok_or(ErrorKind::InvalidInput)?);
+        }
+        Ok(())
+    }
+
+    /// Returns the position of the record that has a place, or of the last one, by the lengths of those before it, which are not
+    /// verified.
+    fn find(&mut self, place: Option<u64>) -> io::Result<Position> {
+        let mut position = Position::default();
+        loop {
+            let head = self.head_at(position)?;
+            let (is_last, length) = head.map_err(|fault| self.fail(fault))?;
+            let end = position.before + length;
+            if is_last || place.is_some_and(|place| place < end) {
+                return Ok(position);
+            }
+            position.number += 1;
+            position.before = end;
+        }
+    }
+
+    /// Returns whether the record at a position is the last one, and how many bytes its message has. Neither is verified.
+    fn head_at(&mut self, position: Position) -> io::Result<Result<(bool, u64), Error>> {
+        let mut opener = match self.move_to(position)? {
+            Ok(opener) => opener,
+            Err(fault) => return Ok(Err(fault)),
+        };
+        self.fill(RECORD_HEAD_BYTES)?;
+        let bytes = &mut self.record.0[..self.filled];
+        let Some(head) = bytes.first_chunk() else {
+            return Ok(opener.open_next_in_place(bytes).map(|_| (true, 0)));
+        };
+        let length = opener.record_len(head);
+        Ok(length.map(|length| (head[0] == 1, (length - RECORD_BYTES) as u64)))
+    }
+
+    /// Opens the record at a position.
+    fn open_at(&mut self, position: Position) -> io::Result<Result<(), Error>> {
+        match self.move_to(position)? {
+            Ok(opener) => {
+                self.opener = Some(opener);
+                self.open_next()
+            }
+            Err(fault) => Ok(Err(fault)),
+        }
+    }
+
+    /// Moves the inner reader to the record at a position, and returns an opener of that record.
+    fn move_to(&mut self, position: Position) -> io::Result<Result<Opener<'static>, Error>> {
+        let opener = match Opener::begin_at(&self.key.0, &self.prefix, CONTEXT, position) {
+            Ok(opener) => opener,
+            Err(fault) => return Ok(Err(fault)),
+        };
+        let offset = (HEAD_BYTES - HEADER_BYTES) as u64 + position.offset();
+        let place = self.base.unwrap_or(0).checked_add(offset);
+        self.inner
+            .seek(SeekFrom::Start(place.ok_or(ErrorKind::InvalidInput)?))?;
+        self.start = position.before;
+        self.length = 0;
+        self.filled = 0;
+        self.is_at_end = false;
+        Ok(Ok(opener))
+    }
+}
+
+impl<R: Read + Seek> Seek for SealedReader<R> {
+    /// Moves to a place of the contents, and verifies the record that has it. [`SeekFrom::End`] verifies the last record too, and
+    /// that nothing follows it.
+    fn seek(&mut self, to: SeekFrom) -> io::Result<u64> {
+        self.check()?;
+        let before = self.position;
+        let sought = self.locate_from(to);
+        if sought.is_err() {
+            self.position = before;
+        }
+        sought
+    }
+
+    /// Returns the place of the next byte. Nothing is moved.
+    fn stream_position(&mut self) -> io::Result<u64> {
+        Ok(self.position)
+    }
+}

@@ -1,0 +1,133 @@
+//! Sealing a file.
+
+use super::{CONTEXT, HEAD_BYTES, Key, PIECE_BYTES};
+use crate::random;
+use crate::records::{Prefix, RECORD_BYTES, RECORD_HEAD_BYTES, Sealer};
+use crate::wipe::Wiped;
+use alloc::vec;
+use alloc::vec::Vec;
+use core::fmt;
+use std::io::{self, Write};
+
+/// Encrypts bytes into a sealed file, which it writes to an inner writer.
+///
+/// **Call [`finish`](Self::finish) at the end: without it the file does not open.** Dropping the writer never finishes the
+/// file. So a program that ends early leaves no file that opens.
+///
+/// Bytes are encrypted and written in pieces of 65,536 bytes. [`flush`](Write::flush) flushes the inner writer, and leaves an
+/// incomplete piece in memory. After an error of the inner writer in `write` or `finish`, every function returns an error.
+/// The buffer for one piece is overwritten when the writer is dropped.
+///
+/// ```
+/// use hunkravy::files::SealedWriter;
+/// use std::io::Write;
+///
+/// let mut writer = SealedWriter::new(Vec::new(), &[1; 32])?;
+/// writer.write_all(b"the contents")?;
+/// let file = writer.finish()?;
+/// assert_eq!(file.len(), 24 + 4 + (37 + 12) + 37);
+/// # Ok::<(), std::io::Error>(())
+/// ```
+#[must_use = "without `finish` the file does not open"]
+pub struct SealedWriter<W: Write> {
+    inner: W,
+    sealer: Sealer<'static>,
+    /// A record with the next piece in its place.
+    record: Wiped<Vec<u8>>,
+    /// The number of bytes that the piece has so far.
+    filled: usize,
+    has_failed: bool,
+}
+
+impl<W: Write> SealedWriter<W> {
+    /// Begins a file: generates its prefix at random, and writes its first 28 bytes.
+    ///
+    /// # Errors
+    ///
+    /// An error of the system's source of random bytes, or of the inner writer.
+    pub fn new(mut inner: W, key: &Key) -> io::Result<Self> {
+        let mut prefix = Prefix::default();
+        random::fill(&mut random::open()?, &mut prefix)?;
+        let sealer = Sealer::new(key, &prefix, CONTEXT)?;
+        let mut head = [0; HEAD_BYTES];
+        head[..prefix.len()].copy_from_slice(&prefix);
+        head[prefix.len()..].copy_from_slice(&sealer.header());
+        inner.write_all(&head)?;
+        Ok(Self {
+            inner,
+            sealer,
+            record: Wiped(vec![0; RECORD_BYTES + PIECE_BYTES]),
+            filled: 0,
+            has_failed: false,
+        })
+    }
+
+    /// Returns the inner writer. Writing to it damages the file.
+    #[must_use]
+    pub fn get_ref(&self) -> &W {
+        &self.inner
+    }
+
+    /// Writes the end of the file, flushes the inner writer, and returns it.
+    ///
+    /// # Errors
+    ///
+    /// An error of the inner writer, now or earlier. Unless flushing it failed, the file does not open.
+    pub fn finish(mut self) -> io::Result<W> {
+        self.check()?;
+        if self.filled > 0 {
+            self.write_record()?;
+        }
+        let mut last = Vec::new();
+        self.sealer.seal_last(&[], &mut last)?;
+        self.inner.write_all(&last)?;
+        self.inner.flush()?;
+        Ok(self.inner)
+    }
+
+    fn check(&self) -> io::Result<()> {
+        if self.has_failed {
+            return Err(io::Error::other("the sealed file has failed before"));
+        }
+        Ok(())
+    }
+
+    /// Seals the piece, and writes its record.
+    fn write_record(&mut self) -> io::Result<()> {
+        let record = &mut self.record.0[..RECORD_BYTES + self.filled];
+        // It stays so after an error or a panic.
+        self.has_failed = true;
+        self.sealer.seal_next_in_place(record)?;
+        self.inner.write_all(record)?;
+        self.filled = 0;
+        self.has_failed = false;
+        Ok(())
+    }
+}
+
+impl<W: Write> Write for SealedWriter<W> {
+    /// Adds bytes to the current piece, as many as fit, and writes the piece if it is full.
+    fn write(&mut self, data: &[u8]) -> io::Result<usize> {
+        self.check()?;
+        let count = data.len().min(PIECE_BYTES - self.filled);
+        self.record.0[RECORD_HEAD_BYTES + self.filled..][..count].copy_from_slice(&data[..count]);
+        self.filled += count;
+        if self.filled == PIECE_BYTES {
+            self.write_record()?;
+        }
+        Ok(count)
+    }
+
+    /// Flushes the inner writer. The bytes of an incomplete piece stay in memory.
+    fn flush(&mut self) -> io::Result<()> {
+        self.check()?;
+        self.inner.flush()
+    }
+}
+
+/// The type's name, and nothing of the contents.
+impl<W: Write> fmt::Debug for SealedWriter<W> {
+    fn fmt(&self, f: &mut fmt::Formatter<'_>) -> fmt::Result {
+        f.write_str("SealedWriter { .. }")
+    }
+}

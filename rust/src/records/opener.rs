@@ -1,0 +1,284 @@
+//! Opening a stream.
+
+use super::error::of_begin;
+use super::{Error, HEADER_BYTES, Key, Position, Prefix, RECORD_BYTES, RECORD_HEAD_BYTES};
+use crate::exports::{Records, Refusal};
+use alloc::vec::Vec;
+use core::fmt;
+
+/// A record that was opened.
+#[derive(Clone, Debug, PartialEq, Eq)]
+#[must_use]
+pub struct Opened<'b> {
+    /// Its message.
+    pub message: Vec<u8>,
+    /// Whether it is the last record.
+    pub is_last: bool,
+    /// The bytes after the record.
+    pub rest: &'b [u8],
+}
+
+/// A record that was opened in place.
+#[derive(Debug, PartialEq, Eq)]
+#[must_use]
+pub struct OpenedInPlace<'b> {
+    /// Its message.
+    pub message: &'b mut [u8],
+    /// Whether it is the last record.
+    pub is_last: bool,
+    /// The bytes after the record.
+    pub rest: &'b mut [u8],
+}
+
+/// Decrypts the records of a stream, in their order. Its state is overwritten when it is dropped.
+///
+/// The stream is whole only if [`finish`](Self::finish) returns `Ok`. Until then it may be truncated.
+///
+/// After an error every function returns the same error. So no record is tried again with other bytes.
+#[must_use]
+pub struct Opener<'c> {
+    records: Records<'c>,
+    next: Position,
+    end: Option<End>,
+}
+
+/// How a stream has ended.
+#[derive(Clone, Copy)]
+enum End {
+    Last,
+    Fault(Error),
+}
+
+impl<'c> Opener<'c> {
+    /// Begins to open a stream. `header` is its first [`HEADER_BYTES`], or all of its bytes if there are fewer.
+    ///
+    /// # Errors
+    ///
+    /// [`Error::ContextTooLong`] or [`Error::Header`].
+    pub fn new(
+        key: &Key,
+        prefix: &Prefix,
+        context: &'c [u8],
+        header: &[u8],
+    ) -> Result<Self, Error> {
+        let known = <&[u8; HEADER_BYTES]>::try_from(header).unwrap_or(&[0; HEADER_BYTES]);
+        let records = Records::begin_open(key, prefix, context, known).map_err(of_begin)?;
+        Ok(Self::of(records, Position::default()))
+    }
+
+    /// Begins to open a stream at one of its records, without those before it.
+    ///
+    /// The position does not have to be verified: a record opens only at its own. The records before it are not verified.
+    ///
+    /// # Errors
+    ///
+    /// [`Error::ContextTooLong`], or [`Error::StreamTooLong`] if no stream has a record at this position.
+    ///
+    /// ```
+    /// use hunkravy::records::{Error, Opener, Position, Sealer};
+    ///
+    /// let (key, prefix) = ([1; 32], [2; 24]);
+    /// let mut sealer = Sealer::new(&key, &prefix, b"context")?;
+    /// let mut stream = sealer.header().to_vec();
+    /// sealer.seal_next(b"first", &mut stream)?;
+    /// sealer.seal_last(b"last", &mut stream)?;
+    ///
+    /// let second = Position { number: 1, before: 5 };
+    /// let mut opener = Opener::begin_at(&key, &prefix, b"context", second)?;
+    /// let opened = opener.open_next(&stream[second.offset() as usize..])?;
+    /// assert_eq!(opened.message, b"last");
+    /// # Ok::<(), Error>(())
+    /// ```
+    pub fn begin_at(
+        key: &Key,
+        prefix: &Prefix,
+        context: &'c [u8],
+        position: Position,
+    ) -> Result<Self, Error> {
+        let Position { number, before } = position;
+        let records = Records::begin_open_at(key, prefix, context, number, before);
+        Ok(Self::of(records.map_err(of_begin)?, position))
+    }
+
+    fn of(records: Records<'c>, next: Position) -> Self {
+        Self {
+            records,
+            next,
+            end: None,
+        }
+    }
+
+    /// Returns the position of the next record, for [`begin_at`](Self::begin_at).
+    #[must_use]
+    pub fn position(&self) -> Position {
+        self.next
+    }
+
+    /// Returns whether the last record was opened.
+    #[must_use]
+    pub fn has_ended(&self) -> bool {
+        matches!(self.end, Some(End::Last))
+    }
+
+    /// Returns the length of the next record in bytes, from its first five bytes. It is at most 16 MiB and 37 bytes.
+    ///
+    /// **The length is not verified**: allocate memory for a record as its bytes arrive.
+    ///
+    /// # Errors
+    ///
+    /// [`Error::Flag`] or [`Error::TooLong`], which is the fault of any record that begins with these bytes; or
+    /// [`Error::Trailing`] after the last record.
+    pub fn record_len(&mut self, head: &[u8; RECORD_HEAD_BYTES]) -> Result<usize, Error> {
+        self.check()?;
+        let length = self.records.record_len(head);
+        length.map_err(|refusal| {
+            self.fail(match refusal {
+                Refusal::InvalidTag => Error::Flag,
+                Refusal::MessageTooLong => Error::TooLong,
+                other => unreachable!("the library refused the head of a record: {other:?}"),
+            })
+        })
+    }
+
+    /// Opens the next record, which is at the beginning of `bytes`. `bytes` has the whole record, or the rest of the stream.
+    ///
+    /// # Errors
+    ///
+    /// The first fault of the stream, or [`Error::StreamTooLong`]. [`Error::Truncated`] if `bytes` ends before the record
+    /// does. [`Error::Trailing`] after the last record.
+    ///
+    /// ```
+    /// use hunkravy::records::{Error, Opener, Sealer};
+    ///
+    /// let (key, prefix) = ([1; 32], [2; 24]);
+    /// let mut stream = Vec::new();
+    /// let sealer = Sealer::new(&key, &prefix, b"context")?;
+    /// let header = sealer.header();
+    /// sealer.seal_last(b"a message", &mut stream)?;
+    ///
+    /// stream[7] ^= 1;
+    /// let mut opener = Opener::new(&key, &prefix, b"context", &header)?;
+    /// assert_eq!(opener.open_next(&stream), Err(Error::Damaged(0)));
+    /// stream[7] ^= 1;
+    /// assert_eq!(opener.open_next(&stream), Err(Error::Damaged(0)));
+    /// # Ok::<(), Error>(())
+    /// ```
+    pub fn open_next<'b>(&mut self, bytes: &'b [u8]) -> Result<Opened<'b>, Error> {
+        let length = self.first_len(bytes)?;
+        let (record, rest) = bytes.split_at(length);
+        let mut message = record.to_vec();
+        let is_last = self.open(&mut message)?;
+        message.copy_within(RECORD_HEAD_BYTES.., 0);
+        message.truncate(length - RECORD_BYTES);
+        Ok(Opened {
+            message,
+            is_last,
+            rest,
+        })
+    }
+
+    /// Opens the next record in place. The arguments and the errors are those of [`open_next`](Self::open_next).
+    ///
+    /// After [`Error::Damaged`] each byte of the record is [`ERASED`](crate::ERASED). After any other error `bytes` is
+    /// unchanged.
+    ///
+    /// ```
+    /// use hunkravy::records::{Error, HEADER_BYTES, Opener, Sealer};
+    ///
+    /// let (key, prefix) = ([1; 32], [2; 24]);
+    /// let sealer = Sealer::new(&key, &prefix, b"context")?;
+    /// let mut stream = sealer.header().to_vec();
+    /// sealer.seal_last(b"a message", &mut stream)?;
+    ///
+    /// let (header, bytes) = stream.split_at_mut(HEADER_BYTES);
+    /// let mut opener = Opener::new(&key, &prefix, b"context", header)?;
+    /// let opened = opener.open_next_in_place(bytes)?;
+    /// assert_eq!(opened.message, b"a message");
+    /// assert!(opened.is_last && opened.rest.is_empty());
+    /// # Ok::<(), Error>(())
+    /// ```
+    pub fn open_next_in_place<'b>(
+        &mut self,
+        bytes: &'b mut [u8],
+    ) -> Result<OpenedInPlace<'b>, Error> {
+        let length = self.first_len(bytes)?;
+        let (record, rest) = bytes.split_at_mut(length);
+        let is_last = self.open(record)?;
+        Ok(OpenedInPlace {
+            message: &mut record[RECORD_HEAD_BYTES..][..length - RECORD_BYTES],
+            is_last,
+            rest,
+        })
+    }
+
+    /// Checks that the whole stream was opened. `rest` has the bytes after the records that were opened.
+    ///
+    /// # Errors
+    ///
+    /// The error of an earlier call; [`Error::Truncated`] if the last record was not opened; or [`Error::Trailing`] if `rest`
+    /// is not empty.
+    pub fn finish(self, rest: &[u8]) -> Result<(), Error> {
+        match self.end {
+            Some(End::Fault(error)) => Err(error),
+            None => Err(Error::Truncated),
+            Some(End::Last) if !rest.is_empty() => Err(Error::Trailing),
+            Some(End::Last) => Ok(()),
+        }
+    }
+
+    fn check(&self) -> Result<(), Error> {
+        match self.end {
+            None => Ok(()),
+            Some(End::Last) => Err(Error::Trailing),
+            Some(End::Fault(error)) => Err(error),
+        }
+    }
+
+    /// Keeps the error, and returns it.
+    fn fail(&mut self, error: Error) -> Error {
+        self.end = Some(End::Fault(error));
+        error
+    }
+
+    /// Returns how many bytes the record has with which `bytes` begin, if they have all of it.
+    fn first_len(&mut self, bytes: &[u8]) -> Result<usize, Error> {
+        self.check()?;
+        let Some(head) = bytes.first_chunk() else {
+            let has_flag = bytes.first().is_some_and(|flag| *flag > 1);
+            return Err(self.fail(if has_flag {
+                Error::Flag
+            } else {
+                Error::Truncated
+            }));
+        };
+        let length = self.record_len(head)?;
+        if bytes.len() < length {
+            return Err(self.fail(Error::Truncated));
+        }
+        Ok(length)
+    }
+
+    /// Opens the next record, and returns whether it is the last one.
+    fn open(&mut self, record: &mut [u8]) -> Result<bool, Error> {
+        let is_last = self.records.open(record).map_err(|refusal| {
+            self.fail(match refusal {
+                Refusal::InvalidTag => Error::Damaged(self.next.number),
+                Refusal::MessageTooLong => Error::StreamTooLong,
+                other => unreachable!("the library refused to open a record: {other:?}"),
+            })
+        })?;
+        self.next.number += 1;
+        self.next.before += (record.len() - RECORD_BYTES) as u64;
+        if is_last {
+            self.end = Some(End::Last);
+        }
+        Ok(is_last)
+    }
+}
+
+/// The type's name, and nothing of the state.
+impl fmt::Debug for Opener<'_> {
+    fn fmt(&self, f: &mut fmt::Formatter<'_>) -> fmt::Result {
+        f.write_str("Opener { .. }")
+    }
+}

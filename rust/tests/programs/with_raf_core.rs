@@ -1,0 +1,43 @@
+//! The sample on a source of random bytes of the page of the crate `aegis`, under its name.
+
+pub fn a_source_of_random_bytes() {
+    use aegis::raf::{Aegis128L, FileIo, RafBuilder};
+
+    struct MyRng;
+
+    impl aegis::raf::RafRng for MyRng {
+        fn fill(&mut self, _buf: &mut [u8]) -> Result<(), aegis::raf::Error> {
+            // fill buf with random bytes from your source
+            Ok(())
+        }
+    }
+
+    let io = FileIo::create("data.raf").unwrap();
+    let key = [0u8; 16];
+    let mut f = RafBuilder::<Aegis128L>::with_rng(MyRng)
+        .chunk_size(4096)
+        .truncate(true)
+        .create(io, &key)
+        .unwrap();
+    f.write(b"hello", 0).unwrap();
+}
+
+pub fn keys() {
+    use aegis::raf::{Aegis128L, Raf, derive_key};
+
+    let master_key = [0u8; 16];
+    let _key = Raf::<Aegis128L>::derive_master_key(&master_key, b"my-app/files").unwrap();
+    let master_key = [0u8; 32];
+    let _key = derive_key(&master_key, b"my-app/files").unwrap();
+}
+
+pub fn a_probe() {
+    use aegis::raf::{self, FileIo};
+
+    let mut io = FileIo::open("data.raf").unwrap();
+    let info = raf::probe(&mut io).unwrap();
+    println!(
+        "algorithm: {:?}, chunk_size: {}, file_size: {}",
+        info.algorithm, info.chunk_size, info.file_size
+    );
+}

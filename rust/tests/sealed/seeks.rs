@@ -1,0 +1,262 @@
+//! Reading at any place.
+
+use crate::random::Random;
+use crate::support::{Failing, PIECE_BYTES, WHOLE_BYTES, key, sealed, sealed_in_pieces};
+use hunkravy::files::SealedReader;
+use std::io::{BufRead, Cursor, ErrorKind, Read, Result, Seek, SeekFrom};
+
+const PREFIX: [u8; 24] = [9; 24];
+
+/// Messages of random lengths, some of them empty, and at last one or more empty ones.
+fn messages(random: &mut Random) -> Vec<Vec<u8>> {
+    let count = random.below(12) as usize;
+    let mut messages: Vec<Vec<u8>> = Vec::new();
+    for _ in 0..=count {
+        let most = [1, 40, 3000][random.below(3) as usize];
+        let length = random.below(most) as usize;
+        messages.push(random.bytes(length));
+    }
+    messages
+}
+
+/// A file of contents, in whole pieces or not, and what is in front of it in the inner reader.
+fn files(random: &mut Random) -> Vec<(Vec<u8>, Vec<u8>)> {
+    let mut files = Vec::new();
+    for length in [
+        0,
+        1,
+        PIECE_BYTES - 1,
+        PIECE_BYTES,
+        PIECE_BYTES + 1,
+        3 * PIECE_BYTES,
+        150_000,
+    ] {
+        let contents = random.bytes(length);
+        files.push((sealed_in_pieces(&key(), &PREFIX, &contents), contents));
+    }
+    for _ in 0..40 {
+        let messages = messages(random);
+        let slices: Vec<&[u8]> = messages.iter().map(Vec::as_slice).collect();
+        files.push((sealed(&key(), &PREFIX, &slices), messages.concat()));
+    }
+    files
+}
+
+/// A place to seek, which is mostly within so many bytes.
+fn seek_from(random: &mut Random, length: u64) -> SeekFrom {
+    let place = random.below(length + 3);
+    match random.below(3) {
+        0 => SeekFrom::Start(place),
+        1 => SeekFrom::End(place as i64 - length as i64),
+        _ => SeekFrom::Current(place as i64 - random.below(length + 3) as i64),
+    }
+}
+
+/// Reads and seeks give what they give over the contents.
+#[test]
+fn beside_a_slice() {
+    let mut random = Random(3);
+    for (file, contents) in files(&mut random) {
+        for garbage in [0, 7] {
+            let mut inner = Cursor::new([vec![0x41; garbage], file.clone()].concat());
+            inner.set_position(garbage as u64);
+            let mut reader = SealedReader::new(inner, &key());
+            let mut expected = Cursor::new(&contents);
+            for _ in 0..60 {
+                step(&mut random, &mut reader, &mut expected);
+            }
+        }
+    }
+}
+
+fn step(random: &mut Random, reader: &mut (impl BufRead + Seek), expected: &mut Cursor<&Vec<u8>>) {
+    let length = expected.get_ref().len() as u64;
+    match random.below(3) {
+        0 => {
+            let to = seek_from(random, length);
+            let kind = |result: Result<u64>| result.map_err(|error| error.kind());
+            assert_eq!(
+                kind(reader.seek(to)),
+                kind(expected.seek(to)),
+                "{to:?} {length}"
+            );
+        }
+        1 => {
+            let count = random.below(200);
+            let (mut one, mut other) = (Vec::new(), Vec::new());
+            reader.take(count).read_to_end(&mut one).unwrap();
+            expected.take(count).read_to_end(&mut other).unwrap();
+            assert_eq!(one, other);
+        }
+        _ => {
+            let bytes = reader.fill_buf().unwrap();
+            let (count, place) = (bytes.len(), expected.position().min(length));
+            assert_eq!(bytes, &expected.get_ref()[place as usize..][..count]);
+            assert_eq!(count == 0, place == length);
+            reader.consume(count / 2);
+            expected.consume(count / 2);
+        }
+    }
+    assert_eq!(reader.stream_position().unwrap(), expected.position());
+}
+
+/// Places that no contents have.
+#[test]
+fn places_out_of_bounds() {
+    let file = sealed_in_pieces(&key(), &PREFIX, &[1; 100]);
+    let mut reader = SealedReader::new(Cursor::new(file), &key());
+    reader.seek(SeekFrom::Start(50)).unwrap();
+    for to in [
+        SeekFrom::Current(-51),
+        SeekFrom::End(-101),
+        SeekFrom::Current(i64::MIN),
+        SeekFrom::End(i64::MIN),
+    ] {
+        let error = reader.seek(to).unwrap_err();
+        assert_eq!(error.kind(), ErrorKind::InvalidInput);
+        assert_eq!(reader.stream_position().unwrap(), 50);
+        assert_eq!(reader.fill_buf().unwrap(), [1; 50]);
+    }
+    for to in [
+        SeekFrom::Start(101),
+        SeekFrom::Start(u64::MAX),
+        SeekFrom::End(0),
+        SeekFrom::End(i64::MAX),
+    ] {
+        reader.seek(to).unwrap();
+        assert_eq!(reader.fill_buf().unwrap(), []);
+        assert_eq!(reader.read(&mut [0]).unwrap(), 0);
+    }
+    reader.seek(SeekFrom::Start(u64::MAX)).unwrap();
+    let error = reader.seek(SeekFrom::Current(1)).unwrap_err();
+    assert_eq!(error.kind(), ErrorKind::InvalidInput);
+    reader.rewind().unwrap();
+    assert_eq!(reader.fill_buf().unwrap(), [1; 100]);
+}
+
+/// After an error of the inner reader in a seek the place is as it was, and reading needs another seek.
+#[test]
+fn errors_of_seeks() {
+    let contents = Random(8).bytes(3 * PIECE_BYTES);
+    let regular = sealed_in_pieces(&key(), &PREFIX, &contents);
+    let pieces: Vec<&[u8]> = contents.chunks(50_000).collect();
+    let irregular = sealed(&key(), &PREFIX, &pieces);
+    for file in [regular, irregular] {
+        for to in [
+            SeekFrom::Start(160_000),
+            SeekFrom::End(-10),
+            SeekFrom::End(5),
+        ] {
+            let mut calls = 0;
+            while seek_fails(&file, &contents, to, calls) {
+                calls += 1;
+            }
+            assert!(calls > 3, "{to:?} {calls}");
+        }
+    }
+}
+
+/// Returns whether the seek fails if its inner call of this number does.
+fn seek_fails(file: &[u8], contents: &[u8], to: SeekFrom, calls: usize) -> bool {
+    let mut reader = SealedReader::new(Failing::after(Cursor::new(file), usize::MAX), &key());
+    let mut first = [0; 10];
+    reader.read_exact(&mut first).unwrap();
+    assert_eq!(first, contents[..10]);
+    let mut inner = reader.into_inner();
+    inner.left = Some(inner.calls + calls);
+    inner.calls = 0;
+    inner.inner.set_position(0);
+    let mut reader = SealedReader::new(inner, &key());
+    reader.read_exact(&mut first).unwrap();
+    let sought = reader.seek(to);
+    if let Err(error) = &sought {
+        assert_eq!(error.kind(), ErrorKind::WouldBlock);
+        assert_eq!(reader.stream_position().unwrap(), 10);
+        reader.consume(5);
+        if reader.fill_buf().is_ok() {
+            // Nothing was moved yet.
+            assert_eq!(reader.stream_position().unwrap(), 15);
+            reader.seek(SeekFrom::Current(-5)).unwrap();
+        }
+        reader.seek(SeekFrom::Current(2)).unwrap();
+        assert_eq!(reader.fill_buf().unwrap()[..4], contents[12..16]);
+        reader.seek(to).unwrap();
+    }
+    let place = reader.stream_position().unwrap() as usize;
+    let mut rest = Vec::new();
+    if let Err(error) = reader.read_to_end(&mut rest) {
+        assert_eq!(error.kind(), ErrorKind::WouldBlock);
+        reader.read_to_end(&mut rest).unwrap();
+    }
+    assert!(rest == contents.get(place..).unwrap_or(&[]));
+    sought.is_err()
+}
+
+/// Counts the bytes that are read.
+struct Counted<'a>(Cursor<&'a [u8]>, usize);
+
+impl Read for Counted<'_> {
+    fn read(&mut self, buf: &mut [u8]) -> Result<usize> {
+        let count = self.0.read(buf)?;
+        self.1 += count;
+        Ok(count)
+    }
+}
+
+impl Seek for Counted<'_> {
+    fn seek(&mut self, to: SeekFrom) -> Result<u64> {
+        self.0.seek(to)
+    }
+}
+
+/// In a file of whole pieces only the record is read that has the place, or the last one.
+#[test]
+fn only_what_is_needed_is_read() {
+    let contents = Random(4).bytes(40 * PIECE_BYTES + 9);
+    let file = sealed_in_pieces(&key(), &PREFIX, &contents);
+    for (to, place, most) in [
+        (
+            SeekFrom::Start(30 * 65_536 + 5),
+            30 * 65_536 + 5,
+            28 + WHOLE_BYTES,
+        ),
+        (SeekFrom::Start(40 * 65_536), 40 * 65_536, 28 + 46),
+        (
+            SeekFrom::Start(contents.len() as u64),
+            contents.len(),
+            28 + 37,
+        ),
+        (SeekFrom::End(0), contents.len(), 28 + 37),
+        (SeekFrom::End(-9), 40 * 65_536, 28 + 37 + 46),
+    ] {
+        let bytes = [&[0x41; 9], &file[..]].concat();
+        let mut inner = Counted(Cursor::new(&bytes), 0);
+        inner.0.set_position(9);
+        let mut reader = SealedReader::new(inner, &key());
+        assert_eq!(reader.seek(to).unwrap(), place as u64);
+        assert!(reader.get_ref().1 <= most, "{to:?} {}", reader.get_ref().1);
+        let bytes = reader.fill_buf().unwrap();
+        let count = bytes.len();
+        assert!(*bytes == contents[place..][..count]);
+        // What is here is not read again.
+        let read = reader.get_ref().1;
+        reader.seek(SeekFrom::Current(count.min(3) as i64)).unwrap();
+        reader.seek(SeekFrom::Start(place as u64)).unwrap();
+        assert_eq!(reader.get_ref().1, read);
+    }
+}
+
+/// A record that is damaged does not keep others from being read.
+#[test]
+fn past_a_damaged_record() {
+    let contents = Random(5).bytes(4 * PIECE_BYTES);
+    let mut file = sealed_in_pieces(&key(), &PREFIX, &contents);
+    file[28 + WHOLE_BYTES + 100] ^= 1;
+    let mut reader = SealedReader::new(Cursor::new(file), &key());
+    reader.seek(SeekFrom::Start(2 * 65_536)).unwrap();
+    let mut rest = Vec::new();
+    reader.read_to_end(&mut rest).unwrap();
+    assert!(rest == contents[2 * 65_536..]);
+    assert!(reader.seek(SeekFrom::Start(65_536)).is_err());
+    assert!(reader.seek(SeekFrom::Start(0)).is_err());
+}

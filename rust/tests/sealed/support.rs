@@ -1,0 +1,243 @@
+//! What the tests share: the stored files, and readers and writers that are slow or fail.
+
+use hunkravy::records::{Error, HEADER_BYTES, Prefix, Sealer};
+use std::fs;
+use std::io::{self, ErrorKind, Read, Seek, SeekFrom, Write};
+use std::path::PathBuf;
+
+pub const CONTEXT: &[u8] = b"hunkravy v1";
+pub const PIECE_BYTES: usize = 65_536;
+/// The number of bytes of a record that has a whole piece.
+pub const WHOLE_BYTES: usize = PIECE_BYTES + 37;
+/// The contents of the stored file, and its messages.
+pub const CONTENTS: &[u8] = b"0123456789abcdefghijkl";
+pub const MESSAGES: [&[u8]; 5] = [b"0123456789", b"", b"abcdefg", b"hijkl", b""];
+
+/// The key of the stored file.
+pub fn key() -> [u8; 32] {
+    std::array::from_fn(|place| place as u8)
+}
+
+/// The path of a file of `crates/hunkravy/data`.
+pub fn data(name: &str) -> PathBuf {
+    let folder = concat!(env!("CARGO_MANIFEST_DIR"), "/../crates/hunkravy/data");
+    PathBuf::from(folder).join(name)
+}
+
+/// A variant of the stored file.
+pub struct Damaged {
+    pub name: String,
+    pub bytes: Vec<u8>,
+    pub key: [u8; 32],
+    pub cause: Option<Error>,
+    pub verified: usize,
+}
+
+/// Returns the variants.
+pub fn damaged() -> Vec<Damaged> {
+    let whole = fs::read(data("records.sealed")).unwrap();
+    let list = fs::read_to_string(data("damaged.csv")).unwrap();
+    let mut lines = list.lines();
+    assert_eq!(lines.next(), Some("name,operations,cause,verified"));
+    let variants: Vec<Damaged> = lines.map(|line| variant(&whole, line)).collect();
+    assert!(variants.len() > 100);
+    variants
+}
+
+fn variant(whole: &[u8], line: &str) -> Damaged {
+    let fields: Vec<&str> = line.split(',').collect();
+    let [name, operations, cause, verified] = fields[..] else {
+        panic!("{line}");
+    };
+    let mut damaged = Damaged {
+        name: name.to_owned(),
+        bytes: whole.to_vec(),
+        key: key(),
+        cause: cause_of(cause),
+        verified: verified.parse().unwrap(),
+    };
+    for operation in operations.split(';').filter(|text| !text.is_empty()) {
+        damaged.change(operation);
+    }
+    damaged
+}
+
+fn cause_of(text: &str) -> Option<Error> {
+    Some(match text.split_once(' ').unwrap_or((text, "")) {
+        ("none", "") => return None,
+        ("header", "") => Error::Header,
+        ("truncated", "") => Error::Truncated,
+        ("flag", "") => Error::Flag,
+        ("too_long", "") => Error::TooLong,
+        ("trailing", "") => Error::Trailing,
+        ("damaged", number) => Error::Damaged(number.parse().unwrap()),
+        _ => panic!("{text} is no cause"),
+    })
+}
+
+impl Damaged {
+    fn change(&mut self, operation: &str) {
+        let words: Vec<&str> = operation.split(' ').collect();
+        let number = |word: &str| word.parse::<usize>().unwrap();
+        let bytes = &mut self.bytes;
+        match words[..] {
+            ["set", offset, digits] => {
+                let (offset, new) = (number(offset), unhex(digits));
+                bytes[offset..offset + new.len()].copy_from_slice(&new);
+            }
+            ["cut", length] => bytes.truncate(number(length)),
+            ["append", digits] => bytes.extend(unhex(digits)),
+            ["remove", offset, length] => {
+                bytes.drain(number(offset)..number(offset) + number(length));
+            }
+            ["insert", offset, digits] => {
+                bytes.splice(number(offset)..number(offset), unhex(digits));
+            }
+            ["wrongkey"] => self.key = [0; 32],
+            _ => panic!("{operation} is no operation"),
+        }
+    }
+}
+
+fn unhex(digits: &str) -> Vec<u8> {
+    let pairs = (0..digits.len()).step_by(2);
+    pairs
+        .map(|place| u8::from_str_radix(&digits[place..place + 2], 16).unwrap())
+        .collect()
+}
+
+/// Returns the sealed file that has these messages in its records.
+pub fn sealed(key: &[u8; 32], prefix: &Prefix, messages: &[&[u8]]) -> Vec<u8> {
+    let mut sealer = Sealer::new(key, prefix, CONTEXT).unwrap();
+    let mut file = [&prefix[..], &sealer.header()].concat();
+    assert_eq!(file.len(), 24 + HEADER_BYTES);
+    let (last, others) = messages.split_last().unwrap();
+    for message in others {
+        sealer.seal_next(message, &mut file).unwrap();
+    }
+    sealer.seal_last(last, &mut file).unwrap();
+    file
+}
+
+/// Returns the sealed file of contents in whole pieces, and an empty record at the end.
+pub fn sealed_in_pieces(key: &[u8; 32], prefix: &Prefix, contents: &[u8]) -> Vec<u8> {
+    let mut messages: Vec<&[u8]> = contents.chunks(PIECE_BYTES).collect();
+    messages.push(&[]);
+    sealed(key, prefix, &messages)
+}
+
+/// The fault that an error holds.
+pub fn fault_of(error: &io::Error) -> Error {
+    assert_eq!(error.kind(), ErrorKind::InvalidData, "{error:?}");
+    let inner = error.get_ref().expect("it holds the fault");
+    *inner.downcast_ref().expect("it is a fault of a stream")
+}
+
+/// A reader or a writer of at most so many bytes a call, before each of which it is interrupted.
+pub struct Slow<I> {
+    pub inner: I,
+    pub most: usize,
+    is_ready: bool,
+}
+
+impl<I> Slow<I> {
+    pub fn new(inner: I, most: usize) -> Self {
+        let is_ready = false;
+        Slow {
+            inner,
+            most,
+            is_ready,
+        }
+    }
+
+    fn wait(&mut self) -> io::Result<()> {
+        self.is_ready = !self.is_ready;
+        if self.is_ready {
+            return Err(ErrorKind::Interrupted.into());
+        }
+        Ok(())
+    }
+}
+
+impl<I: Read> Read for Slow<I> {
+    fn read(&mut self, buf: &mut [u8]) -> io::Result<usize> {
+        self.wait()?;
+        let count = buf.len().min(self.most);
+        self.inner.read(&mut buf[..count])
+    }
+}
+
+impl<I: Seek> Seek for Slow<I> {
+    fn seek(&mut self, to: SeekFrom) -> io::Result<u64> {
+        self.inner.seek(to)
+    }
+}
+
+impl<I: Write> Write for Slow<I> {
+    fn write(&mut self, data: &[u8]) -> io::Result<usize> {
+        self.wait()?;
+        self.inner.write(&data[..data.len().min(self.most)])
+    }
+
+    fn flush(&mut self) -> io::Result<()> {
+        self.inner.flush()
+    }
+}
+
+/// A reader or a writer that fails once, after so many calls. The calls are counted on.
+pub struct Failing<I> {
+    pub inner: I,
+    pub left: Option<usize>,
+    pub calls: usize,
+}
+
+impl<I> Failing<I> {
+    pub fn after(inner: I, calls: usize) -> Self {
+        Failing {
+            inner,
+            left: Some(calls),
+            calls: 0,
+        }
+    }
+
+    fn call(&mut self) -> io::Result<()> {
+        self.calls += 1;
+        match self.left {
+            Some(0) => {
+                self.left = None;
+                Err(ErrorKind::WouldBlock.into())
+            }
+            Some(left) => {
+                self.left = Some(left - 1);
+                Ok(())
+            }
+            None => Ok(()),
+        }
+    }
+}
+
+impl<I: Read> Read for Failing<I> {
+    fn read(&mut self, buf: &mut [u8]) -> io::Result<usize> {
+        self.call()?;
+        self.inner.read(buf)
+    }
+}
+
+impl<I: Seek> Seek for Failing<I> {
+    fn seek(&mut self, to: SeekFrom) -> io::Result<u64> {
+        self.call()?;
+        self.inner.seek(to)
+    }
+}
+
+impl<I: Write> Write for Failing<I> {
+    fn write(&mut self, data: &[u8]) -> io::Result<usize> {
+        self.call()?;
+        self.inner.write(data)
+    }
+
+    fn flush(&mut self) -> io::Result<()> {
+        self.call()?;
+        self.inner.flush()
+    }
+}
