@@ -634,7 +634,7 @@ class Tool(unittest.TestCase):
     tool = os.environ.get("HUNKRAVY_TOOL", "")
 
     def setUp(self) -> None:
-        if not self.tool:
+        if "HUNKRAVY_TOOL" not in os.environ:
             self.skipTest("HUNKRAVY_TOOL is not set to the tool hunkravy")
         self.assertTrue(os.access(self.tool, os.X_OK), f"HUNKRAVY_TOOL={self.tool} is not a program")
         folder = tempfile.TemporaryDirectory()
