@@ -55,8 +55,9 @@ common() {
     mkdir "$1/python"
     cp -R python/build_wheel.py python/pyproject.toml python/hunkravy python/native python/examples "$1/python"
     rm -rf "$1"/python/*/__pycache__
-    cp "$out/hunkravy-$version"-*"_$2.whl" "$1/python"
-    cp "$out/hunkravy-$version"-*"_$2.whl" "$out/dist"
+    local wheel=$out/hunkravy-$version-cp311-abi3-manylinux_2_17_$2.whl
+    cp "$wheel" "$1/python"
+    cp "$wheel" "$out/dist"
     # shellcheck disable=SC2086
     python3 tools/ship_pages.py "$1" $PAGES
     cp dist/archive.md.in "$1/README.md"
