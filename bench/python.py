@@ -16,15 +16,18 @@ from typing import Callable
 from hunkravy import Aegis256, SealedReader, SealedWriter
 
 SIZES = {"64": 64, "1 KiB": 1024, "16 KiB": 16_384, "1 MiB": 1 << 20}
-SECONDS = 0.3
+# The calls take turns, since a processor is faster at some times than at others.
+ROUNDS = 8
+SECONDS = 0.05
 KEY = bytes(range(32))
 CIPHER, NONCE = Aegis256(KEY), bytes(32)
 
 Call = Callable[[], object]
+Makers = dict[str, Callable[[bytes], Call]]
 
 
 def best(call: Call) -> float:
-    """The shortest time of the call, in seconds, over some tenths of a second."""
+    """The shortest time of the call, in seconds, over some hundredths of a second."""
     shortest, end = float("inf"), time.perf_counter() + SECONDS
     while (start := time.perf_counter()) < end:
         call()
@@ -32,12 +35,11 @@ def best(call: Call) -> float:
     return shortest
 
 
-def row(name: str, call_of: Callable[[bytes], Call], sizes: tuple[int, ...] = tuple(SIZES.values())) -> str:
-    """A line of the table: MB a second at each size, and microseconds a call at the smallest and the largest."""
-    times = {size: best(call_of(bytes(size))) for size in sizes}
-    speeds = [f"{size / times[size] / 1e6:.0f}" if size in times else "-" for size in SIZES.values()]
-    ends = [f"{times[size] * 1e6:.1f}" if size in times else "-" for size in (64, 1 << 20)]
-    return f"| {name} | {' | '.join(speeds + ends)} |"
+def shortest_times(makers: Makers) -> dict[tuple[str, int], float]:
+    """The shortest time of each call at each size."""
+    calls = {(name, size): maker(bytes(size)) for name, maker in makers.items() for size in SIZES.values()}
+    rounds = [{key: best(call) for key, call in calls.items()} for _ in range(ROUNDS)]
+    return {key: min(times[key] for times in rounds) for key in calls}
 
 
 def opened(message: bytes) -> Call:
@@ -70,8 +72,8 @@ def read(contents: bytes) -> Call:
 def c_library(path: str) -> Callable[[bytes], Call]:
     """The function of the C library that `encrypt_into` calls."""
     encrypt = ctypes.CDLL(path).hunkravy_encrypt
-    pointer, size = ctypes.c_void_p, ctypes.c_size_t
-    encrypt.argtypes = [ctypes.c_uint32, pointer, pointer, size, pointer, size, pointer, size, pointer, size, pointer, size]
+    data = [ctypes.c_void_p, ctypes.c_size_t]
+    encrypt.argtypes = [ctypes.c_uint32, ctypes.c_void_p, *data * 5]
 
     def call_of(message: bytes) -> Call:
         output = ctypes.create_string_buffer(len(message))
@@ -81,9 +83,9 @@ def c_library(path: str) -> Callable[[bytes], Call]:
     return call_of
 
 
-def others() -> dict[str, Callable[[bytes], Call]]:
+def others() -> Makers:
     """Other packages that are installed."""
-    found: dict[str, Callable[[bytes], Call]] = {}
+    found: Makers = {}
     try:
         from cryptography.hazmat.primitives.ciphers.aead import ChaCha20Poly1305
 
@@ -103,18 +105,26 @@ def others() -> dict[str, Callable[[bytes], Call]]:
 
 
 def main() -> None:
-    largest = (1 << 20,)
-    print(f"Python {platform.python_version()}.\n")
-    print(f"| MB/s | {' | '.join(SIZES)} | µs, 64 | µs, 1 MiB |\n|---|{'---:|' * (len(SIZES) + 2)}")
-    print(row("`encrypt`", lambda message: lambda: CIPHER.encrypt(NONCE, message)))
-    print(row("`decrypt`", opened))
-    print(row("`encrypt_into`", into))
-    print(row("`SealedWriter`", written, largest))
-    print(row("`SealedReader`", read, largest))
+    makers: Makers = {
+        "`encrypt`": lambda message: lambda: CIPHER.encrypt(NONCE, message),
+        "`decrypt`": opened,
+        "`encrypt_into`": into,
+        "`SealedWriter`": written,
+        "`SealedReader`": read,
+    }
     if len(sys.argv) > 1:
-        print(row("the C library", c_library(sys.argv[1])))
-    for name, call_of in others().items():
-        print(row(name, call_of))
+        makers["the C library"] = c_library(sys.argv[1])
+    makers |= others()
+    times = shortest_times(makers)
+    for title, shown in (
+        ("MB/s", lambda size, seconds: f"{size / seconds / 1e6:.0f}"),
+        ("µs", lambda size, seconds: f"{seconds * 1e6:.1f}"),
+    ):
+        print(f"| {title} | {' | '.join(SIZES)} |\n|---|{'---:|' * len(SIZES)}")
+        for name in makers:
+            print(f"| {name} | {' | '.join(shown(size, times[name, size]) for size in SIZES.values())} |")
+        print()
+    print(f"Python {platform.python_version()}.")
 
 
 if __name__ == "__main__":

@@ -70,5 +70,6 @@ bench-peers: $(OUT)/$(BENCH_CPU)/libhunkravy.a
 
 bench-python: $(WHEEL) $(OUT)/both/$(SONAME)
 	rm -rf $(OUT)/python && mkdir $(OUT)/python && python3 -m zipfile -e $(WHEEL) $(OUT)/python
-	(cat bench/python.md.in; PYTHONPATH=$(OUT)/python python3 bench/python.py "$(CURDIR)/$(OUT)/both/$(SONAME)") > $(OUT)/python.md
+	(cat bench/python.md.in; PYTHONPATH=$(OUT)/python \
+		python3 bench/python.py "$(CURDIR)/$(OUT)/both/$(SONAME)") > $(OUT)/python.md
 	cp $(OUT)/python.md bench/PYTHON.md

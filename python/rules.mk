@@ -5,7 +5,7 @@
 WHEEL_NAME = $(OUT)/hunkravy-$(VERSION)-cp311-abi3-manylinux_2_17
 WHEEL = $(WHEEL_NAME)_x86_64.whl
 WHEEL_aarch64 = $(WHEEL_NAME)_aarch64.whl
-PACKAGE = python/build_wheel.py python/pyproject.toml python/README.md python/native/native.c $(wildcard python/hunkravy/*) \
+PACKAGE = python/build_wheel.py python/pyproject.toml python/README.md $(wildcard python/native/* python/hunkravy/*) \
 	c/include/hunkravy.h c/include/hunkravy_records.h LICENSE
 
 $(WHEEL): $(OUT)/both/libhunkravy.a $(PACKAGE)

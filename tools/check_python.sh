@@ -1,7 +1,7 @@
 #!/bin/bash
-# check_python.sh FOLDER LIBRARY: the tests of the Python package that lies unpacked in a folder, which run the samples of its
-# pages and its example too; the same tests of a native module over the library with gcc's sanitizers; what the module exports
-# and needs; and the types of the package and of its tests.
+# check_python.sh FOLDER LIBRARY: the tests of the Python package that lies unpacked in a folder, which run the samples
+# of its pages and its example too; the same tests of a native module over the library with gcc's sanitizers; what the
+# module exports and needs; and the types of the package and of its tests.
 set -euo pipefail
 folder=$1 library=$2
 cd "$(dirname "$0")/../python"
@@ -14,10 +14,13 @@ fail() {
     exit 1
 }
 
-# run_tests FOLDER: runs the tests with the package of a folder. Some versions of unittest pass with no tests, and the last test
-# counts them.
+# run_tests FOLDER: runs the tests with the package of a folder. Some versions of unittest pass with no tests, and one
+# test counts them.
 run_tests() {
-    (cd tests && PYTHONPATH=$1 python3 -W error -m unittest -v) > "$work/log" 2>&1 || { cat "$work/log"; fail 'a test failed'; }
+    if ! (cd tests && PYTHONPATH=$1 python3 -W error -m unittest -v) > "$work/log" 2>&1; then
+        cat "$work/log"
+        fail 'a test failed'
+    fi
     grep -E '^Ran [1-9][0-9]* tests' "$work/log"
     grep -qE '^test_all_tests .* ok$' "$work/log" || fail 'the tests were not counted'
 }
@@ -27,8 +30,16 @@ sed -n 's/.* \.\.\. skipped /left out: a Python test: /p' "$work/log" | sort -u
 
 # The module has its own library, and exports nothing of it.
 module=$folder/hunkravy/_native.abi3.so
-[ "$(nm -D --defined-only "$module" | awk '{ print $3 }')" = PyInit__native ] || fail 'the native module exports another name'
+names=$(nm -D --defined-only "$module" | awk '{ print $3 }')
+[ "$names" = PyInit__native ] || fail "the native module exports $names"
 if nm -D --undefined-only "$module" | grep hunkravy; then fail 'the native module needs a library'; fi
+
+# Two builds give the same bytes.
+for run in first second; do
+    mkdir "$work/$run"
+    TMPDIR=$work/$run python3 build_wheel.py "$work/$run" "$library" "$(uname -m)" > /dev/null
+done
+cmp "$work"/first/*.whl "$work"/second/*.whl || fail 'two builds of the wheel differ'
 
 # With the sanitizers. Python itself leaks.
 sanitizer=$(gcc -print-file-name=libasan.so)
@@ -36,8 +47,8 @@ if [ -e "$sanitizer" ]; then
     CC=gcc CFLAGS='-O1 -g -fsanitize=address,undefined -fno-sanitize-recover' \
         python3 build_wheel.py "$work" "$library" "$(uname -m)" > "$work/wheel"
     python3 -m zipfile -e "$(cat "$work/wheel")" "$work/sanitized"
-    HUNKRAVY_SANITIZED=1 LD_PRELOAD=$sanitizer ASAN_OPTIONS=detect_leaks=0:allocator_may_return_null=1 PYTHONMALLOC=malloc \
-        run_tests "$work/sanitized"
+    export ASAN_OPTIONS=detect_leaks=0:allocator_may_return_null=1
+    HUNKRAVY_SANITIZED=1 LD_PRELOAD=$sanitizer PYTHONMALLOC=malloc run_tests "$work/sanitized"
 else
     echo 'left out: the native module with sanitizers, which gcc does not have'
 fi

@@ -11,7 +11,7 @@ done
 for package in *.deb; do
     echo "== $package"
     dpkg-deb -c "$package" | awk '{ print $1, $2, $6 ($7 ? " " $7 " " $8 : "") }'
-    dpkg-deb -f "$package" Package Version Architecture Depends Section | sed 's/^/   /'
+    dpkg-deb -f "$package" Package Version Architecture Multi-Arch Depends Section | sed 's/^/   /'
 done
 for wheel in *.whl; do
     echo "== $wheel"

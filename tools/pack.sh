@@ -43,7 +43,7 @@ archive() {
 }
 
 # The pages that are shipped.
-PAGES='README.md SECURITY.md CHANGELOG.md docs/FILES.md docs/PAGES.md docs/DIFFERENCES.md rust/README.md python/README.md'
+PAGES='SECURITY.md CHANGELOG.md docs/FILES.md docs/PAGES.md docs/DIFFERENCES.md rust/README.md python/README.md'
 
 # common FOLDER MACHINE: what the archives of both processors have.
 common() {
@@ -55,10 +55,14 @@ common() {
     mkdir "$1/python"
     cp -R python/build_wheel.py python/pyproject.toml python/hunkravy python/native python/examples "$1/python"
     rm -rf "$1"/python/*/__pycache__
-    cp "$out/hunkravy-$version"-*"_$2.whl" "$1/python"
-    cp "$out/hunkravy-$version"-*"_$2.whl" "$out/dist"
+    local wheel=$out/hunkravy-$version-cp311-abi3-manylinux_2_17_$2.whl
+    cp "$wheel" "$1/python"
+    cp "$wheel" "$out/dist"
     # shellcheck disable=SC2086
     python3 tools/ship_pages.py "$1" $PAGES
+    cp dist/archive.md.in "$1/README.md"
+    cp dist/VERIFY.md "$1"
+    cp bench/x86-64-v3/peers.svg "$1/speed.svg"
 }
 
 # package NAME DEPENDS DESCRIPTION: the Debian package of the files in work/NAME.
@@ -77,10 +81,11 @@ package() {
         echo "Package: $1"
         echo "Source: hunkravy"
         echo "Version: $version"
-        echo "Architecture: amd64"
+        echo "Architecture: $ARCHITECTURE"
         echo "Maintainer: $MAINTAINER"
         # The files alone: what a folder takes depends on the file system.
         echo "Installed-Size: $(find "$folder/usr" -type f -printf '%s\n' | awk '{ sum += int(($1 + 1023) / 1024) } END { print sum }')"
+        case $1 in lib*) echo 'Multi-Arch: same' ;; esac
         if [ -n "$2" ]; then echo "Depends: $2"; fi
         echo "Section: ${5:-utils}"
         echo "Priority: optional"
@@ -88,10 +93,27 @@ package() {
         echo " $4"
     } > "$folder/DEBIAN/control"
     settle "$folder"
-    dpkg-deb --root-owner-group -Zxz --build "$folder" "$out/dist/$1_${version}_amd64.deb" > /dev/null
+    dpkg-deb --root-owner-group -Zxz --build "$folder" "$out/dist/$1_${version}_$ARCHITECTURE.deb" > /dev/null
+    rm -r "$folder"
 }
 
-MAINTAINER="Hunkravy maintainers <maintainers@users.noreply.hunkravy.example>"
+# libraries ARCHITECTURE TRIPLET TARGET: the packages of the library for a processor.
+libraries() {
+    local library=usr/lib/$2
+    ARCHITECTURE=$1
+    install_to "$work/libhunkravy-dev" install PREFIX=/usr "LIBRARIES=/$library" "TARGET=$3"
+    mkdir -p "$work/libhunkravy0/$library" "$work/libhunkravy0/DEBIAN"
+    mv "$work/libhunkravy-dev/$library"/libhunkravy.so.0 "$work/libhunkravy0/$library"
+    echo "libhunkravy 0 libhunkravy0 (>= $version)" > "$work/libhunkravy0/DEBIAN/shlibs"
+    echo 'activate-noawait ldconfig' > "$work/libhunkravy0/DEBIAN/triggers"
+    package libhunkravy0 'libc6 (>= 2.17)' 'AEGIS ciphers and their MACs with a proved core' \
+        'The shared library. It uses no AES instructions and no look-up tables.' libs
+    package libhunkravy-dev "libhunkravy0 (= $version)" 'AEGIS ciphers and their MACs, for development' \
+        'Headers, the static library, and examples.' libdevel
+}
+
+# There is no address yet.
+MAINTAINER="The Hunkravy authors"
 
 name=hunkravy-$version-x86_64-linux
 install_to "$work/$name" install PREFIX=
@@ -107,21 +129,15 @@ if [ -f "$out/aarch64/libhunkravy.a" ]; then
 fi
 
 if command -v dpkg-deb > /dev/null; then
+    ARCHITECTURE=amd64
     install_to "$work/hunkravy" install-tool PREFIX=/usr CPU=both ZSH_COMPLETIONS=/usr/share/zsh/vendor-completions
     strip "$work"/hunkravy/usr/lib/hunkravy/*/hunkravy
     package hunkravy 'libc6 (>= 2.34)' 'seals and opens files by AEGIS-256' \
         'A changed file is rejected; what standard output gets before is verified.'
-    library=usr/lib/x86_64-linux-gnu
-    install_to "$work/libhunkravy-dev" install PREFIX=/usr LIBRARIES=/$library
-    mkdir -p "$work/libhunkravy0/$library"
-    mv "$work/libhunkravy-dev/$library"/libhunkravy.so.0 "$work/libhunkravy0/$library"
-    mkdir "$work/libhunkravy0/DEBIAN"
-    echo "libhunkravy 0 libhunkravy0 (>= $version)" > "$work/libhunkravy0/DEBIAN/shlibs"
-    echo 'activate-noawait ldconfig' > "$work/libhunkravy0/DEBIAN/triggers"
-    package libhunkravy0 'libc6 (>= 2.17)' 'AEGIS ciphers and their MACs with a proved core' \
-        'The shared library. It uses no AES instructions and no look-up tables.' libs
-    package libhunkravy-dev "libhunkravy0 (= $version)" 'AEGIS ciphers and their MACs, for development' \
-        'Headers, the static library, and examples.' libdevel
+    libraries amd64 x86_64-linux-gnu x86_64-unknown-linux-gnu
+    if [ -f "$out/aarch64/libhunkravy.a" ]; then
+        libraries arm64 aarch64-linux-gnu aarch64-unknown-linux-gnu
+    fi
 fi
 
 rm -r "$work"

@@ -8,7 +8,7 @@ cd "$work"
 export PKG_CONFIG_PATH=$libraries/pkgconfig LD_LIBRARY_PATH=$libraries
 
 # C, over the shared library and over the static one: programs for Hunkravy and libsodium.
-for example in seal chunks records pages libsodium; do
+for example in first seal chunks records pages libsodium; do
     source=$folder/share/doc/hunkravy/examples/$example.c
     cc "$source" $(pkg-config --cflags --libs hunkravy) -o shared
     ldd shared | grep "libhunkravy.so.0 => $libraries" > found

@@ -2,10 +2,10 @@
 expires.
 
 A token is URL-safe base64 of a key's id (4 bytes), a nonce (32), and the encrypted payload with its tag. The id is
-associated data too. With it keys can be changed: the newest key seals, and older ones open until they are dropped.
-Whoever has a token can use it until it expires; only dropping its key revokes it.
+associated data too. With it keys can be changed: the newest key encrypts, and older ones decrypt until they are
+dropped. Whoever has a token can use it until it expires; only dropping its key revokes it.
 
-    session_token.py [KEYFILE]      KEYFILE has 32 random bytes. Without it a key is drawn.
+    session_token.py [KEYFILE]      KEYFILE has 32 random bytes. Without it the key is random.
 """
 
 import base64
@@ -21,12 +21,12 @@ ID_BYTES = 4
 PURPOSE = b"session token, version 1"
 
 
-class Refused(Exception):
+class InvalidToken(Exception):
     """The token is too old, was altered, or is of a key that is not known."""
 
 
 class Tokens:
-    """The keys by their ids, of which the last one seals. An id is 4 bytes, and is never used for another key."""
+    """The keys by their ids, the last of which encrypts. An id is 4 bytes, and is never used for another key."""
 
     def __init__(self, keys: dict[bytes, bytes]) -> None:
         self._ciphers = {key_id: Aegis256(key) for key_id, key in keys.items()}
@@ -37,24 +37,24 @@ class Tokens:
         until = (time.time() if now is None else now) + seconds
         text = json.dumps({"until": until, "payload": payload}).encode()
         nonce = Aegis256.generate_nonce()
-        sealed = self._ciphers[self._newest].encrypt(nonce, text, PURPOSE + self._newest)
-        return base64.urlsafe_b64encode(self._newest + nonce + sealed).rstrip(b"=").decode()
+        ciphertext = self._ciphers[self._newest].encrypt(nonce, text, PURPOSE + self._newest)
+        return base64.urlsafe_b64encode(self._newest + nonce + ciphertext).rstrip(b"=").decode()
 
     def read(self, token: str, now: Optional[float] = None) -> Any:
-        """Returns the payload of a token, or raises `Refused`."""
+        """Returns the payload of a token, or raises `InvalidToken`."""
         data = decoded(token)
         key_id, rest = data[:ID_BYTES], data[ID_BYTES:]
         cipher = self._ciphers.get(key_id)
         if cipher is None or len(rest) < cipher.NONCE_BYTES:
-            raise Refused
-        nonce, sealed = rest[: cipher.NONCE_BYTES], rest[cipher.NONCE_BYTES :]
+            raise InvalidToken
+        nonce, ciphertext = rest[: cipher.NONCE_BYTES], rest[cipher.NONCE_BYTES :]
         try:
-            content = json.loads(cipher.decrypt(nonce, sealed, PURPOSE + key_id))
+            content = json.loads(cipher.decrypt(nonce, ciphertext, PURPOSE + key_id))
         except InvalidTag:
-            raise Refused from None
+            raise InvalidToken from None
         # A time that is no number is late too.
         if not (time.time() if now is None else now) < content["until"]:
-            raise Refused
+            raise InvalidToken
         return content["payload"]
 
 
@@ -63,16 +63,16 @@ def decoded(token: str) -> bytes:
     try:
         data = base64.b64decode(token + "=" * (-len(token) % 4), altchars=b"-_", validate=True)
     except ValueError:
-        raise Refused from None
+        raise InvalidToken from None
     if base64.urlsafe_b64encode(data).rstrip(b"=") != token.encode():
-        raise Refused
+        raise InvalidToken
     return data
 
 
 if __name__ == "__main__":
     first = pathlib.Path(sys.argv[1]).read_bytes() if len(sys.argv) > 1 else Aegis256.generate_key()
     token = Tokens({b"2026": first}).issue({"user": "ada"}, seconds=3600)
-    # Later there is a newer key, and the older one still opens.
+    # Later there is a newer key, and the older one still decrypts.
     tokens = Tokens({b"2026": first, b"2027": Aegis256.generate_key()})
     assert tokens.read(token) == {"user": "ada"}
     print(token)

@@ -17,8 +17,8 @@ NO_DATA = b""
 class Cipher(variants.Variant, variants.Secret):
     """A cipher with a key: `Aegis256` or another of the six variants.
 
-    `key` has `KEY_BYTES` bytes. `tag_length` is the length of its tags in bytes, 16 or 32. Another length of either is a
-    `ValueError`.
+    `key` has `KEY_BYTES` bytes. `tag_length` is the length of its tags in bytes, 16 or 32. Another length of either is
+    a `ValueError`.
 
     Keys, nonces, data and associated data may be any contiguous buffers of bytes, such as bytes, bytearray, memoryview,
     mmap and array. A nonce has `NONCE_BYTES` bytes. Another length of a nonce or of an output buffer is a `ValueError`,

@@ -92,9 +92,9 @@ class Sealed(variants.Secret, RawFile):  # type: ignore[misc]
 class SealedWriter(Sealed):
     """Writes a sealed file to `file`, a file object that is open for writing bytes.
 
-    `key` has 32 bytes. The file is complete only once `close` has returned, or a `with` block of the writer has ended
-    without an exception. Otherwise it does not open: after an exception in the block, after an exception of a method, or
-    if the writer is dropped. `file` is not closed.
+    `key` has 32 bytes. The file is complete once `close` has returned, or a `with` block of the writer has ended
+    without an exception. Otherwise it does not open: after an exception in the block or of a method, or if the writer
+    is dropped. `file` is not closed.
 
     Bytes are written in pieces of 65,536. The last piece is written by `close`, and not by `flush`. In a `with` block
     `close` takes effect at its end, so an `io.TextIOWrapper` inside it may close the writer.
@@ -281,6 +281,13 @@ class SealedReader(Sealed):
             else:
                 self._error = None
             return filled
+
+    def readall(self) -> Union[bytes, Any]:
+        """Returns the rest of the contents. That of the base class reads less at a time."""
+        parts = []
+        while part := self.read(PIECE_BYTES):
+            parts.append(part)
+        return part if part is None and not parts else b"".join(parts)
 
     def seek(self, offset: int, whence: int = os.SEEK_SET) -> int:
         """Goes to a position in the contents, and returns it. No bytes are read after the end of the contents.

@@ -12,7 +12,7 @@ class Variant:
     KEY_BYTES: ClassVar[int]
     NONCE_BYTES: ClassVar[int]
     name: ClassVar[str]
-    # That of none, which the native module refuses.
+    # That of no variant, for which the native module raises `TypeError`.
     _VARIANT: ClassVar[int] = 6
 
 

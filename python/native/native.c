@@ -142,7 +142,7 @@ static PyObject *new_bytes(size_t length, uint8_t **out)
     return bytes;
 }
 
-/* ---- A message in chunks, or a MAC. The library knows which, and refuses the functions of another. */
+/* ---- A message in chunks, or a MAC. The library knows which, and returns an error for the functions of another. */
 
 /* A chunk that was decrypted, which is secret until the tag is verified. */
 typedef struct Chunk {
@@ -410,8 +410,8 @@ static bool check(Cipher *self, const Arguments *arguments, bool is_decrypted, s
 }
 
 /*
- * Encrypts to `out`, and writes the tag after the ciphertext; or decrypts the bytes in front of their tag. The nonce and
- * the data are copied first, with the interpreter's lock, so no thread of Python can change them meanwhile.
+ * Encrypts to `out`, with the tag after the ciphertext, or decrypts the bytes in front of their tag. The nonce and the
+ * data are copied first, with the interpreter's lock, so no thread of Python can change them meanwhile.
  */
 static int transform(const Cipher *self, const Arguments *arguments, const uint8_t *associated, uint8_t *out,
     bool is_decrypted)

@@ -1,5 +1,6 @@
-"""Sealed files: what is written, what is read, and each damaged file of the tests that the tool and the packages share."""
+"""Sealed files: writing and reading, damaged files that the tests of the tool and of Rust read too, and the tool."""
 
+import concurrent.futures
 import csv
 import io
 import itertools
@@ -10,7 +11,6 @@ import shutil
 import subprocess
 import tarfile
 import tempfile
-import threading
 import time
 import tracemalloc
 import unittest
@@ -359,11 +359,9 @@ class Writing(unittest.TestCase):
     def test_threads(self) -> None:
         file = Turns()
         with SealedWriter(file, KEY) as writer:
-            threads = [threading.Thread(target=writer.write, args=(bytes([i]) * 50_000,)) for i in range(20)]
-            for thread in threads:
-                thread.start()
-            for thread in threads:
-                thread.join()
+            with concurrent.futures.ThreadPoolExecutor(20) as threads:
+                written = list(threads.map(writer.write, [bytes([i]) * 50_000 for i in range(20)]))
+        self.assertEqual(written, [50_000] * 20)
         contents = SealedReader(io.BytesIO(file.getvalue()), KEY).read()
         parts = {contents[start : start + 50_000] for start in range(0, len(contents), 50_000)}
         self.assertEqual(parts, {bytes([i]) * 50_000 for i in range(20)})
@@ -465,9 +463,10 @@ class Reading(unittest.TestCase):
                     self.one_call(reader, plain, numbers)
             except OSError:
                 ended += 1
-                for call in (lambda: reader.seek(0), lambda: reader.read(1)):
-                    with self.assertRaises(OSError):
-                        call()
+                with self.assertRaises(OSError):
+                    reader.seek(0)
+                with self.assertRaises(OSError):
+                    reader.read(1)
         self.assertGreater(ended, 10)
 
     def one_call(self, reader: SealedReader, plain: io.BytesIO, numbers: random.Random) -> None:
@@ -519,7 +518,7 @@ class Reading(unittest.TestCase):
         reader = SealedReader(io.BytesIO(data), KEY)
         reader.seek(10)
         self.assertEqual(reader.read(), Damaged.contents[10:])
-        for call in (lambda: reader.seek(9), lambda: reader.read(1), lambda: reader.seek(10), reader.readall):
+        for call in (lambda: reader.seek(9), lambda: reader.seek(10), lambda: reader.read(1), reader.readall):
             with self.assertRaisesRegex(SealedFileError, "^record 0 is damaged"):
                 call()
 
@@ -556,6 +555,9 @@ class Reading(unittest.TestCase):
             found, nothing = found + (part or b""), nothing + (part is None)
         self.assertEqual(found, contents)
         self.assertGreater(nothing, 10)
+        reader = SealedReader(slow(sealed(b"contents"), 5000, {2: None}), KEY)
+        self.assertIsNone(reader.readall())
+        self.assertEqual(reader.readall(), b"contents")
 
     def test_threads(self) -> None:
         contents = b"".join(number.to_bytes(8, "big") for number in range(50_000))
@@ -567,11 +569,9 @@ class Reading(unittest.TestCase):
             while part := reader.read(8):
                 found.append(part)
 
-        threads = [threading.Thread(target=read) for _ in range(4)]
-        for thread in threads:
-            thread.start()
-        for thread in threads:
-            thread.join()
+        with concurrent.futures.ThreadPoolExecutor(4) as threads:
+            for work in [threads.submit(read) for _ in range(4)]:
+                work.result()
         self.assertEqual(b"".join(sorted(found)), contents)
         self.assertEqual(file.most, 1)
 
@@ -634,7 +634,7 @@ class Tool(unittest.TestCase):
     tool = os.environ.get("HUNKRAVY_TOOL", "")
 
     def setUp(self) -> None:
-        if not self.tool:
+        if "HUNKRAVY_TOOL" not in os.environ:
             self.skipTest("HUNKRAVY_TOOL is not set to the tool hunkravy")
         self.assertTrue(os.access(self.tool, os.X_OK), f"HUNKRAVY_TOOL={self.tool} is not a program")
         folder = tempfile.TemporaryDirectory()

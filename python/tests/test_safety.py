@@ -12,6 +12,7 @@ import subprocess
 import sys
 import unittest
 from typing import Any, Callable
+from unittest import mock
 
 import hunkravy
 from hunkravy import Aegis256, Aegis256Mac, Decryptor, Encryptor, SealedWriter, _native
@@ -115,15 +116,23 @@ class Begun(unittest.TestCase):
             with self.assertRaises((TypeError, AttributeError)):
                 make()
 
+    def test_a_changed_module(self) -> None:
+        """No other type than its own is used as a state."""
+        for wrong in (int, object, 5):
+            with mock.patch.object(_native, "State", wrong), self.assertRaises(SystemError):
+                CIPHER.encryptor(NONCE)
+
     def test_roles(self) -> None:
         """The library refuses a state in another role."""
-        encryptor, decryptor, mac = CIPHER.encryptor(NONCE)._state, CIPHER.decryptor(NONCE)._state, Aegis256Mac(KEY)._state
+        encryptor, decryptor = CIPHER.encryptor(NONCE)._state, CIPHER.decryptor(NONCE)._state
+        mac = Aegis256Mac(KEY)._state
         encryptor.encrypt(b"a chunk")
         decryptor.decrypt(b"a chunk")
         calls: list[Callable[[], object]] = [
             lambda: encryptor.decrypt(b"a chunk"), lambda: encryptor.mac_update(b""), lambda: mac.encrypt(b"a chunk"),
             lambda: decryptor.encrypt(b"a chunk"), decryptor.final, lambda: mac.decrypt_final(bytes(32)),
-            lambda: encryptor.decrypt_final(bytes(32)), lambda: mac.decrypt(b""), lambda: encryptor.mac_verify(bytes(32)),
+            lambda: encryptor.decrypt_final(bytes(32)), lambda: encryptor.mac_verify(bytes(32)),
+            lambda: mac.decrypt(b""),
         ]
         for call in calls:
             with self.assertRaises(RuntimeError):

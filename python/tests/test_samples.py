@@ -43,7 +43,8 @@ class Samples(unittest.TestCase):
             self.assertTrue(name == "__version__" or is_between or f"`{name}" in page, name)
         for kind in (hunkravy.Cipher, hunkravy.Mac):
             for name in vars(kind):
-                self.assertTrue(name.startswith("_") or name in ("tag_length", "digest_size") or f"`.{name}(" in page, name)
+                is_named = name in ("tag_length", "digest_size") or f"`.{name}(" in page
+                self.assertTrue(name.startswith("_") or is_named, name)
 
     def test_each_module(self) -> None:
         for name, count in (("", 5), ("._ciphers", 13), ("._macs", 5)):
@@ -56,7 +57,7 @@ class Samples(unittest.TestCase):
 class Example(unittest.TestCase):
     def setUp(self) -> None:
         names = runpy.run_path(str(EXAMPLE))
-        self.tokens, self.refused = names["Tokens"], names["Refused"]
+        self.tokens, self.invalid = names["Tokens"], names["InvalidToken"]
 
     def test_as_a_program(self) -> None:
         with tempfile.NamedTemporaryFile() as keys:
@@ -71,7 +72,7 @@ class Example(unittest.TestCase):
     def test_late_altered_and_of_another_key(self) -> None:
         old, new = Aegis256.generate_key(), Aegis256.generate_key()
         before, after = self.tokens({b"1___": old}), self.tokens({b"1___": old, b"2___": new})
-        with self.assertRaises(self.refused):
+        with self.assertRaises(self.invalid):
             before.read(before.issue(["ada"], float("nan"), now=1000), now=1000)
         token = before.issue(["ada"], 60, now=1000)
         for tokens in (before, after):
@@ -91,14 +92,14 @@ class Example(unittest.TestCase):
         wrong += [(before, token + end, 1000) for end in ("A", "=", " ")]
         self.assertGreater(len(wrong), 500)
         for tokens, altered, now in wrong:
-            with self.assertRaises(self.refused):
+            with self.assertRaises(self.invalid):
                 tokens.read(altered, now=now)
 
 
 class Found(unittest.TestCase):
     def test_all_tests(self) -> None:
         found = unittest.defaultTestLoader.discover(str(HERE))
-        self.assertEqual(found.countTestCases(), 86)
+        self.assertEqual(found.countTestCases(), 88)
 
 
 if __name__ == "__main__":

@@ -4,6 +4,7 @@ import concurrent.futures
 import contextlib
 import mmap
 import random
+import signal
 import threading
 import time
 import unittest
@@ -100,13 +101,17 @@ class Threads(unittest.TestCase):
             lambda: cipher.encryptor(bytes(32), ZEROS),
         ]
         for work in works:
-            moments = []
-            with Work(work) as working:
-                while not working.ended:
-                    moments.append(time.monotonic())
-            longest = max(after - before for before, after in zip(moments, moments[1:]))
-            self.assertGreater(len(moments), 100)
-            self.assertLess(longest, (working.ended - working.begun) / 2)
+            # On a machine that is busy a thread may wait for other reasons.
+            self.assertTrue(any(self.runs_beside(work) for _ in range(5)))
+
+    def runs_beside(self, work: Callable[[], object]) -> bool:
+        """Whether this thread never waits for half of the work of another."""
+        moments = []
+        with Work(work) as working:
+            while not working.ended:
+                moments.append(time.monotonic())
+        longest = max(after - before for before, after in zip(moments, moments[1:]))
+        return len(moments) > 100 and longest < (working.ended - working.begun) / 2
 
     def test_each_method_waits_for_another_thread(self) -> None:
         mac, cipher = Aegis256Mac(bytes(32)), Aegis256(bytes(32))
@@ -118,11 +123,11 @@ class Threads(unittest.TestCase):
                 with contextlib.suppress(InvalidTag):
                     call()
                 returned = time.monotonic()
-            self.assertGreater(returned, working.ended - 0.01)
-        with Work(lambda: encryptor.update(memoryview(ZEROS)[: len(ZEROS) // 8])) as working:
+            self.assertGreater(returned, (working.begun + working.ended) / 2)
+        with Work(lambda: encryptor.update(memoryview(ZEROS)[: len(ZEROS) // 2])) as working:
             encryptor.finalize()
             returned = time.monotonic()
-        self.assertGreater(returned, working.ended - 0.05)
+        self.assertGreater(returned, (working.begun + working.ended) / 2)
 
     def test_a_copy_waits_for_no_other(self) -> None:
         """It has a lock of its own."""
@@ -133,6 +138,21 @@ class Threads(unittest.TestCase):
             returned = time.monotonic()
         self.assertLess(returned, working.ended)
         self.assertEqual(digest, Aegis256Mac(bytes(32), b"the input").digest())
+
+    def test_a_signal_handler(self) -> None:
+        """It runs between two calls, and may use the object that it interrupts."""
+        mac, digests = Aegis256Mac(bytes(32)), []
+        previous = signal.signal(signal.SIGALRM, lambda *_: digests.append(mac.digest()))
+        signal.setitimer(signal.ITIMER_REAL, 0.001, 0.001)
+        count = 0
+        try:
+            while len(digests) < 20:
+                mac.update(bytes(1 << 20))
+                count += 1
+        finally:
+            signal.setitimer(signal.ITIMER_REAL, 0)
+            signal.signal(signal.SIGALRM, previous)
+        mac.verify(Aegis256Mac(bytes(32), bytes(count << 20)).digest())
 
     def test_a_buffer_that_is_in_use(self) -> None:
         """It cannot be resized until the method returns."""

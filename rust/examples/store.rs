@@ -9,6 +9,7 @@ use std::collections::BTreeMap;
 use std::fs::{self, File};
 use std::io::Read;
 use std::path::Path;
+use std::process::ExitCode;
 
 type Result<T> = std::result::Result<T, Box<dyn std::error::Error>>;
 
@@ -38,9 +39,12 @@ impl Store {
             return Err("a name has no = and no line, and a value is one line".into());
         }
         self.values.insert(name.to_owned(), value.to_owned());
-        self.file.truncate(0)?;
-        self.file.write(self.text().as_bytes(), 0)?;
-        Ok(self.file.commit()?)
+        let text = self.text();
+        self.file.batch(|file| {
+            file.truncate(0)?;
+            file.write(text.as_bytes(), 0)?;
+            Ok(())
+        })
     }
 
     fn text(&self) -> String {
@@ -66,16 +70,30 @@ fn try_all(path: &Path) -> Result<()> {
     Ok(fs::remove_file(path)?)
 }
 
-fn main() -> Result<()> {
+fn run() -> Result<()> {
     let arguments: Vec<String> = std::env::args().skip(1).collect();
     let [key, path, rest @ ..] = &arguments[..] else {
         return try_all(&std::env::temp_dir().join(format!("store-{}", std::process::id())));
     };
-    let mut store = Store::open(Path::new(path), &read_key(key)?)?;
+    let path = Path::new(path);
+    if rest.is_empty() && !path.exists() {
+        return Err(format!("there is no store {}", path.display()).into());
+    }
+    let mut store = Store::open(path, &read_key(key)?)?;
     for line in rest {
         let (name, value) = line.split_once('=').ok_or("not NAME=VALUE")?;
         store.set(name, value)?;
     }
     print!("{}", store.text());
     Ok(())
+}
+
+fn main() -> ExitCode {
+    match run() {
+        Ok(()) => ExitCode::SUCCESS,
+        Err(error) => {
+            eprintln!("store: {error}");
+            ExitCode::FAILURE
+        }
+    }
 }

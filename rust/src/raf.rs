@@ -1,7 +1,8 @@
 //! Encrypted files that are read and written at any place.
 //!
-//! The contents are split into pages, each of which is encrypted on its own. Changes stay in memory until [`Raf::commit`].
-//! [`Raf::sync`] and dropping commit too. **After a crash all changes of a commit are there, or none.** A commit writes its
+//! The contents are split into pages, each of which is encrypted on its own. [`Raf::batch`] makes several changes together: it
+//! commits them, or discards them if one of them fails. Outside a batch changes stay in memory until [`Raf::commit`]; then
+//! [`Raf::sync`] and dropping commit too, as the names that they are taken from do. **After a crash all changes of a commit are there, or none.** A commit writes its
 //! changes to the journal first, the file `PATH.journal` beside the file. It removes the journal at the end. Opening completes a
 //! commit that was interrupted.
 //!
@@ -17,8 +18,7 @@
 //! # let master_key = [1; 32];
 //! let key = Raf::<Aegis256>::derive_master_key(&master_key, b"my-app/files")?;
 //! let mut file = Raf::<Aegis256>::create_file(&path, &key)?;
-//! file.write(b"a line of a text", 7)?;
-//! file.commit()?;
+//! file.batch(|file| file.write(b"a line of a text", 7))?;
 //! # drop(file);
 //!
 //! let mut file = Raf::<Aegis256>::open_file(&path, &key)?;
@@ -39,6 +39,7 @@
 //! around them is tested against the proved crate, and not proved.
 
 mod algorithm;
+mod batch;
 mod builder;
 mod changes;
 mod commitment;
@@ -186,7 +187,8 @@ impl<A: Algorithm, I: RafIo, R: RafRng, J: RafIo> Raf<A, I, R, J> {
     ///
     /// # Errors
     ///
-    /// [`Error::TooLong`], [`Error::Damaged`], [`Error::Io`] or [`Error::Broken`]: nothing has changed. Or an error of
+    /// [`Error::TooLong`], [`Error::Damaged`], [`Error::Io`] or [`Error::Broken`]: nothing has changed. If memory does not suffice
+    /// it is an [`Error::Io`] of kind [`OutOfMemory`](std::io::ErrorKind::OutOfMemory). Or an error of
     /// [`commit`](Raf::commit): the change is in memory as that function says. With a limit of `usize::MAX` no write commits.
     pub fn write(&mut self, data: &[u8], offset: u64) -> Result<usize> {
         // It stays so if the change fails, or if a panic ends it.
@@ -214,10 +216,12 @@ impl<A: Algorithm, I: RafIo, R: RafRng, J: RafIo> Raf<A, I, R, J> {
             return Ok(());
         }
         let chunk_size = u64::from(self.layout.chunk_size);
+        let pages = offset.min(self.size) / chunk_size..end.div_ceil(chunk_size);
+        Changes::check_room(pages.end - pages.start, chunk_size)?;
         let mut changes = Changes::default();
-        for number in offset.min(self.size) / chunk_size..end.div_ceil(chunk_size) {
+        for number in pages {
             self.change_page(number, data, offset)?;
-            changes.set(number, self.layout.text(&mut self.page));
+            changes.set(number, self.layout.text(&mut self.page))?;
         }
         self.changes.append(changes);
         self.size = self.size.max(end);
@@ -377,25 +381,37 @@ impl<A: Algorithm, I: RafIo, R: RafRng, J: RafIo> Raf<A, I, R, J> {
         sector: &[u8; SECTOR_BYTES],
         counter: u64,
     ) -> Result<Vec<PendingWrite>> {
-        let mut nonce = A::Nonce::default();
+        let nonces = self.nonces(self.changes.len() + 1)?;
         let mut writes = vec![PendingWrite {
             place: 0,
             bytes: sector.to_vec(),
         }];
-        for (number, text) in self.changes.iter() {
-            self.rng.fill(nonce.as_mut())?;
+        for ((number, text), nonce) in self.changes.iter().zip(&nonces) {
             let mut bytes = vec![0; self.layout.page_bytes()];
             self.layout.text(&mut bytes).copy_from_slice(text);
-            self.layout.seal(number, &nonce, &mut bytes);
+            self.layout.seal(number, nonce, &mut bytes);
             let place = self.layout.page_place(number);
             writes.push(PendingWrite { place, bytes });
         }
-        self.rng.fill(nonce.as_mut())?;
+        let nonce = &nonces[self.changes.len()];
         writes.push(PendingWrite {
             place: 0,
-            bytes: self.layout.header(counter, self.size, &nonce).to_vec(),
+            bytes: self.layout.header(counter, self.size, nonce).to_vec(),
         });
         Ok(writes)
+    }
+
+    /// Returns nonces that are generated in one call.
+    fn nonces(&mut self, count: usize) -> Result<Vec<A::Nonce>> {
+        let mut nonce = A::Nonce::default();
+        let bytes = nonce.as_ref().len();
+        let mut random = vec![0; count * bytes];
+        self.rng.fill(&mut random)?;
+        let of_bytes = |bytes: &[u8]| {
+            nonce.as_mut().copy_from_slice(bytes);
+            nonce
+        };
+        Ok(random.chunks_exact(bytes).map(of_bytes).collect())
     }
 }
 

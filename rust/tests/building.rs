@@ -223,7 +223,7 @@ fn cargo(command: &str, program: &str, name: &str, dependency: &str) -> (bool, S
         "--message-format=short",
         "--target-dir",
     ]);
-    cargo.arg(folder.join("target"));
+    cargo.arg(self::folder("target"));
     let output = cargo.current_dir(&folder).output().unwrap();
     let printed = String::from_utf8_lossy(&output.stderr).into_owned();
     (output.status.success(), printed)

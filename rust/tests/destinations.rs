@@ -43,6 +43,7 @@ in_each_variant! {
     the_rest_of_a_destination_stays
     an_empty_message_has_one_tag
     several_chunked_calls_of_one_cipher_do_not_meet
+    a_long_message_is_the_same_in_chunks
     a_ciphertext_of_another_length_panics
 }
 
@@ -123,6 +124,21 @@ mod checks {
         }
         assert_eq!((one.to_vec(), first.finalize()), expected);
         assert_eq!((two.to_vec(), second.finalize()), expected);
+    }
+
+    pub fn a_long_message_is_the_same_in_chunks<V: Variant>() {
+        let mut ciphertext = vec![8; 1 << 20];
+        let tag = cipher::<V>().encrypt_in_place(&mut ciphertext, AD);
+        for length in [16_384, 100_001] {
+            let mut chunks = vec![8; 1 << 20];
+            let mut encryptor = cipher::<V>().encryptor(AD);
+            for chunk in chunks.chunks_mut(length) {
+                encryptor.update_in_place(chunk);
+            }
+            assert!(encryptor.finalize() == tag && chunks == ciphertext);
+        }
+        let opened = cipher::<V>().decrypt_in_place(&mut ciphertext, &tag, AD);
+        assert!(opened == Ok(()) && ciphertext == [8; 1 << 20]);
     }
 
     pub fn a_ciphertext_of_another_length_panics<V: Variant>() {

@@ -2,7 +2,21 @@
 
 use crate::wipe::Wiped;
 use alloc::boxed::Box;
+use alloc::vec::Vec;
+use core::hint::black_box;
 use std::collections::BTreeMap;
+use std::io::{self, ErrorKind};
+
+/// The number of bytes that a page takes beside its text, at most.
+const ADDED_BYTES: u64 = 128;
+
+/// Returns a vector with room for so many bytes, or an error if memory runs out.
+fn with_room(bytes: usize) -> io::Result<Vec<u8>> {
+    let mut vector = Vec::new();
+    let reserved = vector.try_reserve_exact(bytes);
+    reserved.map_err(|_| ErrorKind::OutOfMemory)?;
+    Ok(vector)
+}
 
 /// The texts of changed pages, by the numbers of the pages. They are overwritten when they are dropped.
 #[derive(Default)]
@@ -24,9 +38,20 @@ impl Changes {
         self.0.get(&number).map(|text| &*text.0)
     }
 
-    /// Keeps a copy of the text of a page.
-    pub fn set(&mut self, number: u64, text: &[u8]) {
-        self.0.insert(number, Wiped(text.into()));
+    /// Returns an error if there is no memory for so many pages of texts of this length.
+    pub fn check_room(pages: u64, text_bytes: u64) -> io::Result<()> {
+        let bytes = pages.saturating_mul(text_bytes + ADDED_BYTES);
+        let bytes = usize::try_from(bytes).map_err(|_| ErrorKind::OutOfMemory)?;
+        black_box(with_room(bytes)?);
+        Ok(())
+    }
+
+    /// Keeps a copy of the text of a page. Returns an error if memory runs out.
+    pub fn set(&mut self, number: u64, text: &[u8]) -> io::Result<()> {
+        let mut copy = with_room(text.len())?;
+        copy.extend_from_slice(text);
+        self.0.insert(number, Wiped(copy.into_boxed_slice()));
+        Ok(())
     }
 
     /// Takes over other changes, in place of those of the same pages.

@@ -50,6 +50,13 @@ pub trait RafIo {
         None
     }
 
+    /// Returns whether bytes that are written can be read again. If a journal returns `false`, a commit writes nothing to it.
+    ///
+    /// The default is `true`.
+    fn keeps_bytes(&self) -> bool {
+        true
+    }
+
     /// Returns [`Error::Moved`] if a later opening would not find the journal at [`journal_path`](RafIo::journal_path). A journal
     /// returns an error if it cannot be written. It is called in each commit, before any bytes are written.
     ///
@@ -178,6 +185,10 @@ impl Drop for FileIo {
 pub struct NoJournal;
 
 impl RafIo for NoJournal {
+    fn keeps_bytes(&self) -> bool {
+        false
+    }
+
     fn read_at(&mut self, buf: &mut [u8], _offset: u64) -> io::Result<()> {
         if buf.is_empty() {
             Ok(())
@@ -609,7 +620,7 @@ mod tests {
                 assert_eq!(open(false).is_ok(), is_safe, "{mode:o} {other:o}");
             }
             set(0o600);
-            for (user, is_safe) in [(65534, group_may), (0, true)] {
+            for (user, is_safe) in [(65532, group_may), (0, true)] {
                 if chown(&at, Some(user), None).is_ok() {
                     assert_eq!(open(false).is_ok(), is_safe, "{mode:o} {user}");
                 }

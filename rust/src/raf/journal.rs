@@ -1,6 +1,6 @@
 //! Writes that are all there after a crash, or none of them, by way of a journal.
 //!
-//! This is what the proved crate `aegis_storage` does, call by call: the same bytes, written and synced in the same order.
+//! The proved crate `aegis_storage` writes the same bytes between the same syncs. Here neighbouring writes are one call.
 
 use super::io::RafIo;
 use super::layout::CLEAR_BYTES;
@@ -42,6 +42,9 @@ pub fn commit(
     seal: &JournalSeal,
     writes: &[PendingWrite],
 ) -> io::Result<()> {
+    if !journal.keeps_bytes() {
+        return write_and_sync(io, writes);
+    }
     write_journal(journal, &journal_bytes(seal, writes))?;
     write_and_sync(io, writes)?;
     empty(journal)
@@ -56,12 +59,32 @@ fn write_journal(journal: &mut impl RafIo, bytes: &[u8]) -> io::Result<()> {
     journal.sync()
 }
 
-/// Makes the writes, and syncs them.
+/// The most writes that are made in one call.
+const MOST_WRITES: usize = 64;
+
+/// Makes the writes, neighbours in one call, and syncs them.
 pub fn write_and_sync(io: &mut impl RafIo, writes: &[PendingWrite]) -> io::Result<()> {
-    for write in writes {
-        io.write_at(&write.bytes, write.place)?;
+    let are_neighbours =
+        |one: &PendingWrite, next: &PendingWrite| one.place + one.bytes.len() as u64 == next.place;
+    for run in writes
+        .chunk_by(are_neighbours)
+        .flat_map(|run| run.chunks(MOST_WRITES))
+    {
+        match run {
+            [write] => io.write_at(&write.bytes, write.place)?,
+            run => io.write_at(&joined(run), run[0].place)?,
+        }
     }
     io.sync()
+}
+
+/// Returns the bytes of writes, one after the other.
+fn joined(writes: &[PendingWrite]) -> Vec<u8> {
+    let mut bytes = Vec::with_capacity(writes.iter().map(|write| write.bytes.len()).sum());
+    for write in writes {
+        bytes.extend_from_slice(&write.bytes);
+    }
+    bytes
 }
 
 /// Empties a journal, and syncs that.

@@ -104,7 +104,7 @@ impl RafRng for MovingRandom<'_> {
 #[test]
 fn a_file_that_is_moved_while_it_is_sealed() {
     for a_move in &MOVES {
-        for before in 1..=3 {
+        for before in 1..=2 {
             let folder = Folder::new("moved-sealed");
             let path = folder.path("file");
             with_text(&path, b"before");

@@ -309,7 +309,7 @@ fn locks_that_are_refused() {
 }
 
 /// Each commit that makes the file longer sets its size. Then it writes the front of the journal and syncs it, the rest of it
-/// and syncs it, then the file and syncs it, and then empties the journal and syncs it.
+/// and syncs it, then the file, neighbouring pages in one call, and syncs it, and then empties the journal and syncs it.
 #[test]
 fn the_calls_of_a_commit() {
     let disks = disks(Bytes::default());
@@ -327,8 +327,6 @@ fn the_calls_of_a_commit() {
         (journal, None),
         (file, Some(0)),
         (file, Some(4096)),
-        (file, Some(4416)),
-        (file, Some(4736)),
         (file, Some(0)),
         (file, None),
         (journal, Some(u64::MAX)),
@@ -418,8 +416,8 @@ fn a_source_of_random_bytes_that_fails() {
             .create(disks.0.clone(), &KEY);
         assert!(matches!(refused, Err(Error::Io(_))));
     }
-    // Two pages, the header, and the prefix.
-    for left in 0..4 {
+    // The nonces of two pages and of the header, and the prefix.
+    for left in 0..2 {
         let mut file = RafBuilder::<Aegis256>::new()
             .rng(FailingRandom(Random(5), left))
             .journal(disks.1.clone())
@@ -436,7 +434,7 @@ fn a_source_of_random_bytes_that_fails() {
         assert_eq!(calls(&disks), count);
         assert_eq!(*disks.0.bytes.borrow(), bytes);
     }
-    let mut file = RafBuilder::<Aegis256>::with_rng(FailingRandom(Random(5), 4))
+    let mut file = RafBuilder::<Aegis256>::with_rng(FailingRandom(Random(5), 2))
         .journal(disks.1.clone())
         .open(disks.0.clone(), &KEY)
         .unwrap();
@@ -579,4 +577,89 @@ fn derived_keys() {
         derive_key(&master, &[1; 73]),
         Err(Error::ContextTooLong)
     ));
+}
+
+/// A batch is committed by itself, whatever the limit on changes in memory.
+#[test]
+fn a_batch() {
+    let disks = disks(Bytes::default());
+    let mut file = created(&disks, 0);
+    let before = calls(&disks);
+    let written = file.batch(|file| {
+        file.write(&[1; 1000], 0)?;
+        assert_eq!(calls(&disks), before);
+        file.write(b"end", 2000)
+    });
+    assert_eq!(written.unwrap(), 3);
+    core::mem::forget(file);
+    let mut file = opened(&disks);
+    let mut end = [0; 3];
+    assert_eq!((file.size(), file.read(&mut end, 2000).unwrap()), (2003, 3));
+    assert_eq!(&end, b"end");
+}
+
+/// A batch that fails, panics or is not committed leaves the contents as they were, and commits what was changed before it.
+#[test]
+fn a_batch_that_fails() {
+    let disks = disks(Bytes::default());
+    let mut file = created(&disks, usize::MAX);
+    file.write(b"before", 0).unwrap();
+    let failed: Result<()> = file.batch(|file| {
+        file.write(b"lost", 0)?;
+        Err(Error::TooLong)
+    });
+    assert!(matches!(failed, Err(Error::TooLong)));
+    let unwound = std::panic::catch_unwind(std::panic::AssertUnwindSafe(|| {
+        let _ = file.batch(|file| -> Result<()> {
+            file.truncate(0)?;
+            panic!("in the middle of a batch");
+        });
+    }));
+    assert!(unwound.is_err());
+    let failed = file.batch(|file| {
+        disks.0.log.borrow_mut().reads_left = 0;
+        file.write(&[1; 256], 0)
+    });
+    assert!(matches!(failed, Err(Error::Io(_))));
+    disks.0.log.borrow_mut().reads_left = usize::MAX;
+    let mut contents = [0; 7];
+    assert_eq!(file.read(&mut contents, 0).unwrap(), 6);
+    assert_eq!(&contents, b"before\0");
+    drop(file);
+    assert_eq!(opened(&disks).size(), 6);
+}
+
+/// A commit without a journal writes the file alone.
+#[test]
+fn a_commit_without_a_journal() {
+    let disks = disks(Bytes::default());
+    let builder = RafBuilder::<Aegis256>::with_rng(Random(5)).chunk_size(256);
+    let mut file = builder
+        .journal(NoJournal)
+        .create(disks.0.clone(), &KEY)
+        .unwrap();
+    file.write(&[1; 600], 0).unwrap();
+    disks.0.log.borrow_mut().calls.clear();
+    file.commit().unwrap();
+    let expected = [Some(u64::MAX - 5056), Some(0), Some(4096), Some(0), None];
+    assert_eq!(places(&disks), expected.map(|place| (Part::File, place)));
+}
+
+/// A write far past the end, for whose zeros there is no memory, changes nothing.
+#[test]
+fn a_write_without_memory() {
+    let disks = disks(Bytes::default());
+    let mut file = created(&disks, usize::MAX);
+    file.write(b"before", 0).unwrap();
+    for offset in [1 << 50, MAX_SIZE - 1] {
+        let failed = file.write(b"x", offset);
+        assert!(
+            matches!(failed, Err(Error::Io(error)) if error.kind() == io::ErrorKind::OutOfMemory)
+        );
+        assert!(matches!(file.truncate(offset), Err(Error::Io(_))));
+        assert_eq!(file.size(), 6);
+    }
+    file.commit().unwrap();
+    drop(file);
+    assert_eq!(opened(&disks).size(), 6);
 }

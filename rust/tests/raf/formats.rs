@@ -18,8 +18,10 @@ impl RafRng for Counter {
             return Ok(());
         };
         buf.fill(0);
-        buf[..8].copy_from_slice(&number.to_le_bytes());
-        *number += 1;
+        for nonce in buf.chunks_mut(32) {
+            nonce[..8].copy_from_slice(&number.to_le_bytes());
+            *number += 1;
+        }
         Ok(())
     }
 }
@@ -130,7 +132,7 @@ fn a_commit_of_the_small_file() {
         .unwrap();
     file.write(&[6; 1300], 0).unwrap();
     // All is done but to empty the journal.
-    disks.0.log.borrow_mut().left = 13;
+    disks.0.log.borrow_mut().left = 9;
     assert!(file.commit().is_err());
     let journal = [
         55, 245, 17, 208, 239, 20, 183, 147, 133, 253, 42, 194, 186, 95, 208, 106,

@@ -1,0 +1,17 @@
+//! Encrypts a message with AEGIS-256, and decrypts it again.
+
+ghost use Rattle.std.specs.Prelude.{◌≡◌, ◌≤◌, IsOk, length};
+
+use aegis::MAX_AEAD_BYTES;
+use aegis::aegis256::{Aegis256, Error, Key, Nonce};
+
+/// Decrypting a ciphertext always succeeds, and gives the message.
+pub fn comes_back(key: &Key, nonce: &Nonce, header: &[u8], message: &mut [u8]) -> Result<(), Error>
+    requires header_within { length header.now ≤ MAX_AEAD_BYTES }
+    requires message_within { length message.old ≤ MAX_AEAD_BYTES }
+    ensures opened { IsOk result }
+    ensures same { message.new ≡ message.old }
+{
+    let tag = Aegis256::<32>::new(key, nonce).encrypt_in_place(message, header);
+    Aegis256::new(key, nonce).decrypt_in_place(message, &tag, header)
+}
