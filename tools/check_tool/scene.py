@@ -103,9 +103,9 @@ class Scene(unittest.TestCase):
         """Runs the program with these words, a list or a text with spaces between them."""
         self.run_of(status, [TOOL, *(words.split(" ") if isinstance(words, str) else words)], says, lacks, **options)
 
-    def shell(self, status, command, says=(), lacks=(), **settings):
-        """Runs a command of bash, in which $tool is the program, with these settings in the environment."""
-        self.run_of(status, ["bash", "-c", command], says, lacks, env={**os.environ, "tool": TOOL, **settings})
+    def shell(self, status, command, says=(), lacks=()):
+        """Runs a command of bash, in which $tool is the program."""
+        self.run_of(status, ["bash", "-c", command], says, lacks, env={**os.environ, "tool": TOOL})
 
     def terminal(self, status, command, says=(), lacks=()):
         """Runs a command of bash in a terminal of its own, and returns what it has printed."""

@@ -85,7 +85,7 @@ class Calls(Scene):
     # If the caller has closed standard error, the next file that is opened could get its descriptor, and a message.
     def test_no_message_in_an_output(self):
         for closed in "sealed out 2>&-", "sealed out >&- 2>&-", "sealed out <sealed >&- 2>&-", "- out <sealed 2>&-":
-            self.shell(0, f"$tool open -k key {closed}", LD_PRELOAD=CALLS, LINK_FAILS="1")
+            self.shell(0, f"exec env LD_PRELOAD={CALLS} LINK_FAILS=1 $tool open -k key {closed}")
             self.is_same("out", "text")
             os.remove("out")
 
@@ -184,8 +184,7 @@ class Calls(Scene):
         for command in "seal -k key text", "open -k key sealed":
             for number in range(1, 1000):
                 write("noted", "")
-                settings = {"LD_PRELOAD": CALLS, "CALLS": os.path.abspath("noted"), "AT": str(number)}
-                self.shell((0, 3), f"exec $tool {command} > printed", **settings)
+                self.shell((0, 3), f"exec env LD_PRELOAD={CALLS} CALLS=$PWD/noted AT={number} $tool {command} > printed")
                 if b"here" not in read("noted"):
                     break
                 printed = read("printed")
