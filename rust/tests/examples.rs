@@ -1,7 +1,7 @@
 //! The examples, as programs.
 
 use std::fs;
-use std::path::PathBuf;
+use std::path::{Path, PathBuf};
 use std::process::{Command, Output};
 
 fn run(example: &str, arguments: &[&str]) -> Output {
@@ -48,7 +48,8 @@ fn store() {
         ["key", "other", "file"].map(|name| folder.join(name).to_str().unwrap().to_owned());
     fs::write(&key, [1; 32]).unwrap();
     fs::write(&other, [2; 32]).unwrap();
-    assert_eq!(printed("store", &[&key, &file]), "");
+    let missing = run("store", &[&key, &file]);
+    assert!(!missing.status.success() && !Path::new(&file).exists());
     assert_eq!(printed("store", &[&key, &file, "b=1"]), "b=1\n");
     assert_eq!(printed("store", &[&key, &file, "a=2"]), "a=2\nb=1\n");
     assert_eq!(printed("store", &[&key, &file, "b="]), "a=2\nb=\n");
