@@ -18,16 +18,9 @@ check-rust-both: $(OUT)/both/libhunkravy.a
 		echo 'left out: the lints of the Cargo package, since cargo clippy is not installed'; \
 	fi
 
-<<<<<<< HEAD
 check-rust-%: $(OUT)/%/libhunkravy.a
-	$(call CARGO,$*) test --offline --lib --test lines --test destinations --test sealed
-	$(call CARGO,$*) test --offline --test raf formats
-=======
-check-rust-%: $(OUT)/%/libhunkravy.a $(OUT)/%/check-driver
 	$(call CARGO,$*) test --offline --lib --test lines --test destinations
 	$(call CARGO,$*) test --offline --test raf --test sealed -- formats records opened_in_memory
-	$(OUT)/$*/check-driver
->>>>>>> rust-helper
 
 # Whether the package and the file tool open each other's files.
 check-rust-tool: $(OUT)/$(lastword $(TOOL_LEVELS))/hunkravy $(LIBRARY)

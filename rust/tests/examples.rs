@@ -24,6 +24,11 @@ fn printed(example: &str, arguments: &[&str]) -> String {
 }
 
 #[test]
+fn first() {
+    assert_eq!(printed("first", &[]), "");
+}
+
+#[test]
 fn records() {
     assert_eq!(
         printed("records", &[]),
