@@ -1,6 +1,6 @@
 # The C library, for Linux, and its tests. What follows builds with stock gcc, and proves nothing but that library.
 .PHONY: c-library c-libraries install check-c check-header check-c++ check-sanitized check-rebuilt check-shared \
-	check-level check-sodium check-musl check-time check-install gcc-aarch64-linux-gnu qemu-user
+	check-level check-sodium check-musl check-abi abi check-time check-install gcc-aarch64-linux-gnu qemu-user
 
 CC = gcc
 C_FLAGS = -Wall -Wextra -Wpedantic -Werror -Ic/include
@@ -164,6 +164,22 @@ check-musl-%: $(OUT)/%/libhunkravy.a
 		LEVEL=$(patsubst x86-64-v%,%,$(filter x86%,$*)) $(OUT)/$*/$$program-musl $(STORED_LINES) || exit 1; \
 	done
 
+# The calls, types and symbols of the shared library are those that c/abi.xml describes, which abidw wrote. A library for
+# debuggers has them all: that of the sources of c/ over the exports of one level.
+DESCRIBED = $(OUT)/abi/$(SONAME)
+
+$(DESCRIBED): $(OUT)/$(firstword $(LEVELS))/aegis_c.a $(OUT)/both/$(SONAME)
+	mkdir -p $(@D)
+	$(CC) -std=c99 -Ic/include -O1 -g -fPIC -DHUNKRAVY_LEVEL=0 -shared \
+		-Wl,-soname,$(SONAME),--version-script=$(OUT)/both/exports.map c/library/*.c c/levels/choose.c $< -o $@
+
+check-abi: $(DESCRIBED)
+	abidiff c/abi.xml $<
+	echo 'the interface is the one that c/abi.xml describes'
+
+abi: $(DESCRIBED)
+	abidw --no-corpus-path --no-comp-dir-path --no-show-locs --exported-interfaces-only --out-file c/abi.xml $<
+
 # That each name is bound to the build for this processor's level, and that no build has instructions of another level.
 check-level: $(OUT)/both/libhunkravy.a $(OUT)/both/$(SONAME)
 	tools/check_level.sh $^ $(STORED_LINES)
@@ -222,7 +238,9 @@ check-install: | $(OUT) $(if $(filter aarch64,$(FOLDER)),gcc-aarch64-linux-gnu q
 			$$(pkg-config --cflags --libs-only-L hunkravy) $$library -o $(OUT)/$$example-installed" && \
 		$(RUN_$(FOLDER)) $(OUT)/$$example-installed || exit 1; \
 	done; done
-	if command -v cmake > /dev/null; then \
+	if [ -n '$(TOOLS_$(FOLDER))' ]; then \
+		echo 'left out: the example by CMake, which has no tools for ARM here'; \
+	elif command -v cmake > /dev/null; then \
 		rm -rf $(OUT)/cmake && mkdir $(OUT)/cmake && \
 		printf '%s\n' 'cmake_minimum_required(VERSION 3.10)' 'project(installed C)' 'find_package(hunkravy REQUIRED)' \
 			'foreach(kind hunkravy static)' 'add_executable(seal-$${kind} "$(EXAMPLES_FOLDER)/seal.c")' \

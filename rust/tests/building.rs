@@ -36,7 +36,7 @@ fn targets() {
     ] {
         let message = build::check_target(target).unwrap_err();
         assert!(
-            message.contains("-linux-gnu") && message.contains(target),
+            message.contains("glibc or musl") && message.contains(target),
             "{message}"
         );
     }

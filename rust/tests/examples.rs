@@ -1,7 +1,7 @@
 //! The examples, as programs.
 
 use std::fs;
-use std::path::PathBuf;
+use std::path::{Path, PathBuf};
 use std::process::{Command, Output};
 
 fn run(example: &str, arguments: &[&str]) -> Output {
@@ -21,6 +21,11 @@ fn printed(example: &str, arguments: &[&str]) -> String {
     let output = run(example, arguments);
     assert!(output.status.success(), "{output:?}");
     String::from_utf8(output.stdout).unwrap()
+}
+
+#[test]
+fn first() {
+    assert_eq!(printed("first", &[]), "");
 }
 
 #[test]
@@ -48,7 +53,8 @@ fn store() {
         ["key", "other", "file"].map(|name| folder.join(name).to_str().unwrap().to_owned());
     fs::write(&key, [1; 32]).unwrap();
     fs::write(&other, [2; 32]).unwrap();
-    assert_eq!(printed("store", &[&key, &file]), "");
+    let missing = run("store", &[&key, &file]);
+    assert!(!missing.status.success() && !Path::new(&file).exists());
     assert_eq!(printed("store", &[&key, &file, "b=1"]), "b=1\n");
     assert_eq!(printed("store", &[&key, &file, "a=2"]), "a=2\nb=1\n");
     assert_eq!(printed("store", &[&key, &file, "b="]), "a=2\nb=\n");
