@@ -88,7 +88,7 @@ done
 for package in "$dist"/*.deb; do
     rm -rf "$work/one"
     dpkg-deb -R "$package" "$work/one"
-    (cd "$work/one" && md5sum --quiet -c DEBIAN/md5sums && diff <(find usr -type f | sort) <(cut -c 35- DEBIAN/md5sums | sort)) ||
+    (cd "$work/one" && md5sum --strict --quiet -c DEBIAN/md5sums && diff <(find usr -type f | sort) <(cut -c 35- DEBIAN/md5sums | sort)) ||
         fail "other sums in $package"
 done
 [ "$(dpkg-deb -I "$dist/libhunkravy0_${version}_amd64.deb" shlibs)" = "libhunkravy 0 libhunkravy0 (>= $version)" ] ||
