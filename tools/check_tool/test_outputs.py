@@ -222,7 +222,8 @@ class Meanwhile(Scene):
             os.chmod(".", 0o711)
             for name in "place", "key", "slow":
                 os.chown(name, 65534, 65534)
-            options = {"user": 65534, "group": 65534, "extra_groups": [], "executable": os.path.abspath(shutil.copy(TOOL, "tool"))}
+            os.chmod(shutil.copy(TOOL, "tool"), 0o755)
+            options = {"user": 65534, "group": 65534, "extra_groups": [], "executable": os.path.abspath("tool")}
         os.chmod("place", 0o555)
         self.tool(3, "keygen place/out", **options)
         os.chmod("place", 0o755)
