@@ -359,7 +359,7 @@ class SealedReader(Sealed):
         return len(part)
 
     def _read_record(self, length: int) -> None:
-        """Reads until the record has so many bytes, or the file ends. Memory is taken as bytes come.
+        """Reads until the record has this many bytes, or the file ends. Memory is taken as bytes come.
 
         After an exception of the file it can be called again.
         """

@@ -244,7 +244,7 @@ fn a_mac_goes_on_after_its_end() {
     }
 }
 
-/// Bytes that stand for nothing: each call returns.
+/// Bytes of no state: each call returns.
 #[test]
 fn a_state_of_any_bytes_is_safe() {
     for variant in &VARIANTS {
