@@ -96,7 +96,7 @@ class SealedWriter(Sealed):
     without an exception. Otherwise it does not open: after an exception in the block or of a method, or if the writer
     is dropped. `file` is not closed.
 
-    Bytes are written in pieces of 65,536. The last piece is written by `close`, and not by `flush`. In a `with` block
+    Bytes are written in pieces of 65,536. `close` writes the last piece, and `flush` does not. In a `with` block
     `close` takes effect at its end, so an `io.TextIOWrapper` inside it may close the writer.
     """
 
