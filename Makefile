@@ -76,6 +76,7 @@ check-edits:
 # contract reaches is listed, each wrong body can be applied, and no link leads nowhere.
 check-pages:
 	python3 tools/check_pages.py
+	python3 tools/check_habits.py
 	python3 tools/check_definitions.py
 	python3 tools/edits.py check
 

@@ -1,30 +1,32 @@
 /*
- * Sealed pages: a text in a file that is read and written at any place, and that a crash while you write MAY LOSE,
- * unless you write by way of a journal. For files that outlast a crash use `raf` of the Cargo package or the Rattle
- * crate `aegis_pages`, which keep one: these calls only seal and open a page or a header, and you read and write the
- * file.
+ * Sealed pages: the contents of a file that changes in place, encrypted page by page. These functions encrypt and
+ * decrypt a page or a header. Your program reads and writes the file.
  *
- * The text is cut into pages of one size, each of which is encrypted on its own, by any variant with a tag of 32 bytes.
- * A page opens only under its number and the id of its file, but an older page of the same number opens too. The files
- * are those of `aegis_pages` and `raf`, of the format in docs/PAGES.md of their repository.
+ * A crash while you write MAY LOSE THE FILE, unless you write through a journal. `raf` of the Cargo package and the
+ * Rattle crate `aegis_pages` have a journal. Use one of these for files that must survive a crash.
  *
- * A file begins with a sector of HUNKRAVY_PAGE_SECTOR_BYTES that has its header: the variant, the page size, the file's
- * id, a counter, and the length of the text. The pages begin at byte HUNKRAVY_PAGE_FIRST, each whole, the last one too:
- * a nonce of hunkravy_key_bytes(variant) bytes, the encrypted text, and the tag.
+ * The contents are split into pages of one size. Each page is encrypted separately, with any variant and a tag of 32
+ * bytes. A page decrypts only under its number and the id of its file. An older page of the same number decrypts too.
+ * The files are those of `aegis_pages` and `raf`; docs/PAGES.md of their repository has the format.
  *
- * A crash may tear what was not synced, and a file whose header is torn is lost: the example pages.c has no journal.
- * docs/PAGES.md defines the journal, which the calls of hunkravy_records.h seal and open. If one that is not empty lies
- * beside a file, complete it before you open the file: `aegis_pages` and `raf` do.
+ * A file begins with HUNKRAVY_PAGE_SECTOR_BYTES of a header: the variant, the page size, the file's id, a counter, and
+ * the length of the contents. The pages begin at byte HUNKRAVY_PAGE_FIRST. Each page is complete, the last one too: a
+ * nonce of hunkravy_key_bytes(variant) bytes, the ciphertext, and the tag.
  *
- * To change some bytes of a page: read the page, open it, change its text, seal it with a fresh nonce, and write it. To
- * change the length: write the pages that are new, and then the header with the next counter. What the last page has
- * after the text may be what was cut off there: if the text grows, write that page too, with zeros in its place.
+ * A crash may tear writes that were not synced, and a file with a torn header is lost. The example pages.c has no
+ * journal. docs/PAGES.md defines the journal, and the functions of hunkravy_records.h encrypt and decrypt it. If there
+ * is a journal beside a file and it is not empty, let `aegis_pages` or `raf` complete it before you open the file.
  *
- * `k` is a key and `npub` a nonce, of hunkravy_key_bytes(variant) bytes each: A FRESH NONCE EACH TIME that a page or a
- * header is sealed, drawn at random. With nonces of 16 bytes seal at most 2^48 pages and headers under one key. `id` is
- * 24 bytes that are the file's own: they may be drawn at random, and need not be secret.
+ * To change bytes of a page: read the page, decrypt it, change its contents, encrypt it with a fresh nonce, and write
+ * it. To change the length: write the new pages, and then the header with the next counter. After the contents the
+ * last page may have bytes that were truncated there. If the contents grow, write that page too, with zeros in their
+ * place.
  *
- * What hunkravy.h says of pointers and codes holds here too. The pointers without a length are never null.
+ * `k` is a key and `npub` a nonce, of hunkravy_key_bytes(variant) bytes each. Use a FRESH RANDOM NONCE for each page
+ * and each header that you encrypt. With nonces of 16 bytes encrypt at most 2^48 pages and headers under one key. `id`
+ * is 24 bytes of the file's own. They may be random, and need not be secret.
+ *
+ * The rules of hunkravy.h on pointers and codes apply here too. Pointers without a length are never null.
  */
 #ifndef HUNKRAVY_PAGES_H
 #define HUNKRAVY_PAGES_H

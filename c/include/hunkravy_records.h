@@ -88,7 +88,7 @@ HUNKRAVY_MUST_USE int hunkravy_record_seal_last(hunkravy_record_stream *st, uint
 
 /*
  * Writes the length of the next record, whose first HUNKRAVY_RECORD_HEAD_BYTES are at `head`, to `recordlen`. The
- * length IS NOT VERIFIED. It is at most 16 MiB and 37 bytes. Use it only to read so many bytes.
+ * length IS NOT VERIFIED. It is at most 16 MiB and 37 bytes. Use it only to read this many bytes.
  *
  * Returns HUNKRAVY_OK, HUNKRAVY_WRONG_STATE if the state does not decrypt, HUNKRAVY_INVALID_TAG if no record begins
  * with these bytes, or HUNKRAVY_MESSAGE_TOO_LONG if the message would be too long. After an error nothing is written.
@@ -101,10 +101,14 @@ HUNKRAVY_MUST_USE int hunkravy_record_len(const hunkravy_record_stream *st, cons
  * `record + HUNKRAVY_RECORD_HEAD_BYTES`. `*is_last` is 1 for the last record, which zeroes the state, and otherwise
  * 0. After the last record check that no bytes follow.
  *
- * Returns HUNKRAVY_OK, HUNKRAVY_INVALID_TAG if the bytes are not the next record of the stream, HUNKRAVY_WRONG_STATE
- * if the state does not decrypt, HUNKRAVY_WRONG_RECORD_LENGTH if the bytes are too few for a record, or
- * HUNKRAVY_MESSAGE_TOO_LONG if the record or the stream would be too long. After HUNKRAVY_INVALID_TAG each of the
- * `recordlen` bytes is 0xaa. After an error nothing else is written, and the state is unchanged.
+ * Returns HUNKRAVY_OK, or:
+ * - HUNKRAVY_INVALID_TAG if the bytes are not the next record of the stream;
+ * - HUNKRAVY_WRONG_STATE if the state does not decrypt;
+ * - HUNKRAVY_WRONG_RECORD_LENGTH if the bytes are too few for a record;
+ * - HUNKRAVY_MESSAGE_TOO_LONG if the record or the stream would be too long.
+ *
+ * After HUNKRAVY_INVALID_TAG each of the `recordlen` bytes is 0xaa. After an error nothing else is written, and the
+ * state is unchanged.
  */
 HUNKRAVY_MUST_USE int hunkravy_record_open(hunkravy_record_stream *st, uint8_t *record, size_t recordlen,
     size_t *mlen, int *is_last);

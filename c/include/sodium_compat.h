@@ -1,31 +1,30 @@
 /*
- * libsodium's crypto_aead_aegis128l and crypto_aead_aegis256, by its own names and parameters, over hunkravy.h.
- * A program that uses of libsodium just these calls, sodium_init, randombytes_buf and sodium_memzero includes
- * this header in place of sodium.h, and is linked with libhunkravy in place of libsodium.
+ * libsodium's crypto_aead_aegis128l and crypto_aead_aegis256, with its own names and parameters, over hunkravy.h.
+ * A program whose only functions of libsodium are these, sodium_init, randombytes_buf and sodium_memzero includes
+ * this header in place of sodium.h, and links with libhunkravy in place of libsodium.
  *
- * As in libsodium:
+ * The same as in libsodium:
  *
  * - Tags have 32 bytes; in the combined form the tag is after the ciphertext. The bytes are the same as
  *   libsodium's.
  * - Message and ciphertext may be the same buffer, and must not overlap otherwise.
- * - A decryption that is refused returns -1 and leaves zeros in the place of the message; if `m` is null, a
+ * - A decryption that fails returns -1 and leaves zeros in the place of the message; if `m` is null, a
  *   decryption verifies the tag and writes nothing.
- * - A parameter whose name ends in `_p` is null or points to a length, which the call sets. After a refused
- *   decryption the length is 0.
+ * - A parameter whose name ends in `_p` is null or points to a length, which the function sets. After a
+ *   decryption that fails the length is 0.
  * - On more than crypto_aead_.._MESSAGEBYTES_MAX bytes encryption ends the program, and decryption returns -1.
  * - Never encrypt two messages with the same key and nonce.
  *
- * What differs:
+ * Different from libsodium:
  *
  * - The processor's AES instructions are not used. Nor are look-up tables.
  * - An output buffer must not overlap the key, the nonce, the associated data or, in the detached form, the
  *   tag.
- * - The calls are inline: there is no symbol of libsodium's names to link with. A source file includes this
+ * - The functions are inline: there is no symbol of libsodium's names to link with. A source file includes this
  *   header or sodium.h, and not both; in one program different files may.
- * - Random bytes come from getrandom. There is no call to replace their source.
+ * - Random bytes come from getrandom. There is no function to replace their source.
  *
- * The functions of both variants are over hunkravy_sodium_encrypt and the other three below, whose comments say
- * what each does. `nsec` is not used.
+ * `nsec` is not used.
  */
 #ifndef SODIUM_COMPAT_H
 #define SODIUM_COMPAT_H

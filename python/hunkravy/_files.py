@@ -96,7 +96,7 @@ class SealedWriter(Sealed):
     without an exception. Otherwise it does not open: after an exception in the block or of a method, or if the writer
     is dropped. `file` is not closed.
 
-    Bytes are written in pieces of 65,536. The last piece is written by `close`, and not by `flush`. In a `with` block
+    Bytes are written in pieces of 65,536. `close` writes the last piece, and `flush` does not. In a `with` block
     `close` takes effect at its end, so an `io.TextIOWrapper` inside it may close the writer.
     """
 
@@ -359,7 +359,7 @@ class SealedReader(Sealed):
         return len(part)
 
     def _read_record(self, length: int) -> None:
-        """Reads until the record has so many bytes, or the file ends. Memory is taken as bytes come.
+        """Reads until the record has this many bytes, or the file ends. Memory is taken as bytes come.
 
         After an exception of the file it can be called again.
         """

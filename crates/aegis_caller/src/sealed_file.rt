@@ -31,7 +31,7 @@ pub fn seal_text<A: Allocator + Copy>(
     Ok(file)
 }
 
-/// Opens a file, and returns its text. An intact file is refused only if memory runs out.
+/// Opens a file, and returns its text. An intact file fails only if memory runs out.
 pub fn open_text<A: Allocator + Copy>(
     alloc: A,
     key: &Key,
@@ -53,7 +53,7 @@ pub fn open_text<A: Allocator + Copy>(
 
 /// Opens a part of a text, and returns it: `records` are the bytes of the file from the record at the part's position
 /// on. They begin with at least one record that is sealed at that position, and the part is that of these records'
-/// messages. If they are those of a text, it is the part of that text, and they are refused only if memory runs out.
+/// messages. If they are those of a text, it is the part of that text, and opening fails only if memory runs out.
 pub fn open_part<A: Allocator + Copy>(
     alloc: A,
     key: &Key,
@@ -82,8 +82,8 @@ pub fn open_part<A: Allocator + Copy>(
     Ok(part)
 }
 
-/// Seals the text of a file anew under another key and a new prefix, and returns the new file. An intact file is
-/// refused only if memory runs out.
+/// Seals the text of a file anew under another key and a new prefix, and returns the new file. An intact file fails
+/// only if memory runs out.
 pub fn rekey_file<A: Allocator + Copy>(
     alloc: A,
     key: &Key,

@@ -147,7 +147,7 @@ fn a_tag_of_another_length_is_refused() {
     }
 }
 
-/// What is erased after a wrong tag is the whole message or nothing.
+/// After a wrong tag the whole message is erased, or nothing.
 #[test]
 fn a_message_of_another_length_is_refused() {
     for variant in &VARIANTS {
@@ -244,7 +244,7 @@ fn a_mac_goes_on_after_its_end() {
     }
 }
 
-/// Bytes that stand for nothing: each call returns.
+/// Bytes of no state: each call returns.
 #[test]
 fn a_state_of_any_bytes_is_safe() {
     for variant in &VARIANTS {

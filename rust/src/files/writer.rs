@@ -106,7 +106,7 @@ impl<W: Write> SealedWriter<W> {
 }
 
 impl<W: Write> Write for SealedWriter<W> {
-    /// Adds bytes to the current piece, as many as fit, and writes the piece if it is full.
+    /// Adds bytes to the current piece until it is full, and then writes the piece.
     fn write(&mut self, data: &[u8]) -> io::Result<usize> {
         self.check()?;
         let count = data.len().min(PIECE_BYTES - self.filled);

@@ -1,4 +1,4 @@
-//! The algorithm of a file, as a type and as a value.
+//! The algorithm of a file: a type and a value.
 
 pub use crate::Variant as Algorithm;
 pub use crate::aegis128l::Algorithm as Aegis128L;

@@ -102,9 +102,13 @@ impl<A: Algorithm, R: RafRng, J: JournalChoice> RafBuilder<A, R, J> {
     ///
     /// # Errors
     ///
-    /// Nothing was changed after [`Error::ChunkSize`], an error of the source of random bytes, [`Error::Locked`],
-    /// [`Error::Moved`], [`Error::Journal`] if the journal is not empty, or [`io::ErrorKind::AlreadyExists`] if `io` is not empty
-    /// and [`truncate`](Self::truncate) was not set. Other errors are [`Error::Io`].
+    /// These errors change nothing:
+    /// - [`Error::ChunkSize`], and errors of the source of random bytes;
+    /// - [`Error::Locked`] and [`Error::Moved`];
+    /// - [`Error::Journal`]: the journal is not empty;
+    /// - [`io::ErrorKind::AlreadyExists`]: `io` is not empty, and [`truncate`](Self::truncate) was not set.
+    ///
+    /// Other errors are [`Error::Io`].
     pub fn create<I: RafIo>(mut self, io: I, key: &A::Key) -> Result<Raf<A, I, R, J::Journal>> {
         let draws = self.draw()?;
         self.begin(io, key, &draws)
@@ -117,9 +121,12 @@ impl<A: Algorithm, R: RafRng, J: JournalChoice> RafBuilder<A, R, J> {
     ///
     /// # Errors
     ///
-    /// Nothing was changed after [`Error::Locked`], [`Error::Moved`], [`Error::Header`] if there is no header of this algorithm and
-    /// key, or [`Error::Journal`] if the journal belongs to another file or to another state of this one, or is no journal. Only
-    /// an empty journal beside the file may have been removed. After [`Error::Io`] nothing is lost: open the file again.
+    /// These errors change nothing, but may remove an empty journal:
+    /// - [`Error::Locked`] and [`Error::Moved`];
+    /// - [`Error::Header`]: there is no header of this algorithm and key;
+    /// - [`Error::Journal`]: the journal belongs to another file or to another state of this one, or is no journal.
+    ///
+    /// After [`Error::Io`] nothing is lost: open the file again.
     pub fn open<I: RafIo>(self, mut io: I, key: &A::Key) -> Result<Raf<A, I, R, J::Journal>> {
         let mut builder = self.choose(&io);
         // Whoever has just made a file locks it next, and must not find it locked.
@@ -240,8 +247,8 @@ impl<A: Algorithm, R: RafRng, J: RafIo> RafBuilder<A, R, J> {
     }
 }
 
-/// Returns an error if there is a journal of the file at a path that is to be created: [`Error::Locked`] if the file is
-/// open elsewhere, since the journal is then that of a commit that is being written.
+/// Returns an error if a file that is to be created has a journal: [`Error::Locked`] if the file is open elsewhere. Its
+/// journal then belongs to a running commit.
 fn check_no_journal(path: &Path) -> Result<()> {
     let mut journal = JournalFile::at(Some(journal_path(path)?));
     if matches!(journal.get_size(), Ok(0)) {

@@ -10,7 +10,7 @@ use std::io::{self, ErrorKind};
 /// The number of bytes that a page takes beside its text, at most.
 const ADDED_BYTES: u64 = 128;
 
-/// Returns a vector with room for so many bytes, or an error if memory runs out.
+/// Returns a vector with room for this number of bytes, or an error if memory runs out.
 fn with_room(bytes: usize) -> io::Result<Vec<u8>> {
     let mut vector = Vec::new();
     let reserved = vector.try_reserve_exact(bytes);
@@ -38,7 +38,7 @@ impl Changes {
         self.0.get(&number).map(|text| &*text.0)
     }
 
-    /// Returns an error if there is no memory for so many pages of texts of this length.
+    /// Returns an error if there is no memory for this number of pages of texts of this length.
     pub fn check_room(pages: u64, text_bytes: u64) -> io::Result<()> {
         let bytes = pages.saturating_mul(text_bytes + ADDED_BYTES);
         let bytes = usize::try_from(bytes).map_err(|_| ErrorKind::OutOfMemory)?;

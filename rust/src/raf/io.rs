@@ -224,9 +224,9 @@ impl RafIo for NoJournal {
 /// - ACLs, and users and groups that a user namespace hides, are not checked. Users who may write the journal through them can make
 ///   a crash leave some of the changes of a commit.
 ///
-/// A journal is rejected with [`io::ErrorKind::InvalidData`], and nothing is changed, if it is a link or no file, if it has several
-/// names (hard links), or if a user may write it who may not write the file, by owner, group and mode. The owner of a file counts
-/// as a member of its group.
+/// A journal is rejected with [`io::ErrorKind::InvalidData`], and nothing is changed, in three cases: it is a link or no file; it has
+/// several names (hard links); a user may write it who may not write the file, by owner, group and mode. The owner of a file
+/// counts as a member of its group.
 ///
 /// A file of this name with up to 33 bytes may be the rest of a journal after a crash. Opening removes it, and a commit removes an
 /// empty one. If an empty one cannot be removed, opening ignores it, and a commit fails with the changes still in memory.
@@ -291,8 +291,8 @@ fn journal_at(path: &Path) -> io::Result<Option<Metadata>> {
     }
 }
 
-/// Removes an empty journal, and returns what is then at the path. One that cannot be removed is an error if another is to be
-/// made: its maker could write it. The file of the journal must be locked.
+/// Removes an empty journal, and returns what is then at the path. If `create` is set, an empty journal that cannot be removed
+/// is an error, because its owner could write it. The file of the journal must be locked.
 fn left_at(path: &Path, create: bool) -> io::Result<Option<Metadata>> {
     match found_at(path)? {
         Some(found) if is_empty(&found) => match fs::remove_file(path) {
@@ -574,7 +574,7 @@ mod tests {
         assert!(sync_folder(Path::new("file")).is_ok());
     }
 
-    /// A lock is kept by the process that has it, whatever a copy of it in another one drops.
+    /// A process keeps its lock when a copy of it in another process is dropped.
     #[test]
     fn locks_of_another_process() {
         let path = std::env::temp_dir().join(format!("hunkravy-locks-{}", std::process::id()));
@@ -590,7 +590,7 @@ mod tests {
         fs::remove_file(&path).unwrap();
     }
 
-    /// A journal gets the mode and the owner of its file, and is refused if others may write it, or it is another user's.
+    /// A journal gets the mode and the owner of its file. It is rejected if others may write it, or if another user owns it.
     #[test]
     fn modes() {
         let path = std::env::temp_dir().join(format!("hunkravy-modes-{}", std::process::id()));

@@ -10,7 +10,7 @@ use std::io;
 
 /// Completes a commit that a crash or an error interrupted, or leaves out all of it. Returns the header of the file.
 ///
-/// - A whole journal under this key is written to the file and emptied, if the file has no header, or if its header is the
+/// - A complete journal under this key is written to the file and emptied. The file has no header then, or its header is the
 ///   first or the last one of the commit, byte for byte.
 /// - A torn journal is emptied if the file has a header and the journal begins as those of this file do, or has no record.
 /// - Otherwise nothing is changed, and the error is [`Error::Journal`] or [`Error::Header`].
