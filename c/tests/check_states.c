@@ -259,51 +259,65 @@ static void check_macs(const struct message *given)
 
 /* ---- States that are refused, and states of random bytes */
 
+/* A buffer, another and a tag, filled before a call that is refused. */
+struct filled {
+    uint8_t bytes[64], out[64], tag[TAG_BYTES];
+};
+
+static struct filled filled(void)
+{
+    struct filled it;
+    memset(it.bytes, 0x55, sizeof it.bytes);
+    memset(it.out, 0x66, sizeof it.out);
+    memset(it.tag, 0x77, sizeof it.tag);
+    return it;
+}
+
+/* The state and the buffers are as they were. */
+static void check_is_unchanged(const hunkravy_state *st, const hunkravy_state *old,
+                               const struct filled *it)
+{
+    HOLDS(all_are(it->bytes, sizeof it->bytes, 0x55) && all_are(it->out, sizeof it->out, 0x66));
+    HOLDS(all_are(it->tag, sizeof it->tag, 0x77) && memcmp(st, old, sizeof *st) == 0);
+}
+
 /* Each encrypting call refuses the state, and writes nothing. */
 static void check_is_not_encrypting(hunkravy_state st)
 {
     const hunkravy_state old = st;
-    uint8_t bytes[64], out[64], tag[TAG_BYTES];
+    struct filled it = filled();
 
-    memset(bytes, 0x55, sizeof bytes);
-    memset(out, 0x66, sizeof out);
-    memset(tag, 0x77, sizeof tag);
-    HOLDS(hunkravy_state_encrypt_in_place(&st, bytes, 64) == HUNKRAVY_WRONG_STATE);
+    HOLDS(hunkravy_state_encrypt_in_place(&st, it.bytes, 64) == HUNKRAVY_WRONG_STATE);
     HOLDS(hunkravy_state_encrypt_in_place(&st, NULL, 0) == HUNKRAVY_WRONG_STATE);
-    HOLDS(hunkravy_state_encrypt(&st, out, bytes, 64) == HUNKRAVY_WRONG_STATE);
-    HOLDS(hunkravy_state_encrypt_final(&st, tag, 16) == HUNKRAVY_WRONG_STATE);
-    HOLDS(all_are(bytes, 64, 0x55) && all_are(out, 64, 0x66) && all_are(tag, TAG_BYTES, 0x77));
-    HOLDS(memcmp(&st, &old, sizeof st) == 0);
+    HOLDS(hunkravy_state_encrypt(&st, it.out, it.bytes, 64) == HUNKRAVY_WRONG_STATE);
+    HOLDS(hunkravy_state_encrypt_final(&st, it.tag, 16) == HUNKRAVY_WRONG_STATE);
+    HOLDS(hunkravy_state_encrypt_final(&st, it.tag, 17) == HUNKRAVY_WRONG_STATE);
+    check_is_unchanged(&st, &old, &it);
 }
 
 static void check_is_not_decrypting(hunkravy_state st)
 {
     const hunkravy_state old = st;
-    uint8_t bytes[64], out[64], tag[TAG_BYTES];
+    struct filled it = filled();
 
-    memset(bytes, 0x55, sizeof bytes);
-    memset(out, 0x66, sizeof out);
-    memset(tag, 0x77, sizeof tag);
-    HOLDS(hunkravy_state_decrypt_check(&st, bytes, 64) == HUNKRAVY_WRONG_STATE);
-    HOLDS(hunkravy_state_decrypt_in_place_unverified(&st, bytes, 64) == HUNKRAVY_WRONG_STATE);
+    HOLDS(hunkravy_state_decrypt_check(&st, it.bytes, 64) == HUNKRAVY_WRONG_STATE);
+    HOLDS(hunkravy_state_decrypt_in_place_unverified(&st, it.bytes, 64) == HUNKRAVY_WRONG_STATE);
     HOLDS(hunkravy_state_decrypt_in_place_unverified(&st, NULL, 0) == HUNKRAVY_WRONG_STATE);
-    HOLDS(hunkravy_state_decrypt_unverified(&st, out, bytes, 64) == HUNKRAVY_WRONG_STATE);
-    HOLDS(hunkravy_state_decrypt_final(&st, out, 64, tag, 32) == HUNKRAVY_WRONG_STATE);
-    HOLDS(all_are(bytes, 64, 0x55) && all_are(out, 64, 0x66) && all_are(tag, TAG_BYTES, 0x77));
-    HOLDS(memcmp(&st, &old, sizeof st) == 0);
+    HOLDS(hunkravy_state_decrypt_unverified(&st, it.out, it.bytes, 64) == HUNKRAVY_WRONG_STATE);
+    HOLDS(hunkravy_state_decrypt_final(&st, it.out, 64, it.tag, 32) == HUNKRAVY_WRONG_STATE);
+    check_is_unchanged(&st, &old, &it);
 }
 
 static void check_is_no_mac(hunkravy_state st)
 {
     const hunkravy_state old = st;
-    uint8_t bytes[64] = {0}, tag[TAG_BYTES];
+    struct filled it = filled();
 
-    memset(tag, 0x77, sizeof tag);
-    HOLDS(hunkravy_mac_update(&st, bytes, 64) == HUNKRAVY_WRONG_STATE);
+    HOLDS(hunkravy_mac_update(&st, it.bytes, 64) == HUNKRAVY_WRONG_STATE);
     HOLDS(hunkravy_mac_update(&st, NULL, 0) == HUNKRAVY_WRONG_STATE);
-    HOLDS(hunkravy_mac_final(&st, tag, 32) == HUNKRAVY_WRONG_STATE);
-    HOLDS(hunkravy_mac_final_verify(&st, tag, 16) == HUNKRAVY_WRONG_STATE);
-    HOLDS(all_are(tag, TAG_BYTES, 0x77) && memcmp(&st, &old, sizeof st) == 0);
+    HOLDS(hunkravy_mac_final(&st, it.tag, 32) == HUNKRAVY_WRONG_STATE);
+    HOLDS(hunkravy_mac_final_verify(&st, it.tag, 16) == HUNKRAVY_WRONG_STATE);
+    check_is_unchanged(&st, &old, &it);
 }
 
 /* Each call refuses the state, and writes nothing. */
