@@ -80,7 +80,7 @@ class Scene(unittest.TestCase):
 
     def left_out(self, what):
         """Leaves the rest of the test out, with a line that the gate counts."""
-        print(f"left out: {what}", flush=True)
+        print(f"\nleft out: {what}", flush=True)
         self.skipTest(what)
 
     def ended(self, command, found, printed, status, says=(), lacks=()):
