@@ -184,7 +184,7 @@ impl<'a> Failure<'a> {
     }
 }
 
-/// What is known of a sealed file when an error is found in it.
+/// The state of a sealed file when an error is found in it.
 #[derive(Clone, Copy)]
 pub struct Seen {
     /// Whether its header is that of version 1.
@@ -209,7 +209,7 @@ impl Seen {
         next: 0,
     };
 
-    /// What is known of a whole file, of which so many bytes were read, and so many bytes of its contents verified.
+    /// A whole file after `read` bytes of it were read, and `verified` bytes of its contents were verified.
     pub fn whole(is_first_version: bool, read: u64, verified: u64) -> Self {
         Seen {
             is_first_version,
@@ -241,7 +241,7 @@ pub enum PartError {
     File(FileError),
     /// The header is that of version 1.
     FirstVersion,
-    /// The part begins after the last byte of the contents, which have so many bytes.
+    /// The part begins after the last byte of the contents. Their length is the field.
     PastBytes(u64),
     /// The record in which the part begins was found, and another was there when it was read.
     Changed,

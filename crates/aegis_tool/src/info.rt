@@ -1,4 +1,4 @@
-//! What can be seen of a sealed file without its key.
+//! The properties of a sealed file that are visible without its key.
 
 use crate::command::{Place, Transfer};
 use crate::failure::{Failure, PartError, printed};
@@ -27,7 +27,7 @@ fn missing_in<R: Read>(input: &mut R, buffer: &mut [u8]) -> Result<u64, FileErro
     Ok((buffer.len() - fill(input, buffer)?) as u64)
 }
 
-// Reads so many bytes and discards them. Returns how many are missing.
+// Reads `count` bytes and discards them. Returns how many are missing.
 fn skip<R: Read>(input: &mut R, count: usize) -> Result<u64, FileError> {
     let mut buffer = [0; 4096];
     let mut missing: u64 = 0;

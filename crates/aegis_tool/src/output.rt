@@ -74,7 +74,7 @@ fn name_or<'a>(place: Place<'a>, standard: &'a str) -> &'a str {
     }
 }
 
-/// Returns an error if the output is the input or one of the key files, by whatever names.
+/// Returns an error if the output is the input or one of the key files, under any of their names.
 pub fn refuse_inputs<'a>(
     rt: &HostRuntime,
     paths: Transfer<'a>,
@@ -103,7 +103,7 @@ pub fn refuse_inputs<'a>(
     Ok(())
 }
 
-/// Returns whether the output is a terminal, or names a character device, as terminals are.
+/// Returns whether the output is a terminal or any other character device.
 pub fn is_terminal(rt: &HostRuntime, output: Place<'_>) -> bool {
     match output {
         Place::File(name) => match fs::metadata(rt, name) {

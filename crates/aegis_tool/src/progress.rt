@@ -92,7 +92,7 @@ impl<'a, R: Read + Drop> Counted<'a, R> {
 }
 
 impl<R: Read + Drop> Read for Counted<'_, R> {
-    // Of a file it is not known anyway.
+    // What a file has left is unknown in any case.
     ghost remaining = { λ _. None };
 
     fn read(&mut self, buf: &mut [u8]) -> io::Result<usize> {
@@ -102,7 +102,9 @@ impl<R: Read + Drop> Read for Counted<'_, R> {
         let count = self.inner.read(buf)?;
         self.has_ended = count == 0;
         for (place, byte) in (self.read..28).zip(buf[..count].iter()) {
-            self.first_bytes[place as usize] = *byte;
+            if let Some(first) = self.first_bytes.get_mut(place as usize) {
+                *first = *byte;
+            }
         }
         self.read = self.read.saturating_add(count as u64);
         if self.read.saturating_sub(self.said) >= STEP {

@@ -6,8 +6,8 @@ use std::{io, str};
 // The most bytes that a character has.
 const CHARACTER_BYTES: usize = 4;
 
-/// A writer of text alone. What is no UTF-8 or has a character that a terminal acts on fails with
-/// [`ErrorKind::InvalidData`], and is not written. A character is written once all of its bytes have come.
+/// A writer of text alone. Bytes that are no UTF-8, and characters that a terminal acts on, fail with
+/// [`ErrorKind::InvalidData`], and are not written. A character is written once all of its bytes have come.
 #[derive(Drop)]
 pub struct TextOnly<W: Write + Drop> {
     inner: W,

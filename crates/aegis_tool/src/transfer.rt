@@ -80,7 +80,7 @@ fn carry<R: Read, W: Write>(
     Ok(())
 }
 
-// What is known of a sealed file after a task has failed, which has written so many bytes.
+// The state of a sealed file after a task has failed that wrote `written` bytes.
 fn seen<R: Read + Drop>(task: &Task, input: &Counted<'_, R>, written: u64) -> Seen {
     match task {
         Task::Open { .. } => Seen::whole(input.is_first_version(), input.count(), written),
@@ -242,7 +242,7 @@ fn draw_prefix<'a>(rt: &HostRuntime) -> Result<[u8; 24], Failure<'a>> {
     }
 }
 
-/// Seals a file under a prefix that is drawn at random.
+/// Seals a file under a random prefix.
 pub fn seal<'a>(rt: &HostRuntime, paths: Transfer<'a>) -> Result<(), Stopped<'a>> {
     let key = key_of(rt, paths)?;
     refuse_inputs(rt, paths, &[&key])?;
@@ -284,7 +284,7 @@ pub fn open_part<'a>(rt: &HostRuntime, span: Span, paths: Transfer<'a>) -> Resul
     }
 }
 
-/// Seals the text of a sealed file under another key and a prefix that is drawn at random.
+/// Seals the contents of a sealed file under another key and a random prefix.
 pub fn rekey<'a>(
     rt: &HostRuntime,
     new_key: &'a str,
@@ -358,7 +358,7 @@ fn key_exists<'a>(failure: Failure<'a>) -> Failure<'a> {
     }
 }
 
-/// Writes a key that is drawn at random.
+/// Writes a random key.
 pub fn keygen<'a>(rt: &HostRuntime, output: Place<'a>) -> Result<(), Failure<'a>> {
     refuse_terminal(rt, output)?;
     let text = key::draw(rt)?;

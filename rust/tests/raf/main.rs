@@ -9,5 +9,7 @@ mod damage;
 mod formats;
 mod model;
 mod paths;
+#[path = "../sealed/random.rs"]
+mod random;
 mod samples;
 mod support;

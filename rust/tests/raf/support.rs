@@ -1,5 +1,6 @@
-//! What the tests share: disks that a crash tears, and numbers that look random.
+//! Shared by the tests: disks that a crash tears, and numbers that look random.
 
+pub use crate::random::Random;
 use hunkravy::raf::{Error, RafIo, RafRng, Result};
 use std::cell::RefCell;
 use std::io;
@@ -16,27 +17,6 @@ pub fn front_of_another() -> [u8; 33] {
     let mut front = [0x6d; 33];
     front[..9].copy_from_slice(b"AGPJ\x21\0\x01\0\0");
     front
-}
-
-/// Numbers that look random, from a fixed seed.
-#[derive(Clone)]
-pub struct Random(pub u64);
-
-impl Random {
-    pub fn next(&mut self) -> u64 {
-        self.0 ^= self.0 << 13;
-        self.0 ^= self.0 >> 7;
-        self.0 ^= self.0 << 17;
-        self.0
-    }
-
-    pub fn below(&mut self, bound: u64) -> u64 {
-        self.next() % bound
-    }
-
-    pub fn bytes(&mut self, count: usize) -> Vec<u8> {
-        (0..count).map(|_| (self.next() >> 32) as u8).collect()
-    }
 }
 
 impl RafRng for Random {

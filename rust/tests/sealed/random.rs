@@ -1,5 +1,6 @@
 //! Numbers that look random, from a fixed seed.
 
+#[derive(Clone)]
 pub struct Random(pub u64);
 
 impl Random {
