@@ -30,7 +30,7 @@ if ls "$dist"/*aarch64* > /dev/null 2>&1; then
     diff dist/contents.txt "$work/contents" || fail 'what is packed is not what dist/contents.txt lists'
 else
     echo 'left out: the archive for ARM, since aarch64-linux-gnu-gcc is not installed'
-    awk '/^== / { arm = /aarch64/ } !arm' dist/contents.txt | diff - "$work/contents" || fail 'what is packed is not what dist/contents.txt lists'
+    awk '/^== / { arm = /aarch64|arm64/ } !arm' dist/contents.txt | diff - "$work/contents" || fail 'what is packed is not what dist/contents.txt lists'
 fi
 
 # Everything, unpacked: the archives, the packages as a system of their own, and the wheel.
