@@ -22,12 +22,16 @@ const FIRST_BYTES: usize = RECORD_BYTES + PIECE_BYTES;
 /// # Errors
 ///
 /// A fault of the file is an error of kind [`ErrorKind::InvalidData`]. It holds the first fault, a
-/// [`records::Error`](crate::records::Error), which [`io::Error::get_ref`] and [`io::Error::downcast`] return. All bytes in
-/// front of the fault were returned. After a fault every function returns it again.
+/// [`records::Error`](crate::records::Error), which [`io::Error::get_ref`] and [`io::Error::downcast`] return. A read that
+/// finds it comes after all bytes in front of it. After a fault every read and every seek returns it again.
 ///
 /// An error of the inner reader, such as [`ErrorKind::WouldBlock`], is returned, and the next read continues. So is
 /// [`ErrorKind::OutOfMemory`]. After [`ErrorKind::Interrupted`] the inner reader is read again. If the inner reader fails in a
-/// seek, the position is unchanged, and every read fails until another seek succeeds.
+/// seek, the position is unchanged. Seek again before you read: until then a read may fail, but returns no wrong byte.
+///
+/// # Panics
+///
+/// If an inner reader returns a count that is larger than its buffer.
 ///
 /// # Memory
 ///

@@ -73,6 +73,10 @@ impl<R: Read + Seek> SealedReader<R> {
         if !is_open {
             let position = self.find(place)?;
             self.open_at(position)?.map_err(|fault| self.fail(fault))?;
+            // The heads were not verified, and the bytes may have changed since they were read.
+            if !self.is_open_at(place) {
+                return Err(self.fail(Error::Damaged(position.number)));
+            }
         }
         self.is_lost = false;
         Ok(())
@@ -155,8 +159,8 @@ impl<R: Read + Seek> SealedReader<R> {
 }
 
 impl<R: Read + Seek> Seek for SealedReader<R> {
-    /// Moves to a place of the contents, and verifies the record that has it. [`SeekFrom::End`] verifies the last record too, and
-    /// that nothing follows it.
+    /// Moves to a place of the contents, and verifies the record that has it, unless it is the current place.
+    /// [`SeekFrom::End`] verifies the last record too, and that nothing follows it.
     fn seek(&mut self, to: SeekFrom) -> io::Result<u64> {
         self.check()?;
         let before = self.position;

@@ -72,7 +72,8 @@ impl<W: Write> SealedWriter<W> {
     ///
     /// # Errors
     ///
-    /// An error of the inner writer, now or earlier. Unless flushing it failed, the file does not open.
+    /// An error of the inner writer, now or earlier. Then the file does not open, unless flushing failed, or the inner writer
+    /// keeps bytes after an error and writes them later.
     pub fn finish(mut self) -> io::Result<W> {
         self.check()?;
         if self.filled > 0 {

@@ -34,7 +34,8 @@ pub struct OpenedInPlace<'b> {
 ///
 /// The stream is whole only if [`finish`](Self::finish) returns `Ok`. Until then it may be truncated.
 ///
-/// After an error every function returns the same error. So no record is tried again with other bytes.
+/// After an error every function returns the same error. So no record is tried again with other bytes. An exception is
+/// [`Error::Trailing`] after the last record: [`finish`](Self::finish) returns it only for bytes in its argument.
 #[must_use]
 pub struct Opener<'c> {
     records: Records<'c>,

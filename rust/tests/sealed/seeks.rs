@@ -192,6 +192,37 @@ fn seek_fails(file: &[u8], contents: &[u8], to: SeekFrom, calls: usize) -> bool 
     sought.is_err()
 }
 
+/// A reader whose first read of the flag of record 0 says that the record is the last one.
+struct Flips(Cursor<Vec<u8>>, bool);
+
+impl Read for Flips {
+    fn read(&mut self, buf: &mut [u8]) -> Result<usize> {
+        let is_flag = self.0.position() == 28;
+        let count = self.0.read(buf)?;
+        if is_flag && count > 0 && !std::mem::replace(&mut self.1, true) {
+            buf[0] = 1;
+        }
+        Ok(count)
+    }
+}
+
+impl Seek for Flips {
+    fn seek(&mut self, to: SeekFrom) -> Result<u64> {
+        self.0.seek(to)
+    }
+}
+
+/// The flag is read twice, first with no authentication. If it changes meanwhile, a truncated file is not taken for a whole one.
+#[test]
+fn flags_that_change() {
+    let mut file = sealed_in_pieces(&key(), &PREFIX, &[7; 200_000]);
+    file.truncate(28 + WHOLE_BYTES);
+    let mut reader = SealedReader::new(Flips(Cursor::new(file), false), &key());
+    let error = reader.seek(SeekFrom::End(0)).unwrap_err();
+    assert_eq!(error.kind(), ErrorKind::InvalidData);
+    assert!(reader.read(&mut [0]).is_err());
+}
+
 /// Counts the bytes that are read.
 struct Counted<'a>(Cursor<&'a [u8]>, usize);
 
