@@ -2,6 +2,7 @@
 
 from __future__ import annotations
 
+import operator
 import os
 from typing import TYPE_CHECKING, Optional
 
@@ -28,8 +29,8 @@ class Cipher(variants.Variant, variants.Secret):
     __slots__ = ("_cipher", "_tag_length")
 
     def __init__(self, key: ReadableBuffer, tag_length: int = 32) -> None:
-        self._cipher = _native.Cipher(self._VARIANT, key, tag_length)
-        self._tag_length = int(tag_length)
+        self._tag_length = operator.index(tag_length)
+        self._cipher = _native.Cipher(self._VARIANT, key, self._tag_length)
 
     @classmethod
     def generate_key(cls) -> bytes:

@@ -3,6 +3,7 @@
 from __future__ import annotations
 
 import io
+import operator
 import os
 import re
 import threading
@@ -80,6 +81,9 @@ def read_key(path: Union[str, os.PathLike[str]]) -> bytes:
 class Sealed(variants.Secret, RawFile):  # type: ignore[misc]
     """What readers and writers share: the file beneath, and a lock, so that threads take turns."""
 
+    # For the `close` of an object whose `__init__` has raised.
+    _lock = threading.Lock()
+
     def __init__(self, file: BinaryIO) -> None:
         self._file = file
         self._lock = threading.Lock()
@@ -93,8 +97,8 @@ class SealedWriter(Sealed):
     """Writes a sealed file to `file`, a file object that is open for writing bytes.
 
     `key` has 32 bytes. The file is complete once `close` has returned, or a `with` block of the writer has ended
-    without an exception. Otherwise it does not open: after an exception in the block or of a method, or if the writer
-    is dropped. `file` is not closed.
+    without an exception. After an exception in the block or of `write`, or if the writer is dropped, it does not open.
+    If completing it raises an exception, it may be complete or not. `file` is not closed.
 
     Bytes are written in pieces of 65,536. `close` writes the last piece, and `flush` does not. In a `with` block
     `close` takes effect at its end, so an `io.TextIOWrapper` inside it may close the writer.
@@ -151,6 +155,8 @@ class SealedWriter(Sealed):
 
     def __enter__(self) -> Self:
         self._check_open()
+        if self._is_entered:
+            raise RuntimeError("the writer has a `with` block already")
         self._is_entered = True
         return self
 
@@ -266,6 +272,8 @@ class SealedReader(Sealed):
         Returns None if `file` does not block and has no bytes yet.
         """
         with self._lock, memoryview(buffer) as view, view.cast("B") as out:
+            if out.readonly:
+                raise TypeError("buffer must be writable")
             self._begin_call()
             filled = 0
             try:
@@ -273,7 +281,7 @@ class SealedReader(Sealed):
                     filled += self._copy(out[filled:])
             except (SealedFileError, OSError) as error:
                 # After an error of `file` the next call goes on.
-                self._error = error if isinstance(error, SealedFileError) else None
+                self._error = SealedFileError(*error.args) if isinstance(error, SealedFileError) else None
                 if filled == 0 and isinstance(error, BlockingIOError):
                     return None
                 if filled == 0:
@@ -294,6 +302,7 @@ class SealedReader(Sealed):
 
         Verifies the record that has the position, and with `os.SEEK_END` the last one.
         """
+        offset = operator.index(offset)
         with self._lock:
             if not self.seekable():
                 raise io.UnsupportedOperation("the file cannot seek")
@@ -305,7 +314,7 @@ class SealedReader(Sealed):
                 position = self._position if sought < 0 else sought
                 self._go_to(position)
             except SealedFileError as error:
-                self._error = error
+                self._error = SealedFileError(*error.args)
                 raise
             self._position = position
             self._error = None
@@ -326,7 +335,8 @@ class SealedReader(Sealed):
         """Raises the error of an earlier call. If an exception ends this one anywhere, that stays an error."""
         self._check_open()
         if self._error is not None:
-            raise self._error
+            # Another one each time, since a raised one keeps the frames, and what they hold.
+            raise type(self._error)(*self._error.args)
         self._error = OSError("an earlier call of the reader was interrupted")
 
     def _fault(self, cause: str) -> SealedFileError:

@@ -2,6 +2,7 @@
 
 from __future__ import annotations
 
+import operator
 from copy import deepcopy
 from typing import TYPE_CHECKING, Any, Optional
 
@@ -37,9 +38,9 @@ class Mac(variants.Variant, variants.Secret):
         nonce: Optional[ReadableBuffer] = None,
         tag_length: int = 32,
     ) -> None:
-        cipher = _native.Cipher(self._VARIANT, key, tag_length)
+        self._digest_size = operator.index(tag_length)
+        cipher = _native.Cipher(self._VARIANT, key, self._digest_size)
         self._state = cipher.begin(bytes(self.NONCE_BYTES) if nonce is None else nonce)
-        self._digest_size = int(tag_length)
         if message is not None:
             self._state.mac_update(message)
 

@@ -240,16 +240,19 @@ static int finish(State *self, const Py_buffer *tag, uint8_t *out)
 static PyObject *decrypt_final(State *self, const Py_buffer *tag)
 {
     uint8_t *out;
-    PyObject *message = NULL;
+    int code = HUNKRAVY_OK;
+    if (!has_length("the tag", tag->len, self->tag_bytes)) {
+        return NULL;
+    }
     PyThreadState *released = lock(self, 0);
-    if (has_length("the tag", tag->len, self->tag_bytes) && (message = new_bytes(self->length, &out)) != NULL) {
+    PyObject *message = new_bytes(self->length, &out);
+    if (message != NULL) {
         PyThreadState *working = begin_work(self->length);
-        int code = finish(self, tag, out);
+        code = finish(self, tag, out);
         end_work(working);
-        message = result_of(self, code, message);
     }
     unlock(self, released);
-    return message;
+    return result_of(self, code, message);
 }
 
 /* Takes in the next bytes of the input of a MAC. */
@@ -295,20 +298,24 @@ STATE_METHOD(mac_verify)
 static PyObject *state_final(PyObject *object, PyObject *none)
 {
     State *self = (State *)object;
-    uint8_t tag[MOST_TAG_BYTES];
+    uint8_t *tag;
+    PyObject *result = new_bytes(self->tag_bytes, &tag);
     (void)none;
+    if (result == NULL) {
+        return NULL;
+    }
     PyThreadState *released = lock(self, 0);
     int code = self->is_mac ? hunkravy_mac_final(&self->state, tag, self->tag_bytes)
                             : hunkravy_state_encrypt_final(&self->state, tag, self->tag_bytes);
     unlock(self, released);
-    return code == HUNKRAVY_OK ? PyBytes_FromStringAndSize((const char *)tag, (Py_ssize_t)self->tag_bytes)
-                               : result_of(self, code, NULL);
+    return result_of(self, code, result);
 }
 
 /* Returns a MAC with a copy of the state, and a lock of its own. */
 static PyObject *state_mac_copy(PyObject *object, PyObject *none)
 {
-    State *self = (State *)object, *other = new_object(Py_TYPE(object));
+    State *self = (State *)object;
+    State *other = self->is_mac ? new_object(Py_TYPE(object)) : result_of(self, HUNKRAVY_WRONG_STATE, NULL);
     (void)none;
     if (other != NULL) {
         PyThreadState *released = lock(self, 0);
@@ -395,14 +402,10 @@ static void release(Arguments *arguments)
 static bool check(Cipher *self, const Arguments *arguments, bool is_decrypted, size_t *length)
 {
     size_t given = (size_t)arguments->data.len;
-    int code = HUNKRAVY_OK;
+    int code = is_decrypted && given < self->tag_bytes ? HUNKRAVY_INVALID_TAG
+        : given > HUNKRAVY_MAX_BYTES ? HUNKRAVY_MESSAGE_TOO_LONG : HUNKRAVY_OK;
     if (!has_length("the nonce", arguments->nonce.len, self->key_bytes)) {
         return false;
-    }
-    if (is_decrypted && given < self->tag_bytes) {
-        code = HUNKRAVY_INVALID_TAG;
-    } else if (given > HUNKRAVY_MAX_BYTES) {
-        code = HUNKRAVY_MESSAGE_TOO_LONG;
     }
     *length = is_decrypted ? given - self->tag_bytes : given + self->tag_bytes;
     result_of(self, code, NULL);
@@ -419,20 +422,17 @@ static int transform(const Cipher *self, const Arguments *arguments, const uint8
     size_t associated_length = (size_t)arguments->associated.len, key_bytes = self->key_bytes;
     size_t length = (size_t)arguments->data.len - (is_decrypted ? self->tag_bytes : 0);
     uint8_t nonce[MOST_KEY_BYTES], tag[MOST_TAG_BYTES];
-    int code;
     copy(nonce, arguments->nonce.buf, key_bytes);
     if (is_decrypted) {
         memcpy(tag, (const uint8_t *)arguments->data.buf + length, self->tag_bytes);
     }
     copy(out, arguments->data.buf, length);
     PyThreadState *released = begin_work(length + associated_length);
-    if (is_decrypted) {
-        code = hunkravy_decrypt_in_place(self->variant, out, length, associated, associated_length, nonce, key_bytes,
-            self->key, key_bytes, tag, self->tag_bytes);
-    } else {
-        code = hunkravy_encrypt_in_place(self->variant, out, length, associated, associated_length, nonce, key_bytes,
-            self->key, key_bytes, out + length, self->tag_bytes);
-    }
+    int code = is_decrypted
+        ? hunkravy_decrypt_in_place(self->variant, out, length, associated, associated_length, nonce, key_bytes,
+              self->key, key_bytes, tag, self->tag_bytes)
+        : hunkravy_encrypt_in_place(self->variant, out, length, associated, associated_length, nonce, key_bytes,
+              self->key, key_bytes, out + length, self->tag_bytes);
     end_work(released);
     return code;
 }
@@ -445,8 +445,7 @@ static PyObject *to_new(Cipher *self, const Arguments *arguments, size_t length,
     if (result == NULL) {
         return NULL;
     }
-    int code = transform(self, arguments, arguments->associated.buf, out, is_decrypted);
-    return result_of(self, code, result);
+    return result_of(self, transform(self, arguments, arguments->associated.buf, out, is_decrypted), result);
 }
 
 /* Transforms to the output, and returns its length. The inputs may lie there, so the associated data are copied too. */
@@ -456,14 +455,16 @@ static PyObject *to_output(Cipher *self, const Arguments *arguments, size_t leng
     if (!has_length("the output buffer", arguments->output.len, length)) {
         return NULL;
     }
-    uint8_t *associated = PyMem_Malloc(associated_length);
+    PyObject *result = PyLong_FromSize_t(length);
+    uint8_t *associated = result == NULL ? NULL : PyMem_Malloc(associated_length);
     if (associated == NULL) {
+        Py_XDECREF(result);
         return PyErr_NoMemory();
     }
     copy(associated, arguments->associated.buf, associated_length);
     int code = transform(self, arguments, associated, arguments->output.buf, is_decrypted);
     PyMem_Free(associated);
-    return result_of(self, code, PyLong_FromSize_t(length));
+    return result_of(self, code, result);
 }
 
 /* The arguments are the nonce, the data, the associated data and perhaps the output. */
@@ -602,7 +603,7 @@ static PyObject *records_begin(PyObject *object, PyObject *given)
 {
     Records *self = (Records *)object;
     uint8_t header[HUNKRAVY_RECORD_HEADER_BYTES];
-    unsigned long long number, before;
+    unsigned long long number = 0, before = 0;
     if (!PyArg_ParseTuple(given, "|KK", &number, &before)) {
         return NULL;
     }

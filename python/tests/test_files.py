@@ -192,6 +192,26 @@ class Damaged(unittest.TestCase):
                     errors += 1
         self.assertGreater(errors, 3000)
 
+    def test_no_error_keeps_what_was_read(self) -> None:
+        file = sealed(bytes(200_000))[:-1]
+        reader = SealedReader(io.BytesIO(file), KEY)
+        errors = []
+        for _ in range(3):
+            with self.assertRaises(SealedFileError) as raised:
+                reader.readall()
+            errors.append(raised.exception)
+        self.assertEqual(len({id(error) for error in errors}), 3)
+        self.assertEqual({error.args for error in errors}, {("truncated", 4)})
+        kept = reader._error
+        self.assertTrue(kept is not None and kept.__traceback__ is None)
+
+    def test_wrong_arguments_of_a_reader(self) -> None:
+        reader = SealedReader(io.BytesIO(sealed(b"contents")), KEY)
+        for wrong in ("x", None, 1.5):
+            self.assertRaises(TypeError, reader.seek, wrong)
+        self.assertRaises(TypeError, reader.readinto, b"abc")
+        self.assertEqual(reader.read(), b"contents")
+
     def test_texts(self) -> None:
         for cause, text in (
             ("header", "the file does not begin with the header of a sealed file"),
@@ -330,6 +350,14 @@ class Writing(unittest.TestCase):
             return True
         self.assertEqual(SealedReader(io.BytesIO(file.file.getvalue()), KEY).read(), bytes(100_000))
         return False
+
+    def test_a_block_in_a_block(self) -> None:
+        file = io.BytesIO()
+        with SealedWriter(file, KEY) as writer:
+            with self.assertRaises(RuntimeError), writer:
+                self.fail("a second block")
+            writer.write(b"contents")
+        self.assertEqual(SealedReader(io.BytesIO(file.getvalue()), KEY).read(), b"contents")
 
     def test_an_error_that_is_ignored(self) -> None:
         file = Slow(most=1 << 20, fails={2: OSError("full")})

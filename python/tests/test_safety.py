@@ -178,6 +178,11 @@ class Begun(unittest.TestCase):
 
 
 class Copies(unittest.TestCase):
+    def test_only_macs_are_copied(self) -> None:
+        cipher = Aegis256(bytes(32))
+        for state in (cipher.encryptor(bytes(32))._state, cipher.decryptor(bytes(32))._state):
+            self.assertRaises(RuntimeError, state.mac_copy)
+
     def test_a_mac_has_a_state_of_its_own(self) -> None:
         expected = Aegis256Mac(KEY, b"the input", tag_length=16).digest()
         copiers: list[Callable[[Aegis256Mac], Any]] = [copy.copy, copy.deepcopy, Aegis256Mac.copy]

@@ -99,7 +99,7 @@ class Example(unittest.TestCase):
 class Found(unittest.TestCase):
     def test_all_tests(self) -> None:
         found = unittest.defaultTestLoader.discover(str(HERE))
-        self.assertEqual(found.countTestCases(), 88)
+        self.assertEqual(found.countTestCases(), 92)
 
 
 if __name__ == "__main__":
