@@ -106,14 +106,29 @@ def typed(option):
     return [f"-{option.short}"] * bool(option.short) + [f"--{option.long}"]
 
 
+def takes_file(option):
+    """Whether an option's value is the name of a file. The others are numbers."""
+    return option.value in ("KEY", "NEW")
+
+
+def numbers(found):
+    """The options whose values are numbers, as they are typed."""
+    options = [option for command in found for option in command.options if option.value and not takes_file(option)]
+    return sorted({word for option in options for word in typed(option)})
+
+
 def bash(found):
-    """The completions for bash."""
-    yield "_hunkravy() {\n    local words=''\n    case ${COMP_WORDS[1]} in"
+    """The completions for bash: commands, options where a dash is typed, no files for a number, and files elsewhere."""
+    yield "_hunkravy() {\n    local word=${COMP_WORDS[COMP_CWORD]} words=''\n    COMPREPLY=()"
+    yield f"    case ${{COMP_WORDS[COMP_CWORD - 1]}} in\n    {' | '.join(numbers(found))})"
+    yield "        compopt +o default\n        return\n        ;;\n    esac"
+    yield f"    if [ \"$COMP_CWORD\" = 1 ]; then\n        words='{' '.join(command.name for command in found)}'"
+    yield "    elif [[ $word == -* ]]; then\n        case ${COMP_WORDS[1]} in"
     for command in found:
         words = [word for option in command.options for word in typed(option)]
-        yield f"    {command.name}) words='{' '.join(words)}' ;;"
-    yield f"    esac\n    [ \"$COMP_CWORD\" != 1 ] || words='{' '.join(command.name for command in found)}'"
-    yield "    COMPREPLY=($(compgen -W \"$words\" -- \"${COMP_WORDS[COMP_CWORD]}\"))\n}"
+        yield f"        {command.name}) words='{' '.join(words)}' ;;"
+    yield "        esac\n    fi"
+    yield "    COMPREPLY=($(compgen -W \"$words\" -- \"$word\"))\n}"
     yield "complete -o default -F _hunkravy hunkravy"
 
 
@@ -124,7 +139,7 @@ def zsh(found):
     yield "shift words\n(( CURRENT-- ))\ncase $words[1] in"
     for command in found:
         words = [
-            f"'{word}[{option.help}]{':file:_files' if option.value else ''}'"
+            f"'{word}[{option.help}]{(':file:_files' if takes_file(option) else ':number: ') if option.value else ''}'"
             for option in command.options
             for word in typed(option)
         ]
@@ -137,7 +152,8 @@ def fish(found):
     for command in found:
         yield f"complete -c hunkravy -n __fish_use_subcommand -f -a {command.name} -d '{command.about}'"
         for option in command.options:
-            words = [f"-s {option.short}"] * bool(option.short) + ["-r"] * bool(option.value)
+            words = [f"-s {option.short}"] * bool(option.short)
+            words += ["-r" if takes_file(option) else "-x"] * bool(option.value)
             yield " ".join([
                 f"complete -c hunkravy -n '__fish_seen_subcommand_from {command.name}' -l {option.long}",
                 *words,

@@ -29,7 +29,14 @@ class Words(Scene):
         os.mkdir("made")
         self.run_of(0, [ROOT / "tools/tool_pages.py", TOOL, VERSION, "made"])
         self.run_of(0, ["diff", "-r", "made", MANUAL])
-        self.run_of(0, ["bash", "-n", MANUAL / "bash"])
+
+    # Commands, options where a dash is typed, files elsewhere, but none for a number.
+    def test_completions_of_bash(self):
+        script = 'compopt() { echo numbers; }; source "$0"; COMP_WORDS=(hunkravy "$@") COMP_CWORD=$#; _hunkravy; echo "${COMPREPLY[*]}"'
+        for words, found in (["se"], "seal\n"), (["open", "--f"], "--from --force\n"), (["open", "-k", ""], "\n"), \
+                (["open", "--from", ""], "numbers\n\n"), (["seal", "-k", "key", "sm"], "\n"):
+            printed = subprocess.check_output(["bash", "-c", script, MANUAL / "bash", *words], text=True)
+            self.assertEqual(printed, found, words)
 
     def test_misuse(self):
         for words in "seal small", "frobnicate", "open -k key --from x sealed out", "open -k key --from 1 - out", \
@@ -37,8 +44,9 @@ class Words(Scene):
             self.tool(2, words)
         self.tool(2, ["seal", "-k", "key", b"small\xff", "out"], "a word of the command line")
         self.run_of(2, [b"\xff", "info", "sealed"], "or the program's own name, is not UTF-8", executable=TOOL)
-        for words in "seal -k key . out", "seal -k key no-such-file out", "seal -k nowhere small out":
+        for words in "seal -k key no-such-file out", "seal -k nowhere small out":
             self.tool(3, words)
+        self.tool(3, "seal -k key . out", r"^hunkravy: \. is a folder: pack it with tar first")
         self.is_missing("out")
         self.no_parts()
 
@@ -139,7 +147,10 @@ class Terminals(Scene):
         self.terminal(0, "$tool seal -k key small -")
         os.truncate("small", 200_000_000)
         self.tool(0, "seal -k key small vast", lacks=".")
-        self.terminal(0, "$tool check -k key vast", "MiB/s")
+        for columns in 30, 80:
+            printed = self.terminal(0, f"stty cols {columns}; $tool check -k key vast", [r"\[#{10}\] 100% \d+ MiB/s", "^190 MiB in"])
+            self.assertLessEqual(max(len(line) for line in re.split(rb"[\r\n]", printed) if b"MiB" in line), 30)
+        self.terminal(0, "$tool check -k key < vast", [r"\d+ MiB, \d+ MiB/s", "^190 MiB in"])
         self.terminal(0, "$tool check --quiet -k key vast", lacks=".")
 
     # Characters of several bytes lie at the end of a piece.

@@ -42,6 +42,8 @@ pub enum Failure<'a> {
     Changed(Name<'a>),
     #[error("{0} cannot be read: {1}")]
     Input(Name<'a>, io::Error),
+    #[error("{0} is a folder: pack it with tar first, as in tar -c {0} | hunkravy seal -k KEY - OUT")]
+    Folder(Name<'a>),
     #[error("{0} cannot be written: {1}")]
     Output(Name<'a>, io::Error),
     #[error("{0} is complete, but its folder cannot be synced, so after a power loss it may be as it was: {1}")]
@@ -127,7 +129,10 @@ impl<'a> Failure<'a> {
     pub fn of_files(error: FileError, input: Place<'a>, output: Place<'a>, seen: Seen) -> Self {
         let input = input.input_name();
         match error {
-            FileError::Read(error) => Failure::Input(input, error),
+            FileError::Read(error) => match error.kind() {
+                io::ErrorKind::IsADirectory => Failure::Folder(input),
+                _ => Failure::Input(input, error),
+            },
             FileError::Write(error) => match error.kind() {
                 io::ErrorKind::InvalidData => Failure::NoText,
                 _ => Failure::Output(output.output_name(), error),

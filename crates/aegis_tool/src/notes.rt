@@ -22,7 +22,8 @@ Files:
   Outputs get mode 0600. File names must be UTF-8.
   OUT is written as .OUT.hunkravy- and 16 hexadecimal digits beside it, and gets
   its name once it is complete. A run that is interrupted leaves that file. It may
-  hold plaintext; delete it once no run writes it. Only --force replaces a file.
+  hold plaintext; delete it once no run writes it. To find all of them:
+  find . -name '.*.hunkravy-*'. Only --force replaces a file.
   seal cannot see that a command before a pipe failed.
   A key file has 64 hexadecimal digits and a line feed. With -k - the key is read
   from standard input: age -d key.age | hunkravy open -k - IN OUT

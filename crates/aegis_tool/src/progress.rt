@@ -12,6 +12,24 @@ const STEP: u64 = 64 * 1024 * 1024;
 
 const MEBIBYTE: u64 = 1024 * 1024;
 
+/// The seconds that pass before a rate forgets what was read earlier.
+const WINDOW: u64 = 4;
+
+// What is done, in tenths.
+const BARS: [&str; 11] = [
+    "..........",
+    "#.........",
+    "##........",
+    "###.......",
+    "####......",
+    "#####.....",
+    "######....",
+    "#######...",
+    "########..",
+    "#########.",
+    "##########",
+];
+
 /// Where progress is shown: a terminal, with a clock.
 #[derive(Clone, Copy)]
 pub struct Display<'a> {
@@ -22,29 +40,42 @@ pub struct Display<'a> {
 }
 
 impl Display<'_> {
-    // Shows how many bytes were read, at which rate, and how long the rest takes.
-    fn show(&self, read: u64) {
-        let seconds = match self.begun.elapsed(self.terminal) {
-            Ok(time) => time.as_secs().max(1),
-            Err(_) => return,
-        };
-        let rate = (read / seconds).max(1);
+    // The seconds since the beginning. A clock that fails stands at 0.
+    fn seconds(&self) -> u64 {
+        match self.begun.elapsed(self.terminal) {
+            Ok(time) => time.as_secs(),
+            Err(_) => 0,
+        }
+    }
+
+    // Shows how much was read, and how many bytes a second, in at most 30 columns.
+    fn show(&self, read: u64, rate: u64) {
+        let rate = rate / MEBIBYTE;
         let _ = match self.length {
-            Some(length) => eprint!(self.terminal;
-                "\r{} of {} MiB, {} MiB/s, {} s left   ",
-                read / MEBIBYTE,
-                length / MEBIBYTE,
-                rate / MEBIBYTE,
-                length.saturating_sub(read) / rate
-            ),
-            None => eprint!(self.terminal;
-                "\r{} MiB, {} MiB/s   ",
-                read / MEBIBYTE,
-                rate / MEBIBYTE
-            ),
+            Some(length) => {
+                let done = (read / (length / 100).max(1)).min(100);
+                let bar = match BARS.get((done / 10) as usize) {
+                    Some(bar) => *bar,
+                    None => "",
+                };
+                eprint!(self.terminal; "\r[{}] {}% {} MiB/s  ", bar, done, rate)
+            }
+            None => eprint!(self.terminal; "\r{} MiB, {} MiB/s  ", read / MEBIBYTE, rate),
         };
     }
 }
+
+// How much was read after so many seconds.
+#[derive(Clone, Copy)]
+struct Mark {
+    read: u64,
+    seconds: u64,
+}
+
+const BEGINNING: Mark = Mark {
+    read: 0,
+    seconds: 0,
+};
 
 /// A reader that shows how much was read from it. Once it has ended, it is not read again: a terminal, a pipe or a file
 /// might go on.
@@ -56,6 +87,9 @@ pub struct Counted<'a, R: Read + Drop> {
     said: u64,
     has_ended: bool,
     first_bytes: [u8; 28],
+    // The last two times that are at least `WINDOW` apart.
+    older: Mark,
+    newer: Mark,
 }
 
 impl<'a, R: Read + Drop> Counted<'a, R> {
@@ -68,6 +102,8 @@ impl<'a, R: Read + Drop> Counted<'a, R> {
             said: 0,
             has_ended: false,
             first_bytes: [0; 28],
+            older: BEGINNING,
+            newer: BEGINNING,
         }
     }
 
@@ -81,11 +117,28 @@ impl<'a, R: Read + Drop> Counted<'a, R> {
         &self.first_bytes[24..] == Version::First.header()
     }
 
-    /// Ends the line that shows the progress, if one was shown.
-    pub fn end(&self) {
+    // Shows the progress, with the rate of the last seconds.
+    fn show(&mut self, display: Display<'_>) {
+        let now = Mark {
+            read: self.read,
+            seconds: display.seconds(),
+        };
+        if now.seconds.saturating_sub(self.newer.seconds) >= WINDOW {
+            self.older = self.newer;
+            self.newer = now;
+        }
+        let read = now.read.saturating_sub(self.older.read);
+        let seconds = now.seconds.saturating_sub(self.older.seconds);
+        display.show(now.read, read / seconds.max(1));
+    }
+
+    /// Ends the line that shows the progress, if one was shown, and prints how much was read in which time.
+    pub fn end(&mut self) {
         if self.said > 0 {
             if let Some(display) = self.display {
-                let _ = eprintln!(display.terminal; "");
+                self.show(display);
+                let (read, seconds) = (self.read / MEBIBYTE, display.seconds());
+                let _ = eprintln!(display.terminal; "\n{} MiB in {} s", read, seconds);
             }
         }
     }
@@ -110,7 +163,7 @@ impl<R: Read + Drop> Read for Counted<'_, R> {
         if self.read.saturating_sub(self.said) >= STEP {
             self.said = self.read;
             if let Some(display) = self.display {
-                display.show(self.read);
+                self.show(display);
             }
         }
         Ok(count)
