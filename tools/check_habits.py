@@ -6,7 +6,7 @@ import pathlib
 import re
 import sys
 
-MOST = 13
+MOST = 11
 LONGEST = 35  # words of a sentence
 PAGES = ["*.md", "docs/**/*.md", "crates/*/README.md", "c/include/*.h", "rust/*.md", "rust/src/**/*.rs", "python/*.md",
          "python/hunkravy/*.py", "crates/aegis_tool/src/*.rt"]
@@ -55,7 +55,7 @@ def main():
     if len(found) > MOST:
         print("\n".join(found), file=sys.stderr)
     print(f"{len(found)} habits of writing, at most {MOST}")
-    sys.exit(len(found) > MOST or len(paths) < 100)
+    sys.exit(len(found) > MOST or len(paths) < 80)
 
 
 main()
