@@ -55,7 +55,7 @@ def main():
     if len(found) > MOST:
         print("\n".join(found), file=sys.stderr)
     print(f"{len(found)} habits of writing, at most {MOST}")
-    sys.exit(len(found) > MOST or len(paths) < 80)
+    sys.exit(len(found) > MOST or len(paths) < 100)
 
 
 main()

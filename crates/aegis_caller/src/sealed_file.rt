@@ -31,7 +31,7 @@ pub fn seal_text<A: Allocator + Copy>(
     Ok(file)
 }
 
-/// Opens a file, and returns its text. An intact file fails only if memory runs out.
+/// Opens a file, and returns its text. The stream of an intact file is rejected only if memory runs out.
 pub fn open_text<A: Allocator + Copy>(
     alloc: A,
     key: &Key,
@@ -82,8 +82,8 @@ pub fn open_part<A: Allocator + Copy>(
     Ok(part)
 }
 
-/// Seals the text of a file anew under another key and a new prefix, and returns the new file. An intact file fails
-/// only if memory runs out.
+/// Seals the text of a file anew under another key and a new prefix, and returns the new file. The stream of an intact
+/// file is rejected only if memory runs out.
 pub fn rekey_file<A: Allocator + Copy>(
     alloc: A,
     key: &Key,
