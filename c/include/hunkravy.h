@@ -8,6 +8,18 @@
  * After an installation in /usr/local run ldconfig once. To link the static library use -l:libhunkravy.a in place of
  * -lhunkravy. Examples are installed in share/doc/hunkravy/examples.
  *
+ * FUNCTIONS FOR
+ *
+ * - a message in one buffer: hunkravy_encrypt_in_place, hunkravy_decrypt_in_place;
+ * - a message in another buffer: hunkravy_encrypt, hunkravy_decrypt, or both with _combined, with the tag after the
+ *   ciphertext; to verify only: hunkravy_verify;
+ * - a message in chunks: hunkravy_state_init, then hunkravy_state_encrypt_in_place and hunkravy_state_encrypt_final;
+ * - a ciphertext in chunks that can be read twice: hunkravy_state_init, hunkravy_state_decrypt_check and
+ *   hunkravy_state_decrypt_final with 0 bytes; then again with hunkravy_state_decrypt_in_place_unverified;
+ * - a ciphertext in chunks that can be read once: hunkravy_state_decrypt_in_place_unverified, and
+ *   hunkravy_state_decrypt_final with the whole message;
+ * - a MAC: hunkravy_mac, hunkravy_mac_verify, hunkravy_mac_init; a keystream: hunkravy_stream.
+ *
  * NEVER DO THIS. Nothing detects it:
  *
  * - Do not encrypt two messages with the same key and nonce, and do not use one nonce for a message and for a
@@ -204,8 +216,8 @@ HUNKRAVY_MUST_USE int hunkravy_state_init(uint32_t variant, hunkravy_state *st,
 HUNKRAVY_MUST_USE int hunkravy_state_encrypt_in_place(hunkravy_state *st, uint8_t *mc, size_t mclen);
 
 /*
- * Encrypts the next `mlen` bytes of the message, from `m` to `c`, which may be the same pointer. Errors as for
- * hunkravy_state_encrypt_in_place; after one nothing is written.
+ * Encrypts the next `mlen` bytes of the message, from `m` to `c`, which may be the same pointer. Returns the codes of
+ * hunkravy_state_encrypt_in_place. After an error nothing is written.
  */
 HUNKRAVY_MUST_USE int hunkravy_state_encrypt(hunkravy_state *st, uint8_t *c, const uint8_t *m, size_t mlen);
 
@@ -221,7 +233,7 @@ HUNKRAVY_MUST_USE int hunkravy_state_decrypt_in_place_unverified(hunkravy_state 
 
 /*
  * Decrypts the next `clen` bytes of the ciphertext, from `c` to `m`, which may be the same pointer, BEFORE THE TAG IS
- * VERIFIED. Errors as for hunkravy_state_decrypt_in_place_unverified; after one nothing is written.
+ * VERIFIED. Returns the codes of hunkravy_state_decrypt_in_place_unverified. After an error nothing is written.
  */
 HUNKRAVY_MUST_USE int hunkravy_state_decrypt_unverified(hunkravy_state *st, uint8_t *m, const uint8_t *c,
     size_t clen);
@@ -301,7 +313,7 @@ HUNKRAVY_MUST_USE int hunkravy_stream_xor(uint32_t variant, uint8_t *c, const ui
  */
 void hunkravy_wipe(void *bytes, size_t length);
 
-/* The version of this header. hunkravy_version returns the text of the version of the library that runs. */
+/* The version of this header. hunkravy_version returns the version of the library that runs. */
 #define HUNKRAVY_VERSION "0.2.0"
 #define HUNKRAVY_VERSION_MAJOR 0
 #define HUNKRAVY_VERSION_MINOR 2
