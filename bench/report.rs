@@ -83,8 +83,8 @@ Written by `make bench`, in one run.
 - Compiler of the driver and of what it compares with: {}
 - Date: {}
 
-The library is called through its C interface, and is compared with three implementations of the driver's own, which are
-generic in the family and in the number of lanes like the library:
+The library is called through its C interface. It is compared with three implementations in the driver, which are also
+generic in the family and in the number of lanes:
 
 | Name | AES round |
 |---|---|
@@ -93,15 +93,14 @@ generic in the family and in the number of lanes like the library:
 | AES instructions | the processor's AES instructions, one block each, which the library does not use |
 
 The library and the tables are built for the processor level {LEVEL}. The tables are built with `-C no-vectorize-slp`,
-which makes the four faster, and the one mostly slower.
+which makes the four tables faster, and the one rotated table mostly slower.
 
-Each call does all of its work on one message with no associated data, from the key to the tag of 16 bytes, in place.
-Before the measurement all four give the same ciphertexts, tags of both lengths, opened messages, refusals and
-keystreams at each size, and the known answers. They take turns, 50 each at each of four places of the stack, and the
-best turn counts. A turn is 32 KiB in messages of one size, or one message. MB are 10^6 bytes. If a ratio is above 1,
-the library is faster.
+Each call takes one message without associated data from the key to the tag of 16 bytes, in place. Before the
+measurement all four have the same ciphertexts, tags of both lengths, decrypted messages, errors and keystreams at each
+size, and the known answers. They take turns, 50 each at each of four places of the stack, and the best turn counts. A
+turn is 32 KiB in messages of one size, or one message. MB are 10^6 bytes. If a ratio is above 1, the library is faster.
 
-![The library's speed in sealing, as a multiple of the tables'](results.svg)
+![The library's speed of encryption, as a multiple of the tables'](results.svg)
 
 {table}",
         processor(),

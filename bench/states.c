@@ -97,7 +97,7 @@ static void line(const char *name, uint32_t variant)
 int main(void)
 {
     printf("Hunkravy at level %d\n\n", hunkravy_level());
-    printf("| Variant | At once, MB/s | 64 | 256 | 1,000 | 1 KiB | 4 KiB | 16 KiB | 64 KiB |\n");
+    printf("| Variant | In one call, MB/s | 64 | 256 | 1,000 | 1 KiB | 4 KiB | 16 KiB | 64 KiB |\n");
     printf("|---|---:|---:|---:|---:|---:|---:|---:|---:|\n");
     line("AEGIS-128L", HUNKRAVY_AEGIS128L);
     line("AEGIS-128X2", HUNKRAVY_AEGIS128X2);

@@ -50,7 +50,7 @@ for folder in "$work"/empty/*; do
     grep -q "^version = \"$version\"" "$folder/rust/Cargo.toml" || fail "another version in Cargo.toml"
     grep -q "^#define HUNKRAVY_VERSION \"$version\"" "$folder/include/hunkravy.h" || fail "another version in hunkravy.h"
     grep -q "^- Commit: $commit\$" "$folder/PROVED.md" || fail "PROVED.md is of another revision"
-    grep -q "^- Proofs, edits, tests and programs of this revision in the gate: ${line:-not run here}\$" "$folder/PROVED.md" ||
+    grep -q "^- Proofs, mutants, tests and programs of this revision: ${line:-not run here}\$" "$folder/PROVED.md" ||
         fail "PROVED.md names another run"
 done
 [ "$(PYTHONPATH=$work/site python3 -c 'import hunkravy._version as v; print(v.VERSION)')" = "$version" ] || fail 'another version in the wheel'

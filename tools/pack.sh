@@ -29,7 +29,7 @@ proved() {
     if [ -z "${GATE_LINE-}" ] && python3 tools/proved.py check 2> /dev/null; then
         GATE_LINE=$(cat out/proved-line)
     fi
-    echo "- Proofs, edits, tests and programs of this revision in the gate: ${GATE_LINE:-not run here}"
+    echo "- Proofs, mutants, tests and programs of this revision: ${GATE_LINE:-not run here}"
 }
 
 # Gives all files of a folder the time of the commit.

@@ -4,9 +4,21 @@
  * allocates memory.
  *
  * Build a program with `cc program.c $(pkg-config --cflags --libs hunkravy)`. After `make install PREFIX=/some/where`
- * set PKG_CONFIG_PATH to /some/where/lib/pkgconfig first, and LD_LIBRARY_PATH to /some/where/lib to run the program
- * (after an installation in /usr/local run ldconfig once). -l:libhunkravy.a in place of -lhunkravy links the static
- * library. Examples are installed in share/doc/hunkravy/examples.
+ * set PKG_CONFIG_PATH to /some/where/lib/pkgconfig first, and LD_LIBRARY_PATH to /some/where/lib to run the program.
+ * After an installation in /usr/local run ldconfig once. To link the static library use -l:libhunkravy.a in place of
+ * -lhunkravy. Examples are installed in share/doc/hunkravy/examples.
+ *
+ * FUNCTIONS FOR
+ *
+ * - a message in one buffer: hunkravy_encrypt_in_place, hunkravy_decrypt_in_place;
+ * - a message in another buffer: hunkravy_encrypt, hunkravy_decrypt, or both with _combined, with the tag after the
+ *   ciphertext; to verify only: hunkravy_verify;
+ * - a message in chunks: hunkravy_state_init, then hunkravy_state_encrypt_in_place and hunkravy_state_encrypt_final;
+ * - a ciphertext in chunks that can be read twice: hunkravy_state_init, hunkravy_state_decrypt_check and
+ *   hunkravy_state_decrypt_final with 0 bytes; then again with hunkravy_state_decrypt_in_place_unverified;
+ * - a ciphertext in chunks that can be read once: hunkravy_state_decrypt_in_place_unverified, and
+ *   hunkravy_state_decrypt_final with the whole message;
+ * - a MAC: hunkravy_mac, hunkravy_mac_verify, hunkravy_mac_init; a keystream: hunkravy_stream.
  *
  * NEVER DO THIS. Nothing detects it:
  *
@@ -14,15 +26,15 @@
  *   keystream. An attacker then learns about both messages, and may forge others. Nonces of 32 bytes can be random.
  *   Nonces of 16 bytes can be random for up to 2^48 messages under one key.
  * - Do not continue two copies of a state with different messages. That uses its nonce twice.
- * - Do not show, parse, store or act on decrypted bytes before their tag is verified. Functions whose names end in
- *   `_unverified` write such bytes.
- * - Do not ignore a returned code. After any code except HUNKRAVY_OK a buffer may still hold the plaintext.
+ * - Do not use decrypted bytes before their tag is verified. Functions whose names end in `_unverified` write such
+ *   bytes.
+ * - Do not ignore a returned code. After an error a buffer may still hold the plaintext.
  * - Do not use the key of a MAC for anything else.
  *
  * POINTERS. No function checks this:
  *
- * - A pointer points to as many bytes as its length, which is the next parameter or is in the comment. Input bytes
- *   are initialised; output buffers need not be. A pointer may be null if its length is a parameter and is 0.
+ * - A pointer points to as many bytes as its length, which is the next parameter or is in the comment. Inputs are
+ *   initialised; outputs need not be. A pointer may be null if its length is a parameter and is 0.
  * - An output overlaps no other argument, unless the comment allows the same pointer.
  * - Until a function returns, no other thread or process reads an output, or writes an output or an input. An output
  *   may hold the plaintext then, or bytes that are not verified yet, even if the process is killed.
@@ -30,13 +42,12 @@
  * THREADS. Use a state from one thread at a time. All other functions can run in any number of threads, with outputs
  * of their own.
  *
- * PARAMETERS. Lengths are in bytes. `m` is a message, `c` a ciphertext, and `mc` a buffer that holds one of them
- * before and the other after. `ad` is the associated data, `npub` the nonce, `k` the key, and `mac` a tag or a MAC of
- * `maclen` bytes, 16 or 32.
+ * PARAMETERS. Lengths are in bytes. `m` is a message, `c` a ciphertext, and `mc` a buffer for both, in place. `ad` is
+ * the associated data, `npub` the nonce, `k` the key, and `mac` a tag or a MAC of `maclen` bytes, 16 or 32.
  *
  * ERRORS. A function that is marked HUNKRAVY_MUST_USE returns HUNKRAVY_OK or one of the codes below. It checks the
- * variant or the state first, and then the lengths of the nonce, the key, the message, the associated data and the
- * tag. The first that is wrong gives the code. After an error nothing is written, unless the comment says so.
+ * variant or the state, and then the lengths of the nonce, the key, the message, the associated data and the tag, in
+ * this order. The first that is wrong gives the code. After an error nothing is written, unless the comment says so.
  *
  * ABI. Before 1.0.0 each minor version may change it, with the number of libhunkravy.so.
  */
@@ -85,7 +96,7 @@ enum hunkravy_code {
     HUNKRAVY_WRONG_RECORD_LENGTH = -11,
     /* The page size is less than HUNKRAVY_PAGE_MIN_SIZE or more than HUNKRAVY_PAGE_MAX_SIZE. */
     HUNKRAVY_WRONG_PAGE_SIZE = -12,
-    /* The contents of a file have more than HUNKRAVY_PAGE_MAX_TEXT_BYTES, or a page would begin after so many. */
+    /* The contents of a file have more than HUNKRAVY_PAGE_MAX_TEXT_BYTES, or a page would begin after that many. */
     HUNKRAVY_TEXT_TOO_LONG = -13,
     /* The length is neither 0 nor that of the message that was decrypted. */
     HUNKRAVY_WRONG_MESSAGE_LENGTH = -14
@@ -103,7 +114,7 @@ const char *hunkravy_error_text(int code);
 #define HUNKRAVY_AEGIS256X2 4
 #define HUNKRAVY_AEGIS256X4 5
 
-/* Lengths for the first three variants, and for the others. A tag may also have 16 bytes. */
+/* Lengths for the AEGIS-128 variants, and for the AEGIS-256 variants. A tag may also have 16 bytes. */
 #define HUNKRAVY_AEGIS128_KEY_BYTES 16
 #define HUNKRAVY_AEGIS128_NONCE_BYTES 16
 #define HUNKRAVY_AEGIS128_TAG_BYTES 32
@@ -180,7 +191,7 @@ HUNKRAVY_MUST_USE int hunkravy_verify(uint32_t variant, const uint8_t *c, size_t
 /* ---- A message in chunks of any lengths, also 0 */
 
 /*
- * The state of a message or of a MAC. It knows its variant, and whether it encrypts, decrypts or computes a MAC. Do
+ * The state of a message or of a MAC. It holds its variant, and whether it encrypts, decrypts or computes a MAC. Do
  * not write to it: the functions are safe on any bytes, and their output is then unspecified.
  *
  * A state can be copied with `=`, and dropped at any time. Nothing has to be freed. For a zeroed state every function
@@ -205,8 +216,8 @@ HUNKRAVY_MUST_USE int hunkravy_state_init(uint32_t variant, hunkravy_state *st,
 HUNKRAVY_MUST_USE int hunkravy_state_encrypt_in_place(hunkravy_state *st, uint8_t *mc, size_t mclen);
 
 /*
- * Encrypts the next `mlen` bytes of the message, from `m` to `c`, which may be the same pointer. Errors as for
- * hunkravy_state_encrypt_in_place; after one nothing is written.
+ * Encrypts the next `mlen` bytes of the message, from `m` to `c`, which may be the same pointer. Returns the codes of
+ * hunkravy_state_encrypt_in_place. After an error nothing is written.
  */
 HUNKRAVY_MUST_USE int hunkravy_state_encrypt(hunkravy_state *st, uint8_t *c, const uint8_t *m, size_t mlen);
 
@@ -222,7 +233,7 @@ HUNKRAVY_MUST_USE int hunkravy_state_decrypt_in_place_unverified(hunkravy_state 
 
 /*
  * Decrypts the next `clen` bytes of the ciphertext, from `c` to `m`, which may be the same pointer, BEFORE THE TAG IS
- * VERIFIED. Errors as for hunkravy_state_decrypt_in_place_unverified; after one nothing is written.
+ * VERIFIED. Returns the codes of hunkravy_state_decrypt_in_place_unverified. After an error nothing is written.
  */
 HUNKRAVY_MUST_USE int hunkravy_state_decrypt_unverified(hunkravy_state *st, uint8_t *m, const uint8_t *c,
     size_t clen);
@@ -237,9 +248,9 @@ HUNKRAVY_MUST_USE int hunkravy_state_decrypt_unverified(hunkravy_state *st, uint
 HUNKRAVY_MUST_USE int hunkravy_state_decrypt_check(hunkravy_state *st, const uint8_t *c, size_t clen);
 
 /*
- * Verifies the tag `mac` of all chunks, and zeroes the state. `m` holds the whole decrypted message of `mlen` bytes.
- * Pass 0 bytes if the chunks are in several buffers, and erase those after an error; pass 0 bytes too if the chunks
- * were only checked. Any other length is HUNKRAVY_WRONG_MESSAGE_LENGTH.
+ * Verifies the tag `mac` of all chunks, and zeroes the state. `m` holds the whole decrypted message of `mlen` bytes. If
+ * the chunks are in several buffers, pass 0 bytes, and erase the buffers after an error. If the chunks were only
+ * checked, pass 0 bytes too. Any other length is HUNKRAVY_WRONG_MESSAGE_LENGTH.
  *
  * After HUNKRAVY_OK the decrypted chunks are the message. After HUNKRAVY_INVALID_TAG the state is zeroed too, and
  * each of the `mlen` bytes at `m` is 0xaa. After any other error the state is unchanged, and the chunks are still
@@ -302,7 +313,7 @@ HUNKRAVY_MUST_USE int hunkravy_stream_xor(uint32_t variant, uint8_t *c, const ui
  */
 void hunkravy_wipe(void *bytes, size_t length);
 
-/* The version of this header. hunkravy_version returns the text of the version of the library that runs. */
+/* The version of this header. hunkravy_version returns the version of the library that runs. */
 #define HUNKRAVY_VERSION "0.2.0"
 #define HUNKRAVY_VERSION_MAJOR 0
 #define HUNKRAVY_VERSION_MINOR 2

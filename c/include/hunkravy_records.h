@@ -1,14 +1,14 @@
 /*
- * Record streams: a list of messages, each encrypted with AEGIS-256 and a tag of 32 bytes in the buffer that holds
- * it. A message is returned only after its tag is verified, and a record decrypts only at its place in its stream.
- * The last record is marked: a stream is whole only if its last record was decrypted.
+ * Record streams: a list of messages, each encrypted in place with AEGIS-256 and a tag of 32 bytes. A message is
+ * returned only after its tag is verified, and a record decrypts only at its place in its stream. The last record is
+ * marked: a stream is whole only if its last record was decrypted.
  *
  * A stream is a header of 4 bytes, AGR2, and a record for each message. A record is a head of 5 bytes, the
  * ciphertext, and the tag. The limits are HUNKRAVY_RECORD_MAX_MESSAGE_BYTES for a message,
  * HUNKRAVY_RECORD_MAX_CONTEXT_BYTES for the context, and HUNKRAVY_MAX_BYTES for the stream.
  *
  * `k` is a key of 32 bytes. `prefix` is 24 bytes for ONE STREAM ONLY under that key. They can be random, and need not
- * be secret. The context is authenticated, and is not a part of the stream: for example, the name of a file.
+ * be secret. The context is authenticated, and is not a part of the stream. It may be the name of a file.
  *
  * The rules of hunkravy.h on pointers, threads and errors hold here. Pointers without a length are never null.
  */

@@ -1,30 +1,26 @@
 /*
- * libsodium's crypto_aead_aegis128l and crypto_aead_aegis256, with its own names and parameters, over hunkravy.h.
- * A program whose only functions of libsodium are these, sodium_init, randombytes_buf and sodium_memzero includes
- * this header in place of sodium.h, and links with libhunkravy in place of libsodium.
+ * libsodium's crypto_aead_aegis128l and crypto_aead_aegis256, with the names and parameters of libsodium, over
+ * hunkravy.h. Also sodium_init, randombytes_buf and sodium_memzero. A program that uses no other function of libsodium
+ * includes this header in place of sodium.h, and links with libhunkravy in place of libsodium.
  *
  * The same as in libsodium:
  *
- * - Tags have 32 bytes; in the combined form the tag is after the ciphertext. The bytes are the same as
- *   libsodium's.
+ * - The ciphertexts and tags. Tags have 32 bytes; in the combined form the tag is after the ciphertext.
  * - Message and ciphertext may be the same buffer, and must not overlap otherwise.
- * - A decryption that fails returns -1 and leaves zeros in the place of the message; if `m` is null, a
- *   decryption verifies the tag and writes nothing.
- * - A parameter whose name ends in `_p` is null or points to a length, which the function sets. After a
- *   decryption that fails the length is 0.
+ * - A decryption that fails returns -1, and writes zeros in place of the message. If `m` is null, a decryption only
+ *   verifies the tag.
+ * - A parameter whose name ends in `_p` is null or points to a length, which the function sets. After a decryption that
+ *   fails the length is 0.
  * - On more than crypto_aead_.._MESSAGEBYTES_MAX bytes encryption ends the program, and decryption returns -1.
- * - Never encrypt two messages with the same key and nonce.
+ * - Never encrypt two messages with the same key and nonce. `nsec` is not used.
  *
  * Different from libsodium:
  *
- * - The processor's AES instructions are not used. Nor are look-up tables.
- * - An output buffer must not overlap the key, the nonce, the associated data or, in the detached form, the
- *   tag.
- * - The functions are inline: there is no symbol of libsodium's names to link with. A source file includes this
- *   header or sodium.h, and not both; in one program different files may.
+ * - The functions use neither AES instructions nor look-up tables.
+ * - An output must not overlap the key, the nonce, the associated data or, in the detached form, the tag.
+ * - The functions are inline: there are no symbols with libsodium's names to link with. A source file includes either
+ *   this header or sodium.h; different files of one program may differ.
  * - Random bytes come from getrandom. There is no function to replace their source.
- *
- * `nsec` is not used.
  */
 #ifndef SODIUM_COMPAT_H
 #define SODIUM_COMPAT_H
@@ -44,7 +40,7 @@
 extern "C" {
 #endif
 
-/* Does nothing, since there is nothing to prepare. Returns 0. */
+/* Does nothing, and returns 0. */
 HUNKRAVY_MUST_USE static inline int sodium_init(void)
 {
     return 0;
@@ -94,9 +90,9 @@ static inline int hunkravy_sodium_encrypt_detached(uint32_t variant, unsigned ch
 }
 
 /*
- * Writes the message to `m` and returns 0 if `mac` is the tag of the `clen` bytes at `c`. Otherwise returns -1,
- * and the `clen` bytes at `m` are zeros, or as before if `clen` or `adlen` is more than 2^61 - 1. If `m` is null, it only
- * verifies.
+ * Writes the message to `m` and returns 0 if `mac` is the tag of the `clen` bytes at `c`. Otherwise returns -1, and
+ * writes zeros to the `clen` bytes at `m`, or nothing if `clen` or `adlen` is more than 2^61 - 1. If `m` is null, it
+ * only verifies.
  */
 HUNKRAVY_MUST_USE static inline int hunkravy_sodium_decrypt_detached(uint32_t variant, unsigned char *m,
     const unsigned char *c, unsigned long long clen, const unsigned char *mac, const unsigned char *ad,
@@ -122,8 +118,8 @@ HUNKRAVY_MUST_USE static inline int hunkravy_sodium_decrypt_detached(uint32_t va
 }
 
 /*
- * Writes the ciphertext of the `mlen` bytes at `m`, and after it its tag, to `c`, and sets `*clen_p` to `mlen +
- * 32`. Returns 0. Ends the program if the message or the associated data are too long.
+ * Writes the ciphertext of the `mlen` bytes at `m` and then its tag to `c`. Sets `*clen_p` to `mlen + 32`. Returns 0.
+ * Ends the program if the message or the associated data are too long.
  */
 static inline int hunkravy_sodium_encrypt(uint32_t variant, unsigned char *c, unsigned long long *clen_p,
     const unsigned char *m, unsigned long long mlen, const unsigned char *ad, unsigned long long adlen,
@@ -139,9 +135,9 @@ static inline int hunkravy_sodium_encrypt(uint32_t variant, unsigned char *c, un
 }
 
 /*
- * Writes the message to `m`, sets `*mlen_p` to `clen - 32` and returns 0 if the last 32 of the `clen` bytes at
- * `c` are its tag. Otherwise sets `*mlen_p` to 0 and returns -1, and `clen - 32` bytes at `m` are zeros, unless a
- * length is one that no message has. If `m` is null, it only verifies.
+ * Writes the message to `m`, sets `*mlen_p` to `clen - 32` and returns 0 if the last 32 of the `clen` bytes at `c` are
+ * its tag. Otherwise sets `*mlen_p` to 0, returns -1, and writes zeros to the `clen - 32` bytes at `m`, or nothing if
+ * no message has these lengths. If `m` is null, it only verifies.
  */
 HUNKRAVY_MUST_USE static inline int hunkravy_sodium_decrypt(uint32_t variant, unsigned char *m,
     unsigned long long *mlen_p, const unsigned char *c, unsigned long long clen, const unsigned char *ad,
@@ -179,7 +175,7 @@ static inline void crypto_aead_aegis128l_keygen(unsigned char k[crypto_aead_aegi
     randombytes_buf(k, crypto_aead_aegis128l_KEYBYTES);
 }
 
-/* As hunkravy_sodium_encrypt_detached. */
+/* Calls hunkravy_sodium_encrypt_detached with AEGIS-128L. */
 static inline int crypto_aead_aegis128l_encrypt_detached(unsigned char *c, unsigned char *mac, unsigned long long *maclen_p,
     const unsigned char *m, unsigned long long mlen, const unsigned char *ad, unsigned long long adlen,
     const unsigned char *nsec, const unsigned char *npub, const unsigned char *k)
@@ -188,7 +184,7 @@ static inline int crypto_aead_aegis128l_encrypt_detached(unsigned char *c, unsig
     return hunkravy_sodium_encrypt_detached(HUNKRAVY_AEGIS128L, c, mac, maclen_p, m, mlen, ad, adlen, npub, k);
 }
 
-/* As hunkravy_sodium_decrypt_detached. */
+/* Calls hunkravy_sodium_decrypt_detached with AEGIS-128L. */
 HUNKRAVY_MUST_USE static inline int crypto_aead_aegis128l_decrypt_detached(unsigned char *m, unsigned char *nsec,
     const unsigned char *c, unsigned long long clen, const unsigned char *mac, const unsigned char *ad,
     unsigned long long adlen, const unsigned char *npub, const unsigned char *k)
@@ -197,7 +193,7 @@ HUNKRAVY_MUST_USE static inline int crypto_aead_aegis128l_decrypt_detached(unsig
     return hunkravy_sodium_decrypt_detached(HUNKRAVY_AEGIS128L, m, c, clen, mac, ad, adlen, npub, k);
 }
 
-/* As hunkravy_sodium_encrypt. */
+/* Calls hunkravy_sodium_encrypt with AEGIS-128L. */
 static inline int crypto_aead_aegis128l_encrypt(unsigned char *c, unsigned long long *clen_p, const unsigned char *m,
     unsigned long long mlen, const unsigned char *ad, unsigned long long adlen, const unsigned char *nsec,
     const unsigned char *npub, const unsigned char *k)
@@ -206,7 +202,7 @@ static inline int crypto_aead_aegis128l_encrypt(unsigned char *c, unsigned long 
     return hunkravy_sodium_encrypt(HUNKRAVY_AEGIS128L, c, clen_p, m, mlen, ad, adlen, npub, k);
 }
 
-/* As hunkravy_sodium_decrypt. */
+/* Calls hunkravy_sodium_decrypt with AEGIS-128L. */
 HUNKRAVY_MUST_USE static inline int crypto_aead_aegis128l_decrypt(unsigned char *m, unsigned long long *mlen_p,
     unsigned char *nsec, const unsigned char *c, unsigned long long clen, const unsigned char *ad,
     unsigned long long adlen, const unsigned char *npub, const unsigned char *k)
@@ -235,7 +231,7 @@ static inline void crypto_aead_aegis256_keygen(unsigned char k[crypto_aead_aegis
     randombytes_buf(k, crypto_aead_aegis256_KEYBYTES);
 }
 
-/* As hunkravy_sodium_encrypt_detached. */
+/* Calls hunkravy_sodium_encrypt_detached with AEGIS-256. */
 static inline int crypto_aead_aegis256_encrypt_detached(unsigned char *c, unsigned char *mac, unsigned long long *maclen_p,
     const unsigned char *m, unsigned long long mlen, const unsigned char *ad, unsigned long long adlen,
     const unsigned char *nsec, const unsigned char *npub, const unsigned char *k)
@@ -244,7 +240,7 @@ static inline int crypto_aead_aegis256_encrypt_detached(unsigned char *c, unsign
     return hunkravy_sodium_encrypt_detached(HUNKRAVY_AEGIS256, c, mac, maclen_p, m, mlen, ad, adlen, npub, k);
 }
 
-/* As hunkravy_sodium_decrypt_detached. */
+/* Calls hunkravy_sodium_decrypt_detached with AEGIS-256. */
 HUNKRAVY_MUST_USE static inline int crypto_aead_aegis256_decrypt_detached(unsigned char *m, unsigned char *nsec,
     const unsigned char *c, unsigned long long clen, const unsigned char *mac, const unsigned char *ad,
     unsigned long long adlen, const unsigned char *npub, const unsigned char *k)
@@ -253,7 +249,7 @@ HUNKRAVY_MUST_USE static inline int crypto_aead_aegis256_decrypt_detached(unsign
     return hunkravy_sodium_decrypt_detached(HUNKRAVY_AEGIS256, m, c, clen, mac, ad, adlen, npub, k);
 }
 
-/* As hunkravy_sodium_encrypt. */
+/* Calls hunkravy_sodium_encrypt with AEGIS-256. */
 static inline int crypto_aead_aegis256_encrypt(unsigned char *c, unsigned long long *clen_p, const unsigned char *m,
     unsigned long long mlen, const unsigned char *ad, unsigned long long adlen, const unsigned char *nsec,
     const unsigned char *npub, const unsigned char *k)
@@ -262,7 +258,7 @@ static inline int crypto_aead_aegis256_encrypt(unsigned char *c, unsigned long l
     return hunkravy_sodium_encrypt(HUNKRAVY_AEGIS256, c, clen_p, m, mlen, ad, adlen, npub, k);
 }
 
-/* As hunkravy_sodium_decrypt. */
+/* Calls hunkravy_sodium_decrypt with AEGIS-256. */
 HUNKRAVY_MUST_USE static inline int crypto_aead_aegis256_decrypt(unsigned char *m, unsigned long long *mlen_p,
     unsigned char *nsec, const unsigned char *c, unsigned long long clen, const unsigned char *ad,
     unsigned long long adlen, const unsigned char *npub, const unsigned char *k)
