@@ -54,12 +54,12 @@ static int write_all(int fd, const uint8_t *bytes, size_t length, uint64_t place
 /* Writes the header of this counter. */
 static int write_header(struct file *file, uint64_t counter, uint64_t length)
 {
-    uint8_t sector[HUNKRAVY_PAGE_SECTOR_BYTES], nonce[NONCE_BYTES];
+    uint8_t header_block[HUNKRAVY_PAGE_HEADER_BLOCK_BYTES], nonce[NONCE_BYTES];
 
     if (getentropy(nonce, sizeof nonce) != 0 ||
-        hunkravy_page_header_seal(VARIANT, sector, file->page_size, file->id, counter, length,
+        hunkravy_page_header_seal(VARIANT, header_block, file->page_size, file->id, counter, length,
                                   nonce, NONCE_BYTES, file->key, KEY_BYTES) != HUNKRAVY_OK ||
-        !write_all(file->fd, sector, sizeof sector, 0)) {
+        !write_all(file->fd, header_block, sizeof header_block, 0)) {
         return 0;
     }
     file->counter = counter;
@@ -75,10 +75,10 @@ static int create(struct file *file)
 
 static int read_header(struct file *file)
 {
-    uint8_t sector[HUNKRAVY_PAGE_SECTOR_BYTES];
+    uint8_t header_block[HUNKRAVY_PAGE_HEADER_BLOCK_BYTES];
 
-    return read_all(file->fd, sector, sizeof sector, 0) &&
-           hunkravy_page_header_open(VARIANT, sector, file->key, KEY_BYTES, &file->page_size,
+    return read_all(file->fd, header_block, sizeof header_block, 0) &&
+           hunkravy_page_header_open(VARIANT, header_block, file->key, KEY_BYTES, &file->page_size,
                                      file->id, &file->counter, &file->length) == HUNKRAVY_OK;
 }
 

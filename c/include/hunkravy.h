@@ -96,8 +96,8 @@ enum hunkravy_code {
     HUNKRAVY_WRONG_RECORD_LENGTH = -11,
     /* The page size is less than HUNKRAVY_PAGE_MIN_SIZE or more than HUNKRAVY_PAGE_MAX_SIZE. */
     HUNKRAVY_WRONG_PAGE_SIZE = -12,
-    /* The contents of a file have more than HUNKRAVY_PAGE_MAX_TEXT_BYTES, or a page would begin after that many. */
-    HUNKRAVY_TEXT_TOO_LONG = -13,
+    /* The contents of a file have more than HUNKRAVY_PAGE_MAX_CONTENTS_BYTES, or a page would begin after that many. */
+    HUNKRAVY_FILE_TOO_LONG = -13,
     /* The length is neither 0 nor that of the message that was decrypted. */
     HUNKRAVY_WRONG_MESSAGE_LENGTH = -14
 };

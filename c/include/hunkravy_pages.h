@@ -9,8 +9,8 @@
  * bytes. A page decrypts only under its number and the id of its file. An older page of the same number decrypts too.
  * `aegis_pages` and `raf` read and write the same files; docs/PAGES.md of the repository has the format.
  *
- * A file begins with HUNKRAVY_PAGE_SECTOR_BYTES of a header: the variant, the page size, the file's id, a counter, and
- * the length of the contents. The pages begin at byte HUNKRAVY_PAGE_FIRST. Each page is complete, the last one too: a
+ * A file begins with a header block of HUNKRAVY_PAGE_HEADER_BLOCK_BYTES: the variant, the page size, the file's id, a
+ * counter, and the length of the contents. The pages begin at byte HUNKRAVY_PAGE_FIRST. Each page is complete, the last one too: a
  * nonce of hunkravy_key_bytes(variant) bytes, the ciphertext, and the tag.
  *
  * A crash may tear writes that were not synced, and a file with a torn header is lost. The example pages.c has no
@@ -44,17 +44,17 @@ extern "C" {
 #define HUNKRAVY_PAGE_MIN_SIZE 256
 #define HUNKRAVY_PAGE_MAX_SIZE 65536
 #define HUNKRAVY_PAGE_DEFAULT_SIZE 4032
-/* The length of the header's sector. */
-#define HUNKRAVY_PAGE_SECTOR_BYTES 512
+/* The length of the header block. */
+#define HUNKRAVY_PAGE_HEADER_BLOCK_BYTES 512
 /* The position of page 0 in the file. */
 #define HUNKRAVY_PAGE_FIRST 4096
 /* The limit on the contents of a file. */
-#define HUNKRAVY_PAGE_MAX_TEXT_BYTES (UINT64_C(1) << 60)
+#define HUNKRAVY_PAGE_MAX_CONTENTS_BYTES (UINT64_C(1) << 60)
 
 /*
  * Returns the position of page `number` in a file of this variant and page size. Returns UINT64_MAX, where no file has
- * a page, if there is no such variant or page size, or if the page would begin after HUNKRAVY_PAGE_MAX_TEXT_BYTES of
- * the contents.
+ * a page, if there is no such variant or page size, or if the page would begin after HUNKRAVY_PAGE_MAX_CONTENTS_BYTES
+ * of the contents.
  */
 uint64_t hunkravy_page_place(uint32_t variant, uint32_t page_size, uint64_t number);
 
@@ -63,8 +63,8 @@ uint64_t hunkravy_page_place(uint32_t variant, uint32_t page_size, uint64_t numb
  * `page` become the page: `pagelen` is the length of a nonce, the page size and HUNKRAVY_PAGE_TAG_BYTES together.
  *
  * Returns HUNKRAVY_OK, a code for a wrong variant or a wrong length of `npub` or `k`, HUNKRAVY_WRONG_PAGE_SIZE, or
- * HUNKRAVY_TEXT_TOO_LONG if more than HUNKRAVY_PAGE_MAX_TEXT_BYTES of the contents are in front of the page. After an
- * error nothing is written, and `page` still holds the plaintext.
+ * HUNKRAVY_FILE_TOO_LONG if more than HUNKRAVY_PAGE_MAX_CONTENTS_BYTES of the contents are in front of the page. After
+ * an error nothing is written, and `page` still holds the plaintext.
  */
 HUNKRAVY_MUST_USE int hunkravy_page_seal(uint32_t variant, uint8_t *page, size_t pagelen, const uint8_t *id,
     uint64_t number, const uint8_t *npub, size_t npublen, const uint8_t *k, size_t klen);
@@ -80,26 +80,26 @@ HUNKRAVY_MUST_USE int hunkravy_page_open(uint32_t variant, uint8_t *page, size_t
     uint64_t number, const uint8_t *k, size_t klen);
 
 /*
- * Encrypts the header with `counter` and `textlen`, the length of the contents. Writes it to the
- * HUNKRAVY_PAGE_SECTOR_BYTES at `sector`, which are the first bytes of the file. A new file has the counter 0 and no
- * contents. The rest of the sector is zeros, which are never read.
+ * Encrypts the header with `counter` and `contentslen`, the length of the contents. Writes it to the
+ * HUNKRAVY_PAGE_HEADER_BLOCK_BYTES at `header_block`, which are the first bytes of the file. A new file has the counter
+ * 0 and no contents. The rest of the block is zeros, which are never read.
  *
  * Returns HUNKRAVY_OK, a code for a wrong variant or a wrong length of `npub` or `k`, HUNKRAVY_WRONG_PAGE_SIZE or
- * HUNKRAVY_TEXT_TOO_LONG. After an error nothing is written.
+ * HUNKRAVY_FILE_TOO_LONG. After an error nothing is written.
  */
-HUNKRAVY_MUST_USE int hunkravy_page_header_seal(uint32_t variant, uint8_t *sector, uint32_t page_size,
-    const uint8_t *id, uint64_t counter, uint64_t textlen, const uint8_t *npub, size_t npublen, const uint8_t *k,
+HUNKRAVY_MUST_USE int hunkravy_page_header_seal(uint32_t variant, uint8_t *header_block, uint32_t page_size,
+    const uint8_t *id, uint64_t counter, uint64_t contentslen, const uint8_t *npub, size_t npublen, const uint8_t *k,
     size_t klen);
 
 /*
- * Decrypts the header in the HUNKRAVY_PAGE_SECTOR_BYTES at `sector`, and writes its fields to `page_size`, `id`,
- * `counter` and `textlen`.
+ * Decrypts the header in the HUNKRAVY_PAGE_HEADER_BLOCK_BYTES at `header_block`, and writes its fields to `page_size`,
+ * `id`, `counter` and `contentslen`.
  *
- * Returns HUNKRAVY_OK, a code for a wrong variant or a wrong length of `k`, or HUNKRAVY_INVALID_TAG if the sector has
- * no header of this variant and key. After an error nothing is written.
+ * Returns HUNKRAVY_OK, a code for a wrong variant or a wrong length of `k`, or HUNKRAVY_INVALID_TAG if the block has no
+ * header of this variant and key. After an error nothing is written.
  */
-HUNKRAVY_MUST_USE int hunkravy_page_header_open(uint32_t variant, const uint8_t *sector, const uint8_t *k, size_t klen,
-    uint32_t *page_size, uint8_t *id, uint64_t *counter, uint64_t *textlen);
+HUNKRAVY_MUST_USE int hunkravy_page_header_open(uint32_t variant, const uint8_t *header_block, const uint8_t *k,
+    size_t klen, uint32_t *page_size, uint8_t *id, uint64_t *counter, uint64_t *contentslen);
 
 #ifdef __cplusplus
 }

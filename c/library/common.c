@@ -37,7 +37,7 @@ const char *hunkravy_error_text(int code)
         return "the record has no room for its head and its tag";
     case HUNKRAVY_WRONG_PAGE_SIZE:
         return "a page has no such size";
-    case HUNKRAVY_TEXT_TOO_LONG:
+    case HUNKRAVY_FILE_TOO_LONG:
         return "the text of the file is too long";
     case HUNKRAVY_WRONG_MESSAGE_LENGTH:
         return "the message has not as many bytes as were decrypted";

@@ -84,10 +84,10 @@ int hunkravy_proved_page_seal(uint32_t variant, uint8_t *page, size_t pagelen, c
     const uint8_t *npub, size_t npublen, const uint8_t *k, size_t klen);
 int hunkravy_proved_page_open(uint32_t variant, uint8_t *page, size_t pagelen, const uint8_t *id, uint64_t number,
     const uint8_t *k, size_t klen);
-int hunkravy_proved_page_header_seal(uint32_t variant, uint8_t *sector, uint32_t page_size, const uint8_t *id,
-    uint64_t counter, uint64_t textlen, const uint8_t *npub, size_t npublen, const uint8_t *k, size_t klen);
-int hunkravy_proved_page_header_open(uint32_t variant, const uint8_t *sector, const uint8_t *k, size_t klen,
-    uint32_t *page_size, uint8_t *id, uint64_t *counter, uint64_t *textlen);
+int hunkravy_proved_page_header_seal(uint32_t variant, uint8_t *header_block, uint32_t page_size, const uint8_t *id,
+    uint64_t counter, uint64_t contentslen, const uint8_t *npub, size_t npublen, const uint8_t *k, size_t klen);
+int hunkravy_proved_page_header_open(uint32_t variant, const uint8_t *header_block, const uint8_t *k, size_t klen,
+    uint32_t *page_size, uint8_t *id, uint64_t *counter, uint64_t *contentslen);
 
 #pragma GCC visibility pop
 

@@ -310,7 +310,7 @@ static void check_texts(void)
                                 HUNKRAVY_UNKNOWN_HEADER,
                                 HUNKRAVY_WRONG_RECORD_LENGTH,
                                 HUNKRAVY_WRONG_PAGE_SIZE,
-                                HUNKRAVY_TEXT_TOO_LONG,
+                                HUNKRAVY_FILE_TOO_LONG,
                                 HUNKRAVY_WRONG_MESSAGE_LENGTH};
 
     for (int i = 0; i < 15; i++) {
@@ -336,8 +336,8 @@ static void check_constants(void)
     HOLDS(HUNKRAVY_PAGE_ID_BYTES == 24 && HUNKRAVY_PAGE_TAG_BYTES == 32);
     HOLDS(HUNKRAVY_PAGE_MAX_ADDED_BYTES == 64 && HUNKRAVY_PAGE_MIN_SIZE == 256);
     HOLDS(HUNKRAVY_PAGE_MAX_SIZE == 65536 && HUNKRAVY_PAGE_DEFAULT_SIZE == 4032);
-    HOLDS(HUNKRAVY_PAGE_SECTOR_BYTES == 512 && HUNKRAVY_PAGE_FIRST == 4096);
-    HOLDS(HUNKRAVY_PAGE_MAX_TEXT_BYTES == UINT64_C(1152921504606846976));
+    HOLDS(HUNKRAVY_PAGE_HEADER_BLOCK_BYTES == 512 && HUNKRAVY_PAGE_FIRST == 4096);
+    HOLDS(HUNKRAVY_PAGE_MAX_CONTENTS_BYTES == UINT64_C(1152921504606846976));
 }
 
 /* No bytes may be a null pointer. */

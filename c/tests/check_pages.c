@@ -7,9 +7,9 @@
 
 #define TAG HUNKRAVY_PAGE_TAG_BYTES
 #define MOST_MORE HUNKRAVY_PAGE_MAX_ADDED_BYTES
-#define SECTOR HUNKRAVY_PAGE_SECTOR_BYTES
+#define SECTOR HUNKRAVY_PAGE_HEADER_BLOCK_BYTES
 #define CLEAR 33
-#define MOST_TEXT HUNKRAVY_PAGE_MAX_TEXT_BYTES
+#define MOST_TEXT HUNKRAVY_PAGE_MAX_CONTENTS_BYTES
 
 static const uint32_t SIZES[] = {256, 257, 271, 272, 511, 512, 4096, 65535, 65536};
 
@@ -50,11 +50,11 @@ static int open_page(const struct layout *layout, uint8_t *page, size_t length, 
                               layout->n);
 }
 
-static int seal_header(const struct layout *layout, uint8_t *sector, uint64_t counter,
-                       uint64_t textlen, const uint8_t *npub)
+static int seal_header(const struct layout *layout, uint8_t *header_block, uint64_t counter,
+                       uint64_t contentslen, const uint8_t *npub)
 {
-    return hunkravy_page_header_seal(layout->variant->number, sector, layout->size, layout->id,
-                                     counter, textlen, npub, layout->n, layout->k, layout->n);
+    return hunkravy_page_header_seal(layout->variant->number, header_block, layout->size, layout->id,
+                                     counter, contentslen, npub, layout->n, layout->k, layout->n);
 }
 
 static uint8_t *write_number(uint8_t *at, uint64_t number, size_t bytes)
@@ -218,13 +218,13 @@ static void check_lengths_refused(const struct layout *layout, size_t length)
     static const size_t wrong[] = {0, 1, 15, 17, 31, 33};
     uint32_t variant = layout->variant->number;
     const uint8_t *k = layout->k, *id = layout->id;
-    uint8_t page[HUNKRAVY_PAGE_MIN_SIZE + MOST_MORE], sector[SECTOR], found[24];
+    uint8_t page[HUNKRAVY_PAGE_MIN_SIZE + MOST_MORE], header_block[SECTOR], found[24];
     uint32_t size;
-    uint64_t counter, textlen;
+    uint64_t counter, contentslen;
     size_t n = layout->n;
 
     memset(page, 0x55, sizeof page);
-    memset(sector, 0x55, sizeof sector);
+    memset(header_block, 0x55, sizeof header_block);
     for (size_t i = 0; i <= COUNT(wrong); i++) {
         size_t m = i < COUNT(wrong) ? wrong[i] : 48 - n;
         HOLDS(hunkravy_page_seal(variant, page, length, id, 0, k, m, k, n) ==
@@ -232,22 +232,22 @@ static void check_lengths_refused(const struct layout *layout, size_t length)
         HOLDS(hunkravy_page_seal(variant, page, length, id, 0, k, n, k, m) ==
               HUNKRAVY_WRONG_KEY_LENGTH);
         HOLDS(hunkravy_page_open(variant, page, length, id, 0, k, m) == HUNKRAVY_WRONG_KEY_LENGTH);
-        HOLDS(hunkravy_page_header_seal(variant, sector, 256, id, 0, 0, k, m, k, n) ==
+        HOLDS(hunkravy_page_header_seal(variant, header_block, 256, id, 0, 0, k, m, k, n) ==
               HUNKRAVY_WRONG_NONCE_LENGTH);
-        HOLDS(hunkravy_page_header_seal(variant, sector, 256, id, 0, 0, k, n, k, m) ==
+        HOLDS(hunkravy_page_header_seal(variant, header_block, 256, id, 0, 0, k, n, k, m) ==
               HUNKRAVY_WRONG_KEY_LENGTH);
-        HOLDS(hunkravy_page_header_open(variant, sector, k, m, &size, found, &counter, &textlen) ==
+        HOLDS(hunkravy_page_header_open(variant, header_block, k, m, &size, found, &counter, &contentslen) ==
               HUNKRAVY_WRONG_KEY_LENGTH);
     }
     for (uint32_t none = 6; none != 5; none = none == 6 ? UINT32_MAX : 5) {
         HOLDS(hunkravy_page_seal(none, page, length, id, 0, k, n, k, n) == HUNKRAVY_WRONG_VARIANT);
         HOLDS(hunkravy_page_open(none, page, length, id, 0, k, n) == HUNKRAVY_WRONG_VARIANT);
-        HOLDS(hunkravy_page_header_seal(none, sector, 256, id, 0, 0, k, n, k, n) ==
+        HOLDS(hunkravy_page_header_seal(none, header_block, 256, id, 0, 0, k, n, k, n) ==
               HUNKRAVY_WRONG_VARIANT);
-        HOLDS(hunkravy_page_header_open(none, sector, k, n, &size, found, &counter, &textlen) ==
+        HOLDS(hunkravy_page_header_open(none, header_block, k, n, &size, found, &counter, &contentslen) ==
               HUNKRAVY_WRONG_VARIANT);
     }
-    HOLDS(all_are(page, sizeof page, 0x55) && all_are(sector, sizeof sector, 0x55));
+    HOLDS(all_are(page, sizeof page, 0x55) && all_are(header_block, sizeof header_block, 0x55));
 }
 
 static void check_page_limits(const struct variant *variant)
@@ -267,10 +267,10 @@ static void check_page_limits(const struct variant *variant)
     for (size_t i = 0; i < COUNT(SIZES); i++) {
         check_page(variant, SIZES[i], MOST_TEXT / SIZES[i]);
         check_page_refused(&layout, SIZES[i] + more, MOST_TEXT / SIZES[i] + 1,
-                           HUNKRAVY_TEXT_TOO_LONG);
+                           HUNKRAVY_FILE_TOO_LONG);
         check_page_refused(&layout, SIZES[i] + more, UINT64_MAX / SIZES[i] + 1,
-                           HUNKRAVY_TEXT_TOO_LONG);
-        check_page_refused(&layout, SIZES[i] + more, UINT64_MAX, HUNKRAVY_TEXT_TOO_LONG);
+                           HUNKRAVY_FILE_TOO_LONG);
+        check_page_refused(&layout, SIZES[i] + more, UINT64_MAX, HUNKRAVY_FILE_TOO_LONG);
     }
 }
 
@@ -282,98 +282,98 @@ static size_t header_bytes(const struct layout *layout)
     return CLEAR + layout->n + 16 + TAG;
 }
 
-/* A sector, as the format is defined. */
-static void write_sector(const struct layout *layout, uint8_t *sector, const uint8_t *clear,
-                         uint64_t counter, uint64_t textlen, const uint8_t *npub)
+/* A header_block, as the format is defined. */
+static void write_header_block(const struct layout *layout, uint8_t *header_block, const uint8_t *clear,
+                         uint64_t counter, uint64_t contentslen, const uint8_t *npub)
 {
-    memset(sector, 0, SECTOR);
-    memcpy(sector, clear, CLEAR);
-    write_number(write_number(sector + CLEAR + layout->n, counter, 8), textlen, 8);
-    seal_box(layout, sector + CLEAR, header_bytes(layout) - CLEAR, clear, UINT64_MAX, npub);
+    memset(header_block, 0, SECTOR);
+    memcpy(header_block, clear, CLEAR);
+    write_number(write_number(header_block + CLEAR + layout->n, counter, 8), contentslen, 8);
+    seal_box(layout, header_block + CLEAR, header_bytes(layout) - CLEAR, clear, UINT64_MAX, npub);
 }
 
-/* The sector is refused, and nothing is written. */
+/* The header_block is refused, and nothing is written. */
 static void check_no_header(const struct variant *variant, const uint8_t *bytes, const uint8_t *k)
 {
-    uint8_t *sector = copied(bytes, SECTOR), id[24];
+    uint8_t *header_block = copied(bytes, SECTOR), id[24];
     uint32_t size = 0x55555555;
-    uint64_t counter = 7, textlen = 8;
+    uint64_t counter = 7, contentslen = 8;
 
     memset(id, 0x55, sizeof id);
-    HOLDS(hunkravy_page_header_open(variant->number, sector, k, variant->key_bytes, &size, id,
-                                    &counter, &textlen) == HUNKRAVY_INVALID_TAG);
-    HOLDS(memcmp(sector, bytes, SECTOR) == 0);
-    HOLDS(size == 0x55555555 && all_are(id, sizeof id, 0x55) && counter == 7 && textlen == 8);
-    free(sector);
+    HOLDS(hunkravy_page_header_open(variant->number, header_block, k, variant->key_bytes, &size, id,
+                                    &counter, &contentslen) == HUNKRAVY_INVALID_TAG);
+    HOLDS(memcmp(header_block, bytes, SECTOR) == 0);
+    HOLDS(size == 0x55555555 && all_are(id, sizeof id, 0x55) && counter == 7 && contentslen == 8);
+    free(header_block);
 }
 
 static void check_has_header(const uint8_t *bytes, const struct layout *layout, uint64_t counter,
-                             uint64_t textlen)
+                             uint64_t contentslen)
 {
-    uint8_t *sector = copied(bytes, SECTOR), id[24];
+    uint8_t *header_block = copied(bytes, SECTOR), id[24];
     uint32_t size;
     uint64_t count, length;
 
-    HOLDS(hunkravy_page_header_open(layout->variant->number, sector, layout->k, layout->n, &size,
+    HOLDS(hunkravy_page_header_open(layout->variant->number, header_block, layout->k, layout->n, &size,
                                     id, &count, &length) == HUNKRAVY_OK);
-    HOLDS(memcmp(sector, bytes, SECTOR) == 0);
+    HOLDS(memcmp(header_block, bytes, SECTOR) == 0);
     HOLDS(size == layout->size && memcmp(id, layout->id, sizeof id) == 0);
-    HOLDS(count == counter && length == textlen);
-    free(sector);
+    HOLDS(count == counter && length == contentslen);
+    free(header_block);
 }
 
-static void check_header_refused(const struct variant *variant, uint32_t size, uint64_t textlen,
+static void check_header_refused(const struct variant *variant, uint32_t size, uint64_t contentslen,
                                  int code)
 {
     const struct layout layout = layout_of(variant, size);
-    uint8_t sector[SECTOR];
+    uint8_t header_block[SECTOR];
 
-    memset(sector, 0x55, sizeof sector);
-    HOLDS(seal_header(&layout, sector, 3, textlen, layout.k) == code);
-    HOLDS(all_are(sector, sizeof sector, 0x55));
+    memset(header_block, 0x55, sizeof header_block);
+    HOLDS(seal_header(&layout, header_block, 3, contentslen, layout.k) == code);
+    HOLDS(all_are(header_block, sizeof header_block, 0x55));
 }
 
 /* A header that was sealed, but that no call seals. */
-static void check_wrong_header(const struct layout *layout, uint8_t byte, uint64_t textlen)
+static void check_wrong_header(const struct layout *layout, uint8_t byte, uint64_t contentslen)
 {
-    uint8_t sector[SECTOR], clear[CLEAR];
+    uint8_t header_block[SECTOR], clear[CLEAR];
 
     write_clear(clear, layout);
     clear[4] = byte;
-    write_sector(layout, sector, clear, 4, textlen, layout->k);
-    check_no_header(layout->variant, sector, layout->k);
+    write_header_block(layout, header_block, clear, 4, contentslen, layout->k);
+    check_no_header(layout->variant, header_block, layout->k);
 }
 
 static void check_header(const struct variant *variant, uint32_t size, uint64_t counter,
-                         uint64_t textlen)
+                         uint64_t contentslen)
 {
     const struct layout layout = layout_of(variant, size);
-    uint8_t sector[SECTOR], expected[SECTOR], clear[CLEAR], npub[32], other[32];
+    uint8_t header_block[SECTOR], expected[SECTOR], clear[CLEAR], npub[32], other[32];
 
     fill(npub, sizeof npub);
     write_clear(clear, &layout);
-    write_sector(&layout, expected, clear, counter, textlen, npub);
-    memset(sector, 0x55, sizeof sector);
-    HOLDS(seal_header(&layout, sector, counter, textlen, npub) == HUNKRAVY_OK);
-    HOLDS(memcmp(sector, expected, SECTOR) == 0);
-    check_has_header(sector, &layout, counter, textlen);
+    write_header_block(&layout, expected, clear, counter, contentslen, npub);
+    memset(header_block, 0x55, sizeof header_block);
+    HOLDS(seal_header(&layout, header_block, counter, contentslen, npub) == HUNKRAVY_OK);
+    HOLDS(memcmp(header_block, expected, SECTOR) == 0);
+    check_has_header(header_block, &layout, counter, contentslen);
     memcpy(other, layout.k, sizeof other);
     other[next_number() % layout.n] ^= 1;
-    check_no_header(variant, sector, other);
+    check_no_header(variant, header_block, other);
     for (size_t i = 0; i < COUNT(VARIANTS); i++) {
         if (&VARIANTS[i] != variant) {
-            check_no_header(&VARIANTS[i], sector, layout.k);
+            check_no_header(&VARIANTS[i], header_block, layout.k);
         }
     }
     /* The zeros at the end are not read. */
     for (size_t at = 0; at < SECTOR; at++) {
-        sector[at] ^= (uint8_t)(1 << next_number() % 8);
+        header_block[at] ^= (uint8_t)(1 << next_number() % 8);
         if (at < header_bytes(&layout)) {
-            check_no_header(variant, sector, layout.k);
-            sector[at] = expected[at];
+            check_no_header(variant, header_block, layout.k);
+            header_block[at] = expected[at];
         }
     }
-    check_has_header(sector, &layout, counter, textlen);
+    check_has_header(header_block, &layout, counter, contentslen);
 }
 
 static void check_headers(const struct variant *variant)
@@ -388,8 +388,8 @@ static void check_headers(const struct variant *variant)
             check_header(variant, SIZES[i], i + j, lengths[j]);
             check_header(variant, SIZES[i], UINT64_MAX - i - j, lengths[j]);
         }
-        check_header_refused(variant, SIZES[i], MOST_TEXT + 1, HUNKRAVY_TEXT_TOO_LONG);
-        check_header_refused(variant, SIZES[i], UINT64_MAX, HUNKRAVY_TEXT_TOO_LONG);
+        check_header_refused(variant, SIZES[i], MOST_TEXT + 1, HUNKRAVY_FILE_TOO_LONG);
+        check_header_refused(variant, SIZES[i], UINT64_MAX, HUNKRAVY_FILE_TOO_LONG);
     }
     check_header_refused(variant, 0, 0, HUNKRAVY_WRONG_PAGE_SIZE);
     check_header_refused(variant, 255, UINT64_MAX, HUNKRAVY_WRONG_PAGE_SIZE);

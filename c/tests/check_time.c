@@ -178,10 +178,10 @@ static void check_pages(const struct message *this)
     size_t n = this->calls->key_bytes, size = HUNKRAVY_PAGE_MIN_SIZE + this->length;
     size_t pagelen = n + size + HUNKRAVY_PAGE_TAG_BYTES;
     uint8_t pages[3][HUNKRAVY_PAGE_MIN_SIZE + LONGEST + HUNKRAVY_PAGE_MAX_ADDED_BYTES];
-    uint8_t *text = pages[0] + n, sector[HUNKRAVY_PAGE_SECTOR_BYTES], name[HUNKRAVY_PAGE_ID_BYTES];
+    uint8_t *text = pages[0] + n, header_block[HUNKRAVY_PAGE_HEADER_BLOCK_BYTES], name[HUNKRAVY_PAGE_ID_BYTES];
     const uint8_t *k = this->secret.k;
     uint32_t found;
-    uint64_t counter, textlen;
+    uint64_t counter, contentslen;
 
     memcpy(text, this->secret.text, HUNKRAVY_PAGE_MIN_SIZE);
     memcpy(text + HUNKRAVY_PAGE_MIN_SIZE, this->secret.text, this->length);
@@ -192,14 +192,14 @@ static void check_pages(const struct message *this)
     RETURNS(HUNKRAVY_OK, hunkravy_page_open(variant, pages[0], pagelen, id, 7, k, n));
     RETURNS(HUNKRAVY_INVALID_TAG, hunkravy_page_open(variant, pages[1], pagelen, id, 8, k, n));
     RETURNS(HUNKRAVY_INVALID_TAG, hunkravy_page_open(variant, pages[2], pagelen, id, 7, k, n));
-    RETURNS(HUNKRAVY_OK, hunkravy_page_header_seal(variant, sector, (uint32_t)size, id, 1,
+    RETURNS(HUNKRAVY_OK, hunkravy_page_header_seal(variant, header_block, (uint32_t)size, id, 1,
                                                    this->length, KEYS(this)));
-    RETURNS(HUNKRAVY_OK, hunkravy_page_header_open(variant, sector, k, n, &found, name, &counter,
-                                                   &textlen));
+    RETURNS(HUNKRAVY_OK, hunkravy_page_header_open(variant, header_block, k, n, &found, name, &counter,
+                                                   &contentslen));
     HOLDS(found == size && memcmp(name, id, sizeof id) == 0);
-    sector[n + 40] ^= 1;
-    RETURNS(HUNKRAVY_INVALID_TAG, hunkravy_page_header_open(variant, sector, k, n, &found, name,
-                                                            &counter, &textlen));
+    header_block[n + 40] ^= 1;
+    RETURNS(HUNKRAVY_INVALID_TAG, hunkravy_page_header_open(variant, header_block, k, n, &found, name,
+                                                            &counter, &contentslen));
 }
 
 /* Returns the number of messages. Each is opened three times in each way. */

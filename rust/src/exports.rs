@@ -245,11 +245,11 @@ unsafe extern "C" {
     ) -> i32;
     fn hunkravy_page_header_seal(
         variant: u32,
-        sector: &mut [u8; 512],
+        header_block: &mut [u8; 512],
         page_size: u32,
         id: &[u8; 24],
         counter: u64,
-        textlen: u64,
+        contentslen: u64,
         npub: In,
         npublen: usize,
         k: In,
@@ -257,13 +257,13 @@ unsafe extern "C" {
     ) -> i32;
     fn hunkravy_page_header_open(
         variant: u32,
-        sector: &[u8; 512],
+        header_block: &[u8; 512],
         k: In,
         klen: usize,
         page_size: &mut u32,
         id: &mut [u8; 24],
         counter: &mut u64,
-        textlen: &mut u64,
+        contentslen: &mut u64,
     ) -> i32;
     fn hunkravy_record_begin(
         st: &mut Records<'_>,
@@ -475,7 +475,7 @@ pub struct PageHeader {
     /// How many headers were written before it.
     pub counter: u64,
     /// The length of the text, of at most 2^60 bytes.
-    pub text_len: u64,
+    pub contents_len: u64,
 }
 
 impl Variant {
@@ -509,7 +509,7 @@ impl Variant {
     /// Writes the sector of a header.
     pub fn page_header_seal(
         &self,
-        sector: &mut [u8; 512],
+        header_block: &mut [u8; 512],
         header: &PageHeader,
         npub: &[u8],
         k: &[u8],
@@ -518,35 +518,46 @@ impl Variant {
             page_size,
             ref id,
             counter,
-            text_len,
+            contents_len,
         } = *header;
         call!(
-            hunkravy_page_header_seal(self.number, sector, page_size, id, counter, text_len),
+            hunkravy_page_header_seal(
+                self.number,
+                header_block,
+                page_size,
+                id,
+                counter,
+                contents_len
+            ),
             npub.as_ptr,
             k.as_ptr
         )
     }
 
     /// Returns the header in a sector.
-    pub fn page_header_open(&self, sector: &[u8; 512], k: &[u8]) -> Result<PageHeader, Refusal> {
+    pub fn page_header_open(
+        &self,
+        header_block: &[u8; 512],
+        k: &[u8],
+    ) -> Result<PageHeader, Refusal> {
         let mut header = PageHeader::default();
         let PageHeader {
             page_size,
             id,
             counter,
-            text_len,
+            contents_len,
         } = &mut header;
         // SAFETY: each pointer is that of a borrowed value of the length that the library reads or writes.
         read(unsafe {
             hunkravy_page_header_open(
                 self.number,
-                sector,
+                header_block,
                 k.as_ptr(),
                 k.len(),
                 page_size,
                 id,
                 counter,
-                text_len,
+                contents_len,
             )
         })?;
         Ok(header)

@@ -18,7 +18,7 @@
 //! # let master_key = [1; 32];
 //! let key = Raf::<Aegis256>::derive_master_key(&master_key, b"my-app/files")?;
 //! let mut file = Raf::<Aegis256>::create_file(&path, &key)?;
-//! file.batch(|file| file.write(b"a line of a text", 7))?;
+//! file.batch(|file| file.write(b"a line", 7))?;
 //! # drop(file);
 //!
 //! let mut file = Raf::<Aegis256>::open_file(&path, &key)?;
@@ -75,7 +75,7 @@ use alloc::vec::Vec;
 use changes::Changes;
 use core::fmt;
 use journal::{JournalSeal, PREFIX_BYTES, PendingWrite};
-use layout::{Layout, SECTOR_BYTES, journal_key};
+use layout::{HEADER_BLOCK_BYTES, Layout, journal_key};
 use std::io::ErrorKind;
 #[cfg(feature = "raf")]
 use std::path::Path;
@@ -104,10 +104,10 @@ pub struct Raf<A: Algorithm, I: RafIo = FileIo, R: RafRng = DefaultRng, J: RafIo
     journal: J,
     rng: R,
     layout: Layout<A>,
-    /// Of the last commit: the counter in the header, and the number of bytes of the text.
+    /// Of the last commit: the counter in the header, and the number of bytes of the contents.
     counter: u64,
     stored: u64,
-    /// The number of bytes of the text now.
+    /// The number of bytes of the contents now.
     size: u64,
     changes: Changes,
     buffer_limit: usize,
@@ -170,7 +170,7 @@ impl<A: Algorithm, I: RafIo, R: RafRng, J: RafIo> Raf<A, I, R, J> {
         while !rest.is_empty() {
             let (number, at) = self.place(next);
             self.show_page(number)?;
-            let part = &self.layout.text(&mut self.page)[at..];
+            let part = &self.layout.contents(&mut self.page)[at..];
             let bytes = part.len().min(rest.len());
             rest[..bytes].copy_from_slice(&part[..bytes]);
             rest = &mut rest[bytes..];
@@ -221,7 +221,7 @@ impl<A: Algorithm, I: RafIo, R: RafRng, J: RafIo> Raf<A, I, R, J> {
         let mut changes = Changes::default();
         for number in pages {
             self.change_page(number, data, offset)?;
-            changes.set(number, self.layout.text(&mut self.page))?;
+            changes.set(number, self.layout.contents(&mut self.page))?;
         }
         self.changes.append(changes);
         self.size = self.size.max(end);
@@ -269,9 +269,9 @@ impl<A: Algorithm, I: RafIo, R: RafRng, J: RafIo> Raf<A, I, R, J> {
             return Ok(());
         }
         let counter = self.counter.checked_add(1).ok_or(Error::TooLong)?;
-        let sector = recovery::read_sector(&mut self.io)?
+        let header_block = recovery::read_header_block(&mut self.io)?
             .ok_or(Error::Io(ErrorKind::UnexpectedEof.into()))?;
-        let writes = self.sealed_writes(&sector, counter)?;
+        let writes = self.sealed_writes(&header_block, counter)?;
         let mut seal = JournalSeal {
             key: journal_key::<A>(&self.layout.key),
             start: self.layout.journal_start(),
@@ -330,16 +330,18 @@ impl<A: Algorithm, I: RafIo, R: RafRng, J: RafIo> Raf<A, I, R, J> {
         }
     }
 
-    /// The page that has a byte of the text, and the byte's place in it.
+    /// The page that has a byte of the contents, and the byte's place in it.
     fn place(&self, offset: u64) -> (u64, usize) {
         let chunk_size = u64::from(self.layout.chunk_size);
         (offset / chunk_size, (offset % chunk_size) as usize)
     }
 
-    /// Puts the text of a page into its place: the one that it was changed to, or else that of the file's page.
+    /// Puts the contents of a page into its place: the one that it was changed to, or else that of the file's page.
     fn show_page(&mut self, number: u64) -> Result<()> {
-        if let Some(text) = self.changes.get(number) {
-            self.layout.text(&mut self.page).copy_from_slice(text);
+        if let Some(contents) = self.changes.get(number) {
+            self.layout
+                .contents(&mut self.page)
+                .copy_from_slice(contents);
             return Ok(());
         }
         let place = self.layout.page_place(number);
@@ -351,7 +353,7 @@ impl<A: Algorithm, I: RafIo, R: RafRng, J: RafIo> Raf<A, I, R, J> {
         }
     }
 
-    /// Puts the text of a page into its place as it is after `data` was written over the text from `offset` on. The page is
+    /// Puts the contents of a page into its place as it is after `data` was written over the contents from `offset` on. The page is
     /// read only if some of its bytes are kept.
     fn change_page(&mut self, number: u64, data: &[u8], offset: u64) -> Result<()> {
         let chunk_size = u64::from(self.layout.chunk_size);
@@ -364,12 +366,12 @@ impl<A: Algorithm, I: RafIo, R: RafRng, J: RafIo> Raf<A, I, R, J> {
         if live > 0 {
             self.show_page(number)?;
         }
-        let text = self.layout.text(&mut self.page);
-        text[live as usize..].fill(0);
+        let contents = self.layout.contents(&mut self.page);
+        contents[live as usize..].fill(0);
         let (from, to) = (offset.max(first), end.min(first + chunk_size));
         if from < to {
             let part = &data[(from - offset) as usize..(to - offset) as usize];
-            text[(from - first) as usize..(to - first) as usize].copy_from_slice(part);
+            contents[(from - first) as usize..(to - first) as usize].copy_from_slice(part);
         }
         Ok(())
     }
@@ -378,17 +380,17 @@ impl<A: Algorithm, I: RafIo, R: RafRng, J: RafIo> Raf<A, I, R, J> {
     /// not change: it shows to which file the journal belongs.
     fn sealed_writes(
         &mut self,
-        sector: &[u8; SECTOR_BYTES],
+        header_block: &[u8; HEADER_BLOCK_BYTES],
         counter: u64,
     ) -> Result<Vec<PendingWrite>> {
         let nonces = self.nonces(self.changes.len() + 1)?;
         let mut writes = vec![PendingWrite {
             place: 0,
-            bytes: sector.to_vec(),
+            bytes: header_block.to_vec(),
         }];
-        for ((number, text), nonce) in self.changes.iter().zip(&nonces) {
+        for ((number, contents), nonce) in self.changes.iter().zip(&nonces) {
             let mut bytes = vec![0; self.layout.page_bytes()];
-            self.layout.text(&mut bytes).copy_from_slice(text);
+            self.layout.contents(&mut bytes).copy_from_slice(contents);
             self.layout.seal(number, nonce, &mut bytes);
             let place = self.layout.page_place(number);
             writes.push(PendingWrite { place, bytes });
@@ -474,18 +476,18 @@ mod tests {
         }
     }
 
-    /// The last byte of the longest text may be written, and none after it.
+    /// The last byte of the longest contents may be written, and none after it.
     #[test]
-    fn the_longest_text() {
+    fn the_longest_contents() {
         let header = PageHeader {
             page_size: 256,
-            text_len: MAX_SIZE,
+            contents_len: MAX_SIZE,
             ..PageHeader::default()
         };
         let layout = Layout::<Aegis256>::of(&[7; 32], &header);
-        let sector = layout.header(0, MAX_SIZE, &[1; 32]).to_vec();
+        let header_block = layout.header(0, MAX_SIZE, &[1; 32]).to_vec();
         let builder = RafBuilder::<Aegis256>::with_rng(Zeros).journal(NoJournal);
-        let mut file = builder.open(Header(sector), &[7; 32]).unwrap();
+        let mut file = builder.open(Header(header_block), &[7; 32]).unwrap();
         assert_eq!(file.size(), MAX_SIZE);
         // Its page is not there.
         let written = file.write(&[1], MAX_SIZE - 1);

@@ -9,7 +9,7 @@ use Rattle.aegis.specs.declared.record.version.Version.{Version}
 use Rattle.aegis.specs.declared.record.version.Version.TheVariants.{First, Second}
 use Rattle.aegis.specs.Calls.{IsRefused, OpensTo, messages}
 use Rattle.aegis.specs.Fault.{AtEnd, AtHeader, AtRecord, HasFault, IsFaultAt, IsFaultOf, IsOneFault, Parts, parts}
-use Rattle.aegis.specs.RecordStream.{AreWithin, IsOneRecordStream, IsRecordStream, IsSealing, Sealing, first_position, flag_before, frame, frames, front, header, limit, next_position, position_after}
+use Rattle.aegis.specs.RecordStream.{AreWithin, IsOneRecordStream, IsRecordStream, IsSealing, Sealing, first_position, flag_before, frame, frames, beginning, header, limit, next_position, position_after}
 use Rattle.aegis.proofs.Reading.{parts_frame}
 
 -- ---- one record
@@ -74,7 +74,7 @@ frames_more s at m ms x =
     append_assoc (frame s at (flag_before 0 ms) m) (frames s (next_position at m) 0 ms) x
     ∙ ap (λ (f : ℕ). frame s at f m ++ (frames s (next_position at m) 0 ms ++ x)) (flag_open ms)
 
--- the messages of one front and others are those of the longest one
+-- the messages of one beginning and others are those of the longest one
 pub record Follows (s : Sealing) (at : RecordPosition) (ms ns : List (List ℕ)) (x y : List ℕ) : Type 0 where
   pub more : List (List ℕ)
   pub are : ns ≡ ms ++ more
@@ -122,17 +122,17 @@ header_one Second First a b e = absurd (differ 50 (ap (λ (l : List ℕ). get_or
 pub record Reads (s : Sealing) (bytes : List ℕ) (v : Version) (ms : List (List ℕ)) (end : End) : Type 0 where
   pub rest : List ℕ
   pub within : AreWithin v ms
-  pub are : bytes ≡ front s v 0 ms ++ rest
+  pub are : bytes ≡ beginning s v 0 ms ++ rest
   pub ends : Ends s (position_after (first_position v) ms) rest end
 
 known : (s : Sealing) (bytes : List ℕ) (v : Version) (ms : List (List ℕ)) (end : End) → Reads s bytes v ms end → take 4 bytes ≡ header v
 known s bytes v ms end p =
     ap (take 4) (p.are ∙ append_assoc (header v) (frames s (first_position v) 0 ms) p.rest) ∙ take_at (header v) (frames s (first_position v) 0 ms ++ p.rest) 4 (header_size v)
 
--- a front of records with the flag 0, of bytes that are read so
-pub front_follows : (s : Sealing) (is : IsSealing s) (bytes x : List ℕ) (v w : Version) (ms ns : List (List ℕ)) (b : End) → AreWithin v ms → bytes ≡ front s v 0 ms ++ x
+-- a beginning of records with the flag 0, of bytes that are read so
+pub beginning_follows : (s : Sealing) (is : IsSealing s) (bytes x : List ℕ) (v w : Version) (ms ns : List (List ℕ)) (b : End) → AreWithin v ms → bytes ≡ beginning s v 0 ms ++ x
     → (q : Reads s bytes w ns b) → (v ≡ w) × Follows s (first_position v) ms ns x q.rest
-front_follows s is bytes x v w ms ns b within e q =
+beginning_follows s is bytes x v w ms ns b within e q =
     let a : List ℕ = frames s (first_position v) 0 ms ++ x in
     let all : header v ++ a ≡ header w ++ (frames s (first_position w) 0 ns ++ q.rest) =
     sym (append_assoc (header v) (frames s (first_position v) 0 ms) x) ∙ sym e ∙ q.are ∙ append_assoc (header w) (frames s (first_position w) 0 ns) q.rest in
@@ -145,7 +145,7 @@ pub reads_one : (s : Sealing) (is : IsSealing s) (bytes : List ℕ) (v w : Versi
     → (v ≡ w) × (ms ≡ ns) × (a ≡ b)
 unfolding frames
 reads_one s is bytes v w ms ns a b p q =
-    let h = front_follows s is bytes p.rest v w ms ns b p.within p.are q in
+    let h = beginning_follows s is bytes p.rest v w ms ns b p.within p.are q in
     let all = no_more h.1.more h.1.are h.1.within h.1.rest in
     let ends = subst (λ u. Ends s (position_after (first_position u) ns) q.rest b) (sym h.0) q.ends in (
       h.0,
@@ -181,9 +181,9 @@ frames_append s at last (m ∷ ms) ns some =
     flag_same [] (n ∷ ns) some = refl
     flag_same (m ∷ ms) ns some = refl
 
-pub front_append : (s : Sealing) (v : Version) (last : ℕ) (ms ns : List (List ℕ)) → (last ≡ 0) ⊎ (0 < length ns)
-    → front s v last (ms ++ ns) ≡ front s v 0 ms ++ frames s (position_after (first_position v) ms) last ns
-front_append s v last ms ns some =
+pub beginning_append : (s : Sealing) (v : Version) (last : ℕ) (ms ns : List (List ℕ)) → (last ≡ 0) ⊎ (0 < length ns)
+    → beginning s v last (ms ++ ns) ≡ beginning s v 0 ms ++ frames s (position_after (first_position v) ms) last ns
+beginning_append s v last ms ns some =
     ap (λ (l : List ℕ). header v ++ l) (frames_append s (first_position v) last ms ns some)
     ∙ sym (append_assoc (header v) (frames s (first_position v) 0 ms) (frames s (position_after (first_position v) ms) last ns))
 
@@ -196,10 +196,10 @@ pub frames_push : (s : Sealing) (at : RecordPosition) (last : ℕ) (ms : List (L
     → frames s at last (ms ++ m ∷ []) ≡ frames s at 0 ms ++ frame s (position_after at ms) last m
 frames_push s at last ms m = frames_append s at last ms (m ∷ []) (inr (omega arith)) ∙ ap (λ (l : List ℕ). frames s at 0 ms ++ l) (frames_one s (position_after at ms) last m)
 
-pub front_push : (s : Sealing) (v : Version) (last : ℕ) (ms : List (List ℕ)) (m : List ℕ)
-    → front s v last (ms ++ m ∷ []) ≡ front s v 0 ms ++ frame s (position_after (first_position v) ms) last m
-front_push s v last ms m =
-    front_append s v last ms (m ∷ []) (inr (omega arith)) ∙ ap (λ (l : List ℕ). front s v 0 ms ++ l) (frames_one s (position_after (first_position v) ms) last m)
+pub beginning_push : (s : Sealing) (v : Version) (last : ℕ) (ms : List (List ℕ)) (m : List ℕ)
+    → beginning s v last (ms ++ m ∷ []) ≡ beginning s v 0 ms ++ frame s (position_after (first_position v) ms) last m
+beginning_push s v last ms m =
+    beginning_append s v last ms (m ∷ []) (inr (omega arith)) ∙ ap (λ (l : List ℕ). beginning s v 0 ms ++ l) (frames_one s (position_after (first_position v) ms) last m)
 
 pub within_append : (v : Version) (ms ns : List (List ℕ)) → AreWithin v ms → AreWithin v ns → AreWithin v (ms ++ ns)
 within_append v [] ns ws w = w
@@ -225,7 +225,7 @@ closes s v ms bytes x p =
       reads = record {
         rest = frame s at 1 cut.1 ++ x;
         within = within.0;
-        are = ap (λ (l : List ℕ). l ++ x) (p.are ∙ ap (front s v 1) cut.2 ∙ front_push s v 1 cut.0 cut.1) ∙ append_assoc (front s v 0 cut.0) (frame s at 1 cut.1) x;
+        are = ap (λ (l : List ℕ). l ++ x) (p.are ∙ ap (beginning s v 1) cut.2 ∙ beginning_push s v 1 cut.0 cut.1) ∙ append_assoc (beginning s v 0 cut.0) (frame s at 1 cut.1) x;
         ends = (rw (version_after (first_position v) cut.0) within.1, refl);
       };
     }

@@ -7,7 +7,7 @@ use Rattle.aegis.specs.declared.record.position.RecordPosition.{RecordPosition}
 use Rattle.aegis.specs.declared.record.version.Version.{Version}
 use Rattle.aegis_base.specs.Chunks.{texts}
 use Rattle.aegis.specs.Progress.{Begun, Progress, sealing_in, start_of}
-use Rattle.aegis.specs.RecordStream.{IsSealing, IsRecordStream, Sealing, first_position, flag_before, frame, frames, frames_length, front, header, next_position, position_after, records_length, start_at}
+use Rattle.aegis.specs.RecordStream.{IsSealing, IsRecordStream, Sealing, first_position, flag_before, frame, frames, frames_length, beginning, header, next_position, position_after, records_length, start_at}
 use Rattle.aegis.proofs.Frames.{header_size}
 use Rattle.aegis.proofs.Sealed.{sealed-is}
 
@@ -26,13 +26,13 @@ length-frames s is at last (m ∷ ms) =
       length-append (frame s at (flag_before last ms) m) (frames s (next_position at m) last ms),
     )
 
-length-front : (s : Sealing) → IsSealing s → (v : Version) (last : ℕ) (ms : List (List ℕ)) → length (front s v last ms) ≡ records_length ms
-length-front s is v last ms =
+length-beginning : (s : Sealing) → IsSealing s → (v : Version) (last : ℕ) (ms : List (List ℕ)) → length (beginning s v last ms) ≡ records_length ms
+length-beginning s is v last ms =
     omega (arith, header_size v, length-frames s is (first_position v) last ms, length-append (header v) (frames s (first_position v) last ms))
 
 pub length-stream : (s : Sealing) → IsSealing s → (v : Version) (ms : List (List ℕ)) (bytes : List ℕ) → IsRecordStream s v ms bytes
     → length bytes ≡ records_length ms
-length-stream s is v ms bytes p = ap length p.are ∙ length-front s is v 1 ms
+length-stream s is v ms bytes p = ap length p.are ∙ length-beginning s is v 1 ms
 
 pub start_after : (at : RecordPosition) (ms : List (List ℕ)) → start_at (position_after at ms) ≡ start_at at + frames_length ms
 start_after at [] = omega arith
@@ -42,7 +42,7 @@ pub length-begun : (p : Progress) (ms : List (List ℕ)) (bytes : List ℕ) → 
 unfolding Begun
 length-begun p ms bytes b =
     let v : Version = p.position.version in
-    ap length b.are ∙ length-front (sealing_in p) (sealed-is p.key p.prefix p.context) v 0 ms ∙ sym (start_after (first_position v) ms) ∙ ap start_at (sym b.place)
+    ap length b.are ∙ length-beginning (sealing_in p) (sealed-is p.key p.prefix p.context) v 0 ms ∙ sym (start_after (first_position v) ms) ∙ ap start_at (sym b.place)
 
 pub begun_start : (p : Progress) (ms : List (List ℕ)) (bytes : List ℕ) → Begun p ms bytes → start_of p ≡ records_length ms
 unfolding Begun

@@ -6,7 +6,7 @@ use Rattle.std.specs.Prelude.{Vec}
 use Rattle.std.specs.Vec.{with_items}
 use Rattle.aegis_base.specs.Variant.{Aegis256}
 use Rattle.aegis_base.specs.Message.{ciphertext, tag}
-use Rattle.aegis_base.specs.Run.{Held, Stands}
+use Rattle.aegis_base.specs.Context.{Held, Stands}
 use Rattle.aegis.specs.Calls.{sealing_of}
 use Rattle.aegis.specs.Records.{associated_data, nonce, sealed}
 use Rattle.aegis.specs.declared.record.position.RecordPosition.{RecordPosition}
@@ -20,7 +20,7 @@ nonce_of cipher position = nonce cipher.prefix.now position.number
 abbrev pub data_of : RecordCipher → RecordPosition → ℕ → List ℕ
 data_of cipher position flag = associated_data position flag cipher.context.now
 
--- an encryptor stands for this front of a record's message
+-- an encryptor stands for this beginning of a record's message
 abbrev pub StandsFor : RecordCipher → RecordPosition → ℕ → Held → List ℕ → Type 0
 StandsFor cipher position flag encryptor m =
     Stands Aegis256 encryptor cipher.key.now (nonce_of cipher position) (data_of cipher position flag) m

@@ -33,7 +33,7 @@ pub joined : (key prefix context : List ℕ) (at : RecordPosition) (flag : ℕ) 
 unfolding sealed
 joined key prefix context at flag m c t is = ap (λ (p : List ℕ × List ℕ). p.0 ++ p.1) is
 
--- bytes whose front opens with the tag after it are what the message is sealed to
+-- bytes whose beginning opens with the tag after it are what the message is sealed to
 pub opened : (key prefix context : List ℕ) (at : RecordPosition) (flag : ℕ) (m bytes c t : List ℕ)
     → Opens Aegis256 32 key (nonce prefix at.number) (associated_data at flag context) c t m
     → c ≡ take (length bytes - 32) bytes → t ≡ drop (length bytes - 32) bytes → sealed key prefix context at flag m ≡ bytes

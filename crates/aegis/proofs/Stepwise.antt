@@ -15,8 +15,8 @@ use Rattle.aegis.specs.Fault.{AtEnd, AtHeader, AtRecord, HasFault, IsFaultAt, Is
 use Rattle.aegis.specs.Opening.{AcceptsNext, IsFirstFault, OpensNext}
 use Rattle.aegis.specs.Progress.{AreRecordsOfSomeVersion, Begun, IsRecordFault, IsUnder, Progress, after, last_flag, progress_at, record_of, sealing_in, start_of}
 use Rattle.aegis.specs.Records.{AreRecords, IsFault, sealed}
-use Rattle.aegis.specs.RecordStream.{AreWithin, Sealing, first_position, frame, frames, front, header, limit, next_position, position_after}
-use Rattle.aegis.proofs.Frames.{Closes, closes, frame_one, frame_sound, front_append, front_follows, front_push, position_append, version_after, within_append}
+use Rattle.aegis.specs.RecordStream.{AreWithin, Sealing, first_position, frame, frames, beginning, header, limit, next_position, position_after}
+use Rattle.aegis.proofs.Frames.{Closes, closes, frame_one, frame_sound, beginning_append, beginning_follows, beginning_push, position_append, version_after, within_append}
 use Rattle.aegis.proofs.Lengths.{length-begun, length-frame}
 use Rattle.aegis.proofs.Reading.{fault_more, long_is, unknown_is, whole_is}
 use Rattle.aegis.proofs.Sealed.{sealed-is}
@@ -32,12 +32,12 @@ unfolding Begun
 begun_open p ms before b = b.unended
 
 grown : (p : Progress) (last : ℕ) (ms : List (List ℕ)) (m bytes : List ℕ) → Begun p ms bytes
-    → bytes ++ record_of p last m ≡ front (sealing_in p) p.position.version last (ms ++ m ∷ [])
+    → bytes ++ record_of p last m ≡ beginning (sealing_in p) p.position.version last (ms ++ m ∷ [])
 unfolding Begun
 grown p last ms m bytes b =
     ap (λ (l : List ℕ). l ++ record_of p last m) b.are
-    ∙ ap (λ at. front (sealing_in p) p.position.version 0 ms ++ frame (sealing_in p) at last m) b.place
-    ∙ sym (front_push (sealing_in p) p.position.version last ms m)
+    ∙ ap (λ at. beginning (sealing_in p) p.position.version 0 ms ++ frame (sealing_in p) at last m) b.place
+    ∙ sym (beginning_push (sealing_in p) p.position.version last ms m)
 
 -- the progress after a record of a message of n bytes
 abbrev pub moved : Progress → Bool → ℕ → Progress
@@ -80,8 +80,8 @@ begun_all key prefix context at ns within ms bytes b =
       unended = refl;
       place = rw (version_after at ns) (ap (λ q. position_after q ns) b.place ∙ sym (position_append (first_position v) ms ns));
       within = rw (version_after at ns) (within_append v ms ns b.within within);
-      are = rw (version_after at ns) (ap (λ (l : List ℕ). l ++ frames s at 0 ns) b.are ∙ ap (λ q. front s v 0 ms ++ frames s q 0 ns) b.place
-          ∙ sym (front_append s v 0 ms ns (inl refl)));
+      are = rw (version_after at ns) (ap (λ (l : List ℕ). l ++ frames s at 0 ns) b.are ∙ ap (λ q. beginning s v 0 ms ++ frames s q 0 ns) b.place
+          ∙ sym (beginning_append s v 0 ms ns (inl refl)));
     }
 
 pub begun_whole : (key prefix context : List ℕ) (at : RecordPosition) (ns : List (List ℕ)) → AreWithin at.version ns → 0 < length ns → (ms : List (List ℕ)) (bytes : List ℕ)
@@ -94,19 +94,19 @@ begun_whole key prefix context at ns within some ms bytes b =
     record {
       some = omega (arith, length-append ms ns);
       within = within_append v ms ns b.within within;
-      are = ap (λ (l : List ℕ). l ++ frames s at 1 ns) b.are ∙ ap (λ q. front s v 0 ms ++ frames s q 1 ns) b.place ∙ sym (front_append s v 1 ms ns (inr some));
+      are = ap (λ (l : List ℕ). l ++ frames s at 1 ns) b.are ∙ ap (λ q. beginning s v 0 ms ++ frames s q 1 ns) b.place ∙ sym (beginning_append s v 1 ms ns (inr some));
     }
 
--- the messages so far are a front of those of any stream that begins so
-pub begun_front : (p : Progress) (ms : List (List ℕ)) (bytes : List ℕ) → Begun p ms bytes
+-- the messages so far are a beginning of those of any stream that begins so
+pub begun_beginning : (p : Progress) (ms : List (List ℕ)) (bytes : List ℕ) → Begun p ms bytes
     → (ns : List (List ℕ)) (more : List ℕ) → AreRecordsOfSomeVersion p.key p.prefix p.context ns (bytes ++ more)
     → (rest : List (List ℕ)) × (ns ≡ ms ++ rest) × (0 < length rest)
 unfolding Begun
-begun_front p ms bytes b ns more (w, s) =
+begun_beginning p ms bytes b ns more (w, s) =
     let v : Version = p.position.version in
     let c : Closes (sealing_in p) w ns (bytes ++ more) [] = closes (sealing_in p) w ns (bytes ++ more) [] s in
-    let all : (bytes ++ more) ++ [] ≡ front (sealing_in p) v 0 ms ++ more = append-nil (bytes ++ more) ∙ ap (λ (l : List ℕ). l ++ more) b.are in
-    let h = (front_follows (sealing_in p) (sealed-is p.key p.prefix p.context) ((bytes ++ more) ++ []) more v w ms c.before (Ok (c.last, [])) b.within all c.reads).1 in (
+    let all : (bytes ++ more) ++ [] ≡ beginning (sealing_in p) v 0 ms ++ more = append-nil (bytes ++ more) ∙ ap (λ (l : List ℕ). l ++ more) b.are in
+    let h = (beginning_follows (sealing_in p) (sealed-is p.key p.prefix p.context) ((bytes ++ more) ++ []) more v w ms c.before (Ok (c.last, [])) b.within all c.reads).1 in (
       h.more ++ c.last ∷ [],
       c.are ∙ ap (λ (l : List (List ℕ)). l ++ c.last ∷ []) h.are ∙ append_assoc ms h.more (c.last ∷ []),
       omega (arith, length-append h.more (c.last ∷ [])),

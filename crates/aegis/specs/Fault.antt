@@ -1,11 +1,11 @@
--- The fault of bytes that are the stream of no list of messages: the first one, read from the front.
+-- The fault of bytes that are the stream of no list of messages: the first one, read from the beginning.
 use Rattle.std.specs.Prelude.{◌≡◌, ◌≢◌, ℕ, ◌+◌, ◌<◌, List, [], ◌∷◌, ◌++◌, drop, length, nat_lt, take, Result, Ok, Err, if◌then◌else◌}
 use Rattle.std.specs.Int.{w32, from_le_bytes}
 use Rattle.aegis.specs.declared.record.error.RecordError.{RecordError}
 use Rattle.aegis.specs.declared.record.error.RecordError.TheVariants as errors
 use Rattle.aegis.specs.declared.record.position.RecordPosition.{RecordPosition}
 use Rattle.aegis.specs.declared.record.version.Version.{Version}
-use Rattle.aegis.specs.RecordStream.{AreWithin, IsRecordStream, Sealing, first_position, front, header, limit, position_after}
+use Rattle.aegis.specs.RecordStream.{AreWithin, IsRecordStream, Sealing, first_position, beginning, header, limit, position_after}
 
 -- the number in the first four bytes, least byte first
 abbrev pub length_at : List ℕ → ℕ
@@ -47,7 +47,7 @@ IsFaultAt sealing position bytes e = HasFault sealing position (parts position.v
 -- fault.
 pub data FirstFault (sealing : Sealing) (bytes : List ℕ) (e : RecordError) : Type 0 where
   AtHeader : ((v : Version) → take 4 bytes ≢ header v) → e ≡ errors.Header → FirstFault sealing bytes e
-  AtRecord : (v : Version) (ms : List (List ℕ)) (rest : List ℕ) → AreWithin v ms → bytes ≡ front sealing v 0 ms ++ rest
+  AtRecord : (v : Version) (ms : List (List ℕ)) (rest : List ℕ) → AreWithin v ms → bytes ≡ beginning sealing v 0 ms ++ rest
       → IsFaultAt sealing (position_after (first_position v) ms) rest e → FirstFault sealing bytes e
   AtEnd : (v : Version) (ms : List (List ℕ)) (stream rest : List ℕ) → IsRecordStream sealing v ms stream → bytes ≡ stream ++ rest
       → 0 < length rest → e ≡ errors.Trailing → FirstFault sealing bytes e

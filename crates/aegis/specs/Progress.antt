@@ -5,7 +5,7 @@ use Rattle.aegis.specs.declared.record.position.RecordPosition.{RecordPosition}
 use Rattle.aegis.specs.declared.record.version.Version.{Version}
 use Rattle.aegis.specs.Fault.{IsFaultAt}
 use Rattle.aegis.specs.Records.{AreRecords, sealed}
-use Rattle.aegis.specs.RecordStream.{AreWithin, Sealing, first_position, frame, front, next_position, position_after, start_at}
+use Rattle.aegis.specs.RecordStream.{AreWithin, Sealing, first_position, frame, beginning, next_position, position_after, start_at}
 
 -- What is known between two records: the key, prefix and context of the stream, the position of the next record, and whether the
 -- last record was opened, so that there is no next one.
@@ -33,7 +33,7 @@ pub record BegunStream (p : Progress) (ms : List (List ℕ)) (bytes : List ℕ) 
   pub unended : p.ended ≡ false
   pub place : p.position ≡ position_after (first_position p.position.version) ms
   pub within : AreWithin p.position.version ms
-  pub are : bytes ≡ front (sealing_in p) p.position.version 0 ms
+  pub are : bytes ≡ beginning (sealing_in p) p.position.version 0 ms
 
 -- the same as one fact, which tactics do not take apart
 unfoldable pub Begun : Progress → List (List ℕ) → List ℕ → Type 0

@@ -57,9 +57,9 @@ frames sealing position last [] = []
 frames sealing position last (m ∷ ms) =
     frame sealing position (flag_before last ms) m ++ frames sealing (next_position position m) last ms
 
--- a header and the records of messages: a stream if `last` is 1, and the front of one if it is 0
-abbrev pub front : Sealing → Version → ℕ → List (List ℕ) → List ℕ
-front sealing v last ms = header v ++ frames sealing (first_position v) last ms
+-- a header and the records of messages: a stream if `last` is 1, and the beginning of one if it is 0
+abbrev pub beginning : Sealing → Version → ℕ → List (List ℕ) → List ℕ
+beginning sealing v last ms = header v ++ frames sealing (first_position v) last ms
 
 -- no message is longer than a record's may be
 abbrev pub AreWithin : Version → List (List ℕ) → Type 0
@@ -69,7 +69,7 @@ AreWithin v ms = AllByRecursion (λ m. length m ≤ limit v) ms
 pub record IsRecordStream (sealing : Sealing) (v : Version) (ms : List (List ℕ)) (bytes : List ℕ) : Type 0 where
   pub some : 0 < length ms
   pub within : AreWithin v ms
-  pub are : bytes ≡ front sealing v 1 ms
+  pub are : bytes ≡ beginning sealing v 1 ms
 
 -- each record adds 37 bytes to its message, and the header has four
 abbrev pub frames_length : List (List ℕ) → ℕ
@@ -88,7 +88,7 @@ pub record IsSealing (sealing : Sealing) : Type 0 where
   pub one : (position : RecordPosition) (flag : ℕ) (m n : List ℕ) → sealing position flag m ≡ sealing position flag n → m ≡ n
 
 -- Two streams that the same bytes begin with are one stream, and the same bytes follow it. So no bytes are the streams of two
--- lists or two versions, and no stream is a proper front of another.
+-- lists or two versions, and no stream is a proper beginning of another.
 abbrev pub IsOneRecordStream : Sealing → Type 0
 IsOneRecordStream sealing =
     (v w : Version) (ms ns : List (List ℕ)) (a b x y : List ℕ)

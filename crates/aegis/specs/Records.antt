@@ -8,7 +8,7 @@ use Rattle.aegis.specs.declared.record.position.RecordPosition.{RecordPosition}
 use Rattle.aegis.specs.declared.record.version.Version.{Version}
 use Rattle.aegis.specs.declared.record.version.Version.TheVariants.{First, Second}
 use Rattle.aegis.specs.Fault.{IsFaultOf}
-use Rattle.aegis.specs.RecordStream.{IsRecordStream, Sealing, front, header}
+use Rattle.aegis.specs.RecordStream.{IsRecordStream, Sealing, beginning, header}
 
 -- the nonce of record k: the stream's prefix and the number, least byte first
 abbrev pub nonce : List ℕ → ℕ → List ℕ
@@ -32,7 +32,7 @@ sealed key prefix context position flag m =
 
 -- the stream of the messages
 abbrev pub records : Version → List ℕ → List ℕ → List ℕ → List (List ℕ) → List ℕ
-records v key prefix context ms = front (sealed key prefix context) v 1 ms
+records v key prefix context ms = beginning (sealed key prefix context) v 1 ms
 
 -- the bytes are the stream of the messages: there is at least one, and none is longer than the version allows
 abbrev pub AreRecords : Version → List ℕ → List ℕ → List ℕ → List (List ℕ) → List ℕ → Type 0

@@ -7,13 +7,13 @@
 ghost use Rattle.std.specs.Prelude.{◌≡◌, ℕ, ◌+◌, ◌*◌, ◌/◌, ◌^◌, ◌<◌, List, [], ◌∷◌};
 ghost use Rattle.aegis_aes.specs.Lanes.{context};
 ghost use Rattle.aegis_base.specs.Variant.{Family128};
-ghost use Rattle.aegis_base.specs.Lane.{add_context, first_blocks, high_tag, keystream_blocks, last_block, low_tag, block_in, short_tag, start, start_turn, step};
+ghost use Rattle.aegis_base.specs.Lane.{add_context, first_blocks, high_tag, keystream_blocks, last_block, low_tag, block_in, short_tag, init, init_turn, update};
 
 use aegis_aes::{AesBlock, AesBlock2, AesBlock4, Pair, Row, Rows2};
 use aegis_base::{C0, C1, LaneState, SavedLanes, SavedRows, bit_lengths, block_in_all_lanes};
 
 /// The lanes of AEGIS-128L, 128X2 or 128X4: their rows, each with one block of every lane, and the number of updates
-/// since the start.
+/// since initialization.
 ///
 /// Row i is in a pair with row i + 4, so that an update computes each pair from the previous one, and the first pair
 /// from the last one with its rows exchanged.
@@ -45,7 +45,7 @@ impl<P: Pair> State128<P> {
         requires { self.old.updates + 1 < 2 ^ 64 }
         ensures lanes { (j : ℕ) → j < P.Row.LANES
             → lane P.block self.new j
-            ≡ step Family128 (lane P.block self.old j) (P.block m 0 j ∷ P.block m 1 j ∷ []) }
+            ≡ update Family128 (lane P.block self.old j) (P.block m 0 j ∷ P.block m 1 j ∷ []) }
         ensures updates { self.new.updates ≡ self.old.updates + 1 }
     {
         let last = self.s37.swap();
@@ -149,7 +149,7 @@ impl<P: Pair> LaneState for State128<P> {
         }
     }
 
-    fn start(&mut self, key: &[u8], nonce: &[u8]) {
+    fn init(&mut self, key: &[u8], nonce: &[u8]) {
         let key_row = P::Row::splat(AesBlock::from_bytes(key));
         let nonce_row = P::Row::splat(AesBlock::from_bytes(nonce));
         for _turn in 0..10usize {
@@ -210,7 +210,7 @@ impl<P: Pair> LaneState for State128<P> {
         self.update(P::of(even, odd));
     }
 
-    fn step_by_two(&mut self, first: P::Row, second: P::Row) {
+    fn update_by_two(&mut self, first: P::Row, second: P::Row) {
         self.update(P::of(first, second));
     }
 

@@ -7,7 +7,7 @@
 ghost use Rattle.std.specs.Prelude.{◌≡◌, ℕ, ◌+◌, ◌-◌, ◌*◌, ◌^◌, ◌<◌, List, [], ◌∷◌, length};
 ghost use Rattle.aegis_aes.specs.Lanes.{context};
 ghost use Rattle.aegis_base.specs.Variant.{Family256};
-ghost use Rattle.aegis_base.specs.Lane.{add_context, first_blocks, high_half, high_tag, keystream_blocks, last_block, low_half, low_tag, block_in, short_tag, start, start_turn, step};
+ghost use Rattle.aegis_base.specs.Lane.{add_context, first_blocks, high_half, high_tag, keystream_blocks, last_block, low_half, low_tag, block_in, short_tag, init, init_turn, update};
 
 use aegis_aes::{AesBlock, AesBlock2, AesBlock4, Pair, Row, Rows2};
 use aegis_base::{C0, C1, LaneState, SavedLanes, SavedRows, bit_lengths, block_in_all_lanes};
@@ -30,7 +30,7 @@ fn high_half(bytes: &[u8]) -> AesBlock
 }
 
 /// The lanes of AEGIS-256, 256X2 or 256X4: their rows, each with one block of every lane, and the number of updates
-/// since the start.
+/// since initialization.
 ///
 /// Row i is in a pair with row i + 3, so that an update computes each pair from the previous one, and the first pair
 /// from the last one with its rows exchanged.
@@ -61,7 +61,7 @@ impl<P: Pair> State256<P> {
         requires { self.old.updates + 1 < 2 ^ 64 }
         ensures lanes { (j : ℕ) → j < P.Row.LANES
             → lane P.block self.new j
-            ≡ step Family256 (lane P.block self.old j) (P.Row.block m j ∷ []) }
+            ≡ update Family256 (lane P.block self.old j) (P.Row.block m j ∷ []) }
         ensures updates { self.new.updates ≡ self.old.updates + 1 }
     {
         let last = self.s25.swap();
@@ -85,13 +85,13 @@ impl<P: Pair> State256<P> {
         self.s25 = P::of(self.s25.first(), self.s25.second().xor_row(contexts));
     }
 
-    // One update of the start (AEGIS, Init).
+    // One update of initialization (AEGIS, Init).
     #[inline(always)]
-    fn start_update(&mut self, block: AesBlock)
+    fn init_update(&mut self, block: AesBlock)
         requires { self.old.updates + 1 < 2 ^ 64 }
         ensures lanes { (j : ℕ) → j < P.Row.LANES
             → lane P.block self.new j
-            ≡ step Family256
+            ≡ update Family256
             (add_context Family256 (context j P.Row.LANES) (lane P.block self.old j))
             (block ∷ []) }
         ensures updates { self.new.updates ≡ self.old.updates + 1 }
@@ -176,7 +176,7 @@ impl<P: Pair> LaneState for State256<P> {
 
     // One loop for all four turns: in a loop inside a loop LLVM inlines the rounds of four lanes, which is slower at
     // x86-64-v2.
-    fn start(&mut self, key: &[u8], nonce: &[u8]) {
+    fn init(&mut self, key: &[u8], nonce: &[u8]) {
         let low = low_half(key);
         let high = high_half(key);
         let blocks = [
@@ -186,7 +186,7 @@ impl<P: Pair> LaneState for State256<P> {
             high.xor(high_half(nonce)),
         ];
         for i in 0..16usize {
-            self.start_update(blocks[i % 4]);
+            self.init_update(blocks[i % 4]);
         }
         self.updates = 0;
     }
@@ -238,7 +238,7 @@ impl<P: Pair> LaneState for State256<P> {
         self.update(block_in_all_lanes(tags, turn + 1));
     }
 
-    fn step_by_two(&mut self, first: P::Row, second: P::Row) {
+    fn update_by_two(&mut self, first: P::Row, second: P::Row) {
         self.update(first);
         self.update(second);
     }

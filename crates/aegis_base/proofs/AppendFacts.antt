@@ -6,29 +6,29 @@ use Rattle.std.proofs.lemmas.List.{get_or_append_left, get_or-append_right, leng
 use Rattle.aegis_aes.specs.Lanes.{IsLaneCount}
 use Rattle.aegis_base.specs.Variant.{Variant, rate}
 use Rattle.aegis_base.specs.Message.{ciphertext_from, keystream_byte_along}
-use Rattle.aegis_base.specs.Run.{HasFrom, IsAlong}
+use Rattle.aegis_base.specs.Context.{HasFrom, IsAlong}
 use Rattle.aegis_base.proofs.Bijection.{ciphertext-is, ciphertext-reads, length-ciphertext, keystream_byte_along-before}
 use Rattle.aegis_base.proofs.MessageFacts.{after-none}
-use Rattle.aegis_base.proofs.RunFacts.{along-same}
+use Rattle.aegis_base.proofs.ContextFacts.{along-same}
 
 -- the ciphertext of a message that continues is that of its beginning, and then the rest xored with the keystream
 pub ciphertext-append : (variant : Variant) (lanes : ℕ → List (List ℕ)) (m p c : List ℕ) → IsLaneCount variant.lanes → length c ≡ length p
     → ((i : ℕ) → i < length p → slice_index c i ≡ bit_xor (slice_index p i) (keystream_byte_along variant lanes (m ++ p) (length m + i)))
     → ciphertext_from variant lanes (m ++ p) ≡ ciphertext_from variant lanes m ++ c
 ciphertext-append variant lanes m p c count long xored =
-    let front = ciphertext_from variant lanes m in
-    let kept : length front ≡ length m = length-ciphertext variant lanes m in
+    let beginning = ciphertext_from variant lanes m in
+    let kept : length beginning ≡ length m = length-ciphertext variant lanes m in
     let both : length (m ++ p) ≡ length m + length p = length-append m p in
-    let all : length (front ++ c) ≡ length front + length c = length-append front c in
-    sym (ciphertext-is variant lanes (m ++ p) (front ++ c) (omega (arith, kept, both, all, long)) (λ i h.
+    let all : length (beginning ++ c) ≡ length beginning + length c = length-append beginning c in
+    sym (ciphertext-is variant lanes (m ++ p) (beginning ++ c) (omega (arith, kept, both, all, long)) (λ i h.
     ⊎_elim
-    (λ low. get_or_append_left front c 0 i (omega (arith, kept, low))
+    (λ low. get_or_append_left beginning c 0 i (omega (arith, kept, low))
     ∙ ciphertext-reads variant lanes m i low
     ∙ ap (λ (x : ℕ). bit_xor x (keystream_byte_along variant lanes m i)) (sym (get_or_append_left m p 0 i low))
     ∙ ap (bit_xor (slice_index (m ++ p) i)) (keystream_byte_along-before variant lanes m (m ++ p) i count (λ k under. sym (get_or_append_left m p 0 k (omega (arith, under, low))))))
     (λ high. let k = i - length m in
     let back : length m + k ≡ i = omega (arith, high) in
-    get_or-append_right front c (length m) i 0 kept high
+    get_or-append_right beginning c (length m) i 0 kept high
     ∙ xored k (omega (arith, h, both, high))
     ∙ ap (λ (x : ℕ). bit_xor x (keystream_byte_along variant lanes (m ++ p) (length m + k))) (sym (get_or-append_right m p (length m) i 0 refl high))
     ∙ ap (λ (q : ℕ). bit_xor (slice_index (m ++ p) i) (keystream_byte_along variant lanes (m ++ p) q)) back)

@@ -106,12 +106,12 @@ opened-more variant lanes c n m count is =
     let byte : ℕ = bit_xor (slice_index c n) (keystream_byte_along variant lanes m n) in
     let longer : List ℕ = m ++ (byte ∷ []) in
     let long : length m ≡ n = is.long in
-    let front : (k : ℕ) → k < n → slice_index longer k ≡ slice_index m k =
+    let beginning : (k : ℕ) → k < n → slice_index longer k ≡ slice_index m k =
     λ k h. get_or_append_left m (byte ∷ []) 0 k (omega arith) in
     let keystream : (i : ℕ) → i ≤ n → keystream_byte_along variant lanes longer i ≡ keystream_byte_along variant lanes m i =
-    λ i h. keystream_byte_along-before variant lanes longer m i count (λ k low. front k (omega arith)) in
+    λ i h. keystream_byte_along-before variant lanes longer m i count (λ k low. beginning k (omega arith)) in
     let before : (i : ℕ) → i < n → ciphertext_byte variant lanes longer i ≡ slice_index c i =
-    λ i h. ap (λ (x : ℕ). bit_xor x (keystream_byte_along variant lanes longer i)) (front i h)
+    λ i h. ap (λ (x : ℕ). bit_xor x (keystream_byte_along variant lanes longer i)) (beginning i h)
     ∙ ap (bit_xor (slice_index m i)) (keystream i (omega arith)) ∙ is.opens i h in
     let last : slice_index longer n ≡ byte =
     ap (slice_index longer) (sym long) ∙ get_or-append_seam m byte [] 0 in

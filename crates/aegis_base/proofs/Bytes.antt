@@ -9,7 +9,7 @@ use Rattle.aegis_aes.specs.Block.{and, bytes_at, xor}
 use Rattle.aegis_aes.specs.Lanes.{IsLaneCount, context}
 use Rattle.aegis_aes.proofs.RoundBytes.{IsBytes, round-bytes}
 use Rattle.aegis_base.specs.Variant.{Family, Family128, Family256, Variant, rate}
-use Rattle.aegis_base.specs.Lane.{add_context, c0, c1, first_blocks, high_half, keystream_blocks, low_half, block_in, start, start_turn, start_turns, step, times}
+use Rattle.aegis_base.specs.Lane.{add_context, c0, c1, first_blocks, high_half, keystream_blocks, low_half, block_in, init, init_turn, init_turns, update, times}
 use Rattle.aegis_base.specs.Message.{after, blocks_at, lane_before, lane_of, share_at, keystream_byte_along}
 use Rattle.aegis_base.proofs.MessageFacts.{lane_of-within}
 
@@ -105,8 +105,8 @@ more-rows {b} {s} is rows = record { at = each }
     each zero = is
     each (suc i) = rows.at i
 
-step-rows : (family : Family) (s m : List (List ℕ)) → AreRows s → AreRows m → AreRows (step family s m)
-step-rows Family128 s m rows input =
+update-rows : (family : Family) (s m : List (List ℕ)) → AreRows s → AreRows m → AreRows (update family s m)
+update-rows Family128 s m rows input =
     more-rows (xor-bytes (round-bytes (block_in s 7) (rows.at 0)) (input.at 0))
     (more-rows (round-bytes (block_in s 0) (rows.at 1))
     (more-rows (round-bytes (block_in s 1) (rows.at 2))
@@ -115,7 +115,7 @@ step-rows Family128 s m rows input =
     (more-rows (round-bytes (block_in s 4) (rows.at 5))
     (more-rows (round-bytes (block_in s 5) (rows.at 6))
     (more-rows (round-bytes (block_in s 6) (rows.at 7)) no-rows)))))))
-step-rows Family256 s m rows input =
+update-rows Family256 s m rows input =
     more-rows (xor-bytes (round-bytes (block_in s 5) (rows.at 0)) (input.at 0))
     (more-rows (round-bytes (block_in s 0) (rows.at 1))
     (more-rows (round-bytes (block_in s 1) (rows.at 2))
@@ -146,18 +146,18 @@ first_blocks-rows Family256 key nonce k n =
     more-rows (xor-bytes low (take-bytes 16 nonce n)) (more-rows (xor-bytes high (drop-bytes 16 nonce n))
     (more-rows c1-bytes (more-rows c0-bytes (more-rows (xor-bytes low c0-bytes) (more-rows (xor-bytes high c1-bytes) no-rows)))))
 
--- an update of the start in the family 256
+-- an update of initialization in the family 256
 turned-rows : (c b : List ℕ) (s : List (List ℕ)) → IsBytes c → IsBytes b → AreRows s
-    → AreRows (step Family256 (add_context Family256 c s) (b ∷ []))
+    → AreRows (update Family256 (add_context Family256 c s) (b ∷ []))
 turned-rows c b s is input rows =
-    step-rows Family256 (add_context Family256 c s) (b ∷ []) (add_context-rows Family256 c s is rows) (more-rows input no-rows)
+    update-rows Family256 (add_context Family256 c s) (b ∷ []) (add_context-rows Family256 c s is rows) (more-rows input no-rows)
 
-start_turn-rows : (family : Family) (key nonce c : List ℕ) (s : List (List ℕ)) → IsBytes key → IsBytes nonce → IsBytes c
-    → AreRows s → AreRows (start_turn family key nonce c s)
-start_turn-rows Family128 key nonce c s k n is rows =
-    step-rows Family128 (add_context Family128 c s) (nonce ∷ key ∷ []) (add_context-rows Family128 c s is rows)
+init_turn-rows : (family : Family) (key nonce c : List ℕ) (s : List (List ℕ)) → IsBytes key → IsBytes nonce → IsBytes c
+    → AreRows s → AreRows (init_turn family key nonce c s)
+init_turn-rows Family128 key nonce c s k n is rows =
+    update-rows Family128 (add_context Family128 c s) (nonce ∷ key ∷ []) (add_context-rows Family128 c s is rows)
     (more-rows n (more-rows k no-rows))
-start_turn-rows Family256 key nonce c s k n is rows =
+init_turn-rows Family256 key nonce c s k n is rows =
     let low = take-bytes 16 key k in
     let high = drop-bytes 16 key k in
     turned-rows c (xor (high_half key) (high_half nonce)) _ is (xor-bytes high (drop-bytes 16 nonce n))
@@ -165,12 +165,12 @@ start_turn-rows Family256 key nonce c s k n is rows =
     (turned-rows c (high_half key) _ is high
     (turned-rows c (low_half key) s is low rows)))
 
-start-rows : (variant : Variant) (key nonce : List ℕ) (j : ℕ) → IsLaneCount variant.lanes → j < variant.lanes → IsBytes key → IsBytes nonce
-    → AreRows (start variant key nonce j)
-unfolding start
-start-rows variant key nonce j count inside k n =
-    times-rows (start_turns variant.family) (start_turn variant.family key nonce (context j variant.lanes)) (first_blocks variant.family key nonce)
-    (λ s rows. start_turn-rows variant.family key nonce (context j variant.lanes) s k n (context-bytes j variant.lanes count inside) rows)
+init-rows : (variant : Variant) (key nonce : List ℕ) (j : ℕ) → IsLaneCount variant.lanes → j < variant.lanes → IsBytes key → IsBytes nonce
+    → AreRows (init variant key nonce j)
+unfolding init
+init-rows variant key nonce j count inside k n =
+    times-rows (init_turns variant.family) (init_turn variant.family key nonce (context j variant.lanes)) (first_blocks variant.family key nonce)
+    (λ s rows. init_turn-rows variant.family key nonce (context j variant.lanes) s k n (context-bytes j variant.lanes count inside) rows)
     (first_blocks-rows variant.family key nonce k n)
 
 blocks_at-rows : (family : Family) (d j : ℕ) (x : List ℕ) (i : ℕ) → IsBytes x → AreRows (blocks_at family d j x i)
@@ -183,13 +183,13 @@ after-rows : (variant : Variant) (s : List (List ℕ)) (j : ℕ) (x : List ℕ) 
 unfolding after
 after-rows variant s j x zero rows is = rows
 after-rows variant s j x (suc n) rows is =
-    step-rows variant.family (after variant s j x n) (share_at variant j x (n * rate variant)) (after-rows variant s j x n rows is)
+    update-rows variant.family (after variant s j x n) (share_at variant j x (n * rate variant)) (after-rows variant s j x n rows is)
     (blocks_at-rows variant.family variant.lanes j x (n * rate variant) is)
 
 pub lane_before-rows : (variant : Variant) (key nonce ad : List ℕ) (j : ℕ) → IsLaneCount variant.lanes → j < variant.lanes
     → IsBytes key → IsBytes nonce → IsBytes ad → AreRows (lane_before variant key nonce ad j)
 lane_before-rows variant key nonce ad j count inside k n is =
-    after-rows variant (start variant key nonce j) j ad _ (start-rows variant key nonce j count inside k n) is
+    after-rows variant (init variant key nonce j) j ad _ (init-rows variant key nonce j count inside k n) is
 
 keystream_blocks-rows : (family : Family) (s : List (List ℕ)) → AreRows s → AreRows (keystream_blocks family s)
 keystream_blocks-rows Family128 s rows =

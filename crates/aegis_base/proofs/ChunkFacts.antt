@@ -9,8 +9,8 @@ use Rattle.aegis_base.specs.Chunks.{joined}
 abbrev pub no_chunk : Bor (List ℕ)
 no_chunk = record { ref_ptr = (0, 0); now = [] }
 
-pub joined-append : (front rest : List (Bor (List ℕ))) → joined (front ++ rest) ≡ joined front ++ joined rest
-joined-append front rest = rw (map-append, concat-append) refl
+pub joined-append : (beginning rest : List (Bor (List ℕ))) → joined (beginning ++ rest) ≡ joined beginning ++ joined rest
+joined-append beginning rest = rw (map-append, concat-append) refl
 
 pub joined-more : (chunks : List (Bor (List ℕ))) (i : ℕ) → i < length chunks
     → joined (take (i + 1) chunks) ≡ joined (take i chunks) ++ (get_or chunks i no_chunk).now

@@ -6,7 +6,7 @@ use Rattle.std.proofs.lemmas.List.FromFn.{get_or-map-range_with_len}
 use Rattle.aegis_aes.specs.Lanes.{IsLaneCount}
 use Rattle.aegis_base.specs.Variant.{Variant, rate}
 use Rattle.aegis_base.specs.Message.{block_count, ciphertext, lane_before, keystream_byte_along}
-use Rattle.aegis_base.specs.Run.{HasFrom, IsAlong, Stands, held_by, lane_in, lanes_of}
+use Rattle.aegis_base.specs.Context.{HasFrom, IsAlong, Stands, held_by, lane_in, lanes_of}
 use Rattle.aegis_base.proofs.AppendFacts.{along-longer, along-none, ciphertext-append, has-after}
 
 -- ---- the lanes that are held

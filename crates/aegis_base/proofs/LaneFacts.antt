@@ -54,8 +54,8 @@ xor_lanes-append f g n (suc zero) long = refl
 xor_lanes-append f g n (suc (suc d)) long =
     let before : (j : ℕ) → j < suc d → length (f j) ≡ n = λ j h. long j (omega arith) in
     let rest = xor_lanes-append f g n (suc d) before in
-    let front : length (xor_lanes f (suc d)) ≡ length (f (suc d)) = length-xor_lanes f n d before ∙ sym (long (suc d) (omega arith)) in
-    rw rest (zip2-append (xor_lanes f (suc d)) (f (suc d)) (xor_lanes g (suc d)) (g (suc d)) front)
+    let beginning : length (xor_lanes f (suc d)) ≡ length (f (suc d)) = length-xor_lanes f n d before ∙ sym (long (suc d) (omega arith)) in
+    rw rest (zip2-append (xor_lanes f (suc d)) (f (suc d)) (xor_lanes g (suc d)) (g (suc d)) beginning)
 
 pub count-positive : (d : ℕ) → IsLaneCount d → 0 < d
 count-positive d (inl one) = omega arith

@@ -8,7 +8,7 @@ use Rattle.aegis_aes.specs.Lanes.{IsLaneCount}
 use Rattle.aegis_base.specs.Variant.{Family, Family128, Family256, Variant, rate}
 use Rattle.aegis_base.specs.Laws.{AgreeInLane}
 use Rattle.aegis_base.specs.Message.{after, after_all, ciphertext, ciphertext_from, lane_before, lane_of, share, keystream_byte_along}
-use Rattle.aegis_base.specs.Lane.{start}
+use Rattle.aegis_base.specs.Lane.{init}
 use Rattle.aegis_base.proofs.Bijection.{ciphertext-reads, length-ciphertext}
 use Rattle.aegis_base.proofs.LaneFacts.{bytes_at-same}
 use Rattle.aegis_base.proofs.MessageFacts.{lane_of-within, variant_of}
@@ -96,4 +96,4 @@ pub ciphertext-in_lane : (variant : Variant) (key nonce ad₁ ad₂ m n : List �
 ciphertext-in_lane variant key nonce ad₁ ad₂ m n j count ad_long ad_agree long agree i here =
     let inside : j < variant.lanes = subst (λ (q : ℕ). q < variant.lanes) here (lane_of-within variant.lanes i count) in
     ciphertext_from-in_lane variant (lane_before variant key nonce ad₁) (lane_before variant key nonce ad₂) m n j count
-    (after_all-in_lane variant (start variant key nonce j) j ad₁ ad₂ count inside ad_long ad_agree) long agree i here
+    (after_all-in_lane variant (init variant key nonce j) j ad₁ ad₂ count inside ad_long ad_agree) long agree i here

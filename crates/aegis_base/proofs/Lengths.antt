@@ -8,7 +8,7 @@ use Rattle.aegis_aes.specs.Block.{xor}
 use Rattle.aegis_aes.specs.Lanes.{IsLaneCount, context}
 use Rattle.aegis_aes.specs.Round.{complete_byte, complete_round, round, sub_bytes}
 use Rattle.aegis_base.specs.Variant.{Family, Family128, Family256, Variant}
-use Rattle.aegis_base.specs.Lane.{IsTagLength, add_context, bit_lengths, finish, first_blocks, high_tag, lane_tag, last_block, last_input, low_tag, block_in, short_tag, start, start_turn, start_turns, step, times}
+use Rattle.aegis_base.specs.Lane.{IsTagLength, add_context, bit_lengths, finalize, first_blocks, high_tag, lane_tag, last_block, last_input, low_tag, block_in, short_tag, init, init_turn, init_turns, update, times}
 use Rattle.aegis_base.specs.Message.{after, lane_end, tag}
 use Rattle.aegis_base.proofs.LaneFacts.{length-xor, length-xor_lanes-count}
 
@@ -33,37 +33,37 @@ abbrev end_row : Family → List (List ℕ) → List ℕ
 end_row Family128 s = block_in s 2
 end_row Family256 s = block_in s 3
 
-pub record IsStepped (family : Family) (s : List (List ℕ)) : Type 0 where
+pub record IsUpdated (family : Family) (s : List (List ℕ)) : Type 0 where
   pub long : length (end_row family s) ≡ 16
 
-pub step-stepped : (family : Family) (s m : List (List ℕ)) → IsStepped family (step family s m)
-step-stepped Family128 s m = record { long = length-round (block_in s 1) (block_in s 2) }
-step-stepped Family256 s m = record { long = length-round (block_in s 2) (block_in s 3) }
+pub update-updated : (family : Family) (s m : List (List ℕ)) → IsUpdated family (update family s m)
+update-updated Family128 s m = record { long = length-round (block_in s 1) (block_in s 2) }
+update-updated Family256 s m = record { long = length-round (block_in s 2) (block_in s 3) }
 
-times-stepped : (family : Family) (n : ℕ) (f : List (List ℕ) → List (List ℕ)) (s : List (List ℕ)) → 0 < n
-    → ((r : List (List ℕ)) → IsStepped family (f r)) → IsStepped family (times n f s)
-times-stepped family zero f s positive kept = absurd (omega arith)
-times-stepped family (suc n) f s positive kept = kept (times n f s)
+times-updated : (family : Family) (n : ℕ) (f : List (List ℕ) → List (List ℕ)) (s : List (List ℕ)) → 0 < n
+    → ((r : List (List ℕ)) → IsUpdated family (f r)) → IsUpdated family (times n f s)
+times-updated family zero f s positive kept = absurd (omega arith)
+times-updated family (suc n) f s positive kept = kept (times n f s)
 
-start_turn-stepped : (family : Family) (key nonce c : List ℕ) (s : List (List ℕ)) → IsStepped family (start_turn family key nonce c s)
-start_turn-stepped Family128 key nonce c s = step-stepped Family128 (add_context Family128 c s) (nonce ∷ key ∷ [])
-start_turn-stepped Family256 key nonce c s = search (rules, step-stepped)
+init_turn-updated : (family : Family) (key nonce c : List ℕ) (s : List (List ℕ)) → IsUpdated family (init_turn family key nonce c s)
+init_turn-updated Family128 key nonce c s = update-updated Family128 (add_context Family128 c s) (nonce ∷ key ∷ [])
+init_turn-updated Family256 key nonce c s = search (rules, update-updated)
 
-start_turns-positive : (family : Family) → 0 < start_turns family
-start_turns-positive Family128 = omega arith
-start_turns-positive Family256 = omega arith
+init_turns-positive : (family : Family) → 0 < init_turns family
+init_turns-positive Family128 = omega arith
+init_turns-positive Family256 = omega arith
 
-pub start-stepped : (variant : Variant) (key nonce : List ℕ) (j : ℕ) → IsStepped variant.family (start variant key nonce j)
-unfolding start
-start-stepped variant key nonce j =
-    times-stepped variant.family (start_turns variant.family) (start_turn variant.family key nonce (context j variant.lanes)) (first_blocks variant.family key nonce)
-    (start_turns-positive variant.family) (start_turn-stepped variant.family key nonce (context j variant.lanes))
+pub init-updated : (variant : Variant) (key nonce : List ℕ) (j : ℕ) → IsUpdated variant.family (init variant key nonce j)
+unfolding init
+init-updated variant key nonce j =
+    times-updated variant.family (init_turns variant.family) (init_turn variant.family key nonce (context j variant.lanes)) (first_blocks variant.family key nonce)
+    (init_turns-positive variant.family) (init_turn-updated variant.family key nonce (context j variant.lanes))
 
-pub after-stepped : (variant : Variant) (s : List (List ℕ)) (j : ℕ) (x : List ℕ) (n : ℕ) → IsStepped variant.family s
-    → IsStepped variant.family (after variant s j x n)
+pub after-updated : (variant : Variant) (s : List (List ℕ)) (j : ℕ) (x : List ℕ) (n : ℕ) → IsUpdated variant.family s
+    → IsUpdated variant.family (after variant s j x n)
 unfolding after
-after-stepped variant s j x zero is = is
-after-stepped variant s j x (suc n) is = step-stepped variant.family _ _
+after-updated variant s j x zero is = is
+after-updated variant s j x (suc n) is = update-updated variant.family _ _
 
 -- ---- a lane after its end
 
@@ -73,7 +73,7 @@ pub record IsWhole (family : Family) (s : List (List ℕ)) : Type 0 where
   pub high : length (high_tag family s) ≡ 16
 
 update-whole : (family : Family) (s : List (List ℕ)) (block : List ℕ) → length block ≡ 16
-    → IsWhole family (step family s (last_input family block))
+    → IsWhole family (update family s (last_input family block))
 update-whole Family128 s block e =
     let r : (i k : ℕ) → IsBlock (round (block_in s i) (block_in s k)) = λ i k. round-block (block_in s i) (block_in s k) in
     let input : IsBlock block = record { long = e } in
@@ -90,19 +90,19 @@ update-whole Family256 s block e =
     let short = xor-block low high in
     record { short = short.long; low = low.long; high = high.long }
 
-length-last_block : (family : Family) (s : List (List ℕ)) (p q : ℕ) → IsStepped family s → length (last_block family s p q) ≡ 16
+length-last_block : (family : Family) (s : List (List ℕ)) (p q : ℕ) → IsUpdated family s → length (last_block family s p q) ≡ 16
 length-last_block Family128 s p q is = length-xor (block_in s 2) (bit_lengths p q) is.long
 length-last_block Family256 s p q is = length-xor (block_in s 3) (bit_lengths p q) is.long
 
-pub finish-whole : (family : Family) (s : List (List ℕ)) (p q : ℕ) → IsStepped family s → IsWhole family (finish family s p q)
-unfolding finish
-finish-whole family s p q is =
+pub finalize-whole : (family : Family) (s : List (List ℕ)) (p q : ℕ) → IsUpdated family s → IsWhole family (finalize family s p q)
+unfolding finalize
+finalize-whole family s p q is =
     let block = last_block family s p q in
-    update-whole family (times 6 (λ r. step family r (last_input family block)) s) block (length-last_block family s p q is)
+    update-whole family (times 6 (λ r. update family r (last_input family block)) s) block (length-last_block family s p q is)
 
-pub finish-stepped : (family : Family) (s : List (List ℕ)) (p q : ℕ) → IsStepped family (finish family s p q)
-unfolding finish
-finish-stepped family s p q = step-stepped family _ _
+pub finalize-updated : (family : Family) (s : List (List ℕ)) (p q : ℕ) → IsUpdated family (finalize family s p q)
+unfolding finalize
+finalize-updated family s p q = update-updated family _ _
 
 -- ---- tags
 
@@ -114,17 +114,17 @@ length-lane_tag family n s (inr e) whole = rw e (omega (arith, length-append (lo
 pub tag-halves : (family : Family) (s t : List (List ℕ)) → IsWhole family s → IsWhole family t
     → lane_tag family 32 s ≡ lane_tag family 32 t → (low_tag family s ≡ low_tag family t) × (high_tag family s ≡ high_tag family t)
 tag-halves family s t whole also e =
-    let front : (r : List (List ℕ)) → IsWhole family r → take 16 (low_tag family r ++ high_tag family r) ≡ low_tag family r =
+    let beginning : (r : List (List ℕ)) → IsWhole family r → take 16 (low_tag family r ++ high_tag family r) ≡ low_tag family r =
     λ r is. rw (← is.low) (take-append_seam (low_tag family r) (high_tag family r)) in
     let back : (r : List (List ℕ)) → IsWhole family r → drop 16 (low_tag family r ++ high_tag family r) ≡ high_tag family r =
     λ r is. rw (← is.low) (drop-append_seam (low_tag family r) (high_tag family r)) in (
-      sym (front s whole) ∙ ap (take 16) e ∙ front t also,
+      sym (beginning s whole) ∙ ap (take 16) e ∙ beginning t also,
       sym (back s whole) ∙ ap (drop 16) e ∙ back t also,
     )
 
 lane_end-whole : (variant : Variant) (key nonce ad m : List ℕ) (j : ℕ) → IsWhole variant.family (lane_end variant key nonce ad m j)
 lane_end-whole variant key nonce ad m j =
-    finish-whole variant.family _ _ _ (after-stepped variant _ j m _ (after-stepped variant _ j ad _ (start-stepped variant key nonce j)))
+    finalize-whole variant.family _ _ _ (after-updated variant _ j m _ (after-updated variant _ j ad _ (init-updated variant key nonce j)))
 
 pub length-tag : (variant : Variant) (n : ℕ) (key nonce ad m : List ℕ) → IsLaneCount variant.lanes → IsTagLength n
     → length (tag variant n key nonce ad m) ≡ n

@@ -8,7 +8,7 @@ pub mod LaneIndependence
 pub mod Lengths
 pub mod MacFacts
 pub mod MessageFacts
-pub mod RunFacts
-pub mod StartFacts
+pub mod ContextFacts
+pub mod InitFacts
 pub mod KeystreamFacts
 mod SliceFacts

@@ -4,12 +4,12 @@ use Rattle.std.proofs.lemmas.List.{get_or-replicate, length-replicate}
 use Rattle.std.proofs.lemmas.Nat.{div-mul-add}
 use Rattle.aegis_aes.specs.Lanes.{IsLaneCount, xor_lanes}
 use Rattle.aegis_base.specs.Variant.{Family, Family128, Family256, Variant, rate}
-use Rattle.aegis_base.specs.Lane.{IsTagLength, finish, high_tag, lane_tag, low_tag, short_tag, start, step}
+use Rattle.aegis_base.specs.Lane.{IsTagLength, finalize, high_tag, lane_tag, low_tag, short_tag, init, update}
 use Rattle.aegis_base.specs.Laws.{AgreeInLane}
 use Rattle.aegis_base.specs.Mac.{fold, fold_long, fold_short, mac, mac_input, mac_lane, mac_tag, short_fold_turn, short_fold_turns}
 use Rattle.aegis_base.specs.Message.{after, after_all, block_count, share_at}
 use Rattle.aegis_base.proofs.LaneFacts.{count-positive}
-use Rattle.aegis_base.proofs.Lengths.{IsStepped, IsWhole, after-stepped, finish-stepped, finish-whole, length-lane_tag, start-stepped, step-stepped, tag-halves}
+use Rattle.aegis_base.proofs.Lengths.{IsUpdated, IsWhole, after-updated, finalize-updated, finalize-whole, length-lane_tag, init-updated, update-updated, tag-halves}
 use Rattle.aegis_base.proofs.LaneIndependence.{after_all-in_lane}
 use Rattle.aegis_base.proofs.MessageFacts.{rate-positive, share_at-same}
 
@@ -54,8 +54,8 @@ mac_tag-fold : (variant : Variant) (n : ℕ) (f g : ℕ → List (List ℕ)) →
     → mac_tag variant n f ≡ mac_tag variant n g
 unfolding mac_tag
 mac_tag-fold variant n f g first same =
-    ap (λ (s : List (List ℕ)). lane_tag variant.family n (if variant.lanes == 1 then s else finish variant.family (fold variant n f) variant.lanes (8 * n))) first
-    ∙ ap (λ (s : List (List ℕ)). lane_tag variant.family n (if variant.lanes == 1 then g 0 else finish variant.family s variant.lanes (8 * n))) same
+    ap (λ (s : List (List ℕ)). lane_tag variant.family n (if variant.lanes == 1 then s else finalize variant.family (fold variant n f) variant.lanes (8 * n))) first
+    ∙ ap (λ (s : List (List ℕ)). lane_tag variant.family n (if variant.lanes == 1 then g 0 else finalize variant.family s variant.lanes (8 * n))) same
 
 -- lanes with the same lane 0 and the same tags have the same MAC
 pub mac_tag-by_tags : (variant : Variant) (n : ℕ) (f g : ℕ → List (List ℕ)) → IsTagLength n → f 0 ≡ g 0
@@ -89,7 +89,7 @@ mac_tag-one variant n lanes e = rw e refl
 
 -- with several lanes, from lane 0 after the fold and its end
 pub mac_tag-folded : (variant : Variant) (n : ℕ) (lanes : ℕ → List (List ℕ)) → IsLaneCount variant.lanes → (variant.lanes ≡ 1 → ⊥)
-    → lane_tag variant.family n (finish variant.family (fold variant n lanes) variant.lanes (8 * n)) ≡ mac_tag variant n lanes
+    → lane_tag variant.family n (finalize variant.family (fold variant n lanes) variant.lanes (8 * n)) ≡ mac_tag variant n lanes
 unfolding mac_tag
 mac_tag-folded variant n lanes (inl one) more = absurd (more one)
 mac_tag-folded variant n lanes (inr (inl two)) more = rw two refl
@@ -98,7 +98,7 @@ mac_tag-folded variant n lanes (inr (inr four)) more = rw four refl
 -- of 16 bytes, with `tags` for the lanes' tags
 pub mac_tag-short : (variant : Variant) (number : ℕ) (lanes : ℕ → List (List ℕ)) (tags : ℕ → List ℕ) (folded ended : List (List ℕ))
     → IsLaneCount variant.lanes → variant.lanes ≡ number → (number ≡ 1 → ⊥) → ((j : ℕ) → j < variant.lanes → tags j ≡ short_tag variant.family (lanes j))
-    → folded ≡ fold_short variant.family tags (lanes 0) (short_fold_turns variant.family variant.lanes) → ended ≡ finish variant.family folded number 128
+    → folded ≡ fold_short variant.family tags (lanes 0) (short_fold_turns variant.family variant.lanes) → ended ≡ finalize variant.family folded number 128
     → short_tag variant.family ended ≡ mac_tag variant 16 lanes
 mac_tag-short variant number lanes tags folded ended count is more same fold end =
     let read = fold_short-same variant tags (λ j. short_tag variant.family (lanes j)) (lanes 0) (short_fold_turns variant.family variant.lanes) (omega arith) same in
@@ -109,7 +109,7 @@ mac_tag-short variant number lanes tags folded ended count is more same fold end
 pub mac_tag-long : (variant : Variant) (number : ℕ) (lanes : ℕ → List (List ℕ)) (low high : ℕ → List ℕ) (folded ended : List (List ℕ))
     → IsLaneCount variant.lanes → variant.lanes ≡ number → (number ≡ 1 → ⊥) → ((j : ℕ) → j < variant.lanes → low j ≡ low_tag variant.family (lanes j))
     → ((j : ℕ) → j < variant.lanes → high j ≡ high_tag variant.family (lanes j))
-    → folded ≡ fold_long variant.family low high (lanes 0) (variant.lanes - 1) → ended ≡ finish variant.family folded number 256
+    → folded ≡ fold_long variant.family low high (lanes 0) (variant.lanes - 1) → ended ≡ finalize variant.family folded number 256
     → low_tag variant.family ended ++ high_tag variant.family ended ≡ mac_tag variant 32 lanes
 mac_tag-long variant number lanes low high folded ended count is more same also fold end =
     let read = fold_long-same variant low high (λ j. low_tag variant.family (lanes j)) (λ j. high_tag variant.family (lanes j)) (lanes 0) (variant.lanes - 1) (omega arith) same also in
@@ -126,7 +126,7 @@ mac_input-some variant (byte ∷ rest) some = refl
 -- with an empty input, a lane takes in one rate block of zeros, here those of z from place a on
 pub mac_input-none : (variant : Variant) (s : List (List ℕ)) (j : ℕ) (z : List ℕ) (a : ℕ) → IsLaneCount variant.lanes → j < variant.lanes
     → ((k : ℕ) → k < rate variant → slice_index z (a + k) ≡ 0)
-    → step variant.family s (share_at variant j z a) ≡ after_all variant s j (mac_input variant [])
+    → update variant.family s (share_at variant j z a) ≡ after_all variant s j (mac_input variant [])
 unfolding after
 mac_input-none variant s j z a count inside zeros =
     let r : ℕ = rate variant in
@@ -142,8 +142,8 @@ mac_input-none variant s j z a count inside zeros =
 
 -- the MAC, from the lanes after the input; p and q are the lengths in bits
 pub mac-is : (variant : Variant) (n : ℕ) (last ended : ℕ → List (List ℕ)) (key nonce x : List ℕ) (p q : ℕ) → IsLaneCount variant.lanes → IsTagLength n
-    → ((j : ℕ) → j < variant.lanes → last j ≡ after_all variant (start variant key nonce j) j (mac_input variant x))
-    → ((j : ℕ) → j < variant.lanes → ended j ≡ finish variant.family (last j) p q) → p ≡ 8 * length x → q ≡ 8 * n
+    → ((j : ℕ) → j < variant.lanes → last j ≡ after_all variant (init variant key nonce j) j (mac_input variant x))
+    → ((j : ℕ) → j < variant.lanes → ended j ≡ finalize variant.family (last j) p q) → p ≡ 8 * length x → q ≡ 8 * n
     → mac_tag variant n ended ≡ mac variant n key nonce x
 unfolding mac
 mac-is variant n last ended key nonce x p q count is absorbed end e f =
@@ -152,26 +152,26 @@ mac-is variant n last ended key nonce x p q count is absorbed end e f =
 
 -- ---- how long a MAC is
 
-fold_short-stepped : (family : Family) (tags : ℕ → List ℕ) (s : List (List ℕ)) (k : ℕ) → IsStepped family s
-    → IsStepped family (fold_short family tags s k)
-fold_short-stepped family tags s zero is = is
-fold_short-stepped Family128 tags s (suc k) is =
-    step-stepped Family128 (fold_short Family128 tags s k) (tags (2 * k) ∷ tags (2 * k + 1) ∷ [])
-fold_short-stepped Family256 tags s (suc k) is = step-stepped Family256 (fold_short Family256 tags s k) (tags (k + 1) ∷ [])
+fold_short-updated : (family : Family) (tags : ℕ → List ℕ) (s : List (List ℕ)) (k : ℕ) → IsUpdated family s
+    → IsUpdated family (fold_short family tags s k)
+fold_short-updated family tags s zero is = is
+fold_short-updated Family128 tags s (suc k) is =
+    update-updated Family128 (fold_short Family128 tags s k) (tags (2 * k) ∷ tags (2 * k + 1) ∷ [])
+fold_short-updated Family256 tags s (suc k) is = update-updated Family256 (fold_short Family256 tags s k) (tags (k + 1) ∷ [])
 
-fold_long-stepped : (family : Family) (low high : ℕ → List ℕ) (s : List (List ℕ)) (k : ℕ) → IsStepped family s
-    → IsStepped family (fold_long family low high s k)
-fold_long-stepped family low high s zero is = is
-fold_long-stepped Family128 low high s (suc k) is =
-    step-stepped Family128 (fold_long Family128 low high s k) (low (k + 1) ∷ high (k + 1) ∷ [])
-fold_long-stepped Family256 low high s (suc k) is =
-    step-stepped Family256 (step Family256 (fold_long Family256 low high s k) (low (k + 1) ∷ [])) (high (k + 1) ∷ [])
+fold_long-updated : (family : Family) (low high : ℕ → List ℕ) (s : List (List ℕ)) (k : ℕ) → IsUpdated family s
+    → IsUpdated family (fold_long family low high s k)
+fold_long-updated family low high s zero is = is
+fold_long-updated Family128 low high s (suc k) is =
+    update-updated Family128 (fold_long Family128 low high s k) (low (k + 1) ∷ high (k + 1) ∷ [])
+fold_long-updated Family256 low high s (suc k) is =
+    update-updated Family256 (update Family256 (fold_long Family256 low high s k) (low (k + 1) ∷ [])) (high (k + 1) ∷ [])
 
-fold-stepped : (variant : Variant) (n : ℕ) (lanes : ℕ → List (List ℕ)) → IsTagLength n → IsStepped variant.family (lanes 0)
-    → IsStepped variant.family (fold variant n lanes)
-fold-stepped variant n lanes (inl e) is = rw e (fold_short-stepped variant.family (λ j. short_tag variant.family (lanes j)) (lanes 0) _ is)
-fold-stepped variant n lanes (inr e) is =
-    rw e (fold_long-stepped variant.family (λ j. low_tag variant.family (lanes j)) (λ j. high_tag variant.family (lanes j)) (lanes 0) (variant.lanes - 1) is)
+fold-updated : (variant : Variant) (n : ℕ) (lanes : ℕ → List (List ℕ)) → IsTagLength n → IsUpdated variant.family (lanes 0)
+    → IsUpdated variant.family (fold variant n lanes)
+fold-updated variant n lanes (inl e) is = rw e (fold_short-updated variant.family (λ j. short_tag variant.family (lanes j)) (lanes 0) _ is)
+fold-updated variant n lanes (inr e) is =
+    rw e (fold_long-updated variant.family (λ j. low_tag variant.family (lanes j)) (λ j. high_tag variant.family (lanes j)) (lanes 0) (variant.lanes - 1) is)
 
 several-more : (d : ℕ) → (d ≡ 2) ⊎ (d ≡ 4) → d ≡ 1 → ⊥
 several-more d (inl two) one = omega arith
@@ -179,13 +179,13 @@ several-more d (inr four) one = omega arith
 
 -- with several lanes
 length-folded : (variant : Variant) (n : ℕ) (lanes : ℕ → List (List ℕ)) → IsLaneCount variant.lanes → (variant.lanes ≡ 1 → ⊥)
-    → IsTagLength n → IsStepped variant.family (lanes 0) → length (mac_tag variant n lanes) ≡ n
+    → IsTagLength n → IsUpdated variant.family (lanes 0) → length (mac_tag variant n lanes) ≡ n
 length-folded variant n lanes count more is stepped =
     rw (← mac_tag-folded variant n lanes count more)
-    (length-lane_tag variant.family n _ is (finish-whole variant.family (fold variant n lanes) variant.lanes (8 * n) (fold-stepped variant n lanes is stepped)))
+    (length-lane_tag variant.family n _ is (finalize-whole variant.family (fold variant n lanes) variant.lanes (8 * n) (fold-updated variant n lanes is stepped)))
 
 length-mac_tag : (variant : Variant) (n : ℕ) (lanes : ℕ → List (List ℕ)) → IsLaneCount variant.lanes → IsTagLength n
-    → IsWhole variant.family (lanes 0) → IsStepped variant.family (lanes 0) → length (mac_tag variant n lanes) ≡ n
+    → IsWhole variant.family (lanes 0) → IsUpdated variant.family (lanes 0) → length (mac_tag variant n lanes) ≡ n
 unfolding mac_tag
 length-mac_tag variant n lanes (inl one) is whole stepped = rw one (length-lane_tag variant.family n (lanes 0) is whole)
 length-mac_tag variant n lanes (inr several) is whole stepped =
@@ -193,14 +193,14 @@ length-mac_tag variant n lanes (inr several) is whole stepped =
 
 mac_lane-whole : (variant : Variant) (n : ℕ) (key nonce x : List ℕ) (j : ℕ) → IsWhole variant.family (mac_lane variant n key nonce x j)
 mac_lane-whole variant n key nonce x j =
-    finish-whole variant.family _ _ _ (after-stepped variant _ j (mac_input variant x) _ (start-stepped variant key nonce j))
+    finalize-whole variant.family _ _ _ (after-updated variant _ j (mac_input variant x) _ (init-updated variant key nonce j))
 
 pub length-mac : (variant : Variant) (n : ℕ) (key nonce x : List ℕ) → IsLaneCount variant.lanes → IsTagLength n
     → length (mac variant n key nonce x) ≡ n
 unfolding mac
 length-mac variant n key nonce x count is =
     length-mac_tag variant n (mac_lane variant n key nonce x) count is (mac_lane-whole variant n key nonce x 0)
-    (finish-stepped variant.family _ _ _)
+    (finalize-updated variant.family _ _ _)
 
 -- ---- inputs that agree in lane 0
 
@@ -221,10 +221,10 @@ length-mac_input variant (a ∷ x) (b ∷ y) long = long
 mac_lane-same : (variant : Variant) (n : ℕ) (key nonce x y : List ℕ) (j : ℕ) → IsLaneCount variant.lanes → j < variant.lanes → length x ≡ length y
     → AgreeInLane variant.lanes j x y → mac_lane variant n key nonce x j ≡ mac_lane variant n key nonce y j
 mac_lane-same variant n key nonce x y j count inside long agree =
-    let ran = after_all-in_lane variant (start variant key nonce j) j (mac_input variant x) (mac_input variant y) count inside
+    let ran = after_all-in_lane variant (init variant key nonce j) j (mac_input variant x) (mac_input variant y) count inside
     (length-mac_input variant x y long) (mac_input-in_lane variant j x y long agree) in
-    ap (λ (s : List (List ℕ)). finish variant.family s (8 * length x) (8 * n)) ran
-    ∙ ap (λ (k : ℕ). finish variant.family (after_all variant (start variant key nonce j) j (mac_input variant y)) (8 * k) (8 * n)) long
+    ap (λ (s : List (List ℕ)). finalize variant.family s (8 * length x) (8 * n)) ran
+    ∙ ap (λ (k : ℕ). finalize variant.family (after_all variant (init variant key nonce j) j (mac_input variant y)) (8 * k) (8 * n)) long
 
 pub mac-of_tags : (variant : Variant) (n : ℕ) (key nonce x y : List ℕ) → IsLaneCount variant.lanes → IsTagLength n → length x ≡ length y
     → AgreeInLane variant.lanes 0 x y

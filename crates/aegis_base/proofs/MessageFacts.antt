@@ -5,7 +5,7 @@ use Rattle.std.proofs.lemmas.Nat.{div-mul-add, div_below}
 use Rattle.aegis_aes.specs.Block.{block_at, xor}
 use Rattle.aegis_aes.specs.Lanes.{IsLaneCount}
 use Rattle.aegis_base.specs.Variant.{Family, Family128, Family256, Variant, rate, width}
-use Rattle.aegis_base.specs.Lane.{keystream_blocks, block_in, start, step}
+use Rattle.aegis_base.specs.Lane.{keystream_blocks, block_in, init, update}
 use Rattle.aegis_base.specs.Message.{after, block_count, blocks_at, keystream_byte, lane_before, lane_of, share, share_at}
 use Rattle.aegis_aes.proofs.Places.{get_or-bytes_at, length-bytes_at}
 use Rattle.aegis_base.proofs.LaneFacts.{bytes_at-same}
@@ -53,7 +53,7 @@ unfolding after
 after-none variant s j x = refl
 
 pub after-more : (variant : Variant) (s : List (List ℕ)) (j : ℕ) (x : List ℕ) (n : ℕ)
-    → after variant s j x (n + 1) ≡ step variant.family (after variant s j x n) (share variant j n x)
+    → after variant s j x (n + 1) ≡ update variant.family (after variant s j x n) (share variant j n x)
 unfolding after
 after-more variant s j x n = rw add-one refl
 
@@ -79,9 +79,9 @@ rate_of-positive Family256 d (inr (inr e)) = rw e (omega arith)
 pub rate-positive : (variant : Variant) → IsLaneCount variant.lanes → 0 < rate variant
 rate-positive variant count = rate_of-positive variant.family variant.lanes count
 
--- without associated data the lanes before the message are those after the start
+-- without associated data the lanes before the message are those after initialization
 pub before-none : (variant : Variant) (key nonce : List ℕ) (j : ℕ) → IsLaneCount variant.lanes
-    → lane_before variant key nonce [] j ≡ start variant key nonce j
+    → lane_before variant key nonce [] j ≡ init variant key nonce j
 before-none variant key nonce j count =
     let none : block_count variant 0 ≡ 0 = div-eq_of_lt (let positive = rate-positive variant count in omega arith) in
     rw (none, after-none) refl

@@ -4,7 +4,7 @@ use Rattle.std.specs.Borrow.{Bor}
 use Rattle.std.specs.List.{concat}
 use Rattle.aegis_base.specs.declared.error.TheConstants.{MAX_AEAD_BYTES}
 use Rattle.aegis_base.specs.Message.{Opens}
-use Rattle.aegis_base.specs.Run.{KeyAndNonce}
+use Rattle.aegis_base.specs.Context.{KeyAndNonce}
 use Rattle.aegis_base.specs.Variant.{Variant}
 
 -- the bytes of each slice, without where it lies in memory
@@ -35,6 +35,7 @@ abbrev pub OpensChunks : (variant : Variant) (tag_bytes : ℕ) (cipher : KeyAndN
 OpensChunks variant tag_bytes cipher ad room chunks tag m =
     Opens variant tag_bytes cipher.key cipher.nonce ad (accepted room chunks) tag m
 
--- a destination that was `old`, after the n bytes written to its front were refused: n zeros, and then the old bytes
+-- a destination that was `old`, after the n bytes written to its beginning were refused: n zeros, and then the old
+-- bytes
 abbrev pub erased : (n : ℕ) (old : List ℕ) → List ℕ
 erased n old = replicate n 0 ++ drop n old

@@ -18,8 +18,8 @@ abbrev pub c1 : List ℕ
 c1 = 0xdb ∷ 0x3d ∷ 0x18 ∷ 0x55 ∷ 0x6d ∷ 0xc2 ∷ 0x2f ∷ 0xf1 ∷ 0x20 ∷ 0x11 ∷ 0x31 ∷ 0x42 ∷ 0x73 ∷ 0xb5 ∷ 0x28 ∷ 0xdd ∷ []
 
 -- the lane s after one update by the blocks m (AEGIS, Update)
-abbrev pub step : Family → List (List ℕ) → List (List ℕ) → List (List ℕ)
-step Family128 s m =
+abbrev pub update : Family → List (List ℕ) → List (List ℕ) → List (List ℕ)
+update Family128 s m =
     xor (round (block_in s 7) (block_in s 0)) (block_in m 0)
     ∷ round (block_in s 0) (block_in s 1)
     ∷ round (block_in s 1) (block_in s 2)
@@ -29,7 +29,7 @@ step Family128 s m =
     ∷ round (block_in s 5) (block_in s 6)
     ∷ round (block_in s 6) (block_in s 7)
     ∷ []
-step Family256 s m =
+update Family256 s m =
     xor (round (block_in s 5) (block_in s 0)) (block_in m 0)
     ∷ round (block_in s 0) (block_in s 1)
     ∷ round (block_in s 1) (block_in s 2)
@@ -38,7 +38,7 @@ step Family256 s m =
     ∷ round (block_in s 4) (block_in s 5)
     ∷ []
 
--- the lane with the context block c xored into two of its blocks, as before each update of the start
+-- the lane with the context block c xored into two of its blocks, as before each update of initialization
 abbrev pub add_context : Family → List ℕ → List (List ℕ) → List (List ℕ)
 add_context Family128 c s =
     block_in s 0 ∷ block_in s 1 ∷ block_in s 2 ∷ xor (block_in s 3) c ∷ block_in s 4 ∷ block_in s 5 ∷ block_in s 6 ∷ xor (block_in s 7) c ∷ []
@@ -56,7 +56,7 @@ low_half bytes = take 16 bytes
 abbrev pub high_half : List ℕ → List ℕ
 high_half bytes = drop 16 bytes
 
--- the blocks of a lane before the updates of its start (AEGIS, Init)
+-- the blocks of a lane before the updates of initialization (AEGIS, Init)
 abbrev pub first_blocks : Family → List ℕ → List ℕ → List (List ℕ)
 first_blocks Family128 key nonce =
     xor key nonce ∷ c1 ∷ c0 ∷ c1 ∷ xor key nonce ∷ xor key c0 ∷ xor key c1 ∷ xor key c0 ∷ []
@@ -64,29 +64,29 @@ first_blocks Family256 key nonce =
     xor (low_half key) (low_half nonce) ∷ xor (high_half key) (high_half nonce) ∷ c1 ∷ c0
     ∷ xor (low_half key) c0 ∷ xor (high_half key) c1 ∷ []
 
--- one turn of the start with the context block c: in the family 128 an update by the nonce and the key, and in the
+-- one turn of initialization with the context block c: in the family 128 an update by the nonce and the key, and in the
 -- family 256 four updates, by the two halves of the key and then by their xors with the halves of the nonce
-abbrev pub start_turn : Family → List ℕ → List ℕ → List ℕ → List (List ℕ) → List (List ℕ)
-start_turn Family128 key nonce c s = step Family128 (add_context Family128 c s) (nonce ∷ key ∷ [])
-start_turn Family256 key nonce c s =
-    step Family256 (add_context Family256 c
-    (step Family256 (add_context Family256 c
-    (step Family256 (add_context Family256 c
-    (step Family256 (add_context Family256 c s)
+abbrev pub init_turn : Family → List ℕ → List ℕ → List ℕ → List (List ℕ) → List (List ℕ)
+init_turn Family128 key nonce c s = update Family128 (add_context Family128 c s) (nonce ∷ key ∷ [])
+init_turn Family256 key nonce c s =
+    update Family256 (add_context Family256 c
+    (update Family256 (add_context Family256 c
+    (update Family256 (add_context Family256 c
+    (update Family256 (add_context Family256 c s)
     (low_half key ∷ [])))
     (high_half key ∷ [])))
     (xor (low_half key) (low_half nonce) ∷ [])))
     (xor (high_half key) (high_half nonce) ∷ [])
 
--- how many turns the start has
-abbrev pub start_turns : Family → ℕ
-start_turns Family128 = 10
-start_turns Family256 = 4
+-- how many turns initialization has
+abbrev pub init_turns : Family → ℕ
+init_turns Family128 = 10
+init_turns Family256 = 4
 
--- lane j after the start with a key and a nonce (AEGIS, Init)
-unfoldable pub start : (variant : Variant) (key nonce : List ℕ) (j : ℕ) → List (List ℕ)
-start variant key nonce j =
-    times (start_turns variant.family) (start_turn variant.family key nonce (context j variant.lanes))
+-- lane j after initialization with a key and a nonce (AEGIS, Init)
+unfoldable pub init : (variant : Variant) (key nonce : List ℕ) (j : ℕ) → List (List ℕ)
+init variant key nonce j =
+    times (init_turns variant.family) (init_turn variant.family key nonce (context j variant.lanes))
     (first_blocks variant.family key nonce)
 
 -- the blocks of keystream of a lane (AEGIS, Enc)
@@ -112,8 +112,8 @@ last_input Family128 block = block ∷ block ∷ []
 last_input Family256 block = block ∷ []
 
 -- the lane s after its end: seven updates by that block (AEGIS, Finalize)
-unfoldable pub finish : Family → List (List ℕ) → ℕ → ℕ → List (List ℕ)
-finish family s p q = times 7 (λ r. step family r (last_input family (last_block family s p q))) s
+unfoldable pub finalize : Family → List (List ℕ) → ℕ → ℕ → List (List ℕ)
+finalize family s p q = times 7 (λ r. update family r (last_input family (last_block family s p q))) s
 
 -- the tag of a lane in 16 bytes, and the halves of its tag in 32 bytes (AEGIS, Finalize)
 abbrev pub short_tag : Family → List (List ℕ) → List ℕ

@@ -2,7 +2,7 @@
 use Rattle.std.specs.Prelude.{◌≡◌, ℕ, ◌*◌, ◌/◌, ◌<◌, ◌≤◌, List, [], ◌∷◌, bit_xor, length, replicate, slice_index, take}
 use Rattle.aegis_aes.specs.Block.{xor}
 use Rattle.aegis_base.specs.Variant.{Family, Family128, Family256, Variant, rate}
-use Rattle.aegis_base.specs.Lane.{first_blocks, high_half, lane_tag, low_half, start, start_turns, step, times}
+use Rattle.aegis_base.specs.Lane.{first_blocks, high_half, lane_tag, low_half, init, init_turns, update, times}
 use Rattle.aegis_base.specs.Mac.{mac, mac_lane}
 use Rattle.aegis_base.specs.Message.{ciphertext, lane_of, seal, keystream, tag, xor_keystream}
 
@@ -58,21 +58,21 @@ IsKeystreamShared variant =
     → bit_xor (slice_index (ciphertext variant key nonce ad x) i) (slice_index (ciphertext variant key nonce ad y) i)
     ≡ bit_xor (slice_index x i) (slice_index y i)
 
--- one turn of the start, without context blocks
+-- one turn of initialization, without context blocks
 abbrev pub plain_turn : (family : Family) (key nonce : List ℕ) (s : List (List ℕ)) → List (List ℕ)
-plain_turn Family128 key nonce s = step Family128 s (nonce ∷ key ∷ [])
+plain_turn Family128 key nonce s = update Family128 s (nonce ∷ key ∷ [])
 plain_turn Family256 key nonce s =
-    step Family256 (step Family256 (step Family256 (step Family256 s
+    update Family256 (update Family256 (update Family256 (update Family256 s
     (low_half key ∷ []))
     (high_half key ∷ []))
     (xor (low_half key) (low_half nonce) ∷ []))
     (xor (high_half key) (high_half nonce) ∷ [])
 
--- the start of one lane is the start without context blocks
-abbrev pub IsStartPlain : (variant : Variant) → Type 0
-IsStartPlain variant =
-    (key nonce : List ℕ) → start variant key nonce 0
-    ≡ times (start_turns variant.family) (plain_turn variant.family key nonce) (first_blocks variant.family key nonce)
+-- the initialization of one lane is that without context blocks
+abbrev pub IsInitPlain : (variant : Variant) → Type 0
+IsInitPlain variant =
+    (key nonce : List ℕ) → init variant key nonce 0
+    ≡ times (init_turns variant.family) (plain_turn variant.family key nonce) (first_blocks variant.family key nonce)
 
 -- a tag of n bytes has n bytes
 abbrev pub IsTagLong : (variant : Variant) (tag_bytes : ℕ) → Type 0

@@ -3,6 +3,6 @@ pub mod Lane
 pub mod Laws
 pub mod Mac
 pub mod Message
-pub mod Run
+pub mod Context
 pub mod Saved
 pub mod Variant

@@ -6,7 +6,7 @@ use Rattle.std.specs.List.{range_with_len}
 use Rattle.aegis_aes.specs.Block.{block_at, xor}
 use Rattle.aegis_aes.specs.Lanes.{xor_lanes}
 use Rattle.aegis_base.specs.Variant.{Family, Family128, Family256, Variant, rate}
-use Rattle.aegis_base.specs.Lane.{finish, keystream_blocks, lane_tag, block_in, start, step}
+use Rattle.aegis_base.specs.Lane.{finalize, keystream_blocks, lane_tag, block_in, init, update}
 
 -- the blocks that lane j of d takes in of the rate block of x that begins at place i, with x padded with zeros
 abbrev pub blocks_at : (family : Family) (d j : ℕ) (x : List ℕ) (i : ℕ) → List (List ℕ)
@@ -23,7 +23,7 @@ share variant j n x = share_at variant j x (n * rate variant)
 -- lane j, which was s, after the first n rate blocks of x
 unfoldable pub after : (variant : Variant) (s : List (List ℕ)) (j : ℕ) (x : List ℕ) (n : ℕ) → List (List ℕ)
 after variant s j x zero = s
-after variant s j x (suc n) = step variant.family (after variant s j x n) (share variant j n x)
+after variant s j x (suc n) = update variant.family (after variant s j x n) (share variant j n x)
 
 -- the number of rate blocks of n bytes, the last one perhaps in part
 abbrev pub block_count : (variant : Variant) (n : ℕ) → ℕ
@@ -55,9 +55,9 @@ ciphertext_byte variant lanes m i = bit_xor (slice_index m i) (keystream_byte_al
 unfoldable pub ciphertext_from : (variant : Variant) (lanes : ℕ → List (List ℕ)) (m : List ℕ) → List ℕ
 ciphertext_from variant lanes m = map (ciphertext_byte variant lanes m) (range_with_len 0 (length m))
 
--- lane j after the start and the associated data
+-- lane j after initialization and the associated data
 abbrev pub lane_before : (variant : Variant) (key nonce ad : List ℕ) (j : ℕ) → List (List ℕ)
-lane_before variant key nonce ad j = after_all variant (start variant key nonce j) j ad
+lane_before variant key nonce ad j = after_all variant (init variant key nonce j) j ad
 
 -- the ciphertext of m
 abbrev pub ciphertext : (variant : Variant) (key nonce ad m : List ℕ) → List ℕ
@@ -74,7 +74,7 @@ xor_keystream variant key nonce m = xor m (keystream variant key nonce (length m
 -- lane j after the message and its end
 abbrev pub lane_end : (variant : Variant) (key nonce ad m : List ℕ) (j : ℕ) → List (List ℕ)
 lane_end variant key nonce ad m j =
-    finish variant.family (after_all variant (lane_before variant key nonce ad j) j m) (8 * length ad) (8 * length m)
+    finalize variant.family (after_all variant (lane_before variant key nonce ad j) j m) (8 * length ad) (8 * length m)
 
 -- the tag of `tag_bytes` bytes: the xor of the lanes' tags
 unfoldable pub tag : (variant : Variant) (tag_bytes : ℕ) (key nonce ad m : List ℕ) → List ℕ

@@ -5,7 +5,7 @@ ghost use Rattle.std.specs.Prelude.{◌≡◌, ℕ};
 ghost use Rattle.aegis_aes.specs.Lanes.{IsLaneCount};
 ghost use Rattle.aegis_base.specs.Variant.{Variant};
 ghost use Rattle.aegis_base.specs.Lane.{IsTagLength};
-ghost use Rattle.aegis_base.specs.Laws.{AreLanesIndependent, IsCiphertextPrefix, IsKeystreamShared, IsLengthKept, IsMacLong, IsMacOfTags, IsOneToOne, IsOnto, IsStartPlain, IsKeystreamPrefix, IsKeystreamSealedZeros, IsKeystreamUndone, IsTagLong};
+ghost use Rattle.aegis_base.specs.Laws.{AreLanesIndependent, IsCiphertextPrefix, IsKeystreamShared, IsLengthKept, IsMacLong, IsMacOfTags, IsOneToOne, IsOnto, IsInitPlain, IsKeystreamPrefix, IsKeystreamSealedZeros, IsKeystreamUndone, IsTagLong};
 
 /// Under each key, nonce and associated data, encryption is one-to-one and onto on the messages of each length: a
 /// ciphertext is as long as its message, no two messages have the same ciphertext, and every list of bytes is the
@@ -35,9 +35,9 @@ pub fn keystream_shared()
     ensures { (variant : Variant) → IsLaneCount variant.lanes → IsKeystreamShared variant }
 {}
 
-/// With one lane, the start is the same as if no context block were xored in.
-pub fn start_of_one_lane()
-    ensures { (variant : Variant) → variant.lanes ≡ 1 → IsStartPlain variant }
+/// With one lane, initialization is the same as if no context block were xored in.
+pub fn init_of_one_lane()
+    ensures { (variant : Variant) → variant.lanes ≡ 1 → IsInitPlain variant }
 {}
 
 /// Tags and MACs of 16 bytes have 16 bytes and those of 32 have 32, for keys and nonces of any lengths.

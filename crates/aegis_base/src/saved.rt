@@ -24,7 +24,7 @@ pub trait SavedLanes: LaneState {
         ensures { (j : ℕ) → j < Self.VARIANT.lanes
             → saved_lane Self.VARIANT rows.new j ≡ Self.lane self j };
 
-    /// Returns the lanes that `rows` holds, with `count` updates since the start.
+    /// Returns the lanes that `rows` holds, with `count` updates since initialization.
     fn restore(rows: &SavedRows, count: u64) -> Self
         ensures lanes { (j : ℕ) → j < Self.VARIANT.lanes
             → Self.lane result j ≡ saved_lane Self.VARIANT rows.now j }

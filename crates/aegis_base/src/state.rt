@@ -4,8 +4,8 @@ ghost use Rattle.std.specs.Prelude.{◌≡◌, ℕ, ◌+◌, ◌-◌, ◌*◌, �
 ghost use Rattle.aegis_aes.specs.Block.{IsSameBefore, IsSameFrom, block_at, xor};
 ghost use Rattle.aegis_aes.specs.Lanes.{IsLaneCount, context, xor_lanes};
 ghost use Rattle.aegis_base.specs.Variant.{Variant, cipher_name, key_length, module_name, rate, width};
-ghost use Rattle.aegis_base.specs.Lane.{finish, first_blocks, high_tag, keystream_blocks, lane_tag, last_block, last_input, low_tag, block_in, short_tag, start, start_turn, start_turns, step, times};
-ghost use Rattle.aegis_base.specs.Mac.{fold_long, fold_short, mac_tag, short_fold_turn, short_fold_turns, step_by_two};
+ghost use Rattle.aegis_base.specs.Lane.{finalize, first_blocks, high_tag, keystream_blocks, lane_tag, last_block, last_input, low_tag, block_in, short_tag, init, init_turn, init_turns, update, times};
+ghost use Rattle.aegis_base.specs.Mac.{fold_long, fold_short, mac_tag, short_fold_turn, short_fold_turns, update_by_two};
 ghost use Rattle.aegis_base.specs.Message.{share_at};
 
 use crate::lane_block::{block_in_all_lanes, block_of_lane};
@@ -14,11 +14,11 @@ use aegis_aes::{AesBlock, Row};
 /// The lanes of one variant, side by side.
 ///
 /// In contracts, `lane state j` is the list of the blocks of lane j, and each clause states what happens to each lane
-/// as if it ran alone. A state also counts its updates since the start.
+/// as if it ran alone. A state also counts its updates since initialization.
 ///
-/// A family implements the steps of the AEGIS specification, and the start, the end and the tags are composed of them
-/// here. The engine uses only `RATE`, `FIT_REGISTERS`, the names, `new`, `absorb`, `xor_keystream`, `finish`, `zeros`,
-/// the two tags and the two MAC tags.
+/// A family implements the steps of the AEGIS specification, and initialization, the end and the tags are composed of
+/// them here. The engine uses only `RATE`, `FIT_REGISTERS`, the names, `new`, `absorb`, `xor_keystream`, `finalize`,
+/// `zeros`, the two tags and the two MAC tags.
 pub trait LaneState: Copy {
     /// The type of a row: one block of each lane.
     type Row: Row;
@@ -42,7 +42,7 @@ pub trait LaneState: Copy {
     // the blocks of a lane
     ghost lane: { Self → ℕ → List (List ℕ) };
 
-    // the number of updates since the start
+    // the number of updates since initialization
     ghost updates: { Self → ℕ };
 
     /// Returns the name of the variant's cipher.
@@ -53,7 +53,7 @@ pub trait LaneState: Copy {
     fn module_name() -> &'static str
         ensures { result.now ≡ module_name VARIANT.family VARIANT.lanes };
 
-    /// Returns the lanes before the updates of their start (AEGIS, Init).
+    /// Returns the lanes before the updates of initialization (AEGIS, Init).
     fn first_blocks(key: &[u8], nonce: &[u8]) -> Self
         requires key_length { length key.now ≡ key_length VARIANT.family }
         requires nonce_length { length nonce.now ≡ key_length VARIANT.family }
@@ -61,33 +61,33 @@ pub trait LaneState: Copy {
             → lane result j ≡ first_blocks VARIANT.family key.now nonce.now }
         ensures updates { updates result ≡ 0 };
 
-    /// Updates the lanes by all turns of their start, at most sixteen updates (AEGIS, Init). Updates are counted from 0
-    /// after it.
-    fn start(&mut self, key: &[u8], nonce: &[u8])
+    /// Updates the lanes by all turns of initialization, at most sixteen updates (AEGIS, Init). Updates are counted
+    /// from 0 after it.
+    fn init(&mut self, key: &[u8], nonce: &[u8])
         requires key_length { length key.now ≡ key_length VARIANT.family }
         requires nonce_length { length nonce.now ≡ key_length VARIANT.family }
         requires countable { updates self.old + 16 < 2 ^ 64 }
         ensures lanes { (j : ℕ) → j < VARIANT.lanes
             → lane self.new j
-            ≡ times (start_turns VARIANT.family)
-            (start_turn VARIANT.family key.now nonce.now (context j VARIANT.lanes))
+            ≡ times (init_turns VARIANT.family)
+            (init_turn VARIANT.family key.now nonce.now (context j VARIANT.lanes))
             (lane self.old j) }
         ensures updates { updates self.new ≡ 0 };
 
     /// Returns lanes of zeros, to overwrite a state that is no longer used.
     fn zeros() -> Self;
 
-    /// Returns the lanes after their start with a key and a nonce (AEGIS, Init).
-    #[tactic(auto, unfolding(crate::specs::Lane::start))]
+    /// Returns the lanes after initialization with a key and a nonce (AEGIS, Init).
+    #[tactic(auto, unfolding(crate::specs::Lane::init))]
     final fn new(key: &[u8], nonce: &[u8]) -> Self
         requires key_length { length key.now ≡ key_length VARIANT.family }
         requires nonce_length { length nonce.now ≡ key_length VARIANT.family }
         ensures lanes { (j : ℕ) → j < VARIANT.lanes
-            → lane result j ≡ start VARIANT key.now nonce.now j }
+            → lane result j ≡ init VARIANT key.now nonce.now j }
         ensures updates { updates result ≡ 0 }
     {
         let mut state = Self::first_blocks(key, nonce);
-        state.start(key, nonce);
+        state.init(key, nonce);
         state
     }
 
@@ -97,7 +97,7 @@ pub trait LaneState: Copy {
         requires countable { updates self.old + 1 < 2 ^ 64 }
         ensures lanes { (j : ℕ) → j < VARIANT.lanes
             → lane self.new j
-            ≡ step VARIANT.family (lane self.old j) (share_at VARIANT j bytes.now at) }
+            ≡ update VARIANT.family (lane self.old j) (share_at VARIANT j bytes.now at) }
         ensures updates { updates self.new ≡ updates self.old + 1 };
 
     /// Xors the rate block of `buffer` that begins at place `at` with the lanes' keystream (AEGIS, Enc). The lanes are
@@ -123,16 +123,16 @@ pub trait LaneState: Copy {
         requires { updates self.old + 1 < 2 ^ 64 }
         ensures lanes { (j : ℕ) → j < VARIANT.lanes
             → lane self.new j
-            ≡ step VARIANT.family (lane self.old j)
+            ≡ update VARIANT.family (lane self.old j)
             (last_input VARIANT.family (Self.Row.block last j)) }
         ensures updates { updates self.new ≡ updates self.old + 1 };
 
     /// Returns the lanes after their end: seven updates by `last_blocks` (AEGIS, Finalize).
-    #[tactic(auto, unfolding(crate::specs::Lane::finish))]
-    final fn finish(self, first_bits: u64, second_bits: u64) -> Self
+    #[tactic(auto, unfolding(crate::specs::Lane::finalize))]
+    final fn finalize(self, first_bits: u64, second_bits: u64) -> Self
         requires { updates self + 7 < 2 ^ 64 }
         ensures lanes { (j : ℕ) → j < VARIANT.lanes
-            → lane result j ≡ finish VARIANT.family (lane self j) first_bits second_bits }
+            → lane result j ≡ finalize VARIANT.family (lane self j) first_bits second_bits }
         ensures updates { updates result ≡ updates self + 7 }
     {
         let last = self.last_blocks(first_bits, second_bits);
@@ -184,11 +184,11 @@ pub trait LaneState: Copy {
 
     /// Updates the lanes by two more blocks: one update by both in the family 128, or an update by each in the family
     /// 256.
-    fn step_by_two(&mut self, first: Self::Row, second: Self::Row)
+    fn update_by_two(&mut self, first: Self::Row, second: Self::Row)
         requires { updates self.old + 2 < 2 ^ 64 }
         ensures lanes { (j : ℕ) → j < VARIANT.lanes
             → lane self.new j
-            ≡ step_by_two VARIANT.family (lane self.old j) (Self.Row.block first j)
+            ≡ update_by_two VARIANT.family (lane self.old j) (Self.Row.block first j)
             (Self.Row.block second j) }
         ensures updates { updates self.new ≤ updates self.old + 2 };
 
@@ -220,7 +220,7 @@ pub trait LaneState: Copy {
         for turn in 0..Self::Row::LANES - 1 {
             let next_low = block_in_all_lanes(low, turn + 1);
             let next_high = block_in_all_lanes(high, turn + 1);
-            state.step_by_two(next_low, next_high);
+            state.update_by_two(next_low, next_high);
         }
         state
     }
@@ -236,7 +236,7 @@ pub trait LaneState: Copy {
             return self.short_tag();
         }
         let folded = self.fold_short(self.short_tags());
-        let ended = folded.finish(lanes as u64, 128);
+        let ended = folded.finalize(lanes as u64, 128);
         block_of_lane(ended.short_tags(), 0)
     }
 
@@ -250,7 +250,7 @@ pub trait LaneState: Copy {
             return self.long_tag();
         }
         let (low, high) = self.long_tags();
-        let ended = self.fold_long(low, high).finish(lanes as u64, 256);
+        let ended = self.fold_long(low, high).finalize(lanes as u64, 256);
         let (low, high) = ended.long_tags();
         (block_of_lane(low, 0), block_of_lane(high, 0))
     }

@@ -51,11 +51,11 @@ pub extern "C" fn hunkravy_proved_page_open(
     )
 }
 
-/// Writes the sector of a header to `sector`.
+/// Writes the block of a header to `header_block`.
 #[unsafe(no_mangle)]
 pub extern "C" fn hunkravy_proved_page_header_seal(
     variant: u32,
-    sector: &mut [u8; 512],
+    header_block: &mut [u8; 512],
     page_bytes: u32,
     id: &[u8; 24],
     counter: u64,
@@ -64,33 +64,33 @@ pub extern "C" fn hunkravy_proved_page_header_seal(
     k: &[u8],
 ) -> i32
     ensures { PageHeaderSeal (variant_of variant) k.now id.now npub.now page_bytes counter len
-        sector.old sector.new result }
+        header_block.old header_block.new result }
 {
     by_variant!(
         variant,
         Refusal::WrongVariant,
-        calls::page_header_seal::<N>(sector, page_bytes, id, counter, len, npub, k)
+        calls::page_header_seal::<N>(header_block, page_bytes, id, counter, len, npub, k)
     )
 }
 
-/// Opens the header in `sector`.
+/// Opens the header in `header_block`.
 #[unsafe(no_mangle)]
 pub extern "C" fn hunkravy_proved_page_header_open(
     variant: u32,
-    sector: &[u8; 512],
+    header_block: &[u8; 512],
     k: &[u8],
     page_bytes: &mut u32,
     id: &mut [u8; 24],
     counter: &mut u64,
     len: &mut u64,
 ) -> i32
-    ensures { PageHeaderOpen (variant_of variant) k.now sector.now
+    ensures { PageHeaderOpen (variant_of variant) k.now header_block.now
         (header_of page_bytes.old id.old counter.old len.old)
         (header_of page_bytes.new id.new counter.new len.new) result }
 {
     by_variant!(
         variant,
         Refusal::WrongVariant,
-        calls::page_header_open::<N>(sector, k, page_bytes, id, counter, len)
+        calls::page_header_open::<N>(header_block, k, page_bytes, id, counter, len)
     )
 }

@@ -65,7 +65,7 @@ GoesOn old new role = (new.variant ≡ old.variant) × (new.role ≡ role)
 -- The call begins a message or a MAC, by `role`; or it changes nothing.
 pub record Begins (variant : Option Variant) (number role : ℕ) (key nonce ad : List ℕ) (old new : State) (code : ℤ) : Type 0 where
   pub answered : code ≡ variant_code variant (length key) (length nonce) (message_code 0 (length ad) DONE)
-  pub begun : code ≡ DONE → IsSaved (the variant) new.run key nonce ad []
+  pub begun : code ≡ DONE → IsSaved (the variant) new.context key nonce ad []
   pub empty : code ≡ DONE → ciphertext (the variant) key nonce ad [] ≡ []
   pub variant_is : code ≡ DONE → new.variant ≡ number
   pub role_is : code ≡ DONE → new.role ≡ role
@@ -78,8 +78,8 @@ StateInit variant number key nonce ad old new code = Begins variant number MESSA
 -- The call encrypts the next bytes `plain` of the message to `sealed`; or it changes nothing.
 pub record StateEncryptInPlace (variant : Option Variant) (old new : State) (plain sealed : List ℕ) (code : ℤ) : Type 0 where
   pub answered : code ≡ chunk_code variant old MESSAGE ENCRYPTING (length plain)
-  pub taken : code ≡ DONE → HasTaken (the variant) old.run new.run plain
-  pub written : code ≡ DONE → HasSealed (the variant) old.run plain sealed
+  pub taken : code ≡ DONE → HasTaken (the variant) old.context new.context plain
+  pub written : code ≡ DONE → HasSealed (the variant) old.context plain sealed
   pub goes_on : code ≡ DONE → GoesOn old new ENCRYPTING
   pub state_kept : code ≢ DONE → new ≡ old
   pub kept : code ≢ DONE → sealed ≡ plain
@@ -88,8 +88,8 @@ pub record StateEncryptInPlace (variant : Option Variant) (old new : State) (pla
 -- nothing.
 pub record StateDecryptInPlaceUnverified (variant : Option Variant) (old new : State) (sealed plain : List ℕ) (code : ℤ) : Type 0 where
   pub answered : code ≡ chunk_code variant old MESSAGE DECRYPTING (length sealed)
-  pub taken : code ≡ DONE → HasTaken (the variant) old.run new.run plain
-  pub written : code ≡ DONE → HasSealed (the variant) old.run plain sealed
+  pub taken : code ≡ DONE → HasTaken (the variant) old.context new.context plain
+  pub written : code ≡ DONE → HasSealed (the variant) old.context plain sealed
   pub goes_on : code ≡ DONE → GoesOn old new DECRYPTING
   pub state_kept : code ≢ DONE → new ≡ old
   pub kept : code ≢ DONE → plain ≡ sealed
@@ -97,14 +97,14 @@ pub record StateDecryptInPlaceUnverified (variant : Option Variant) (old new : S
 -- The call takes in the next bytes of the ciphertext, without writing the message; or it changes nothing.
 pub record StateDecryptCheck (variant : Option Variant) (old new : State) (sealed : List ℕ) (code : ℤ) : Type 0 where
   pub answered : code ≡ chunk_code variant old MESSAGE DECRYPTING (length sealed)
-  pub checked : code ≡ DONE → HasChecked (the variant) old.run new.run sealed
+  pub checked : code ≡ DONE → HasChecked (the variant) old.context new.context sealed
   pub goes_on : code ≡ DONE → GoesOn old new DECRYPTING
   pub state_kept : code ≢ DONE → new ≡ old
 
 -- The call overwrites `tag` with the tag of the message, and ends the state; or it changes nothing.
 pub record StateEncryptFinal (variant : Option Variant) (old new : State) (tag tag' : List ℕ) (code : ℤ) : Type 0 where
   pub answered : code ≡ final_code variant old MESSAGE ENCRYPTING (length tag)
-  pub made : (key nonce ad m : List ℕ) → code ≡ DONE → IsSaved (the variant) old.run key nonce ad m → tag' ≡ tag_of (the variant) (length tag) key nonce ad m
+  pub made : (key nonce ad m : List ℕ) → code ≡ DONE → IsSaved (the variant) old.context key nonce ad m → tag' ≡ tag_of (the variant) (length tag) key nonce ad m
   pub ended : code ≡ DONE → new ≡ ENDED
   pub state_kept : code ≢ DONE → new ≡ old
   pub kept : code ≢ DONE → tag' ≡ tag
@@ -115,9 +115,9 @@ pub record StateEncryptFinal (variant : Option Variant) (old new : State) (tag t
 pub record StateDecryptFinal (variant : Option Variant) (old new : State) (opened opened' tag : List ℕ) (code : ℤ) : Type 0 where
   pub answered : code ≢ INVALID_TAG → code ≡ opened_code variant old (length opened) (length tag)
   pub lengths : code ≡ INVALID_TAG → opened_code variant old (length opened) (length tag) ≡ DONE
-  pub right : (key nonce ad m : List ℕ) → code ≡ DONE → IsSaved (the variant) old.run key nonce ad m
+  pub right : (key nonce ad m : List ℕ) → code ≡ DONE → IsSaved (the variant) old.context key nonce ad m
       → Opens (the variant) (length tag) key nonce ad (ciphertext (the variant) key nonce ad m) tag m
-  pub accepted : (key nonce ad m m' : List ℕ) → IsSaved (the variant) old.run key nonce ad m
+  pub accepted : (key nonce ad m m' : List ℕ) → IsSaved (the variant) old.context key nonce ad m
       → Opens (the variant) (length tag) key nonce ad (ciphertext (the variant) key nonce ad m) tag m' → code ≢ INVALID_TAG
   pub ended : code ≡ DONE → new ≡ ENDED
   pub refused : code ≡ INVALID_TAG → new ≡ ENDED
@@ -132,19 +132,19 @@ MacInit variant number key nonce old new code = Begins variant number MAC key no
 -- The call takes in the next bytes of the input of a MAC; or it changes nothing.
 pub record MacUpdate (variant : Option Variant) (old new : State) (input : List ℕ) (code : ℤ) : Type 0 where
   pub answered : code ≡ chunk_code variant old MAC MAC (length input)
-  pub taken : code ≡ DONE → HasTaken (the variant) old.run new.run input
+  pub taken : code ≡ DONE → HasTaken (the variant) old.context new.context input
   pub goes_on : code ≡ DONE → GoesOn old new old.role
   pub state_kept : code ≢ DONE → new ≡ old
 
 -- The call overwrites `old` with the MAC of the input so far; or it changes nothing.
 pub record MacFinal (variant : Option Variant) (st : State) (old new : List ℕ) (code : ℤ) : Type 0 where
   pub answered : code ≡ mac_final_code variant st (length old)
-  pub made : (key nonce x : List ℕ) → code ≡ DONE → IsSaved (the variant) st.run key nonce [] x → new ≡ mac (the variant) (length old) key nonce x
+  pub made : (key nonce x : List ℕ) → code ≡ DONE → IsSaved (the variant) st.context key nonce [] x → new ≡ mac (the variant) (length old) key nonce x
   pub kept : code ≢ DONE → new ≡ old
 
 -- The call returns `DONE` exactly if `expected` is the MAC of the input so far, unless a length or the state is wrong.
 pub record MacFinalVerify (variant : Option Variant) (st : State) (expected : List ℕ) (code : ℤ) : Type 0 where
   pub answered : code ≢ INVALID_TAG → code ≡ mac_final_code variant st (length expected)
   pub lengths : code ≡ INVALID_TAG → mac_final_code variant st (length expected) ≡ DONE
-  pub verified : (key nonce x : List ℕ) → code ≡ DONE → IsSaved (the variant) st.run key nonce [] x → expected ≡ mac (the variant) (length expected) key nonce x
-  pub accepted : (key nonce x : List ℕ) → IsSaved (the variant) st.run key nonce [] x → expected ≡ mac (the variant) (length expected) key nonce x → code ≢ INVALID_TAG
+  pub verified : (key nonce x : List ℕ) → code ≡ DONE → IsSaved (the variant) st.context key nonce [] x → expected ≡ mac (the variant) (length expected) key nonce x
+  pub accepted : (key nonce x : List ℕ) → IsSaved (the variant) st.context key nonce [] x → expected ≡ mac (the variant) (length expected) key nonce x → code ≢ INVALID_TAG

@@ -3,11 +3,11 @@
 use Rattle.std.specs.Prelude.{ℕ, ℤ, ◌+◌, ◌==◌, ◌||◌, leb, Option, Some, None, Result, Ok, Err, if◌then◌else◌}
 use Rattle.aegis_base.specs.Variant.{Variant, key_length}
 use Rattle.aegis_base.specs.declared.error.TheConstants.{MAX_AEAD_BYTES}
-use Rattle.aegis_engine.specs.declared.saved.SavedRun.{SavedRun}
+use Rattle.aegis_engine.specs.declared.saved.SavedContext.{SavedContext}
 use Rattle.aegis_engine.specs.declared.saved.TheConstants.{BEGUN}
 use Rattle.aegis_c_calls.specs.declared.refusal.Refusal.{Refusal}
-use Rattle.aegis_c_calls.specs.declared.refusal.Refusal.TheVariants.{InvalidTag, WrongNonceLength, WrongKeyLength, MessageTooLong, DataTooLong, WrongTagLength, WrongState, WrongVariant, ContextTooLong, UnknownHeader, WrongRecordLength, WrongPageSize, TextTooLong, WrongMessageLength}
-use Rattle.aegis_c_calls.specs.declared.refusal.TheConstants.{DONE, INVALID_TAG, WRONG_NONCE_LENGTH, WRONG_KEY_LENGTH, MESSAGE_TOO_LONG, DATA_TOO_LONG, WRONG_TAG_LENGTH, WRONG_STATE, WRONG_VARIANT, CONTEXT_TOO_LONG, UNKNOWN_HEADER, WRONG_RECORD_LENGTH, WRONG_PAGE_SIZE, TEXT_TOO_LONG, WRONG_MESSAGE_LENGTH}
+use Rattle.aegis_c_calls.specs.declared.refusal.Refusal.TheVariants.{InvalidTag, WrongNonceLength, WrongKeyLength, MessageTooLong, DataTooLong, WrongTagLength, WrongState, WrongVariant, ContextTooLong, UnknownHeader, WrongRecordLength, WrongPageSize, FileTooLong, WrongMessageLength}
+use Rattle.aegis_c_calls.specs.declared.refusal.TheConstants.{DONE, INVALID_TAG, WRONG_NONCE_LENGTH, WRONG_KEY_LENGTH, MESSAGE_TOO_LONG, DATA_TOO_LONG, WRONG_TAG_LENGTH, WRONG_STATE, WRONG_VARIANT, CONTEXT_TOO_LONG, UNKNOWN_HEADER, WRONG_RECORD_LENGTH, WRONG_PAGE_SIZE, FILE_TOO_LONG, WRONG_MESSAGE_LENGTH}
 use Rattle.aegis_c_calls.specs.declared.state.State.{State}
 use Rattle.aegis_c_calls.specs.declared.state.TheConstants.{DECRYPTING, MAC, MESSAGE}
 
@@ -25,7 +25,7 @@ number_of ContextTooLong = CONTEXT_TOO_LONG
 number_of UnknownHeader = UNKNOWN_HEADER
 number_of WrongRecordLength = WRONG_RECORD_LENGTH
 number_of WrongPageSize = WRONG_PAGE_SIZE
-number_of TextTooLong = TEXT_TOO_LONG
+number_of FileTooLong = FILE_TOO_LONG
 number_of WrongMessageLength = WRONG_MESSAGE_LENGTH
 
 -- of what a body returns
@@ -65,17 +65,17 @@ lengths_code variant key nonce message ad tag =
 abbrev pub mac_code : Option Variant → ℕ → ℕ → ℕ → ℕ → ℤ
 mac_code variant key nonce input mac = lengths_code variant key nonce input 0 mac
 
--- for the mark and the two numbers of a run; `rest` is the code if they are allowed
-abbrev pub run_code : SavedRun → ℤ → ℤ
-run_code run rest =
-    if run.mark == BEGUN
-    then (if leb run.ad_bytes MAX_AEAD_BYTES then (if leb run.message_bytes MAX_AEAD_BYTES then rest else WRONG_STATE) else WRONG_STATE)
+-- for the mark and the two numbers of a context; `rest` is the code if they are allowed
+abbrev pub saved_code : SavedContext → ℤ → ℤ
+saved_code context rest =
+    if context.mark == BEGUN
+    then (if leb context.ad_bytes MAX_AEAD_BYTES then (if leb context.message_bytes MAX_AEAD_BYTES then rest else WRONG_STATE) else WRONG_STATE)
     else WRONG_STATE
 
--- for the role of a state, which should be `begun`, as after its init, or `role`, and for its run
+-- for the role of a state, which should be `begun`, as after its init, or `role`, and for its context
 abbrev pub role_code : State → ℕ → ℕ → ℤ → ℤ
 role_code st begun role rest =
-    if st.role == begun || st.role == role then run_code st.run rest else WRONG_STATE
+    if st.role == begun || st.role == role then saved_code st.context rest else WRONG_STATE
 
 -- the same for a state that should be of a variant
 abbrev pub state_code : Option Variant → State → ℕ → ℕ → ℤ → ℤ
@@ -84,7 +84,7 @@ state_code None st begun role rest = WRONG_STATE
 
 -- for a state and the length of the next bytes
 abbrev pub more_code : State → ℕ → ℤ
-more_code st more = if leb (st.run.message_bytes + more) MAX_AEAD_BYTES then DONE else MESSAGE_TOO_LONG
+more_code st more = if leb (st.context.message_bytes + more) MAX_AEAD_BYTES then DONE else MESSAGE_TOO_LONG
 
 abbrev pub chunk_code : Option Variant → State → ℕ → ℕ → ℕ → ℤ
 chunk_code variant st begun role more = state_code variant st begun role (more_code st more)
@@ -96,9 +96,9 @@ final_code variant st begun role tag = state_code variant st begun role (tag_cod
 -- the same for a message that was decrypted, at the end of which there may be no bytes of it, or all
 abbrev pub opened_code : Option Variant → State → ℕ → ℕ → ℤ
 opened_code variant st opened tag =
-    state_code variant st MESSAGE DECRYPTING (if opened == 0 || opened == st.run.message_bytes then tag_code tag else WRONG_MESSAGE_LENGTH)
+    state_code variant st MESSAGE DECRYPTING (if opened == 0 || opened == st.context.message_bytes then tag_code tag else WRONG_MESSAGE_LENGTH)
 
 -- for a state and the length of its MAC; the state of a MAC has no associated data
 abbrev pub mac_final_code : Option Variant → State → ℕ → ℤ
 mac_final_code variant st tag =
-    if st.run.ad_bytes == 0 then final_code variant st MAC MAC tag else WRONG_STATE
+    if st.context.ad_bytes == 0 then final_code variant st MAC MAC tag else WRONG_STATE

@@ -10,12 +10,14 @@ use crate::keys::{key_alone, nonce_and_key};
 use crate::refusal::Refusal;
 use aegis_base::LaneState;
 use aegis_engine::ERASED;
-use aegis_pages::{FileLayout, SECTOR_BYTES, header_sector, open_box, open_sector, seal_box};
+use aegis_pages::{
+    FileLayout, HEADER_BLOCK_BYTES, header_block, open_header_block, open_page_at, seal_page_at,
+};
 use check::{check_header, check_page};
 
 mod check;
 
-/// Seals a page where it lies: `page` has `N` bytes for the nonce, the text, and 32 bytes for the tag.
+/// Seals a page where it lies: `page` has `N` bytes for the nonce, the contents, and 32 bytes for the tag.
 #[inline(never)]
 pub fn page_seal<S: LaneState, const N: usize>(
     page: &mut [u8],
@@ -31,12 +33,12 @@ pub fn page_seal<S: LaneState, const N: usize>(
     let (nonce, key) = nonce_and_key::<N>(npub, k)?;
     let page_bytes = check_page::<N>(page.len(), number)?;
     let layout = FileLayout::<S, N>::new(key, page_bytes, id);
-    seal_box(&layout, number, nonce, page);
+    seal_page_at(&layout, number, nonce, page);
     Ok(())
 }
 
-/// Opens a page in place: its text is written over its ciphertext. If no text is sealed to `page` at this number, each
-/// of its bytes is [`ERASED`].
+/// Opens a page in place: its contents are written over its ciphertext. If no contents are sealed to `page` at this
+/// number, each of its bytes is [`ERASED`].
 #[inline(never)]
 pub fn page_open<S: LaneState, const N: usize>(
     page: &mut [u8],
@@ -50,7 +52,7 @@ pub fn page_open<S: LaneState, const N: usize>(
     let key = key_alone::<N>(k)?;
     let page_bytes = check_page::<N>(page.len(), number)?;
     let layout = FileLayout::<S, N>::new(key, page_bytes, id);
-    if open_box(&layout, number, page) {
+    if open_page_at(&layout, number, page) {
         Ok(())
     } else {
         page.fill(ERASED);
@@ -58,10 +60,10 @@ pub fn page_open<S: LaneState, const N: usize>(
     }
 }
 
-/// Writes the sector of a header to `sector`.
+/// Writes the block of a header to `header_block`.
 #[inline(never)]
 pub fn page_header_seal<S: LaneState, const N: usize>(
-    sector: &mut [u8; SECTOR_BYTES],
+    header_block: &mut [u8; HEADER_BLOCK_BYTES],
     page_bytes: u32,
     id: &[u8; 24],
     counter: u64,
@@ -71,19 +73,19 @@ pub fn page_header_seal<S: LaneState, const N: usize>(
 ) -> Result<(), Refusal>
     requires { N ≡ key_length S.VARIANT.family }
     ensures { PageHeaderSeal (Some S.VARIANT) k.now id.now npub.now page_bytes counter len
-        sector.old sector.new (code_of result) }
+        header_block.old header_block.new (code_of result) }
 {
     let (nonce, key) = nonce_and_key::<N>(npub, k)?;
     check_header(page_bytes, len)?;
     let layout = FileLayout::<S, N>::new(key, page_bytes, id);
-    *sector = header_sector(&layout, nonce, counter, len);
+    *header_block = header_block(&layout, nonce, counter, len);
     Ok(())
 }
 
-/// Opens the header in `sector`, and writes what it names to the last four parameters.
+/// Opens the header in `header_block`, and writes what it names to the last four parameters.
 #[inline(never)]
 pub fn page_header_open<S: LaneState, const N: usize>(
-    sector: &[u8; SECTOR_BYTES],
+    header_block: &[u8; HEADER_BLOCK_BYTES],
     k: &[u8],
     page_bytes: &mut u32,
     id: &mut [u8; 24],
@@ -91,13 +93,13 @@ pub fn page_header_open<S: LaneState, const N: usize>(
     len: &mut u64,
 ) -> Result<(), Refusal>
     requires { N ≡ key_length S.VARIANT.family }
-    ensures { PageHeaderOpen (Some S.VARIANT) k.now sector.now
+    ensures { PageHeaderOpen (Some S.VARIANT) k.now header_block.now
         (header_of page_bytes.old id.old counter.old len.old)
         (header_of page_bytes.new id.new counter.new len.new) (code_of result) }
 {
     let key = key_alone::<N>(k)?;
-    let mut copy = *sector;
-    let Some(header) = open_sector::<S, N>(key, &mut copy) else {
+    let mut copy = *header_block;
+    let Some(header) = open_header_block::<S, N>(key, &mut copy) else {
         return Err(Refusal::InvalidTag);
     };
     let found = header.id;

@@ -31,8 +31,8 @@ pub enum Refusal {
     WrongRecordLength,
     /// A page has fewer bytes than a page may have, or more.
     WrongPageSize,
-    /// The text of a file has more than `MAX_TEXT_BYTES` bytes, or a page begins after so many.
-    TextTooLong,
+    /// The text of a file has more than `MAX_CONTENTS_BYTES` bytes, or a page begins after so many.
+    FileTooLong,
     /// A message has not as many bytes as were decrypted.
     WrongMessageLength,
 }
@@ -64,7 +64,7 @@ pub const WRONG_RECORD_LENGTH: i32 = -11;
 
 pub const WRONG_PAGE_SIZE: i32 = -12;
 
-pub const TEXT_TOO_LONG: i32 = -13;
+pub const FILE_TOO_LONG: i32 = -13;
 
 pub const WRONG_MESSAGE_LENGTH: i32 = -14;
 
@@ -85,7 +85,7 @@ fn number(refusal: Refusal) -> i32
         Refusal::UnknownHeader => UNKNOWN_HEADER,
         Refusal::WrongRecordLength => WRONG_RECORD_LENGTH,
         Refusal::WrongPageSize => WRONG_PAGE_SIZE,
-        Refusal::TextTooLong => TEXT_TOO_LONG,
+        Refusal::FileTooLong => FILE_TOO_LONG,
         Refusal::WrongMessageLength => WRONG_MESSAGE_LENGTH,
     }
 }

@@ -10,13 +10,13 @@ ghost use Rattle.aegis_c_calls.specs.declared.refusal.TheConstants.{DONE, WRONG_
 use crate::keys::message_keys;
 use crate::refusal::Refusal;
 use aegis_base::{MAX_AEAD_BYTES, SavedLanes};
-use aegis_engine::{BEGUN, ERASED, SavedRun};
+use aegis_engine::{BEGUN, ERASED, SavedContext};
 
-/// A message, or a MAC, between two calls: its run, the number of its variant, and its role.
+/// A message, or a MAC, between two calls: its context, the number of its variant, and its role.
 #[repr(C)]
 #[derive(Clone, Copy)]
 pub struct State {
-    pub run: SavedRun,
+    pub context: SavedContext,
     pub variant: u32,
     pub role: u32,
 }
@@ -35,7 +35,7 @@ pub const MAC: u32 = 4;
 
 /// A state after its end: zeros.
 pub const ENDED: State = State {
-    run: aegis_engine::ENDED,
+    context: aegis_engine::ENDED,
     variant: 0,
     role: 0,
 };
@@ -46,8 +46,8 @@ const _: () = prove!(size_of::<State>() == 672);
 // Refuses a state that lacks the mark, was begun as neither `begun` nor has gone on as `role`, or has a number past the
 // limit.
 fn check_state(st: &State, begun: u32, role: u32) -> Result<(), Refusal>
-    ensures associated_data { OnOk result (st.now.run.ad_bytes ≤ MAX_AEAD_BYTES) }
-    ensures message { OnOk result (st.now.run.message_bytes ≤ MAX_AEAD_BYTES) }
+    ensures associated_data { OnOk result (st.now.context.ad_bytes ≤ MAX_AEAD_BYTES) }
+    ensures message { OnOk result (st.now.context.message_bytes ≤ MAX_AEAD_BYTES) }
     ensures right { OnOk result ((rest : ℤ) → role_code st.now begun role rest ≡ rest) }
     ensures wrong { IfErr result (λ refusal. (rest : ℤ)
         → role_code st.now begun role rest ≡ number_of refusal) }
@@ -56,8 +56,11 @@ fn check_state(st: &State, begun: u32, role: u32) -> Result<(), Refusal>
     if st.role != begun && st.role != role {
         return Err(Refusal::WrongState);
     }
-    let run = &st.run;
-    if run.mark != BEGUN || run.ad_bytes > MAX_AEAD_BYTES || run.message_bytes > MAX_AEAD_BYTES {
+    let context = &st.context;
+    if context.mark != BEGUN
+        || context.ad_bytes > MAX_AEAD_BYTES
+        || context.message_bytes > MAX_AEAD_BYTES
+    {
         return Err(Refusal::WrongState);
     }
     Ok(())
@@ -65,15 +68,15 @@ fn check_state(st: &State, begun: u32, role: u32) -> Result<(), Refusal>
 
 // The same for a state and the number of the next bytes, which is refused too if the message would be too long.
 fn check_chunk(st: &State, begun: u32, role: u32, more: usize) -> Result<(), Refusal>
-    ensures associated_data { OnOk result (st.now.run.ad_bytes ≤ MAX_AEAD_BYTES) }
-    ensures message { OnOk result (st.now.run.message_bytes + more ≤ MAX_AEAD_BYTES) }
+    ensures associated_data { OnOk result (st.now.context.ad_bytes ≤ MAX_AEAD_BYTES) }
+    ensures message { OnOk result (st.now.context.message_bytes + more ≤ MAX_AEAD_BYTES) }
     ensures right { OnOk result (role_code st.now begun role (more_code st.now more) ≡ DONE) }
     ensures wrong { IfErr result (λ refusal.
         role_code st.now begun role (more_code st.now more) ≡ number_of refusal) }
     ensures not_done { IfErr result (λ refusal. number_of refusal ≢ DONE) }
 {
     check_state(st, begun, role)?;
-    if more as u64 > MAX_AEAD_BYTES - st.run.message_bytes {
+    if more as u64 > MAX_AEAD_BYTES - st.context.message_bytes {
         return Err(Refusal::MessageTooLong);
     }
     Ok(())
@@ -110,7 +113,7 @@ pub fn begin<S: SavedLanes, const N: usize>(
         (code_of result) }
 {
     let (nonce, key) = message_keys::<N>(npub, k, 0, ad.len())?;
-    st.run.begin::<S>(key, nonce, ad);
+    st.context.begin::<S>(key, nonce, ad);
     st.variant = variant;
     st.role = role;
     Ok(())
@@ -122,7 +125,7 @@ pub fn encrypt_in_place<S: SavedLanes>(st: &mut State, mc: &mut [u8]) -> Result<
     ensures { StateEncryptInPlace (Some S.VARIANT) st.old st.new mc.old mc.new (code_of result) }
 {
     check_chunk(st, MESSAGE, ENCRYPTING, mc.len())?;
-    st.run.encrypt_in_place::<S>(mc);
+    st.context.encrypt_in_place::<S>(mc);
     st.role = ENCRYPTING;
     Ok(())
 }
@@ -137,7 +140,7 @@ pub fn decrypt_in_place_unverified<S: SavedLanes>(
         (code_of result) }
 {
     check_chunk(st, MESSAGE, DECRYPTING, mc.len())?;
-    st.run.decrypt_in_place_unverified::<S>(mc);
+    st.context.decrypt_in_place_unverified::<S>(mc);
     st.role = DECRYPTING;
     Ok(())
 }
@@ -148,7 +151,7 @@ pub fn decrypt_check<S: SavedLanes>(st: &mut State, c: &[u8]) -> Result<(), Refu
     ensures { StateDecryptCheck (Some S.VARIANT) st.old st.new c.now (code_of result) }
 {
     check_chunk(st, MESSAGE, DECRYPTING, c.len())?;
-    st.run.decrypt_check::<S>(c);
+    st.context.decrypt_check::<S>(c);
     st.role = DECRYPTING;
     Ok(())
 }
@@ -160,9 +163,9 @@ pub fn encrypt_final<S: SavedLanes>(st: &mut State, mac: &mut [u8]) -> Result<()
 {
     check_state(st, MESSAGE, ENCRYPTING)?;
     if mac.len() == 16 {
-        mac.copy_from_slice(&st.run.tag::<S, 16>());
+        mac.copy_from_slice(&st.context.tag::<S, 16>());
     } else if mac.len() == 32 {
-        mac.copy_from_slice(&st.run.tag::<S, 32>());
+        mac.copy_from_slice(&st.context.tag::<S, 32>());
     } else {
         return Err(Refusal::WrongTagLength);
     }
@@ -178,13 +181,13 @@ pub fn decrypt_final<S: SavedLanes>(st: &mut State, m: &mut [u8], mac: &[u8]) ->
         (code_of result) }
 {
     check_state(st, MESSAGE, DECRYPTING)?;
-    if m.len() > 0 && m.len() as u64 != st.run.message_bytes {
+    if m.len() > 0 && m.len() as u64 != st.context.message_bytes {
         return Err(Refusal::WrongMessageLength);
     }
     let is_right = if let Some(tag) = mac.as_array() {
-        st.run.has_tag::<S, 16>(tag)
+        st.context.has_tag::<S, 16>(tag)
     } else if let Some(tag) = mac.as_array() {
-        st.run.has_tag::<S, 32>(tag)
+        st.context.has_tag::<S, 32>(tag)
     } else {
         return Err(Refusal::WrongTagLength);
     };
@@ -203,7 +206,7 @@ pub fn mac_update<S: SavedLanes>(st: &mut State, input: &[u8]) -> Result<(), Ref
     ensures { MacUpdate (Some S.VARIANT) st.old st.new input.now (code_of result) }
 {
     check_chunk(st, MAC, MAC, input.len())?;
-    st.run.absorb::<S>(input);
+    st.context.absorb::<S>(input);
     Ok(())
 }
 
@@ -212,14 +215,14 @@ pub fn mac_update<S: SavedLanes>(st: &mut State, input: &[u8]) -> Result<(), Ref
 pub fn mac_final<S: SavedLanes>(st: &State, mac: &mut [u8]) -> Result<(), Refusal>
     ensures { MacFinal (Some S.VARIANT) st.now mac.old mac.new (code_of result) }
 {
-    if st.run.ad_bytes != 0 {
+    if st.context.ad_bytes != 0 {
         return Err(Refusal::WrongState);
     }
     check_state(st, MAC, MAC)?;
     if mac.len() == 16 {
-        mac.copy_from_slice(&st.run.mac::<S, 16>());
+        mac.copy_from_slice(&st.context.mac::<S, 16>());
     } else if mac.len() == 32 {
-        mac.copy_from_slice(&st.run.mac::<S, 32>());
+        mac.copy_from_slice(&st.context.mac::<S, 32>());
     } else {
         return Err(Refusal::WrongTagLength);
     }
@@ -231,14 +234,14 @@ pub fn mac_final<S: SavedLanes>(st: &State, mac: &mut [u8]) -> Result<(), Refusa
 pub fn mac_final_verify<S: SavedLanes>(st: &State, mac: &[u8]) -> Result<(), Refusal>
     ensures { MacFinalVerify (Some S.VARIANT) st.now mac.now (code_of result) }
 {
-    if st.run.ad_bytes != 0 {
+    if st.context.ad_bytes != 0 {
         return Err(Refusal::WrongState);
     }
     check_state(st, MAC, MAC)?;
     let is_right = if let Some(expected) = mac.as_array() {
-        st.run.has_mac::<S, 16>(expected)
+        st.context.has_mac::<S, 16>(expected)
     } else if let Some(expected) = mac.as_array() {
-        st.run.has_mac::<S, 32>(expected)
+        st.context.has_mac::<S, 32>(expected)
     } else {
         return Err(Refusal::WrongTagLength);
     };

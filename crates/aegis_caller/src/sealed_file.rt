@@ -3,36 +3,36 @@
 ghost use Rattle.std.specs.Prelude.{◌≡◌, ◌<◌, ◌≤◌, IfErr, IfOk, List, length, ℕ};
 ghost use Rattle.aegis_base.specs.declared.error.TheConstants.{MAX_AEAD_BYTES};
 ghost use Rattle.aegis.specs.RecordStream.{start_at};
-ghost use Rattle.aegis_files.specs.Range.{AreFrom, IsTextFrom, part_of, part_of_text};
+ghost use Rattle.aegis_files.specs.Range.{AreFrom, AreContentsFrom, part_of, part_of_contents};
 ghost use Rattle.aegis.specs.declared.record.error.RecordError.{RecordError};
 ghost use Rattle.aegis.specs.declared.record.version.Version.TheVariants.{Second};
 ghost use Rattle.aegis_files.specs.SealedFile.{IsFileOf, IsSealedFile};
 
 use aegis::aegis256::Key;
 use aegis::record::{MAX_CONTEXT_BYTES, RecordError};
-use aegis_files::{FileError, TextRange, open_range, open_stream, rekey_stream, seal_stream};
+use aegis_files::{ContentsRange, FileError, open_range, open_stream, rekey_stream, seal_stream};
 use std::alloc::Allocator;
 
-/// Seals a text, and returns its file.
-pub fn seal_text<A: Allocator + Copy>(
+/// Seals contents, and returns its file.
+pub fn seal_contents<A: Allocator + Copy>(
     alloc: A,
     key: &Key,
     prefix: &[u8; 24],
     context: &[u8],
-    text: &[u8],
+    contents: &[u8],
 ) -> Result<Vec<u8, A>, FileError>
     requires { length context.now ≤ MAX_CONTEXT_BYTES }
     ensures { IfOk result
-        (λ file. IsFileOf key.now prefix.now context.now text.now file.items) }
+        (λ file. IsFileOf key.now prefix.now context.now contents.now file.items) }
 {
     let mut file = Vec::new(alloc);
-    let mut input = text;
+    let mut input = contents;
     seal_stream(alloc, key, prefix, context, &mut input, &mut file)?;
     Ok(file)
 }
 
-/// Opens a file, and returns its text. The stream of an intact file is rejected only if memory runs out.
-pub fn open_text<A: Allocator + Copy>(
+/// Opens a file, and returns its contents. The stream of an intact file is rejected only if memory runs out.
+pub fn open_contents<A: Allocator + Copy>(
     alloc: A,
     key: &Key,
     context: &[u8],
@@ -40,26 +40,27 @@ pub fn open_text<A: Allocator + Copy>(
 ) -> Result<Vec<u8, A>, FileError>
     requires { length context.now ≤ MAX_CONTEXT_BYTES }
     ensures opened { IfOk result
-        (λ text. IsSealedFile key.now context.now text.items file.now) }
-    ensures accepted { IfErr result (λ e. (text : List ℕ)
-        → IsSealedFile key.now context.now text file.now
+        (λ contents. IsSealedFile key.now context.now contents.items file.now) }
+    ensures accepted { IfErr result (λ e. (contents : List ℕ)
+        → IsSealedFile key.now context.now contents file.now
         → (why : RecordError) → e ≡ FileError.Stream why → why ≡ RecordError.OutOfMemory) }
 {
-    let mut text = Vec::new(alloc);
+    let mut contents = Vec::new(alloc);
     let mut input = file;
-    open_stream(alloc, key, context, &mut input, &mut text)?;
-    Ok(text)
+    open_stream(alloc, key, context, &mut input, &mut contents)?;
+    Ok(contents)
 }
 
-/// Opens a part of a text, and returns it: `records` are the bytes of the file from the record at the part's position
-/// on. They begin with at least one record that is sealed at that position, and the part is that of these records'
-/// messages. If they are those of a text, it is the part of that text, and opening fails only if memory runs out.
+/// Opens a part of the contents, and returns it: `records` are the bytes of the file from the record at the part's
+/// position on. They begin with at least one record that is sealed at that position, and the part is that of these
+/// records' messages. If they are those of a sealed file, it is that part of its contents, and opening fails only if
+/// memory runs out.
 pub fn open_part<A: Allocator + Copy>(
     alloc: A,
     key: &Key,
     prefix: &[u8; 24],
     context: &[u8],
-    range: TextRange,
+    range: ContentsRange,
     records: &[u8],
 ) -> Result<Vec<u8, A>, FileError>
     requires context_within { length context.now ≤ MAX_CONTEXT_BYTES }
@@ -69,11 +70,13 @@ pub fn open_part<A: Allocator + Copy>(
         × (rest : List ℕ) × (0 < length messages)
         × AreFrom key.now prefix.now context.now range.position flag messages rest records.now
         × (part.items ≡ part_of range messages)
-        × ((following : List (List ℕ)) (text : List ℕ)
-        → IsTextFrom key.now prefix.now context.now range.position following text records.now
-        → part_of range messages ≡ part_of_text range text)) }
-    ensures accepted { IfErr result (λ e. (following : List (List ℕ)) (text : List ℕ)
-        → IsTextFrom key.now prefix.now context.now range.position following text records.now
+        × ((following : List (List ℕ)) (contents : List ℕ)
+        → AreContentsFrom key.now prefix.now context.now range.position following contents
+        records.now
+        → part_of range messages ≡ part_of_contents range contents)) }
+    ensures accepted { IfErr result (λ e. (following : List (List ℕ)) (contents : List ℕ)
+        → AreContentsFrom key.now prefix.now context.now range.position following contents
+        records.now
         → (why : RecordError) → e ≡ FileError.Stream why → why ≡ RecordError.OutOfMemory) }
 {
     let mut part = Vec::new(alloc);
@@ -82,8 +85,8 @@ pub fn open_part<A: Allocator + Copy>(
     Ok(part)
 }
 
-/// Seals the text of a file anew under another key and a new prefix, and returns the new file. The stream of an intact
-/// file is rejected only if memory runs out.
+/// Seals the contents of a file anew under another key and a new prefix, and returns the new file. The stream of an
+/// intact file is rejected only if memory runs out.
 pub fn rekey_file<A: Allocator + Copy>(
     alloc: A,
     key: &Key,
@@ -93,11 +96,11 @@ pub fn rekey_file<A: Allocator + Copy>(
     file: &[u8],
 ) -> Result<Vec<u8, A>, FileError>
     requires { length context.now ≤ MAX_CONTEXT_BYTES }
-    ensures rekeyed { IfOk result (λ new_file. (text : List ℕ)
-        × IsSealedFile key.now context.now text file.now
-        × IsFileOf new_key.now prefix.now context.now text new_file.items) }
-    ensures accepted { IfErr result (λ e. (text : List ℕ)
-        → IsSealedFile key.now context.now text file.now
+    ensures rekeyed { IfOk result (λ new_file. (contents : List ℕ)
+        × IsSealedFile key.now context.now contents file.now
+        × IsFileOf new_key.now prefix.now context.now contents new_file.items) }
+    ensures accepted { IfErr result (λ e. (contents : List ℕ)
+        → IsSealedFile key.now context.now contents file.now
         → (why : RecordError) → e ≡ FileError.Stream why → why ≡ RecordError.OutOfMemory) }
 {
     let mut new_file = Vec::new(alloc);

@@ -5,16 +5,16 @@ use Rattle.std.proofs.lemmas.Nat.{xor_comm}
 use Rattle.aegis_aes.specs.Block.{xor}
 use Rattle.aegis_aes.specs.Lanes.{IsLaneCount}
 use Rattle.aegis_base.specs.Variant.{Variant}
-use Rattle.aegis_base.specs.Lane.{start}
+use Rattle.aegis_base.specs.Lane.{init}
 use Rattle.aegis_base.specs.Message.{block_count, keystream, xor_keystream}
-use Rattle.aegis_base.specs.Run.{Stands, held_by}
+use Rattle.aegis_base.specs.Context.{Stands, held_by}
 use Rattle.aegis_base.proofs.Bijection.{bit_xor-twice}
 use Rattle.aegis_base.proofs.HeldFacts.{stands-begun}
 use Rattle.aegis_base.proofs.MessageFacts.{before-none, rate-positive}
 
--- the lanes after their start stand for the empty message, without associated data
+-- the lanes after their initialization stand for the empty message, without associated data
 pub stands-started : (variant : Variant) (lane : ℕ → List (List ℕ)) (updates : ℕ) (block key nonce : List ℕ) → IsLaneCount variant.lanes
-    → updates ≡ 0 → ((j : ℕ) → j < variant.lanes → lane j ≡ start variant key nonce j)
+    → updates ≡ 0 → ((j : ℕ) → j < variant.lanes → lane j ≡ init variant key nonce j)
     → Stands variant (held_by variant lane updates block 0 0) key nonce [] []
 stands-started variant lane updates block key nonce count none started =
     let positive = rate-positive variant count in

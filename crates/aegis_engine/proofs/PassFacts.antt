@@ -8,9 +8,9 @@ use Rattle.std.proofs.lemmas.Nat.{xor_comm}
 use Rattle.std.proofs.lemmas.Simd.{get_or-zip2, length-zip2}
 use Rattle.std.specs.Int.Bits.{xor_zero_l}
 use Rattle.aegis_aes.specs.Block.{xor}
-use Rattle.aegis_base.specs.Run.{IsUnopened}
+use Rattle.aegis_base.specs.Context.{IsUnopened}
 use Rattle.aegis_base.proofs.Bijection.{bit_xor-twice}
-use Rattle.aegis_base.proofs.RunFacts.{whole-quotient}
+use Rattle.aegis_base.proofs.ContextFacts.{whole-quotient}
 use Rattle.aegis_engine.specs.Pass.{absorbed, sealed}
 use Rattle.aegis_engine.specs.declared.pass.Pass.{Pass}
 use Rattle.aegis_engine.specs.declared.pass.Pass.TheVariants.{Seal, Open, Keystream}

@@ -3,7 +3,7 @@ use Rattle.std.proofs.Common.{◌≡◌, ◌∙◌, sym, ap, ℕ, ◌+◌, ◌-�
 use Rattle.std.proofs.lemmas.List.{drop-drop, length-append, take-append-drop}
 use Rattle.aegis_base.specs.Variant.{Variant}
 use Rattle.aegis_base.specs.Message.{ciphertext}
-use Rattle.aegis_base.specs.Run.{Encrypts, Held, Takes}
+use Rattle.aegis_base.specs.Context.{Encrypts, Held, Takes}
 use Rattle.aegis_engine.specs.Pass.{absorbed, sealed}
 use Rattle.aegis_engine.specs.declared.pass.Pass.{Pass}
 use Rattle.aegis_engine.proofs.PassFacts.{sealed-append, absorbed-append}

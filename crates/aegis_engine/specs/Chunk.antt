@@ -23,5 +23,5 @@ pub record Appends (old : List ℕ) (before : ℕ) (new : List ℕ) (after : ℕ
   pub grows : before ≤ after
   pub room : length new ≡ length old
   -- the message so far, and what lies after it
-  pub front : take before new ≡ take before old
+  pub beginning : take before new ≡ take before old
   pub rest : (n : ℕ) → after ≤ n → drop n new ≡ drop n old

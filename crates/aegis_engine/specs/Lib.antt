@@ -1,4 +1,4 @@
 pub mod Chunk
-pub mod Front
+pub mod Beginning
 pub mod Pass
 pub mod Saved

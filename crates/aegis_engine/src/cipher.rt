@@ -8,15 +8,15 @@ ghost use Rattle.aegis_base.specs.Lane.{IsTagLength};
 ghost use Rattle.std.specs.Borrow.{Array, LendsIfOk, sem, u8};
 ghost use Rattle.aegis_base.specs.Chunks.{OpensChunks, accepted, erased, joined};
 ghost use Rattle.aegis_base.specs.Message.{Opens, ciphertext, seal, keystream, tag, xor_keystream};
-ghost use Rattle.aegis_base.specs.Run.{Stands};
-ghost use Rattle.aegis_engine.specs.Front.{front, held, filled};
+ghost use Rattle.aegis_base.specs.Context.{Stands};
+ghost use Rattle.aegis_engine.specs.Beginning.{beginning, held, filled};
 ghost use Rattle.aegis_base.specs.Variant.{cipher_name, key_length};
 
+use crate::context::Context;
 use crate::decryptor::Decryptor;
 use crate::destination::{Checked, accepted_len, accepted_message, erase_unless};
 use crate::encryptor::Encryptor;
 use crate::pass::Pass;
-use crate::run::Run;
 use aegis_base::{Error, LaneState, MAX_AEAD_BYTES};
 use std::alloc::{AllocError, Allocator};
 use std::fmt;
@@ -52,7 +52,7 @@ impl<S: LaneState, U, const KEY_BYTES: usize, const TAG_BYTES: usize> Model
     for Cipher<S, U, KEY_BYTES, TAG_BYTES> {
     ghost use Rattle.std.specs.Prelude.{◌≡◌};
     ghost use Rattle.aegis_base.specs.Lane.{IsTagLength};
-    ghost use Rattle.aegis_base.specs.Run.{KeyAndNonce};
+    ghost use Rattle.aegis_base.specs.Context.{KeyAndNonce};
     ghost use Rattle.aegis_base.specs.Variant.{key_length};
 
     ghost Value = { KeyAndNonce };
@@ -151,10 +151,10 @@ impl<S: LaneState, U, const KEY_BYTES: usize, const TAG_BYTES: usize> Cipher<
         ensures { (mc.new, result)
             ≡ seal S.VARIANT TAG_BYTES self.key self.nonce (joined ad.now) mc.old }
     {
-        let mut run = Run::<S>::begin_with(&self.key, &self.nonce, ad);
+        let mut context = Context::<S>::begin_with(&self.key, &self.nonce, ad);
         let total = mc.len() as u64;
-        run.pass(Pass::Seal, mc, total);
-        run.tag()
+        context.pass(Pass::Seal, mc, total);
+        context.tag()
     }
 
     /// Opens a ciphertext in place, as `decrypt_in_place` does, with associated data in pieces, which are concatenated.
@@ -178,10 +178,10 @@ impl<S: LaneState, U, const KEY_BYTES: usize, const TAG_BYTES: usize> Cipher<
         ensures erased { OnErr result (mc.new ≡ replicate (length mc.old) ERASED) }
         ensures error { IfErr result (λ e. e ≡ Error.InvalidTag) }
     {
-        let mut run = Run::<S>::begin_with(&self.key, &self.nonce, ad);
+        let mut context = Context::<S>::begin_with(&self.key, &self.nonce, ad);
         let total = mc.len() as u64;
-        run.pass(Pass::Open, mc, total);
-        if run.has_tag(tag) {
+        context.pass(Pass::Open, mc, total);
+        if context.has_tag(tag) {
             Ok(())
         } else {
             mc.fill(ERASED);
@@ -207,10 +207,11 @@ impl<S: LaneState, U, const KEY_BYTES: usize, const TAG_BYTES: usize> Cipher<
         ensures error { IfErr result (λ e. e ≡ Error.OutOfMemory) }
     {
         let mut c = Vec::with_capacity(alloc, m.len()).map_err(|_| Error::OutOfMemory)?;
-        let mut run = Run::<S>::begin(&self.key, &self.nonce, ad);
-        run.pass_appended(Pass::Seal, m, &mut c)
+        let mut context = Context::<S>::begin(&self.key, &self.nonce, ad);
+        context
+            .pass_appended(Pass::Seal, m, &mut c)
             .map_err(|_| Error::OutOfMemory)?;
-        Ok((c, run.tag()))
+        Ok((c, context.tag()))
     }
 
     /// Opens a ciphertext into a new vector.
@@ -266,10 +267,11 @@ impl<S: LaneState, U, const KEY_BYTES: usize, const TAG_BYTES: usize> Cipher<
             ⊎ (e ≡ Error.OutOfMemory)) }
     {
         let mut m = Vec::with_capacity(alloc, c.len()).map_err(|_| Error::OutOfMemory)?;
-        let mut run = Run::<S>::begin_with(&self.key, &self.nonce, ad);
-        run.pass_appended(Pass::Open, c, &mut m)
+        let mut context = Context::<S>::begin_with(&self.key, &self.nonce, ad);
+        context
+            .pass_appended(Pass::Open, c, &mut m)
             .map_err(|_| Error::OutOfMemory)?;
-        if run.has_tag(tag) {
+        if context.has_tag(tag) {
             Ok(m)
         } else {
             m.fill(ERASED);
@@ -287,8 +289,9 @@ impl<S: LaneState, U, const KEY_BYTES: usize, const TAG_BYTES: usize> Cipher<
         ensures error { IfErr result (λ e. e ≡ Error.OutOfMemory) }
     {
         let mut c = Vec::with_capacity(alloc, m.len()).map_err(|_| Error::OutOfMemory)?;
-        let mut run = Run::<S>::begin(&self.key, &self.nonce, &[]);
-        run.pass_appended(Pass::Keystream, m, &mut c)
+        let mut context = Context::<S>::begin(&self.key, &self.nonce, &[]);
+        context
+            .pass_appended(Pass::Keystream, m, &mut c)
             .map_err(|_| Error::OutOfMemory)?;
         Ok(c)
     }
@@ -300,7 +303,7 @@ impl<S: LaneState, U, const KEY_BYTES: usize, const TAG_BYTES: usize> Cipher<
     {
         out.fill(0);
         let total = out.len() as u64;
-        Run::<S>::begin(&self.key, &self.nonce, &[]).pass(Pass::Seal, out, total);
+        Context::<S>::begin(&self.key, &self.nonce, &[]).pass(Pass::Seal, out, total);
     }
 
     /// Xors a message in place with the keystream from its beginning. A second such call restores the message.
@@ -309,7 +312,7 @@ impl<S: LaneState, U, const KEY_BYTES: usize, const TAG_BYTES: usize> Cipher<
         ensures undone { xor_keystream S.VARIANT self.key self.nonce mc.new ≡ mc.old }
     {
         let total = mc.len() as u64;
-        Run::<S>::begin(&self.key, &self.nonce, &[]).pass(Pass::Keystream, mc, total);
+        Context::<S>::begin(&self.key, &self.nonce, &[]).pass(Pass::Keystream, mc, total);
     }
 
     /// Returns an encryptor, which seals a message in chunks, with the associated data `ad`.
@@ -331,7 +334,7 @@ impl<S: LaneState, U, const KEY_BYTES: usize, const TAG_BYTES: usize> Cipher<
         ensures length { result.message_bytes ≡ 0 }
     {
         Encryptor {
-            run: Run::begin_with(&self.key, &self.nonce, ad),
+            context: Context::begin_with(&self.key, &self.nonce, ad),
         }
     }
 
@@ -344,9 +347,9 @@ impl<S: LaneState, U, const KEY_BYTES: usize, const TAG_BYTES: usize> Cipher<
         ensures { (out.new, result)
             ≡ seal S.VARIANT TAG_BYTES self.now.key self.now.nonce ad.now (joined chunks.now) }
     {
-        let mut run = Run::<S>::begin(&self.key, &self.nonce, ad);
-        run.seal_chunks(chunks, out);
-        run.tag()
+        let mut context = Context::<S>::begin(&self.key, &self.nonce, ad);
+        context.seal_chunks(chunks, out);
+        context.tag()
     }
 
     /// Returns a decryptor, which opens a ciphertext in chunks, with the associated data `ad`, and writes the message
@@ -358,13 +361,13 @@ impl<S: LaneState, U, const KEY_BYTES: usize, const TAG_BYTES: usize> Cipher<
         ensures unchanged { result.dst.now ≡ plaintext.old }
         ensures filled { filled result ≡ 0 }
         ensures stands { Stands S.VARIANT (held result) self.now.key self.now.nonce ad.now
-            (front result) }
-        ensures empty { ciphertext S.VARIANT self.now.key self.now.nonce ad.now (front result)
+            (beginning result) }
+        ensures empty { ciphertext S.VARIANT self.now.key self.now.nonce ad.now (beginning result)
             ≡ [] }
     {
         Decryptor {
             dst: plaintext,
-            run: Run::begin(&self.key, &self.nonce, ad),
+            context: Context::begin(&self.key, &self.nonce, ad),
         }
     }
 
@@ -393,9 +396,9 @@ impl<S: LaneState, U, const KEY_BYTES: usize, const TAG_BYTES: usize> Cipher<
             tag.now m
             → take result.0 dst.new ≡ m }
     {
-        let mut run = Run::<S>::begin(&self.key, &self.nonce, ad);
-        run.open_all(dst, chunks);
-        (run.message_bytes() as usize, run.has_tag(tag))
+        let mut context = Context::<S>::begin(&self.key, &self.nonce, ad);
+        context.open_all(dst, chunks);
+        (context.message_bytes() as usize, context.has_tag(tag))
     }
 
     // Opens chunks, and overwrites the message with zeros if the tag is wrong.

@@ -6,11 +6,11 @@ ghost use Rattle.std.specs.Borrow.{Array, LendsIfOk, sem, u8};
 ghost use Rattle.aegis_base.specs.declared.error.TheConstants.{MAX_AEAD_BYTES};
 ghost use Rattle.aegis_base.specs.Message.{Opens, ciphertext, tag as tag_of};
 ghost use Rattle.aegis_base.specs.Variant.{module_name};
-ghost use Rattle.aegis_base.specs.Run.{Continues, Decrypts, IsAccepted, IsTagged, Stands};
+ghost use Rattle.aegis_base.specs.Context.{Continues, Decrypts, IsAccepted, IsTagged, Stands};
 ghost use Rattle.aegis_engine.specs.Chunk.{AnswersChunk, Appends};
 
+use crate::context::Context;
 use crate::destination::{Checked, accepted_len, accepted_message, erase, erase_unless};
-use crate::run::Run;
 use aegis_base::{Error, LaneState, MAX_AEAD_BYTES};
 use std::fmt;
 
@@ -23,20 +23,20 @@ use std::fmt;
 /// start of the destination.
 pub struct Decryptor<'a, S: LaneState, const TAG_BYTES: usize> {
     pub(crate) dst: &'a mut [u8],
-    pub(crate) run: Run<S>,
+    pub(crate) context: Context<S>,
     ghost tag_bytes: { IsTrue (nat_eq TAG_BYTES 16 || nat_eq TAG_BYTES 32) },
-    ghost within: { run.message_bytes ≤ length dst.now },
-    ghost message_within: { run.message_bytes ≤ MAX_AEAD_BYTES },
+    ghost within: { context.message_bytes ≤ length dst.now },
+    ghost message_within: { context.message_bytes ≤ MAX_AEAD_BYTES },
 }
 
 impl<S: LaneState, const TAG_BYTES: usize> Drop for Decryptor<'_, S, TAG_BYTES> {
-    ghost use Rattle.aegis_engine.specs.Front.{filled};
+    ghost use Rattle.aegis_engine.specs.Beginning.{filled};
 
     fn drop(self)
         ensures { self.exit.0.now ≡ erased (filled self.entry) self.entry.dst.now }
     {
-        let Decryptor { dst, run } = self;
-        erase(dst, run.message_bytes() as usize);
+        let Decryptor { dst, context } = self;
+        erase(dst, context.message_bytes() as usize);
     }
 }
 
@@ -50,7 +50,7 @@ impl<S: LaneState, const TAG_BYTES: usize> fmt::Debug for Decryptor<'_, S, TAG_B
 }
 
 impl<'a, S: LaneState, const TAG_BYTES: usize> Decryptor<'a, S, TAG_BYTES> {
-    ghost use Rattle.aegis_engine.specs.Front.{front, held, filled};
+    ghost use Rattle.aegis_engine.specs.Beginning.{beginning, held, filled};
 
     /// Opens the next chunk of the ciphertext, and writes it to the destination after the previous chunks.
     ///
@@ -63,16 +63,17 @@ impl<'a, S: LaneState, const TAG_BYTES: usize> Decryptor<'a, S, TAG_BYTES> {
         ensures answer { AnswersChunk (filled self.old + length chunk.now)
             (length self.old.dst.now) result }
         ensures stands { Continues S.VARIANT
-            (held self.old) (front self.old) (held self.new) (front self.new) }
+            (held self.old) (beginning self.old) (held self.new) (beginning self.new) }
         ensures ciphertext { OnOk result
-            (Decrypts S.VARIANT (held self.old) (front self.old) chunk.now (front self.new)) }
+            (Decrypts S.VARIANT (held self.old) (beginning self.old) chunk.now
+            (beginning self.new)) }
         ensures filled { OnOk result (filled self.new ≡ filled self.old + length chunk.now) }
         ensures appends { Appends self.old.dst.now (filled self.old)
             self.new.dst.now (filled self.new) }
         ensures unchanged { OnErr result ((self.new.dst.now ≡ self.old.dst.now)
             × (held self.new ≡ held self.old)) }
     {
-        self.run.open_chunk(self.dst, chunk)
+        self.context.open_chunk(self.dst, chunk)
     }
 
     // Returns whether the tag is right, and overwrites the message with zeros if it is not.
@@ -87,13 +88,13 @@ impl<'a, S: LaneState, const TAG_BYTES: usize> Decryptor<'a, S, TAG_BYTES> {
         ensures rest { drop result.filled result.dst.now
             ≡ drop (filled self.entry) self.entry.dst.now }
         ensures tag { IsTagged S.VARIANT TAG_BYTES
-            (held self.entry) (front self.entry) tag.now (result.accepted ≡ true) }
+            (held self.entry) (beginning self.entry) tag.now (result.accepted ≡ true) }
         ensures accepted { IsAccepted S.VARIANT TAG_BYTES
-            (held self.entry) (front self.entry) tag.now (result.accepted ≡ true) }
+            (held self.entry) (beginning self.entry) tag.now (result.accepted ≡ true) }
     {
-        let Decryptor { dst, run } = self;
-        let accepted = run.has_tag(tag);
-        let filled = run.message_bytes() as usize;
+        let Decryptor { dst, context } = self;
+        let accepted = context.has_tag(tag);
+        let filled = context.message_bytes() as usize;
         erase_unless(dst, filled, accepted);
         Checked {
             dst,
@@ -109,13 +110,13 @@ impl<'a, S: LaneState, const TAG_BYTES: usize> Decryptor<'a, S, TAG_BYTES> {
             (λ w. w ++ drop (filled self.entry) self.entry.dst.now)
             (erased (filled self.entry) self.entry.dst.now)) }
         ensures cases { MatchResult result
-            (λ message. message.now ≡ front self.entry)
+            (λ message. message.now ≡ beginning self.entry)
             (λ e. e ≡ Error.InvalidTag) }
         ensures place { IfOk result (λ message. message.ref_ptr ≡ self.entry.dst.ref_ptr) }
         ensures tag { IsTagged S.VARIANT TAG_BYTES
-            (held self.entry) (front self.entry) tag.now (IsOk result) }
+            (held self.entry) (beginning self.entry) tag.now (IsOk result) }
         ensures accepted { IsAccepted S.VARIANT TAG_BYTES
-            (held self.entry) (front self.entry) tag.now (IsOk result) }
+            (held self.entry) (beginning self.entry) tag.now (IsOk result) }
     {
         accepted_message(self.check_tag(tag))
     }
@@ -130,15 +131,15 @@ impl<'a, S: LaneState, const TAG_BYTES: usize> Decryptor<'a, S, TAG_BYTES> {
             ≡ erased (filled self.entry) self.entry.dst.now) }
         ensures error { IfErr result (λ e. e ≡ Error.InvalidTag) }
         ensures tag { IsTagged S.VARIANT TAG_BYTES
-            (held self.entry) (front self.entry) tag.now (IsOk result) }
+            (held self.entry) (beginning self.entry) tag.now (IsOk result) }
         ensures accepted { IsAccepted S.VARIANT TAG_BYTES
-            (held self.entry) (front self.entry) tag.now (IsOk result) }
+            (held self.entry) (beginning self.entry) tag.now (IsOk result) }
         ensures only { (key nonce ad m : List ℕ)
             → ciphertext S.VARIANT key nonce ad m
-            ≡ ciphertext S.VARIANT key nonce ad (front self.entry)
-            → m ≡ front self.entry }
+            ≡ ciphertext S.VARIANT key nonce ad (beginning self.entry)
+            → m ≡ beginning self.entry }
     {
-        let Decryptor { dst, run } = self;
-        accepted_len(dst, run.message_bytes() as usize, run.has_tag(tag))
+        let Decryptor { dst, context } = self;
+        accepted_len(dst, context.message_bytes() as usize, context.has_tag(tag))
     }
 }

@@ -3,10 +3,10 @@
 ghost use Rattle.std.specs.Prelude.{◌≡◌, ℕ, ◌+◌, ◌-◌, ◌<◌, ◌≤◌, ◌⊎◌, ◌++◌, List, [], Some, codes, length};
 ghost use Rattle.aegis_base.specs.Message.{tag};
 ghost use Rattle.aegis_base.specs.Variant.{module_name};
-ghost use Rattle.aegis_base.specs.Run.{Encrypts, Stands, Takes};
+ghost use Rattle.aegis_base.specs.Context.{Encrypts, Stands, Takes};
 
+use crate::context::Context;
 use crate::pass::Pass;
-use crate::run::Run;
 use aegis_base::{LaneState, MAX_AEAD_BYTES, counted_within};
 use std::fmt;
 use std::marker::Model;
@@ -17,21 +17,21 @@ use std::marker::Model;
 /// encryptor stands for.
 #[derive(Drop)]
 pub struct Encryptor<S: LaneState, const TAG_BYTES: usize> {
-    pub(crate) run: Run<S>,
+    pub(crate) context: Context<S>,
 }
 
 impl<S: LaneState, const TAG_BYTES: usize> Model for Encryptor<S, TAG_BYTES> {
     ghost use Rattle.std.specs.Prelude.{◌≤◌};
     ghost use Rattle.aegis_base.specs.Lane.{IsTagLength};
     ghost use Rattle.aegis_base.specs.declared.error.TheConstants.{MAX_AEAD_BYTES};
-    ghost use Rattle.aegis_base.specs.Run.{Held};
+    ghost use Rattle.aegis_base.specs.Context.{Held};
 
     ghost Value = { Held };
 
-    ghost view = { λ e. e.run };
+    ghost view = { λ e. e.context };
 
     ghost invariant = { λ e. IsTagLength TAG_BYTES
-        × (e.run.message_bytes ≤ MAX_AEAD_BYTES) };
+        × (e.context.message_bytes ≤ MAX_AEAD_BYTES) };
 }
 
 impl<S: LaneState, const TAG_BYTES: usize> fmt::Debug for Encryptor<S, TAG_BYTES> {
@@ -54,8 +54,8 @@ impl<S: LaneState, const TAG_BYTES: usize> Encryptor<S, TAG_BYTES> {
         ensures written { Encrypts S.VARIANT self.old buffer.old buffer.new }
         ensures length { self.new.message_bytes ≡ self.old.message_bytes + length buffer.old }
     {
-        let total = counted_within(self.run.message_bytes(), buffer.len());
-        self.run.pass(Pass::Seal, buffer, total);
+        let total = counted_within(self.context.message_bytes(), buffer.len());
+        self.context.pass(Pass::Seal, buffer, total);
     }
 
     /// Seals the next chunk into `out`, which must be as long as the chunk. The chunk must have at most `remaining`
@@ -67,15 +67,15 @@ impl<S: LaneState, const TAG_BYTES: usize> Encryptor<S, TAG_BYTES> {
         ensures written { Encrypts S.VARIANT self.old plaintext.now out.new }
         ensures length { self.new.message_bytes ≡ self.old.message_bytes + length plaintext.now }
     {
-        let total = counted_within(self.run.message_bytes(), plaintext.len());
-        self.run.pass_from(Pass::Seal, plaintext, out, total);
+        let total = counted_within(self.context.message_bytes(), plaintext.len());
+        self.context.pass_from(Pass::Seal, plaintext, out, total);
     }
 
     /// Returns how many more bytes the message may have, of [`MAX_AEAD_BYTES`].
     pub fn remaining(&self) -> u64
         ensures { result ≡ MAX_AEAD_BYTES - self.now.message_bytes }
     {
-        self.run.remaining()
+        self.context.remaining()
     }
 
     /// Returns the tag of the message.
@@ -83,6 +83,6 @@ impl<S: LaneState, const TAG_BYTES: usize> Encryptor<S, TAG_BYTES> {
         ensures { (key nonce ad m : List ℕ) → Stands S.VARIANT self key nonce ad m
             → result ≡ tag S.VARIANT TAG_BYTES key nonce ad m }
     {
-        self.run.tag()
+        self.context.tag()
     }
 }

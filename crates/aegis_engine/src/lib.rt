@@ -1,11 +1,13 @@
 //! The engine of AEGIS: all calls of ciphers and MACs, generic in the family and the number of lanes.
 //!
-//! From the lowest module: `pass` processes rate blocks, `run` associated data and a message in pieces of any lengths,
-//! `pieces` bytes that are copied from another slice, and `opening` the chunks of a ciphertext. `cipher`, `encryptor`,
-//! `decryptor` and `mac` have the public calls, and `saved` the calls on a run that its caller keeps as bytes.
+//! From the lowest module: `pass` processes rate blocks, `context` associated data and a message in pieces of any
+//! lengths, `pieces` bytes that are copied from another slice, and `opening` the chunks of a ciphertext. `cipher`,
+//! `encryptor`, `decryptor` and `mac` have the public calls, and `saved` the calls on a context that its caller keeps
+//! as bytes.
 #![tactic(auto)]
 
 mod cipher;
+mod context;
 mod decryptor;
 mod destination;
 mod encryptor;
@@ -13,7 +15,6 @@ mod mac;
 mod opening;
 mod pass;
 mod pieces;
-mod run;
 mod saved;
 mod tag;
 
@@ -21,5 +22,5 @@ pub use cipher::{Cipher, ERASED, Once, Reusable};
 pub use decryptor::Decryptor;
 pub use encryptor::Encryptor;
 pub use mac::{Mac, mac_at_once};
-pub use saved::{BEGUN, ENDED, SavedRun};
+pub use saved::{BEGUN, ENDED, SavedContext};
 pub use tag::same_bytes;

@@ -3,13 +3,13 @@
 ghost use Rattle.std.specs.Prelude.{◌≡◌, ⊤, ℕ, ◌+◌, ◌-◌, ◌^◌, ◌<◌, ◌≤◌, ◌++◌, IfErr, IsOk, List, OnOk, Some, [], codes, length, replicate};
 ghost use Rattle.aegis_base.specs.Chunks.{joined};
 ghost use Rattle.aegis_base.specs.Variant.{cipher_name, key_length};
-ghost use Rattle.aegis_base.specs.Lane.{IsTagLength, start};
+ghost use Rattle.aegis_base.specs.Lane.{IsTagLength, init};
 ghost use Rattle.aegis_base.specs.Mac.{mac, mac_input, mac_tag};
 ghost use Rattle.aegis_base.specs.Message.{after_all};
-ghost use Rattle.aegis_base.specs.Run.{Stands, Takes};
+ghost use Rattle.aegis_base.specs.Context.{Stands, Takes};
 
+use crate::context::Context;
 use crate::pass::ZEROS;
-use crate::run::Run;
 use crate::tag::{folded_tag, same_bytes};
 use aegis_base::{Error, LaneState, MAX_AEAD_BYTES, counted_within};
 use std::alloc::AllocError;
@@ -22,7 +22,7 @@ use std::marker::Model;
 /// for. No call allocates memory.
 #[derive(Drop)]
 pub struct Mac<S: LaneState, const KEY_BYTES: usize, const TAG_BYTES: usize> {
-    run: Run<S>,
+    context: Context<S>,
 }
 
 impl<S: LaneState, const KEY_BYTES: usize, const TAG_BYTES: usize> Model
@@ -30,14 +30,14 @@ impl<S: LaneState, const KEY_BYTES: usize, const TAG_BYTES: usize> Model
     ghost use Rattle.std.specs.Prelude.{◌≤◌};
     ghost use Rattle.aegis_base.specs.Lane.{IsTagLength};
     ghost use Rattle.aegis_base.specs.declared.error.TheConstants.{MAX_AEAD_BYTES};
-    ghost use Rattle.aegis_base.specs.Run.{Held};
+    ghost use Rattle.aegis_base.specs.Context.{Held};
 
     ghost Value = { Held };
 
-    ghost view = { λ m. m.run };
+    ghost view = { λ m. m.context };
 
     ghost invariant = { λ m. IsTagLength TAG_BYTES
-        × (m.run.message_bytes ≤ MAX_AEAD_BYTES) };
+        × (m.context.message_bytes ≤ MAX_AEAD_BYTES) };
 }
 
 impl<S: LaneState, const KEY_BYTES: usize, const TAG_BYTES: usize> Clone
@@ -48,7 +48,7 @@ impl<S: LaneState, const KEY_BYTES: usize, const TAG_BYTES: usize> Clone
 
     fn clone(&self) -> Result<Self, AllocError> {
         Ok(Mac {
-            run: self.run.copied(),
+            context: self.context.copied(),
         })
     }
 }
@@ -63,7 +63,7 @@ impl<S: LaneState, const KEY_BYTES: usize, const TAG_BYTES: usize> fmt::Debug
     }
 }
 
-impl<S: LaneState> Run<S> {
+impl<S: LaneState> Context<S> {
     // The lanes after the input. An empty input is taken in as a rate block of zeros.
     #[inline(always)]
     fn input_lanes(&self) -> S
@@ -71,7 +71,7 @@ impl<S: LaneState> Run<S> {
         ensures lanes { (key nonce x : List ℕ) → Stands S.VARIANT self.now key nonce [] x
             → (j : ℕ) → j < S.VARIANT.lanes
             → S.lane result j
-            ≡ after_all S.VARIANT (start S.VARIANT key nonce j) j (mac_input S.VARIANT x) }
+            ≡ after_all S.VARIANT (init S.VARIANT key nonce j) j (mac_input S.VARIANT x) }
         ensures few { S.updates result ≤ self.now.ad_bytes + self.now.message_bytes + 1 }
     {
         if self.message_bytes == 0 {
@@ -82,7 +82,7 @@ impl<S: LaneState> Run<S> {
         self.padded()
     }
 
-    /// Returns the MAC of the input of a run without associated data.
+    /// Returns the MAC of the input of a context without associated data.
     #[inline(always)]
     pub fn mac<const TAG_BYTES: usize>(&self) -> [u8; TAG_BYTES]
         requires tag_bytes { IsTagLength TAG_BYTES }
@@ -92,7 +92,7 @@ impl<S: LaneState> Run<S> {
     {
         let end = self
             .input_lanes()
-            .finish(8 * self.message_bytes, 8 * TAG_BYTES as u64);
+            .finalize(8 * self.message_bytes, 8 * TAG_BYTES as u64);
         folded_tag(end)
     }
 }
@@ -110,9 +110,9 @@ pub fn mac_at_once<S: LaneState, const TAG_BYTES: usize>(
     requires within { length input.now ≤ MAX_AEAD_BYTES }
     ensures { result ≡ mac S.VARIANT TAG_BYTES key.now nonce.now input.now }
 {
-    let mut run = Run::<S>::begin(key, nonce, &[]);
-    run.absorb(input, input.len() as u64);
-    run.mac()
+    let mut context = Context::<S>::begin(key, nonce, &[]);
+    context.absorb(input, input.len() as u64);
+    context.mac()
 }
 
 impl<S: LaneState, const KEY_BYTES: usize, const TAG_BYTES: usize> Mac<S, KEY_BYTES, TAG_BYTES> {
@@ -134,7 +134,7 @@ impl<S: LaneState, const KEY_BYTES: usize, const TAG_BYTES: usize> Mac<S, KEY_BY
         ensures length { result.message_bytes ≡ 0 }
     {
         Mac {
-            run: Run::begin(key, nonce, &[]),
+            context: Context::begin(key, nonce, &[]),
         }
     }
 
@@ -144,8 +144,8 @@ impl<S: LaneState, const KEY_BYTES: usize, const TAG_BYTES: usize> Mac<S, KEY_BY
         ensures taken { Takes S.VARIANT self.old self.new input.now }
         ensures length { self.new.message_bytes ≡ self.old.message_bytes + length input.now }
     {
-        let total = counted_within(self.run.message_bytes(), input.len());
-        self.run.absorb(input, total);
+        let total = counted_within(self.context.message_bytes(), input.len());
+        self.context.absorb(input, total);
     }
 
     // Takes in all chunks, in order.
@@ -162,7 +162,7 @@ impl<S: LaneState, const KEY_BYTES: usize, const TAG_BYTES: usize> Mac<S, KEY_BY
     pub fn remaining(&self) -> u64
         ensures { result ≡ MAX_AEAD_BYTES - self.now.message_bytes }
     {
-        self.run.remaining()
+        self.context.remaining()
     }
 
     /// Returns the MAC of the input.
@@ -170,7 +170,7 @@ impl<S: LaneState, const KEY_BYTES: usize, const TAG_BYTES: usize> Mac<S, KEY_BY
         ensures { (key nonce x : List ℕ) → Stands S.VARIANT self key nonce [] x
             → result ≡ mac S.VARIANT TAG_BYTES key nonce x }
     {
-        self.run.mac()
+        self.context.mac()
     }
 
     /// Returns the MAC of the input followed by all chunks, which must have at most `remaining` bytes (see

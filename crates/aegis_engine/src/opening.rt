@@ -4,14 +4,14 @@
 ghost use Rattle.std.specs.Prelude.{◌≡◌, ℕ, ◌+◌, ◌≤◌, List, OnErr, OnOk, drop, length, take};
 ghost use Rattle.aegis_base.specs.Chunks.{accepted_after};
 ghost use Rattle.aegis_base.specs.Message.{ciphertext};
-ghost use Rattle.aegis_base.specs.Run.{Continues, Decrypts, Stands};
+ghost use Rattle.aegis_base.specs.Context.{Continues, Decrypts, Stands};
 ghost use Rattle.aegis_engine.specs.Chunk.{AnswersChunk, Appends, Fits};
 
+use crate::context::Context;
 use crate::pass::Pass;
-use crate::run::Run;
 use aegis_base::{Error, LaneState, MAX_AEAD_BYTES, counted};
 
-impl<S: LaneState> Run<S> {
+impl<S: LaneState> Context<S> {
     /// Opens the next chunk into the destination, after the message so far. Returns [`Error::OutputBufferTooSmall`] if
     /// the chunk has no room there, and otherwise [`Error::MessageTooLong`] if the message would have more than
     /// [`MAX_AEAD_BYTES`]. After an error nothing has changed.

@@ -3,13 +3,13 @@
 //! Sealing, opening and the xor with a keystream are one pass: each byte of a buffer is xored with the keystream, and
 //! the lanes take in the bytes before the xor (sealing), the bytes after it (opening), or zeros (a keystream).
 //! Associated data and the input of a MAC are taken in without a buffer. In contracts, `x` is the whole input of the
-//! run: the lanes have taken in its first `total` bytes, and a call takes in the bytes after them.
+//! context: the lanes have taken in its first `total` bytes, and a call takes in the bytes after them.
 
 ghost use Rattle.std.specs.Prelude.{◌≡◌, ℕ, ◌+◌, ◌*◌, ◌/◌, ◌%◌, ◌^◌, ◌<◌, ◌≤◌, bit_xor, length, List, slice_index, replicate};
 ghost use Rattle.aegis_aes.specs.Block.{IsSameBefore, IsSameFrom};
-ghost use Rattle.aegis_base.specs.Lane.{step};
+ghost use Rattle.aegis_base.specs.Lane.{update};
 ghost use Rattle.aegis_base.specs.Message.{keystream_byte, share_at, keystream_byte_along};
-ghost use Rattle.aegis_base.specs.Run.{IsAlong, IsUnopened};
+ghost use Rattle.aegis_base.specs.Context.{IsAlong, IsUnopened};
 ghost use Rattle.aegis_engine.specs.Pass.{absorbed};
 
 use aegis_base::LaneState;
@@ -180,7 +180,7 @@ fn absorb_zeros<S: LaneState>(state: &mut S)
     requires { S.updates state.old + 1 < 2 ^ 64 }
     ensures lanes { (j i n : ℕ) → j < S.VARIANT.lanes
         → S.lane state.new j
-        ≡ step S.VARIANT.family (S.lane state.old j)
+        ≡ update S.VARIANT.family (S.lane state.old j)
         (share_at S.VARIANT j (replicate n 0) i) }
     ensures updates { S.updates state.new ≡ S.updates state.old + 1 }
 {
@@ -200,7 +200,7 @@ fn pass_block<S: LaneState>(before: S, state: &mut S, pass: Pass, buffer: &mut [
     ensures above { IsSameFrom (at + S.RATE) buffer.old buffer.new }
     ensures lanes { (j : ℕ) → j < S.VARIANT.lanes
         → S.lane state.new j
-        ≡ step S.VARIANT.family (S.lane state.old j)
+        ≡ update S.VARIANT.family (S.lane state.old j)
         (share_at S.VARIANT j (absorbed pass buffer.old buffer.new) at) }
     ensures updates { S.updates state.new ≡ S.updates state.old + 1 }
 {

@@ -4,11 +4,11 @@
 
 ghost use Rattle.std.specs.Prelude.{◌≡◌, ℕ, ◌+◌, ◌^◌, ◌<◌, ◌≤◌, OnOk, [], length};
 ghost use Rattle.aegis_base.specs.Chunks.{joined};
-ghost use Rattle.aegis_base.specs.Run.{Encrypts, Takes};
+ghost use Rattle.aegis_base.specs.Context.{Encrypts, Takes};
 ghost use Rattle.aegis_engine.specs.Pass.{absorbed, sealed};
 
+use crate::context::Context;
 use crate::pass::Pass;
-use crate::run::Run;
 use aegis_base::LaneState;
 use std::alloc::{AllocError, Allocator};
 
@@ -26,7 +26,7 @@ fn piece_len(total: u64, left: usize) -> usize
     left.min(COPY_BYTES - over)
 }
 
-impl<S: LaneState> Run<S> {
+impl<S: LaneState> Context<S> {
     /// Copies the next bytes of a message from `source` to `out`, which is as long, and processes them there as `pass`
     /// does. With them, the message has `total` bytes.
     #[inline(always)]

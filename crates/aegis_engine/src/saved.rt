@@ -1,33 +1,33 @@
-//! Saved runs: the values of a message or a MAC as bytes and numbers, which a caller may keep between two calls.
+//! Saved contexts: the values of a message or a MAC as bytes and numbers, which a caller may keep between two calls.
 //!
-//! The type of a saved run does not name its variant: each call names the state that the bytes are read as. Contracts
-//! state the key, nonce, associated data and message so far that a run stands for before and after a call. If its bytes
-//! stand for nothing, the calls are still safe, provided that its two numbers are within the limit. The mark
-//! distinguishes a run from bytes that were never begun or have ended.
+//! The type of a saved context does not name its variant: each call names the state that the bytes are read as.
+//! Contracts state the key, nonce, associated data and message so far that a context stands for before and after a
+//! call. If its bytes stand for nothing, the calls are still safe, provided that its two numbers are within the limit.
+//! The mark distinguishes a context from bytes that were never begun or have ended.
 
 ghost use Rattle.std.specs.Prelude.{◌≡◌, ℕ, ◌+◌, ◌/◌, ◌%◌, ◌<◌, ◌≤◌, ◌↔◌, ◌++◌, List, [], length, slice_index, true};
 ghost use Rattle.aegis_base.specs.Lane.{IsTagLength};
 ghost use Rattle.aegis_base.specs.Mac.{mac};
 ghost use Rattle.aegis_base.specs.Message.{Opens, block_count, ciphertext, tag as tag_of};
-ghost use Rattle.aegis_base.specs.Run.{Stands, held_by};
+ghost use Rattle.aegis_base.specs.Context.{Stands, held_by};
 ghost use Rattle.aegis_base.specs.Variant.{key_length};
 ghost use Rattle.aegis_engine.specs.Pass.{absorbed, sealed};
 ghost use Rattle.aegis_engine.specs.Saved.{HasChecked, HasSealed, HasTaken, IsSaved};
 
+use crate::context::{Context, absorb_bytes, pass_bytes};
 use crate::pass::{Pass, RateBlock, ZEROS};
 use crate::pieces::COPY_BYTES;
-use crate::run::{Run, absorb_bytes, pass_bytes};
 use crate::tag::same_bytes;
 use aegis_base::{LaneState, MAX_AEAD_BYTES, SavedLanes, SavedRows, counted_within};
 
-/// The mark of a run from its beginning to its end. Other bytes are unlikely to have it by chance.
+/// The mark of a context from its beginning to its end. Other bytes are unlikely to have it by chance.
 pub const BEGUN: u64 = 0x6165_6769_732d_7275;
 
-/// A run between two calls: the mark, the rows of the lanes, the open block, and the numbers of bytes of associated
+/// A context between two calls: the mark, the rows of the lanes, the open block, and the numbers of bytes of associated
 /// data and of the message that were taken in.
 #[repr(C)]
 #[derive(Clone, Copy)]
-pub struct SavedRun {
+pub struct SavedContext {
     pub mark: u64,
     pub rows: SavedRows,
     pub block: RateBlock,
@@ -35,8 +35,8 @@ pub struct SavedRun {
     pub message_bytes: u64,
 }
 
-/// A run after its end: zeros.
-pub const ENDED: SavedRun = SavedRun {
+/// A context after its end: zeros.
+pub const ENDED: SavedContext = SavedContext {
     mark: 0,
     rows: SavedRows {
         first_pair: [0; 128],
@@ -60,7 +60,7 @@ fn updates_along<S: LaneState>(ad_bytes: u64, message_bytes: u64) -> u64
     (ad_bytes + (rate - 1)) / rate + message_bytes / rate
 }
 
-impl SavedRun {
+impl SavedContext {
     // The lanes, with their updates counted.
     #[inline(always)]
     fn lanes<S: SavedLanes>(&self) -> S
@@ -75,7 +75,7 @@ impl SavedRun {
         S::restore(&self.rows, count)
     }
 
-    // Saves the lanes of a run whose other values are here.
+    // Saves the lanes of a context whose other values are here.
     #[inline(always)]
     fn keep<S: SavedLanes>(&mut self, state: S)
         ensures stands { (key nonce ad m : List ℕ)
@@ -88,8 +88,8 @@ impl SavedRun {
         state.save(&mut self.rows);
     }
 
-    // The run, as a value of its own.
-    fn run<S: SavedLanes>(&self) -> Run<S>
+    // The context, as a value of its own.
+    fn context<S: SavedLanes>(&self) -> Context<S>
         requires associated_data_within { self.now.ad_bytes ≤ MAX_AEAD_BYTES }
         requires message_within { self.now.message_bytes ≤ MAX_AEAD_BYTES }
         ensures stands { (key nonce ad m : List ℕ) → IsSaved S.VARIANT self.now key nonce ad m
@@ -97,7 +97,7 @@ impl SavedRun {
         ensures ad_bytes { result.ad_bytes ≡ self.now.ad_bytes }
         ensures message_bytes { result.message_bytes ≡ self.now.message_bytes }
     {
-        Run {
+        Context {
             state: self.lanes::<S>(),
             block: self.block,
             ad_bytes: self.ad_bytes,
@@ -114,15 +114,15 @@ impl SavedRun {
         ensures stands { IsSaved S.VARIANT self.new key.now nonce.now ad.now [] }
         ensures empty { ciphertext S.VARIANT key.now nonce.now ad.now [] ≡ [] }
     {
-        let run = Run::<S>::begin(key, nonce, ad);
+        let context = Context::<S>::begin(key, nonce, ad);
         self.mark = BEGUN;
-        self.block = run.block;
-        self.ad_bytes = run.ad_bytes;
-        self.message_bytes = run.message_bytes;
-        self.keep(run.state);
+        self.block = context.block;
+        self.ad_bytes = context.ad_bytes;
+        self.message_bytes = context.message_bytes;
+        self.keep(context.state);
     }
 
-    // Processes the next bytes of a message in place, as `Run::pass` does.
+    // Processes the next bytes of a message in place, as `Context::pass` does.
     #[inline(always)]
     fn pass<S: SavedLanes>(&mut self, pass: Pass, mc: &mut [u8])
         requires associated_data_within { self.old.ad_bytes ≤ MAX_AEAD_BYTES }
@@ -202,7 +202,7 @@ impl SavedRun {
         self.keep(state);
     }
 
-    /// Returns the tag of the message. The run may continue afterwards.
+    /// Returns the tag of the message. The context may continue afterwards.
     pub fn tag<S: SavedLanes, const TAG_BYTES: usize>(&self) -> [u8; TAG_BYTES]
         requires tag_bytes { IsTagLength TAG_BYTES }
         requires associated_data_within { self.now.ad_bytes ≤ MAX_AEAD_BYTES }
@@ -210,7 +210,7 @@ impl SavedRun {
         ensures { (key nonce ad m : List ℕ) → IsSaved S.VARIANT self.now key nonce ad m
             → result ≡ tag_of S.VARIANT TAG_BYTES key nonce ad m }
     {
-        self.run::<S>().tag()
+        self.context::<S>().tag()
     }
 
     /// Returns whether `tag` is the tag of the message. All bytes are compared, whether they are equal or not.
@@ -226,10 +226,10 @@ impl SavedRun {
             (ciphertext S.VARIANT key nonce ad m) tag.now opened
             → result ≡ true }
     {
-        self.run::<S>().has_tag(tag)
+        self.context::<S>().has_tag(tag)
     }
 
-    /// Returns the MAC of the input. The run may continue afterwards.
+    /// Returns the MAC of the input. The context may continue afterwards.
     pub fn mac<S: SavedLanes, const TAG_BYTES: usize>(&self) -> [u8; TAG_BYTES]
         requires tag_bytes { IsTagLength TAG_BYTES }
         requires no_associated_data { self.now.ad_bytes ≡ 0 }
@@ -237,7 +237,7 @@ impl SavedRun {
         ensures { (key nonce x : List ℕ) → IsSaved S.VARIANT self.now key nonce [] x
             → result ≡ mac S.VARIANT TAG_BYTES key nonce x }
     {
-        self.run::<S>().mac()
+        self.context::<S>().mac()
     }
 
     /// Returns whether `expected` is the MAC of the input. All bytes are compared, whether they are equal or not.
@@ -251,7 +251,7 @@ impl SavedRun {
         same_bytes(&self.mac::<S, TAG_BYTES>(), expected)
     }
 
-    /// Ends the run, by overwriting it with zeros.
+    /// Ends the context, by overwriting it with zeros.
     pub fn end(&mut self)
         ensures { self.new ≡ ENDED }
     {

@@ -10,7 +10,7 @@ use Rattle.aegis.specs.declared.record.error.RecordError.TheVariants as errors
 use Rattle.aegis.specs.declared.record.version.Version.TheVariants.{Second}
 use Rattle.aegis.specs.Progress.{last_flag}
 use Rattle.aegis.specs.Records.{AreRecords, IsFault, sealed}
-use Rattle.aegis.specs.RecordStream.{first_position, frames, front, header, position_after, start_at}
+use Rattle.aegis.specs.RecordStream.{first_position, frames, beginning, header, position_after, start_at}
 use Rattle.aegis.proofs.Frames.{one_fault}
 use Rattle.aegis.proofs.Lengths.{start_after}
 use Rattle.aegis.proofs.Sealed.{sealed-is}
@@ -18,9 +18,9 @@ use Rattle.aegis.proofs.Stepwise.{after_a_stream, begun_none}
 use Rattle.aegis_files.specs.declared.error.FileError.{FileError}
 use Rattle.aegis_files.specs.declared.error.FileError.TheVariants.{Stream, TooLong}
 use Rattle.aegis_files.specs.declared.range.OpenedRange.{OpenedRange}
-use Rattle.aegis_files.specs.declared.range.TextRange.{TextRange}
+use Rattle.aegis_files.specs.declared.range.ContentsRange.{ContentsRange}
 use Rattle.aegis_files.specs.Opening.{FailsWith, IsFileFault, RefusesFile}
-use Rattle.aegis_files.specs.Range.{AreFrom, IsFaultFrom, IsTextFrom, OpensRange, RefusesFrom, StopsRange, part_of, part_of_text}
+use Rattle.aegis_files.specs.Range.{AreFrom, IsFaultFrom, AreContentsFrom, OpensRange, RefusesFrom, StopsRange, part_of, part_of_contents}
 use Rattle.aegis_files.specs.Reading.{HasNoHead, LeavesSome}
 use Rattle.aegis_files.specs.SealedFile.{IsReadError, IsSealedFile, IsWriteError}
 use Rattle.aegis_files.proofs.Pieces.{at_end, concat-short, read_some, two_prefixes}
@@ -36,25 +36,25 @@ all_records key prefix context flag ms bytes r one = some r.known
       some = known.1;
       within = r.within;
       are = ap (λ (l : List ℕ). header Second ++ l) (r.are ∙ append-nil (frames (sealed key prefix context) (first_position Second) flag ms))
-          ∙ ap (λ (n : ℕ). front (sealed key prefix context) Second n ms) one;
+          ∙ ap (λ (n : ℕ). beginning (sealed key prefix context) Second n ms) one;
     }
 
--- the text of a file is that of its stream, and so of the records after its header
-text_are : (key prefix context text bytes : List ℕ) → length prefix ≡ 24 → (it : IsSealedFile key context text (prefix ++ (header Second ++ bytes)))
+-- the contents of a file are those of its stream, and so of the records after its header
+contents_are : (key prefix context contents bytes : List ℕ) → length prefix ≡ 24 → (it : IsSealedFile key context contents (prefix ++ (header Second ++ bytes)))
     → AreRecords Second key prefix context it.is.messages (header Second ++ bytes)
-text_are key prefix context text bytes long it =
+contents_are key prefix context contents bytes long it =
     let same = two_prefixes it.prefix prefix it.is.stream (header Second ++ bytes) it.long long (sym it.is.file_is) in
     subst (λ (l : List ℕ). AreRecords Second key l context it.is.messages (header Second ++ bytes)) same.0
     (subst (AreRecords Second key it.prefix context it.is.messages) same.1 it.is.are)
 
-text_from : (key prefix context text bytes : List ℕ) → length prefix ≡ 24 → (it : IsSealedFile key context text (prefix ++ (header Second ++ bytes)))
-    → IsTextFrom key prefix context (first_position Second) it.is.messages text bytes
-text_from key prefix context text bytes long it = record {
+contents_from : (key prefix context contents bytes : List ℕ) → length prefix ≡ 24 → (it : IsSealedFile key context contents (prefix ++ (header Second ++ bytes)))
+    → AreContentsFrom key prefix context (first_position Second) it.is.messages contents bytes
+contents_from key prefix context contents bytes long it = record {
   messages = [];
   before = header Second;
   begun = begun_none key prefix context Second (header Second) refl;
-  are = (Second, text_are key prefix context text bytes long it);
-  text_is = it.is.text_is;
+  are = (Second, contents_are key prefix context contents bytes long it);
+  contents_is = it.is.contents_is;
 }
 
 -- ---- why it is refused
@@ -64,7 +64,7 @@ refuses_by : (key prefix context bytes : List ℕ) (e : FileError) → length pr
     → (e ≡ TooLong → MAX_AEAD_BYTES < length (header Second ++ bytes)) → RefusesFile key context (prefix ++ (header Second ++ bytes)) e
 refuses_by key prefix context bytes e long refused too_long = record {
   refused = λ why it. reason why (refused why it);
-  accepted = λ text s why it. memory text s why (refused why it);
+  accepted = λ contents s why it. memory contents s why (refused why it);
   too_long = λ it. omega (arith, too_long it, long, length-append prefix (header Second ++ bytes));
 }
   where
@@ -73,12 +73,12 @@ refuses_by key prefix context bytes e long refused too_long = record {
     reason why (inl none) = inl none
     reason why (inr fault) = inr (inr (prefix, bytes, long, refl, fault))
 
-    memory : (text : List ℕ) → IsSealedFile key context text (prefix ++ (header Second ++ bytes)) → (why : RecordError)
+    memory : (contents : List ℕ) → IsSealedFile key context contents (prefix ++ (header Second ++ bytes)) → (why : RecordError)
         → (why ≡ errors.OutOfMemory) ⊎ IsFault key prefix context (header Second ++ bytes) why → why ≡ errors.OutOfMemory
-    memory text s why (inl none) = none
-    memory text s why (inr fault) =
+    memory contents s why (inl none) = none
+    memory contents s why (inr fault) =
         absurd ((one_fault (sealed key prefix context) (sealed-is key prefix context)).1 (header Second ++ bytes) Second s.is.messages why
-        (text_are key prefix context text bytes long s) fault)
+        (contents_are key prefix context contents bytes long s) fault)
 
 pub refuses_file : (key prefix context bytes : List ℕ) (e : FileError) → length prefix ≡ 24 → RefusesFrom key prefix context (first_position Second) bytes e
     → RefusesFile key context (prefix ++ (header Second ++ bytes)) e
@@ -113,17 +113,17 @@ refuses_more key prefix context bytes rest ms flag left left' e long r one known
         (Second, all_records key prefix context flag ms fs (record { known = r.known; within = r.within; are = sym (append-nil fs) }) one) (some left left' known more.2))
 
 -- a file with no prefix and header
-head_is : (key context text file : List ℕ) → IsSealedFile key context text file → take 4 (drop 24 file) ≡ header Second
-head_is key context text file it =
+head_is : (key context contents file : List ℕ) → IsSealedFile key context contents file → take 4 (drop 24 file) ≡ header Second
+head_is key context contents file it =
     let fs = frames (sealed key it.prefix context) (first_position Second) 1 it.is.messages in
     ap (λ (l : List ℕ). take 4 (drop 24 l)) (it.is.file_is ∙ ap (λ (l : List ℕ). it.prefix ++ l) it.is.are.are)
     ∙ ap (take 4) (drop_at it.prefix (header Second ++ fs) 24 it.long) ∙ take_at (header Second) fs 4 refl
 
 pub no_head : (key context file : List ℕ) (e : FileError) → IsReadError e ⊎ ((e ≡ Stream errors.Header) × (take 4 (drop 24 file) ≢ header Second)) → RefusesFile key context file e
-no_head key context file e (inl (why, is)) = record { refused = λ d it. absurd cc; accepted = λ text s d it. absurd cc; too_long = λ it. absurd cc }
+no_head key context file e (inl (why, is)) = record { refused = λ d it. absurd cc; accepted = λ contents s d it. absurd cc; too_long = λ it. absurd cc }
 no_head key context file e (inr (is, none)) = record {
   refused = λ d it. inr (inl (none, cc));
-  accepted = λ text s d it. absurd (none (head_is key context text file s));
+  accepted = λ contents s d it. absurd (none (head_is key context contents file s));
   too_long = λ it. absurd cc;
 }
 
@@ -133,7 +133,7 @@ unread key context file old e why = record {
   begun = [];
   written = Appends-nil old;
   verified = inl refl;
-  front = λ text it. (text, refl);
+  beginning = λ contents it. (contents, refl);
   refuses = no_head key context file e why;
 }
 
@@ -180,8 +180,8 @@ pub some_with : (a : Option (List ℕ)) (P Q : List ℕ → Type 0) → ((x : Li
 some_with None P Q so p = tt
 some_with (Some x) P Q so p = so x p
 
--- all of the text, as a part
-abbrev pub all : TextRange
+-- all of the contents, as a part
+abbrev pub all : ContentsRange
 all = record { position = first_position Second; skip = 0; length = 18446744073709551615 }
 
 -- it is all of the messages that fit
@@ -190,16 +190,16 @@ all_of ms fits = take_all 18446744073709551615 (concat ms) (omega (arith, fits, 
 
 file_fails : (key prefix context bytes rest begun more : List ℕ) (ms : List (List ℕ)) (flag : ℕ) (old new : Option (List ℕ)) (e : FileError) → length prefix ≡ 24
     → AreFrom key prefix context (first_position Second) flag ms rest bytes → Appends old new begun → concat ms ≡ begun ++ more → (more ≡ []) ⊎ IsWriteError e
-    → ((following : List (List ℕ)) (text : List ℕ) → IsTextFrom key prefix context (first_position Second) following text bytes → (after : List ℕ) × (part_of_text all text ≡ begun ++ after))
+    → ((following : List (List ℕ)) (contents : List ℕ) → AreContentsFrom key prefix context (first_position Second) following contents bytes → (after : List ℕ) × (part_of_contents all contents ≡ begun ++ after))
     → RefusesFile key context (prefix ++ (header Second ++ bytes)) e → FailsWith key context (prefix ++ (header Second ++ bytes)) old new e
-file_fails key prefix context bytes rest begun more ms flag old new e long records written is all_written text_is refuses = record {
+file_fails key prefix context bytes rest begun more ms flag old new e long records written is all_written contents_is refuses = record {
   begun = begun;
   written = written;
   verified = inr (ms, record { prefix = prefix; long = long; bytes = bytes; file_is = refl; flag = flag; rest = rest; records = records }, more, is, all_written);
-  front = λ text it.
-      let part = text_is it.is.messages text (text_from key prefix context text bytes long it) in
-      let others : List ℕ = drop 18446744073709551615 text in
-      (part.0 ++ others, sym (take-append-drop 18446744073709551615 text) ∙ ap (λ (l : List ℕ). l ++ others) part.1 ∙ append_assoc begun part.0 others);
+  beginning = λ contents it.
+      let part = contents_is it.is.messages contents (contents_from key prefix context contents bytes long it) in
+      let others : List ℕ = drop 18446744073709551615 contents in
+      (part.0 ++ others, sym (take-append-drop 18446744073709551615 contents) ∙ ap (λ (l : List ℕ). l ++ others) part.1 ∙ append_assoc begun part.0 others);
   refuses = refuses;
 }
 
@@ -207,7 +207,7 @@ pub fails_within : (key prefix context : List ℕ) (left old new : Option (List 
     → IfSome left (λ bytes. StopsRange key prefix context all bytes old new e) → IfSome left (λ bytes. FailsWith key context (prefix ++ (header Second ++ bytes)) old new e)
 fails_within key prefix context left old new e long why = some_with left _ _ (λ bytes s.
     file_fails key prefix context bytes s.rest s.begun s.of_messages.0 s.messages s.flag old new e long s.records s.written (sym (all_of s.messages s.fits) ∙ s.of_messages.1) s.of_messages.2
-    s.of_text (refuses_file key prefix context bytes e long s.refuses)) why
+    s.of_contents (refuses_file key prefix context bytes e long s.refuses)) why
 
 -- ---- the last record was opened
 
@@ -232,12 +232,12 @@ is_last key prefix context bytes opened left old new o = done o.whole
 pub ends_file : {T : Type 0} (key prefix context : List ℕ) (opened : OpenedRange) (file left left' left'' old new : Option (List ℕ)) (r : Result T FileError) → length prefix ≡ 24
     → Consumes file left (prefix ++ header Second) → IfSome left (λ bytes. OpensRange key prefix context all opened bytes left' old new)
     → OnOk r (Consumes left' left'' []) → OnOk r (IsAtEnd left'')
-    → OnOk r (IfSome file (λ f. (text : List ℕ) × Appends old new text × IsSealedFile key context text f))
+    → OnOk r (IfSome file (λ f. (contents : List ℕ) × Appends old new contents × IsSealedFile key context contents f))
 ends_file key prefix context opened file left left' left'' old new (Err e) long read o none end = tt
 ends_file key prefix context opened file left left' left'' old new (Ok x) long read o none end = under _ prefix file left read (some_with left _ _ whole o)
   where
     whole : (bytes : List ℕ) → OpensRange key prefix context all opened bytes left' old new
-        → (text : List ℕ) × Appends old new text × IsSealedFile key context text (prefix ++ (header Second ++ bytes))
+        → (contents : List ℕ) × Appends old new contents × IsSealedFile key context contents (prefix ++ (header Second ++ bytes))
     whole bytes s =
         let last = is_last key prefix context bytes opened left' old new s in
         let fits = subst (λ q. start_at q ≤ MAX_AEAD_BYTES) s.ended s.fits in
@@ -252,7 +252,7 @@ ends_file key prefix context opened file left left' left'' old new (Ok x) long r
               messages = s.messages;
               stream = header Second ++ bytes;
               are = all_records key prefix context (last_flag opened.is_last) s.messages bytes records (rw last refl);
-              text_is = refl;
+              contents_is = refl;
               file_is = refl;
             };
           },
@@ -277,6 +277,6 @@ fails_end key prefix context opened file left left' left'' old new (Err e) long 
         let fits = subst (λ q. start_at q ≤ MAX_AEAD_BYTES) s.ended s.fits in
         file_fails key prefix context bytes s.rest (part_of all s.messages) [] s.messages (last_flag opened.is_last) old new e long s.records s.written
         (sym (all_of s.messages fits) ∙ sym (append-nil (part_of all s.messages))) (inl refl)
-        (λ following text t. ([], sym (s.of_text following text t) ∙ sym (append-nil (part_of all s.messages))))
+        (λ following contents t. ([], sym (s.of_contents following contents t) ∙ sym (append-nil (part_of all s.messages))))
         (refuses_more key prefix context bytes s.rest s.messages (last_flag opened.is_last) left' left'' e long s.records
         (rw (is_last key prefix context bytes opened left' old new s) refl) s.read why)

@@ -45,7 +45,7 @@ pub filled_part : {A : Type 0} (v : Vec ℕ A) (old all part : List ℕ) (from t
     → from ≤ to → to ≤ length all → length part ≡ length (take (to - from) (drop from all)) → n ≤ length part
     → Consumes left left' (take n part) → (n < length part → IsAtEnd left')
     → ReadsPart old (with_items v (put_mid from (to - from) all part)).items from to (from + n) left left'
-filled_part v old all part from to n left left' value front ordered fits same within read end =
+filled_part v old all part from to n left left' value beginning ordered fits same within read end =
     let room : ℕ = to - from in
     let low : from + room ≤ length all = omega arith in
     let size = put_part from room all part low same in
@@ -56,12 +56,12 @@ filled_part v old all part from to n left left' value front ordered fits same wi
       above = omega arith;
       within = omega (arith, long, size);
       below = omega (arith, size);
-      kept = take-put_mid_below _ _ _ _ _ (le_refl _) first ∙ front;
-      read = λ start before. filled_more start left left' from room n all part first within (subst (Consumes start left) (sym front) before) read;
+      kept = take-put_mid_below _ _ _ _ _ (le_refl _) first ∙ beginning;
+      read = λ start before. filled_more start left left' from room n all part first within (subst (Consumes start left) (sym beginning) before) read;
       ended = λ short. end (omega (arith, short, size));
     })
 
--- the front of a vector that is made longer by zeros
+-- the beginning of a vector that is made longer by zeros
 pub longer : (old zeros : List ℕ) (from to : ℕ) → from ≤ length old → length old ≤ to → take from (take to old ++ zeros) ≡ take from old
 longer old zeros from to within grown =
     ap (λ (l : List ℕ). take from (l ++ zeros)) (take_all to old grown) ∙ take-append-le from old zeros within

@@ -15,7 +15,7 @@ pub concat-append : (ms ns : List (List ℕ)) → concat (ms ++ ns) ≡ concat m
 concat-append [] ns = refl
 concat-append (m ∷ ms) ns = ap (λ (l : List ℕ). m ++ l) (concat-append ms ns) ∙ sym (append_assoc m (concat ms) (concat ns))
 
--- messages and a front of one more begin the concatenation of all
+-- messages and a beginning of one more begin the concatenation of all
 pub concat-cut : (ms : List (List ℕ)) (m : List ℕ) (n : ℕ) → concat (ms ++ m ∷ []) ≡ (concat ms ++ take n m) ++ drop n m
 concat-cut ms m n =
     concat-push ms m ∙ ap (λ (l : List ℕ). concat ms ++ l) (sym (take-append-drop n m)) ∙ sym (append_assoc (concat ms) (take n m) (drop n m))

@@ -14,20 +14,20 @@ use Rattle.aegis.specs.Records.{IsFault, sealed}
 use Rattle.aegis.specs.RecordStream.{Sealing, frames, position_after, start_at}
 use Rattle.aegis.proofs.Frames.{one_fault, one_record_stream}
 use Rattle.aegis.proofs.Sealed.{sealed-is}
-use Rattle.aegis.proofs.Stepwise.{begun_all, begun_front, begun_whole}
+use Rattle.aegis.proofs.Stepwise.{begun_all, begun_beginning, begun_whole}
 use Rattle.aegis_files.specs.declared.error.FileError.{FileError}
 use Rattle.aegis_files.specs.declared.error.FileError.TheVariants.{Stream, TooLong}
 use Rattle.aegis_files.specs.declared.range.OpenedRange.{OpenedRange}
-use Rattle.aegis_files.specs.declared.range.TextRange.{TextRange}
-use Rattle.aegis_files.specs.Range.{AreFrom, IsFaultFrom, IsTextFrom, OpensRange, RefusesFrom, StopsRange, part_of, part_of_text}
+use Rattle.aegis_files.specs.declared.range.ContentsRange.{ContentsRange}
+use Rattle.aegis_files.specs.Range.{AreFrom, IsFaultFrom, AreContentsFrom, OpensRange, RefusesFrom, StopsRange, part_of, part_of_contents}
 use Rattle.aegis_files.specs.Reading.{FailsNext, Long, NoMemory, ReadsNext, Refused, Unread}
 use Rattle.aegis_files.specs.SealedFile.{IsWriteError}
 use Rattle.aegis_files.proofs.Reaching.{Reaches, are_from, reaches_more, reaches_none, reaches_size}
 use Rattle.aegis_files.proofs.Pieces.{concat-append, concat-push, counted, part-append, part_nil, read_some}
 
--- ---- the text
+-- ---- the contents
 
--- the messages that follow in the text's stream are those that were read, and others unless the last record was
+-- the messages that follow in the contents' stream are those that were read, and others unless the last record was
 pub record GoesOn (flag : ℕ) (messages following : List (List ℕ)) : Type 0 where
   pub others : List (List ℕ)
   pub are : following ≡ messages ++ others
@@ -37,9 +37,9 @@ pub record GoesOn (flag : ℕ) (messages following : List (List ℕ)) : Type 0 w
 after_them : (a x y : List (List ℕ)) → a ++ x ≡ a ++ y → x ≡ y
 after_them a x y e = sym (drop_at a x (length a) refl) ∙ ap (drop (length a)) e ∙ drop_at a y (length a) refl
 
-pub goes_on : (key prefix context : List ℕ) (at : RecordPosition) (flag : ℕ) (messages : List (List ℕ)) (rest f : List ℕ) (following : List (List ℕ)) (text : List ℕ)
-    → AreFrom key prefix context at flag messages rest f → IsTextFrom key prefix context at following text f → GoesOn flag messages following
-goes_on key prefix context at flag messages rest f following text r t = go r.known
+pub goes_on : (key prefix context : List ℕ) (at : RecordPosition) (flag : ℕ) (messages : List (List ℕ)) (rest f : List ℕ) (following : List (List ℕ)) (contents : List ℕ)
+    → AreFrom key prefix context at flag messages rest f → AreContentsFrom key prefix context at following contents f → GoesOn flag messages following
+goes_on key prefix context at flag messages rest f following contents r t = go r.known
   where
     s : Sealing
     s = sealed key prefix context
@@ -49,7 +49,7 @@ goes_on key prefix context at flag messages rest f following text r t = go r.kno
 
     go : (flag ≡ 0) ⊎ ((flag ≡ 1) × (0 < length messages)) → GoesOn flag messages following
     go (inl zero) =
-        let other = begun_front (progress_at key prefix context (position_after at messages)) (t.messages ++ messages) (t.before ++ frames s at 0 messages)
+        let other = begun_beginning (progress_at key prefix context (position_after at messages)) (t.messages ++ messages) (t.before ++ frames s at 0 messages)
         (begun_all key prefix context at messages r.within t.messages t.before t.begun) (t.messages ++ following) rest
         (subst (AreRecordsOfSomeVersion key prefix context (t.messages ++ following)) (bytes 0 zero) t.are) in
         record {
@@ -67,12 +67,12 @@ goes_on key prefix context at flag messages rest f following text r t = go r.kno
           ends = λ _. refl;
         }
 
--- the part of the text is that of the messages, and of what follows them
-text_part : (key prefix context : List ℕ) (range : TextRange) (messages following : List (List ℕ)) (text f : List ℕ) (flag : ℕ)
-    → (t : IsTextFrom key prefix context range.position following text f) → (on : GoesOn flag messages following)
-    → part_of_text range text ≡ part_of range messages ++ take (range.length - length (part_of range messages)) (drop (range.skip - length (concat messages)) (concat on.others))
-text_part key prefix context range messages following text f flag t on =
-    ap (λ (l : List ℕ). take range.length (drop (range.position.before + range.skip) l)) (t.text_is ∙ concat-append t.messages following)
+-- the part of the contents is that of the messages, and of what follows them
+contents_part : (key prefix context : List ℕ) (range : ContentsRange) (messages following : List (List ℕ)) (contents f : List ℕ) (flag : ℕ)
+    → (t : AreContentsFrom key prefix context range.position following contents f) → (on : GoesOn flag messages following)
+    → part_of_contents range contents ≡ part_of range messages ++ take (range.length - length (part_of range messages)) (drop (range.skip - length (concat messages)) (concat on.others))
+contents_part key prefix context range messages following contents f flag t on =
+    ap (λ (l : List ℕ). take range.length (drop (range.position.before + range.skip) l)) (t.contents_is ∙ concat-append t.messages following)
     ∙ ap (λ (n : ℕ). take range.length (drop (n + range.skip) (concat t.messages ++ concat following))) (counted (progress_at key prefix context range.position) t.messages t.before t.begun).1
     ∙ ap (take range.length) (drop-append-add (concat t.messages) (concat following) range.skip)
     ∙ ap (λ (l : List ℕ). take range.length (drop range.skip l)) (ap concat on.are ∙ concat-append messages on.others)
@@ -85,14 +85,14 @@ pub refuses_from : (key prefix context : List ℕ) (at : RecordPosition) (f : Li
     → RefusesFrom key prefix context at f e
 refuses_from key prefix context at f e refused too_long = record {
   refused = refused;
-  accepted = λ following text t why is. memory following text t why (refused why is);
+  accepted = λ following contents t why is. memory following contents t why (refused why is);
   too_long = too_long;
 }
   where
-    memory : (following : List (List ℕ)) (text : List ℕ) → IsTextFrom key prefix context at following text f → (why : RecordError)
+    memory : (following : List (List ℕ)) (contents : List ℕ) → AreContentsFrom key prefix context at following contents f → (why : RecordError)
         → (why ≡ errors.OutOfMemory) ⊎ IsFaultFrom key prefix context at f why → why ≡ errors.OutOfMemory
-    memory following text t why (inl is) = is
-    memory following text t why (inr fault) =
+    memory following contents t why (inl is) = is
+    memory following contents t why (inr fault) =
         absurd ((one_fault (sealed key prefix context) (sealed-is key prefix context)).1 (t.before ++ f) t.are.0 (t.messages ++ following) why t.are.1 (fault t.messages t.before t.begun))
 
 pub unwritten : (key prefix context : List ℕ) (at : RecordPosition) (f : List ℕ) (e : FileError) → IsWriteError e → RefusesFrom key prefix context at f e
@@ -117,7 +117,7 @@ fails_from key prefix context at p messages taken rest f e r is (Long it past) =
 -- ---- between records
 
 -- The messages were read, and the range's part of them was written. `skip` bytes more are left out, and `more` are to be written.
-pub record RangeSome (key prefix context : List ℕ) (range : TextRange) (p : Progress) (is_last : Bool) (skip more : ℕ) (stream left old new : Option (List ℕ)) : Type 0 where
+pub record RangeSome (key prefix context : List ℕ) (range : ContentsRange) (p : Progress) (is_last : Bool) (skip more : ℕ) (stream left old new : Option (List ℕ)) : Type 0 where
   pub messages : List (List ℕ)
   pub taken : List ℕ
   pub reads : Reaches key prefix context range.position p is_last messages taken
@@ -130,11 +130,11 @@ pub record RangeSome (key prefix context : List ℕ) (range : TextRange) (p : Pr
       → (length (part_of range ms) < range.length) ⊎ (length (concat ms) < range.skip)
 
 -- the same, and one more record is needed
-pub record RangeMore (key prefix context : List ℕ) (range : TextRange) (p : Progress) (skip more : ℕ) (stream left old new : Option (List ℕ)) : Type 0 where
+pub record RangeMore (key prefix context : List ℕ) (range : ContentsRange) (p : Progress) (skip more : ℕ) (stream left old new : Option (List ℕ)) : Type 0 where
   pub some : RangeSome key prefix context range p false skip more stream left old new
   pub on : 0 < length some.messages → (0 < more) ⊎ (0 < skip)
 
-pub range_begin : (key prefix context : List ℕ) (range : TextRange) (p : Progress) (stream old : Option (List ℕ)) → p ≡ progress_at key prefix context range.position
+pub range_begin : (key prefix context : List ℕ) (range : ContentsRange) (p : Progress) (stream old : Option (List ℕ)) → p ≡ progress_at key prefix context range.position
     → start_at range.position ≤ MAX_AEAD_BYTES → RangeMore key prefix context range p range.skip range.length stream stream old old
 range_begin key prefix context range p stream old is fits =
     let none : part_of range [] ≡ [] = part_nil range.skip range.length in
@@ -154,13 +154,13 @@ range_begin key prefix context range p stream old is fits =
     }
 
 -- what is in front of the last of two equal lists
-front_one : (a b : List (List ℕ)) (x y : List ℕ) → a ++ x ∷ [] ≡ b ++ y ∷ [] → a ≡ b
-front_one a b x y e =
+beginning_one : (a b : List (List ℕ)) (x y : List ℕ) → a ++ x ∷ [] ≡ b ++ y ∷ [] → a ≡ b
+beginning_one a b x y e =
     let size : length b ≡ length a = omega (arith, ap length e, length-append a (x ∷ []), length-append b (y ∷ [])) in
     sym (take_at a (x ∷ []) (length a) refl) ∙ ap (take (length a)) e ∙ take_at b (y ∷ []) (length a) size
 
 -- the part of messages, and of one more
-part_more : (range : TextRange) (messages : List (List ℕ)) (m piece : List ℕ) (skip len : ℕ) → skip ≡ range.skip - length (concat messages)
+part_more : (range : ContentsRange) (messages : List (List ℕ)) (m piece : List ℕ) (skip len : ℕ) → skip ≡ range.skip - length (concat messages)
     → len ≡ range.length - length (part_of range messages) → piece ≡ take len (drop skip m) → part_of range (messages ++ m ∷ []) ≡ part_of range messages ++ piece
 part_more range messages m piece skip len s l is =
     ap (λ (x : List ℕ). take range.length (drop range.skip x)) (concat-push messages m)
@@ -169,7 +169,7 @@ part_more range messages m piece skip len s l is =
     ∙ ap (λ (n : ℕ). part_of range messages ++ take len (drop n m)) (sym s)
     ∙ ap (λ (x : List ℕ). part_of range messages ++ x) (sym is)
 
-pub range_more : (key prefix context : List ℕ) (range : TextRange) (p q : Progress) (is_last : Bool) (skip skip' more more' : ℕ) (stream left left' old new new' : Option (List ℕ)) (m piece : List ℕ)
+pub range_more : (key prefix context : List ℕ) (range : ContentsRange) (p q : Progress) (is_last : Bool) (skip skip' more more' : ℕ) (stream left left' old new new' : Option (List ℕ)) (m piece : List ℕ)
     → RangeMore key prefix context range p skip more stream left old new → ReadsNext p q left left' is_last m → start_of q ≤ MAX_AEAD_BYTES → piece ≡ take more (drop skip m)
     → Appends new new' piece → skip' ≡ skip - length m → more' ≡ more - length piece
     → (next : RangeSome key prefix context range q is_last skip' more' stream left' old new') × (0 < length next.messages)
@@ -185,7 +185,7 @@ range_more key prefix context range p q is_last skip skip' more more' stream lef
         written = subst (Appends old new') (sym parts) (Appends-trans old new new' (part_of range s.messages) piece s.written written);
         skip_is = omega (arith, skip_is, s.skip_is, ap length (concat-push s.messages m), length-append (concat s.messages) m);
         more_is = omega (arith, more_is, s.more_is, ap length parts, length-append (part_of range s.messages) piece);
-        needed = λ ms n e some. needed ms (front_one s.messages ms m n e) some;
+        needed = λ ms n e some. needed ms (beginning_one s.messages ms m n e) some;
       },
       omega (arith, length-append s.messages (m ∷ [])),
     )
@@ -198,7 +198,7 @@ range_more key prefix context range p q is_last skip skip' more more' stream lef
     needed : (ms : List (List ℕ)) → before.some.messages ≡ ms → 0 < length ms → (length (part_of range ms) < range.length) ⊎ (length (concat ms) < range.skip)
     needed ms is some = go ms is (before.on (subst (λ (l : List (List ℕ)). 0 < length l) (sym is) some))
 
-pub range_end : (key prefix context : List ℕ) (range : TextRange) (p : Progress) (is_last : Bool) (skip more : ℕ) (opened : OpenedRange) (stream left old new : Option (List ℕ))
+pub range_end : (key prefix context : List ℕ) (range : ContentsRange) (p : Progress) (is_last : Bool) (skip more : ℕ) (opened : OpenedRange) (stream left old new : Option (List ℕ))
     → (s : RangeSome key prefix context range p is_last skip more stream left old new) → 0 < length s.messages → (is_last ≡ true) ⊎ ((more ≡ 0) × (skip ≡ 0))
     → opened.length ≡ range.length - more → opened.end ≡ p.position → opened.is_last ≡ is_last
     → IfSome stream (λ f. OpensRange key prefix context range opened f left old new)
@@ -231,15 +231,15 @@ range_end key prefix context range p is_last skip more opened stream left old ne
           whole = whole done;
           read = after;
           needed = s.needed;
-          of_text = λ following text t.
-              let on = goes_on key prefix context range.position (last_flag is_last) s.messages rest f following text records t in
-              sym (text_part key prefix context range s.messages following text f (last_flag is_last) t on ∙ ap (λ (l : List ℕ). part_of range s.messages ++ l) (no_more on.others on.ends done)
+          of_contents = λ following contents t.
+              let on = goes_on key prefix context range.position (last_flag is_last) s.messages rest f following contents records t in
+              sym (contents_part key prefix context range s.messages following contents f (last_flag is_last) t on ∙ ap (λ (l : List ℕ). part_of range s.messages ++ l) (no_more on.others on.ends done)
               ∙ append-nil (part_of range s.messages));
         }
 
 -- ---- it fails
 
-stopped : (key prefix context : List ℕ) (range : TextRange) (p : Progress) (is_last : Bool) (messages : List (List ℕ)) (taken f rest begun more : List ℕ) (old new : Option (List ℕ)) (e : FileError)
+stopped : (key prefix context : List ℕ) (range : ContentsRange) (p : Progress) (is_last : Bool) (messages : List (List ℕ)) (taken f rest begun more : List ℕ) (old new : Option (List ℕ)) (e : FileError)
     → Reaches key prefix context range.position p is_last messages taken → start_of p ≤ MAX_AEAD_BYTES → f ≡ taken ++ rest → Appends old new begun
     → part_of range messages ≡ begun ++ more → (more ≡ []) ⊎ IsWriteError e → RefusesFrom key prefix context range.position f e
     → StopsRange key prefix context range f old new e
@@ -254,16 +254,16 @@ stopped key prefix context range p is_last messages taken f rest begun more old 
       begun = begun;
       written = written;
       of_messages = (more, parts, all);
-      of_text = λ following text t.
-          let on = goes_on key prefix context range.position (last_flag is_last) messages rest f following text records t in
+      of_contents = λ following contents t.
+          let on = goes_on key prefix context range.position (last_flag is_last) messages rest f following contents records t in
           let others : List ℕ = take (range.length - length (part_of range messages)) (drop (range.skip - length (concat messages)) (concat on.others)) in (
             more ++ others,
-            text_part key prefix context range messages following text f (last_flag is_last) t on ∙ ap (λ (l : List ℕ). l ++ others) parts ∙ append_assoc begun more others,
+            contents_part key prefix context range messages following contents f (last_flag is_last) t on ∙ ap (λ (l : List ℕ). l ++ others) parts ∙ append_assoc begun more others,
           );
       refuses = refuses;
     }
 
-pub stops_next : (key prefix context : List ℕ) (range : TextRange) (p : Progress) (skip more : ℕ) (stream left old new : Option (List ℕ)) (e : FileError)
+pub stops_next : (key prefix context : List ℕ) (range : ContentsRange) (p : Progress) (skip more : ℕ) (stream left old new : Option (List ℕ)) (e : FileError)
     → RangeSome key prefix context range p false skip more stream left old new → FailsNext p left e
     → IfSome stream (λ f. StopsRange key prefix context range f old new e)
 stops_next key prefix context range p skip more stream left old new e s why = read_some stream left s.taken _ s.read (λ f rest known is after.
@@ -271,7 +271,7 @@ stops_next key prefix context range p skip more stream left old new e s why = re
     (sym (append-nil (part_of range s.messages))) (inl refl)
     (fails_from key prefix context range.position p s.messages s.taken rest f e s.reads is (subst (λ l. FailsNext p l e) after why)))
 
-pub stops_write : (key prefix context : List ℕ) (range : TextRange) (p q : Progress) (is_last : Bool) (skip more n : ℕ) (stream left left' old new new' : Option (List ℕ)) (m piece : List ℕ) (e : FileError)
+pub stops_write : (key prefix context : List ℕ) (range : ContentsRange) (p q : Progress) (is_last : Bool) (skip more n : ℕ) (stream left left' old new new' : Option (List ℕ)) (m piece : List ℕ) (e : FileError)
     → RangeMore key prefix context range p skip more stream left old new → ReadsNext p q left left' is_last m → start_of q ≤ MAX_AEAD_BYTES → piece ≡ take more (drop skip m)
     → Appends new new' (take n piece) → IsWriteError e → IfSome stream (λ f. StopsRange key prefix context range f old new' e)
 stops_write key prefix context range p q is_last skip more n stream left left' old new new' m piece e before next fits piece_is written why =

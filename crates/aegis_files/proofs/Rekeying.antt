@@ -10,13 +10,13 @@ use Rattle.aegis.specs.declared.record.length.TheConstants.{RECORD_BYTES}
 use Rattle.aegis.specs.declared.record.version.Version.TheVariants.{Second}
 use Rattle.aegis.specs.Progress.{Progress, after, last_flag, progress_at, record_of, start_of}
 use Rattle.aegis.specs.Records.{AreRecords, sealed}
-use Rattle.aegis.specs.RecordStream.{AreWithin, first_position, front, header, limit}
+use Rattle.aegis.specs.RecordStream.{AreWithin, first_position, beginning, header, limit}
 use Rattle.aegis_files.specs.declared.error.FileError.{FileError}
 use Rattle.aegis_files.specs.declared.error.FileError.TheVariants.{Stream}
 use Rattle.aegis_files.specs.Opening.{AreInFile, RefusesFile}
 use Rattle.aegis_files.specs.Range.{AreFrom}
 use Rattle.aegis_files.specs.Reading.{FailsNext, LeavesSome, ReadsNext}
-use Rattle.aegis_files.specs.Rekey.{RekeysFront}
+use Rattle.aegis_files.specs.Rekey.{RekeysBeginning}
 use Rattle.aegis_files.specs.SealedFile.{IsFileOf, IsSealedFile, IsWriteError}
 use Rattle.aegis_files.proofs.Files.{refuses_file, refuses_more, some_with, under}
 use Rattle.aegis_files.proofs.Pieces.{read_some}
@@ -117,7 +117,7 @@ whole_read p q p' key prefix new_key new_prefix context f stream left left' left
       (sym (is ∙ ap (λ (l : List ℕ). (s.taken ++ record_of p 1 m) ++ l) (nothing left' left'' known none end) ∙ append-nil (s.taken ++ record_of p 1 m)))
       (reaches_stream key prefix context p' (s.messages ++ m ∷ []) (s.taken ++ record_of p 1 m)
       (opened_next p p' q true key prefix new_key new_prefix context stream left left' old new pending m s next));
-  text_is = refl;
+  contents_is = refl;
   file_is = refl;
 }
   where
@@ -129,8 +129,8 @@ whole_read p q p' key prefix new_key new_prefix context f stream left left' left
 pub rekeys_end : (p p' q : Progress) (key prefix new_key new_prefix context : List ℕ) (stream left left' left'' old new new' : Option (List ℕ)) (pending m out : List ℕ)
     → RekeysSome p q key prefix new_key new_prefix context stream left old new pending → ReadsNext p p' left left' true m
     → Consumes left' left'' [] → IsAtEnd left'' → out ≡ pending ++ record_of q 1 m → Appends new new' out
-    → IfSome stream (λ f. (text : List ℕ) × IsFileOf key prefix context text (prefix ++ (header Second ++ f))
-    × (file : List ℕ) × IsFileOf new_key new_prefix context text file × Appends old new' file)
+    → IfSome stream (λ f. (contents : List ℕ) × IsFileOf key prefix context contents (prefix ++ (header Second ++ f))
+    × (file : List ℕ) × IsFileOf new_key new_prefix context contents file × Appends old new' file)
 rekeys_end p p' q key prefix new_key new_prefix context stream left left' left'' old new new' pending m out s next none end out_is written =
     read_some stream left' (s.taken ++ record_of p 1 m) _ (Consumes-trans stream left left' s.taken (record_of p 1 m) s.read next.read) (λ f rest known is after_it. (
       concat (s.messages ++ m ∷ []),
@@ -141,7 +141,7 @@ rekeys_end p p' q key prefix new_key new_prefix context stream left left' left''
         stream = header Second ++ (s.made ++ record_of q 1 m);
         are = reaches_stream new_key new_prefix context (after q true m) (s.messages ++ m ∷ []) (s.made ++ record_of q 1 m)
             (sealed_next p p' q (after q true m) true key prefix new_key new_prefix context stream left left' old new pending m s next refl);
-        text_is = refl;
+        contents_is = refl;
         file_is = refl;
       },
       subst (Appends old new') (sym (joined new_prefix s.made s.sent pending (record_of q 1 m) out s.all out_is)) (Appends-trans old new new' s.sent out s.written written),
@@ -150,9 +150,9 @@ rekeys_end p p' q key prefix new_key new_prefix context stream left left' left''
 -- ---- it fails
 
 stops : (key new_key new_prefix context file begun rest : List ℕ) (ms : List (List ℕ)) (flag : ℕ) (old new : Option (List ℕ)) (e : FileError) → length new_prefix ≡ 24
-    → AreWithin Second ms → new_prefix ++ front (sealed new_key new_prefix context) Second flag ms ≡ begun ++ rest → Appends old new begun
+    → AreWithin Second ms → new_prefix ++ beginning (sealed new_key new_prefix context) Second flag ms ≡ begun ++ rest → Appends old new begun
     → (ms ≡ []) ⊎ AreInFile key context file ms → (flag ≡ 0) ⊎ ((flag ≡ 1) × IsSealedFile key context (concat ms) file × IsWriteError e) → RefusesFile key context file e
-    → RekeysFront key new_key new_prefix context file old new e
+    → RekeysBeginning key new_key new_prefix context file old new e
 stops key new_key new_prefix context file begun rest ms flag old new e long within is written verified ends refuses = record {
   begun = begun;
   written = written;
@@ -172,7 +172,7 @@ stops key new_key new_prefix context file begun rest ms flag old new e long with
     paired (inr last) = inr (last.0, (last.1, last.2))
 
 pub nothing_sent : (key new_key new_prefix context file : List ℕ) (old : Option (List ℕ)) (e : FileError) → length new_prefix ≡ 24 → RefusesFile key context file e
-    → RekeysFront key new_key new_prefix context file old old e
+    → RekeysBeginning key new_key new_prefix context file old old e
 nothing_sent key new_key new_prefix context file old e long refuses =
     stops key new_key new_prefix context file [] _ [] 0 old old e long tt refl (Appends-nil old) (inl refl) (inl refl) refuses
 
@@ -185,14 +185,14 @@ pub no_memory : (key prefix context f : List ℕ) (e : FileError) → length pre
 no_memory key prefix context f e long is = refuses_file key prefix context f e long (refuses_from key prefix context (first_position Second) f e (λ d it. inl cc) (λ it. absurd cc))
 
 pub none_at_first : (key prefix new_key new_prefix context : List ℕ) (stream old : Option (List ℕ)) (e : FileError) → length prefix ≡ 24 → length new_prefix ≡ 24 → e ≡ Stream errors.OutOfMemory
-    → IfSome stream (λ f. RekeysFront key new_key new_prefix context (prefix ++ (header Second ++ f)) old old e)
+    → IfSome stream (λ f. RekeysBeginning key new_key new_prefix context (prefix ++ (header Second ++ f)) old old e)
 none_at_first key prefix new_key new_prefix context None old e long new_long is = tt
 none_at_first key prefix new_key new_prefix context (Some f) old e long new_long is = nothing_sent key new_key new_prefix context _ old e new_long (no_memory key prefix context f e long is)
 
 -- between two records
 between : (p q : Progress) (key prefix new_key new_prefix context : List ℕ) (stream left old new : Option (List ℕ)) (pending f rest : List ℕ) (e : FileError) → length prefix ≡ 24 → length new_prefix ≡ 24
     → (s : RekeysSome p q key prefix new_key new_prefix context stream left old new pending) → f ≡ s.taken ++ rest → RefusesFile key context (prefix ++ (header Second ++ f)) e
-    → RekeysFront key new_key new_prefix context (prefix ++ (header Second ++ f)) old new e
+    → RekeysBeginning key new_key new_prefix context (prefix ++ (header Second ++ f)) old new e
 between p q key prefix new_key new_prefix context stream left old new pending f rest e long new_long s is refuses =
     stops key new_key new_prefix context _ s.sent pending s.messages 0 old new e new_long s.sealed.within
     (ap (λ (l : List ℕ). new_prefix ++ (header Second ++ l)) (sym s.sealed.are) ∙ s.all) s.written
@@ -200,20 +200,20 @@ between p q key prefix new_key new_prefix context stream left old new pending f 
 
 pub stops_memory : (p q : Progress) (key prefix new_key new_prefix context : List ℕ) (stream left old new : Option (List ℕ)) (pending : List ℕ) (e : FileError) → length prefix ≡ 24 → length new_prefix ≡ 24
     → RekeysSome p q key prefix new_key new_prefix context stream left old new pending → e ≡ Stream errors.OutOfMemory
-    → IfSome stream (λ f. RekeysFront key new_key new_prefix context (prefix ++ (header Second ++ f)) old new e)
+    → IfSome stream (λ f. RekeysBeginning key new_key new_prefix context (prefix ++ (header Second ++ f)) old new e)
 stops_memory p q key prefix new_key new_prefix context stream left old new pending e long new_long s is = read_some stream left s.taken _ s.read (λ f rest known f_is after_it.
     between p q key prefix new_key new_prefix context stream left old new pending f rest e long new_long s f_is (no_memory key prefix context f e long is))
 
 pub stops_next : (p q : Progress) (key prefix new_key new_prefix context : List ℕ) (stream left old new : Option (List ℕ)) (pending : List ℕ) (e : FileError) → length prefix ≡ 24 → length new_prefix ≡ 24
     → RekeysSome p q key prefix new_key new_prefix context stream left old new pending → FailsNext p left e
-    → IfSome stream (λ f. RekeysFront key new_key new_prefix context (prefix ++ (header Second ++ f)) old new e)
+    → IfSome stream (λ f. RekeysBeginning key new_key new_prefix context (prefix ++ (header Second ++ f)) old new e)
 stops_next p q key prefix new_key new_prefix context stream left old new pending e long new_long s why = read_some stream left s.taken _ s.read (λ f rest known is after_it.
     between p q key prefix new_key new_prefix context stream left old new pending f rest e long new_long s is (refuses_file key prefix context f e long
     (fails_from key prefix context (first_position Second) p s.messages s.taken rest f e s.opened is (subst (λ l. FailsNext p l e) after_it why))))
 
 pub stops_end : (p p' q : Progress) (key prefix new_key new_prefix context : List ℕ) (stream left left' left'' old new : Option (List ℕ)) (pending m : List ℕ) (e : FileError) → length prefix ≡ 24
     → length new_prefix ≡ 24 → RekeysSome p q key prefix new_key new_prefix context stream left old new pending → ReadsNext p p' left left' true m → LeavesSome left' left'' e
-    → IfSome stream (λ f. RekeysFront key new_key new_prefix context (prefix ++ (header Second ++ f)) old new e)
+    → IfSome stream (λ f. RekeysBeginning key new_key new_prefix context (prefix ++ (header Second ++ f)) old new e)
 stops_end p p' q key prefix new_key new_prefix context stream left left' left'' old new pending m e long new_long s next why =
     read_some stream left' (s.taken ++ record_of p 1 m) _ (Consumes-trans stream left left' s.taken (record_of p 1 m) s.read next.read) (λ f rest known is after_it.
     between p q key prefix new_key new_prefix context stream left old new pending f (record_of p 1 m ++ rest) e long new_long s (is ∙ append_assoc s.taken (record_of p 1 m) rest)
@@ -228,7 +228,7 @@ cut sent out n = ap (λ (l : List ℕ). sent ++ l) (sym (take-append-drop n out)
 pub stops_writing : (p p' q q' : Progress) (key prefix new_key new_prefix context : List ℕ) (stream left left' old new new' : Option (List ℕ)) (pending m out : List ℕ) (n : ℕ) (e : FileError)
     → length prefix ≡ 24 → length new_prefix ≡ 24 → RekeysSome p q key prefix new_key new_prefix context stream left old new pending → ReadsNext p p' left left' false m
     → q' ≡ after q false m → out ≡ pending ++ record_of q 0 m → Appends new new' (take n out) → IsWriteError e
-    → IfSome stream (λ f. RekeysFront key new_key new_prefix context (prefix ++ (header Second ++ f)) old new' e)
+    → IfSome stream (λ f. RekeysBeginning key new_key new_prefix context (prefix ++ (header Second ++ f)) old new' e)
 stops_writing p p' q q' key prefix new_key new_prefix context stream left left' old new new' pending m out n e long new_long s next q_is out_is written why =
     read_some stream left' (s.taken ++ record_of p 0 m) _ (Consumes-trans stream left left' s.taken (record_of p 0 m) s.read next.read) (λ f rest known is after_it.
     let ms : List (List ℕ) = s.messages ++ m ∷ [] in
@@ -243,7 +243,7 @@ stops_writing p p' q q' key prefix new_key new_prefix context stream left left' 
 pub stops_ending : (p p' q : Progress) (key prefix new_key new_prefix context : List ℕ) (stream left left' left'' old new new' : Option (List ℕ)) (pending m out : List ℕ) (n : ℕ) (e : FileError)
     → length prefix ≡ 24 → length new_prefix ≡ 24 → RekeysSome p q key prefix new_key new_prefix context stream left old new pending → ReadsNext p p' left left' true m
     → Consumes left' left'' [] → IsAtEnd left'' → out ≡ pending ++ record_of q 1 m → Appends new new' (take n out) → IsWriteError e
-    → IfSome stream (λ f. RekeysFront key new_key new_prefix context (prefix ++ (header Second ++ f)) old new' e)
+    → IfSome stream (λ f. RekeysBeginning key new_key new_prefix context (prefix ++ (header Second ++ f)) old new' e)
 stops_ending p p' q key prefix new_key new_prefix context stream left left' left'' old new new' pending m out n e long new_long s next none end out_is written why =
     read_some stream left' (s.taken ++ record_of p 1 m) _ (Consumes-trans stream left left' s.taken (record_of p 1 m) s.read next.read) (λ f rest known is after_it.
     let ms : List (List ℕ) = s.messages ++ m ∷ [] in
@@ -260,10 +260,10 @@ stops_ending p p' q key prefix new_key new_prefix context stream left left' left
 
 pub result_rekeyed : {T : Type 0} (key prefix new_key new_prefix context : List ℕ) (file left old new : Option (List ℕ)) (r : Result T FileError) → length prefix ≡ 24
     → Consumes file left (prefix ++ header Second)
-    → OnOk r (IfSome left (λ f. (text : List ℕ) × IsFileOf key prefix context text (prefix ++ (header Second ++ f))
-    × (new_file : List ℕ) × IsFileOf new_key new_prefix context text new_file × Appends old new new_file))
-    → OnOk r (IfSome file (λ f. (text : List ℕ) × IsSealedFile key context text f
-    × (new_file : List ℕ) × IsFileOf new_key new_prefix context text new_file × Appends old new new_file))
+    → OnOk r (IfSome left (λ f. (contents : List ℕ) × IsFileOf key prefix context contents (prefix ++ (header Second ++ f))
+    × (new_file : List ℕ) × IsFileOf new_key new_prefix context contents new_file × Appends old new new_file))
+    → OnOk r (IfSome file (λ f. (contents : List ℕ) × IsSealedFile key context contents f
+    × (new_file : List ℕ) × IsFileOf new_key new_prefix context contents new_file × Appends old new new_file))
 result_rekeyed key prefix new_key new_prefix context file left old new (Err e) long read s = tt
 result_rekeyed key prefix new_key new_prefix context file left old new (Ok x) long read s =
     under _ prefix file left read (some_with left _ _ (λ f o. (o.0, record { prefix = prefix; long = long; is = o.1 }, o.2, o.3, o.4)) s)

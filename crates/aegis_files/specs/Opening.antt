@@ -13,7 +13,7 @@ use Rattle.aegis.specs.declared.record.version.Version.TheVariants.{Second}
 use Rattle.aegis.specs.Records.{IsFault}
 use Rattle.aegis.specs.RecordStream.{first_position, header}
 
--- the fault of a file that is the file of no text: it has no whole prefix and header, or the bytes after its prefix are no stream
+-- the fault of a file that is the file of no contents: it has no whole prefix and header, or the bytes after its prefix are no stream
 abbrev pub IsFileFault : List ℕ → List ℕ → List ℕ → RecordError → Type 0
 IsFileFault key context file e =
     ((take 4 (drop 24 file) ≢ header Second) × (e ≡ errors.Header))
@@ -29,20 +29,20 @@ pub record AreInFile (key context file : List ℕ) (messages : List (List ℕ)) 
   pub rest : List ℕ
   pub records : AreFrom key prefix context (first_position Second) flag messages rest bytes
 
--- The file is refused for its own fault, or memory ran out, and that of a text only for the second. It is too long only if its
+-- The file is refused for its own fault, or memory ran out, and a sealed file only for the second. It is too long only if its
 -- stream passes the limit.
 pub record RefusesFile (key context file : List ℕ) (e : FileError) : Type 0 where
   pub refused : (why : RecordError) → e ≡ Stream why → (why ≡ errors.OutOfMemory) ⊎ IsFileFault key context file why
-  pub accepted : (text : List ℕ) → IsSealedFile key context text file → (why : RecordError) → e ≡ Stream why → why ≡ errors.OutOfMemory
+  pub accepted : (contents : List ℕ) → IsSealedFile key context contents file → (why : RecordError) → e ≡ Stream why → why ≡ errors.OutOfMemory
   pub too_long : e ≡ TooLong → 24 + MAX_AEAD_BYTES < length file
 
--- Opening the file failed. Whatever the file is, what was written are the messages of records at its beginning, or a front of
+-- Opening the file failed. Whatever the file is, what was written are the messages of records at its beginning, or a beginning of
 -- them if a write failed, or nothing.
 pub record FailsWith (key context file : List ℕ) (old new : Option (List ℕ)) (e : FileError) : Type 0 where
   pub begun : List ℕ
   pub written : Appends old new begun
   pub verified : (begun ≡ []) ⊎ ((messages : List (List ℕ)) × AreInFile key context file messages
       × (rest : List ℕ) × (concat messages ≡ begun ++ rest) × ((rest ≡ []) ⊎ IsWriteError e))
-  -- so it is a front of the text, if there is one
-  pub front : (text : List ℕ) → IsSealedFile key context text file → (rest : List ℕ) × (text ≡ begun ++ rest)
+  -- so it is a beginning of the contents, if there is one
+  pub beginning : (contents : List ℕ) → IsSealedFile key context contents file → (rest : List ℕ) × (contents ≡ begun ++ rest)
   pub refuses : RefusesFile key context file e

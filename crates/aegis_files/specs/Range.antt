@@ -1,4 +1,4 @@
--- A part of a text is opened from one of its records on: what was read there, and what was written.
+-- A part of the contents is opened from one of the records on: what was read there, and what was written.
 use Rattle.std.specs.Prelude.{◌≡◌, ℕ, ◌+◌, ◌<◌, ◌≤◌, ◌⊎◌, true, List, [], ◌∷◌, ◌++◌, Option, Some, drop, length, take}
 use Rattle.std.specs.Io.KnownBytes.{Appends}
 use Rattle.std.specs.List.{concat}
@@ -6,7 +6,7 @@ use Rattle.aegis_base.specs.declared.error.TheConstants.{MAX_AEAD_BYTES}
 use Rattle.aegis_files.specs.declared.error.FileError.{FileError}
 use Rattle.aegis_files.specs.declared.error.FileError.TheVariants.{Stream, TooLong}
 use Rattle.aegis_files.specs.declared.range.OpenedRange.{OpenedRange}
-use Rattle.aegis_files.specs.declared.range.TextRange.{TextRange}
+use Rattle.aegis_files.specs.declared.range.ContentsRange.{ContentsRange}
 use Rattle.aegis_files.specs.SealedFile.{IsWriteError}
 use Rattle.aegis.specs.declared.record.error.RecordError.{RecordError}
 use Rattle.aegis.specs.declared.record.error.RecordError.TheVariants as errors
@@ -25,13 +25,13 @@ pub record AreFrom (key prefix context : List ℕ) (position : RecordPosition) (
   pub are : bytes ≡ frames (sealed key prefix context) position flag messages ++ rest
 
 -- The stream goes on one that begins with the records of `messages` before the position. It has the records of `following`,
--- and both together are that of the text.
-pub record IsTextFrom (key prefix context : List ℕ) (position : RecordPosition) (following : List (List ℕ)) (text stream : List ℕ) : Type 0 where
+-- and both together are that of the contents.
+pub record AreContentsFrom (key prefix context : List ℕ) (position : RecordPosition) (following : List (List ℕ)) (contents stream : List ℕ) : Type 0 where
   pub messages : List (List ℕ)
   pub before : List ℕ
   pub begun : Begun (progress_at key prefix context position) messages before
   pub are : AreRecordsOfSomeVersion key prefix context (messages ++ following) (before ++ stream)
-  pub text_is : text ≡ concat (messages ++ following)
+  pub contents_is : contents ≡ concat (messages ++ following)
 
 -- the first fault of both together, whatever the records before the position are
 abbrev pub IsFaultFrom : List ℕ → List ℕ → List ℕ → RecordPosition → List ℕ → RecordError → Type 0
@@ -39,26 +39,26 @@ IsFaultFrom key prefix context position stream e =
     (messages : List (List ℕ)) (before : List ℕ) → Begun (progress_at key prefix context position) messages before
     → IsFault key prefix context (before ++ stream) e
 
--- The stream is refused for its fault, or memory ran out, and that of a text only for the second. It is too long only if it passes
+-- The stream is refused for its fault, or memory ran out, and a sealed file only for the second. It is too long only if it passes
 -- the limit, with the records before it.
 pub record RefusesFrom (key prefix context : List ℕ) (position : RecordPosition) (stream : List ℕ) (e : FileError) : Type 0 where
   pub refused : (why : RecordError) → e ≡ Stream why → (why ≡ errors.OutOfMemory) ⊎ IsFaultFrom key prefix context position stream why
-  pub accepted : (following : List (List ℕ)) (text : List ℕ) → IsTextFrom key prefix context position following text stream
+  pub accepted : (following : List (List ℕ)) (contents : List ℕ) → AreContentsFrom key prefix context position following contents stream
       → (why : RecordError) → e ≡ Stream why → why ≡ errors.OutOfMemory
   pub too_long : e ≡ TooLong → MAX_AEAD_BYTES < start_at position + length stream
 
 -- ---- opening a range
 
 -- the range's part of messages from its record on: `skip` bytes after that record begins, and at most `length` bytes
-abbrev pub part_of : TextRange → List (List ℕ) → List ℕ
+abbrev pub part_of : ContentsRange → List (List ℕ) → List ℕ
 part_of range messages = take range.length (drop range.skip (concat messages))
 
--- the same bytes of a text
-abbrev pub part_of_text : TextRange → List ℕ → List ℕ
-part_of_text range text = take range.length (drop (range.position.before + range.skip) text)
+-- the same bytes of contents
+abbrev pub part_of_contents : ContentsRange → List ℕ → List ℕ
+part_of_contents range contents = take range.length (drop (range.position.before + range.skip) contents)
 
 -- The range's part was written. The reader has `left` after that.
-pub record OpensRange (key prefix context : List ℕ) (range : TextRange) (opened : OpenedRange) (stream : List ℕ) (left old new : Option (List ℕ)) : Type 0 where
+pub record OpensRange (key prefix context : List ℕ) (range : ContentsRange) (opened : OpenedRange) (stream : List ℕ) (left old new : Option (List ℕ)) : Type 0 where
   pub messages : List (List ℕ)
   pub rest : List ℕ
   pub records : AreFrom key prefix context range.position (last_flag opened.is_last) messages rest stream
@@ -67,18 +67,19 @@ pub record OpensRange (key prefix context : List ℕ) (range : TextRange) (opene
   pub count : opened.length ≡ length (part_of range messages)
   pub ended : opened.end ≡ position_after range.position messages
   pub fits : start_at opened.end ≤ MAX_AEAD_BYTES
-  -- it ends with the last record, so that the text ends there, or with as many bytes as asked for
+  -- it ends with the last record, so that the contents end there, or with as many bytes as asked for
   pub whole : (opened.is_last ≡ true) ⊎ ((opened.length ≡ range.length) × (range.skip ≤ length (concat messages)))
   -- no other records were read, and each but the first is needed: without the last of them there are fewer bytes
   pub read : left ≡ Some rest
   pub needed : (ms : List (List ℕ)) (m : List ℕ) → messages ≡ ms ++ m ∷ [] → 0 < length ms
       → (length (part_of range ms) < range.length) ⊎ (length (concat ms) < range.skip)
-  -- so it is the part of the text, if there is one
-  pub of_text : (following : List (List ℕ)) (text : List ℕ) → IsTextFrom key prefix context range.position following text stream
-      → part_of range messages ≡ part_of_text range text
+  -- so it is the part of the contents, if there is one
+  pub of_contents : (following : List (List ℕ)) (contents : List ℕ) → AreContentsFrom key prefix context range.position following contents stream
+      → part_of range messages ≡ part_of_contents range contents
 
--- Opening the range failed. The part of the records that were opened was written, or a front of it if a write failed.
-pub record StopsRange (key prefix context : List ℕ) (range : TextRange) (stream : List ℕ) (old new : Option (List ℕ)) (e : FileError) : Type 0 where
+-- Opening the range failed. The part of the records that were opened was written, or a beginning of it if a write
+-- failed.
+pub record StopsRange (key prefix context : List ℕ) (range : ContentsRange) (stream : List ℕ) (old new : Option (List ℕ)) (e : FileError) : Type 0 where
   pub messages : List (List ℕ)
   pub flag : ℕ
   pub rest : List ℕ
@@ -87,7 +88,7 @@ pub record StopsRange (key prefix context : List ℕ) (range : TextRange) (strea
   pub begun : List ℕ
   pub written : Appends old new begun
   pub of_messages : (more : List ℕ) × (part_of range messages ≡ begun ++ more) × ((more ≡ []) ⊎ IsWriteError e)
-  -- so it is a front of the part of the text, if there is one
-  pub of_text : (following : List (List ℕ)) (text : List ℕ) → IsTextFrom key prefix context range.position following text stream
-      → (more : List ℕ) × (part_of_text range text ≡ begun ++ more)
+  -- so it is a beginning of the part of the contents, if there is one
+  pub of_contents : (following : List (List ℕ)) (contents : List ℕ) → AreContentsFrom key prefix context range.position following contents stream
+      → (more : List ℕ) × (part_of_contents range contents ≡ begun ++ more)
   pub refuses : RefusesFrom key prefix context range.position stream e

@@ -16,7 +16,7 @@ mod write;
 
 pub use error::FileError;
 pub use open::open_stream;
-pub use range::{OpenedRange, TextRange, open_range};
+pub use range::{ContentsRange, OpenedRange, open_range};
 pub use reading::fill;
 pub use rekey::rekey_stream;
 pub use seal::{PIECE_BYTES, seal_stream};

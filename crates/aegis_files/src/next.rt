@@ -16,7 +16,7 @@ use aegis::record::{
 use std::alloc::Allocator;
 use std::io::Read;
 
-// Reads the next record to the front of the buffer, or the bytes that there are of it. Returns how many.
+// Reads the next record to the beginning of the buffer, or the bytes that there are of it. Returns how many.
 fn read_record<R: Read, A: Allocator>(
     input: &mut R,
     opener: &RecordOpener<'_>,
@@ -42,7 +42,7 @@ fn read_record<R: Read, A: Allocator>(
     fill_part(input, buffer, RECORD_HEAD_BYTES, len)
 }
 
-// Reads the next record, and opens it where it lies: at the front of the buffer, which is made longer only if the
+// Reads the next record, and opens it where it lies: at the beginning of the buffer, which is made longer only if the
 // record needs more.
 pub(crate) fn next_message<R: Read, A: Allocator>(
     input: &mut R,

@@ -9,7 +9,7 @@ ghost use Rattle.aegis_files.specs.Reading.{HasNoHead, LeavesSome};
 ghost use Rattle.aegis_files.specs.SealedFile.{IsReadError, IsSealedFile};
 
 use crate::error::FileError;
-use crate::range::{TextRange, open_range};
+use crate::range::{ContentsRange, open_range};
 use crate::reading::fill;
 use aegis::aegis256::Key;
 use aegis::record::{MAX_CONTEXT_BYTES, RecordError, RecordPosition, Version};
@@ -64,10 +64,11 @@ pub(crate) fn end<R: Read>(input: &mut R) -> Result<(), FileError>
 /// Opens a sealed file: reads the prefix and then the record stream, and writes each message after its tag has been
 /// verified.
 ///
-/// Returns `Ok` only if the whole input is the file of the text that was written. A file is refused only if it is not
-/// the file of any text, and the error is then its first fault, or if memory runs out. After any error, whatever the
-/// file is, only the messages of verified records at its beginning were written, all of them unless a write failed: a
-/// front of the file's text, if it has one. A caller that needs the whole text must discard it.
+/// Returns `Ok` only if the whole input is the file of the contents that were written. A file is refused only if it is
+/// not the file of any contents, and the error is then its first fault, or if memory runs out. After any error,
+/// whatever the file is, only the messages of verified records at its beginning were written, all of them unless a
+/// write failed: a beginning of the file's contents, if it has one. A caller that needs the whole contents must discard
+/// it.
 ///
 /// The context must have at most [`MAX_CONTEXT_BYTES`]. Memory is allocated for one record, which is opened where it
 /// lies. In a file that someone else made with the key, it can have up to 16 MiB.
@@ -79,15 +80,15 @@ pub fn open_stream<R: Read, W: Write, A: Allocator + Copy>(
     output: &mut W,
 ) -> Result<(), FileError>
     requires { length context.now ≤ MAX_CONTEXT_BYTES }
-    ensures opened { OnOk result (IfSome (R.remaining input.old) (λ file. (text : List ℕ)
-        × Appends (W.contents output.old) (W.contents output.new) text
-        × IsSealedFile key.now context.now text file)) }
+    ensures opened { OnOk result (IfSome (R.remaining input.old) (λ file. (contents : List ℕ)
+        × Appends (W.contents output.old) (W.contents output.new) contents
+        × IsSealedFile key.now context.now contents file)) }
     ensures refused { IfErr result (λ e. IfSome (R.remaining input.old)
         (λ file. FailsWith key.now context.now file
         (W.contents output.old) (W.contents output.new) e)) }
 {
     let prefix = read_prefix(input)?;
-    let all = TextRange {
+    let all = ContentsRange {
         position: FIRST,
         skip: 0,
         length: u64::MAX,

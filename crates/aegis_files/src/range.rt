@@ -1,4 +1,4 @@
-//! Opening a part of the text of a sealed file, from a reader to a writer.
+//! Opening a part of the contents of a sealed file, from a reader to a writer.
 
 ghost use Rattle.std.specs.Prelude.{◌≡◌, ◌<◌, ◌≤◌, ◌⊎◌, IfErr, IfOk, IfSome, drop, false, length, take, true};
 ghost use Rattle.std.specs.Bool.{OnFalse, OnTrue};
@@ -15,26 +15,26 @@ use aegis::record::{MAX_CONTEXT_BYTES, RecordOpener, RecordPosition};
 use std::alloc::Allocator;
 use std::io::{Read, Write};
 
-/// A part of a text, from one of its records on.
+/// A part of the contents, from one of its records on.
 #[derive(Clone, Copy, Debug, PartialEq, Eq)]
-pub struct TextRange {
+pub struct ContentsRange {
     /// The position of the record at which the input begins.
     pub position: RecordPosition,
-    /// How many bytes of the text, from that record's first one on, come before the part.
+    /// How many bytes of the contents, from that record's first one on, come before the part.
     pub skip: u64,
     /// How many bytes the part has at most.
     pub length: u64,
 }
 
-/// What was opened of a part of a text.
+/// What was opened of a part of the contents.
 #[derive(Clone, Copy, Debug, PartialEq, Eq)]
 pub struct OpenedRange {
-    /// How many bytes of the text were written.
+    /// How many bytes of the contents were written.
     pub length: u64,
     /// The position after the last of the records that were opened.
     pub end: RecordPosition,
     /// Whether that is the last record of the file, so that `end` has the number of all its records and of all bytes of
-    /// its text.
+    /// its contents.
     pub is_last: bool,
 }
 
@@ -55,21 +55,21 @@ fn is_done(is_last: bool, left: u64, skip: u64) -> bool
     is_last || (left == 0 && skip == 0)
 }
 
-/// Opens a part of the text of a sealed file, from one of its records on. Writes those bytes of each message that are
-/// in the part, after the message's tag has been verified.
+/// Opens a part of the contents of a sealed file, from one of its records on. Writes those bytes of each message that
+/// are in the part, after the message's tag has been verified.
 ///
 /// The input begins at the record at `range.position`. That record is opened whatever the part has of it, and after it
 /// those up to the part's end, and only they are read. So `Ok` is never returned before a tag has been verified. The
 /// prefix is the file's first 24 bytes. The record starts at byte `28 + 37 * number + before` of the file;
 /// [`RecordOpener::position`] returns such positions.
 ///
-/// Fewer than `range.length` bytes are written only if the last record was opened, so that the text ends there. If the
-/// file is that of a text, they are the text's bytes from `before + skip` on. Whatever the file is, they are bytes of
-/// messages that are sealed at just these positions. Nothing is known of the records before those that were read, nor
-/// of the ones after them.
+/// Fewer than `range.length` bytes are written only if the last record was opened, so that the contents end there. If
+/// it is a sealed file, they are the contents' bytes from `before + skip` on. Whatever the file is, they are
+/// bytes of messages that are sealed at just these positions. Nothing is known of the records before those that were
+/// read, nor of the ones after them.
 ///
 /// After any error, only bytes of the part from verified records were written, all of them unless a write failed. The
-/// file of a text is refused only if memory runs out. The error is [`FileError::TooLong`] only if the record stream
+/// file of contents are refused only if memory runs out. The error is [`FileError::TooLong`] only if the record stream
 /// has more than [`aegis::MAX_AEAD_BYTES`].
 ///
 /// The context must have at most [`MAX_CONTEXT_BYTES`], and the record must start at byte [`aegis::MAX_AEAD_BYTES`] of
@@ -79,7 +79,7 @@ pub fn open_range<R: Read, W: Write, A: Allocator + Copy>(
     key: &Key,
     prefix: &[u8; 24],
     context: &[u8],
-    range: TextRange,
+    range: ContentsRange,
     input: &mut R,
     output: &mut W,
 ) -> Result<OpenedRange, FileError>

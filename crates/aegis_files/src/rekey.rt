@@ -1,10 +1,10 @@
-//! Sealing the text of a sealed file anew under another key, from a reader to a writer.
+//! Sealing the contents of a sealed file anew under another key, from a reader to a writer.
 
 ghost use Rattle.std.specs.Prelude.{◌≡◌, ◌≤◌, ◌++◌, IfErr, IfSome, List, OnOk, length, ℕ};
 ghost use Rattle.std.specs.Io.KnownBytes.{Appends};
 ghost use Rattle.aegis.specs.RecordStream.{header};
 ghost use Rattle.aegis.specs.declared.record.version.Version.TheVariants.{Second};
-ghost use Rattle.aegis_files.specs.Rekey.{RekeysFront};
+ghost use Rattle.aegis_files.specs.Rekey.{RekeysBeginning};
 ghost use Rattle.aegis_files.specs.SealedFile.{IsFileOf, IsSealedFile};
 
 use crate::error::FileError;
@@ -36,14 +36,14 @@ fn rekey_under<'a, R: Read, W: Write, A: Allocator + Copy>(
     requires context { length context.now ≤ MAX_CONTEXT_BYTES }
     requires old_long { length from.prefix.now ≡ 24 }
     requires new_long { length to.prefix.now ≡ 24 }
-    ensures rekeyed { OnOk result (IfSome (R.remaining input.old) (λ records. (text : List ℕ)
-        × IsFileOf from.entry.key.now from.entry.prefix.now context.now text
+    ensures rekeyed { OnOk result (IfSome (R.remaining input.old) (λ records. (contents : List ℕ)
+        × IsFileOf from.entry.key.now from.entry.prefix.now context.now contents
         (from.entry.prefix.now ++ (header Second ++ records))
         × (file : List ℕ)
-        × IsFileOf to.entry.key.now to.entry.prefix.now context.now text file
+        × IsFileOf to.entry.key.now to.entry.prefix.now context.now contents file
         × Appends (W.contents output.old) (W.contents output.new) file)) }
     ensures stopped { IfErr result (λ e. IfSome (R.remaining input.old)
-        (λ records. RekeysFront from.entry.key.now
+        (λ records. RekeysBeginning from.entry.key.now
         to.entry.key.now to.entry.prefix.now context.now
         (from.entry.prefix.now ++ (header Second ++ records))
         (W.contents output.old) (W.contents output.new) e)) }
@@ -56,29 +56,30 @@ fn rekey_under<'a, R: Read, W: Write, A: Allocator + Copy>(
     let mut buffer = Vec::new(alloc);
     'records: loop {
         let opened = next_message(input, &mut opener, &mut buffer)?;
-        let text = message(&buffer, opened);
+        let contents = message(&buffer, opened);
         if opened.is_last {
             end(input)?;
-            sealer.seal_last(text, &mut out)?;
+            sealer.seal_last(contents, &mut out)?;
             write_last(output, &out)?;
             return Ok(());
         }
-        sealer.seal_next(text, &mut out)?;
+        sealer.seal_next(contents, &mut out)?;
         write(output, &out)?;
         out.clear();
     }
 }
 
-/// Seals the text of a sealed file anew under another key: reads a file of `key`, and writes the file of the same text
-/// under `new_key`, `prefix` and the same context. Each message is sealed again after its tag has been verified.
+/// Seals the contents of a sealed file anew under another key: reads a file of `key`, and writes the file of the same
+/// contents under `new_key`, `prefix` and the same context. Each message is sealed again after its tag has been
+/// verified.
 ///
-/// Returns `Ok` only if the whole input is the file of a text, and the file of that text was written. A file is refused
-/// only if it is not the file of any text, and the error is then its first fault, or if memory runs out. The error is
-/// [`FileError::TooLong`] only if the input's record stream has more than [`aegis::MAX_AEAD_BYTES`].
+/// Returns `Ok` only if the whole input is a file of some contents, and the file of those contents was written. A file
+/// is refused only if it is not the file of any contents, and the error is then its first fault, or if memory runs out.
+/// The error is [`FileError::TooLong`] only if the input's record stream has more than [`aegis::MAX_AEAD_BYTES`].
 ///
-/// After an error, a front of a file under the new key was written, whose messages are those of verified records at the
-/// input's beginning. If it is a file that opens, it has the input's whole text, and a write or the flush failed; so
-/// after any other error it is the file of no text.
+/// After an error, a beginning of a file under the new key was written, whose messages are those of verified records at
+/// the input's beginning. If it is a file that opens, it has the input's whole contents, and a write or the flush
+/// failed; so after any other error it is the file of no contents.
 ///
 /// Under one key, a prefix must be used for one file only. The context must have at most [`MAX_CONTEXT_BYTES`]. Memory
 /// is allocated for one record and the new record. In a file that someone else made with the key, each can have up to
@@ -93,12 +94,12 @@ pub fn rekey_stream<R: Read, W: Write, A: Allocator + Copy>(
     output: &mut W,
 ) -> Result<(), FileError>
     requires { length context.now ≤ MAX_CONTEXT_BYTES }
-    ensures rekeyed { OnOk result (IfSome (R.remaining input.old) (λ file. (text : List ℕ)
-        × IsSealedFile key.now context.now text file
-        × (new_file : List ℕ) × IsFileOf new_key.now prefix.now context.now text new_file
+    ensures rekeyed { OnOk result (IfSome (R.remaining input.old) (λ file. (contents : List ℕ)
+        × IsSealedFile key.now context.now contents file
+        × (new_file : List ℕ) × IsFileOf new_key.now prefix.now context.now contents new_file
         × Appends (W.contents output.old) (W.contents output.new) new_file)) }
     ensures stopped { IfErr result (λ e. IfSome (R.remaining input.old)
-        (λ file. RekeysFront key.now new_key.now prefix.now context.now file
+        (λ file. RekeysBeginning key.now new_key.now prefix.now context.now file
         (W.contents output.old) (W.contents output.new) e)) }
 {
     let old_prefix = read_prefix(input)?;

@@ -3,7 +3,7 @@
 ghost use Rattle.std.specs.Prelude.{◌≡◌, ◌+◌, ◌≤◌, IfErr, IfOk, IfSome, List, OnOk, length, ℕ};
 ghost use Rattle.std.specs.Io.KnownBytes.{Appends};
 ghost use Rattle.std.specs.List.{AllByRecursion};
-ghost use Rattle.aegis_files.specs.SealedFile.{IsFileOf, IsPiece, WritesFileFront};
+ghost use Rattle.aegis_files.specs.SealedFile.{IsFileOf, IsPiece, WritesFileBeginning};
 
 use crate::error::FileError;
 use crate::reading::fill;
@@ -29,9 +29,10 @@ fn record_buffer<A: Allocator>(alloc: A) -> Result<Vec<u8, A>, AllocError>
 /// Under one key, a prefix must be used for one file only. The context must have at most [`MAX_CONTEXT_BYTES`]. Memory
 /// is allocated at the start only, for one record: each piece is read to its place in it, and sealed there.
 ///
-/// After an error, a front of such a file was written, whose pieces are a front of the text. If it is a file that
-/// opens, it has the whole text, and a write or the flush failed; so after any other error it is the file of no text.
-/// The error is [`FileError::TooLong`] only if the record stream would have more than [`aegis::MAX_AEAD_BYTES`].
+/// After an error, a beginning of such a file was written, whose pieces are a beginning of the contents. If it is a
+/// file that opens, it has the whole contents, and a write or the flush failed; so after any other error it is the file
+/// of no contents. The error is [`FileError::TooLong`] only if the record stream would have more than
+/// [`aegis::MAX_AEAD_BYTES`].
 pub fn seal_stream<R: Read, W: Write, A: Allocator + Copy>(
     alloc: A,
     key: &Key,
@@ -41,12 +42,12 @@ pub fn seal_stream<R: Read, W: Write, A: Allocator + Copy>(
     output: &mut W,
 ) -> Result<(), FileError>
     requires { length context.now ≤ MAX_CONTEXT_BYTES }
-    ensures sealed { OnOk result (IfSome (R.remaining input.old) (λ text. (file : List ℕ)
-        × (is : IsFileOf key.now prefix.now context.now text file)
+    ensures sealed { OnOk result (IfSome (R.remaining input.old) (λ contents. (file : List ℕ)
+        × (is : IsFileOf key.now prefix.now context.now contents file)
         × Appends (W.contents output.old) (W.contents output.new) file
         × AllByRecursion IsPiece is.messages)) }
     ensures stopped { IfErr result (λ e. IfSome (R.remaining input.old)
-        (λ text. WritesFileFront key.now prefix.now context.now text
+        (λ contents. WritesFileBeginning key.now prefix.now context.now contents
         (W.contents output.old) (W.contents output.new) e)) }
 {
     let mut buffer = record_buffer(alloc)?;

@@ -8,12 +8,12 @@ use crate::error::FileError;
 use std::io;
 use std::io::{ErrorKind, Write};
 
-/// Writes all bytes. An interrupted write is tried again. Returns [`FileError::Write`] if a write fails; a front of the
-/// bytes was written then.
+/// Writes all bytes. An interrupted write is tried again. Returns [`FileError::Write`] if a write fails; a beginning of
+/// the bytes was written then.
 pub fn write<W: Write>(output: &mut W, bytes: &[u8]) -> Result<(), FileError>
     ensures ok { OnOk result (Appends (W.contents output.old) (W.contents output.new) bytes.now) }
     ensures err { IfErr result IsWriteError }
-    ensures front { OnErr result ((n : ℕ)
+    ensures beginning { OnErr result ((n : ℕ)
         × Appends (W.contents output.old) (W.contents output.new) (take n bytes.now)) }
 {
     let mut sent = 0;
@@ -38,7 +38,7 @@ pub fn write<W: Write>(output: &mut W, bytes: &[u8]) -> Result<(), FileError>
 pub fn write_last<W: Write>(output: &mut W, bytes: &[u8]) -> Result<(), FileError>
     ensures ok { OnOk result (Appends (W.contents output.old) (W.contents output.new) bytes.now) }
     ensures err { IfErr result IsWriteError }
-    ensures front { OnErr result ((n : ℕ)
+    ensures beginning { OnErr result ((n : ℕ)
         × Appends (W.contents output.old) (W.contents output.new) (take n bytes.now)) }
 {
     write(output, bytes)?;

@@ -4,35 +4,35 @@ use Rattle.aegis_aes.specs.Lanes.{IsLaneCount}
 use Rattle.aegis_base.specs.Variant.{Variant}
 use Rattle.aegis_storage.specs.Bytes.{part_at}
 use Rattle.aegis_storage.specs.Disk.{Disk, IsPossible, Writes, after_writes}
-use Rattle.aegis_storage.specs.Journal.{GivesOneOf, HasFront, IsJournal, IsOneOf}
+use Rattle.aegis_storage.specs.Journal.{GivesOneOf, HasBeginning, IsJournal, IsOneOf}
 use Rattle.aegis_storage.proofs.Disks.{readable}
 use Rattle.aegis_pages.specs.declared.header.FileHeader.{FileHeader}
-use Rattle.aegis_pages.specs.Commits.{HasHonestHeader, IsHonest, IsOfAnother, IsOfCommit, RecoversTextUnlessForged, head_bytes, head_of, journal_key}
+use Rattle.aegis_pages.specs.Commits.{HasHonestHeader, IsHonest, IsOfAnother, IsOfCommit, RecoversContentsUnlessForged, head_bytes, head_of, journal_key}
 use Rattle.aegis_pages.specs.Errors.{HasNoHeader}
 use Rattle.aegis_pages.specs.Headers.{IsHeader}
-use Rattle.aegis_pages.specs.Layouts.{Layout, journal_front}
+use Rattle.aegis_pages.specs.Layouts.{Layout, journal_beginning}
 use Rattle.aegis_pages.specs.Reading.{HasHeader, layout_of}
 use Rattle.aegis_pages.specs.SealedPages.{IsFileUnder}
 use Rattle.aegis_pages.proofs.CommitFacts.{head_read}
 use Rattle.aegis_pages.proofs.HeaderFacts.{one_in_file}
 
 -- What is read of the storage and of the journal is what a crash may leave of them.
-record Left (variant : Variant) (key before now : List ℕ) (storage journal : Option Disk) (batch : RecoversTextUnlessForged variant key before now storage journal) (a b : Option (List ℕ)) : Type 0 where
+record Left (variant : Variant) (key before now : List ℕ) (storage journal : Option Disk) (batch : RecoversContentsUnlessForged variant key before now storage journal) (a b : Option (List ℕ)) : Type 0 where
   file : List ℕ
   content : List ℕ
   file_is : a ≡ Some file
   content_is : b ≡ Some content
   gives : GivesOneOf (journal_key variant key) [] batch.file (after_writes batch.writes batch.file) content file
-  front : HasFront (journal_front batch.layout) content
+  beginning : HasBeginning (journal_beginning batch.layout) content
   honest : IsHonest batch content
   header : HasHonestHeader batch file
 
-left : (variant : Variant) (key before now : List ℕ) (storage journal : Option Disk) (batch : RecoversTextUnlessForged variant key before now storage journal) (a b : Option (List ℕ))
+left : (variant : Variant) (key before now : List ℕ) (storage journal : Option Disk) (batch : RecoversContentsUnlessForged variant key before now storage journal) (a b : Option (List ℕ))
     → IsPossible a storage → IsPossible b journal → IfSome b (IsHonest batch) → IfSome a (HasHonestHeader batch) → Left variant key before now storage journal batch a b
 left variant key before now storage journal batch a b p q honest header =
     let x = readable a storage batch.recovers.storage_disk p batch.recovers.storage_is in
     let y = readable b journal batch.recovers.journal_disk q batch.recovers.journal_is in
-    let z = readable b journal batch.front.disk q batch.front.is in
+    let z = readable b journal batch.beginning.disk q batch.beginning.is in
     let same : z.xs ≡ y.xs = (let both : Some z.xs ≡ Some y.xs = sym z.is ∙ y.is in cc) in
     let honest_here = subst (λ (o : Option (List ℕ)). IfSome o (IsHonest batch)) y.is honest in record {
       file = x.xs;
@@ -40,7 +40,7 @@ left variant key before now storage journal batch a b p q honest header =
       file_is = x.is;
       content_is = y.is;
       gives = batch.recovers.gives x.xs y.xs x.possible y.possible honest_here;
-      front = subst (HasFront (journal_front batch.layout)) same (batch.front.has z.xs z.possible);
+      beginning = subst (HasBeginning (journal_beginning batch.layout)) same (batch.beginning.has z.xs z.possible);
       honest = honest_here;
       header = subst (λ (o : Option (List ℕ)). IfSome o (HasHonestHeader batch)) x.is header;
     }
@@ -50,7 +50,7 @@ held layout before now file (inl h) = (h.0, length before, h.1.header)
 held layout before now file (inr h) = (h.0, length now, h.1.header)
 
 -- if the journal is not whole, the file is that of before or of after the commit
-has_header : (variant : Variant) (key before now : List ℕ) (storage journal : Option Disk) (batch : RecoversTextUnlessForged variant key before now storage journal) (a b : Option (List ℕ))
+has_header : (variant : Variant) (key before now : List ℕ) (storage journal : Option Disk) (batch : RecoversContentsUnlessForged variant key before now storage journal) (a b : Option (List ℕ))
     → (it : Left variant key before now storage journal batch a b) → ((ws : Writes) → IsJournal (journal_key variant key) [] ws it.content → ⊥)
     → (counter : ℕ) × (len : ℕ) × IsHeader batch.layout counter len it.file
 has_header variant key before now storage journal batch a b it not = cases (it.gives.other not)
@@ -60,7 +60,7 @@ has_header variant key before now storage journal batch a b it not = cases (it.g
     cases (inr same) = held batch.layout before now it.file (subst (λ (l : List ℕ). IsFileUnder batch.layout before l ⊎ IsFileUnder batch.layout now l) (sym same) batch.with_writes)
 
 -- a header that is read is then that of the batch's layout
-same_layout : (variant : Variant) (key before now : List ℕ) (storage journal : Option Disk) (batch : RecoversTextUnlessForged variant key before now storage journal) (a b : Option (List ℕ))
+same_layout : (variant : Variant) (key before now : List ℕ) (storage journal : Option Disk) (batch : RecoversContentsUnlessForged variant key before now storage journal) (a b : Option (List ℕ))
     → (it : Left variant key before now storage journal batch a b) → IsLaneCount variant.lanes → ((ws : Writes) → IsJournal (journal_key variant key) [] ws it.content → ⊥)
     → (other : Layout) (counter len : ℕ) → other.variant ≡ variant → other.key ≡ key → IsHeader other counter len it.file → batch.layout ≡ other
 same_layout variant key before now storage journal batch a b it count not other counter len v k header =
@@ -68,38 +68,38 @@ same_layout variant key before now storage journal batch a b it count not other 
     (one_in_file other batch.layout counter own.0 len own.1 it.file (subst (λ (w : Variant). IsLaneCount w.lanes) (sym v) count) (batch.variant_is ∙ sym v) (batch.key_is ∙ sym k) header own.2).0
 
 -- the header of the file began or ended the commit
-own_commit : (variant : Variant) (key before now : List ℕ) (storage journal : Option Disk) (batch : RecoversTextUnlessForged variant key before now storage journal) (a b : Option (List ℕ))
-    → (it : Left variant key before now storage journal batch a b) (layout : Layout) (counter len : ℕ) (sector : List ℕ) (writes : Writes) → layout.variant ≡ variant → layout.key ≡ key
-    → IsHeader layout counter len it.file → sector ≡ part_at it.file 0 512 → IsJournal (journal_key variant key) [] writes it.content → IsOfCommit (take (head_bytes variant) sector) writes
-own_commit variant key before now storage journal batch a b it layout counter len sector writes v k header read whole =
-    subst (λ (l : List ℕ). IsOfCommit l writes) (sym (head_read variant it.file sector read))
+own_commit : (variant : Variant) (key before now : List ℕ) (storage journal : Option Disk) (batch : RecoversContentsUnlessForged variant key before now storage journal) (a b : Option (List ℕ))
+    → (it : Left variant key before now storage journal batch a b) (layout : Layout) (counter len : ℕ) (header_block : List ℕ) (writes : Writes) → layout.variant ≡ variant → layout.key ≡ key
+    → IsHeader layout counter len it.file → header_block ≡ part_at it.file 0 512 → IsJournal (journal_key variant key) [] writes it.content → IsOfCommit (take (head_bytes variant) header_block) writes
+own_commit variant key before now storage journal batch a b it layout counter len header_block writes v k header read whole =
+    subst (λ (l : List ℕ). IsOfCommit l writes) (sym (head_read variant it.file header_block read))
     (subst (IsOfCommit (head_of variant it.file)) (sym (it.honest writes whole)) (cases (it.header layout counter len v k header)))
   where
     cases : IsOneOf (head_of variant batch.file) (head_of variant (after_writes batch.writes batch.file)) (head_of variant it.file) → IsOfCommit (head_of variant it.file) batch.writes
     cases (inl same) = subst (λ (l : List ℕ). IsOfCommit l batch.writes) (sym same) batch.old_head
     cases (inr same) = subst (λ (l : List ℕ). IsOfCommit l batch.writes) (sym same) batch.new_head
 
-own_front : (front bytes : List ℕ) → HasFront front bytes → IsOfAnother front bytes → ⊥
-own_front front bytes (inl short) another = let long = another.0 in omega (arith, short, long)
-own_front front bytes (inr same) another = another.1 same
+own_beginning : (beginning bytes : List ℕ) → HasBeginning beginning bytes → IsOfAnother beginning bytes → ⊥
+own_beginning beginning bytes (inl short) another = let long = another.0 in omega (arith, short, long)
+own_beginning beginning bytes (inr same) another = another.1 same
 
 if_some_at : (P : List ℕ → Type 0) (xs : List ℕ) (o : Option (List ℕ)) → o ≡ Some xs → IfSome o P → P xs
 if_some_at P xs o is found = subst (λ (o : Option (List ℕ)). IfSome o P) is found
 
 -- what was read is accepted, by the cases of `check_journal`
 pub accepts_all : {W : Type 0} (of : W → Writes) (variant : Variant) (key k before now : List ℕ) (a b : Option (List ℕ)) (storage journal : Option Disk) (read : List ℕ)
-    (sector : Option (List ℕ)) (header : Option FileHeader) (writes : Option W) (Accepted : Type 0)
+    (header_block : Option (List ℕ)) (header : Option FileHeader) (writes : Option W) (Accepted : Type 0)
     → IsLaneCount variant.lanes → k ≡ journal_key variant key → IfSome b (λ js. read ≡ js)
     → IfSome header (λ h. HasHeader variant key h a) → IfNone header (IfSome a (HasNoHeader variant key))
-    → IfSome sector (λ s. IfSome a (λ file. (512 ≤ length file) × (s ≡ part_at file 0 512))) → IfNone sector (IfSome a (λ file. length file < 512))
+    → IfSome header_block (λ s. IfSome a (λ file. (512 ≤ length file) × (s ≡ part_at file 0 512))) → IfNone header_block (IfSome a (λ file. length file < 512))
     → IfSome writes (λ ws. IsJournal k [] (of ws) read) → IfNone writes ((ws : Writes) → IsJournal k [] ws read → ⊥)
     → IfNone header (IsSome writes → Accepted)
-    → IfSome header (λ h. IfNone writes ((IsOfAnother (journal_front (layout_of variant key h)) read → ⊥) → Accepted))
-    → (IsSome header → IfSome writes (λ ws. IfSome sector (λ s. IsOfCommit (take (head_bytes variant) s) (of ws) → Accepted)))
+    → IfSome header (λ h. IfNone writes ((IsOfAnother (journal_beginning (layout_of variant key h)) read → ⊥) → Accepted))
+    → (IsSome header → IfSome writes (λ ws. IfSome header_block (λ s. IsOfCommit (take (head_bytes variant) s) (of ws) → Accepted)))
     → IsPossible a storage → IsPossible b journal
-    → (batch : RecoversTextUnlessForged variant key before now storage journal) → IfSome b (IsHonest batch) → IfSome a (HasHonestHeader batch) → Accepted
-accepts_all {W} of variant key k before now a b storage journal read sector header writes Accepted count is same found none first short whole torn lost front own p q batch honest honest_header =
-    cases sector header writes found none first short whole torn lost front own
+    → (batch : RecoversContentsUnlessForged variant key before now storage journal) → IfSome b (IsHonest batch) → IfSome a (HasHonestHeader batch) → Accepted
+accepts_all {W} of variant key k before now a b storage journal read header_block header writes Accepted count is same found none first short whole torn lost beginning own p q batch honest honest_header =
+    cases header_block header writes found none first short whole torn lost beginning own
   where
     it : Left variant key before now storage journal batch a b
     it = left variant key before now storage journal batch a b p q honest honest_header
@@ -113,28 +113,28 @@ accepts_all {W} of variant key k before now a b storage journal read sector head
     is_whole : (ws : Writes) → IsJournal k [] ws read → IsJournal (journal_key variant key) [] ws it.content
     is_whole ws journal = subst (λ (l : List ℕ). IsJournal l [] ws it.content) is (subst (IsJournal k [] ws) content journal)
 
-    cases : (sector : Option (List ℕ)) (header : Option FileHeader) (writes : Option W)
+    cases : (header_block : Option (List ℕ)) (header : Option FileHeader) (writes : Option W)
         → IfSome header (λ h. HasHeader variant key h a) → IfNone header (IfSome a (HasNoHeader variant key))
-        → IfSome sector (λ s. IfSome a (λ file. (512 ≤ length file) × (s ≡ part_at file 0 512))) → IfNone sector (IfSome a (λ file. length file < 512))
+        → IfSome header_block (λ s. IfSome a (λ file. (512 ≤ length file) × (s ≡ part_at file 0 512))) → IfNone header_block (IfSome a (λ file. length file < 512))
         → IfSome writes (λ ws. IsJournal k [] (of ws) read) → IfNone writes ((ws : Writes) → IsJournal k [] ws read → ⊥)
         → IfNone header (IsSome writes → Accepted)
-        → IfSome header (λ h. IfNone writes ((IsOfAnother (journal_front (layout_of variant key h)) read → ⊥) → Accepted))
-        → (IsSome header → IfSome writes (λ ws. IfSome sector (λ s. IsOfCommit (take (head_bytes variant) s) (of ws) → Accepted)))
+        → IfSome header (λ h. IfNone writes ((IsOfAnother (journal_beginning (layout_of variant key h)) read → ⊥) → Accepted))
+        → (IsSome header → IfSome writes (λ ws. IfSome header_block (λ s. IsOfCommit (take (head_bytes variant) s) (of ws) → Accepted)))
         → Accepted
-    cases sector None None found none first short whole torn lost front own =
+    cases header_block None None found none first short whole torn lost beginning own =
         let own_header = has_header variant key before now storage journal batch a b it (not_whole torn) in
         absurd (if_some_at (HasNoHeader variant key) it.file a it.file_is none batch.layout own_header.0 own_header.1 batch.variant_is batch.key_is own_header.2)
-    cases sector None (Some ws) found none first short whole torn lost front own = lost refl
-    cases sector (Some h) None found none first short whole torn lost front own =
+    cases header_block None (Some ws) found none first short whole torn lost beginning own = lost refl
+    cases header_block (Some h) None found none first short whole torn lost beginning own =
         let header_is = if_some_at (IsHeader (layout_of variant key h) h.counter h.len) it.file a it.file_is found.is in
         let layout_is = same_layout variant key before now storage journal batch a b it count (not_whole torn) (layout_of variant key h) h.counter h.len refl refl header_is in
-        front (own_front (journal_front (layout_of variant key h)) read (subst (λ (l : Layout). HasFront (journal_front l) read) layout_is (subst (HasFront (journal_front batch.layout)) (sym content) it.front)))
-    cases None (Some h) (Some ws) found none first short whole torn lost front own =
+        beginning (own_beginning (journal_beginning (layout_of variant key h)) read (subst (λ (l : Layout). HasBeginning (journal_beginning l) read) layout_is (subst (HasBeginning (journal_beginning batch.layout)) (sym content) it.beginning)))
+    cases None (Some h) (Some ws) found none first short whole torn lost beginning own =
         let header_is = if_some_at (IsHeader (layout_of variant key h) h.counter h.len) it.file a it.file_is found.is in
         let long = header_is.whole in
         let low : length it.file < 512 = if_some_at (λ file. length file < 512) it.file a it.file_is short in
         absurd (omega (arith, low, long))
-    cases (Some s) (Some h) (Some ws) found none first short whole torn lost front own =
+    cases (Some s) (Some h) (Some ws) found none first short whole torn lost beginning own =
         let header_is = if_some_at (IsHeader (layout_of variant key h) h.counter h.len) it.file a it.file_is found.is in
         let read_at = if_some_at (λ file. (512 ≤ length file) × (s ≡ part_at file 0 512)) it.file a it.file_is first in
         own refl (own_commit variant key before now storage journal batch a b it (layout_of variant key h) h.counter h.len s (of ws) refl refl header_is read_at.1 (is_whole (of ws) whole))

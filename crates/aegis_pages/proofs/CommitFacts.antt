@@ -11,43 +11,43 @@ use Rattle.aegis_pages.specs.Commits.{IsOfCommit, head_bytes, head_of}
 
 pub begins_first : {A : Type 0} (writes : List (PendingWrite A)) (w : PendingWrite A) (head : List ℕ) → 0 < length writes → w ≡ get_or writes 0 w → w.place ≡ 0 → take (length head) w.bytes.items ≡ head
     → IsOfCommit head (writes_of writes)
-begins_first [] w head some is zero front = absurd (omega arith)
-begins_first {A} (v ∷ vs) w head some is zero front =
+begins_first [] w head some is zero beginning = absurd (omega arith)
+begins_first {A} (v ∷ vs) w head some is zero beginning =
     let first : (v.place, v.bytes.items) ≡ (0, w.bytes.items) =
     ap (λ (x : PendingWrite A). (x.place, x.bytes.items)) (sym is) ∙ ap (λ (n : ℕ). (n, w.bytes.items)) zero in
-    inl (w.bytes.items, writes_of vs, ap (λ (x : ℕ × List ℕ). x ∷ writes_of vs) first, front)
+    inl (w.bytes.items, writes_of vs, ap (λ (x : ℕ × List ℕ). x ∷ writes_of vs) first, beginning)
 
 pub begins_last : {A : Type 0} (writes : List (PendingWrite A)) (w : PendingWrite A) (head : List ℕ) (n : ℕ) → n + 1 ≡ length writes → w ≡ get_or writes n w → w.place ≡ 0 → take (length head) w.bytes.items ≡ head
     → IsOfCommit head (writes_of writes)
-begins_last writes w head n last is zero front =
+begins_last writes w head n last is zero beginning =
     let low : n < length writes = omega (arith, last) in
     inr (
       w.bytes.items,
       writes_of (take n writes),
       ap writes_of (sym (take_all (n + 1) writes (omega (arith, last)))) ∙ writes_taken writes n w w.bytes.items low is refl
           ∙ ap (λ (k : ℕ). writes_of (take n writes) ++ (k, w.bytes.items) ∷ []) zero,
-      front,
+      beginning,
     )
 
 -- ---- and the other way round
 
-first_is : {A : Type 0} (writes : List (PendingWrite A)) (w : PendingWrite A) (sector : List ℕ) (rest : Writes) → w ≡ get_or writes 0 w → writes_of writes ≡ (0, sector) ∷ rest
-    → (w.place ≡ 0) × (w.bytes.items ≡ sector)
-first_is [] w sector rest is all = absurd (cc)
-first_is {A} (v ∷ vs) w sector rest is all =
-    let same : (v.place, v.bytes.items) ≡ (0, sector) = cc in
-    let here : (w.place, w.bytes.items) ≡ (0, sector) = ap (λ (x : PendingWrite A). (x.place, x.bytes.items)) is ∙ same in
+first_is : {A : Type 0} (writes : List (PendingWrite A)) (w : PendingWrite A) (header_block : List ℕ) (rest : Writes) → w ≡ get_or writes 0 w → writes_of writes ≡ (0, header_block) ∷ rest
+    → (w.place ≡ 0) × (w.bytes.items ≡ header_block)
+first_is [] w header_block rest is all = absurd (cc)
+first_is {A} (v ∷ vs) w header_block rest is all =
+    let same : (v.place, v.bytes.items) ≡ (0, header_block) = cc in
+    let here : (w.place, w.bytes.items) ≡ (0, header_block) = ap (λ (x : PendingWrite A). (x.place, x.bytes.items)) is ∙ same in
     (ap (λ (x : ℕ × List ℕ). x.0) here, ap (λ (x : ℕ × List ℕ). x.1) here)
 
-last_is : {A : Type 0} (writes : List (PendingWrite A)) (w : PendingWrite A) (n : ℕ) (sector : List ℕ) (before : Writes) → n + 1 ≡ length writes → w ≡ get_or writes n w
-    → writes_of writes ≡ before ++ (0, sector) ∷ [] → (w.place ≡ 0) × (w.bytes.items ≡ sector)
-last_is {A} writes w n sector before last is all =
+last_is : {A : Type 0} (writes : List (PendingWrite A)) (w : PendingWrite A) (n : ℕ) (header_block : List ℕ) (before : Writes) → n + 1 ≡ length writes → w ≡ get_or writes n w
+    → writes_of writes ≡ before ++ (0, header_block) ∷ [] → (w.place ≡ 0) × (w.bytes.items ≡ header_block)
+last_is {A} writes w n header_block before last is all =
     let f : PendingWrite A → ℕ × List ℕ = λ x. (x.place, x.bytes.items) in
-    let long : length before ≡ n = omega (arith, last, ap length all, length-map writes f, length-append before ((0, sector) ∷ [])) in
+    let long : length before ≡ n = omega (arith, last, ap length all, length-map writes f, length-append before ((0, header_block) ∷ [])) in
     let zero : n - n ≡ 0 = omega arith in
-    let here : (w.place, w.bytes.items) ≡ (0, sector) =
+    let here : (w.place, w.bytes.items) ≡ (0, header_block) =
     ap f is ∙ sym (get_or-map f writes n w (f w) (omega (arith, last))) ∙ ap (λ (l : Writes). get_or l n (f w)) all
-    ∙ get_or-append_right before ((0, sector) ∷ []) n n (f w) long (omega arith) ∙ ap (λ (k : ℕ). get_or ((0, sector) ∷ []) k (f w)) zero in
+    ∙ get_or-append_right before ((0, header_block) ∷ []) n n (f w) long (omega arith) ∙ ap (λ (k : ℕ). get_or ((0, header_block) ∷ []) k (f w)) zero in
     (ap (λ (x : ℕ × List ℕ). x.0) here, ap (λ (x : ℕ × List ℕ). x.1) here)
 
 -- the write makes a file begin with these bytes
@@ -68,9 +68,9 @@ of_none (w ∷ ws) head none of = absurd (omega (arith, none))
 
 -- ---- the header that a file begins with
 
--- it is read in one sector
-pub head_read : (variant : Variant) (file sector : List ℕ) → sector ≡ part_at file 0 512 → take (head_bytes variant) sector ≡ head_of variant file
-head_read variant file sector is =
+-- it is read in one header block
+pub head_read : (variant : Variant) (file header_block : List ℕ) → header_block ≡ part_at file 0 512 → take (head_bytes variant) header_block ≡ head_of variant file
+head_read variant file header_block is =
     ap (take (head_bytes variant)) is ∙ take-take (head_bytes variant) 512 (drop 0 file) (let most = key_most variant.family in omega (arith, most))
   where
     key_most : (family : Family) → key_length family ≤ 32

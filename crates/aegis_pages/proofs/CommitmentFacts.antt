@@ -3,17 +3,17 @@ use Rattle.std.proofs.Common.{◌≡◌, ℕ, ◌+◌, ◌-◌, List, [], ◌++�
 use Rattle.std.proofs.lemmas.List.{drop-drop, drop-take, length-append, length-drop, length-take}
 use Rattle.std.specs.Int.{to_le_bytes, w64}
 use Rattle.aegis_base.specs.Mac.{mac}
-use Rattle.aegis_base.specs.Run.{Stands}
+use Rattle.aegis_base.specs.Context.{Stands}
 use Rattle.aegis_base.specs.Variant.{Variant}
 use Rattle.aegis_engine.specs.Saved.{IsSaved}
-use Rattle.aegis_engine.specs.declared.saved.SavedRun.{SavedRun}
+use Rattle.aegis_engine.specs.declared.saved.SavedContext.{SavedContext}
 use Rattle.aegis_pages.specs.Commitments.{HasOneCommitment, commitment, committed, page_count, page_tag, page_tags}
 use Rattle.aegis_aes.specs.Lanes.{IsLaneCount}
 use Rattle.aegis_pages.specs.Headers.{IsHeader}
 use Rattle.aegis_pages.proofs.HeaderFacts.{one_in_file}
-use Rattle.aegis_pages.specs.Layouts.{Layout, clear_part, nonce_bytes}
+use Rattle.aegis_pages.specs.Layouts.{Layout, plaintext_header, nonce_bytes}
 
--- the last 32 bytes of a box of m + 32 bytes, if they are all there
+-- the last 32 bytes of a sealed page of m + 32 bytes, if they are all there
 pub tag_end : (file tag : List ℕ) (at m n : ℕ) → n ≡ m + 32 → length tag ≡ 32 → tag ≡ take 32 (drop (at + m) file)
     → tag ≡ drop (length (take n (drop at file)) - 32) (take n (drop at file))
 tag_end file tag at m n is long read =
@@ -24,18 +24,18 @@ tag_end file tag at m n is long read =
 
 -- ---- the input, with the tags at its end
 
--- what a saved run counts
-pub saved_data : (v : Variant) (run : SavedRun) (key nonce x : List ℕ) → IsSaved v run key nonce [] x → run.ad_bytes ≡ 0
+-- what a saved context counts
+pub saved_data : (v : Variant) (context : SavedContext) (key nonce x : List ℕ) → IsSaved v context key nonce [] x → context.ad_bytes ≡ 0
 unfolding IsSaved Stands
-saved_data v run key nonce x is = is.1.0
+saved_data v context key nonce x is = is.1.0
 
-pub saved_message : (v : Variant) (run : SavedRun) (key nonce x : List ℕ) → IsSaved v run key nonce [] x → run.message_bytes ≡ length x
+pub saved_message : (v : Variant) (context : SavedContext) (key nonce x : List ℕ) → IsSaved v context key nonce [] x → context.message_bytes ≡ length x
 unfolding IsSaved Stands
-saved_message v run key nonce x is = is.1.1
+saved_message v context key nonce x is = is.1.1
 
 -- the same key and nonce by other names
-pub saved_so : (v : Variant) (run : SavedRun) (key key' nonce nonce' x : List ℕ) → key ≡ key' → nonce ≡ nonce' → IsSaved v run key nonce [] x → IsSaved v run key' nonce' [] x
-saved_so v run key key' nonce nonce' x p q saved = subst (λ (n : List ℕ). IsSaved v run key' n [] x) q (subst (λ (k : List ℕ). IsSaved v run k nonce [] x) p saved)
+pub saved_so : (v : Variant) (context : SavedContext) (key key' nonce nonce' x : List ℕ) → key ≡ key' → nonce ≡ nonce' → IsSaved v context key nonce [] x → IsSaved v context key' nonce' [] x
+saved_so v context key key' nonce nonce' x p q saved = subst (λ (n : List ℕ). IsSaved v context key' n [] x) q (subst (λ (k : List ℕ). IsSaved v context k nonce [] x) p saved)
 
 -- the length of what was taken in before the tags
 pub length-begun : (a b c : List ℕ) → length a ≡ 33 → length b ≡ 8 → length c ≡ 8 → length ((a ++ b) ++ c) ≡ 49
@@ -43,11 +43,11 @@ length-begun a b c p q r = omega (arith, p, q, r, length-append (a ++ b) c, leng
 
 -- the MAC of all that was taken in
 pub committed_mac : (layout : Layout) (v : Variant) (counter len n : ℕ) (file x result : List ℕ) → layout.variant ≡ v → n ≡ page_count layout len
-    → x ≡ clear_part layout ++ (to_le_bytes w64 counter ++ (to_le_bytes w64 len ++ page_tags layout file n))
+    → x ≡ plaintext_header layout ++ (to_le_bytes w64 counter ++ (to_le_bytes w64 len ++ page_tags layout file n))
     → result ≡ mac v 32 layout.key (replicate (nonce_bytes layout) 255) x → result ≡ commitment layout counter len file
 committed_mac layout v counter len n file x result variant all is tagged =
     let input : x ≡ committed layout counter len file =
-    is ∙ ap (λ (k : ℕ). clear_part layout ++ (to_le_bytes w64 counter ++ (to_le_bytes w64 len ++ page_tags layout file k))) all in
+    is ∙ ap (λ (k : ℕ). plaintext_header layout ++ (to_le_bytes w64 counter ++ (to_le_bytes w64 len ++ page_tags layout file k))) all in
     tagged ∙ ap (λ (w : Variant). mac w 32 layout.key (replicate (nonce_bytes layout) 255) x) (sym variant)
     ∙ ap (mac layout.variant 32 layout.key (replicate (nonce_bytes layout) 255)) input
 

@@ -1,5 +1,5 @@
 pub mod AcceptFacts
-pub mod BoxFacts
+pub mod SealedFacts
 pub mod ChangedFacts
 pub mod CommitFacts
 pub mod CommitmentFacts

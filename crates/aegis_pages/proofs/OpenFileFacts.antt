@@ -1,4 +1,4 @@
--- Files that have a text, from call to call.
+-- Files that have contents, from call to call.
 use Rattle.std.proofs.Common.{◌≡◌, ℕ, ◌+◌, ◌-◌, ◌*◌, ◌<◌, ◌≤◌, Bool, false, List, [], ◌∷◌, ◌++◌, Option, None, Some, IfSome, OnOk, Result, Ok, Err, get_or, length, max, min, take, refl, sym, ap, subst, ◌∙◌, arith}
 use Rattle.std.proofs.lemmas.List.{append-nil, drop_all, ext_get_or, nil_from_length, take_all}
 use Rattle.aegis_aes.specs.Lanes.{IsLaneCount}
@@ -7,11 +7,11 @@ use Rattle.aegis_storage.specs.Disk.{Adds, Disk, IsPossible, MakesCertain, Size,
 use Rattle.aegis_storage.proofs.Disks.{left, readable}
 use Rattle.std.specs.Io.KnownBytes.{Keeps}
 use Rattle.aegis_storage.proofs.Overwriting.{length-overwritten, length-part, length-resized, part_byte, put_part, resized_byte}
-use Rattle.aegis_pages.specs.Changed.{Texts, text_at}
-use Rattle.aegis_pages.specs.Headers.{IsHeader, IsSector}
+use Rattle.aegis_pages.specs.Changed.{Plaintexts, contents_at}
+use Rattle.aegis_pages.specs.Headers.{IsHeader, IsHeaderBlock}
 use Rattle.aegis_pages.specs.Layouts.{Layout}
 use Rattle.aegis_pages.specs.OpenFile.{Has, HasIn, IsCertain, IsKnown}
-use Rattle.aegis_pages.specs.SealedPages.{ArePages, IsFileOf, IsPage, IsSealed, WritesText, unchanged}
+use Rattle.aegis_pages.specs.SealedPages.{ArePages, IsFileOf, IsPage, IsSealed, WritesContents, unchanged}
 use Rattle.aegis_pages.proofs.HeaderFacts.{one_in_file}
 use Rattle.aegis_pages.proofs.SealingFacts.{header_written}
 
@@ -19,119 +19,119 @@ pub ok_map : {T E P Q : Type 0} (r : Result T E) → (P → Q) → OnOk r P → 
 ok_map (Ok x) f p = f p
 ok_map (Err e) f p = p
 
-pub has_use : (layout : Layout) (counter stored len : ℕ) (changes : Texts) (broken : Bool) (text : List ℕ) (o : Option (List ℕ)) (P : List ℕ → Type 0) → IfSome o P
-    → HasIn layout counter stored len changes broken text o → (file : List ℕ) × P file × Has layout counter stored len changes broken text file
-has_use layout counter stored len changes broken text None P p s = absurd s
-has_use layout counter stored len changes broken text (Some file) P p s = (file, p, s)
+pub has_use : (layout : Layout) (counter stored len : ℕ) (changes : Plaintexts) (broken : Bool) (contents : List ℕ) (o : Option (List ℕ)) (P : List ℕ → Type 0) → IfSome o P
+    → HasIn layout counter stored len changes broken contents o → (file : List ℕ) × P file × Has layout counter stored len changes broken contents file
+has_use layout counter stored len changes broken contents None P p s = absurd s
+has_use layout counter stored len changes broken contents (Some file) P p s = (file, p, s)
 
-pub has_len : (layout : Layout) (counter stored len : ℕ) (changes : Texts) (broken : Bool) (text : List ℕ) (o : Option (List ℕ)) → HasIn layout counter stored len changes broken text o → length text ≡ len
-has_len layout counter stored len changes broken text None s = absurd s
-has_len layout counter stored len changes broken text (Some file) s = s.size
+pub has_len : (layout : Layout) (counter stored len : ℕ) (changes : Plaintexts) (broken : Bool) (contents : List ℕ) (o : Option (List ℕ)) → HasIn layout counter stored len changes broken contents o → length contents ≡ len
+has_len layout counter stored len changes broken contents None s = absurd s
+has_len layout counter stored len changes broken contents (Some file) s = s.size
 
 -- ---- a part that is written, and a new length
 
-pub wrote : (layout : Layout) (counter stored len at : ℕ) (part : List ℕ) (old new : Texts) (broken : Bool) (next : ℕ) (text : List ℕ) (o : Option (List ℕ)) → next ≡ max len (at + length part)
-    → IfSome o (WritesText layout len at part (text_at old) (text_at new)) → HasIn layout counter stored len old broken text o
-    → HasIn layout counter stored next new broken (overwritten text at part) o
-wrote layout counter stored len at part old new broken next text None is w s = absurd s
-wrote layout counter stored len at part old new broken next text (Some file) is w s = record {
-  size = omega (arith, is, s.size, length-overwritten text at part);
+pub wrote : (layout : Layout) (counter stored len at : ℕ) (part : List ℕ) (old new : Plaintexts) (broken : Bool) (next : ℕ) (contents : List ℕ) (o : Option (List ℕ)) → next ≡ max len (at + length part)
+    → IfSome o (WritesContents layout len at part (contents_at old) (contents_at new)) → HasIn layout counter stored len old broken contents o
+    → HasIn layout counter stored next new broken (overwritten contents at part) o
+wrote layout counter stored len at part old new broken next contents None is w s = absurd s
+wrote layout counter stored len at part old new broken next contents (Some file) is w s = record {
+  size = omega (arith, is, s.size, length-overwritten contents at part);
   sound = s.sound;
   header = s.header;
-  pages = w text s.size s.pages;
+  pages = w contents s.size s.pages;
 }
 
-pub grown : (text : List ℕ) (len : ℕ) → length text ≤ len → overwritten text len [] ≡ resized text len
-grown text len short = ap (λ (l : List ℕ). resized text len ++ l) (drop_all (len + 0) text (omega (arith, short))) ∙ append-nil (resized text len)
+pub grown : (contents : List ℕ) (len : ℕ) → length contents ≤ len → overwritten contents len [] ≡ resized contents len
+grown contents len short = ap (λ (l : List ℕ). resized contents len ++ l) (drop_all (len + 0) contents (omega (arith, short))) ∙ append-nil (resized contents len)
 
-pub cut : (layout : Layout) (counter stored len : ℕ) (changes : Texts) (broken : Bool) (new : ℕ) (text : List ℕ) (o : Option (List ℕ)) → new < len
-    → HasIn layout counter stored len changes broken text o → HasIn layout counter stored new changes broken (resized text new) o
-cut layout counter stored len changes broken new text None less s = absurd s
-cut layout counter stored len changes broken new text (Some file) less s = record {
-  size = length-resized text new;
+pub cut : (layout : Layout) (counter stored len : ℕ) (changes : Plaintexts) (broken : Bool) (new : ℕ) (contents : List ℕ) (o : Option (List ℕ)) → new < len
+    → HasIn layout counter stored len changes broken contents o → HasIn layout counter stored new changes broken (resized contents new) o
+cut layout counter stored len changes broken new contents None less s = absurd s
+cut layout counter stored len changes broken new contents (Some file) less s = record {
+  size = length-resized contents new;
   sound = s.sound;
   header = s.header;
-  pages = record { page = λ k low. page_kept k (subst (λ (n : ℕ). k * layout.page_bytes < n) (length-resized text new) low) };
+  pages = record { page = λ k low. page_kept k (subst (λ (n : ℕ). k * layout.page_bytes < n) (length-resized contents new) low) };
 }
   where
-    page_kept : (k : ℕ) → k * layout.page_bytes < new → IsPage layout (text_at changes k) file k (resized text new)
+    page_kept : (k : ℕ) → k * layout.page_bytes < new → IsPage layout (contents_at changes k) file k (resized contents new)
     page_kept k low =
         let is = s.size in
-        let page = s.pages.page k (let h : k * layout.page_bytes < length text = omega (arith, low, less, is) in h) in
+        let page = s.pages.page k (let h : k * layout.page_bytes < length contents = omega (arith, low, less, is) in h) in
         record {
           message = page.message;
           shows = page.shows;
           bytes = λ i near fits.
-              let below : k * layout.page_bytes + i < new = omega (arith, fits, length-resized text new) in
-              page.bytes i near (omega (arith, below, less, is)) ∙ sym (resized_byte text new (k * layout.page_bytes + i) below);
+              let below : k * layout.page_bytes + i < new = omega (arith, fits, length-resized contents new) in
+              page.bytes i near (omega (arith, below, less, is)) ∙ sym (resized_byte contents new (k * layout.page_bytes + i) below);
         }
 
--- ---- a text that is read
+-- ---- contents that are read
 
-pub read_so : (text out : List ℕ) (at : ℕ) → at + length out ≤ length text → ((i : ℕ) → i < length out → get_or out i 0 ≡ get_or text (at + i) 0) → out ≡ part_at text at (length out)
-read_so text out at within same =
-    ext_get_or 0 out (part_at text at (length out)) (omega (arith, length-part text at (length out))) (λ i low. same i low ∙ sym (part_byte text at (length out) i low))
+pub read_so : (contents out : List ℕ) (at : ℕ) → at + length out ≤ length contents → ((i : ℕ) → i < length out → get_or out i 0 ≡ get_or contents (at + i) 0) → out ≡ part_at contents at (length out)
+read_so contents out at within same =
+    ext_get_or 0 out (part_at contents at (length out)) (omega (arith, length-part contents at (length out))) (λ i low. same i low ∙ sym (part_byte contents at (length out) i low))
 
 -- what was written is read
-pub written_read : (text part out : List ℕ) (at len n : ℕ) → length (overwritten text at part) ≡ len → length part ≡ length out → n ≡ min (length out) (len - at)
-    → take n out ≡ part_at (overwritten text at part) at n → out ≡ part
-written_read text part out at len n long same count is =
-    let all : n ≡ length part = omega (arith, count, same, long, length-overwritten text at part) in
-    sym (take_all n out (omega (arith, all, same))) ∙ is ∙ ap (part_at (overwritten text at part) at) all ∙ put_part text at part
+pub written_read : (contents part out : List ℕ) (at len n : ℕ) → length (overwritten contents at part) ≡ len → length part ≡ length out → n ≡ min (length out) (len - at)
+    → take n out ≡ part_at (overwritten contents at part) at n → out ≡ part
+written_read contents part out at len n long same count is =
+    let all : n ≡ length part = omega (arith, count, same, long, length-overwritten contents at part) in
+    sym (take_all n out (omega (arith, all, same))) ∙ is ∙ ap (part_at (overwritten contents at part) at) all ∙ put_part contents at part
 
-pub written_none : (text part out : List ℕ) (at len : ℕ) → length (overwritten text at part) ≡ len → length part ≡ length out → len ≤ at → out ≡ part
-written_none text part out at len long same past =
-    let none : length part ≡ 0 = omega (arith, long, past, length-overwritten text at part) in
+pub written_none : (contents part out : List ℕ) (at len : ℕ) → length (overwritten contents at part) ≡ len → length part ≡ length out → len ≤ at → out ≡ part
+written_none contents part out at len long same past =
+    let none : length part ≡ 0 = omega (arith, long, past, length-overwritten contents at part) in
     nil_from_length out (omega (arith, none, same)) ∙ sym (nil_from_length part none)
 
 -- ---- a file with no changes
 
-pages_as : (layout : Layout) (changes : Texts) (text file : List ℕ) → ((k : ℕ) → text_at changes k ≡ None) → ArePages layout unchanged text file → ArePages layout (text_at changes) text file
-pages_as layout changes text file none are = record {
-  page = λ k low. subst (λ (o : Option (List ℕ)). IsPage layout o file k text) (sym (none k)) (are.page k low);
+pages_as : (layout : Layout) (changes : Plaintexts) (contents file : List ℕ) → ((k : ℕ) → contents_at changes k ≡ None) → ArePages layout unchanged contents file → ArePages layout (contents_at changes) contents file
+pages_as layout changes contents file none are = record {
+  page = λ k low. subst (λ (o : Option (List ℕ)). IsPage layout o file k contents) (sym (none k)) (are.page k low);
 }
 
-pub sealed_has : (layout : Layout) (counter len : ℕ) (changes : Texts) (text file : List ℕ) → ((k : ℕ) → text_at changes k ≡ None) → length text ≡ len → IsSealed layout counter text file
-    → Has layout counter len len changes false text file
-sealed_has layout counter len changes text file none size is = record {
+pub sealed_has : (layout : Layout) (counter len : ℕ) (changes : Plaintexts) (contents file : List ℕ) → ((k : ℕ) → contents_at changes k ≡ None) → length contents ≡ len → IsSealed layout counter contents file
+    → Has layout counter len len changes false contents file
+sealed_has layout counter len changes contents file none size is = record {
   size = size;
   sound = refl;
   header = subst (λ (n : ℕ). IsHeader layout counter n file) size is.header;
-  pages = pages_as layout changes text file none is.pages;
+  pages = pages_as layout changes contents file none is.pages;
 }
 
--- a text of no byte
+-- empty contents
 pub sealed_empty : (layout : Layout) (file : List ℕ) → IsHeader layout 0 0 file → IsSealed layout 0 [] file
 sealed_empty layout file is = record { header = is; pages = record { page = λ k low. absurd (omega (arith, low)) } }
 
--- a file that holds a text, and whose header was read
-pub holds_has : (layout : Layout) (counter len : ℕ) (changes : Texts) (text file : List ℕ) → IsLaneCount layout.variant.lanes → ((k : ℕ) → text_at changes k ≡ None) → IsHeader layout counter len file
-    → IsFileOf layout.variant layout.key text file → Has layout counter len len changes false text file
-holds_has layout counter len changes text file count none is h =
-    let same = one_in_file layout h.layout counter h.counter len (length text) file count h.variant_is h.key_is is h.is.header in record {
+-- a file that holds contents, and whose header was read
+pub holds_has : (layout : Layout) (counter len : ℕ) (changes : Plaintexts) (contents file : List ℕ) → IsLaneCount layout.variant.lanes → ((k : ℕ) → contents_at changes k ≡ None) → IsHeader layout counter len file
+    → IsFileOf layout.variant layout.key contents file → Has layout counter len len changes false contents file
+holds_has layout counter len changes contents file count none is h =
+    let same = one_in_file layout h.layout counter h.counter len (length contents) file count h.variant_is h.key_is is h.is.header in record {
       size = same.2;
       sound = refl;
       header = is;
-      pages = pages_as layout changes text file none (subst (λ (l : Layout). ArePages l unchanged text file) same.0 h.is.pages);
+      pages = pages_as layout changes contents file none (subst (λ (l : Layout). ArePages l unchanged contents file) same.0 h.is.pages);
     }
 
 -- the same, as the file of that header
-pub holds_sealed : (layout : Layout) (counter len : ℕ) (text file : List ℕ) → IsLaneCount layout.variant.lanes → IsHeader layout counter len file
-    → IsFileOf layout.variant layout.key text file → IsSealed layout counter text file
-holds_sealed layout counter len text file count is h =
-    let same = one_in_file layout h.layout counter h.counter len (length text) file count h.variant_is h.key_is is h.is.header in record {
+pub holds_sealed : (layout : Layout) (counter len : ℕ) (contents file : List ℕ) → IsLaneCount layout.variant.lanes → IsHeader layout counter len file
+    → IsFileOf layout.variant layout.key contents file → IsSealed layout counter contents file
+holds_sealed layout counter len contents file count is h =
+    let same = one_in_file layout h.layout counter h.counter len (length contents) file count h.variant_is h.key_is is h.is.header in record {
       header = subst (λ (n : ℕ). IsHeader layout counter n file) (sym same.2) is;
-      pages = subst (λ (l : Layout). ArePages l unchanged text file) same.0 h.is.pages;
+      pages = subst (λ (l : Layout). ArePages l unchanged contents file) same.0 h.is.pages;
     }
 
 -- ---- a file that is begun
 
-pub begun_known : (layout : Layout) (sector : List ℕ) (a b c : Option (List ℕ)) → length sector ≡ 512 → IsSector layout 0 0 sector → ResizesTo a b 0 → WritesAt b c 0 sector
+pub begun_known : (layout : Layout) (header_block : List ℕ) (a b c : Option (List ℕ)) → length header_block ≡ 512 → IsHeaderBlock layout 0 0 header_block → ResizesTo a b 0 → WritesAt b c 0 header_block
     → IfSome a (λ _. IsKnown (IsHeader layout 0 0) c)
-begun_known layout sector None b c long is r w = tt
-begun_known layout sector (Some xs) None c long is r w = absurd r
-begun_known layout sector (Some xs) (Some ys) None long is r w = absurd w
-begun_known layout sector (Some xs) (Some ys) (Some zs) long is r w = subst (IsHeader layout 0 0) (sym w) (header_written layout 0 0 sector ys long is)
+begun_known layout header_block None b c long is r w = tt
+begun_known layout header_block (Some xs) None c long is r w = absurd r
+begun_known layout header_block (Some xs) (Some ys) None long is r w = absurd w
+begun_known layout header_block (Some xs) (Some ys) (Some zs) long is r w = subst (IsHeader layout 0 0) (sym w) (header_written layout 0 0 header_block ys long is)
 
 pub known_kept : (P : List ℕ → Type 0) (a b c : Option (List ℕ)) → IfSome a (λ _. IsKnown P b) → Keeps b c → IfSome a (λ _. IsKnown P c)
 known_kept P None b c known keeps = tt
@@ -151,6 +151,6 @@ begun_certain P a c old sized over new part disk before possible known sizes wri
       so = subst (IsKnown P) y.is (subst (λ (o : Option (List ℕ)). IfSome o (λ _. IsKnown P c)) x.is known);
     }
 
-pub created_has : (layout : Layout) (changes : Texts) (b : Option (List ℕ)) → ((k : ℕ) → text_at changes k ≡ None) → IsKnown (IsHeader layout 0 0) b → HasIn layout 0 0 0 changes false [] b
+pub created_has : (layout : Layout) (changes : Plaintexts) (b : Option (List ℕ)) → ((k : ℕ) → contents_at changes k ≡ None) → IsKnown (IsHeader layout 0 0) b → HasIn layout 0 0 0 changes false [] b
 created_has layout changes None none known = absurd known
 created_has layout changes (Some file) none known = sealed_has layout 0 0 changes [] file none refl (sealed_empty layout file known)

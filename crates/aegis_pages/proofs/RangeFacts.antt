@@ -1,18 +1,18 @@
--- Reading a range of a text, page after page.
+-- Reading a range of contents, page after page.
 use Rattle.std.proofs.Common.{◌≡◌, ℕ, ◌+◌, ◌-◌, ◌*◌, ◌/◌, ◌%◌, ◌<◌, ◌≤◌, ◌⊎◌, inl, inr, List, drop, get_or, length, take, sym, ap, subst, ◌∙◌, arith}
 use Rattle.std.proofs.lemmas.Bool.{cases_lt}
 use Rattle.std.proofs.lemmas.List.{get_or-drop, get_or-take, length-drop, length-take}
 use Rattle.std.proofs.lemmas.Nat.{div-add-mod', div-mul-add, mod-mul-add}
 use Rattle.aegis_storage.specs.Bytes.{overwritten}
-use Rattle.aegis_pages.specs.Layouts.{Layout, box_bytes, inner, nonce_bytes}
+use Rattle.aegis_pages.specs.Layouts.{Layout, sealed_bytes, inner, nonce_bytes}
 use Rattle.aegis_pages.specs.SealedPages.{ArePages, Changes, IsByte, Shows}
 use Rattle.aegis_storage.proofs.Overwriting.{before_part, within_part}
 
--- A piece of the page's text was put into `out`, after `done` bytes.
+-- A piece of the page's contents was put into `out`, after `done` bytes.
 pub record Puts (layout : Layout) (page out piece new : List ℕ) (at done count : ℕ) : Type 0 where
   pub nonce : ℕ
   pub nonce_is : nonce ≡ nonce_bytes layout
-  pub room : length page ≡ box_bytes layout layout.page_bytes
+  pub room : length page ≡ sealed_bytes layout layout.page_bytes
   pub piece_is : piece ≡ take (((nonce + (at + done) % layout.page_bytes) + count) - (nonce + (at + done) % layout.page_bytes)) (drop (nonce + (at + done) % layout.page_bytes) page)
   pub put : new ≡ overwritten out done piece
   pub within : (at + done) % layout.page_bytes + count ≤ layout.page_bytes
@@ -75,16 +75,16 @@ bytes_more layout changes file page out piece new at done count p before opens i
           byte = is.byte;
         }
 
--- ---- each byte that was read is the text's
+-- ---- each byte that was read is the contents'
 
-pub text_more : (layout : Layout) (changes : Changes) (file page out piece new text : List ℕ) (at done count : ℕ) → Puts layout page out piece new at done count
-    → ArePages layout changes text file → ((i : ℕ) → i < done → get_or out i 0 ≡ get_or text (at + i) 0)
+pub contents_more : (layout : Layout) (changes : Changes) (file page out piece new contents : List ℕ) (at done count : ℕ) → Puts layout page out piece new at done count
+    → ArePages layout changes contents file → ((i : ℕ) → i < done → get_or out i 0 ≡ get_or contents (at + i) 0)
     → ((m : List ℕ) → Shows layout (changes ((at + done) / layout.page_bytes)) file ((at + done) / layout.page_bytes) m → inner layout page ≡ m)
-    → at + (done + count) ≤ length text
-    → (i : ℕ) → i < done + count → get_or new i 0 ≡ get_or text (at + i) 0
-text_more layout changes file page out piece new text at done count p are before only fits i low = cases (cases_lt i done)
+    → at + (done + count) ≤ length contents
+    → (i : ℕ) → i < done + count → get_or new i 0 ≡ get_or contents (at + i) 0
+contents_more layout changes file page out piece new contents at done count p are before only fits i low = cases (cases_lt i done)
   where
-    cases : (i < done) ⊎ (done ≤ i) → get_or new i 0 ≡ get_or text (at + i) 0
+    cases : (i < done) ⊎ (done ≤ i) → get_or new i 0 ≡ get_or contents (at + i) 0
     cases (inl below) = ap (λ (l : List ℕ). get_or l i 0) p.put ∙ before_part out done piece i below ∙ before i below
     cases (inr from) =
         let is = put_in layout page out piece new at done count p i from low in
@@ -92,4 +92,4 @@ text_more layout changes file page out piece new text at done count p are before
         let below = is.below in
         let found = are.page ((at + done) / layout.page_bytes) (omega arith) in
         is.byte ∙ ap (λ (l : List ℕ). get_or l ((at + i) % layout.page_bytes) 0) (only found.message found.shows)
-        ∙ found.bytes ((at + i) % layout.page_bytes) is.below (omega arith) ∙ ap (λ (k : ℕ). get_or text k 0) is.place
+        ∙ found.bytes ((at + i) % layout.page_bytes) is.below (omega arith) ∙ ap (λ (k : ℕ). get_or contents k 0) is.place

@@ -11,54 +11,54 @@ use Rattle.aegis_storage.specs.Disk.{Writes, after_writes}
 use Rattle.aegis_storage.proofs.Disks.{written_more}
 use Rattle.aegis_storage.proofs.Overwriting.{kept_part, length-overwritten, put_part}
 use Rattle.aegis_base.specs.Variant.{Variant}
-use Rattle.aegis_pages.specs.Changed.{Texts, text_at}
+use Rattle.aegis_pages.specs.Changed.{Plaintexts, contents_at}
 use Rattle.aegis_pages.specs.Commits.{IsOfCommit, head_bytes, head_of}
-use Rattle.aegis_pages.specs.Headers.{IsHeader, IsSector}
-use Rattle.aegis_pages.specs.Layouts.{Layout, OpensAt, box_bytes, page_at, page_place}
+use Rattle.aegis_pages.specs.Headers.{IsHeader, IsHeaderBlock}
+use Rattle.aegis_pages.specs.Layouts.{Layout, OpensAt, sealed_bytes, page_at, page_place}
 use Rattle.aegis_pages.specs.SealedPages.{ArePages, Changes, IsSealed, Shows, unchanged}
-use Rattle.aegis_pages.specs.Sealing.{HaveOneText, IsSealOf, Seals}
+use Rattle.aegis_pages.specs.Sealing.{HaveOnePlaintext, IsSealOf, Seals}
 use Rattle.aegis_pages.proofs.CommitFacts.{head_read, take_own}
 
 -- ---- places
 
 -- two pages lie apart
-pub places_apart : (layout : Layout) (j k : ℕ) → j < k → page_place layout j + box_bytes layout layout.page_bytes ≤ page_place layout k
+pub places_apart : (layout : Layout) (j k : ℕ) → j < k → page_place layout j + sealed_bytes layout layout.page_bytes ≤ page_place layout k
 places_apart layout j k below =
-    let more = mul-le-mul_right (box_bytes layout layout.page_bytes) (let h : j + 1 ≤ k = omega arith in h) in
+    let more = mul-le-mul_right (sealed_bytes layout layout.page_bytes) (let h : j + 1 ≤ k = omega arith in h) in
     omega (arith, more)
 
 -- a page is as it was after the write of another one
-other_page : (layout : Layout) (k number place : ℕ) (file sealed : List ℕ) → (k < number) ⊎ (number < k) → place ≡ page_place layout number → length sealed ≡ box_bytes layout layout.page_bytes
-    → length (page_at layout file k) ≡ box_bytes layout layout.page_bytes → page_at layout (overwritten file place sealed) k ≡ page_at layout file k
+other_page : (layout : Layout) (k number place : ℕ) (file sealed : List ℕ) → (k < number) ⊎ (number < k) → place ≡ page_place layout number → length sealed ≡ sealed_bytes layout layout.page_bytes
+    → length (page_at layout file k) ≡ sealed_bytes layout layout.page_bytes → page_at layout (overwritten file place sealed) k ≡ page_at layout file k
 other_page layout k number place file sealed (inl below) is long whole =
     let far = places_apart layout k number below in
-    kept_part file place sealed (page_place layout k) (box_bytes layout layout.page_bytes) (inl (omega (arith, far, is))) whole
+    kept_part file place sealed (page_place layout k) (sealed_bytes layout layout.page_bytes) (inl (omega (arith, far, is))) whole
 other_page layout k number place file sealed (inr above) is long whole =
     let far = places_apart layout number k above in
-    kept_part file place sealed (page_place layout k) (box_bytes layout layout.page_bytes) (inr (omega (arith, far, is, long))) whole
+    kept_part file place sealed (page_place layout k) (sealed_bytes layout layout.page_bytes) (inr (omega (arith, far, is, long))) whole
 
 -- the page that was written
-this_page : (layout : Layout) (number place : ℕ) (file sealed : List ℕ) → place ≡ page_place layout number → length sealed ≡ box_bytes layout layout.page_bytes
+this_page : (layout : Layout) (number place : ℕ) (file sealed : List ℕ) → place ≡ page_place layout number → length sealed ≡ sealed_bytes layout layout.page_bytes
     → page_at layout (overwritten file place sealed) number ≡ sealed
 this_page layout number place file sealed is long =
-    ap (λ (p : ℕ). part_at (overwritten file place sealed) p (box_bytes layout layout.page_bytes)) (sym is)
+    ap (λ (p : ℕ). part_at (overwritten file place sealed) p (sealed_bytes layout layout.page_bytes)) (sym is)
     ∙ ap (part_at (overwritten file place sealed) place) (sym long) ∙ put_part file place sealed
 
 -- ---- pages after the writes
 
--- the page that was written shows its text
-written_here : (layout : Layout) (number : ℕ) (text : List ℕ) (place : ℕ) (sealed file : List ℕ) (k : ℕ) (m : List ℕ) → IsSealOf layout number text place sealed
-    → number ≡ k → text ≡ m → Shows layout None (overwritten file place sealed) k m
-written_here layout number text place sealed file k m seal here same =
+-- the page that was written shows its contents
+written_here : (layout : Layout) (number : ℕ) (contents : List ℕ) (place : ℕ) (sealed file : List ℕ) (k : ℕ) (m : List ℕ) → IsSealOf layout number contents place sealed
+    → number ≡ k → contents ≡ m → Shows layout None (overwritten file place sealed) k m
+written_here layout number contents place sealed file k m seal here same =
     let is = this_page layout number place file sealed seal.place_is seal.size in
     subst (λ (j : ℕ). Shows layout None (overwritten file place sealed) j m) here
     (subst (Shows layout None (overwritten file place sealed) number) same
-    (ap length is ∙ seal.size, subst (λ (l : List ℕ). OpensAt layout number l text) (sym is) seal.opens))
+    (ap length is ∙ seal.size, subst (λ (l : List ℕ). OpensAt layout number l contents) (sym is) seal.opens))
 
 -- a page of the file that shows m shows it after a page was written, if that is another one, or the same and m
-shows_after : (layout : Layout) (number : ℕ) (text : List ℕ) (place : ℕ) (sealed file : List ℕ) (k : ℕ) (m : List ℕ) → IsSealOf layout number text place sealed
-    → (number ≡ k → text ≡ m) → Shows layout None file k m → Shows layout None (overwritten file place sealed) k m
-shows_after layout number text place sealed file k m seal same shows = cases (cases_lt k number) (cases_lt number k)
+shows_after : (layout : Layout) (number : ℕ) (contents : List ℕ) (place : ℕ) (sealed file : List ℕ) (k : ℕ) (m : List ℕ) → IsSealOf layout number contents place sealed
+    → (number ≡ k → contents ≡ m) → Shows layout None file k m → Shows layout None (overwritten file place sealed) k m
+shows_after layout number contents place sealed file k m seal same shows = cases (cases_lt k number) (cases_lt number k)
   where
     kept : (k < number) ⊎ (number < k) → Shows layout None (overwritten file place sealed) k m
     kept apart =
@@ -68,13 +68,13 @@ shows_after layout number text place sealed file k m seal same shows = cases (ca
     cases : (k < number) ⊎ (number ≤ k) → (number < k) ⊎ (k ≤ number) → Shows layout None (overwritten file place sealed) k m
     cases (inl below) any = kept (inl below)
     cases (inr from) (inl above) = kept (inr above)
-    cases (inr from) (inr to) = let here : number ≡ k = omega arith in written_here layout number text place sealed file k m seal here (same here)
+    cases (inr from) (inr to) = let here : number ≡ k = omega arith in written_here layout number contents place sealed file k m seal here (same here)
 
--- page k has no other text than m among these
-abbrev OnlyShows : ℕ → List ℕ → Texts → Type 0
-OnlyShows k m texts = AllByRecursion (λ e. e.0 ≡ k → e.1 ≡ m) texts
+-- page k has no other contents than m among these
+abbrev OnlyShows : ℕ → List ℕ → Plaintexts → Type 0
+OnlyShows k m plaintexts = AllByRecursion (λ e. e.0 ≡ k → e.1 ≡ m) plaintexts
 
-shows_still : (layout : Layout) (texts : Texts) (writes : Writes) (file : List ℕ) (k : ℕ) (m : List ℕ) → Seals layout texts writes → OnlyShows k m texts
+shows_still : (layout : Layout) (plaintexts : Plaintexts) (writes : Writes) (file : List ℕ) (k : ℕ) (m : List ℕ) → Seals layout plaintexts writes → OnlyShows k m plaintexts
     → Shows layout None file k m → Shows layout None (after_writes writes file) k m
 shows_still layout [] [] file k m seals only shows = shows
 shows_still layout [] (w ∷ ws) file k m seals only shows = absurd seals
@@ -90,120 +90,120 @@ found_at x y is = cases (nat_cmp x y) (ranked x y (nat_cmp x y) refl) is
     cases Equal m h = sym m
     cases Greater m h = absurd (cc)
 
-shows_found : (layout : Layout) (texts : Texts) (writes : Writes) (file : List ℕ) (k : ℕ) (m : List ℕ) → Seals layout texts writes → OnlyShows k m texts
-    → text_at texts k ≡ Some m → Shows layout None (after_writes writes file) k m
+shows_found : (layout : Layout) (plaintexts : Plaintexts) (writes : Writes) (file : List ℕ) (k : ℕ) (m : List ℕ) → Seals layout plaintexts writes → OnlyShows k m plaintexts
+    → contents_at plaintexts k ≡ Some m → Shows layout None (after_writes writes file) k m
 shows_found layout [] writes file k m seals only is = absurd (cc)
 shows_found layout (e ∷ es) [] file k m seals only is = absurd seals
 shows_found layout (e ∷ es) (w ∷ ws) file k m seals only is =
     cases (is_at (nat_cmp k) e.0) refl (shows_found layout es ws (overwritten file w.0 w.1) k m seals.1 only.1) is
   where
-    cases : (b : Bool) → is_at (nat_cmp k) e.0 ≡ b → (text_at es k ≡ Some m → Shows layout None (after_writes ws (overwritten file w.0 w.1)) k m) → cond b (Some e.1) (text_at es k) ≡ Some m → Shows layout None (after_writes ws (overwritten file w.0 w.1)) k m
+    cases : (b : Bool) → is_at (nat_cmp k) e.0 ≡ b → (contents_at es k ≡ Some m → Shows layout None (after_writes ws (overwritten file w.0 w.1)) k m) → cond b (Some e.1) (contents_at es k) ≡ Some m → Shows layout None (after_writes ws (overwritten file w.0 w.1)) k m
     cases true at rest found =
         let here : e.0 ≡ k = found_at k e.0 at in
         shows_still layout es ws (overwritten file w.0 w.1) k m seals.1 only.1 (written_here layout e.0 e.1 w.0 w.1 file k m seals.0 here (only.0 here))
     cases false at rest found = rest found
 
--- ---- one text for each page
+-- ---- one plaintext for each page
 
-only_one : (all texts : Texts) (k : ℕ) (m : List ℕ) → AllByRecursion (λ e. text_at all e.0 ≡ Some e.1) texts → text_at all k ≡ Some m → OnlyShows k m texts
+only_one : (all plaintexts : Plaintexts) (k : ℕ) (m : List ℕ) → AllByRecursion (λ e. contents_at all e.0 ≡ Some e.1) plaintexts → contents_at all k ≡ Some m → OnlyShows k m plaintexts
 only_one all [] k m one is = tt
 only_one all (e ∷ es) k m one is = (
-  λ here. let found : text_at all k ≡ Some e.1 = subst (λ (j : ℕ). text_at all j ≡ Some e.1) here one.0 in cc,
+  λ here. let found : contents_at all k ≡ Some e.1 = subst (λ (j : ℕ). contents_at all j ≡ Some e.1) here one.0 in cc,
   only_one all es k m one.1 is,
 )
 
-only_none : (all texts : Texts) (k : ℕ) (m : List ℕ) → AllByRecursion (λ e. text_at all e.0 ≡ Some e.1) texts → text_at all k ≡ None → OnlyShows k m texts
+only_none : (all plaintexts : Plaintexts) (k : ℕ) (m : List ℕ) → AllByRecursion (λ e. contents_at all e.0 ≡ Some e.1) plaintexts → contents_at all k ≡ None → OnlyShows k m plaintexts
 only_none all [] k m one is = tt
 only_none all (e ∷ es) k m one is = (
-  λ here. let found : text_at all k ≡ Some e.1 = subst (λ (j : ℕ). text_at all j ≡ Some e.1) here one.0 in absurd (cc),
+  λ here. let found : contents_at all k ≡ Some e.1 = subst (λ (j : ℕ). contents_at all j ≡ Some e.1) here one.0 in absurd (cc),
   only_none all es k m one.1 is,
 )
 
-pub shows_sealed : (layout : Layout) (texts : Texts) (writes : Writes) (file : List ℕ) (k : ℕ) (m : List ℕ) → Seals layout texts writes → HaveOneText texts
-    → Shows layout (text_at texts k) file k m → Shows layout None (after_writes writes file) k m
-shows_sealed layout texts writes file k m seals one shows = cases (text_at texts k) refl shows
+pub shows_sealed : (layout : Layout) (plaintexts : Plaintexts) (writes : Writes) (file : List ℕ) (k : ℕ) (m : List ℕ) → Seals layout plaintexts writes → HaveOnePlaintext plaintexts
+    → Shows layout (contents_at plaintexts k) file k m → Shows layout None (after_writes writes file) k m
+shows_sealed layout plaintexts writes file k m seals one shows = cases (contents_at plaintexts k) refl shows
   where
-    cases : (o : Option (List ℕ)) → text_at texts k ≡ o → Shows layout o file k m → Shows layout None (after_writes writes file) k m
-    cases None is s = shows_still layout texts writes file k m seals (only_none texts texts k m one is) s
-    cases (Some t) is s = shows_found layout texts writes file k m seals (only_one texts texts k m one (is ∙ ap Some (sym s))) (is ∙ ap Some (sym s))
+    cases : (o : Option (List ℕ)) → contents_at plaintexts k ≡ o → Shows layout o file k m → Shows layout None (after_writes writes file) k m
+    cases None is s = shows_still layout plaintexts writes file k m seals (only_none plaintexts plaintexts k m one is) s
+    cases (Some t) is s = shows_found layout plaintexts writes file k m seals (only_one plaintexts plaintexts k m one (is ∙ ap Some (sym s))) (is ∙ ap Some (sym s))
 
-pub pages_sealed : (layout : Layout) (texts : Texts) (writes : Writes) (text file : List ℕ) → Seals layout texts writes → HaveOneText texts
-    → ArePages layout (text_at texts) text file → ArePages layout unchanged text (after_writes writes file)
-pages_sealed layout texts writes text file seals one are = record {
+pub pages_sealed : (layout : Layout) (plaintexts : Plaintexts) (writes : Writes) (contents file : List ℕ) → Seals layout plaintexts writes → HaveOnePlaintext plaintexts
+    → ArePages layout (contents_at plaintexts) contents file → ArePages layout unchanged contents (after_writes writes file)
+pages_sealed layout plaintexts writes contents file seals one are = record {
   page = λ k low.
       let page = are.page k low in
-      record { message = page.message; shows = shows_sealed layout texts writes file k page.message seals one page.shows; bytes = page.bytes };
+      record { message = page.message; shows = shows_sealed layout plaintexts writes file k page.message seals one page.shows; bytes = page.bytes };
 }
 
 -- one more page
-pub seals_more : (layout : Layout) (texts : Texts) (writes : Writes) (number : ℕ) (text : List ℕ) (place : ℕ) (sealed : List ℕ) → Seals layout texts writes
-    → IsSealOf layout number text place sealed → Seals layout (texts ++ (number, text) ∷ []) (writes ++ (place, sealed) ∷ [])
-seals_more layout [] [] number text place sealed seals seal = (seal, tt)
-seals_more layout [] (w ∷ ws) number text place sealed seals seal = absurd seals
-seals_more layout (e ∷ es) [] number text place sealed seals seal = absurd seals
-seals_more layout (e ∷ es) (w ∷ ws) number text place sealed seals seal = (seals.0, seals_more layout es ws number text place sealed seals.1 seal)
+pub seals_more : (layout : Layout) (plaintexts : Plaintexts) (writes : Writes) (number : ℕ) (contents : List ℕ) (place : ℕ) (sealed : List ℕ) → Seals layout plaintexts writes
+    → IsSealOf layout number contents place sealed → Seals layout (plaintexts ++ (number, contents) ∷ []) (writes ++ (place, sealed) ∷ [])
+seals_more layout [] [] number contents place sealed seals seal = (seal, tt)
+seals_more layout [] (w ∷ ws) number contents place sealed seals seal = absurd seals
+seals_more layout (e ∷ es) [] number contents place sealed seals seal = absurd seals
+seals_more layout (e ∷ es) (w ∷ ws) number contents place sealed seals seal = (seals.0, seals_more layout es ws number contents place sealed seals.1 seal)
 
 -- ---- the header
 
 -- a page is as it was after the header was written
-header_shows : (layout : Layout) (sector file : List ℕ) (k : ℕ) (m : List ℕ) → length sector ≡ 512 → Shows layout None file k m → Shows layout None (overwritten file 0 sector) k m
-header_shows layout sector file k m long shows =
-    let is : page_at layout (overwritten file 0 sector) k ≡ page_at layout file k =
-    kept_part file 0 sector (page_place layout k) (box_bytes layout layout.page_bytes) (inr (omega (arith, long))) shows.0 in
+header_shows : (layout : Layout) (header_block file : List ℕ) (k : ℕ) (m : List ℕ) → length header_block ≡ 512 → Shows layout None file k m → Shows layout None (overwritten file 0 header_block) k m
+header_shows layout header_block file k m long shows =
+    let is : page_at layout (overwritten file 0 header_block) k ≡ page_at layout file k =
+    kept_part file 0 header_block (page_place layout k) (sealed_bytes layout layout.page_bytes) (inr (omega (arith, long))) shows.0 in
     (ap length is ∙ shows.0, subst (λ (l : List ℕ). OpensAt layout k l m) (sym is) shows.1)
 
-pub header_written : (layout : Layout) (counter len : ℕ) (sector file : List ℕ) → length sector ≡ 512 → IsSector layout counter len sector → IsHeader layout counter len (overwritten file 0 sector)
-header_written layout counter len sector file long is = record {
-  whole = omega (arith, long, length-overwritten file 0 sector);
-  is = subst (IsSector layout counter len) (sym (ap (part_at (overwritten file 0 sector) 0) (sym long) ∙ put_part file 0 sector)) is;
+pub header_written : (layout : Layout) (counter len : ℕ) (header_block file : List ℕ) → length header_block ≡ 512 → IsHeaderBlock layout counter len header_block → IsHeader layout counter len (overwritten file 0 header_block)
+header_written layout counter len header_block file long is = record {
+  whole = omega (arith, long, length-overwritten file 0 header_block);
+  is = subst (IsHeaderBlock layout counter len) (sym (ap (part_at (overwritten file 0 header_block) 0) (sym long) ∙ put_part file 0 header_block)) is;
 }
 
-header_pages : (layout : Layout) (changes : Changes) (sector text file : List ℕ) → length sector ≡ 512 → ArePages layout changes text file → ArePages layout changes text (overwritten file 0 sector)
-header_pages layout changes sector text file long are = record {
+header_pages : (layout : Layout) (changes : Changes) (header_block contents file : List ℕ) → length header_block ≡ 512 → ArePages layout changes contents file → ArePages layout changes contents (overwritten file 0 header_block)
+header_pages layout changes header_block contents file long are = record {
   page = λ k low.
       let page = are.page k low in
       record { message = page.message; shows = any (changes k) k page.message page.shows; bytes = page.bytes };
 }
   where
-    any : (o : Option (List ℕ)) (k : ℕ) (m : List ℕ) → Shows layout o file k m → Shows layout o (overwritten file 0 sector) k m
-    any None k m shows = header_shows layout sector file k m long shows
+    any : (o : Option (List ℕ)) (k : ℕ) (m : List ℕ) → Shows layout o file k m → Shows layout o (overwritten file 0 header_block) k m
+    any None k m shows = header_shows layout header_block file k m long shows
     any (Some t) k m shows = shows
 
--- the sector of before, the pages, and the header
-pub commit_sealed : (layout : Layout) (counter len : ℕ) (texts : Texts) (first more made all : Writes) (start place : ℕ) (before sector text file : List ℕ) → Seals layout texts more → HaveOneText texts
-    → first ≡ (start, before) ∷ [] → start ≡ 0 → length before ≡ 512 → made ≡ first ++ more → all ≡ made ++ (place, sector) ∷ [] → place ≡ 0 → length sector ≡ 512
-    → IsSector layout counter len sector → length text ≡ len → ArePages layout (text_at texts) text file → IsSealed layout counter text (after_writes all file)
-commit_sealed layout counter len texts first more made all start place before sector text file seals one begins at long ends is zero size header len_is are =
+-- the header block of before, the pages, and the header
+pub commit_sealed : (layout : Layout) (counter len : ℕ) (plaintexts : Plaintexts) (first more made all : Writes) (start place : ℕ) (before header_block contents file : List ℕ) → Seals layout plaintexts more → HaveOnePlaintext plaintexts
+    → first ≡ (start, before) ∷ [] → start ≡ 0 → length before ≡ 512 → made ≡ first ++ more → all ≡ made ++ (place, header_block) ∷ [] → place ≡ 0 → length header_block ≡ 512
+    → IsHeaderBlock layout counter len header_block → length contents ≡ len → ArePages layout (contents_at plaintexts) contents file → IsSealed layout counter contents (after_writes all file)
+commit_sealed layout counter len plaintexts first more made all start place before header_block contents file seals one begins at long ends is zero size header len_is are =
     let begun : List ℕ = overwritten file 0 before in
-    let all_is : after_writes all file ≡ overwritten (after_writes more begun) 0 sector =
-    ap (λ (l : Writes). after_writes l file) is ∙ written_more made place sector file ∙ ap (λ (p : ℕ). overwritten (after_writes made file) p sector) zero
-    ∙ ap (λ (l : Writes). overwritten (after_writes l file) 0 sector) (ends ∙ ap (λ (l : Writes). l ++ more) begins)
-    ∙ ap (λ (p : ℕ). overwritten (after_writes more (overwritten file p before)) 0 sector) at in
-    let pages = pages_sealed layout texts more text begun seals one (header_pages layout (text_at texts) before text file long are) in
-    subst (IsSealed layout counter text) (sym all_is) (record {
-      header = subst (λ (n : ℕ). IsHeader layout counter n (overwritten (after_writes more begun) 0 sector)) (sym len_is) (header_written layout counter len sector (after_writes more begun) size header);
-      pages = header_pages layout unchanged sector text (after_writes more begun) size pages;
+    let all_is : after_writes all file ≡ overwritten (after_writes more begun) 0 header_block =
+    ap (λ (l : Writes). after_writes l file) is ∙ written_more made place header_block file ∙ ap (λ (p : ℕ). overwritten (after_writes made file) p header_block) zero
+    ∙ ap (λ (l : Writes). overwritten (after_writes l file) 0 header_block) (ends ∙ ap (λ (l : Writes). l ++ more) begins)
+    ∙ ap (λ (p : ℕ). overwritten (after_writes more (overwritten file p before)) 0 header_block) at in
+    let pages = pages_sealed layout plaintexts more contents begun seals one (header_pages layout (contents_at plaintexts) before contents file long are) in
+    subst (IsSealed layout counter contents) (sym all_is) (record {
+      header = subst (λ (n : ℕ). IsHeader layout counter n (overwritten (after_writes more begun) 0 header_block)) (sym len_is) (header_written layout counter len header_block (after_writes more begun) size header);
+      pages = header_pages layout unchanged header_block contents (after_writes more begun) size pages;
     })
 
 -- ---- the headers of a commit
 
-pub starts_commit : (variant : Variant) (first more made all : Writes) (before : List ℕ) (place : ℕ) (sector : List ℕ) → first ≡ (0, before) ∷ [] → made ≡ first ++ more → all ≡ made ++ (place, sector) ∷ []
+pub starts_commit : (variant : Variant) (first more made all : Writes) (before : List ℕ) (place : ℕ) (header_block : List ℕ) → first ≡ (0, before) ∷ [] → made ≡ first ++ more → all ≡ made ++ (place, header_block) ∷ []
     → IsOfCommit (take (head_bytes variant) before) all
-starts_commit variant first more made all before place sector begins long ends =
+starts_commit variant first more made all before place header_block begins long ends =
     inl (
       before,
-      more ++ (place, sector) ∷ [],
-      ends ∙ ap (λ (l : Writes). l ++ (place, sector) ∷ []) (long ∙ ap (λ (l : Writes). l ++ more) begins),
+      more ++ (place, header_block) ∷ [],
+      ends ∙ ap (λ (l : Writes). l ++ (place, header_block) ∷ []) (long ∙ ap (λ (l : Writes). l ++ more) begins),
       take_own (head_bytes variant) before,
     )
 
-pub ends_commit : (variant : Variant) (made all : Writes) (place : ℕ) (sector file : List ℕ) → all ≡ made ++ (place, sector) ∷ [] → place ≡ 0 → length sector ≡ 512
+pub ends_commit : (variant : Variant) (made all : Writes) (place : ℕ) (header_block file : List ℕ) → all ≡ made ++ (place, header_block) ∷ [] → place ≡ 0 → length header_block ≡ 512
     → IsOfCommit (head_of variant (after_writes all file)) all
-ends_commit variant made all place sector file ends zero long =
-    let last : all ≡ made ++ (0, sector) ∷ [] = ends ∙ ap (λ (n : ℕ). made ++ (n, sector) ∷ []) zero in
-    let there : sector ≡ part_at (after_writes all file) 0 512 =
+ends_commit variant made all place header_block file ends zero long =
+    let last : all ≡ made ++ (0, header_block) ∷ [] = ends ∙ ap (λ (n : ℕ). made ++ (n, header_block) ∷ []) zero in
+    let there : header_block ≡ part_at (after_writes all file) 0 512 =
     sym (
-    ap (λ (l : Writes). part_at (after_writes l file) 0 512) last ∙ ap (λ (l : List ℕ). part_at l 0 512) (written_more made 0 sector file)
-    ∙ ap (part_at (overwritten (after_writes made file) 0 sector) 0) (sym long) ∙ put_part (after_writes made file) 0 sector
+    ap (λ (l : Writes). part_at (after_writes l file) 0 512) last ∙ ap (λ (l : List ℕ). part_at l 0 512) (written_more made 0 header_block file)
+    ∙ ap (part_at (overwritten (after_writes made file) 0 header_block) 0) (sym long) ∙ put_part (after_writes made file) 0 header_block
     ) in
-    subst (λ (l : List ℕ). IsOfCommit l all) (head_read variant (after_writes all file) sector there) (inr (sector, made, last, take_own (head_bytes variant) sector))
+    subst (λ (l : List ℕ). IsOfCommit l all) (head_read variant (after_writes all file) header_block there) (inr (header_block, made, last, take_own (head_bytes variant) header_block))

@@ -1,16 +1,16 @@
--- The commitment of a file: a MAC over its header's counter and length, and the tag of each page of its text.
+-- The commitment of a file: a MAC over its header's counter and length, and the tag of each page of its contents.
 use Rattle.std.specs.Prelude.{◌≡◌, ℕ, zero, suc, ◌+◌, ◌-◌, ◌/◌, List, [], ◌++◌, drop, length, replicate}
 use Rattle.std.specs.Int.{to_le_bytes, w64}
 use Rattle.aegis_base.specs.Mac.{mac}
 use Rattle.aegis_base.specs.Variant.{Variant}
 use Rattle.aegis_pages.specs.Headers.{IsHeader}
-use Rattle.aegis_pages.specs.Layouts.{Layout, clear_part, nonce_bytes, page_at}
+use Rattle.aegis_pages.specs.Layouts.{Layout, plaintext_header, nonce_bytes, page_at}
 
--- how many pages a text of so many bytes has: those that begin before its end
+-- how many pages contents of so many bytes have: those that begin before its end
 abbrev pub page_count : (layout : Layout) (len : ℕ) → ℕ
 page_count layout len = (len + (layout.page_bytes - 1)) / layout.page_bytes
 
--- the tag of page k: the last 32 bytes of its box
+-- the tag of page k: the last 32 bytes of its sealed page
 abbrev pub page_tag : (layout : Layout) (file : List ℕ) (k : ℕ) → List ℕ
 page_tag layout file k = drop (length (page_at layout file k) - 32) (page_at layout file k)
 
@@ -20,10 +20,10 @@ page_tags layout file zero = []
 page_tags layout file (suc k) = page_tags layout file k ++ page_tag layout file k
 
 -- the input of the MAC: magic number, variant, page size and id; the counter and the length of the header; and
--- the tags of all pages of the text
+-- the tags of all pages of the contents
 abbrev pub committed : (layout : Layout) (counter len : ℕ) (file : List ℕ) → List ℕ
 committed layout counter len file =
-    clear_part layout
+    plaintext_header layout
     ++ (to_le_bytes w64 counter ++ (to_le_bytes w64 len ++ page_tags layout file (page_count layout len)))
 
 -- the commitment: the MAC of 32 bytes, under the file's key and the nonce of all bytes 255

@@ -4,11 +4,11 @@ use Rattle.aegis_base.specs.Mac.{mac}
 use Rattle.aegis_base.specs.Variant.{Variant, key_length}
 use Rattle.aegis_storage.specs.Bytes.{part_at}
 use Rattle.aegis_storage.specs.Disk.{Disk, Writes, after_writes}
-use Rattle.aegis_storage.specs.Journal.{IsAtRest, IsJournal, IsNoForgery, IsOneOf, KeepsFront, RecoversUnlessForged}
+use Rattle.aegis_storage.specs.Journal.{IsAtRest, IsJournal, IsNoForgery, IsOneOf, KeepsBeginning, RecoversUnlessForged}
 use Rattle.aegis_pages.specs.declared.layout.TheConstants.{JOURNAL_MAGIC}
 use Rattle.aegis_pages.specs.Errors.{HasNoHeader}
 use Rattle.aegis_pages.specs.Headers.{IsHeader}
-use Rattle.aegis_pages.specs.Layouts.{Layout, journal_front}
+use Rattle.aegis_pages.specs.Layouts.{Layout, journal_beginning}
 use Rattle.aegis_pages.specs.SealedPages.{IsFileOf, IsFileUnder}
 
 -- the key of the journals of files under a key: a MAC of 32 bytes of the journals' magic number, under the nonce of all
@@ -27,14 +27,14 @@ head_of variant file = part_at file 0 (head_bytes variant)
 -- the first of the writes, or the last, makes a file begin with these bytes of a header
 abbrev pub IsOfCommit : (head : List ℕ) → Writes → Type 0
 IsOfCommit head writes =
-    ((sector : List ℕ) × (rest : Writes) × (writes ≡ (0, sector) ∷ rest) × (take (length head) sector ≡ head))
-    ⊎ ((sector : List ℕ) × (before : Writes) × (writes ≡ before ++ (0, sector) ∷ []) × (take (length head) sector ≡ head))
+    ((header_block : List ℕ) × (rest : Writes) × (writes ≡ (0, header_block) ∷ rest) × (take (length head) header_block ≡ head))
+    ⊎ ((header_block : List ℕ) × (before : Writes) × (writes ≡ before ++ (0, header_block) ∷ []) × (take (length head) header_block ≡ head))
 
 -- ---- crashes
 
--- Whatever a crash now leaves of the storage and of the journal, unless it leaves a forgery, opening gives the text
--- `before` or the text `now`.
-pub record RecoversTextUnlessForged (variant : Variant) (key before now : List ℕ) (storage journal : Option Disk) : Type 0 where
+-- Whatever a crash now leaves of the storage and of the journal, unless it leaves a forgery, opening gives the contents
+-- `before` or the contents `now`.
+pub record RecoversContentsUnlessForged (variant : Variant) (key before now : List ℕ) (storage journal : Option Disk) : Type 0 where
   pub layout : Layout
   pub file : List ℕ
   pub writes : Writes
@@ -46,16 +46,16 @@ pub record RecoversTextUnlessForged (variant : Variant) (key before now : List �
   -- the writes begin or end with the header of the file, and so they do with the one that they make of it
   pub old_head : IsOfCommit (head_of variant file) writes
   pub new_head : IsOfCommit (head_of variant (after_writes writes file)) writes
-  -- a journal that is longer than its front begins with that of the file
-  pub front : KeepsFront (journal_front layout) journal
+  -- a journal that is longer than its beginning begins with that of the file
+  pub beginning : KeepsBeginning (journal_beginning layout) journal
 
 -- The journal's content is no forgery.
-abbrev pub IsHonest : {variant : Variant} {key before now : List ℕ} {storage journal : Option Disk} → RecoversTextUnlessForged variant key before now storage journal → List ℕ → Type 0
+abbrev pub IsHonest : {variant : Variant} {key before now : List ℕ} {storage journal : Option Disk} → RecoversContentsUnlessForged variant key before now storage journal → List ℕ → Type 0
 IsHonest {variant} {key} batch bytes = IsNoForgery (journal_key variant key) [] batch.writes bytes
 
 -- The header of the storage's content is no forgery: if there is one, it is that of before the commit or of after it.
 -- A torn header that opens all the same would be another.
-abbrev pub HasHonestHeader : {variant : Variant} {key before now : List ℕ} {storage journal : Option Disk} → RecoversTextUnlessForged variant key before now storage journal → List ℕ → Type 0
+abbrev pub HasHonestHeader : {variant : Variant} {key before now : List ℕ} {storage journal : Option Disk} → RecoversContentsUnlessForged variant key before now storage journal → List ℕ → Type 0
 HasHonestHeader {variant} {key} batch bytes = (layout : Layout) (counter len : ℕ) → layout.variant ≡ variant → layout.key ≡ key → IsHeader layout counter len bytes
     → IsOneOf (head_of variant batch.file) (head_of variant (after_writes batch.writes batch.file)) (head_of variant bytes)
 
@@ -63,10 +63,10 @@ HasHonestHeader {variant} {key} batch bytes = (layout : Layout) (counter len : �
 -- and openings that were cut short did since, and no forgery.
 unfoldable pub IsLeftByCommit : Variant → (key : List ℕ) → (bytes content : Option (List ℕ)) → (storage journal : Option Disk) → Type 0
 IsLeftByCommit variant key bytes content storage journal =
-    (before : List ℕ) × (now : List ℕ) × (batch : RecoversTextUnlessForged variant key before now storage journal) × IfSome content (IsHonest batch) × IfSome bytes (HasHonestHeader batch)
+    (before : List ℕ) × (now : List ℕ) × (batch : RecoversContentsUnlessForged variant key before now storage journal) × IfSome content (IsHonest batch) × IfSome bytes (HasHonestHeader batch)
 
--- The storage and the journal are synced, the journal is empty, and the file holds one of the two texts.
-pub record RestsAtText (variant : Variant) (key before now : List ℕ) (storage journal : Option Disk) : Type 0 where
+-- The storage and the journal are synced, the journal is empty, and the file holds one of the two contents.
+pub record RestsAtContents (variant : Variant) (key before now : List ℕ) (storage journal : Option Disk) : Type 0 where
   pub file : List ℕ
   pub rests : IsAtRest storage journal file
   pub one : IsFileOf variant key before file ⊎ IsFileOf variant key now file
@@ -78,15 +78,15 @@ KnownSame (Some xs) new = new ≡ Some xs
 
 -- ---- what a journal is to a file
 
--- the bytes have more than a front, and do not begin with this one
-abbrev pub IsOfAnother : (front bytes : List ℕ) → Type 0
-IsOfAnother front bytes = (33 < length bytes) × (take 33 bytes ≢ front)
+-- the bytes have more than a beginning, and do not begin with this one
+abbrev pub IsOfAnother : (beginning bytes : List ℕ) → Type 0
+IsOfAnother beginning bytes = (33 < length bytes) × (take 33 bytes ≢ beginning)
 
 -- The journal may be made again, or emptied: if it is whole, and the file has a header, its commit began or ended with
--- that one; and if it is not whole the file has a header, and it has no more than a front, or begins with that of the file.
+-- that one; and if it is not whole the file has a header, and it has no more than a beginning, or begins with that of the file.
 pub record Fits (variant : Variant) (key file journal : List ℕ) : Type 0 where
   pub whole : (writes : Writes) → IsJournal (journal_key variant key) [] writes journal
       → (HasNoHeader variant key file → ⊥) → IsOfCommit (head_of variant file) writes
   pub other : ((writes : Writes) → IsJournal (journal_key variant key) [] writes journal → ⊥) → HasNoHeader variant key file → ⊥
   pub own : ((writes : Writes) → IsJournal (journal_key variant key) [] writes journal → ⊥) → (layout : Layout) (counter len : ℕ) → layout.variant ≡ variant → layout.key ≡ key
-      → IsHeader layout counter len file → IsOfAnother (journal_front layout) journal → ⊥
+      → IsHeader layout counter len file → IsOfAnother (journal_beginning layout) journal → ⊥

@@ -3,7 +3,7 @@ use Rattle.std.specs.Prelude.{◌≡◌, ℕ, ◌-◌, ◌*◌, ◌^◌, ◌<◌
 use Rattle.aegis_base.specs.Variant.{Variant}
 use Rattle.aegis_pages.specs.declared.error.PagesError.{PagesError}
 use Rattle.aegis_pages.specs.declared.error.PagesError.TheVariants.{Read, Write, Nonce, Header, Damaged, TooLong, OutOfMemory, PageSize, Commitment, Journal, Broken}
-use Rattle.aegis_pages.specs.declared.layout.TheConstants.{MAX_TEXT_BYTES}
+use Rattle.aegis_pages.specs.declared.layout.TheConstants.{MAX_CONTENTS_BYTES}
 use Rattle.aegis_pages.specs.Commitments.{commitment}
 use Rattle.aegis_pages.specs.Headers.{IsHeader}
 use Rattle.aegis_pages.specs.Layouts.{IsPageSize, Layout}
@@ -39,18 +39,18 @@ IsShowRefusal layout changes number bytes (Read e) = ⊤
 IsShowRefusal layout changes number bytes (Damaged k) = (k ≡ number) × ShowsNothing layout changes number bytes
 IsShowRefusal layout changes number bytes _ = ⊥
 
--- Reading failed, a page that begins before byte `end` of the text shows nothing, or a commit had failed.
+-- Reading failed, a page that begins before byte `end` of the contents shows nothing, or a commit had failed.
 abbrev pub IsReadRefusal : Bool → Layout → Changes → ℕ → Option (List ℕ) → PagesError → Type 0
 IsReadRefusal broken layout changes end bytes (Read e) = ⊤
 IsReadRefusal broken layout changes end bytes (Damaged k) = (k * layout.page_bytes < end) × ShowsNothing layout changes k bytes
 IsReadRefusal broken layout changes end bytes Broken = broken ≡ true
 IsReadRefusal broken layout changes end bytes _ = ⊥
 
--- Reading failed, a page that begins before byte `len` of the text shows nothing, the text would end past its limit, no memory was left, or a commit had failed.
+-- Reading failed, a page that begins before byte `len` of the contents shows nothing, the contents would end past their limit, no memory was left, or a commit had failed.
 abbrev pub IsWriteRefusal : Bool → Layout → Changes → (len end : ℕ) → Option (List ℕ) → PagesError → Type 0
 IsWriteRefusal broken layout changes len end bytes (Read e) = ⊤
 IsWriteRefusal broken layout changes len end bytes (Damaged k) = (k * layout.page_bytes < len) × ShowsNothing layout changes k bytes
-IsWriteRefusal broken layout changes len end bytes TooLong = MAX_TEXT_BYTES < end
+IsWriteRefusal broken layout changes len end bytes TooLong = MAX_CONTENTS_BYTES < end
 IsWriteRefusal broken layout changes len end bytes OutOfMemory = ⊤
 IsWriteRefusal broken layout changes len end bytes Broken = broken ≡ true
 IsWriteRefusal broken layout changes len end bytes _ = ⊥

@@ -1,4 +1,4 @@
--- How a file of sealed pages is laid out: boxes, their associated data and their places.
+-- How a file of sealed pages is laid out: sealed pages, their associated data and their places.
 use Rattle.std.specs.Prelude.{ℕ, ◌+◌, ◌-◌, ◌*◌, ◌≤◌, List, ◌∷◌, ◌++◌, drop, length, take}
 use Rattle.std.specs.Int.{to_le_bytes, w32, w64}
 use Rattle.aegis_base.specs.Variant.{Variant, key_length}
@@ -6,7 +6,7 @@ use Rattle.aegis_base.specs.Message.{Opens}
 use Rattle.aegis_pages.specs.declared.layout.TheConstants.{JOURNAL_MAGIC, MAGIC, MAX_PAGE_BYTES, MIN_PAGE_BYTES}
 use Rattle.aegis_storage.specs.Bytes.{part_at}
 
--- what all boxes of a file are sealed under
+-- what all sealed pages of a file are sealed under
 pub record Layout : Type 0 where
   pub variant : Variant
   pub key : List ℕ
@@ -24,38 +24,38 @@ variant_byte variant = key_length variant.family + variant.lanes
 abbrev pub named : List ℕ → Layout → List ℕ
 named magic layout = magic ++ (variant_byte layout.variant ∷ (to_le_bytes w32 layout.page_bytes ++ layout.id))
 
--- the first 33 bytes of a header, and of the associated data of each box
-unfoldable pub clear_part : Layout → List ℕ
-clear_part layout = named MAGIC layout
+-- the first 33 bytes of a header, and of the associated data of each sealed page
+unfoldable pub plaintext_header : Layout → List ℕ
+plaintext_header layout = named MAGIC layout
 
--- the front of the file's journals, which has another magic number
-unfoldable pub journal_front : Layout → List ℕ
-journal_front layout = named JOURNAL_MAGIC layout
+-- the beginning of the file's journals, which has another magic number
+unfoldable pub journal_beginning : Layout → List ℕ
+journal_beginning layout = named JOURNAL_MAGIC layout
 
--- the associated data of the box of a number
+-- the associated data of the sealed page of a number
 unfoldable pub associated_data : Layout → ℕ → List ℕ
-associated_data layout number = clear_part layout ++ to_le_bytes w64 number
+associated_data layout number = plaintext_header layout ++ to_le_bytes w64 number
 
 -- the length of a nonce, which is that of a key
 abbrev pub nonce_bytes : Layout → ℕ
 nonce_bytes layout = key_length layout.variant.family
 
--- the length of a box whose text has n bytes: a nonce, the ciphertext and a tag of 32 bytes
-abbrev pub box_bytes : Layout → ℕ → ℕ
-box_bytes layout n = n + (nonce_bytes layout + 32)
+-- the length of a sealed page whose contents have n bytes: a nonce, the ciphertext and a tag of 32 bytes
+abbrev pub sealed_bytes : Layout → ℕ → ℕ
+sealed_bytes layout n = n + (nonce_bytes layout + 32)
 
--- the bytes of a box between its nonce and its tag
+-- the bytes of a sealed page between its nonce and its tag
 abbrev pub inner : Layout → List ℕ → List ℕ
 inner layout sealed = take (length sealed - (nonce_bytes layout + 32)) (drop (nonce_bytes layout) sealed)
 
--- the box opens to the text m, under the file's variant, key and id at this number
+-- the sealed page opens to the contents m, under the file's variant, key and id at this number
 pub record OpensAt (layout : Layout) (number : ℕ) (sealed m : List ℕ) : Type 0 where
   pub is : Opens layout.variant 32 layout.key (take (nonce_bytes layout) sealed) (associated_data layout number) (inner layout sealed) (drop (length sealed - 32) sealed) m
 
 -- where page k begins, after the block of the header
 abbrev pub page_place : Layout → ℕ → ℕ
-page_place layout k = 4096 + k * box_bytes layout layout.page_bytes
+page_place layout k = 4096 + k * sealed_bytes layout layout.page_bytes
 
--- the box of page k
+-- the sealed page of page k
 abbrev pub page_at : Layout → List ℕ → ℕ → List ℕ
-page_at layout file k = part_at file (page_place layout k) (box_bytes layout layout.page_bytes)
+page_at layout file k = part_at file (page_place layout k) (sealed_bytes layout layout.page_bytes)

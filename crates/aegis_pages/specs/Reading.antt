@@ -2,7 +2,7 @@
 use Rattle.std.specs.Prelude.{ℕ, ◌≤◌, IfSome, List, Option}
 use Rattle.aegis_base.specs.Variant.{Variant}
 use Rattle.aegis_pages.specs.declared.header.FileHeader.{FileHeader}
-use Rattle.aegis_pages.specs.declared.layout.TheConstants.{MAX_TEXT_BYTES}
+use Rattle.aegis_pages.specs.declared.layout.TheConstants.{MAX_CONTENTS_BYTES}
 use Rattle.aegis_pages.specs.Headers.{IsHeader}
 use Rattle.aegis_pages.specs.Layouts.{IsPageSize, Layout}
 
@@ -13,5 +13,5 @@ layout_of variant key header = record { variant = variant; key = key; page_bytes
 -- A file begins with this header, if its bytes can be read.
 pub record HasHeader (variant : Variant) (key : List ℕ) (header : FileHeader) (file : Option (List ℕ)) : Type 0 where
   pub page_bytes : IsPageSize header.page_bytes
-  pub len : header.len ≤ MAX_TEXT_BYTES
+  pub len : header.len ≤ MAX_CONTENTS_BYTES
   pub is : IfSome file (IsHeader (layout_of variant key header) header.counter header.len)

@@ -2,26 +2,26 @@
 use Rattle.std.specs.Prelude.{◌≡◌, ℕ, ◌*◌, ◌≤◌, List, [], ◌∷◌, Some, ⊤, length}
 use Rattle.std.specs.List.{AllByRecursion}
 use Rattle.aegis_storage.specs.Disk.{Writes}
-use Rattle.aegis_pages.specs.declared.layout.TheConstants.{MAX_TEXT_BYTES}
-use Rattle.aegis_pages.specs.Changed.{Texts, text_at}
-use Rattle.aegis_pages.specs.Layouts.{Layout, OpensAt, box_bytes, page_place}
+use Rattle.aegis_pages.specs.declared.layout.TheConstants.{MAX_CONTENTS_BYTES}
+use Rattle.aegis_pages.specs.Changed.{Plaintexts, contents_at}
+use Rattle.aegis_pages.specs.Layouts.{Layout, OpensAt, sealed_bytes, page_place}
 
--- each text has `size` bytes, and its page begins no later than a text may end
-abbrev pub FitPages : ℕ → Texts → Type 0
-FitPages size texts = AllByRecursion (λ e. (length e.1 ≡ size) × (e.0 * size ≤ MAX_TEXT_BYTES)) texts
+-- each plaintext has `size` bytes, and its page begins no later than contents may end
+abbrev pub FitPages : ℕ → Plaintexts → Type 0
+FitPages size plaintexts = AllByRecursion (λ e. (length e.1 ≡ size) × (e.0 * size ≤ MAX_CONTENTS_BYTES)) plaintexts
 
--- no page has two texts
-abbrev pub HaveOneText : Texts → Type 0
-HaveOneText texts = AllByRecursion (λ e. text_at texts e.0 ≡ Some e.1) texts
+-- no page has two plaintexts
+abbrev pub HaveOnePlaintext : Plaintexts → Type 0
+HaveOnePlaintext plaintexts = AllByRecursion (λ e. contents_at plaintexts e.0 ≡ Some e.1) plaintexts
 
--- the write is that of a page that opens to the text
-pub record IsSealOf (layout : Layout) (number : ℕ) (text : List ℕ) (place : ℕ) (sealed : List ℕ) : Type 0 where
+-- the write is that of a page that opens to the contents
+pub record IsSealOf (layout : Layout) (number : ℕ) (contents : List ℕ) (place : ℕ) (sealed : List ℕ) : Type 0 where
   pub place_is : place ≡ page_place layout number
-  pub size : length sealed ≡ box_bytes layout layout.page_bytes
-  pub opens : OpensAt layout number sealed text
+  pub size : length sealed ≡ sealed_bytes layout layout.page_bytes
+  pub opens : OpensAt layout number sealed contents
 
--- each write is that of the page of a text, in their order
-abbrev pub Seals : Layout → Texts → Writes → Type 0
+-- each write is that of the page of contents, in their order
+abbrev pub Seals : Layout → Plaintexts → Writes → Type 0
 Seals layout [] [] = ⊤
 Seals layout [] (w ∷ ws) = ⊥
 Seals layout (e ∷ es) [] = ⊥

@@ -1,99 +1,99 @@
 //! Pages that were changed and not committed.
 
 ghost use Rattle.std.specs.Prelude.{◌≡◌, ◌≢◌, ◌*◌, ◌≤◌, ◌^◌, IfOk, None, OnOk, Some, false, length, true, ℕ};
-ghost use Rattle.aegis_pages.specs.Changed.{text_at};
+ghost use Rattle.aegis_pages.specs.Changed.{contents_at};
 
-use crate::layout::MAX_TEXT_BYTES;
+use crate::layout::MAX_CONTENTS_BYTES;
 use std::alloc::{AllocError, Allocator};
 use std::collections::BTreeMap;
 use std::marker::Model;
 
-/// The text of a page, which is overwritten when it is dropped.
-pub struct PageText<A: Allocator> {
+/// The contents of a page, which are overwritten when they are dropped.
+pub struct PageContents<A: Allocator> {
     pub bytes: Vec<u8, A>,
 }
 
-impl<A: Allocator> Drop for PageText<A> {
+impl<A: Allocator> Drop for PageContents<A> {
     fn drop(self) {
-        let PageText { mut bytes } = self;
+        let PageContents { mut bytes } = self;
         bytes.fill(0);
     }
 }
 
-/// Returns a text of `size` zeros.
-pub fn empty_text<A: Allocator>(alloc: A, size: usize) -> Result<PageText<A>, AllocError>
+/// Returns `size` zeros.
+pub fn empty_contents<A: Allocator>(alloc: A, size: usize) -> Result<PageContents<A>, AllocError>
     requires { size ≤ 2 ^ 32 }
     ensures { IfOk result (λ page. length page.bytes.items ≡ size) }
 {
-    Ok(PageText {
+    Ok(PageContents {
         bytes: vec![in alloc; 0; size]?,
     })
 }
 
-/// The texts of pages, by the numbers of the pages. Each has `size` bytes.
+/// The contents of pages, by the numbers of the pages. Each has `size` bytes.
 #[derive(Drop)]
 pub struct ChangedPages<A: Allocator> {
     pub size: usize,
-    pub texts: BTreeMap<u64, PageText<A>, A>,
+    pub plaintexts: BTreeMap<u64, PageContents<A>, A>,
 }
 
 impl<A: Allocator> Model for ChangedPages<A> {
-    ghost use Rattle.aegis_pages.specs.Changed.{ChangedTexts, texts_in};
+    ghost use Rattle.aegis_pages.specs.Changed.{ChangedPlaintexts, plaintexts_in};
     ghost use Rattle.aegis_pages.specs.Sealing.{FitPages};
 
-    ghost Value = { ChangedTexts };
+    ghost Value = { ChangedPlaintexts };
 
-    ghost view = { λ c. record { size = c.size; entries = texts_in c.texts } };
+    ghost view = { λ c. record { size = c.size; entries = plaintexts_in c.plaintexts } };
 
-    ghost invariant = { λ c. FitPages c.size (texts_in c.texts) };
+    ghost invariant = { λ c. FitPages c.size (plaintexts_in c.plaintexts) };
 }
 
 impl<A: Allocator + Copy> ChangedPages<A> {
     /// No pages.
     pub fn new(alloc: A, size: usize) -> Self
         ensures size { result.size ≡ size }
-        ensures none { (k : ℕ) → text_at result.entries k ≡ None }
+        ensures none { (k : ℕ) → contents_at result.entries k ≡ None }
     {
         ChangedPages {
             size,
-            texts: BTreeMap::new(alloc),
+            plaintexts: BTreeMap::new(alloc),
         }
     }
 
-    /// Copies the text of a page to `out`, and returns whether there is one.
+    /// Copies the contents of a page to `out`, and returns whether there is one.
     pub fn copy_to(&self, number: u64, out: &mut [u8]) -> bool
         requires { length out.old ≡ self.now.size }
-        ensures copied { result ≡ true → text_at self.now.entries number ≡ Some out.new }
-        ensures absent { result ≡ false → text_at self.now.entries number ≡ None }
+        ensures copied { result ≡ true → contents_at self.now.entries number ≡ Some out.new }
+        ensures absent { result ≡ false → contents_at self.now.entries number ≡ None }
     {
-        match self.texts.get(&number) {
-            Some(text) => {
-                out.copy_from_slice(&text.bytes);
+        match self.plaintexts.get(&number) {
+            Some(contents) => {
+                out.copy_from_slice(&contents.bytes);
                 true
             }
             None => false,
         }
     }
 
-    /// Keeps a copy of `text` for a page.
-    pub fn set(&mut self, alloc: A, number: u64, text: &[u8]) -> Result<(), AllocError>
-        requires size { length text.now ≡ self.old.size }
-        requires within { number * self.old.size ≤ MAX_TEXT_BYTES }
+    /// Keeps a copy of `contents` for a page.
+    pub fn set(&mut self, alloc: A, number: u64, contents: &[u8]) -> Result<(), AllocError>
+        requires size { length contents.now ≡ self.old.size }
+        requires within { number * self.old.size ≤ MAX_CONTENTS_BYTES }
         ensures size { self.new.size ≡ self.old.size }
-        ensures here { OnOk result (text_at self.new.entries number ≡ Some text.now) }
+        ensures here { OnOk result (contents_at self.new.entries number ≡ Some contents.now) }
         ensures others { (k : ℕ) → k ≢ number
-            → text_at self.new.entries k ≡ text_at self.old.entries k }
+            → contents_at self.new.entries k ≡ contents_at self.old.entries k }
     {
-        let bytes = text.to_vec(alloc)?;
-        self.texts.insert(number, PageText { bytes })?;
+        let bytes = contents.to_vec(alloc)?;
+        self.plaintexts.insert(number, PageContents { bytes })?;
         Ok(())
     }
 
     /// Forgets all pages.
     pub fn clear(&mut self)
         ensures size { self.new.size ≡ self.old.size }
-        ensures none { (k : ℕ) → text_at self.new.entries k ≡ None }
+        ensures none { (k : ℕ) → contents_at self.new.entries k ≡ None }
     {
-        self.texts.clear();
+        self.plaintexts.clear();
     }
 }

@@ -8,7 +8,7 @@ ghost use Rattle.aegis_pages.specs.Commitments.{commitment, page_tag};
 ghost use Rattle.aegis_pages.specs.Errors.{IsReadError, IsVerifyRefusal};
 
 use crate::error::PagesError;
-use crate::layout::{FileLayout, MAX_TEXT_BYTES, TAG_BYTES};
+use crate::layout::{FileLayout, MAX_CONTENTS_BYTES, TAG_BYTES};
 use aegis_base::{LaneState, SavedLanes};
 use aegis_engine::{ENDED, same_bytes};
 use aegis_storage::Storage;
@@ -19,7 +19,7 @@ pub fn read_tag<S: Storage, L: LaneState, const KEY_BYTES: usize>(
     layout: &FileLayout<L, KEY_BYTES>,
     number: u64,
 ) -> Result<[u8; TAG_BYTES], PagesError>
-    requires { number * layout.now.page_bytes ≤ MAX_TEXT_BYTES }
+    requires { number * layout.now.page_bytes ≤ MAX_CONTENTS_BYTES }
     ensures tag { IfOk result (λ tag. IfSome (S.bytes storage.now)
         (λ file. tag ≡ page_tag layout.now file number)) }
     ensures refused { IfErr result IsReadError }
@@ -40,30 +40,30 @@ pub fn file_commitment<S: Storage, L: SavedLanes, const KEY_BYTES: usize>(
     counter: u64,
     len: u64,
 ) -> Result<[u8; TAG_BYTES], PagesError>
-    requires { len ≤ MAX_TEXT_BYTES }
+    requires { len ≤ MAX_CONTENTS_BYTES }
     ensures is { IfOk result (λ mac. IfSome (S.bytes storage.now)
         (λ file. mac ≡ commitment layout.now counter len file)) }
     ensures refused { IfErr result IsReadError }
 {
-    // A saved run and no `Mac`: a function that is generic in the key's length would owe a proof that a `Mac` fits in
-    // memory.
-    let mut run = ENDED;
-    run.begin::<L>(layout.key(), &[255; KEY_BYTES], &[]);
-    run.absorb::<L>(&layout.clear());
-    run.absorb::<L>(&counter.to_le_bytes());
-    run.absorb::<L>(&len.to_le_bytes());
+    // A saved context and no `Mac`: a function that is generic in the key's length would owe a proof that a `Mac` fits
+    // in memory.
+    let mut context = ENDED;
+    context.begin::<L>(layout.key(), &[255; KEY_BYTES], &[]);
+    context.absorb::<L>(&layout.plaintext_header());
+    context.absorb::<L>(&counter.to_le_bytes());
+    context.absorb::<L>(&len.to_le_bytes());
     for number in 0..layout.page_count(len) {
         let tag = match read_tag(storage, layout, number) {
             Ok(tag) => tag,
             Err(error) => {
-                run.end();
+                context.end();
                 return Err(error);
             }
         };
-        run.absorb::<L>(&tag);
+        context.absorb::<L>(&tag);
     }
-    let mac = run.mac::<L, TAG_BYTES>();
-    run.end();
+    let mac = context.mac::<L, TAG_BYTES>();
+    context.end();
     Ok(mac)
 }
 
@@ -75,7 +75,7 @@ pub fn verify_commitment<S: Storage, L: SavedLanes, const KEY_BYTES: usize>(
     len: u64,
     expected: &[u8; TAG_BYTES],
 ) -> Result<(), PagesError>
-    requires { len ≤ MAX_TEXT_BYTES }
+    requires { len ≤ MAX_CONTENTS_BYTES }
     ensures is { OnOk result (IfSome (S.bytes storage.now)
         (λ file. expected.now ≡ commitment layout.now counter len file)) }
     ensures refused { IfErr result

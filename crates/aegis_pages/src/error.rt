@@ -21,7 +21,7 @@ pub enum PagesError {
     /// The page of this number is not one that was sealed under the key for this place of this file.
     #[error("page {0} is damaged")]
     Damaged(u64),
-    /// The text would have more than [`crate::MAX_TEXT_BYTES`], or 2^64 commits were made.
+    /// The contents would have more than [`crate::MAX_CONTENTS_BYTES`], or 2^64 commits were made.
     #[error("too long")]
     TooLong,
     /// Memory ran out.

@@ -5,16 +5,16 @@ ghost use Rattle.std.specs.Int.{to_le_bytes, w64};
 ghost use Rattle.aegis_base.specs.Variant.{key_length};
 ghost use Rattle.aegis_storage.specs.Bytes.{part_at};
 ghost use Rattle.aegis_pages.specs.Errors.{HasNoHeader, IsReadError};
-ghost use Rattle.aegis_pages.specs.Headers.{IsSector, header_text};
-ghost use Rattle.aegis_pages.specs.Layouts.{IsPageSize, Layout, OpensAt, box_bytes, nonce_bytes};
+ghost use Rattle.aegis_pages.specs.Headers.{IsHeaderBlock, header_plaintext};
+ghost use Rattle.aegis_pages.specs.Layouts.{IsPageSize, Layout, OpensAt, sealed_bytes, nonce_bytes};
 ghost use Rattle.aegis_pages.specs.Reading.{HasHeader, layout_of};
 
 use crate::error::PagesError;
 use crate::layout::{
-    CLEAR_BYTES, FileLayout, HEADER_NUMBER, HEADER_TEXT_BYTES, MAX_TEXT_BYTES, SECTOR_BYTES,
-    TAG_BYTES,
+    FileLayout, HEADER_BLOCK_BYTES, HEADER_NUMBER, HEADER_PLAINTEXT_BYTES, MAX_CONTENTS_BYTES,
+    PLAINTEXT_HEADER_BYTES, TAG_BYTES,
 };
-use crate::page::open_box;
+use crate::page::open_page_at;
 use aegis_base::LaneState;
 use aegis_storage::Storage;
 use aegis_storage::bytes::array_of;
@@ -22,33 +22,43 @@ use aegis_storage::bytes::array_of;
 /// What a header names.
 #[derive(Clone, Copy)]
 pub struct FileHeader {
-    /// The page size, in bytes of text.
+    /// The page size, in bytes of contents.
     pub page_bytes: u32,
     /// The file's id.
     pub id: [u8; 24],
     /// How many commits were made before it.
     pub counter: u64,
-    /// The length of the text.
+    /// The length of the contents.
     pub len: u64,
 }
 
-/// Returns the sector of a header.
-pub fn header_sector<L: LaneState, const KEY_BYTES: usize>(
+/// Returns the block of a header.
+pub fn header_block<L: LaneState, const KEY_BYTES: usize>(
     layout: &FileLayout<L, KEY_BYTES>,
     nonce: &[u8; KEY_BYTES],
     counter: u64,
     len: u64,
-) -> [u8; SECTOR_BYTES]
-    requires { len ≤ MAX_TEXT_BYTES }
-    ensures header { IsSector layout.now counter len result }
-    ensures nonce { part_at result CLEAR_BYTES (nonce_bytes layout.now) ≡ nonce.now }
+) -> [u8; HEADER_BLOCK_BYTES]
+    requires { len ≤ MAX_CONTENTS_BYTES }
+    ensures header { IsHeaderBlock layout.now counter len result }
+    ensures nonce { part_at result PLAINTEXT_HEADER_BYTES (nonce_bytes layout.now) ≡ nonce.now }
 {
-    let used = CLEAR_BYTES + (HEADER_TEXT_BYTES + (layout.nonce_bytes() + TAG_BYTES));
-    let padding = [0; SECTOR_BYTES];
-    let mut text: [u8; HEADER_TEXT_BYTES] = array_of(&[&counter.to_le_bytes(), &len.to_le_bytes()]);
+    let used = PLAINTEXT_HEADER_BYTES
+        + (HEADER_PLAINTEXT_BYTES + (layout.nonce_bytes() + TAG_BYTES));
+    let padding = [0; HEADER_BLOCK_BYTES];
+    let mut contents: [u8; HEADER_PLAINTEXT_BYTES] = array_of(&[
+        &counter.to_le_bytes(),
+        &len.to_le_bytes(),
+    ]);
     let ad = layout.associated_data(HEADER_NUMBER);
-    let tag = layout.cipher(nonce).encrypt_in_place(&mut text, &ad);
-    array_of(&[&layout.clear(), nonce, &text, &tag, &padding[used..]])
+    let tag = layout.cipher(nonce).encrypt_in_place(&mut contents, &ad);
+    array_of(&[
+        &layout.plaintext_header(),
+        nonce,
+        &contents,
+        &tag,
+        &padding[used..],
+    ])
 }
 
 /// Returns the number that 8 bytes are, the lowest first.
@@ -61,49 +71,50 @@ pub fn number_of(bytes: &[u8]) -> u64
     u64::from_le_bytes(all)
 }
 
-/// Opens the box of a header, and returns its counter and the length of the text, or `None` if it is none of this
-/// layout.
+/// Opens the encrypted part of a header, and returns its counter and the length of the contents, or `None` if it is
+/// none of this layout.
 pub fn open_header<L: LaneState, const KEY_BYTES: usize>(
     layout: &FileLayout<L, KEY_BYTES>,
     sealed: &mut [u8],
 ) -> Option<(u64, u64)>
-    requires { length sealed.old ≡ box_bytes layout.now HEADER_TEXT_BYTES }
+    requires { length sealed.old ≡ sealed_bytes layout.now HEADER_PLAINTEXT_BYTES }
     ensures opened { IfSome result (λ read.
-        OpensAt layout.now HEADER_NUMBER sealed.old (header_text read.0 read.1)) }
-    ensures within { IfSome result (λ read. read.1 ≤ MAX_TEXT_BYTES) }
-    ensures found { (counter len : ℕ) → counter < 2 ^ 64 → len ≤ MAX_TEXT_BYTES
-        → OpensAt layout.now HEADER_NUMBER sealed.old (header_text counter len)
+        OpensAt layout.now HEADER_NUMBER sealed.old (header_plaintext read.0 read.1)) }
+    ensures within { IfSome result (λ read. read.1 ≤ MAX_CONTENTS_BYTES) }
+    ensures found { (counter len : ℕ) → counter < 2 ^ 64 → len ≤ MAX_CONTENTS_BYTES
+        → OpensAt layout.now HEADER_NUMBER sealed.old (header_plaintext counter len)
         → result ≡ Some (counter, len) }
 {
-    if !open_box(layout, HEADER_NUMBER, sealed) {
+    if !open_page_at(layout, HEADER_NUMBER, sealed) {
         return None;
     }
-    let text = &sealed[layout.nonce_bytes()..];
-    let counter = number_of(&text[..8]);
-    let len = number_of(&text[8..16]);
-    if len > MAX_TEXT_BYTES {
+    let contents = &sealed[layout.nonce_bytes()..];
+    let counter = number_of(&contents[..8]);
+    let len = number_of(&contents[8..16]);
+    if len > MAX_CONTENTS_BYTES {
         return None;
     }
     Some((counter, len))
 }
 
-/// Opens a sector, and returns its header, or `None` if it has none that was sealed with this variant and under the
-/// key.
-pub fn open_sector<L: LaneState, const KEY_BYTES: usize>(
+/// Opens a header block, and returns its header, or `None` if it has none that was sealed with this variant and under
+/// the key.
+pub fn open_header_block<L: LaneState, const KEY_BYTES: usize>(
     key: &[u8; KEY_BYTES],
-    sector: &mut [u8],
+    header_block: &mut [u8],
 ) -> Option<FileHeader>
     requires key_bytes { KEY_BYTES ≡ key_length L.VARIANT.family }
-    requires long { length sector.old ≡ SECTOR_BYTES }
+    requires long { length header_block.old ≡ HEADER_BLOCK_BYTES }
     ensures opened { IfSome result (λ header.
-        IsSector (layout_of L.VARIANT key.now header) header.counter header.len sector.old) }
+        IsHeaderBlock (layout_of L.VARIANT key.now header) header.counter header.len
+        header_block.old) }
     ensures found { (layout : Layout) (counter len : ℕ) → layout.variant ≡ L.VARIANT
-        → layout.key ≡ key.now → IsSector layout counter len sector.old → IsSome result }
+        → layout.key ≡ key.now → IsHeaderBlock layout counter len header_block.old → IsSome result }
 {
-    let (clear, rest) = sector.split_at_mut(CLEAR_BYTES);
-    let layout = FileLayout::<L, KEY_BYTES>::read(clear, key)?;
-    let box_bytes = HEADER_TEXT_BYTES + (layout.nonce_bytes() + TAG_BYTES);
-    let (counter, len) = open_header(&layout, &mut rest[..box_bytes])?;
+    let (plaintext, rest) = header_block.split_at_mut(PLAINTEXT_HEADER_BYTES);
+    let layout = FileLayout::<L, KEY_BYTES>::read(plaintext, key)?;
+    let sealed_bytes = HEADER_PLAINTEXT_BYTES + (layout.nonce_bytes() + TAG_BYTES);
+    let (counter, len) = open_header(&layout, &mut rest[..sealed_bytes])?;
     let (page_bytes, id) = layout.size_and_id();
     Some(FileHeader {
         page_bytes,
@@ -113,25 +124,28 @@ pub fn open_sector<L: LaneState, const KEY_BYTES: usize>(
     })
 }
 
-/// Reads the first sector of a file, or returns `None` if the file is shorter. Returns [`PagesError::Read`].
-pub fn read_sector<S: Storage>(storage: &S) -> Result<Option<[u8; SECTOR_BYTES]>, PagesError>
-    ensures read { IfOk result (λ found. IfSome found (λ sector. IfSome (S.bytes storage.now)
-        (λ file. (SECTOR_BYTES ≤ length file) × (sector ≡ part_at file 0 SECTOR_BYTES)))) }
+/// Reads the header block of a file, or returns `None` if the file is shorter. Returns [`PagesError::Read`].
+pub fn read_header_block<S: Storage>(
+    storage: &S,
+) -> Result<Option<[u8; HEADER_BLOCK_BYTES]>, PagesError>
+    ensures read { IfOk result (λ found. IfSome found (λ header_block. IfSome (S.bytes storage.now)
+        (λ file. (HEADER_BLOCK_BYTES ≤ length file)
+        × (header_block ≡ part_at file 0 HEADER_BLOCK_BYTES)))) }
     ensures short { IfOk result (λ found. IfNone found (IfSome (S.bytes storage.now)
-        (λ file. length file < SECTOR_BYTES))) }
+        (λ file. length file < HEADER_BLOCK_BYTES))) }
     ensures refused { IfErr result IsReadError }
 {
     match storage.size() {
         Ok(size) => {
-            if size < SECTOR_BYTES as u64 {
+            if size < HEADER_BLOCK_BYTES as u64 {
                 return Ok(None);
             }
         }
         Err(error) => return Err(PagesError::Read(error)),
     }
-    let mut sector = [0; SECTOR_BYTES];
-    match storage.read_at(0, &mut sector) {
-        Ok(()) => Ok(Some(sector)),
+    let mut header_block = [0; HEADER_BLOCK_BYTES];
+    match storage.read_at(0, &mut header_block) {
+        Ok(()) => Ok(Some(header_block)),
         Err(error) => Err(PagesError::Read(error)),
     }
 }
@@ -149,8 +163,8 @@ pub fn read_header<S: Storage, L: LaneState, const KEY_BYTES: usize>(
         (IfSome (S.bytes storage.now) (HasNoHeader L.VARIANT key.now))) }
     ensures refused { IfErr result IsReadError }
 {
-    let Some(mut sector) = read_sector(storage)? else {
+    let Some(mut header_block) = read_header_block(storage)? else {
         return Ok(None);
     };
-    Ok(open_sector::<L, KEY_BYTES>(key, &mut sector))
+    Ok(open_header_block::<L, KEY_BYTES>(key, &mut header_block))
 }

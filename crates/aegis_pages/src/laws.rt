@@ -7,31 +7,32 @@ ghost use Rattle.aegis_storage.specs.Bytes.{overwritten, part_at};
 ghost use Rattle.aegis_pages.specs.Commitments.{HasOneCommitment, commitment};
 ghost use Rattle.aegis_pages.specs.Headers.{IsHeader};
 ghost use Rattle.aegis_storage.specs.Disk.{Crashed, Disk, certain};
-ghost use Rattle.aegis_pages.specs.Commits.{HasHonestHeader, IsHonest, IsLeftByCommit, RecoversTextUnlessForged};
-ghost use Rattle.aegis_pages.specs.OpenFile.{HasCommitted, HasText, IsStoredAs, IsUnchanged, OpenFile};
+ghost use Rattle.aegis_pages.specs.Commits.{HasHonestHeader, IsHonest, IsLeftByCommit, RecoversContentsUnlessForged};
+ghost use Rattle.aegis_pages.specs.OpenFile.{HasCommitted, HasContents, IsStoredAs, IsUnchanged, OpenFile};
 ghost use Rattle.aegis_pages.specs.Recovery.{RecoversOneUnlessForged};
 
 /// A part that was written is what is read at its place.
 #[tactic(auto, using(aegis_storage::proofs::Overwriting::put_part))]
 pub fn written_is_read()
-    ensures { (text : List ℕ) (at : ℕ) (part : List ℕ)
-        → part_at (overwritten text at part) at (length part) ≡ part }
+    ensures { (contents : List ℕ) (at : ℕ) (part : List ℕ)
+        → part_at (overwritten contents at part) at (length part) ≡ part }
 {}
 
 /// Bytes that a part does not touch are read as before.
 pub fn others_are_kept()
-    ensures before { (text : List ℕ) (at : ℕ) (part : List ℕ) (place count : ℕ)
-        → place + count ≤ at → place + count ≤ length text
-        → part_at (overwritten text at part) place count ≡ part_at text place count }
-    ensures after { (text : List ℕ) (at : ℕ) (part : List ℕ) (place count : ℕ)
-        → at + length part ≤ place → place + count ≤ length text
-        → part_at (overwritten text at part) place count ≡ part_at text place count }
+    ensures before { (contents : List ℕ) (at : ℕ) (part : List ℕ) (place count : ℕ)
+        → place + count ≤ at → place + count ≤ length contents
+        → part_at (overwritten contents at part) place count ≡ part_at contents place count }
+    ensures after { (contents : List ℕ) (at : ℕ) (part : List ℕ) (place count : ℕ)
+        → at + length part ≤ place → place + count ≤ length contents
+        → part_at (overwritten contents at part) place count ≡ part_at contents place count }
 {}
 
-/// A part that is written over a whole text is the text.
+/// A part that is written over all of the contents is the contents.
 #[tactic(auto, using(aegis_storage::proofs::Overwriting::overwritten_whole))]
 pub fn whole_is_written()
-    ensures { (text part : List ℕ) → length text ≤ length part → overwritten text 0 part ≡ part }
+    ensures { (contents part : List ℕ) → length contents ≤ length part
+        → overwritten contents 0 part ≡ part }
 {}
 
 /// A file has one commitment under a variant and a key: that of the file that was opened.
@@ -45,29 +46,31 @@ pub fn opened_has_its_commitment()
         → IfSome file.bytes (HasOneCommitment variant key c) }
 {}
 
-/// A file has as many bytes as its text.
-#[tactic(auto, unfolding(crate::specs::OpenFile::HasText), using(crate::proofs::OpenFileFacts::has_len))]
-pub fn text_has_its_length()
-    ensures { (file : OpenFile) (text : List ℕ) → HasText file text → length text ≡ file.len }
+/// A file has as many bytes as its contents.
+#[tactic(auto, unfolding(crate::specs::OpenFile::HasContents), using(crate::proofs::OpenFileFacts::has_len))]
+pub fn contents_has_its_length()
+    ensures { (file : OpenFile) (contents : List ℕ) → HasContents file contents
+        → length contents ≡ file.len }
 {}
 
-/// Changes in memory leave the text that is committed.
+/// Changes in memory leave the contents that are committed.
 #[tactic(auto, using(crate::proofs::RecoveryFacts::stored_committed))]
 pub fn stored_is_committed()
-    ensures stored { (old new : OpenFile) (text : List ℕ) → IsStoredAs old new
-        → HasCommitted old text → HasCommitted new text }
-    ensures unchanged { (old new : OpenFile) (text : List ℕ) → IsUnchanged old new
-        → HasCommitted old text → HasCommitted new text }
+    ensures stored { (old new : OpenFile) (contents : List ℕ) → IsStoredAs old new
+        → HasCommitted old contents → HasCommitted new contents }
+    ensures unchanged { (old new : OpenFile) (contents : List ℕ) → IsUnchanged old new
+        → HasCommitted old contents → HasCommitted new contents }
 {}
 
-/// A text that is recovered before a crash is recovered after it.
+/// Contents that are recovered before a crash are recovered after it.
 pub fn recovers_after_a_crash()
     ensures { (variant : Variant) (key before now : List ℕ) (storage journal : Option Disk)
         (disk journal_disk : Disk) (ys js : List ℕ)
-        → RecoversTextUnlessForged variant key before now storage journal
+        → RecoversContentsUnlessForged variant key before now storage journal
         → storage ≡ Some disk → journal ≡ Some journal_disk
         → Crashed disk ys → Crashed journal_disk js
-        → RecoversTextUnlessForged variant key before now (Some (certain ys)) (Some (certain js)) }
+        → RecoversContentsUnlessForged variant key before now (Some (certain ys))
+        (Some (certain js)) }
 {}
 
 /// What is recovered, and is no forgery, is left by a commit: so [`crate::Pages::open`] accepts it.
@@ -75,12 +78,12 @@ pub fn recovers_after_a_crash()
 pub fn recovered_is_left_by_a_commit()
     ensures { (variant : Variant) (key before now : List ℕ) (bytes content : Option (List ℕ))
         (storage journal : Option Disk)
-        → (batch : RecoversTextUnlessForged variant key before now storage journal)
+        → (batch : RecoversContentsUnlessForged variant key before now storage journal)
         → IfSome content (IsHonest batch) → IfSome bytes (HasHonestHeader batch)
         → IsLeftByCommit variant key bytes content storage journal }
 {}
 
-/// A committed text is recovered, whatever was to come next.
+/// Committed contents are recovered, whatever was to come next.
 #[tactic(auto, unfolding(crate::specs::Recovery::RecoversUnder), using(crate::proofs::RecoveryFacts::committed_recovers))]
 pub fn committed_recovers()
     ensures { (file : OpenFile) (before now : List ℕ) → HasCommitted file before
@@ -89,8 +92,8 @@ pub fn committed_recovers()
 
 /// What a crash may leave, by its parts, as `open` takes it.
 #[tactic(auto, unfolding(crate::specs::Recovery::RecoversUnder))]
-pub fn recovers_text()
+pub fn recovers_contents()
     ensures { (file : OpenFile) (before now : List ℕ) → RecoversOneUnlessForged file before now
-        → RecoversTextUnlessForged file.layout.variant file.layout.key before now
+        → RecoversContentsUnlessForged file.layout.variant file.layout.key before now
         file.disk file.journal }
 {}

@@ -3,7 +3,7 @@
 ghost use Rattle.std.specs.Prelude.{◌≡◌, ◌+◌, ◌*◌, ◌<◌, ◌≤◌, ◌↔◌, IfSome, IsSome, IsTrue, length, ℕ};
 ghost use Rattle.aegis_base.specs.Variant.{key_length};
 ghost use Rattle.aegis_pages.specs.Commitments.{page_count};
-ghost use Rattle.aegis_pages.specs.Layouts.{IsPageSize, Layout, associated_data, box_bytes, clear_part, journal_front, named, nonce_bytes, page_place, variant_byte};
+ghost use Rattle.aegis_pages.specs.Layouts.{IsPageSize, Layout, associated_data, sealed_bytes, plaintext_header, journal_beginning, named, nonce_bytes, page_place, variant_byte};
 
 use aegis_aes::Row;
 use aegis_base::LaneState;
@@ -11,29 +11,29 @@ use aegis_engine::{Cipher, Once};
 use aegis_storage::bytes::array_of;
 use std::marker::{Model, PhantomData};
 
-/// The least page size, in bytes of text.
+/// The least page size, in bytes of contents.
 pub const MIN_PAGE_BYTES: u32 = 256;
 
-/// The greatest page size, in bytes of text.
+/// The greatest page size, in bytes of contents.
 pub const MAX_PAGE_BYTES: u32 = 65_536;
 
-/// The page size for most uses, in bytes of text: with its nonce of 32 bytes and its tag a page has 4,096.
+/// The page size for most uses, in bytes of contents: with its nonce of 32 bytes and its tag a page has 4,096.
 pub const DEFAULT_PAGE_BYTES: u32 = 4_032;
 
-/// How many bytes a text may have, 2^60.
-pub const MAX_TEXT_BYTES: u64 = 1_152_921_504_606_846_976;
+/// How many bytes contents may have, 2^60.
+pub const MAX_CONTENTS_BYTES: u64 = 1_152_921_504_606_846_976;
 
 /// The length of a tag.
 pub const TAG_BYTES: usize = 32;
 
-/// The length of the sector of the header, with which a file begins.
-pub const SECTOR_BYTES: usize = 512;
+/// The length of the block of the header, with which a file begins.
+pub const HEADER_BLOCK_BYTES: usize = 512;
 
-/// The length of the clear part of a header: a magic number, the variant, the page size and the file's id.
-pub const CLEAR_BYTES: usize = 33;
+/// The length of the plaintext part of a header: a magic number, the variant, the page size and the file's id.
+pub const PLAINTEXT_HEADER_BYTES: usize = 33;
 
-/// The length of the text in a header's box.
-pub const HEADER_TEXT_BYTES: usize = 16;
+/// The length of the plaintext of a header's encrypted part.
+pub const HEADER_PLAINTEXT_BYTES: usize = 16;
 
 /// The number that stands for a header where a page has its own. No page has it.
 pub const HEADER_NUMBER: u64 = 18_446_744_073_709_551_615;
@@ -47,7 +47,7 @@ pub const MAGIC: [u8; 4] = [65, 71, 80, 49];
 /// The first bytes of a journal.
 pub const JOURNAL_MAGIC: [u8; 4] = [65, 71, 80, 74];
 
-/// What all boxes of a file are sealed under. The key is overwritten when it is dropped.
+/// What all sealed pages of a file are sealed under. The key is overwritten when it is dropped.
 pub struct FileLayout<L: LaneState, const KEY_BYTES: usize> {
     key: [u8; KEY_BYTES],
     page_bytes: u32,
@@ -85,7 +85,7 @@ impl<L: LaneState, const KEY_BYTES: usize> Drop for FileLayout<L, KEY_BYTES> {
     }
 }
 
-/// Returns whether a page may have so many bytes of text.
+/// Returns whether a page may have so many bytes of contents.
 pub fn is_page_size(page_bytes: u32) -> bool
     ensures { IsTrue result ↔ IsPageSize page_bytes }
 {
@@ -120,7 +120,7 @@ impl<L: LaneState, const KEY_BYTES: usize> FileLayout<L, KEY_BYTES> {
         }
     }
 
-    /// Returns the page size, in bytes of text.
+    /// Returns the page size, in bytes of contents.
     pub fn page_bytes(&self) -> u32
         ensures value { result ≡ self.now.page_bytes }
         ensures size { IsPageSize result }
@@ -146,7 +146,7 @@ impl<L: LaneState, const KEY_BYTES: usize> FileLayout<L, KEY_BYTES> {
     }
 
     // What names the file, behind a magic number.
-    fn named(&self, magic: &[u8; 4]) -> [u8; CLEAR_BYTES]
+    fn named(&self, magic: &[u8; 4]) -> [u8; PLAINTEXT_HEADER_BYTES]
         ensures { result ≡ named magic.now self.now }
     {
         let page_bytes = self.page_bytes.to_le_bytes();
@@ -154,20 +154,20 @@ impl<L: LaneState, const KEY_BYTES: usize> FileLayout<L, KEY_BYTES> {
         array_of(&[magic, &variant, &page_bytes, &self.id])
     }
 
-    /// Returns the clear part of a header, which is the front of all associated data too.
-    #[tactic(auto, unfolding(crate::specs::Layouts::clear_part))]
-    pub fn clear(&self) -> [u8; CLEAR_BYTES]
-        ensures clear { result ≡ clear_part self.now }
+    /// Returns the plaintext part of a header, which is the beginning of all associated data too.
+    #[tactic(auto, unfolding(crate::specs::Layouts::plaintext_header))]
+    pub fn plaintext_header(&self) -> [u8; PLAINTEXT_HEADER_BYTES]
+        ensures plaintext { result ≡ plaintext_header self.now }
         ensures size { IsPageSize self.now.page_bytes }
     {
         let _page_bytes = &self.page_bytes;
         self.named(&MAGIC)
     }
 
-    /// Returns the front of the file's journals, which names the file.
-    #[tactic(auto, unfolding(crate::specs::Layouts::journal_front))]
-    pub fn journal_front(&self) -> [u8; CLEAR_BYTES]
-        ensures { result ≡ journal_front self.now }
+    /// Returns the beginning of the file's journals, which names the file.
+    #[tactic(auto, unfolding(crate::specs::Layouts::journal_beginning))]
+    pub fn journal_beginning(&self) -> [u8; PLAINTEXT_HEADER_BYTES]
+        ensures { result ≡ journal_beginning self.now }
     {
         self.named(&JOURNAL_MAGIC)
     }
@@ -177,7 +177,7 @@ impl<L: LaneState, const KEY_BYTES: usize> FileLayout<L, KEY_BYTES> {
     pub fn associated_data(&self, number: u64) -> [u8; 41]
         ensures { result ≡ associated_data self.now number }
     {
-        array_of(&[&self.clear(), &number.to_le_bytes()])
+        array_of(&[&self.plaintext_header(), &number.to_le_bytes()])
     }
 
     /// Returns the cipher of a nonce.
@@ -198,13 +198,13 @@ impl<L: LaneState, const KEY_BYTES: usize> FileLayout<L, KEY_BYTES> {
         &self.key
     }
 
-    /// Returns how many pages a text of `len` bytes has.
+    /// Returns how many pages contents of `len` bytes have.
     pub fn page_count(&self, len: u64) -> u64
-        requires { len ≤ MAX_TEXT_BYTES }
+        requires { len ≤ MAX_CONTENTS_BYTES }
         ensures count { result ≡ page_count self.now len }
         ensures within { (k : ℕ) → k < result → k * self.now.page_bytes < len }
         ensures all { (k : ℕ) → k * self.now.page_bytes < len → k < result }
-        ensures few { MIN_PAGE_BYTES * result ≤ MAX_TEXT_BYTES + MAX_PAGE_BYTES }
+        ensures few { MIN_PAGE_BYTES * result ≤ MAX_CONTENTS_BYTES + MAX_PAGE_BYTES }
     {
         let page_bytes = self.page_bytes as u64;
         (len + (page_bytes - 1)) / page_bytes
@@ -212,36 +212,38 @@ impl<L: LaneState, const KEY_BYTES: usize> FileLayout<L, KEY_BYTES> {
 
     /// Returns the place of a page in the file.
     pub fn page_place(&self, number: u64) -> u64
-        requires { number * self.now.page_bytes ≤ MAX_TEXT_BYTES + MAX_PAGE_BYTES }
+        requires { number * self.now.page_bytes ≤ MAX_CONTENTS_BYTES + MAX_PAGE_BYTES }
         ensures place { result ≡ page_place self.now number }
-        ensures within { result ≤ 4096 + 2 * (MAX_TEXT_BYTES + MAX_PAGE_BYTES) }
-        ensures box_bytes { box_bytes self.now self.now.page_bytes ≤ MAX_PAGE_BYTES + 64 }
+        ensures within { result ≤ 4096 + 2 * (MAX_CONTENTS_BYTES + MAX_PAGE_BYTES) }
+        ensures sealed_bytes { sealed_bytes self.now self.now.page_bytes ≤ MAX_PAGE_BYTES + 64 }
     {
-        let box_bytes = self.page_bytes as u64 + (KEY_BYTES as u64 + TAG_BYTES as u64);
-        PAGES_PLACE + number * box_bytes
+        let sealed_bytes = self.page_bytes as u64 + (KEY_BYTES as u64 + TAG_BYTES as u64);
+        PAGES_PLACE + number * sealed_bytes
     }
 
-    /// Returns the layout that the clear part of a header names, for a key, or `None` if it names none of this variant.
-    pub fn read(clear: &[u8], key: &[u8; KEY_BYTES]) -> Option<Self>
+    /// Returns the layout that the plaintext part of a header names, for a key, or `None` if it names none of this
+    /// variant.
+    pub fn read(plaintext: &[u8], key: &[u8; KEY_BYTES]) -> Option<Self>
         requires key_bytes { KEY_BYTES ≡ key_length L.VARIANT.family }
-        requires long { length clear.now ≡ CLEAR_BYTES }
-        ensures clear { IfSome result (λ layout. clear.now ≡ clear_part layout) }
+        requires long { length plaintext.now ≡ PLAINTEXT_HEADER_BYTES }
+        ensures plaintext { IfSome result (λ layout. plaintext.now ≡ plaintext_header layout) }
         ensures variant { IfSome result (λ layout. layout.variant ≡ L.VARIANT) }
         ensures key { IfSome result (λ layout. layout.key ≡ key.now) }
         ensures size { IfSome result (λ layout. IsPageSize layout.page_bytes) }
         ensures found { (layout : Layout) → layout.variant ≡ L.VARIANT
-            → IsPageSize layout.page_bytes → clear.now ≡ clear_part layout → IsSome result }
+            → IsPageSize layout.page_bytes → plaintext.now ≡ plaintext_header layout
+            → IsSome result }
     {
         let mut page_bytes = [0; 4];
-        page_bytes.copy_from_slice(&clear[5..9]);
+        page_bytes.copy_from_slice(&plaintext[5..9]);
         let page_bytes = u32::from_le_bytes(page_bytes);
         if !is_page_size(page_bytes) {
             return None;
         }
         let mut id = [0; 24];
-        id.copy_from_slice(&clear[9..]);
+        id.copy_from_slice(&plaintext[9..]);
         let layout = FileLayout::new(key, page_bytes, &id);
-        if layout.clear()[..] == clear[..] {
+        if layout.plaintext_header()[..] == plaintext[..] {
             Some(layout)
         } else {
             None

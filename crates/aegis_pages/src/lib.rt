@@ -1,4 +1,4 @@
-//! Sealed pages: a text that is read and written at any place, in a file of which each page is sealed by itself, and
+//! Sealed pages: contents that are read and written at any place, in a file of which each page is sealed by itself, and
 //! whose changes are all there after a crash, or none.
 //!
 //! [`SealedPages`] stands over any [`aegis_storage::Storage`], as a vector or a file, and a second one for its journal,
@@ -11,8 +11,8 @@
 //! [`Pages`] is generic in the variant of AEGIS, and [`SealedPages`], for AEGIS-256, and the five other names are
 //! aliases of it.
 //!
-//! A caller that reads and writes by itself seals and opens single pages by [`seal_box`] and [`open_box`], and headers
-//! by [`header_sector`] and [`open_sector`], under a [`FileLayout`].
+//! A caller that reads and writes by itself seals and opens single pages by [`seal_page_at`] and [`open_page_at`], and
+//! headers by [`header_block`] and [`open_header_block`], under a [`FileLayout`].
 #![tactic(auto)]
 
 mod changes;
@@ -31,12 +31,13 @@ mod variants;
 
 pub use draws::Nonces;
 pub use error::PagesError;
-pub use header::{FileHeader, header_sector, open_sector};
+pub use header::{FileHeader, header_block, open_header_block};
 pub use layout::{
-    DEFAULT_PAGE_BYTES, FileLayout, MAX_PAGE_BYTES, MAX_TEXT_BYTES, MIN_PAGE_BYTES, SECTOR_BYTES,
+    DEFAULT_PAGE_BYTES, FileLayout, HEADER_BLOCK_BYTES, MAX_CONTENTS_BYTES, MAX_PAGE_BYTES,
+    MIN_PAGE_BYTES,
 };
 pub use opening::recover_file;
-pub use page::{open_box, seal_box};
+pub use page::{open_page_at, seal_page_at};
 pub use pages::Pages;
 pub use variants::{
     SealedPages, SealedPages128L, SealedPages128X2, SealedPages128X4, SealedPages256X2,

@@ -3,16 +3,16 @@
 ghost use Rattle.std.specs.Prelude.{◌≡◌, ◌≢◌, ◌+◌, ◌≤◌, ◌↔◌, [], Err, IfErr, IfNone, IfOk, IfSome, IsOk, IsSome, IsTrue, List, None, OnOk, Some, length, take, ℕ};
 ghost use Rattle.aegis_base.specs.Variant.{key_length};
 ghost use Rattle.aegis_storage.specs.Pending.{writes_of};
-ghost use Rattle.aegis_pages.specs.Commits.{Fits, IsHonest, IsLeftByCommit, IsOfAnother, IsOfCommit, KnownSame, RecoversTextUnlessForged, RestsAtText, head_bytes, journal_key};
+ghost use Rattle.aegis_pages.specs.Commits.{Fits, IsHonest, IsLeftByCommit, IsOfAnother, IsOfCommit, KnownSame, RecoversContentsUnlessForged, RestsAtContents, head_bytes, journal_key};
 ghost use Rattle.aegis_pages.specs.Errors.{IsLeftAlone, IsOpenRefusal};
-ghost use Rattle.aegis_pages.specs.Layouts.{IsPageSize, journal_front};
+ghost use Rattle.aegis_pages.specs.Layouts.{IsPageSize, journal_beginning};
 ghost use Rattle.aegis_pages.specs.Reading.{HasHeader, layout_of};
 
 use crate::error::PagesError;
-use crate::header::{FileHeader, read_header, read_sector};
+use crate::header::{FileHeader, read_header, read_header_block};
 use crate::layout::{
-    CLEAR_BYTES, FileLayout, HEADER_TEXT_BYTES, JOURNAL_MAGIC, MAX_TEXT_BYTES, SECTOR_BYTES,
-    TAG_BYTES,
+    FileLayout, HEADER_BLOCK_BYTES, HEADER_PLAINTEXT_BYTES, JOURNAL_MAGIC, MAX_CONTENTS_BYTES,
+    PLAINTEXT_HEADER_BYTES, TAG_BYTES,
 };
 use aegis::aegis256::Key;
 use aegis_base::LaneState;
@@ -53,42 +53,44 @@ pub fn is_of_commit<A: Allocator>(head: &[u8], writes: &[PendingWrite<A>]) -> bo
     begins_with(&writes[0], head) || begins_with(&writes[count - 1], head)
 }
 
-/// Returns whether a journal has more than a front, and does not begin with that of this file: it is that of another
-/// one, or no journal. One that has no more is of use to nobody.
-pub fn is_of_another(front: &[u8; CLEAR_BYTES], journal: &[u8]) -> bool
-    ensures { IsTrue result ↔ IsOfAnother front.now journal.now }
+/// Returns whether a journal has more than a beginning, and does not begin with that of this file: it is that of
+/// another one, or no journal. One that has no more is of use to nobody.
+pub fn is_of_another(beginning: &[u8; PLAINTEXT_HEADER_BYTES], journal: &[u8]) -> bool
+    ensures { IsTrue result ↔ IsOfAnother beginning.now journal.now }
 {
-    if journal.len() <= CLEAR_BYTES {
+    if journal.len() <= PLAINTEXT_HEADER_BYTES {
         return false;
     }
-    let (start, _) = journal.split_at(CLEAR_BYTES);
-    start[..] != front[..]
+    let (start, _) = journal.split_at(PLAINTEXT_HEADER_BYTES);
+    start[..] != beginning[..]
 }
 
 /// Returns an error if a journal must not be made again or emptied: [`PagesError::Journal`] if the file has a header
-/// and the journal is whole but of another commit, or does not begin with the front of this file's journals, and
+/// and the journal is whole but of another commit, or does not begin with the beginning of this file's journals, and
 /// [`PagesError::Header`] if the file has no header and the journal is not whole.
 pub fn check_journal<L: LaneState, const KEY_BYTES: usize, A: Allocator + Copy>(
     key: &[u8; KEY_BYTES],
-    sector: Option<[u8; SECTOR_BYTES]>,
+    header_block: Option<[u8; HEADER_BLOCK_BYTES]>,
     header: Option<FileHeader>,
     writes: &Option<Vec<PendingWrite<A>, A>>,
     journal: &[u8],
 ) -> Result<(), PagesError>
     requires key_bytes { KEY_BYTES ≡ key_length L.VARIANT.family }
     requires size { IfSome header (λ header. IsPageSize header.page_bytes) }
-    ensures of_commit { OnOk result (IsSome header → IfSome writes.now (λ writes. IsSome sector
-        × IfSome sector (λ sector. IsOfCommit (take (head_bytes L.VARIANT) sector)
+    ensures of_commit { OnOk result (IsSome header → IfSome writes.now (λ writes.
+        IsSome header_block × IfSome header_block (λ header_block.
+        IsOfCommit (take (head_bytes L.VARIANT) header_block)
         (writes_of writes.items)))) }
     ensures whole { OnOk result (IfNone header (IsSome writes.now)) }
     ensures lost { IfNone header (IsSome writes.now → IsOk result) }
     ensures another { OnOk result (IfSome header (λ header. IfNone writes.now
-        (IsOfAnother (journal_front (layout_of L.VARIANT key.now header)) journal.now → ⊥))) }
+        (IsOfAnother (journal_beginning (layout_of L.VARIANT key.now header)) journal.now → ⊥))) }
     ensures torn { IfSome header (λ header. IfNone writes.now
-        ((IsOfAnother (journal_front (layout_of L.VARIANT key.now header)) journal.now → ⊥)
+        ((IsOfAnother (journal_beginning (layout_of L.VARIANT key.now header)) journal.now → ⊥)
         → IsOk result)) }
-    ensures own { IsSome header → IfSome writes.now (λ writes. IfSome sector (λ sector.
-        IsOfCommit (take (head_bytes L.VARIANT) sector) (writes_of writes.items) → IsOk result)) }
+    ensures own { IsSome header → IfSome writes.now (λ writes. IfSome header_block (λ header_block.
+        IsOfCommit (take (head_bytes L.VARIANT) header_block) (writes_of writes.items)
+        → IsOk result)) }
     ensures alone { IfErr result IsLeftAlone }
     ensures none { result ≡ Err PagesError.Header → header ≡ None }
 {
@@ -99,20 +101,20 @@ pub fn check_journal<L: LaneState, const KEY_BYTES: usize, A: Allocator + Copy>(
         };
     };
     let Some(writes) = writes else {
-        let front = FileLayout::<L, KEY_BYTES>::new(
+        let beginning = FileLayout::<L, KEY_BYTES>::new(
             key,
             header.page_bytes,
             &header.id,
-        ).journal_front();
-        if is_of_another(&front, journal) {
+        ).journal_beginning();
+        if is_of_another(&beginning, journal) {
             return Err(PagesError::Journal);
         }
         return Ok(());
     };
-    match sector {
-        Some(sector) => {
-            let head = CLEAR_BYTES + (HEADER_TEXT_BYTES + (KEY_BYTES + TAG_BYTES));
-            if is_of_commit(&sector[..head], writes) {
+    match header_block {
+        Some(header_block) => {
+            let head = PLAINTEXT_HEADER_BYTES + (HEADER_PLAINTEXT_BYTES + (KEY_BYTES + TAG_BYTES));
+            if is_of_commit(&header_block[..head], writes) {
                 Ok(())
             } else {
                 Err(PagesError::Journal)
@@ -128,7 +130,7 @@ pub fn check_journal<L: LaneState, const KEY_BYTES: usize, A: Allocator + Copy>(
 /// A journal that is whole under this key, and whose commit began or ended with the file's header, byte for byte, is
 /// made again and emptied; so it is also if the file has no header. A torn one is emptied if the file has a header.
 /// Otherwise nothing is changed: the error is [`PagesError::Journal`] for a whole journal of another commit, or one
-/// that does not begin with the front of this file's, and [`PagesError::Header`] if the file has no header and the
+/// that does not begin with the beginning of this file's, and [`PagesError::Header`] if the file has no header and the
 /// journal is not whole. Neither is returned for what a commit and a crash left, unless that is a forgery.
 ///
 /// The others are [`PagesError::Read`], [`PagesError::Write`] and [`PagesError::OutOfMemory`]. Nothing is then lost:
@@ -151,16 +153,16 @@ pub fn recover_file<
     ensures kept { OnOk result (J.bytes journal.old ≡ Some []
         → KnownSame (S.bytes storage.old) (S.bytes storage.new)) }
     ensures recovers { (before now : List ℕ)
-        → (batch : RecoversTextUnlessForged L.VARIANT key.now before now
+        → (batch : RecoversContentsUnlessForged L.VARIANT key.now before now
         (S.disk storage.old) (J.disk journal.old))
         → IfSome (J.bytes journal.old) (IsHonest batch)
-        → RecoversTextUnlessForged L.VARIANT key.now before now
+        → RecoversContentsUnlessForged L.VARIANT key.now before now
         (S.disk storage.new) (J.disk journal.new) }
     ensures rests { OnOk result ((before now : List ℕ)
-        → (batch : RecoversTextUnlessForged L.VARIANT key.now before now
+        → (batch : RecoversContentsUnlessForged L.VARIANT key.now before now
         (S.disk storage.old) (J.disk journal.old))
         → IfSome (J.bytes journal.old) (IsHonest batch)
-        → RestsAtText L.VARIANT key.now before now (S.disk storage.new) (J.disk journal.new)) }
+        → RestsAtContents L.VARIANT key.now before now (S.disk storage.new) (J.disk journal.new)) }
     ensures fits { OnOk result (IfSome (S.bytes storage.old) (λ file.
         IfSome (J.bytes journal.old) (Fits L.VARIANT key.now file))) }
     ensures accepts { IsLeftByCommit L.VARIANT key.now (S.bytes storage.old) (J.bytes journal.old)
@@ -174,13 +176,13 @@ pub fn recover_file<
         Ok(content) => content,
         Err(error) => return Err(PagesError::Read(error)),
     };
-    let sector = read_sector(storage)?;
+    let header_block = read_header_block(storage)?;
     let header = read_header::<S, L, KEY_BYTES>(storage, key)?;
     let journal_key = journal_key::<L, KEY_BYTES>(key);
     let Ok(writes) = journaled_writes(alloc, &journal_key, &[], &content) else {
         return Err(PagesError::OutOfMemory);
     };
-    check_journal::<L, KEY_BYTES, A>(key, sector, header, &writes, &content)?;
+    check_journal::<L, KEY_BYTES, A>(key, header_block, header, &writes, &content)?;
     match recover(alloc, storage, journal, &journal_key, &[]) {
         Ok(()) => {}
         Err(error) => return Err(PagesError::Write(error)),

@@ -1,48 +1,48 @@
-//! Boxes, and the pages that are boxes at their places in a file.
+//! Sealed pages, at their places in a file.
 //!
-//! A box is a nonce, a ciphertext and a tag.
+//! A sealed page is a nonce, a ciphertext and a tag.
 
 ghost use Rattle.std.specs.Prelude.{◌≡◌, ◌+◌, ◌*◌, ◌-◌, ◌≤◌, ◌⊎◌, ◌^◌, IfErr, IfOk, IfSome, List, OnOk, length, take, true, ℕ};
-ghost use Rattle.aegis_pages.specs.Layouts.{OpensAt, box_bytes, inner, nonce_bytes, page_at, page_place};
+ghost use Rattle.aegis_pages.specs.Layouts.{OpensAt, sealed_bytes, inner, nonce_bytes, page_at, page_place};
 ghost use Rattle.aegis_pages.specs.Errors.{IsReadError, IsSealError};
 
 use crate::draws::Nonces;
 use crate::error::PagesError;
-use crate::layout::{FileLayout, MAX_TEXT_BYTES, TAG_BYTES};
+use crate::layout::{FileLayout, MAX_CONTENTS_BYTES, TAG_BYTES};
 use aegis_base::LaneState;
 use aegis_storage::bytes::put;
 use aegis_storage::{PendingWrite, Storage};
 use std::alloc::Allocator;
 
-/// Seals a box in place: its text stands where the ciphertext is to be.
-pub fn seal_box<L: LaneState, const KEY_BYTES: usize>(
+/// Seals a page in place: its contents stand where the ciphertext is to be.
+pub fn seal_page_at<L: LaneState, const KEY_BYTES: usize>(
     layout: &FileLayout<L, KEY_BYTES>,
     number: u64,
     nonce: &[u8; KEY_BYTES],
     sealed: &mut [u8],
 )
-    requires long { box_bytes layout.now 0 ≤ length sealed.old }
+    requires long { sealed_bytes layout.now 0 ≤ length sealed.old }
     requires within { length sealed.old ≤ 2 ^ 32 }
     ensures opens { OpensAt layout.now number sealed.new (inner layout.now sealed.old) }
     ensures nonce { take (nonce_bytes layout.now) sealed.new ≡ nonce.now }
 {
     let nonce_bytes = layout.nonce_bytes();
-    let text_bytes = sealed.len() - (nonce_bytes + TAG_BYTES);
+    let contents_bytes = sealed.len() - (nonce_bytes + TAG_BYTES);
     let (head, rest) = sealed.split_at_mut(nonce_bytes);
-    let (text, end) = rest.split_at_mut(text_bytes);
+    let (contents, end) = rest.split_at_mut(contents_bytes);
     head.copy_from_slice(nonce);
     let ad = layout.associated_data(number);
-    let tag = layout.cipher(nonce).encrypt_in_place(text, &ad);
+    let tag = layout.cipher(nonce).encrypt_in_place(contents, &ad);
     end.copy_from_slice(&tag);
 }
 
-/// Opens a box in place, or erases it: the text then stands where the ciphertext was.
-pub fn open_box<L: LaneState, const KEY_BYTES: usize>(
+/// Opens a sealed page in place, or erases it: the contents then stand where the ciphertext was.
+pub fn open_page_at<L: LaneState, const KEY_BYTES: usize>(
     layout: &FileLayout<L, KEY_BYTES>,
     number: u64,
     sealed: &mut [u8],
 ) -> bool
-    requires long { box_bytes layout.now 0 ≤ length sealed.old }
+    requires long { sealed_bytes layout.now 0 ≤ length sealed.old }
     requires within { length sealed.old ≤ 2 ^ 32 }
     ensures opened { result ≡ true
         → OpensAt layout.now number sealed.old (inner layout.now sealed.new) }
@@ -50,19 +50,19 @@ pub fn open_box<L: LaneState, const KEY_BYTES: usize>(
         → (result ≡ true) × (inner layout.now sealed.new ≡ m) }
 {
     let nonce_bytes = layout.nonce_bytes();
-    let text_bytes = sealed.len() - (nonce_bytes + TAG_BYTES);
+    let contents_bytes = sealed.len() - (nonce_bytes + TAG_BYTES);
     let (head, rest) = sealed.split_at_mut(nonce_bytes);
-    let (text, end) = rest.split_at_mut(text_bytes);
+    let (contents, end) = rest.split_at_mut(contents_bytes);
     let mut nonce = [0; KEY_BYTES];
     nonce.copy_from_slice(head);
     let mut tag = [0; TAG_BYTES];
     tag.copy_from_slice(end);
     let ad = layout.associated_data(number);
-    let opened = layout.cipher(&nonce).decrypt_in_place(text, &tag, &ad);
+    let opened = layout.cipher(&nonce).decrypt_in_place(contents, &tag, &ad);
     opened.is_ok()
 }
 
-/// Reads a page and opens it: its text then stands in the page's box. Returns [`PagesError::Read`] or
+/// Reads a page and opens it: its contents then stand in the sealed page. Returns [`PagesError::Read`] or
 /// [`PagesError::Damaged`].
 pub fn read_page<S: Storage, L: LaneState, const KEY_BYTES: usize>(
     storage: &S,
@@ -70,13 +70,13 @@ pub fn read_page<S: Storage, L: LaneState, const KEY_BYTES: usize>(
     number: u64,
     page: &mut [u8],
 ) -> Result<(), PagesError>
-    requires room { length page.old ≡ box_bytes layout.now layout.now.page_bytes }
-    requires within { number * layout.now.page_bytes ≤ MAX_TEXT_BYTES }
+    requires room { length page.old ≡ sealed_bytes layout.now layout.now.page_bytes }
+    requires within { number * layout.now.page_bytes ≤ MAX_CONTENTS_BYTES }
     ensures opened { OnOk result (IfSome (S.bytes storage.now)
         (λ file. OpensAt layout.now number (page_at layout.now file number)
         (inner layout.now page.new))) }
     ensures whole { OnOk result (IfSome (S.bytes storage.now) (λ file.
-        length (page_at layout.now file number) ≡ box_bytes layout.now layout.now.page_bytes)) }
+        length (page_at layout.now file number) ≡ sealed_bytes layout.now layout.now.page_bytes)) }
     ensures only { OnOk result (IfSome (S.bytes storage.now) (λ file. (m : List ℕ)
         → OpensAt layout.now number (page_at layout.now file number) m
         → inner layout.now page.new ≡ m)) }
@@ -89,46 +89,46 @@ pub fn read_page<S: Storage, L: LaneState, const KEY_BYTES: usize>(
         Ok(()) => {}
         Err(error) => return Err(PagesError::Read(error)),
     }
-    if open_box(layout, number, page) {
+    if open_page_at(layout, number, page) {
         Ok(())
     } else {
         Err(PagesError::Damaged(number))
     }
 }
 
-/// Seals a text into a page's box.
-pub fn seal_text<L: LaneState, const KEY_BYTES: usize>(
+/// Seals contents into a sealed page.
+pub fn seal_contents<L: LaneState, const KEY_BYTES: usize>(
     layout: &FileLayout<L, KEY_BYTES>,
     number: u64,
     nonce: &[u8; KEY_BYTES],
-    text: &[u8],
+    contents: &[u8],
     sealed: &mut [u8],
 )
-    requires text { length text.now ≡ layout.now.page_bytes }
-    requires room { length sealed.old ≡ box_bytes layout.now layout.now.page_bytes }
+    requires contents { length contents.now ≡ layout.now.page_bytes }
+    requires room { length sealed.old ≡ sealed_bytes layout.now layout.now.page_bytes }
     requires within { length sealed.old ≤ 2 ^ 32 }
-    ensures { OpensAt layout.now number sealed.new text.now }
+    ensures { OpensAt layout.now number sealed.new contents.now }
 {
-    put(sealed, layout.nonce_bytes(), text);
-    seal_box(layout, number, nonce, sealed);
+    put(sealed, layout.nonce_bytes(), contents);
+    seal_page_at(layout, number, nonce, sealed);
 }
 
-/// Returns the write of a page: its box, sealed from its text, at its place. Returns [`PagesError::Nonce`] or
-/// [`PagesError::OutOfMemory`].
+/// Returns the write of a page: the page, sealed from its contents, at its place. Returns [`PagesError::Nonce`]
+/// or [`PagesError::OutOfMemory`].
 pub fn sealed_page<N: Nonces, L: LaneState, const KEY_BYTES: usize, A: Allocator + Copy>(
     alloc: A,
     nonces: &mut N,
     layout: &FileLayout<L, KEY_BYTES>,
     number: u64,
-    text: &[u8],
+    contents: &[u8],
 ) -> Result<PendingWrite<A>, PagesError>
-    requires long { length text.now ≡ layout.now.page_bytes }
-    requires within { number * layout.now.page_bytes ≤ MAX_TEXT_BYTES }
+    requires long { length contents.now ≡ layout.now.page_bytes }
+    requires within { number * layout.now.page_bytes ≤ MAX_CONTENTS_BYTES }
     ensures place { IfOk result (λ write. write.place ≡ page_place layout.now number) }
     ensures opens { IfOk result (λ write.
-        OpensAt layout.now number write.bytes.items text.now) }
+        OpensAt layout.now number write.bytes.items contents.now) }
     ensures size { IfOk result (λ write.
-        length write.bytes.items ≡ box_bytes layout.now layout.now.page_bytes) }
+        length write.bytes.items ≡ sealed_bytes layout.now layout.now.page_bytes) }
     ensures refused { IfErr result IsSealError }
 {
     let place = layout.page_place(number);
@@ -138,9 +138,9 @@ pub fn sealed_page<N: Nonces, L: LaneState, const KEY_BYTES: usize, A: Allocator
         Err(error) => return Err(PagesError::Nonce(error)),
     }
     let nonce_bytes = layout.nonce_bytes();
-    let Ok(mut bytes) = vec![in alloc; 0; text.len() + (nonce_bytes + TAG_BYTES)] else {
+    let Ok(mut bytes) = vec![in alloc; 0; contents.len() + (nonce_bytes + TAG_BYTES)] else {
         return Err(PagesError::OutOfMemory);
     };
-    seal_text(layout, number, &nonce, text, &mut bytes);
+    seal_contents(layout, number, &nonce, contents, &mut bytes);
     Ok(PendingWrite { place, bytes })
 }

@@ -1,25 +1,25 @@
-//! A text that is read and written at any place, and committed.
+//! contents that are read and written at any place, and committed.
 
 ghost use Rattle.std.specs.Prelude.{◌≡◌, ◌≢◌, ◌+◌, ◌-◌, ◌<◌, ◌≤◌, ◌^◌, ◌↔◌, [], Err, IfErr, IfOk, IfSome, IsTrue, List, None, OnErr, OnOk, Some, if◌then◌else◌, false, is_ok, length, max, min, replicate, true, ℕ};
 ghost use Rattle.aegis_base.specs.Variant.{Variant, key_length};
 ghost use Rattle.aegis_storage.specs.Bytes.{overwritten, part_at, resized};
 ghost use Rattle.aegis_storage.specs.Disk.{Disk, certain};
-ghost use Rattle.aegis_pages.specs.Changed.{text_at};
+ghost use Rattle.aegis_pages.specs.Changed.{contents_at};
 ghost use Rattle.aegis_pages.specs.Commitments.{commitment};
-ghost use Rattle.aegis_pages.specs.Commits.{Fits, IsHonest, IsLeftByCommit, RecoversTextUnlessForged};
+ghost use Rattle.aegis_pages.specs.Commits.{Fits, IsHonest, IsLeftByCommit, RecoversContentsUnlessForged};
 ghost use Rattle.aegis_pages.specs.Errors.{IsBeginError, IsCommitRefusal, IsCommitmentRefusal, IsCreateRefusal, IsOpenRefusal, IsReadRefusal, IsVerifyRefusal, IsWriteRefusal};
 ghost use Rattle.aegis_pages.specs.Headers.{IsHeader};
 ghost use Rattle.aegis_pages.specs.Layouts.{IsPageSize};
-ghost use Rattle.aegis_pages.specs.OpenFile.{AreCommitted, BreaksOrKeeps, HasCommitted, HasText, IsCertain, IsKnown, IsStoredAs, IsUnchanged, OpensAtOne, Reads};
+ghost use Rattle.aegis_pages.specs.OpenFile.{AreCommitted, BreaksOrKeeps, HasCommitted, HasContents, IsCertain, IsKnown, IsStoredAs, IsUnchanged, OpensAtOne, Reads};
 ghost use Rattle.aegis_pages.specs.Recovery.{RecoversOneUnlessForged};
 ghost use Rattle.aegis_pages.specs.SealedPages.{IsFileOf, KeepsOthers};
 
-use crate::changes::{ChangedPages, PageText, empty_text};
+use crate::changes::{ChangedPages, PageContents, empty_contents};
 use crate::commitment::{file_commitment, verify_commitment};
 use crate::draws::Nonces;
 use crate::error::PagesError;
-use crate::header::read_sector;
-use crate::layout::{FileLayout, MAX_TEXT_BYTES, TAG_BYTES, is_page_size};
+use crate::header::read_header_block;
+use crate::layout::{FileLayout, MAX_CONTENTS_BYTES, TAG_BYTES, is_page_size};
 use crate::opening::{journal_key, recover_file};
 use crate::range::{change_range, read_range};
 use crate::sealing::{sealed_commit, sealed_header};
@@ -30,11 +30,11 @@ use std::io;
 use std::io::ErrorKind;
 use std::marker::Model;
 
-/// A text in sealed pages, over a storage and its journal.
+/// Contents in sealed pages, over a storage and its journal.
 ///
 /// Changes are kept in memory until they are committed: then all of them are there after a crash, or none. Each page
-/// and header that a commit writes takes one nonce, and each commit one prefix. The contracts name the text where the
-/// storage's bytes are known: they and the changes are then the file of a text (`HasText`).
+/// and header that a commit writes takes one nonce, and each commit one prefix. The contracts name the contents where
+/// the storage's bytes are known: they and the changes are then the file of contents (`HasContents`).
 #[derive(Drop)]
 pub struct Pages<L: LaneState, const KEY_BYTES: usize, S: Storage, J: Storage, N, A: Allocator> {
     alloc: A,
@@ -46,7 +46,7 @@ pub struct Pages<L: LaneState, const KEY_BYTES: usize, S: Storage, J: Storage, N
     stored: u64,
     len: u64,
     changes: ChangedPages<A>,
-    page: PageText<A>,
+    page: PageContents<A>,
     is_broken: bool,
 }
 
@@ -54,8 +54,8 @@ impl<L: LaneState, const KEY_BYTES: usize, S: Storage, J: Storage, N, A: Allocat
     for Pages<L, KEY_BYTES, S, J, N, A> {
     ghost use Rattle.std.specs.Prelude.{◌≡◌, ◌≤◌, length};
     ghost use Rattle.aegis_aes.specs.Lanes.{IsLaneCount};
-    ghost use Rattle.aegis_pages.specs.declared.layout.TheConstants.{MAX_TEXT_BYTES};
-    ghost use Rattle.aegis_pages.specs.Layouts.{box_bytes};
+    ghost use Rattle.aegis_pages.specs.declared.layout.TheConstants.{MAX_CONTENTS_BYTES};
+    ghost use Rattle.aegis_pages.specs.Layouts.{sealed_bytes};
     ghost use Rattle.aegis_pages.specs.OpenFile.{OpenFile};
 
     ghost Value = { OpenFile };
@@ -72,10 +72,10 @@ impl<L: LaneState, const KEY_BYTES: usize, S: Storage, J: Storage, N, A: Allocat
       broken = p.is_broken;
     } };
 
-    ghost invariant = { λ p. (length p.page.bytes.items ≡ box_bytes p.layout p.layout.page_bytes)
+    ghost invariant = { λ p. (length p.page.bytes.items ≡ sealed_bytes p.layout p.layout.page_bytes)
         × (p.changes.size ≡ p.layout.page_bytes)
-        × (p.len ≤ MAX_TEXT_BYTES)
-        × (p.stored ≤ MAX_TEXT_BYTES)
+        × (p.len ≤ MAX_CONTENTS_BYTES)
+        × (p.stored ≤ MAX_CONTENTS_BYTES)
         × IsLaneCount p.layout.variant.lanes };
 }
 
@@ -146,7 +146,7 @@ impl<
     N: Nonces + Drop,
     A: Allocator + Copy,
 > Pages<L, KEY_BYTES, S, J, N, A> {
-    /// Makes the storage a file of an empty text, under a key, an id of the file's own and a page size in bytes. What
+    /// Makes the storage a file of empty contents, under a key, an id of the file's own and a page size in bytes. What
     /// it held before is lost. The journal must be empty.
     ///
     /// Returns [`PagesError::PageSize`], [`PagesError::OutOfMemory`], [`PagesError::Journal`] if the journal is not
@@ -169,7 +169,8 @@ impl<
           id = id.now;
         }) }
         ensures empty { IfOk result (λ pages. pages.len ≡ 0) }
-        ensures created { IfOk result (λ pages. IfSome (S.bytes storage) (λ _. HasText pages [])) }
+        ensures created { IfOk result (λ pages.
+            IfSome (S.bytes storage) (λ _. HasContents pages [])) }
         ensures certain { IfOk result (λ pages. IfSome (S.disk storage)
             (λ _. IfSome (J.disk journal) (λ _. HasCommitted pages []))) }
         ensures size { OnOk result (IsPageSize page_bytes) }
@@ -178,7 +179,7 @@ impl<
         if !is_page_size(page_bytes) {
             return Err(PagesError::PageSize);
         }
-        let Ok(page) = empty_text(alloc, page_bytes as usize + (KEY_BYTES + TAG_BYTES)) else {
+        let Ok(page) = empty_contents(alloc, page_bytes as usize + (KEY_BYTES + TAG_BYTES)) else {
             return Err(PagesError::OutOfMemory);
         };
         let layout = FileLayout::new(key, page_bytes, id);
@@ -214,17 +215,17 @@ impl<
             × (pages.layout.key ≡ key.now)) }
         ensures header { IfOk result (λ pages. IfSome pages.bytes
             (IsHeader pages.layout pages.counter pages.stored)) }
-        ensures text { IfOk result (λ pages. J.bytes journal ≡ Some []
-            → IfSome (S.bytes storage) (λ file. (text : List ℕ)
-            → IsFileOf L.VARIANT key.now text file → HasText pages text)) }
+        ensures contents { IfOk result (λ pages. J.bytes journal ≡ Some []
+            → IfSome (S.bytes storage) (λ file. (contents : List ℕ)
+            → IsFileOf L.VARIANT key.now contents file → HasContents pages contents)) }
         ensures recovered { IfOk result (λ pages. (before now : List ℕ)
-            → (batch : RecoversTextUnlessForged L.VARIANT key.now before now
+            → (batch : RecoversContentsUnlessForged L.VARIANT key.now before now
             (S.disk storage) (J.disk journal))
             → IfSome (J.bytes journal) (IsHonest batch)
             → OpensAtOne pages before now) }
-        ensures committed { IfOk result (λ pages. (text : List ℕ)
-            → AreCommitted L.VARIANT key.now (S.disk storage) (J.disk journal) text
-            → HasText pages text × HasCommitted pages text) }
+        ensures committed { IfOk result (λ pages. (contents : List ℕ)
+            → AreCommitted L.VARIANT key.now (S.disk storage) (J.disk journal) contents
+            → HasContents pages contents × HasCommitted pages contents) }
         ensures accepts { IsLeftByCommit L.VARIANT key.now (S.bytes storage) (J.bytes journal)
             (S.disk storage) (J.disk journal)
             → (result ≢ Err PagesError.Journal) × (result ≢ Err PagesError.Header) }
@@ -235,7 +236,7 @@ impl<
         let header = recover_file::<S, J, L, KEY_BYTES, A>(alloc, &mut storage, &mut journal, key)?;
         let layout = FileLayout::new(key, header.page_bytes, &header.id);
         let size = header.page_bytes as usize;
-        let Ok(page) = empty_text(alloc, size + (KEY_BYTES + TAG_BYTES)) else {
+        let Ok(page) = empty_contents(alloc, size + (KEY_BYTES + TAG_BYTES)) else {
             return Err(PagesError::OutOfMemory);
         };
         Ok(Pages {
@@ -253,37 +254,37 @@ impl<
         })
     }
 
-    /// Returns how many bytes the text has.
+    /// Returns how many bytes the contents have.
     pub fn len(&self) -> u64
         ensures { result ≡ self.now.len }
     {
         self.len
     }
 
-    /// Returns whether the text has no byte.
+    /// Returns whether the contents have no byte.
     pub fn is_empty(&self) -> bool
         ensures { IsTrue result ↔ (self.now.len ≡ 0) }
     {
         self.len == 0
     }
 
-    /// Reads the bytes of the text from `at` on until `out` is full or the text ends, and returns how many were read.
-    /// Each is a byte of a page that was changed, or that opens under the key at its number in this file.
+    /// Reads the bytes of the contents from `at` on until `out` is full or the contents end, and returns how many were
+    /// read. Each is a byte of a page that was changed, or that opens under the key at its number in this file.
     ///
     /// Returns [`PagesError::Damaged`] with the number of a page that does not open, [`PagesError::Read`], or
     /// [`PagesError::Broken`]. Every byte of `out` is then zero.
     pub fn read_at(&mut self, at: u64, out: &mut [u8]) -> Result<usize, PagesError>
         ensures unchanged { IsUnchanged self.old self.new }
         ensures read { IfOk result (Reads self.old at (length out.old) out.new) }
-        ensures whole { OnOk result ((text : List ℕ) → HasText self.old text
+        ensures whole { OnOk result ((contents : List ℕ) → HasContents self.old contents
             → at + length out.old ≤ self.old.len
-            → out.new ≡ part_at text at (length out.old)) }
-        ensures written { OnOk result ((text part : List ℕ) → length part ≡ length out.old
-            → HasText self.old (overwritten text at part) → out.new ≡ part) }
+            → out.new ≡ part_at contents at (length out.old)) }
+        ensures written { OnOk result ((contents part : List ℕ) → length part ≡ length out.old
+            → HasContents self.old (overwritten contents at part) → out.new ≡ part) }
         ensures erased { OnErr result (out.new ≡ replicate (length out.old) 0) }
         ensures broken { self.old.broken ≡ true → result ≡ Err PagesError.Broken }
         ensures refused { IfErr result (IsReadRefusal self.old.broken self.old.layout
-            (text_at self.old.changes) self.old.len self.old.bytes) }
+            (contents_at self.old.changes) self.old.len self.old.bytes) }
     {
         if self.is_broken {
             out.fill(0);
@@ -308,8 +309,8 @@ impl<
         Ok(count)
     }
 
-    /// Writes all of `part` over the bytes of the text from `at` on, in memory. What lies past the end is added, and a
-    /// gap is filled with zeros, also if `part` is empty. A page of which some bytes are kept is read first.
+    /// Writes all of `part` over the bytes of the contents from `at` on, in memory. What lies past the end is added,
+    /// and a gap is filled with zeros, also if `part` is empty. A page of which some bytes are kept is read first.
     ///
     /// Returns [`PagesError::Broken`] or [`PagesError::TooLong`] before anything is changed, and otherwise
     /// [`PagesError::Read`], [`PagesError::Damaged`] or [`PagesError::OutOfMemory`]. The length is then as it was, and
@@ -319,20 +320,20 @@ impl<
         ensures stored { IsStoredAs self.old self.new }
         ensures len { self.new.len ≡ (if is_ok result
             then max self.old.len (at + length part.now) else self.old.len) }
-        ensures written { OnOk result ((text : List ℕ) → HasText self.old text
-            → HasText self.new (overwritten text at part.now)) }
+        ensures written { OnOk result ((contents : List ℕ) → HasContents self.old contents
+            → HasContents self.new (overwritten contents at part.now)) }
         ensures others { KeepsOthers self.old.layout.page_bytes (min at self.old.len)
-            (at + length part.now) (text_at self.old.changes) (text_at self.new.changes) }
+            (at + length part.now) (contents_at self.old.changes) (contents_at self.new.changes) }
         ensures broken { self.old.broken ≡ true → result ≡ Err PagesError.Broken }
-        ensures too_long { self.old.broken ≡ false → MAX_TEXT_BYTES < at + length part.now
+        ensures too_long { self.old.broken ≡ false → MAX_CONTENTS_BYTES < at + length part.now
             → result ≡ Err PagesError.TooLong }
         ensures refused { IfErr result (IsWriteRefusal self.old.broken self.old.layout
-            (text_at self.old.changes) self.old.len (at + length part.now) self.old.bytes) }
+            (contents_at self.old.changes) self.old.len (at + length part.now) self.old.bytes) }
     {
         if self.is_broken {
             return Err(PagesError::Broken);
         }
-        if at > MAX_TEXT_BYTES || part.len() as u64 > MAX_TEXT_BYTES - at {
+        if at > MAX_CONTENTS_BYTES || part.len() as u64 > MAX_CONTENTS_BYTES - at {
             return Err(PagesError::TooLong);
         }
         change_range(
@@ -349,21 +350,21 @@ impl<
         Ok(())
     }
 
-    /// Cuts the text off at `len` bytes, or fills it up to `len` with zeros, in memory. The errors, and what they
-    /// leave, are those of `write_at`. A commit leaves the bytes past a new end in the storage, sealed, and its size as
-    /// it was.
+    /// Truncates the contents to `len` bytes, or fills them up to `len` with zeros, in memory. The errors, and what
+    /// they leave, are those of `write_at`. A commit leaves the bytes past a new end in the storage, sealed, and its
+    /// size as it was.
     pub fn set_len(&mut self, len: u64) -> Result<(), PagesError>
         ensures stored { IsStoredAs self.old self.new }
         ensures len { self.new.len ≡ (if is_ok result then len else self.old.len) }
-        ensures resized { OnOk result ((text : List ℕ) → HasText self.old text
-            → HasText self.new (resized text len)) }
+        ensures resized { OnOk result ((contents : List ℕ) → HasContents self.old contents
+            → HasContents self.new (resized contents len)) }
         ensures others { KeepsOthers self.old.layout.page_bytes (min len self.old.len) len
-            (text_at self.old.changes) (text_at self.new.changes) }
+            (contents_at self.old.changes) (contents_at self.new.changes) }
         ensures broken { self.old.broken ≡ true → result ≡ Err PagesError.Broken }
-        ensures too_long { self.old.broken ≡ false → MAX_TEXT_BYTES < len
+        ensures too_long { self.old.broken ≡ false → MAX_CONTENTS_BYTES < len
             → result ≡ Err PagesError.TooLong }
         ensures refused { IfErr result (IsWriteRefusal self.old.broken self.old.layout
-            (text_at self.old.changes) self.old.len len self.old.bytes) }
+            (contents_at self.old.changes) self.old.len len self.old.bytes) }
     {
         if len >= self.len {
             return self.write_at(len, &[]);
@@ -381,17 +382,17 @@ impl<
     ///
     /// Returns [`PagesError::Broken`], [`PagesError::TooLong`], [`PagesError::Read`], [`PagesError::Nonce`] or
     /// [`PagesError::OutOfMemory`] before anything is written. After [`PagesError::Write`] the file is broken: each
-    /// later call returns [`PagesError::Broken`]. Open it again, which gives the text before the changes or the one
+    /// later call returns [`PagesError::Broken`]. Open it again, which gives the contents before the changes or those
     /// after them.
     pub fn commit(&mut self) -> Result<(), PagesError>
         ensures layout { self.new.layout ≡ self.old.layout }
         ensures len { self.new.len ≡ self.old.len }
-        ensures committed { OnOk result ((text : List ℕ) → HasText self.old text
-            → HasText self.new text) }
+        ensures committed { OnOk result ((contents : List ℕ) → HasContents self.old contents
+            → HasContents self.new contents) }
         ensures crash { (before now : List ℕ) → HasCommitted self.old before
-            → HasText self.old now → RecoversOneUnlessForged self.new before now }
+            → HasContents self.old now → RecoversOneUnlessForged self.new before now }
         ensures certain { OnOk result ((before now : List ℕ) → HasCommitted self.old before
-            → HasText self.old now → HasCommitted self.new now) }
+            → HasContents self.old now → HasCommitted self.new now) }
         ensures broken { self.old.broken ≡ true → result ≡ Err PagesError.Broken }
         ensures breaks { IfErr result (BreaksOrKeeps self.old self.new) }
         ensures refused { IfErr result (IsCommitRefusal self.old.broken self.old.counter) }
@@ -400,7 +401,7 @@ impl<
             return Err(PagesError::Broken);
         }
         let counter = next_counter(self.counter)?;
-        let Some(sector) = read_sector(&self.storage)? else {
+        let Some(header_block) = read_header_block(&self.storage)? else {
             return Err(PagesError::Read(io::Error::from(ErrorKind::UnexpectedEof)));
         };
         let writes = sealed_commit(
@@ -408,7 +409,7 @@ impl<
             &mut self.nonces,
             &self.layout,
             &self.changes,
-            &sector,
+            &header_block,
             counter,
             self.len,
         )?;
@@ -423,7 +424,7 @@ impl<
             &mut self.storage,
             &mut self.journal,
             &key,
-            &self.layout.journal_front(),
+            &self.layout.journal_beginning(),
             &prefix,
             &[],
             &writes,
@@ -446,7 +447,7 @@ impl<
     pub fn discard(&mut self)
         ensures stored { IsStoredAs self.old self.new }
         ensures len { self.new.len ≡ self.old.stored }
-        ensures none { (k : ℕ) → text_at self.new.changes k ≡ None }
+        ensures none { (k : ℕ) → contents_at self.new.changes k ≡ None }
     {
         self.changes.clear();
         self.len = self.stored;
@@ -457,9 +458,9 @@ impl<
         ensures bytes { S.bytes result.0 ≡ self.bytes }
         ensures disk { S.disk result.0 ≡ self.disk }
         ensures journal { J.disk result.1 ≡ self.journal }
-        ensures committed { (variant : Variant) (key text : List ℕ)
-            → self.layout.variant ≡ variant → self.layout.key ≡ key → HasCommitted self text
-            → AreCommitted variant key (S.disk result.0) (J.disk result.1) text }
+        ensures committed { (variant : Variant) (key contents : List ℕ)
+            → self.layout.variant ≡ variant → self.layout.key ≡ key → HasCommitted self contents
+            → AreCommitted variant key (S.disk result.0) (J.disk result.1) contents }
     {
         let Pages {
             alloc: _,
@@ -478,9 +479,9 @@ impl<
     }
 
     /// Returns the file's commitment: a MAC of 32 bytes over the counter and the length in the header, and the tag of
-    /// each page of the text, as they were at the last commit. It is taken under the file's key and the nonce of all
-    /// bytes 255, which `N` must never draw. A file whose header or page is an older one has another commitment, unless
-    /// two MACs are equal by chance.
+    /// each page of the contents, as they were at the last commit. It is taken under the file's key and the nonce of
+    /// all bytes 255, which `N` must never draw. A file whose header or page is an older one has another commitment,
+    /// unless two MACs are equal by chance.
     ///
     /// Returns [`PagesError::Read`] if the storage could not be read, or ends before the last page does, or
     /// [`PagesError::Broken`].

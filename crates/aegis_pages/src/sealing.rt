@@ -3,18 +3,18 @@
 ghost use Rattle.std.specs.Prelude.{◌≡◌, ◌≤◌, ◌++◌, IfErr, IfOk, List, OnOk, length, take, ℕ};
 ghost use Rattle.aegis_storage.specs.Disk.{Writes, after_writes};
 ghost use Rattle.aegis_storage.specs.Pending.{writes_of};
-ghost use Rattle.aegis_pages.specs.Changed.{text_at, texts_in};
+ghost use Rattle.aegis_pages.specs.Changed.{contents_at, plaintexts_in};
 ghost use Rattle.aegis_pages.specs.Commits.{IsOfCommit, head_bytes, head_of};
 ghost use Rattle.aegis_pages.specs.Errors.{IsSealError};
-ghost use Rattle.aegis_pages.specs.Headers.{IsSector};
-ghost use Rattle.aegis_pages.specs.Sealing.{FitPages, HaveOneText, Seals};
+ghost use Rattle.aegis_pages.specs.Headers.{IsHeaderBlock};
+ghost use Rattle.aegis_pages.specs.Sealing.{FitPages, HaveOnePlaintext, Seals};
 ghost use Rattle.aegis_pages.specs.SealedPages.{ArePages, IsSealed};
 
-use crate::changes::{ChangedPages, PageText};
+use crate::changes::{ChangedPages, PageContents};
 use crate::draws::Nonces;
 use crate::error::PagesError;
-use crate::header::header_sector;
-use crate::layout::{FileLayout, MAX_TEXT_BYTES, SECTOR_BYTES};
+use crate::header::header_block;
+use crate::layout::{FileLayout, HEADER_BLOCK_BYTES, MAX_CONTENTS_BYTES};
 use crate::page::sealed_page;
 use aegis_base::LaneState;
 use aegis_storage::PendingWrite;
@@ -29,10 +29,10 @@ pub fn sealed_header<N: Nonces, L: LaneState, const KEY_BYTES: usize, A: Allocat
     counter: u64,
     len: u64,
 ) -> Result<PendingWrite<A>, PagesError>
-    requires { len ≤ MAX_TEXT_BYTES }
+    requires { len ≤ MAX_CONTENTS_BYTES }
     ensures place { IfOk result (λ write. write.place ≡ 0) }
     ensures size { IfOk result (λ write. length write.bytes.items ≡ 512) }
-    ensures header { IfOk result (λ write. IsSector layout.now counter len write.bytes.items) }
+    ensures header { IfOk result (λ write. IsHeaderBlock layout.now counter len write.bytes.items) }
     ensures refused { IfErr result IsSealError }
 {
     let mut nonce = [0; KEY_BYTES];
@@ -40,30 +40,30 @@ pub fn sealed_header<N: Nonces, L: LaneState, const KEY_BYTES: usize, A: Allocat
         Ok(()) => {}
         Err(error) => return Err(PagesError::Nonce(error)),
     }
-    let sector = header_sector(layout, &nonce, counter, len);
-    match PendingWrite::new(alloc, 0, &sector) {
+    let header_block = header_block(layout, &nonce, counter, len);
+    match PendingWrite::new(alloc, 0, &header_block) {
         Ok(write) => Ok(write),
         Err(_) => Err(PagesError::OutOfMemory),
     }
 }
 
-/// Adds the writes of pages with these texts. Returns [`PagesError::Nonce`] or [`PagesError::OutOfMemory`].
+/// Adds the writes of pages with these contents. Returns [`PagesError::Nonce`] or [`PagesError::OutOfMemory`].
 pub fn seal_pages<N: Nonces, L: LaneState, const KEY_BYTES: usize, A: Allocator + Copy>(
     alloc: A,
     nonces: &mut N,
     layout: &FileLayout<L, KEY_BYTES>,
-    texts: &BTreeMap<u64, PageText<A>, A>,
+    plaintexts: &BTreeMap<u64, PageContents<A>, A>,
     writes: &mut Vec<PendingWrite<A>, A>,
 ) -> Result<(), PagesError>
-    requires { FitPages layout.now.page_bytes (texts_in texts.now) }
+    requires { FitPages layout.now.page_bytes (plaintexts_in plaintexts.now) }
     ensures seals { OnOk result ((more : Writes)
         × (writes_of writes.new.items ≡ writes_of writes.old.items ++ more)
-        × Seals layout.now (texts_in texts.now) more) }
-    ensures one { OnOk result (HaveOneText (texts_in texts.now)) }
+        × Seals layout.now (plaintexts_in plaintexts.now) more) }
+    ensures one { OnOk result (HaveOnePlaintext (plaintexts_in plaintexts.now)) }
     ensures refused { IfErr result IsSealError }
 {
-    for (number, text) in texts {
-        let write = sealed_page(alloc, nonces, layout, *number, &text.bytes)?;
+    for (number, contents) in plaintexts {
+        let write = sealed_page(alloc, nonces, layout, *number, &contents.bytes)?;
         let Ok(()) = writes.push(write) else {
             return Err(PagesError::OutOfMemory);
         };
@@ -71,38 +71,39 @@ pub fn seal_pages<N: Nonces, L: LaneState, const KEY_BYTES: usize, A: Allocator 
     Ok(())
 }
 
-/// Returns the writes of a commit: that of the sector that the file begins with, which changes nothing but tells of
-/// which file the journal is, those of the changed pages, and that of the next header. Returns [`PagesError::Nonce`] or
-/// [`PagesError::OutOfMemory`].
+/// Returns the writes of a commit: that of the header block that the file begins with, which changes nothing but tells
+/// of which file the journal is, those of the changed pages, and that of the next header. Returns [`PagesError::Nonce`]
+/// or [`PagesError::OutOfMemory`].
 pub fn sealed_commit<N: Nonces, L: LaneState, const KEY_BYTES: usize, A: Allocator + Copy>(
     alloc: A,
     nonces: &mut N,
     layout: &FileLayout<L, KEY_BYTES>,
     changes: &ChangedPages<A>,
-    sector: &[u8; SECTOR_BYTES],
+    header_block: &[u8; HEADER_BLOCK_BYTES],
     counter: u64,
     len: u64,
 ) -> Result<Vec<PendingWrite<A>, A>, PagesError>
     requires size { changes.now.size ≡ layout.now.page_bytes }
-    requires within { len ≤ MAX_TEXT_BYTES }
-    ensures sealed { IfOk result (λ writes. (text file : List ℕ) → length text ≡ len
-        → ArePages layout.now (text_at changes.now.entries) text file
-        → IsSealed layout.now counter text (after_writes (writes_of writes.items) file)) }
+    requires within { len ≤ MAX_CONTENTS_BYTES }
+    ensures sealed { IfOk result (λ writes. (contents file : List ℕ) → length contents ≡ len
+        → ArePages layout.now (contents_at changes.now.entries) contents file
+        → IsSealed layout.now counter contents (after_writes (writes_of writes.items) file)) }
     ensures old_head { IfOk result (λ writes.
-        IsOfCommit (take (head_bytes layout.now.variant) sector.now) (writes_of writes.items)) }
+        IsOfCommit (take (head_bytes layout.now.variant) header_block.now)
+        (writes_of writes.items)) }
     ensures new_head { IfOk result (λ writes. (file : List ℕ)
         → IsOfCommit (head_of layout.now.variant (after_writes (writes_of writes.items) file))
         (writes_of writes.items)) }
     ensures refused { IfErr result IsSealError }
 {
-    let Ok(first) = PendingWrite::new(alloc, 0, sector) else {
+    let Ok(first) = PendingWrite::new(alloc, 0, header_block) else {
         return Err(PagesError::OutOfMemory);
     };
     let mut writes = Vec::new(alloc);
     let Ok(()) = writes.push(first) else {
         return Err(PagesError::OutOfMemory);
     };
-    seal_pages(alloc, nonces, layout, &changes.texts, &mut writes)?;
+    seal_pages(alloc, nonces, layout, &changes.plaintexts, &mut writes)?;
     let header = sealed_header(alloc, nonces, layout, counter, len)?;
     let Ok(()) = writes.push(header) else {
         return Err(PagesError::OutOfMemory);

@@ -36,7 +36,7 @@ same_writes (v ∷ vs) (w ∷ ws) p q same =
 pub records_at : (key context : List ℕ) (writes : Writes) (journal rest prefix stream : List ℕ) (is : IsJournal key context writes journal) → rest ≡ drop 33 journal → prefix ≡ take 24 rest → stream ≡ drop 24 rest
     → AreRecords is.version key prefix context (map place_and_bytes writes) stream
 records_at key context writes journal rest prefix stream is past head end =
-    let inside : rest ≡ is.prefix ++ is.stream = past ∙ ap (drop 33) is.are ∙ drop_at is.front (is.prefix ++ is.stream) 33 is.front_size in
+    let inside : rest ≡ is.prefix ++ is.stream = past ∙ ap (drop 33) is.are ∙ drop_at is.beginning (is.prefix ++ is.stream) 33 is.beginning_size in
     let first : is.prefix ≡ prefix = sym (take_at is.prefix is.stream 24 is.prefix_size) ∙ ap (take 24) (sym inside) ∙ sym head in
     let last : is.stream ≡ stream = sym (drop_at is.prefix is.stream 24 is.prefix_size) ∙ ap (drop 24) (sym inside) ∙ sym end in
     subst (λ (l : List ℕ). AreRecords is.version key prefix context (map place_and_bytes writes) l) last
@@ -51,7 +51,7 @@ one_journal key context vs ws journal p q =
     (one_record_stream (sealed key (take 24 rest) context) (sealed-is key (take 24 rest) context) p.version q.version (map place_and_bytes vs) (map place_and_bytes ws) (drop 24 rest) (drop 24 rest) [] [] a b refl).1
 
 pub length-journal : (key context : List ℕ) (writes : Writes) (journal : List ℕ) → IsJournal key context writes journal → 24 ≤ length journal
-length-journal key context writes journal is = omega (arith, ap length is.are, is.prefix_size, length-append is.front (is.prefix ++ is.stream), length-append is.prefix is.stream)
+length-journal key context writes journal is = omega (arith, ap length is.are, is.prefix_size, length-append is.beginning (is.prefix ++ is.stream), length-append is.prefix is.stream)
 
 pub empty_is_none : (key context : List ℕ) (writes : Writes) → IsJournal key context writes [] → ⊥
 empty_is_none key context writes is = let long : 24 ≤ 0 = length-journal key context writes [] is in omega (arith, long)

@@ -1,6 +1,6 @@
 pub mod Crashing
 pub mod Disks
-pub mod Fronts
+pub mod Beginnings
 pub mod Journals
 pub mod Lists
 pub mod Overwriting

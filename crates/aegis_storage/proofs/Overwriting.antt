@@ -69,14 +69,14 @@ pub put_part : (xs : List ℕ) (at : ℕ) (bs : List ℕ) → part_at (overwritt
 put_part xs at bs =
     ap (take (length bs)) (drop_at (resized xs at) (bs ++ drop (at + length bs) xs) at (length-resized xs at)) ∙ take_at bs (drop (at + length bs) xs) (length bs) refl
 
--- ---- a front that is filled
+-- ---- a beginning that is filled
 
-pub filled_front : (xs : List ℕ) (done bs : List ℕ) (at : ℕ) → take at xs ≡ done → length done ≡ at → take (at + length bs) (overwritten xs at bs) ≡ done ++ bs
-filled_front xs done bs at is long =
+pub filled_beginning : (xs : List ℕ) (done bs : List ℕ) (at : ℕ) → take at xs ≡ done → length done ≡ at → take (at + length bs) (overwritten xs at bs) ≡ done ++ bs
+filled_beginning xs done bs at is long =
     let full : at ≤ length xs = omega (arith, long, ap length is, length-take at xs) in
     let none : at - length xs ≡ 0 = omega (arith, full) in
-    let front : resized xs at ≡ done = ap (λ (n : ℕ). take at xs ++ replicate n 0) none ∙ append-nil (take at xs) ∙ is in
-    ap (λ (l : List ℕ). take (at + length bs) (l ++ (bs ++ drop (at + length bs) xs))) front
+    let beginning : resized xs at ≡ done = ap (λ (n : ℕ). take at xs ++ replicate n 0) none ∙ append-nil (take at xs) ∙ is in
+    ap (λ (l : List ℕ). take (at + length bs) (l ++ (bs ++ drop (at + length bs) xs))) beginning
     ∙ ap (take (at + length bs)) (sym (append_assoc done bs (drop (at + length bs) xs)))
     ∙ take_at (done ++ bs) (drop (at + length bs) xs) (at + length bs) (omega (arith, long, length-append done bs))
 

@@ -17,21 +17,21 @@ abbrev pub AreWithin : Writes → Type 0
 AreWithin writes = AllByRecursion (λ write. write.0 + length write.1 ≤ MAX_STORAGE_BYTES) writes
 
 -- the journal of writes that `commit` makes
-abbrev pub journal_of : (key front prefix context : List ℕ) → Writes → List ℕ
-journal_of key front prefix context writes = front ++ (prefix ++ records Second key prefix context (map place_and_bytes writes))
+abbrev pub journal_of : (key beginning prefix context : List ℕ) → Writes → List ℕ
+journal_of key beginning prefix context writes = beginning ++ (prefix ++ records Second key prefix context (map place_and_bytes writes))
 
--- The bytes are a journal of these writes: a front, a prefix, and a whole stream under the prefix, the key and the
+-- The bytes are a journal of these writes: a beginning, a prefix, and a whole stream under the prefix, the key and the
 -- context.
 pub record IsJournal (key context : List ℕ) (writes : Writes) (bytes : List ℕ) : Type 0 where
-  pub front : List ℕ
+  pub beginning : List ℕ
   pub prefix : List ℕ
   pub stream : List ℕ
   pub version : Version
-  pub front_size : length front ≡ 33
+  pub beginning_size : length beginning ≡ 33
   pub prefix_size : length prefix ≡ 24
   pub within : AreWithin writes
   pub records : AreRecords version key prefix context (map place_and_bytes writes) stream
-  pub are : bytes ≡ front ++ (prefix ++ stream)
+  pub are : bytes ≡ beginning ++ (prefix ++ stream)
 
 -- Recovery of a storage that holds `old`, by what the journal holds, gives `new`.
 pub record IsRecovered (key context journal old new : List ℕ) : Type 0 where
@@ -70,16 +70,16 @@ pub record RecoversUnlessForged (key context xs : List ℕ) (writes : Writes) (s
   pub gives : (ys js : List ℕ) → Crashed storage_disk ys → Crashed journal_disk js → IsNoForgery key context writes js
       → GivesOneOf key context xs (after_writes writes xs) js ys
 
--- the bytes are no longer than a front, or begin with this one
-abbrev pub HasFront : (front bytes : List ℕ) → Type 0
-HasFront front bytes = (length bytes ≤ 33) ⊎ (take 33 bytes ≡ front)
+-- the bytes are no longer than a beginning, or begin with this one
+abbrev pub HasBeginning : (beginning bytes : List ℕ) → Type 0
+HasBeginning beginning bytes = (length bytes ≤ 33) ⊎ (take 33 bytes ≡ beginning)
 
--- Whatever a crash now leaves of the journal, it is no longer than a front, or begins with this one: so a journal that
--- has more than a front is known by it, also if it is torn.
-pub record KeepsFront (front : List ℕ) (journal : Option Disk) : Type 0 where
+-- Whatever a crash now leaves of the journal, it is no longer than a beginning, or begins with this one: so a journal
+-- that has more than a beginning is known by it, also if it is torn.
+pub record KeepsBeginning (beginning : List ℕ) (journal : Option Disk) : Type 0 where
   pub disk : Disk
   pub is : journal ≡ Some disk
-  pub has : (js : List ℕ) → Crashed disk js → HasFront front js
+  pub has : (js : List ℕ) → Crashed disk js → HasBeginning beginning js
 
 -- The storage holds xs and the journal is empty, and both are certain.
 pub record IsAtRest (storage journal : Option Disk) (xs : List ℕ) : Type 0 where

@@ -2,11 +2,11 @@
 
 ghost use Rattle.std.specs.Prelude.{◌≡◌, ◌<◌, ◌≤◌, [], IfSome, List, OnOk, Some, length, ℕ};
 ghost use Rattle.aegis_storage.specs.Disk.{WritesAll, certain};
-ghost use Rattle.aegis_storage.specs.Journal.{IsAtRest, KeepsFront, RecoversUnlessForged, RestsWritten};
+ghost use Rattle.aegis_storage.specs.Journal.{IsAtRest, KeepsBeginning, RecoversUnlessForged, RestsWritten};
 ghost use Rattle.aegis_storage.specs.Pending.{writes_of};
 
 use crate::calls::{empty, write_and_sync, write_journal};
-use crate::journal::{FRONT_BYTES, PREFIX_BYTES, journal_bytes};
+use crate::journal::{BEGINNING_BYTES, PREFIX_BYTES, journal_bytes};
 use crate::pending::PendingWrite;
 use crate::store::Storage;
 use aegis::aegis256::Key;
@@ -18,25 +18,25 @@ use std::io::ErrorKind;
 /// Makes the writes, the first of them first, so that after a crash [`crate::recover`] makes all of them or none.
 ///
 /// The storage and the journal must be at rest: all that they hold is synced, and the journal is empty, as `commit` and
-/// `recover` leave them with `Ok`. The writes are sealed into the journal, of which the front is written and synced
+/// `recover` leave them with `Ok`. The writes are sealed into the journal, of which the beginning is written and synced
 /// first, and then the rest; then they are made and synced, and then the journal is emptied and synced. With no writes
 /// nothing is called.
 ///
 /// Under one key a prefix must be used for one journal only. The context names the storage; it has at most
-/// [`MAX_CONTEXT_BYTES`]. The front is what the journal begins with, in the clear. Whatever a crash leaves, a journal
-/// with more than [`FRONT_BYTES`] begins with it.
+/// [`MAX_CONTEXT_BYTES`]. The beginning is what the journal begins with, in plaintext. Whatever a crash leaves, a
+/// journal with more than [`BEGINNING_BYTES`] begins with it.
 ///
 /// After an error, call `recover` before anything else. The error is that of a call, or `AlreadyExists` if the journal
 /// is not empty, which changes nothing, or `InvalidInput` if a write has more than
 /// [`aegis::record::MAX_MESSAGE_BYTES`] less 8 bytes or the journal would be longer than a record stream may be, or
 /// `OutOfMemory`. Memory is taken for a journal three times over.
-#[tactic(auto, using(crate::proofs::Fronts::empty_front, crate::proofs::Journals::at_rest_recovers))]
+#[tactic(auto, using(crate::proofs::Beginnings::empty_beginning, crate::proofs::Journals::at_rest_recovers))]
 pub fn commit<S: Storage, J: Storage, A: Allocator + Copy>(
     alloc: A,
     storage: &mut S,
     journal: &mut J,
     key: &Key,
-    front: &[u8; FRONT_BYTES],
+    beginning: &[u8; BEGINNING_BYTES],
     prefix: &[u8; PREFIX_BYTES],
     context: &[u8],
     writes: &[PendingWrite<A>],
@@ -49,8 +49,8 @@ pub fn commit<S: Storage, J: Storage, A: Allocator + Copy>(
     ensures recovers { (xs : List ℕ) → IsAtRest (S.disk storage.old) (J.disk journal.old) xs
         → RecoversUnlessForged key.now context.now xs (writes_of writes.now)
         (S.disk storage.new) (J.disk journal.new) }
-    ensures front { J.disk journal.old ≡ Some (certain [])
-        → KeepsFront front.now (J.disk journal.new) }
+    ensures beginning { J.disk journal.old ≡ Some (certain [])
+        → KeepsBeginning beginning.now (J.disk journal.new) }
     ensures at_rest { OnOk result ((xs : List ℕ)
         → IsAtRest (S.disk storage.old) (J.disk journal.old) xs
         → RestsWritten (S.disk storage.new) (J.disk journal.new) xs (writes_of writes.now)) }
@@ -61,7 +61,7 @@ pub fn commit<S: Storage, J: Storage, A: Allocator + Copy>(
     if journal.size()? != 0 {
         return Err(io::Error::from(ErrorKind::AlreadyExists));
     }
-    let content = journal_bytes(alloc, key, front, prefix, context, writes)?;
+    let content = journal_bytes(alloc, key, beginning, prefix, context, writes)?;
     write_journal(journal, &content)?;
     write_and_sync(storage, writes)?;
     empty(journal)

@@ -3,10 +3,10 @@
 ghost use Rattle.std.specs.Prelude.{◌≡◌, ◌+◌, ◌≤◌, ◌∷◌, ◌++◌, [], IfOk, IfSome, List, None, OnErr, OnOk, Option, Some, length, take, ℕ};
 ghost use Rattle.aegis_storage.specs.Bytes.{ResizesTo};
 ghost use Rattle.aegis_storage.specs.Disk.{Adds, Size, Write, WritesAll, after_writes, certain, changes};
-ghost use Rattle.aegis_storage.specs.Journal.{KeepsFront};
+ghost use Rattle.aegis_storage.specs.Journal.{KeepsBeginning};
 ghost use Rattle.aegis_storage.specs.Pending.{writes_of};
 
-use crate::journal::FRONT_BYTES;
+use crate::journal::BEGINNING_BYTES;
 use crate::pending::PendingWrite;
 use crate::store::{MAX_STORAGE_BYTES, Storage};
 use std::alloc::Allocator;
@@ -71,18 +71,18 @@ fn append<J: Storage>(journal: &mut J, at: u64, part: &[u8]) -> io::Result<()>
     journal.sync()
 }
 
-/// Writes a journal, first its front, which is synced, and then the rest, and syncs that.
+/// Writes a journal, first its beginning, which is synced, and then the rest, and syncs that.
 pub fn write_journal<J: Storage>(journal: &mut J, content: &[u8]) -> io::Result<()>
-    requires front { FRONT_BYTES ≤ length content.now }
+    requires beginning { BEGINNING_BYTES ≤ length content.now }
     requires within { length content.now ≤ MAX_STORAGE_BYTES }
     ensures torn { J.disk journal.old ≡ Some (certain [])
-        → KeepsFront (take FRONT_BYTES content.now) (J.disk journal.new) }
+        → KeepsBeginning (take BEGINNING_BYTES content.now) (J.disk journal.new) }
     ensures certain { OnOk result (J.disk journal.old ≡ Some (certain [])
         → J.disk journal.new ≡ Some (certain content.now)) }
 {
-    let (front, rest) = content.split_at(FRONT_BYTES);
-    append(journal, 0, front)?;
-    append(journal, FRONT_BYTES as u64, rest)
+    let (beginning, rest) = content.split_at(BEGINNING_BYTES);
+    append(journal, 0, beginning)?;
+    append(journal, BEGINNING_BYTES as u64, rest)
 }
 
 /// Empties the journal, and syncs that.

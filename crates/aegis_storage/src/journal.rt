@@ -1,5 +1,5 @@
-//! The bytes of a journal: a front of the caller's, 24 bytes of a prefix, and a record stream with a record for each
-//! write.
+//! The bytes of a journal: a beginning of the caller's, 24 bytes of a prefix, and a record stream with a record for
+//! each write.
 
 ghost use Rattle.std.specs.Prelude.{◌≡◌, ◌≢◌, ◌+◌, ◌<◌, ◌≤◌, IfNone, IfOk, IfSome, List, length, map, vec_items, ℕ};
 ghost use Rattle.aegis.specs.RecordStream as stream;
@@ -19,9 +19,9 @@ use std::alloc::{AllocError, Allocator};
 use std::io;
 use std::io::ErrorKind;
 
-/// How many bytes the front has, with which a journal begins. It is the caller's, and in the clear, so that a journal
-/// can be told from that of another storage also if it is torn.
-pub const FRONT_BYTES: usize = 33;
+/// How many bytes the beginning has, with which a journal begins. It is the caller's, and in plaintext, so that a
+/// journal can be told from that of another storage also if it is torn.
+pub const BEGINNING_BYTES: usize = 33;
 
 /// How many bytes the prefix has, which comes next.
 pub const PREFIX_BYTES: usize = 24;
@@ -67,7 +67,7 @@ fn messages_of<A: Allocator + Copy>(
 pub fn journal_bytes<A: Allocator + Copy>(
     alloc: A,
     key: &Key,
-    front: &[u8; FRONT_BYTES],
+    beginning: &[u8; BEGINNING_BYTES],
     prefix: &[u8; PREFIX_BYTES],
     context: &[u8],
     writes: &[PendingWrite<A>],
@@ -75,7 +75,7 @@ pub fn journal_bytes<A: Allocator + Copy>(
     requires some { 0 < length writes.now }
     requires context_within { length context.now ≤ MAX_CONTEXT_BYTES }
     ensures journal { IfOk result (λ made. made.items
-        ≡ journal_of key.now front.now prefix.now context.now (writes_of writes.now)) }
+        ≡ journal_of key.now beginning.now prefix.now context.now (writes_of writes.now)) }
     ensures whole { IfOk result
         (λ made. IsJournal key.now context.now (writes_of writes.now) made.items) }
     ensures size { IfOk result (λ made. length made.items ≤ MAX_STORAGE_BYTES) }
@@ -89,7 +89,7 @@ pub fn journal_bytes<A: Allocator + Copy>(
         return Err(io::Error::from(ErrorKind::OutOfMemory));
     };
     let mut journal = Vec::new(alloc);
-    journal.extend_from_slice(front)?;
+    journal.extend_from_slice(beginning)?;
     journal.extend_from_slice(prefix)?;
     journal.extend_from_slice(&stream)?;
     Ok(journal)
@@ -151,10 +151,10 @@ pub fn journaled_writes<A: Allocator + Copy>(
     ensures none { IfOk result (λ found. IfNone found ((writes : Writes)
         → IsJournal key.now context.now writes journal.now → ⊥)) }
 {
-    if journal.len() < FRONT_BYTES + PREFIX_BYTES {
+    if journal.len() < BEGINNING_BYTES + PREFIX_BYTES {
         return Ok(None);
     }
-    let (_front, rest) = journal.split_at(FRONT_BYTES);
+    let (_beginning, rest) = journal.split_at(BEGINNING_BYTES);
     let (head, stream) = rest.split_at(PREFIX_BYTES);
     let mut prefix = [0; PREFIX_BYTES];
     prefix.copy_from_slice(head);

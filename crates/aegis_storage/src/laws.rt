@@ -3,7 +3,7 @@
 
 ghost use Rattle.std.specs.Prelude.{◌≡◌, List, Option, Some, ℕ};
 ghost use Rattle.aegis_storage.specs.Disk.{AreParts, Change, Crashed, Disk, Writes, applied, certain, changes, after_writes};
-ghost use Rattle.aegis_storage.specs.Journal.{IsAtRest, KeepsFront, RecoversUnlessForged};
+ghost use Rattle.aegis_storage.specs.Journal.{IsAtRest, KeepsBeginning, RecoversUnlessForged};
 
 /// After any parts of writes, in any order, all of the writes give what they give without these.
 #[tactic(auto, using(crate::proofs::Crashing::written_again))]
@@ -26,11 +26,12 @@ pub fn recovers_at_rest()
         → IsAtRest storage journal xs → RecoversUnlessForged key context xs writes storage journal }
 {}
 
-/// What keeps its front before a crash does so after it.
-#[tactic(auto, using(crate::proofs::Fronts::crashed_front))]
-pub fn front_after_a_crash()
-    ensures { (front : List ℕ) (journal : Disk) (js : List ℕ) → KeepsFront front (Some journal)
-        → Crashed journal js → KeepsFront front (Some (certain js)) }
+/// What keeps its beginning before a crash does so after it.
+#[tactic(auto, using(crate::proofs::Beginnings::crashed_beginning))]
+pub fn beginning_after_a_crash()
+    ensures { (beginning : List ℕ) (journal : Disk) (js : List ℕ)
+        → KeepsBeginning beginning (Some journal)
+        → Crashed journal js → KeepsBeginning beginning (Some (certain js)) }
 {}
 
 /// What recovers before a crash does so after it.

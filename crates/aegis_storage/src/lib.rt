@@ -13,7 +13,7 @@
 //! let mut writes = Vec::new(alloc);
 //! writes.push(PendingWrite::new(alloc, 0, b"both of these")?)?;
 //! writes.push(PendingWrite::new(alloc, 100, b"or none")?)?;
-//! commit(alloc, &mut storage, &mut journal, &key, &front, &prefix, b"accounts", &writes)?;
+//! commit(alloc, &mut storage, &mut journal, &key, &beginning, &prefix, b"accounts", &writes)?;
 //! ```
 #![tactic(auto)]
 
@@ -28,7 +28,7 @@ mod store;
 
 pub use atomic::commit;
 pub use calls::read_all;
-pub use journal::{FRONT_BYTES, PREFIX_BYTES, journaled_writes};
+pub use journal::{BEGINNING_BYTES, PREFIX_BYTES, journaled_writes};
 pub use pending::PendingWrite;
 pub use recovery::recover;
 pub use store::{MAX_STORAGE_BYTES, NoJournal, Storage};

@@ -3,7 +3,7 @@
 ghost use Rattle.std.specs.Prelude.{◌≡◌, ◌≤◌, IfSome, List, OnOk, Some, length, ℕ};
 ghost use Rattle.aegis_storage.specs.Calls.{GivesFrom, IsRedone};
 ghost use Rattle.aegis_storage.specs.Disk.{Writes, certain};
-ghost use Rattle.aegis_storage.specs.Journal.{GivesOneOf, IsNoForgery, KeepsFront, RecoversUnlessForged, RecoversKnown, RestsAtEither};
+ghost use Rattle.aegis_storage.specs.Journal.{GivesOneOf, IsNoForgery, KeepsBeginning, RecoversUnlessForged, RecoversKnown, RestsAtEither};
 
 use crate::calls::{empty, read_all, write_and_sync};
 use crate::journal::journaled_writes;
@@ -45,7 +45,7 @@ fn redo<S: Storage, A: Allocator + Copy>(
 ///
 /// With `Ok` both are at rest. After an error, which is that of a call or `OutOfMemory`, nothing is lost: call it
 /// again. Memory is taken for the journal, whatever it holds, and for its writes.
-#[tactic(auto, using(crate::proofs::Fronts::front_synced, crate::proofs::Journals::synced_recovers, crate::proofs::Disks::none_made))]
+#[tactic(auto, using(crate::proofs::Beginnings::beginning_synced, crate::proofs::Journals::synced_recovers, crate::proofs::Disks::none_made))]
 pub fn recover<S: Storage, J: Storage, A: Allocator + Copy>(
     alloc: A,
     storage: &mut S,
@@ -62,8 +62,8 @@ pub fn recover<S: Storage, J: Storage, A: Allocator + Copy>(
         (S.disk storage.old) (J.disk journal.old)
         → RecoversUnlessForged key.now context.now xs writes
         (S.disk storage.new) (J.disk journal.new) }
-    ensures front { (front : List ℕ) → KeepsFront front (J.disk journal.old)
-        → KeepsFront front (J.disk journal.new) }
+    ensures beginning { (beginning : List ℕ) → KeepsBeginning beginning (J.disk journal.old)
+        → KeepsBeginning beginning (J.disk journal.new) }
     ensures at_rest { OnOk result ((xs : List ℕ) (writes : Writes)
         → IfSome (J.bytes journal.old) (IsNoForgery key.now context.now writes)
         → RecoversUnlessForged key.now context.now xs writes

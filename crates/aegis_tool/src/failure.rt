@@ -1,7 +1,7 @@
 //! The errors of commands, and the exit statuses.
 
 use crate::command::Place;
-use crate::range::{FIRST, FRONT_BYTES};
+use crate::range::{BEGINNING_BYTES, FIRST};
 use crate::shown::{Lost, Name, Verified};
 use aegis::record::{RECORD_BYTES, RecordError, RecordPosition};
 use aegis_files::FileError;
@@ -220,7 +220,7 @@ impl Seen {
             is_first_version,
             verified: Verified(Some(verified)),
             start: FIRST,
-            read: Some(read.saturating_sub(FRONT_BYTES)),
+            read: Some(read.saturating_sub(BEGINNING_BYTES)),
             next: verified,
         }
     }

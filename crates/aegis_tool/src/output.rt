@@ -272,9 +272,9 @@ fn name_of_part<'a>(rt: &HostRuntime, target: &str) -> Result<String, Failure<'a
     }
     let digits = hex::encode(rt.alloc(), drawn.as_slice())?;
     let name = Path::new(target).file_name().unwrap_or("");
-    let front = &name[..name.floor_char_boundary(MOST_OF_NAME)];
+    let beginning = &name[..name.floor_char_boundary(MOST_OF_NAME)];
     let folder = folder(target);
-    Ok(format!(in rt.alloc(); "{folder}/.{front}.hunkravy-{digits}")?)
+    Ok(format!(in rt.alloc(); "{folder}/.{beginning}.hunkravy-{digits}")?)
 }
 
 // Syncs a folder, if its file system can do that.

@@ -15,7 +15,7 @@ use std::fs::File;
 use std::io::{Read, Seek, SeekFrom};
 
 /// How many bytes a file has in front of its first record: the prefix and the header.
-pub const FRONT_BYTES: u64 = 28;
+pub const BEGINNING_BYTES: u64 = 28;
 
 /// The position of the first record of a file.
 pub const FIRST: RecordPosition = RecordPosition {
@@ -126,7 +126,7 @@ fn byte_of(position: RecordPosition) -> u64 {
         .number
         .saturating_mul(RECORD_BYTES)
         .saturating_add(position.before)
-        .saturating_add(FRONT_BYTES)
+        .saturating_add(BEGINNING_BYTES)
 }
 
 impl Found {

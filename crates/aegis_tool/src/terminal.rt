@@ -11,7 +11,7 @@ const CHARACTER_BYTES: usize = 4;
 #[derive(Drop)]
 pub struct TextOnly<W: Write + Drop> {
     inner: W,
-    // The first bytes of a character, at the front.
+    // The first bytes of a character, at the beginning.
     begun: [u8; CHARACTER_BYTES],
     begun_len: usize,
 }

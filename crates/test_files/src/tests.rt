@@ -2,8 +2,8 @@
 
 mod failures;
 mod faults;
+mod plaintexts;
 mod ranges;
-mod texts;
 
 use aegis::record::RecordSealer;
 use aegis_files::{FileError, open_stream, rekey_stream, seal_stream};
@@ -16,7 +16,7 @@ const PREFIX: [u8; 24] = [9; 24];
 
 const CONTEXT: [u8; 4] = *b"test";
 
-/// Seals a text.
+/// Seals contents.
 fn seal<A: Allocator + Copy, R: Read, W: Write>(
     alloc: A,
     input: &mut R,
@@ -30,9 +30,9 @@ fn open<A: Allocator + Copy, R: Read, W: Write>(
     alloc: A,
     key: &[u8; 32],
     input: &mut R,
-    text: &mut W,
+    contents: &mut W,
 ) -> Result<(), FileError> {
-    open_stream(alloc, key, &CONTEXT, input, text)
+    open_stream(alloc, key, &CONTEXT, input, contents)
 }
 
 /// Seals a file anew under another key.
@@ -46,10 +46,10 @@ fn rekey<A: Allocator + Copy, R: Read, W: Write>(
     rekey_stream(alloc, &KEY, key, prefix, &CONTEXT, input, file)
 }
 
-/// The file of a text.
-fn sealed(alloc: Global, text: &[u8]) -> Result<Vec<u8>, FileError> {
+/// The file of contents.
+fn sealed(alloc: Global, contents: &[u8]) -> Result<Vec<u8>, FileError> {
     let mut file = Vec::new(alloc);
-    let mut input = text;
+    let mut input = contents;
     seal(alloc, &mut input, &mut file)?;
     Ok(file)
 }
@@ -60,9 +60,9 @@ fn opened_with<R: Read>(
     key: &[u8; 32],
     input: &mut R,
 ) -> (Vec<u8>, Result<(), FileError>) {
-    let mut text = Vec::new(alloc);
-    let result = open(alloc, key, input, &mut text);
-    (text, result)
+    let mut contents = Vec::new(alloc);
+    let result = open(alloc, key, input, &mut contents);
+    (contents, result)
 }
 
 /// Opens a file. Returns what was written, and the result.
@@ -71,17 +71,17 @@ fn opened(alloc: Global, file: &[u8]) -> (Vec<u8>, Result<(), FileError>) {
     opened_with(alloc, &KEY, &mut input)
 }
 
-/// A text of equal bytes.
-fn long_text(alloc: Global, length: usize) -> Result<Vec<u8>, FileError> {
-    let mut text = Vec::new(alloc);
-    text.resize(length, 0x5a)?;
-    Ok(text)
+/// Contents of equal bytes.
+fn long_contents(alloc: Global, length: usize) -> Result<Vec<u8>, FileError> {
+    let mut contents = Vec::new(alloc);
+    contents.resize(length, 0x5a)?;
+    Ok(contents)
 }
 
 /// The messages of the small file.
 const MESSAGES: [&[u8]; 3] = [b"one", b"and two", b"three"];
 
-/// The text of the small file.
+/// The contents of the small file.
 const TEXT: &[u8] = b"oneand twothree";
 
 /// A file of three records, under a key and a prefix.

@@ -1,4 +1,4 @@
-//! Tests of sealed pages: random calls beside a vector that holds the same text, files of other variants, damaged
+//! Tests of sealed pages: random calls beside a vector that holds the same contents, files of other variants, damaged
 //! files, and storages and memory that fail.
 #![tactic(auto)]
 

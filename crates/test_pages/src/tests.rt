@@ -30,7 +30,7 @@ type TestPages<S, J> = SealedPages<S, J, Counter, Global>;
 /// Sealed pages in vectors.
 type InVectors = TestPages<Vec<u8>, Vec<u8>>;
 
-/// Creates a file with an empty text.
+/// Creates a file with empty contents.
 fn create<S: Storage + Drop, J: Storage + Drop>(
     alloc: Global,
     storage: S,
@@ -57,7 +57,7 @@ fn open(alloc: Global, file: Vec<u8>, key: &[u8; 32]) -> Result<InVectors, Pages
     open_with(alloc, file, Vec::new(alloc), Counter(1 << 20), key)
 }
 
-/// Reads a part of the text, and returns how many bytes it has.
+/// Reads a part of the contents, and returns how many bytes it has.
 fn read<S: Storage + Drop, J: Storage + Drop>(
     pages: &mut TestPages<S, J>,
     at: u64,
@@ -66,7 +66,7 @@ fn read<S: Storage + Drop, J: Storage + Drop>(
     pages.read_at(at, out)
 }
 
-/// Writes a part of the text.
+/// Writes a part of the contents.
 fn write<S: Storage + Drop, J: Storage + Drop>(
     pages: &mut TestPages<S, J>,
     at: u64,

@@ -7,7 +7,7 @@ use std::alloc::Global;
 use std::io;
 
 // How many bytes are written at once, or not at all, by a disk that fails.
-const SECTOR_BYTES: usize = 512;
+const HEADER_BLOCK_BYTES: usize = 512;
 
 // Writes the bytes of a write from `from` up to `to`, if it has them.
 fn write_part(
@@ -37,8 +37,8 @@ fn write_others(
     Ok(())
 }
 
-// Leaves what a crash may of a change: none of it, a front and other bytes after it, other bytes in every other sector,
-// or all.
+// Leaves what a crash may of a change: none of it, a beginning and other bytes after it, other bytes in every other
+// sector, or all.
 fn tear(alloc: Global, bytes: &mut Vec<u8>, pending: &PendingChange, part: u32) -> io::Result<()> {
     let PendingChange::Write(write) = pending else {
         return if part % 2 == 0 {
@@ -55,14 +55,19 @@ fn tear(alloc: Global, bytes: &mut Vec<u8>, pending: &PendingChange, part: u32) 
             write_others(alloc, bytes, write, size / 2, size / 2 + size / 4)
         }
         2 => {
-            write_others(alloc, bytes, write, 0, size.min(SECTOR_BYTES))?;
-            write_part(bytes, write, SECTOR_BYTES, size.min(2 * SECTOR_BYTES))?;
+            write_others(alloc, bytes, write, 0, size.min(HEADER_BLOCK_BYTES))?;
+            write_part(
+                bytes,
+                write,
+                HEADER_BLOCK_BYTES,
+                size.min(2 * HEADER_BLOCK_BYTES),
+            )?;
             write_others(
                 alloc,
                 bytes,
                 write,
-                2 * SECTOR_BYTES,
-                size.min(3 * SECTOR_BYTES),
+                2 * HEADER_BLOCK_BYTES,
+                size.min(3 * HEADER_BLOCK_BYTES),
             )
         }
         _ => change(bytes, pending),
@@ -89,31 +94,31 @@ pub fn left_of(disk: &TestDisk, parts: u32, order: usize) -> io::Result<Vec<u8>>
     Ok(bytes)
 }
 
-// Writes the bytes of `front` over the first bytes of a disk, as far as the first `len` bytes of a write lie there.
-fn write_front(
+// Writes the bytes of `beginning` over the first bytes of a disk, as far as the first `len` bytes of a write lie there.
+fn write_beginning(
     bytes: &mut Vec<u8>,
     write: &PendingWrite<Global>,
     len: usize,
-    front: &[u8],
+    beginning: &[u8],
 ) -> io::Result<()> {
     let place = write.place as usize;
-    let end = front
+    let end = beginning
         .len()
         .min(place.saturating_add(len.min(write.bytes.len())));
     if place < end {
-        bytes.write_at(place as u64, &front[place..end])?;
+        bytes.write_at(place as u64, &beginning[place..end])?;
     }
     Ok(())
 }
 
 /// What a crash leaves of a disk if the first `len` bytes of each pending write are there, but where one was to come
-/// within the first bytes of the disk there are those of `front`.
-pub fn left_with_front(disk: &TestDisk, len: usize, front: &[u8]) -> io::Result<Vec<u8>> {
+/// within the first bytes of the disk there are those of `beginning`.
+pub fn left_with_beginning(disk: &TestDisk, len: usize, beginning: &[u8]) -> io::Result<Vec<u8>> {
     let mut bytes = disk.synced.to_vec(disk.alloc)?;
     for pending in &disk.pending {
         if let PendingChange::Write(write) = pending {
             write_part(&mut bytes, write, 0, len.min(write.bytes.len()))?;
-            write_front(&mut bytes, write, len, front)?;
+            write_beginning(&mut bytes, write, len, beginning)?;
         }
     }
     Ok(bytes)

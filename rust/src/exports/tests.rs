@@ -350,40 +350,40 @@ fn a_header_opens_in_its_turn() {
         page_size: 256,
         id: [1; 24],
         counter: 5,
-        text_len: 1 << 60,
+        contents_len: 1 << 60,
     };
     for variant in &VARIANTS {
         let n = variant.key_bytes;
         let (npub, k) = (&[2; 32][..n], &[3; 32][..n]);
-        let mut sector = [0x77; 512];
+        let mut header_block = [0x77; 512];
         for wrong in [
             PageHeader {
                 page_size: 255,
                 ..header
             },
             PageHeader {
-                text_len: (1 << 60) + 1,
+                contents_len: (1 << 60) + 1,
                 ..header
             },
         ] {
-            let answer = variant.page_header_seal(&mut sector, &wrong, npub, k);
+            let answer = variant.page_header_seal(&mut header_block, &wrong, npub, k);
             assert!(answer.is_err());
-            let answer = variant.page_header_seal(&mut sector, &header, npub, &k[1..]);
+            let answer = variant.page_header_seal(&mut header_block, &header, npub, &k[1..]);
             assert_eq!(answer, Err(Refusal::WrongKeyLength));
-            let answer = variant.page_header_seal(&mut sector, &header, &npub[1..], k);
+            let answer = variant.page_header_seal(&mut header_block, &header, &npub[1..], k);
             assert_eq!(answer, Err(Refusal::WrongNonceLength));
-            assert_eq!(sector, [0x77; 512]);
+            assert_eq!(header_block, [0x77; 512]);
         }
-        let answer = variant.page_header_seal(&mut sector, &header, npub, k);
+        let answer = variant.page_header_seal(&mut header_block, &header, npub, k);
         assert_eq!(answer, Ok(()));
-        assert_eq!(variant.page_header_open(&sector, k), Ok(header));
+        assert_eq!(variant.page_header_open(&header_block, k), Ok(header));
         for other in &VARIANTS {
-            let found = other.page_header_open(&sector, &[3; 32][..other.key_bytes]);
+            let found = other.page_header_open(&header_block, &[3; 32][..other.key_bytes]);
             assert_eq!(found.is_ok(), other.name == variant.name);
         }
-        let found = variant.page_header_open(&sector, &[4; 32][..n]);
+        let found = variant.page_header_open(&header_block, &[4; 32][..n]);
         assert_eq!(found, Err(Refusal::InvalidTag));
-        let found = variant.page_header_open(&sector, &k[1..]);
+        let found = variant.page_header_open(&header_block, &k[1..]);
         assert_eq!(found, Err(Refusal::WrongKeyLength));
     }
 }

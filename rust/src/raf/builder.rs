@@ -215,12 +215,12 @@ impl<A: Algorithm, R: RafRng, J: JournalChoice> RafBuilder<A, R, J> {
             page_size: builder.chunk_size,
             id: draws.id,
             counter: 0,
-            text_len: 0,
+            contents_len: 0,
         };
-        let sector = Layout::<A>::of(key, &header).header(0, 0, &draws.nonce);
+        let header_block = Layout::<A>::of(key, &header).header(0, 0, &draws.nonce);
         builder.journal.sync()?;
         io.set_size(0)?;
-        io.write_at(&sector, 0)?;
+        io.write_at(&header_block, 0)?;
         io.sync()?;
         Ok(builder.over(io, key, &header))
     }
@@ -237,8 +237,8 @@ impl<A: Algorithm, R: RafRng, J: RafIo> RafBuilder<A, R, J> {
             page: vec![0; layout.page_bytes()],
             layout,
             counter: header.counter,
-            stored: header.text_len,
-            size: header.text_len,
+            stored: header.contents_len,
+            size: header.contents_len,
             changes: Changes::default(),
             buffer_limit: self.buffer_limit,
             is_broken: false,

@@ -7,7 +7,7 @@ use core::hint::black_box;
 use std::collections::BTreeMap;
 use std::io::{self, ErrorKind};
 
-/// The number of bytes that a page takes beside its text, at most.
+/// The number of bytes that a page takes beside its contents, at most.
 const ADDED_BYTES: u64 = 128;
 
 /// Returns a vector with room for this number of bytes, or an error if memory runs out.
@@ -18,7 +18,7 @@ fn with_room(bytes: usize) -> io::Result<Vec<u8>> {
     Ok(vector)
 }
 
-/// The texts of changed pages, by the numbers of the pages. They are overwritten when they are dropped.
+/// The contents of changed pages, by the numbers of the pages. They are overwritten when they are dropped.
 #[derive(Default)]
 pub struct Changes(BTreeMap<u64, Wiped<Box<[u8]>>>);
 
@@ -33,23 +33,23 @@ impl Changes {
         self.0.len()
     }
 
-    /// Returns the text of a page that was changed.
+    /// Returns the contents of a page that was changed.
     pub fn get(&self, number: u64) -> Option<&[u8]> {
-        self.0.get(&number).map(|text| &*text.0)
+        self.0.get(&number).map(|contents| &*contents.0)
     }
 
-    /// Returns an error if there is no memory for this number of pages of texts of this length.
-    pub fn check_room(pages: u64, text_bytes: u64) -> io::Result<()> {
-        let bytes = pages.saturating_mul(text_bytes + ADDED_BYTES);
+    /// Returns an error if there is no memory for this number of pages of contents of this length.
+    pub fn check_room(pages: u64, contents_bytes: u64) -> io::Result<()> {
+        let bytes = pages.saturating_mul(contents_bytes + ADDED_BYTES);
         let bytes = usize::try_from(bytes).map_err(|_| ErrorKind::OutOfMemory)?;
         black_box(with_room(bytes)?);
         Ok(())
     }
 
-    /// Keeps a copy of the text of a page. Returns an error if memory runs out.
-    pub fn set(&mut self, number: u64, text: &[u8]) -> io::Result<()> {
-        let mut copy = with_room(text.len())?;
-        copy.extend_from_slice(text);
+    /// Keeps a copy of the contents of a page. Returns an error if memory runs out.
+    pub fn set(&mut self, number: u64, contents: &[u8]) -> io::Result<()> {
+        let mut copy = with_room(contents.len())?;
+        copy.extend_from_slice(contents);
         self.0.insert(number, Wiped(copy.into_boxed_slice()));
         Ok(())
     }
@@ -72,6 +72,8 @@ impl Changes {
 
     /// Returns the pages and their numbers, the lowest first.
     pub fn iter(&self) -> impl Iterator<Item = (u64, &[u8])> {
-        self.0.iter().map(|(number, text)| (*number, &*text.0))
+        self.0
+            .iter()
+            .map(|(number, contents)| (*number, &*contents.0))
     }
 }

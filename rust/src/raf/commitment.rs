@@ -32,7 +32,7 @@ impl<A: Algorithm, I: RafIo, R: RafRng, J: RafIo> Raf<A, I, R, J> {
         self.check_is_whole()?;
         let nonce = commitment_nonce::<A>();
         let mut mac = Mac::<A, 32>::new_with_nonce(&self.layout.key, &nonce);
-        mac.update(&self.layout.clear());
+        mac.update(&self.layout.plaintext_header());
         mac.update(&self.counter.to_le_bytes());
         mac.update(&self.stored.to_le_bytes());
         for number in 0..self.layout.page_count(self.stored) {

@@ -3,7 +3,7 @@
 //! The proved crate `aegis_storage` writes the same bytes between the same syncs. Here neighbouring writes are one call.
 
 use super::io::RafIo;
-use super::layout::CLEAR_BYTES;
+use super::layout::PLAINTEXT_HEADER_BYTES;
 use crate::records::{HEADER_BYTES, Opener, RECORD_BYTES, Sealer};
 use crate::wipe::wipe;
 use alloc::vec::Vec;
@@ -25,7 +25,7 @@ pub struct PendingWrite {
 /// The key, the first bytes and the prefix of a journal.
 pub struct JournalSeal {
     pub key: [u8; 32],
-    pub start: [u8; CLEAR_BYTES],
+    pub start: [u8; PLAINTEXT_HEADER_BYTES],
     pub prefix: [u8; PREFIX_BYTES],
 }
 
@@ -52,10 +52,10 @@ pub fn commit(
 
 /// Writes a journal, and syncs it: the first bytes first, so that a longer journal begins with them after any crash.
 fn write_journal(journal: &mut impl RafIo, bytes: &[u8]) -> io::Result<()> {
-    let (start, rest) = bytes.split_at(CLEAR_BYTES);
+    let (start, rest) = bytes.split_at(PLAINTEXT_HEADER_BYTES);
     journal.write_at(start, 0)?;
     journal.sync()?;
-    journal.write_at(rest, CLEAR_BYTES as u64)?;
+    journal.write_at(rest, PLAINTEXT_HEADER_BYTES as u64)?;
     journal.sync()
 }
 
@@ -99,7 +99,8 @@ fn journal_bytes(seal: &JournalSeal, writes: &[PendingWrite]) -> Vec<u8> {
     let mut sealer = Sealer::new(&seal.key, &seal.prefix, &[]).expect("the context is empty");
     let bytes_of = |write: &PendingWrite| PLACE_BYTES + write.bytes.len() + RECORD_BYTES;
     let length: usize = writes.iter().map(bytes_of).sum();
-    let mut journal = Vec::with_capacity(CLEAR_BYTES + PREFIX_BYTES + HEADER_BYTES + length);
+    let mut journal =
+        Vec::with_capacity(PLAINTEXT_HEADER_BYTES + PREFIX_BYTES + HEADER_BYTES + length);
     journal.extend_from_slice(&seal.start);
     journal.extend_from_slice(&seal.prefix);
     journal.extend_from_slice(&sealer.header());
@@ -116,7 +117,7 @@ fn journal_bytes(seal: &JournalSeal, writes: &[PendingWrite]) -> Vec<u8> {
 
 /// Returns the writes of a journal, or `None` if the bytes are no whole journal under this key.
 pub fn journaled_writes(key: &[u8; 32], journal: &[u8]) -> Option<Vec<PendingWrite>> {
-    let (_start, rest) = journal.split_first_chunk::<CLEAR_BYTES>()?;
+    let (_start, rest) = journal.split_first_chunk::<PLAINTEXT_HEADER_BYTES>()?;
     let (prefix, rest) = rest.split_first_chunk::<PREFIX_BYTES>()?;
     let (header, mut rest) = rest.split_first_chunk::<HEADER_BYTES>()?;
     let mut opener = Opener::new(key, prefix, &[], header).ok()?;
@@ -144,7 +145,8 @@ fn write_of(message: &[u8]) -> Option<PendingWrite> {
 #[cfg(test)]
 mod tests {
     use super::{
-        CLEAR_BYTES, JournalSeal, PREFIX_BYTES, PendingWrite, journal_bytes, journaled_writes,
+        JournalSeal, PLAINTEXT_HEADER_BYTES, PREFIX_BYTES, PendingWrite, journal_bytes,
+        journaled_writes,
     };
     use crate::wipe::tests::left_of;
     use alloc::vec;
@@ -154,7 +156,7 @@ mod tests {
     fn a_seal_that_was_dropped() {
         let seal = JournalSeal {
             key: [1; 32],
-            start: [2; CLEAR_BYTES],
+            start: [2; PLAINTEXT_HEADER_BYTES],
             prefix: [3; PREFIX_BYTES],
         };
         assert_eq!(left_of(seal, |seal| &seal.key), [0; 32]);
@@ -165,7 +167,7 @@ mod tests {
     fn places() {
         let seal = JournalSeal {
             key: [1; 32],
-            start: [2; CLEAR_BYTES],
+            start: [2; PLAINTEXT_HEADER_BYTES],
             prefix: [3; PREFIX_BYTES],
         };
         for (place, is_within) in [

@@ -7,15 +7,15 @@ use crate::wipe::wipe;
 /// The length of a tag, at the end of a page.
 pub const TAG_BYTES: usize = 32;
 /// The length of the first sector, which has the header.
-pub const SECTOR_BYTES: usize = 512;
+pub const HEADER_BLOCK_BYTES: usize = 512;
 /// Where the first page is.
 pub const FIRST_PAGE: u64 = 4096;
 /// The length of a file's id.
 pub const ID_BYTES: usize = 24;
-/// The length of the clear part of a header: the magic number, the algorithm, the chunk size and the id.
-pub const CLEAR_BYTES: usize = 33;
+/// The length of the plaintext part of a header: the magic number, the algorithm, the chunk size and the id.
+pub const PLAINTEXT_HEADER_BYTES: usize = 33;
 /// The length of the counter and the size, which are encrypted in a header.
-const HEADER_TEXT_BYTES: usize = 16;
+const HEADER_PLAINTEXT_BYTES: usize = 16;
 
 const MAGIC: [u8; 4] = *b"AGP1";
 const JOURNAL_MAGIC: [u8; 4] = *b"AGPJ";
@@ -47,17 +47,17 @@ impl<A: Algorithm> Layout<A> {
         FIRST_PAGE + number * self.page_bytes() as u64
     }
 
-    /// How many pages a text of `size` bytes has.
+    /// How many pages contents of `size` bytes have.
     pub fn page_count(&self, size: u64) -> u64 {
         size.div_ceil(u64::from(self.chunk_size))
     }
 
-    /// The text of a page.
-    pub fn text<'a>(&self, page: &'a mut [u8]) -> &'a mut [u8] {
+    /// The contents of a page.
+    pub fn contents<'a>(&self, page: &'a mut [u8]) -> &'a mut [u8] {
         &mut page[A::EXPORTS.key_bytes..][..self.chunk_size as usize]
     }
 
-    /// Seals the page of this number, whose text is in its place.
+    /// Seals the page of this number, whose contents are in its place.
     pub fn seal(&self, number: u64, nonce: &A::Nonce, page: &mut [u8]) {
         let (nonce, key) = (nonce.as_ref(), self.key.as_ref());
         let answer = A::EXPORTS.page_seal(page, &self.id, number, nonce, key);
@@ -70,38 +70,38 @@ impl<A: Algorithm> Layout<A> {
         answer.is_ok()
     }
 
-    /// Returns the sector of the header of this counter, for a text of `size` bytes.
-    pub fn header(&self, counter: u64, size: u64, nonce: &A::Nonce) -> [u8; SECTOR_BYTES] {
+    /// Returns the block of the header of this counter, for contents of `size` bytes.
+    pub fn header(&self, counter: u64, size: u64, nonce: &A::Nonce) -> [u8; HEADER_BLOCK_BYTES] {
         let header = PageHeader {
             page_size: self.chunk_size,
             id: self.id,
             counter,
-            text_len: size,
+            contents_len: size,
         };
-        let mut sector = [0; SECTOR_BYTES];
+        let mut header_block = [0; HEADER_BLOCK_BYTES];
         let (nonce, key) = (nonce.as_ref(), self.key.as_ref());
-        let answer = A::EXPORTS.page_header_seal(&mut sector, &header, nonce, key);
+        let answer = A::EXPORTS.page_header_seal(&mut header_block, &header, nonce, key);
         assert_eq!(answer, Ok(()), "the chunk size and the lengths are right");
-        sector
+        header_block
     }
 
     /// The first bytes of a header.
-    pub fn clear(&self) -> [u8; CLEAR_BYTES] {
+    pub fn plaintext_header(&self) -> [u8; PLAINTEXT_HEADER_BYTES] {
         self.named(MAGIC)
     }
 
     /// The first bytes of the file's journals.
-    pub fn journal_start(&self) -> [u8; CLEAR_BYTES] {
+    pub fn journal_start(&self) -> [u8; PLAINTEXT_HEADER_BYTES] {
         self.named(JOURNAL_MAGIC)
     }
 
-    fn named(&self, magic: [u8; 4]) -> [u8; CLEAR_BYTES] {
-        let mut clear = [0; CLEAR_BYTES];
-        clear[..4].copy_from_slice(&magic);
-        clear[4] = A::EXPORTS.key_bytes as u8 + A::EXPORTS.lanes;
-        clear[5..9].copy_from_slice(&self.chunk_size.to_le_bytes());
-        clear[9..].copy_from_slice(&self.id);
-        clear
+    fn named(&self, magic: [u8; 4]) -> [u8; PLAINTEXT_HEADER_BYTES] {
+        let mut plaintext = [0; PLAINTEXT_HEADER_BYTES];
+        plaintext[..4].copy_from_slice(&magic);
+        plaintext[4] = A::EXPORTS.key_bytes as u8 + A::EXPORTS.lanes;
+        plaintext[5..9].copy_from_slice(&self.chunk_size.to_le_bytes());
+        plaintext[9..].copy_from_slice(&self.id);
+        plaintext
     }
 }
 
@@ -116,21 +116,25 @@ pub fn is_chunk_size(bytes: u32) -> bool {
     (256..=65_536).contains(&bytes)
 }
 
-/// Returns the byte of the algorithm and the chunk size that the clear part of a header names, if it is one of this format.
-pub fn named_by(clear: &[u8; CLEAR_BYTES]) -> Option<(u8, u32)> {
-    let chunk_size = u32::from_le_bytes(clear[5..9].try_into().ok()?);
-    let is_known = clear[..4] == MAGIC && is_chunk_size(chunk_size);
-    is_known.then_some((clear[4], chunk_size))
+/// Returns the byte of the algorithm and the chunk size that the plaintext part of a header names, if it is one of this format.
+pub fn named_by(plaintext: &[u8; PLAINTEXT_HEADER_BYTES]) -> Option<(u8, u32)> {
+    let chunk_size = u32::from_le_bytes(plaintext[5..9].try_into().ok()?);
+    let is_known = plaintext[..4] == MAGIC && is_chunk_size(chunk_size);
+    is_known.then_some((plaintext[4], chunk_size))
 }
 
 /// Returns the header in a sector, if it is one of this algorithm and the key.
-pub fn open_header<A: Algorithm>(key: &A::Key, sector: &[u8; SECTOR_BYTES]) -> Option<PageHeader> {
-    A::EXPORTS.page_header_open(sector, key.as_ref()).ok()
+pub fn open_header<A: Algorithm>(
+    key: &A::Key,
+    header_block: &[u8; HEADER_BLOCK_BYTES],
+) -> Option<PageHeader> {
+    A::EXPORTS.page_header_open(header_block, key.as_ref()).ok()
 }
 
 /// Returns the bytes of the header in a sector, without the zeros after it.
-pub fn header_bytes<A: Algorithm>(sector: &[u8; SECTOR_BYTES]) -> &[u8] {
-    &sector[..CLEAR_BYTES + A::EXPORTS.key_bytes + HEADER_TEXT_BYTES + TAG_BYTES]
+pub fn header_bytes<A: Algorithm>(header_block: &[u8; HEADER_BLOCK_BYTES]) -> &[u8] {
+    &header_block
+        [..PLAINTEXT_HEADER_BYTES + A::EXPORTS.key_bytes + HEADER_PLAINTEXT_BYTES + TAG_BYTES]
 }
 
 /// Returns the MAC, under the key and the nonce whose bytes are all 255, of the first bytes of a journal: the key of the
@@ -152,8 +156,8 @@ pub fn commitment_nonce<A: Algorithm>() -> A::Nonce {
 
 /// Returns whether a journal is of another file than the one whose journals begin with `start`. A commit syncs these bytes
 /// before it writes any after them, so a longer journal begins with them after a crash.
-pub fn is_of_another(start: &[u8; CLEAR_BYTES], journal: &[u8]) -> bool {
-    journal.len() > CLEAR_BYTES && !journal.starts_with(start)
+pub fn is_of_another(start: &[u8; PLAINTEXT_HEADER_BYTES], journal: &[u8]) -> bool {
+    journal.len() > PLAINTEXT_HEADER_BYTES && !journal.starts_with(start)
 }
 
 #[cfg(test)]

@@ -1,9 +1,9 @@
 //! What a file shows without its key.
 
-use super::layout::{CLEAR_BYTES, SECTOR_BYTES, named_by};
+use super::layout::{HEADER_BLOCK_BYTES, PLAINTEXT_HEADER_BYTES, named_by};
 use super::{AlgorithmId, Error, RafIo, Result};
 
-/// The clear part of a header. It is not verified.
+/// The plaintext part of a header. It is not verified.
 #[derive(Clone, Copy, Debug, PartialEq, Eq)]
 pub struct RafInfo {
     /// The algorithm.
@@ -14,19 +14,19 @@ pub struct RafInfo {
     pub file_size: u64,
 }
 
-/// Returns the clear part of the header of a file. No key is needed, and nothing is verified or changed.
+/// Returns the plaintext part of the header of a file. No key is needed, and nothing is verified or changed.
 ///
 /// # Errors
 ///
 /// [`Error::Header`] if it is not a file of this format, or [`Error::Io`].
 pub fn probe(io: &mut impl RafIo) -> Result<RafInfo> {
     let file_size = io.get_size()?;
-    if file_size < SECTOR_BYTES as u64 {
+    if file_size < HEADER_BLOCK_BYTES as u64 {
         return Err(Error::Header);
     }
-    let mut clear = [0; CLEAR_BYTES];
-    io.read_at(&mut clear, 0)?;
-    let (byte, chunk_size) = named_by(&clear).ok_or(Error::Header)?;
+    let mut plaintext = [0; PLAINTEXT_HEADER_BYTES];
+    io.read_at(&mut plaintext, 0)?;
+    let (byte, chunk_size) = named_by(&plaintext).ok_or(Error::Header)?;
     Ok(RafInfo {
         algorithm: AlgorithmId::of_byte(byte).ok_or(Error::Header)?,
         chunk_size,

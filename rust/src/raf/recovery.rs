@@ -2,7 +2,9 @@
 
 use super::io::{RafIo, read_all};
 use super::journal::{PendingWrite, empty, journaled_writes, write_and_sync};
-use super::layout::{Layout, SECTOR_BYTES, header_bytes, is_of_another, journal_key, open_header};
+use super::layout::{
+    HEADER_BLOCK_BYTES, Layout, header_bytes, is_of_another, journal_key, open_header,
+};
 use super::{Algorithm, Error, Result};
 use crate::exports::PageHeader;
 use crate::wipe::wipe;
@@ -24,11 +26,11 @@ pub fn recover<A: Algorithm>(
     if journal.get_size()? != content.len() as u64 {
         return Err(Error::Journal);
     }
-    let sector = read_sector(io)?;
+    let header_block = read_header_block(io)?;
     let mut journal_key = journal_key::<A>(key);
     let writes = journaled_writes(&journal_key, &content);
     wipe(&mut journal_key);
-    check_journal::<A>(key, sector.as_ref(), writes.as_deref(), &content)?;
+    check_journal::<A>(key, header_block.as_ref(), writes.as_deref(), &content)?;
     // If no power was lost, what can be read may not be synced yet.
     io.sync()?;
     journal.sync()?;
@@ -41,25 +43,26 @@ pub fn recover<A: Algorithm>(
         // What has its name by now was not read.
         return Err(Error::Journal);
     }
-    let sector = read_sector(io)?;
-    let header = sector.and_then(|sector| open_header::<A>(key, &sector));
+    let header_block = read_header_block(io)?;
+    let header = header_block.and_then(|header_block| open_header::<A>(key, &header_block));
     header.ok_or(Error::Io(io::ErrorKind::InvalidData.into()))
 }
 
 /// Returns an error if a journal must not be made again or emptied.
 fn check_journal<A: Algorithm>(
     key: &A::Key,
-    sector: Option<&[u8; SECTOR_BYTES]>,
+    header_block: Option<&[u8; HEADER_BLOCK_BYTES]>,
     writes: Option<&[PendingWrite]>,
     journal: &[u8],
 ) -> Result<()> {
-    let found = sector.and_then(|sector| Some((sector, open_header::<A>(key, sector)?)));
-    let Some((sector, header)) = found else {
+    let found = header_block
+        .and_then(|header_block| Some((header_block, open_header::<A>(key, header_block)?)));
+    let Some((header_block, header)) = found else {
         return writes.map(|_| ()).ok_or(Error::Header);
     };
     let start = Layout::<A>::of(key, &header).journal_start();
     let is_its_own = match writes {
-        Some(writes) => is_of_commit(header_bytes::<A>(sector), writes),
+        Some(writes) => is_of_commit(header_bytes::<A>(header_block), writes),
         None => !is_of_another(&start, journal),
     };
     if is_its_own {
@@ -77,11 +80,11 @@ fn is_of_commit(header: &[u8], writes: &[PendingWrite]) -> bool {
 }
 
 /// Reads the first sector, or returns `None` if there are fewer bytes.
-pub fn read_sector(io: &mut impl RafIo) -> Result<Option<[u8; SECTOR_BYTES]>> {
-    if io.get_size()? < SECTOR_BYTES as u64 {
+pub fn read_header_block(io: &mut impl RafIo) -> Result<Option<[u8; HEADER_BLOCK_BYTES]>> {
+    if io.get_size()? < HEADER_BLOCK_BYTES as u64 {
         return Ok(None);
     }
-    let mut sector = [0; SECTOR_BYTES];
-    io.read_at(&mut sector, 0)?;
-    Ok(Some(sector))
+    let mut header_block = [0; HEADER_BLOCK_BYTES];
+    io.read_at(&mut header_block, 0)?;
+    Ok(Some(header_block))
 }

@@ -36,7 +36,7 @@ pub fn begun_lengths()
 
 /// The messages before the last record are a proper prefix of the list of any stream that begins with the same bytes,
 /// so no stream ends there.
-pub fn begun_is_a_front()
+pub fn begun_is_a_beginning()
     ensures { (p : Progress) (ms : List (List ℕ)) (bytes : List ℕ) → Begun p ms bytes
         → (ns : List (List ℕ)) (more : List ℕ)
         → AreRecordsOfSomeVersion p.key p.prefix p.context ns (bytes ++ more)

@@ -22,10 +22,10 @@ pub(crate) fn version_of(bytes: &[u8]) -> Option<(Version, &[u8])>
     if bytes.len() < 4 {
         return None;
     }
-    let (front, rest) = bytes.split_at(4);
-    if front == Version::First.header() {
+    let (beginning, rest) = bytes.split_at(4);
+    if beginning == Version::First.header() {
         Some((Version::First, rest))
-    } else if front == Version::Second.header() {
+    } else if beginning == Version::Second.header() {
         Some((Version::Second, rest))
     } else {
         None

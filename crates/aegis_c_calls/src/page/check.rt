@@ -1,4 +1,4 @@
-//! What C passes: the length of a page and its number, or a page size and the length of a text.
+//! What C passes: the length of a page and its number, or a page size and the length of contents.
 
 ghost use Rattle.std.specs.Prelude.{◌≡◌, ◌≢◌, ◌+◌, ◌-◌, ◌≤◌, IfErr, IfOk, OnOk};
 ghost use Rattle.aegis_pages.specs.Layouts.{IsPageSize};
@@ -7,13 +7,13 @@ ghost use Rattle.aegis_c_calls.specs.PageCodes.{header_code, place_code};
 ghost use Rattle.aegis_c_calls.specs.declared.refusal.TheConstants.{DONE, INVALID_TAG};
 
 use crate::refusal::Refusal;
-use aegis_pages::{MAX_PAGE_BYTES, MAX_TEXT_BYTES, MIN_PAGE_BYTES};
+use aegis_pages::{MAX_CONTENTS_BYTES, MAX_PAGE_BYTES, MIN_PAGE_BYTES};
 
 /// The length of a tag.
 pub const TAG_BYTES: usize = 32;
 
 /// Returns the page size of a page that has so many bytes, with a nonce of `N`. Refuses what is no page size, and a
-/// page whose number lets it begin too far in the text.
+/// page whose number lets it begin too far in the contents.
 pub fn check_page<const N: usize>(bytes: usize, number: u64) -> Result<u32, Refusal>
     requires { N ≤ 32 }
     ensures value { IfOk result (λ n. n ≡ bytes - (N + TAG_BYTES)) }
@@ -32,15 +32,15 @@ pub fn check_page<const N: usize>(bytes: usize, number: u64) -> Result<u32, Refu
     }
     let page_bytes = (bytes - added_bytes) as u32;
     match number.checked_mul(page_bytes as u64) {
-        Some(place) if place <= MAX_TEXT_BYTES => Ok(page_bytes),
-        _ => Err(Refusal::TextTooLong),
+        Some(place) if place <= MAX_CONTENTS_BYTES => Ok(page_bytes),
+        _ => Err(Refusal::FileTooLong),
     }
 }
 
-/// Refuses what is no page size, and a text that has more bytes than a file may.
+/// Refuses what is no page size, and contents that have more bytes than a file may.
 pub fn check_header(page_bytes: u32, len: u64) -> Result<(), Refusal>
     ensures size { OnOk result (IsPageSize page_bytes) }
-    ensures within { OnOk result (len ≤ MAX_TEXT_BYTES) }
+    ensures within { OnOk result (len ≤ MAX_CONTENTS_BYTES) }
     ensures right { OnOk result (header_code page_bytes len ≡ DONE) }
     ensures wrong { IfErr result (λ refusal. header_code page_bytes len ≡ number_of refusal) }
     ensures not_done { IfErr result (λ refusal. number_of refusal ≢ DONE) }
@@ -48,8 +48,8 @@ pub fn check_header(page_bytes: u32, len: u64) -> Result<(), Refusal>
     if page_bytes < MIN_PAGE_BYTES || page_bytes > MAX_PAGE_BYTES {
         return Err(Refusal::WrongPageSize);
     }
-    if len > MAX_TEXT_BYTES {
-        return Err(Refusal::TextTooLong);
+    if len > MAX_CONTENTS_BYTES {
+        return Err(Refusal::FileTooLong);
     }
     Ok(())
 }

@@ -2,7 +2,7 @@
 
 ghost use Rattle.std.specs.Prelude.{◌≡◌, IsOk, OnOk, Some, length};
 ghost use Rattle.aegis_base.specs.Variant.{key_length};
-ghost use Rattle.aegis_c_calls.specs.PageCalls.{text_in};
+ghost use Rattle.aegis_c_calls.specs.PageCalls.{contents_in};
 ghost use Rattle.aegis_c_calls.specs.PageCodes.{header_seal_code, page_seal_code};
 ghost use Rattle.aegis_c_calls.specs.declared.refusal.TheConstants.{DONE};
 
@@ -11,7 +11,7 @@ use aegis_c_calls::page::{page_header_open, page_header_seal, page_open, page_se
 use aegis_c_calls::refusal::Refusal;
 use aegis_pages::FileHeader;
 
-/// Seals a page and opens it. Its text is then what it was.
+/// Seals a page and opens it. Its contents are then what they were.
 pub fn page_sealed_and_opened<S: LaneState, const N: usize>(
     page: &mut [u8],
     id: &[u8; 24],
@@ -22,7 +22,8 @@ pub fn page_sealed_and_opened<S: LaneState, const N: usize>(
     requires { N ≡ key_length S.VARIANT.family }
     ensures done { page_seal_code (Some S.VARIANT) (length k.now) (length npub.now)
         (length page.old) number ≡ DONE → IsOk result }
-    ensures text { OnOk result (text_in S.VARIANT page.new ≡ text_in S.VARIANT page.old) }
+    ensures contents { OnOk result
+        (contents_in S.VARIANT page.new ≡ contents_in S.VARIANT page.old) }
 {
     page_seal::<S, N>(page, id, number, npub, k)?;
     page_open::<S, N>(page, id, number, k)?;
@@ -47,10 +48,10 @@ pub fn header_sealed_and_opened<S: LaneState, const N: usize>(
         counter,
         len,
     } = *header;
-    let mut sector = [0; 512];
-    page_header_seal::<S, N>(&mut sector, page_bytes, &id, counter, len, npub, k)?;
+    let mut header_block = [0; 512];
+    page_header_seal::<S, N>(&mut header_block, page_bytes, &id, counter, len, npub, k)?;
     page_header_open::<S, N>(
-        &sector,
+        &header_block,
         k,
         &mut found.page_bytes,
         &mut found.id,

@@ -151,8 +151,8 @@ pub fn open_in_place<'a>(
     decryptor.finalize(tag)
 }
 
-/// Seals a message in any chunks, and opens it in two others, cut at any place. The front of the destination is then
-/// the message.
+/// Seals a message in any chunks, and opens it in two others, cut at any place. The beginning of the destination is
+/// then the message.
 pub fn seal_in_chunks_and_open_in_others(
     key: &[u8; 32],
     nonce: &[u8; 32],

@@ -18,7 +18,7 @@ pub fn write_both<S: Storage, J: Storage, A: Allocator + Copy>(
     storage: &mut S,
     journal: &mut J,
     key: &Key,
-    front: &[u8; 33],
+    beginning: &[u8; 33],
     prefix: &[u8; 24],
     places: (u64, u64),
     first: &[u8],
@@ -34,7 +34,16 @@ pub fn write_both<S: Storage, J: Storage, A: Allocator + Copy>(
     let mut writes = Vec::new(alloc);
     writes.push(PendingWrite::new(alloc, places.0, first)?)?;
     writes.push(PendingWrite::new(alloc, places.1, second)?)?;
-    commit(alloc, storage, journal, key, front, prefix, &[], &writes)
+    commit(
+        alloc,
+        storage,
+        journal,
+        key,
+        beginning,
+        prefix,
+        &[],
+        &writes,
+    )
 }
 
 /// Opens a storage after a crash that has not left a forged journal: with `Ok` it has both writes or none, and is ready

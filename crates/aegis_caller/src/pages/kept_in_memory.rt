@@ -1,19 +1,19 @@
-//! A file in two vectors, a storage and its journal: a text is written, committed, given back, and found again.
+//! A file in two vectors, a storage and its journal: contents are written, committed, given back, and found again.
 
 ghost use Rattle.std.specs.Prelude.{◌≡◌, [], IfOk, List, OnOk, Some, length, ℕ};
 ghost use Rattle.aegis_base.specs.Variant.{Aegis256};
 ghost use Rattle.aegis_storage.specs.Disk.{certain};
-ghost use Rattle.aegis_pages.specs.OpenFile.{AreCommitted, HasCommitted, HasText, IsStoredAs};
+ghost use Rattle.aegis_pages.specs.OpenFile.{AreCommitted, HasCommitted, HasContents, IsStoredAs};
 
 use crate::pages::reopened_file::saved;
-use aegis_pages::laws::{text_has_its_length, whole_is_written};
+use aegis_pages::laws::{contents_has_its_length, whole_is_written};
 use aegis_pages::{DEFAULT_PAGE_BYTES, Nonces, PagesError, SealedPages};
 use std::alloc::Allocator;
 
 /// A file in memory.
 pub type MemoryPages<N, A> = SealedPages<Vec<u8, A>, Vec<u8, A>, N, A>;
 
-/// Makes a file of the empty text.
+/// Makes an empty file.
 pub fn created<N: Nonces + Drop, A: Allocator + Copy>(
     alloc: A,
     nonces: N,
@@ -22,7 +22,7 @@ pub fn created<N: Nonces + Drop, A: Allocator + Copy>(
 ) -> Result<MemoryPages<N, A>, PagesError>
     ensures variant { IfOk result (λ pages. pages.layout.variant ≡ Aegis256) }
     ensures key { IfOk result (λ pages. pages.layout.key ≡ key.now) }
-    ensures text { IfOk result (λ pages. HasText pages []) }
+    ensures contents { IfOk result (λ pages. HasContents pages []) }
     ensures committed { IfOk result (λ pages. HasCommitted pages []) }
 {
     let storage = Vec::new(alloc);
@@ -30,38 +30,38 @@ pub fn created<N: Nonces + Drop, A: Allocator + Copy>(
     SealedPages::create(alloc, storage, journal, nonces, key, id, DEFAULT_PAGE_BYTES)
 }
 
-/// Gives an empty file a text, in memory.
+/// Gives an empty file contents, in memory.
 pub fn written<N: Nonces + Drop, A: Allocator + Copy>(
     pages: &mut MemoryPages<N, A>,
-    text: &[u8],
+    contents: &[u8],
 ) -> Result<(), PagesError>
     ensures stored { IsStoredAs pages.old pages.new }
-    ensures written { OnOk result (HasText pages.old [] → HasText pages.new text.now) }
+    ensures written { OnOk result (HasContents pages.old [] → HasContents pages.new contents.now) }
 {
     whole_is_written();
-    pages.write_at(0, text)
+    pages.write_at(0, contents)
 }
 
-/// Gives a new file a text, commits it, and gives the vectors back. They hold the text for certain.
+/// Gives a new file contents, commits it, and gives the vectors back. They hold the contents for certain.
 pub fn kept<N: Nonces + Drop, A: Allocator + Copy>(
     pages: MemoryPages<N, A>,
     key: &[u8; 32],
-    text: &[u8],
+    contents: &[u8],
 ) -> Result<(Vec<u8, A>, Vec<u8, A>), PagesError>
     requires variant { pages.layout.variant ≡ Aegis256 }
     requires key { pages.layout.key ≡ key.now }
-    requires empty { HasText pages [] }
+    requires empty { HasContents pages [] }
     requires committed { HasCommitted pages [] }
     ensures { IfOk result (λ kept. AreCommitted Aegis256 key.now
-        (Some (certain kept.0.items)) (Some (certain kept.1.items)) text.now) }
+        (Some (certain kept.0.items)) (Some (certain kept.1.items)) contents.now) }
 {
     let mut pages = pages;
-    written(&mut pages, text)?;
+    written(&mut pages, contents)?;
     let vectors = saved(pages, key)?;
     Ok(vectors)
 }
 
-/// Opens the file again, and reads its text.
+/// Opens the file again, and reads its contents.
 #[tactic(auto, using(std::proofs::lemmas::List::take_all))]
 pub fn found<N: Nonces + Drop, A: Allocator + Copy>(
     alloc: A,
@@ -70,31 +70,31 @@ pub fn found<N: Nonces + Drop, A: Allocator + Copy>(
     key: &[u8; 32],
     out: &mut [u8],
 ) -> Result<MemoryPages<N, A>, PagesError>
-    ensures { OnOk result ((text : List ℕ) → length text ≡ length out.old
+    ensures { OnOk result ((contents : List ℕ) → length contents ≡ length out.old
         → AreCommitted Aegis256 key.now
-        (Some (certain kept.0.items)) (Some (certain kept.1.items)) text → out.new ≡ text) }
+        (Some (certain kept.0.items)) (Some (certain kept.1.items)) contents → out.new ≡ contents) }
 {
-    text_has_its_length();
+    contents_has_its_length();
     let (storage, journal) = kept;
     let mut pages = SealedPages::open(alloc, storage, journal, nonces, key)?;
     pages.read_at(0, out)?;
     Ok(pages)
 }
 
-/// Keeps a text in two vectors, and reads it from them again: what is read is the text.
+/// Keeps contents in two vectors, and reads it from them again: what is read is what was kept.
 pub fn kept_and_found<N: Nonces + Drop, A: Allocator + Copy>(
     alloc: A,
     nonces: (N, N),
     key: &[u8; 32],
     id: &[u8; 24],
-    text: &[u8],
+    contents: &[u8],
     out: &mut [u8],
 ) -> Result<MemoryPages<N, A>, PagesError>
-    requires { length text.now ≡ length out.old }
-    ensures { OnOk result (out.new ≡ text.now) }
+    requires { length contents.now ≡ length out.old }
+    ensures { OnOk result (out.new ≡ contents.now) }
 {
     let (first, second) = nonces;
     let pages = created(alloc, first, key, id)?;
-    let vectors = kept(pages, key, text)?;
+    let vectors = kept(pages, key, contents)?;
     found(alloc, vectors, second, key, out)
 }

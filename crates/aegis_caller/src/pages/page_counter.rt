@@ -1,24 +1,24 @@
 //! A counter that is kept in a sealed file.
 
 ghost use Rattle.std.specs.Prelude.{◌≡◌, ◌+◌, ◌^◌, ◌<◌, IfOk, OnOk, ℕ};
-ghost use Rattle.aegis_pages.specs.OpenFile.{HasCommitted, HasText, IsStoredAs, IsUnchanged};
+ghost use Rattle.aegis_pages.specs.OpenFile.{HasCommitted, HasContents, IsStoredAs, IsUnchanged};
 ghost use Rattle.aegis_pages.specs.Recovery.{RecoversOneUnlessForged};
-ghost use Rattle.aegis_caller.specs.Counter.{counter_text};
+ghost use Rattle.aegis_caller.specs.Counter.{counter_contents};
 
 use aegis_pages::laws::{committed_recovers, whole_is_written};
 use aegis_pages::{Nonces, PagesError, SealedPages};
 use aegis_storage::Storage;
 use std::alloc::Allocator;
 
-/// Reads a counter that is the text of a file, 8 bytes, the lowest first.
-#[tactic(auto, unfolding(crate::specs::Counter::counter_text))]
+/// Reads a counter that is the contents of a file, 8 bytes, the lowest first.
+#[tactic(auto, unfolding(crate::specs::Counter::counter_contents))]
 pub fn read_counter<S: Storage + Drop, J: Storage + Drop, N: Nonces + Drop, A: Allocator + Copy>(
     pages: &mut SealedPages<S, J, N, A>,
 ) -> Result<u64, PagesError>
     requires { pages.old.len ≡ 8 }
     ensures unchanged { IsUnchanged pages.old pages.new }
     ensures number { IfOk result (λ number. (n : ℕ) → n < 2 ^ 64
-        → HasText pages.old (counter_text n) → number ≡ n) }
+        → HasContents pages.old (counter_contents n) → number ≡ n) }
 {
     let mut bytes = [0; 8];
     pages.read_at(0, &mut bytes)?;
@@ -26,14 +26,14 @@ pub fn read_counter<S: Storage + Drop, J: Storage + Drop, N: Nonces + Drop, A: A
 }
 
 /// Writes the counter, in memory.
-#[tactic(auto, unfolding(crate::specs::Counter::counter_text))]
+#[tactic(auto, unfolding(crate::specs::Counter::counter_contents))]
 pub fn write_counter<S: Storage + Drop, J: Storage + Drop, N: Nonces + Drop, A: Allocator + Copy>(
     pages: &mut SealedPages<S, J, N, A>,
     number: u64,
 ) -> Result<(), PagesError>
     ensures stored { IsStoredAs pages.old pages.new }
-    ensures written { OnOk result ((n : ℕ) → HasText pages.old (counter_text n)
-        → HasText pages.new (counter_text number)) }
+    ensures written { OnOk result ((n : ℕ) → HasContents pages.old (counter_contents n)
+        → HasContents pages.new (counter_contents number)) }
 {
     whole_is_written();
     pages.write_at(0, &number.to_le_bytes())
@@ -46,9 +46,10 @@ pub fn add_one<S: Storage + Drop, J: Storage + Drop, N: Nonces + Drop, A: Alloca
     requires { pages.old.len ≡ 8 }
     ensures stored { IsStoredAs pages.old pages.new }
     ensures next { IfOk result (λ next. (n : ℕ) → n + 1 < 2 ^ 64
-        → HasText pages.old (counter_text n) → next ≡ n + 1) }
+        → HasContents pages.old (counter_contents n) → next ≡ n + 1) }
     ensures written { OnOk result ((n : ℕ) → n + 1 < 2 ^ 64
-        → HasText pages.old (counter_text n) → HasText pages.new (counter_text (n + 1))) }
+        → HasContents pages.old (counter_contents n)
+        → HasContents pages.new (counter_contents (n + 1))) }
 {
     let next = read_counter(pages)?.wrapping_add(1);
     write_counter(pages, next)?;
@@ -62,15 +63,16 @@ pub fn count<S: Storage + Drop, J: Storage + Drop, N: Nonces + Drop, A: Allocato
 ) -> Result<u64, PagesError>
     requires { pages.old.len ≡ 8 }
     ensures next { IfOk result (λ next. (n : ℕ) → n + 1 < 2 ^ 64
-        → HasText pages.old (counter_text n) → next ≡ n + 1) }
+        → HasContents pages.old (counter_contents n) → next ≡ n + 1) }
     ensures written { OnOk result ((n : ℕ) → n + 1 < 2 ^ 64
-        → HasText pages.old (counter_text n) → HasText pages.new (counter_text (n + 1))) }
+        → HasContents pages.old (counter_contents n)
+        → HasContents pages.new (counter_contents (n + 1))) }
     ensures certain { OnOk result ((n : ℕ) → n + 1 < 2 ^ 64
-        → HasCommitted pages.old (counter_text n) → HasText pages.old (counter_text n)
-        → HasCommitted pages.new (counter_text (n + 1))) }
+        → HasCommitted pages.old (counter_contents n) → HasContents pages.old (counter_contents n)
+        → HasCommitted pages.new (counter_contents (n + 1))) }
     ensures crash { (n : ℕ) → n + 1 < 2 ^ 64
-        → HasCommitted pages.old (counter_text n) → HasText pages.old (counter_text n)
-        → RecoversOneUnlessForged pages.new (counter_text n) (counter_text (n + 1)) }
+        → HasCommitted pages.old (counter_contents n) → HasContents pages.old (counter_contents n)
+        → RecoversOneUnlessForged pages.new (counter_contents n) (counter_contents (n + 1)) }
 {
     committed_recovers();
     let next = add_one(pages)?;

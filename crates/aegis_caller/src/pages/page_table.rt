@@ -3,8 +3,8 @@
 ghost use Rattle.std.specs.Prelude.{◌≡◌, ◌+◌, ◌*◌, ◌<◌, ◌≤◌, IfOk, IfSome, List, OnOk, length, ℕ};
 ghost use Rattle.aegis_storage.specs.Bytes.{overwritten, part_at};
 ghost use Rattle.aegis_base.specs.Variant.{Aegis256};
-ghost use Rattle.aegis_pages.specs.Commits.{IsHonest, RecoversTextUnlessForged};
-ghost use Rattle.aegis_pages.specs.OpenFile.{HasCommitted, HasText, IsStoredAs, OpensAtOne};
+ghost use Rattle.aegis_pages.specs.Commits.{IsHonest, RecoversContentsUnlessForged};
+ghost use Rattle.aegis_pages.specs.OpenFile.{HasCommitted, HasContents, IsStoredAs, OpensAtOne};
 ghost use Rattle.aegis_pages.specs.Recovery.{RecoversOneUnlessForged};
 
 use aegis_pages::laws::others_are_kept;
@@ -27,8 +27,8 @@ pub fn write_row<S: Storage + Drop, J: Storage + Drop, N: Nonces + Drop, A: Allo
     requires { k < MAX_ROWS }
     ensures stored { IsStoredAs pages.old pages.new }
     ensures len { OnOk result (pages.old.len ≤ pages.new.len) }
-    ensures written { OnOk result ((table : List ℕ) → HasText pages.old table
-        → HasText pages.new (overwritten table (ROW_BYTES * k) row.now)) }
+    ensures written { OnOk result ((table : List ℕ) → HasContents pages.old table
+        → HasContents pages.new (overwritten table (ROW_BYTES * k) row.now)) }
 {
     pages.write_at(ROW_BYTES * k, row)
 }
@@ -49,14 +49,14 @@ pub fn written_and_read_row<
     requires k { k < MAX_ROWS }
     requires j { j < MAX_ROWS }
     requires within { ROW_BYTES * j + ROW_BYTES ≤ pages.old.len }
-    ensures same { OnOk result ((table : List ℕ) → HasText pages.old table → j ≡ k
+    ensures same { OnOk result ((table : List ℕ) → HasContents pages.old table → j ≡ k
         → out.new ≡ row.now) }
-    ensures read { OnOk result ((table : List ℕ) → HasText pages.old table
+    ensures read { OnOk result ((table : List ℕ) → HasContents pages.old table
         → out.new ≡ part_at (overwritten table (ROW_BYTES * k) row.now) (ROW_BYTES * j) ROW_BYTES) }
-    ensures before { OnOk result ((table : List ℕ) → HasText pages.old table → j < k
+    ensures before { OnOk result ((table : List ℕ) → HasContents pages.old table → j < k
         → ROW_BYTES * j + ROW_BYTES ≤ length table
         → out.new ≡ part_at table (ROW_BYTES * j) ROW_BYTES) }
-    ensures after { OnOk result ((table : List ℕ) → HasText pages.old table → k < j
+    ensures after { OnOk result ((table : List ℕ) → HasContents pages.old table → k < j
         → ROW_BYTES * j + ROW_BYTES ≤ length table
         → out.new ≡ part_at table (ROW_BYTES * j) ROW_BYTES) }
 {
@@ -72,9 +72,9 @@ pub fn commit_rows<S: Storage + Drop, J: Storage + Drop, N: Nonces + Drop, A: Al
     pages: &mut SealedPages<S, J, N, A>,
 ) -> Result<(), PagesError>
     ensures crash { (before now : List ℕ) → HasCommitted pages.old before
-        → HasText pages.old now → RecoversOneUnlessForged pages.new before now }
+        → HasContents pages.old now → RecoversOneUnlessForged pages.new before now }
     ensures next { OnOk result ((before now : List ℕ) → HasCommitted pages.old before
-        → HasText pages.old now → HasCommitted pages.new now) }
+        → HasContents pages.old now → HasCommitted pages.new now) }
 {
     pages.commit()
 }
@@ -89,7 +89,7 @@ pub fn open_table<S: Storage + Drop, J: Storage + Drop, N: Nonces + Drop, A: All
     key: &[u8; 32],
 ) -> Result<SealedPages<S, J, N, A>, PagesError>
     ensures { IfOk result (λ pages. (before now : List ℕ)
-        → (batch : RecoversTextUnlessForged Aegis256 key.now before now
+        → (batch : RecoversContentsUnlessForged Aegis256 key.now before now
         (S.disk storage) (J.disk journal))
         → IfSome (J.bytes journal) (IsHonest batch) → OpensAtOne pages before now) }
 {

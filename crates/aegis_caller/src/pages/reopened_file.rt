@@ -3,7 +3,7 @@
 ghost use Rattle.std.specs.Prelude.{◌≡◌, ◌≢◌, Err, IfOk, IsSome, List, ℕ};
 ghost use Rattle.aegis_base.specs.Variant.{Aegis256};
 ghost use Rattle.aegis_pages.specs.Commits.{IsLeftByCommit};
-ghost use Rattle.aegis_pages.specs.OpenFile.{AreCommitted, HasCommitted, HasText};
+ghost use Rattle.aegis_pages.specs.OpenFile.{AreCommitted, HasCommitted, HasContents};
 
 use aegis_pages::{Nonces, PagesError, SealedPages};
 use aegis_storage::Storage;
@@ -50,7 +50,7 @@ pub fn reopened_or_asked<
     }
 }
 
-/// Commits the changes, and gives the storages up. They are those of a file that has this text.
+/// Commits the changes, and gives the storages up. They are those of a file that has these contents.
 pub fn saved<S: Storage + Drop, J: Storage + Drop, N: Nonces + Drop, A: Allocator + Copy>(
     pages: SealedPages<S, J, N, A>,
     key: &[u8; 32],
@@ -58,7 +58,7 @@ pub fn saved<S: Storage + Drop, J: Storage + Drop, N: Nonces + Drop, A: Allocato
     requires variant { pages.layout.variant ≡ Aegis256 }
     requires key { pages.layout.key ≡ key.now }
     ensures { IfOk result (λ storages. (before now : List ℕ) → HasCommitted pages before
-        → HasText pages now
+        → HasContents pages now
         → AreCommitted Aegis256 key.now (S.disk storages.0) (J.disk storages.1) now) }
 {
     let mut pages = pages;
@@ -66,22 +66,22 @@ pub fn saved<S: Storage + Drop, J: Storage + Drop, N: Nonces + Drop, A: Allocato
     Ok(pages.into_storages())
 }
 
-/// Opens what [`saved`] has given up. The file has the text that was saved, and the next commit begins there.
+/// Opens what [`saved`] has given up. The file has the contents that were saved, and the next commit begins there.
 pub fn restored<S: Storage + Drop, J: Storage + Drop, N: Nonces + Drop, A: Allocator + Copy>(
     alloc: A,
     storages: (S, J),
     nonces: N,
     key: &[u8; 32],
 ) -> Result<SealedPages<S, J, N, A>, PagesError>
-    ensures { IfOk result (λ pages. (text : List ℕ)
-        → AreCommitted Aegis256 key.now (S.disk storages.0) (J.disk storages.1) text
-        → HasText pages text × HasCommitted pages text) }
+    ensures { IfOk result (λ pages. (contents : List ℕ)
+        → AreCommitted Aegis256 key.now (S.disk storages.0) (J.disk storages.1) contents
+        → HasContents pages contents × HasCommitted pages contents) }
 {
     let (storage, journal) = storages;
     SealedPages::open(alloc, storage, journal, nonces, key)
 }
 
-/// Commits the changes, and opens the file again: it has the same text, for certain.
+/// Commits the changes, and opens the file again: it has the same contents, for certain.
 pub fn saved_and_restored<
     S: Storage + Drop,
     J: Storage + Drop,
@@ -96,7 +96,7 @@ pub fn saved_and_restored<
     requires variant { pages.layout.variant ≡ Aegis256 }
     requires key { pages.layout.key ≡ key.now }
     ensures { IfOk result (λ opened. (before now : List ℕ) → HasCommitted pages before
-        → HasText pages now → HasText opened now × HasCommitted opened now) }
+        → HasContents pages now → HasContents opened now × HasCommitted opened now) }
 {
     let storages = saved(pages, key)?;
     let opened = restored(alloc, storages, nonces, key)?;

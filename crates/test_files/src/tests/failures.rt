@@ -1,7 +1,7 @@
 //! Readers, writers and memory that fail.
 
 use super::{
-    KEY, PREFIX, TEXT, long_text, open, opened, opened_with, rekey, seal, sealed, three_records,
+    KEY, PREFIX, TEXT, long_contents, open, opened, opened_with, rekey, seal, sealed, three_records,
 };
 use aegis::record::RecordError;
 use aegis_files::{FileError, PIECE_BYTES};
@@ -49,29 +49,30 @@ fn sealed_until_failure(alloc: Global, left: &[u8]) -> (Vec<u8>, bool) {
     (file, matches!(result, Err(FileError::Read(_))))
 }
 
-// Whether sealing a text into a writer gives the writer's error.
+// Whether sealing contents into a writer gives the writer's error.
 fn seal_fails(alloc: Global, file: &mut Narrow) -> bool {
     let mut input = TEXT;
     matches!(seal(alloc, &mut input, file), Err(FileError::Write(_)))
 }
 
 // Whether opening a file into a writer gives the writer's error.
-fn open_fails(alloc: Global, file: &[u8], text: &mut Narrow) -> bool {
+fn open_fails(alloc: Global, file: &[u8], contents: &mut Narrow) -> bool {
     let mut input = file;
     matches!(
-        open(alloc, &KEY, &mut input, text),
+        open(alloc, &KEY, &mut input, contents),
         Err(FileError::Write(_))
     )
 }
 
-// Each length of input before a read fails: the error is the reader's, and what was written is a front of the text.
+// Each length of input before a read fails: the error is the reader's, and what was written is a beginning of the
+// contents.
 #[test]
 fn opening_stops_where_a_read_fails(rt: HostRuntime) -> Result<(), Fail> {
     let file = three_records(rt.alloc(), &KEY, &PREFIX)?;
     for length in 0..=file.len() {
-        let (text, result) = opened_with(rt.alloc(), &KEY, &mut cut_off(&file[..length]));
+        let (contents, result) = opened_with(rt.alloc(), &KEY, &mut cut_off(&file[..length]));
         let is_read = matches!(result, Err(FileError::Read(_)));
-        assert!(rt; is_read && TEXT.starts_with(&text), "at {length}");
+        assert!(rt; is_read && TEXT.starts_with(&contents), "at {length}");
     }
     Ok(())
 }
@@ -79,10 +80,10 @@ fn opening_stops_where_a_read_fails(rt: HostRuntime) -> Result<(), Fail> {
 #[test]
 fn sealing_stops_where_a_read_fails(rt: HostRuntime) -> Result<(), Fail> {
     let whole = sealed(rt.alloc(), TEXT)?;
-    let front = &whole[..whole.len().min(28)];
+    let beginning = &whole[..whole.len().min(28)];
     for length in 0..=TEXT.len() {
         let (file, is_read) = sealed_until_failure(rt.alloc(), &TEXT[..length]);
-        assert!(rt; is_read && file.as_slice() == front, "at {length}");
+        assert!(rt; is_read && file.as_slice() == beginning, "at {length}");
     }
     Ok(())
 }
@@ -91,19 +92,19 @@ fn sealing_stops_where_a_read_fails(rt: HostRuntime) -> Result<(), Fail> {
 // written does not open.
 #[test]
 fn a_read_that_fails_leaves_no_whole_file(rt: HostRuntime) -> Result<(), Fail> {
-    let text = long_text(rt.alloc(), 2 * PIECE_BYTES + 9)?;
-    let whole = sealed(rt.alloc(), &text)?;
-    let (file, is_read) = sealed_until_failure(rt.alloc(), &text);
+    let contents = long_contents(rt.alloc(), 2 * PIECE_BYTES + 9)?;
+    let whole = sealed(rt.alloc(), &contents)?;
+    let (file, is_read) = sealed_until_failure(rt.alloc(), &contents);
     assert!(rt; is_read && whole.starts_with(&file));
     assert_eq!(rt; file.len(), 24 + 4 + 2 * (37 + PIECE_BYTES));
     let (found, result) = opened(rt.alloc(), &file);
     assert!(rt; matches!(result, Err(FileError::Stream(RecordError::Truncated))));
     assert_eq!(rt; found.len(), 2 * PIECE_BYTES);
-    assert!(rt; text.starts_with(&found));
+    assert!(rt; contents.starts_with(&found));
     Ok(())
 }
 
-// A writer that fails after each number of bytes has a front of the file.
+// A writer that fails after each number of bytes has a beginning of the file.
 #[test]
 fn sealing_stops_where_a_write_fails(rt: HostRuntime) -> Result<(), Fail> {
     let whole = sealed(rt.alloc(), TEXT)?;
@@ -122,13 +123,13 @@ fn sealing_stops_where_a_write_fails(rt: HostRuntime) -> Result<(), Fail> {
 fn opening_stops_where_a_write_fails(rt: HostRuntime) -> Result<(), Fail> {
     let file = three_records(rt.alloc(), &KEY, &PREFIX)?;
     for room in 0..TEXT.len() {
-        let mut text = narrow(rt.alloc(), room, Some(ErrorKind::StorageFull));
+        let mut contents = narrow(rt.alloc(), room, Some(ErrorKind::StorageFull));
         assert!(rt;
-            open_fails(rt.alloc(), &file, &mut text),
+            open_fails(rt.alloc(), &file, &mut contents),
             "with room {room}"
         );
         assert!(rt;
-            text.written.as_slice() == &TEXT[..room],
+            contents.written.as_slice() == &TEXT[..room],
             "with room {room}"
         );
     }
@@ -142,28 +143,32 @@ fn a_failed_flush_is_reported(rt: HostRuntime) -> Result<(), Fail> {
     let mut file = without_flush(rt.alloc());
     assert!(rt; seal_fails(rt.alloc(), &mut file));
     assert!(rt; file.written == whole);
-    let mut text = without_flush(rt.alloc());
-    assert!(rt; open_fails(rt.alloc(), &whole, &mut text));
-    assert!(rt; text.written.as_slice() == TEXT);
+    let mut contents = without_flush(rt.alloc());
+    assert!(rt; open_fails(rt.alloc(), &whole, &mut contents));
+    assert!(rt; contents.written.as_slice() == TEXT);
     Ok(())
 }
 
-// The file of a text, with so many requests of memory.
-fn sealed_within(alloc: Global, text: &[u8], requests: u64) -> (Vec<u8>, Result<(), FileError>) {
+// The file of contents, with so many requests of memory.
+fn sealed_within(
+    alloc: Global,
+    contents: &[u8],
+    requests: u64,
+) -> (Vec<u8>, Result<(), FileError>) {
     let heap = Rationed::new(alloc, requests);
     let mut file = Vec::new(alloc);
-    let mut input = text;
+    let mut input = contents;
     let result = seal(&heap, &mut input, &mut file);
     (file, result)
 }
 
-// The text of a file, with so many requests of memory.
+// The contents of a file, with so many requests of memory.
 fn opened_within(alloc: Global, file: &[u8], requests: u64) -> (Vec<u8>, Result<(), FileError>) {
     let heap = Rationed::new(alloc, requests);
-    let mut text = Vec::new(alloc);
+    let mut contents = Vec::new(alloc);
     let mut input = file;
-    let result = open(&heap, &KEY, &mut input, &mut text);
-    (text, result)
+    let result = open(&heap, &KEY, &mut input, &mut contents);
+    (contents, result)
 }
 
 // Whether these bytes were written, or memory ran out.
@@ -181,8 +186,8 @@ fn memory_is_refused_in_turn(rt: HostRuntime) -> Result<(), Fail> {
     for requests in 0..REQUESTS {
         let (file, result) = sealed_within(rt.alloc(), TEXT, requests);
         assert!(rt; is_whole_or_refused(&file, &result, &whole), "{requests}");
-        let (text, result) = opened_within(rt.alloc(), &whole, requests);
-        assert!(rt; is_whole_or_refused(&text, &result, TEXT), "{requests}");
+        let (contents, result) = opened_within(rt.alloc(), &whole, requests);
+        assert!(rt; is_whole_or_refused(&contents, &result, TEXT), "{requests}");
     }
     Ok(())
 }
@@ -190,18 +195,18 @@ fn memory_is_refused_in_turn(rt: HostRuntime) -> Result<(), Fail> {
 // The record's buffer, and the vector of the other bytes: no piece takes memory.
 #[test]
 fn memory_is_taken_at_the_start_alone(rt: HostRuntime) -> Result<(), Fail> {
-    let text = long_text(rt.alloc(), 2 * PIECE_BYTES + 9)?;
+    let contents = long_contents(rt.alloc(), 2 * PIECE_BYTES + 9)?;
     for requests in 0..3 {
-        let (file, result) = sealed_within(rt.alloc(), &text, requests);
+        let (file, result) = sealed_within(rt.alloc(), &contents, requests);
         assert_eq!(rt; result.is_ok(), requests == 2, "{requests}");
         assert_eq!(rt; file.is_empty(), requests < 2, "{requests}");
     }
     Ok(())
 }
 
-// How many requests are left after the file of a text of this length was opened, and sealed anew.
+// How many requests are left after the file of contents of this length was opened, and sealed anew.
 fn requests_left(alloc: Global, length: usize) -> Result<u64, FileError> {
-    let file = sealed(alloc, &long_text(alloc, length)?)?;
+    let file = sealed(alloc, &long_contents(alloc, length)?)?;
     let heap = Rationed::new(alloc, REQUESTS);
     let mut found = Vec::new(alloc);
     let mut input = file.as_slice();

@@ -1,14 +1,15 @@
-//! Parts of a text, each opened from a record on.
+//! Parts of contents, each opened from a record on.
 
 use super::failures::{cut_off, narrow};
 use super::{CONTEXT, KEY, PREFIX, TEXT, three_records};
 use aegis::record::{RecordError, RecordPosition, Version};
-use aegis_files::{FileError, OpenedRange, TextRange, open_range};
+use aegis_files::{ContentsRange, FileError, OpenedRange, open_range};
 use std::alloc::Global;
 use std::io::{ErrorKind, Read, Write};
 use std::test::Fail;
 
-// A record of the small file: where it starts in the file, its number, and how many bytes of the text come before it.
+// A record of the small file: where it starts in the file, its number, and how many bytes of the contents come before
+// it.
 #[derive(Clone, Copy)]
 struct Place {
     start: usize,
@@ -44,15 +45,15 @@ struct Part {
 
 impl Part {
     // Whether a part was opened that has these bytes.
-    fn has(&self, text: &[u8]) -> bool {
-        matches!(&self.result, Ok(opened) if opened.length == text.len() as u64)
-            && self.written.as_slice() == text
+    fn has(&self, contents: &[u8]) -> bool {
+        matches!(&self.result, Ok(opened) if opened.length == contents.len() as u64)
+            && self.written.as_slice() == contents
     }
 
     // Whether a record of this number is damaged, and these bytes were written before it.
-    fn is_damaged(&self, number: u64, text: &[u8]) -> bool {
+    fn is_damaged(&self, number: u64, contents: &[u8]) -> bool {
         matches!(&self.result, Err(FileError::Stream(RecordError::Damaged(n))) if *n == number)
-            && self.written.as_slice() == text
+            && self.written.as_slice() == contents
     }
 }
 
@@ -67,7 +68,7 @@ fn bytes(skip: u64, length: u64) -> Asked {
     Asked { skip, length }
 }
 
-// Opens a part of a text from a record on.
+// Opens a part of the contents from a record on.
 fn open_part<R: Read, W: Write>(
     alloc: Global,
     place: Place,
@@ -80,7 +81,7 @@ fn open_part<R: Read, W: Write>(
         number: u64::from(place.number),
         before: u64::from(place.before),
     };
-    let range = TextRange {
+    let range = ContentsRange {
         position,
         skip: asked.skip,
         length: asked.length,
@@ -100,14 +101,14 @@ fn opened_part(alloc: Global, file: &[u8], place: Place, asked: Asked) -> Part {
     }
 }
 
-// From each record, each part of the text, and parts past its end.
+// From each record, each part of the contents, and parts past its end.
 #[test]
 fn each_part_opens_from_each_record(rt: HostRuntime) -> Result<(), Fail> {
     let file = three_records(rt.alloc(), &KEY, &PREFIX)?;
     for place in PLACES {
-        let text = TEXT.get(place.before as usize..).unwrap_or(&[]);
+        let contents = TEXT.get(place.before as usize..).unwrap_or(&[]);
         for skip in 0..=TEXT.len() {
-            let rest = text.get(skip..).unwrap_or(&[]);
+            let rest = contents.get(skip..).unwrap_or(&[]);
             for length in 0..=TEXT.len() {
                 let asked = bytes(skip as u64, length as u64);
                 let part = opened_part(rt.alloc(), &file, place, asked);
@@ -120,11 +121,11 @@ fn each_part_opens_from_each_record(rt: HostRuntime) -> Result<(), Fail> {
 }
 
 #[test]
-fn a_part_has_the_whole_text_at_most(rt: HostRuntime) -> Result<(), Fail> {
+fn a_part_has_the_whole_contents_at_most(rt: HostRuntime) -> Result<(), Fail> {
     let file = three_records(rt.alloc(), &KEY, &PREFIX)?;
-    for (skip, text) in [(0, TEXT), (u64::MAX, &[])] {
+    for (skip, contents) in [(0, TEXT), (u64::MAX, &[])] {
         let part = opened_part(rt.alloc(), &file, PLACES[0], bytes(skip, u64::MAX));
-        assert!(rt; part.has(text) && matches!(part.result, Ok(opened) if is_whole(opened)));
+        assert!(rt; part.has(contents) && matches!(part.result, Ok(opened) if is_whole(opened)));
     }
     Ok(())
 }
@@ -139,7 +140,7 @@ fn is_whole(opened: OpenedRange) -> bool {
     opened.end == end && opened.is_last
 }
 
-// A part of no bytes, and one that begins after the text, are not opened without a record that is as it was sealed.
+// A part of no bytes, and one that begins after the contents, are not opened without a record that is as it was sealed.
 #[test]
 fn a_record_is_opened_for_no_bytes(rt: HostRuntime) -> Result<(), Fail> {
     let mut file = three_records(rt.alloc(), &KEY, &PREFIX)?;
@@ -236,8 +237,8 @@ fn a_part_ends_where_a_write_fails(rt: HostRuntime) -> Result<(), Fail> {
         let mut input = records;
         let result = open_part(rt.alloc(), PLACES[1], bytes(4, 8), &mut input, &mut output);
         let is_write = matches!(result, Err(FileError::Write(_)));
-        let is_front = output.written.as_slice() == &PART[..room];
-        assert!(rt; is_write && is_front, "with room {room}");
+        let is_beginning = output.written.as_slice() == &PART[..room];
+        assert!(rt; is_write && is_beginning, "with room {room}");
     }
     Ok(())
 }

@@ -9,7 +9,7 @@ use aegis_pages::{PagesError, recover_file};
 use std::alloc::Global;
 use std::test::Fail;
 use test_storage::disk::TestDisk;
-use test_storage::tears::{left_of, left_with_front};
+use test_storage::tears::{left_of, left_with_beginning};
 
 /// More calls than are made.
 pub const ALL_CALLS: u64 = 1000;
@@ -31,8 +31,8 @@ const READING_CALLS: u64 = 2;
 /// Sealed pages over disks.
 type OnDisks = TestPages<TestDisk, TestDisk>;
 
-// Which text a file has: bytes of 5, as before the commit, or of 6, as after it.
-fn text_of(pages: &mut InVectors) -> Result<Option<u8>, PagesError> {
+// Which contents a file has: bytes of 5, as before the commit, or of 6, as after it.
+fn contents_of(pages: &mut InVectors) -> Result<Option<u8>, PagesError> {
     let mut out = [9; 1300];
     let count = read(pages, 0, &mut out)?;
     if count == 1000 && is_all(first(&out, 1000), 5) {
@@ -44,7 +44,7 @@ fn text_of(pages: &mut InVectors) -> Result<Option<u8>, PagesError> {
     }
 }
 
-// Writes another text over that of the small file, on disks that fail after these numbers of calls.
+// Writes other contents over those of the small file, on disks that fail after these numbers of calls.
 fn written(alloc: Global, storage_calls: u64, journal_calls: u64) -> Result<OnDisks, Fail> {
     let storage_calls = storage_calls.wrapping_add(OPENING_CALLS.0);
     let journal_calls = journal_calls.wrapping_add(OPENING_CALLS.1);
@@ -55,7 +55,7 @@ fn written(alloc: Global, storage_calls: u64, journal_calls: u64) -> Result<OnDi
     Ok(pages)
 }
 
-/// Commits the other text. Returns the disks, and whether the commit succeeded.
+/// Commits the other contents. Returns the disks, and whether the commit succeeded.
 pub fn cut(
     alloc: Global,
     storage_calls: u64,
@@ -67,7 +67,7 @@ pub fn cut(
     Ok((storage, journal, is_done))
 }
 
-// Whether the file opens to one of the texts, or to the one after the commit if it is done, and again after it was
+// Whether the file opens to one of the contents, or to the one after the commit if it is done, and again after it was
 // closed; and with an empty journal then.
 fn opens(
     alloc: Global,
@@ -76,11 +76,11 @@ fn opens(
     is_done: bool,
 ) -> Result<bool, PagesError> {
     let mut pages = open_with(alloc, file, journal, Counter(1 << 22), &KEY)?;
-    let first = text_of(&mut pages)?;
+    let first = contents_of(&mut pages)?;
     let (file, journal) = pages.into_storages();
-    let again = text_of(&mut open(alloc, file, &KEY)?)?;
-    let is_text = first == Some(6) || (!is_done && first == Some(5));
-    Ok(journal.is_empty() && first == again && is_text)
+    let again = contents_of(&mut open(alloc, file, &KEY)?)?;
+    let is_contents = first == Some(6) || (!is_done && first == Some(5));
+    Ok(journal.is_empty() && first == again && is_contents)
 }
 
 // The disks after an opening of what a crash left that is cut.
@@ -96,7 +96,7 @@ fn reopened(
     Ok((storage, journal))
 }
 
-// Whether the file opens to a text after an opening that is cut at each call.
+// Whether the file opens to contents after an opening that is cut at each call.
 fn opens_after_cuts(
     alloc: Global,
     file: &[u8],
@@ -116,7 +116,7 @@ fn opens_after_cuts(
     Ok(true)
 }
 
-// Whether whatever a crash leaves after a commit that was cut opens to a text, also after an opening that was cut.
+// Whether whatever a crash leaves after a commit that was cut opens to contents, also after an opening that was cut.
 fn all_open(alloc: Global, storage_calls: u64, journal_calls: u64) -> Result<bool, Fail> {
     let (storage, journal, is_done) = cut(alloc, storage_calls, journal_calls)?;
     for order in 0..ORDERS {
@@ -154,26 +154,28 @@ fn a_commit_that_is_cut_at_each_call(rt: HostRuntime) -> Result<(), Fail> {
     Ok(())
 }
 
-// The front of the journals of a file whose ID has this byte throughout.
-fn front_of(id: u8) -> [u8; 33] {
-    let mut front = [id; 33];
-    front[..9].copy_from_slice(b"AGPJ\x21\x00\x01\x00\x00");
-    front
+// The beginning of the journals of a file whose ID has this byte throughout.
+fn beginning_of(id: u8) -> [u8; 33] {
+    let mut beginning = [id; 33];
+    beginning[..9].copy_from_slice(b"AGPJ\x21\x00\x01\x00\x00");
+    beginning
 }
 
-// What a torn front may be: its first `own` bytes are the file's, and the others are `other`, or those of another file.
-fn torn_front(own: usize, other: Option<u8>) -> [u8; 33] {
-    let mut front = match other {
+// What a torn beginning may be: its first `own` bytes are the file's, and the others are `other`, or those of another
+// file.
+fn torn_beginning(own: usize, other: Option<u8>) -> [u8; 33] {
+    let mut beginning = match other {
         Some(byte) => [byte; 33],
-        None => front_of(1),
+        None => beginning_of(1),
     };
     let own = own.min(33);
-    front[..own].copy_from_slice(&front_of(ID[0])[..own]);
-    front
+    beginning[..own].copy_from_slice(&beginning_of(ID[0])[..own]);
+    beginning
 }
 
-// Whether the file opens to a text, whatever a crash leaves of the front of the journal after a commit that was cut.
-fn any_front_opens(alloc: Global, journal_calls: u64) -> Result<bool, Fail> {
+// Whether the file opens to contents, whatever a crash leaves of the beginning of the journal after a commit that was
+// cut.
+fn any_beginning_opens(alloc: Global, journal_calls: u64) -> Result<bool, Fail> {
     let (storage, journal, is_done) = cut(alloc, ALL_CALLS, journal_calls)?;
     if journal.pending.is_empty() {
         return Ok(true);
@@ -181,7 +183,7 @@ fn any_front_opens(alloc: Global, journal_calls: u64) -> Result<bool, Fail> {
     for own in [0, 4, 20, 33] {
         for other in [None, Some(0), Some(0xee)] {
             for len in [1, 20, 33, 34, 200, 5000] {
-                let torn = left_with_front(&journal, len, &torn_front(own, other))?;
+                let torn = left_with_beginning(&journal, len, &torn_beginning(own, other))?;
                 if !opens(alloc, left_of(&storage, 0, 0)?, torn, is_done)? {
                     return Ok(false);
                 }
@@ -193,9 +195,9 @@ fn any_front_opens(alloc: Global, journal_calls: u64) -> Result<bool, Fail> {
 
 // A journal that is torn within its first bytes, also to what looks like that of another file.
 #[test]
-fn a_torn_front(rt: HostRuntime) -> Result<(), Fail> {
+fn a_torn_beginning(rt: HostRuntime) -> Result<(), Fail> {
     for calls in 0..CALLS {
-        assert!(rt; any_front_opens(rt.alloc(), calls)?, "{calls} calls");
+        assert!(rt; any_beginning_opens(rt.alloc(), calls)?, "{calls} calls");
     }
     Ok(())
 }
@@ -225,7 +227,7 @@ fn committing(alloc: Global) -> Result<(Vec<u8>, Vec<u8>), Fail> {
     Ok((left_of(&storage, 0, 0)?, left_of(&journal, 0xfff, 0)?))
 }
 
-// Recovers a file, and returns the length of its text.
+// Recovers a file, and returns the length of its contents.
 fn recovered(
     alloc: Global,
     file: &mut Vec<u8>,
@@ -235,7 +237,7 @@ fn recovered(
     Ok(recover_file::<_, _, State256X1, 32, Global>(alloc, file, journal, key)?.len)
 }
 
-// Whether a file is recovered, with a text of this length, and leaves the journal empty.
+// Whether a file is recovered, with contents of this length, and leaves the journal empty.
 fn recovers(alloc: Global, file: &[u8], journal: &[u8], len: u64) -> Result<bool, Fail> {
     let mut file = file.to_vec(alloc)?;
     let mut journal = journal.to_vec(alloc)?;
@@ -259,7 +261,7 @@ fn refusal(
 }
 
 // A journal that may be of use to someone is left as it is: under a wrong key, and of another file, unless it has no
-// more than a front.
+// more than a beginning.
 #[test]
 fn journals_of_others(rt: HostRuntime) -> Result<(), Fail> {
     let alloc = rt.alloc();

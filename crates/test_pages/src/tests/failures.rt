@@ -5,7 +5,7 @@ use aegis_pages::{PagesError, SealedPages};
 use std::test::Fail;
 use test_tools::memory::Rationed;
 
-// A page for its box is asked for, and then each changed page.
+// A sealed page is asked for, and then each changed page.
 #[test]
 fn memory_is_refused(rt: HostRuntime) -> Result<(), Fail> {
     let alloc = rt.alloc();

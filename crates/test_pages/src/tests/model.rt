@@ -1,4 +1,4 @@
-//! Random calls on sealed pages and on a vector that holds the same text.
+//! Random calls on sealed pages and on a vector that holds the same contents.
 
 use super::{Counter, ID, KEY, copy, part_mut};
 use aegis_pages::SealedPages;
@@ -89,29 +89,29 @@ impl Random {
     }
 }
 
-/// Sealed pages, the text that they are to hold, and room for a part of it.
+/// Sealed pages, the contents that they are to hold, and room for a part of them.
 #[derive(Drop)]
 struct Pair {
     pages: SealedPages<Place, Vec<u8>, Counter, Global>,
-    text: Vec<u8>,
+    contents: Vec<u8>,
     part: Vec<u8>,
     random: Random,
-    // The text stays shorter.
+    // The contents stay shorter.
     most: u64,
 }
 
 impl Pair {
-    // Opens a file that holds the text.
+    // Opens a file that holds the contents.
     fn open(
         alloc: Global,
         place: Place,
-        text: Vec<u8>,
+        contents: Vec<u8>,
         random: Random,
         most: u64,
     ) -> Result<Self, Fail> {
         Ok(Pair {
             pages: SealedPages::open(alloc, place, Vec::new(alloc), Counter(random.0), &KEY)?,
-            text,
+            contents,
             part: vec![in alloc; 0; most as usize]?,
             random,
             most,
@@ -122,23 +122,23 @@ impl Pair {
     fn close(self) -> Result<(Place, Vec<u8>, Random), Fail> {
         let Pair {
             mut pages,
-            text,
+            contents,
             part: _,
             random,
             most: _,
         } = self;
         pages.commit()?;
         let (place, _) = pages.into_storages();
-        Ok((place, text, random))
+        Ok((place, contents, random))
     }
 
-    // Reads at a random place. Returns whether what was read is the text's.
+    // Reads at a random place. Returns whether what was read is the contents'.
     fn read(&mut self) -> Result<bool, Fail> {
         let at = self.random.below(self.most);
         let n = self.random.below(self.most.wrapping_sub(at)) as usize;
         let out = part_mut(&mut self.part, 0, n);
         let count = self.pages.read_at(at, out)?;
-        let rest = self.text.get(at as usize..).unwrap_or(&[]);
+        let rest = self.contents.get(at as usize..).unwrap_or(&[]);
         let wanted = rest.get(..rest.len().min(n));
         Ok(out.get(..count) == wanted)
     }
@@ -151,10 +151,10 @@ impl Pair {
         self.random.fill(bytes);
         self.pages.write_at(at, bytes)?;
         let end = (at as usize).wrapping_add(n);
-        if end > self.text.len() {
-            self.text.resize(end, 0)?;
+        if end > self.contents.len() {
+            self.contents.resize(end, 0)?;
         }
-        copy(part_mut(&mut self.text, at as usize, end), bytes);
+        copy(part_mut(&mut self.contents, at as usize, end), bytes);
         Ok(())
     }
 
@@ -162,12 +162,12 @@ impl Pair {
     fn set_len(&mut self) -> Result<(), Fail> {
         let len = self.random.below(self.most);
         self.pages.set_len(len)?;
-        self.text.resize(len as usize, 0)?;
+        self.contents.resize(len as usize, 0)?;
         Ok(())
     }
 }
 
-// Makes random calls on a file, and compares each answer with the text's.
+// Makes random calls on a file, and compares each answer with the contents'.
 fn make_calls<R: Abort>(rt: &R, pair: &mut Pair) -> Result<(), Fail> {
     for _ in 0..CALLS {
         let kind = pair.random.below(20);
@@ -182,7 +182,7 @@ fn make_calls<R: Abort>(rt: &R, pair: &mut Pair) -> Result<(), Fail> {
         } else {
             assert!(rt; pair.read()?);
         }
-        assert_eq!(rt; pair.pages.len(), pair.text.len() as u64);
+        assert_eq!(rt; pair.pages.len(), pair.contents.len() as u64);
     }
     Ok(())
 }
@@ -198,13 +198,13 @@ fn check<R: Abort + AllocGlobal>(
     let journal: Vec<u8> = Vec::new(alloc);
     let pages = SealedPages::create(alloc, place, journal, Counter(0), &KEY, &ID, page_bytes)?;
     let (mut place, _) = pages.into_storages();
-    let mut text = Vec::new(alloc);
+    let mut contents = Vec::new(alloc);
     let mut random = Random(u64::from(page_bytes));
     for _ in 0..openings {
         let most = u64::from(page_bytes) * 9 + 17;
-        let mut pair = Pair::open(alloc, place, text, random, most)?;
+        let mut pair = Pair::open(alloc, place, contents, random, most)?;
         make_calls(rt, &mut pair)?;
-        (place, text, random) = pair.close()?;
+        (place, contents, random) = pair.close()?;
     }
     Ok(())
 }

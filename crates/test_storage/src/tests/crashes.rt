@@ -91,13 +91,13 @@ fn recovers_when_cut(
     Ok(true)
 }
 
-// Whether a journal has no more than a front, or begins with the one of the tests.
-fn keeps_front(journal: &[u8]) -> bool {
+// Whether a journal has no more than a beginning, or begins with the one of the tests.
+fn keeps_beginning(journal: &[u8]) -> bool {
     journal.len() <= FRONT.len() || journal.starts_with(&FRONT)
 }
 
-// Whether the journal keeps its front and recovery gives what is wanted, however a crash leaves the pending changes of
-// both.
+// Whether the journal keeps its beginning and recovery gives what is wanted, however a crash leaves the pending changes
+// of both.
 fn recovers_from_all(storage: &TestDisk, journal: &TestDisk, wanted: &Wanted) -> io::Result<bool> {
     let alloc = storage.alloc;
     for order in 0..ORDERS {
@@ -105,7 +105,7 @@ fn recovers_from_all(storage: &TestDisk, journal: &TestDisk, wanted: &Wanted) ->
             for journal_parts in 0..combinations(journal) {
                 let left = left_of(storage, parts, order)?;
                 let journal_left = left_of(journal, journal_parts, order)?;
-                if !keeps_front(&journal_left) {
+                if !keeps_beginning(&journal_left) {
                     return Ok(false);
                 }
                 if parts % 3 == 0 && !recovers_when_cut(alloc, &left, &journal_left, wanted)? {

@@ -7,13 +7,13 @@ pub returns : goal.returns
 returns g c =
     let variant = g.S.LaneState.VARIANT in
     let found = header_of c.in-Some.header.page_bytes c.in-Some.header.id c.in-Some.header.counter c.in-Some.header.len in
-    let opened : HasHeader variant c.args.k.now c.args.sector.now found =
-    subst (λ key. HasHeader variant key c.args.sector.now found) c.in_ok-key.ensures.key c.in-Some.ensures.opened in
+    let opened : HasHeader variant c.args.k.now c.args.header_block.now found =
+    subst (λ key. HasHeader variant key c.args.header_block.now found) c.in_ok-key.ensures.key c.in-Some.ensures.opened in
     record {
       answered = search rules;
       lengths = search rules;
       opened = λ _. opened;
-      one = λ _ header is. one_header variant c.args.k.now c.args.sector.now header found g.met.S.LaneState.one_two_or_four is opened;
+      one = λ _ header is. one_header variant c.args.k.now c.args.header_block.now header found g.met.S.LaneState.one_two_or_four is opened;
       accepted = search rules;
       kept = search rules;
     }

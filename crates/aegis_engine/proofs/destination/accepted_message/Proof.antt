@@ -1,6 +1,6 @@
--- The front of a checked destination is returned if the message is accepted. By hand, since no proof is generated for a
--- function that lends a slice of a struct: the walk takes the struct apart, and each arm ends by one lemma of `Prefix`
--- and one of `Results`. Assumes `Logic`.
+-- The beginning of a checked destination is returned if the message is accepted. By hand, since no proof is generated
+-- for a function that lends a slice of a struct: the walk takes the struct apart, and each arm ends by one lemma of
+-- `Prefix` and one of `Results`. Assumes `Logic`.
 use mathlib.Core.Path.{◌≡◌, refl, sym, subst, ◌∙◌}
 use mathlib.Core.Bool.{Bool, true, false, not}
 use Prim.Native.Nat.{ℕ, ◌≤◌, ◌<◌, ◌^◌, ◌*◌}
@@ -18,7 +18,7 @@ use prog.Wp.{Env}
 use types.Match.{live}
 use types.Kit.{updating, now as at_once, ‵, ◌⊛◌, raw, some, later, at_ret, ◌$◌, ◌∵◌, !, qed, move, keep, drop, split, split3, join, pick, rewrite, fsplit, fjoin, fpick, feq_l, use0, use1, use2, await, suffices, frame, done}
 use types.Part.{whole, sub, agg}
-use types.Run.{stop, fld, hop, from, addr, lit, and_then, no_more, of_opd, first, branches, exec, returns, enter}
+use types.Context.{stop, fld, hop, from, addr, lit, and_then, no_more, of_opd, first, branches, exec, returns, enter}
 use types.ByLocal.{alloc_all, pass_all, free_all, look_at, look_in_at, get, get_in, sets, sets_last, env}
 use contract.Monad.{fact}
 use contract.Running.{tables}

@@ -1,6 +1,6 @@
 use Rattle.std.proofs.Common.{◌≡◌, ◌∙◌, sym, ap, ◌+◌, ◌%◌, ◌<◌, arith, ℕ}
 use Rattle.aegis_base.specs.Variant.{rate}
-use Rattle.aegis_base.proofs.RunFacts.{along-full, along-open}
+use Rattle.aegis_base.proofs.ContextFacts.{along-full, along-open}
 use Rattle.aegis_engine.proofs.pass.absorb_part.Goals as goal
 
 pub returns-then-place-count-clause-along : goal.returns-then-place-count-clause-along

@@ -1,7 +1,7 @@
 use Rattle.std.proofs.Common.{◌≡◌, ◌∙◌, sym, ap, ℕ, ◌+◌, ◌*◌, ◌/◌, slice_index, arith}
 use Rattle.aegis_base.specs.Variant.{rate}
 use Rattle.aegis_base.specs.Message.{after}
-use Rattle.aegis_base.proofs.RunFacts.{along-whole, block-lane, whole-place}
+use Rattle.aegis_base.proofs.ContextFacts.{along-whole, block-lane, whole-place}
 use Rattle.aegis_base.proofs.MessageFacts.{rate-positive}
 use Rattle.aegis_engine.proofs.pass.absorb_whole.Goals as goal
 

@@ -1,11 +1,11 @@
--- Each turn continues from the state before it, at the next places of the run's input.
+-- Each turn continues from the state before it, at the next places of the context's input.
 use Rattle.std.proofs.Common.{◌≡◌, ◌∙◌, sym, ap, refl, ℕ, ◌+◌, ◌-◌, ◌*◌, ◌/◌, ◌<◌, ⊎_elim, List, bit_xor, slice_index, arith}
 use Rattle.std.proofs.lemmas.Bool.{cases_lt}
 use Rattle.aegis_aes.specs.Block.{IsSameBefore, IsSameFrom}
 use Rattle.aegis_base.specs.Variant.{rate}
-use Rattle.aegis_base.specs.Lane.{step}
+use Rattle.aegis_base.specs.Lane.{update}
 use Rattle.aegis_base.specs.Message.{after, keystream_byte, keystream_byte_along, share_at}
-use Rattle.aegis_base.proofs.RunFacts.{along-whole, block-byte, block-lane, whole-place}
+use Rattle.aegis_base.proofs.ContextFacts.{along-whole, block-byte, block-lane, whole-place}
 use Rattle.aegis_base.proofs.MessageFacts.{rate-positive}
 use Rattle.aegis_engine.specs.Pass.{absorbed}
 use Rattle.aegis_engine.proofs.PassFacts.{absorbed-same}
@@ -24,7 +24,7 @@ loop-i-preserved g c =
       above : IsSameFrom (here + L.RATE) now new;
       lanes : (j : ℕ) → j < L.VARIANT.lanes
           → L.lane c.if-FIT_REGISTERS.state j
-          ≡ step L.VARIANT.family (L.lane c.loop-i.state j) (share_at L.VARIANT j (absorbed c.args.pass now new) here);
+          ≡ update L.VARIANT.family (L.lane c.loop-i.state j) (share_at L.VARIANT j (absorbed c.args.pass now new) here);
       updates : L.updates c.if-FIT_REGISTERS.state ≡ L.updates c.loop-i.state + 1;
     } = elim c.if-FIT_REGISTERS.branch [
       | then-FIT_REGISTERS w ↦ rw (w.state-is, w.buffer-is) w.pass_block.ensures
@@ -49,7 +49,7 @@ loop-i-preserved g c =
           ∙ ap (after L.VARIANT (lanes j) j x) (omega arith);
       written = λ lanes x n begin same k low.
           ⊎_elim
-          (λ front. passed.below (c.args.at + k) (omega arith) ∙ inv.written lanes x n begin (kept x n same) k front)
+          (λ beginning. passed.below (c.args.at + k) (omega arith) ∙ inv.written lanes x n begin (kept x n same) k beginning)
           (λ back.
           let p : ℕ = k - i * r in
           let under : p < rate L.VARIANT = omega arith in

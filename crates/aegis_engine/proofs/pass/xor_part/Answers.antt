@@ -1,7 +1,7 @@
 use Rattle.std.proofs.Common.{◌≡◌, ◌∙◌, ap, ℕ, ◌+◌, ◌%◌, bit_xor, arith}
 use Rattle.aegis_base.specs.Variant.{rate}
 use Rattle.aegis_base.specs.Message.{keystream_byte}
-use Rattle.aegis_base.proofs.RunFacts.{along-byte}
+use Rattle.aegis_base.proofs.ContextFacts.{along-byte}
 use Rattle.aegis_engine.proofs.pass.xor_part.Goals as goal
 
 pub returns-clause-written : goal.returns-clause-written

@@ -19,7 +19,7 @@ returns-in_err-write-clause-stopped g c =
     let p = err_from_is_err_and c.from_residual-in_err-write.result c.from_residual-in_err-write.ensures.1 in
     let message = c.message.ensures ∙ ap (message_of c.in_ok-opened.opened) c.deref.ensures.value in
     let piece = c.part-piece.ensures ∙ ap (λ l. take c.records.left (drop c.records.skip l)) message in
-    let written = c.in_err-write.ensures.front in
+    let written = c.in_err-write.ensures.beginning in
     rw (p.1, p.2) (stops_write _ _ _ _ _ _ _ _ _ written.0 _ _ _ _ _ _ _ _ _ c.records.invariant c.in_ok-opened.ensures.opened c.in_ok-opened.ensures.fits piece written.1
     c.in_err-write.ensures.err)
 
@@ -28,7 +28,7 @@ returns-in_err-write_last-clause-stopped g c =
     let p = err_from_is_err_and c.from_residual-in_err-write_last.result c.from_residual-in_err-write_last.ensures.1 in
     let message = c.message.ensures ∙ ap (message_of c.in_ok-opened.opened) c.deref.ensures.value in
     let piece = c.part-piece.ensures ∙ ap (λ l. take c.records.left (drop c.records.skip l)) message in
-    let written = c.in_err-write_last.ensures.front in
+    let written = c.in_err-write_last.ensures.beginning in
     rw (p.1, p.2) (stops_write _ _ _ _ _ _ _ _ _ written.0 _ _ _ _ _ _ _ _ _ c.records.invariant c.in_ok-opened.ensures.opened c.in_ok-opened.ensures.fits piece written.1
     c.in_err-write_last.ensures.err)
 

@@ -1,5 +1,5 @@
 use Rattle.std.proofs.lemmas.Result.{err_from_is_err_and}
-use Rattle.aegis_files.specs.Rekey.{RekeysFront}
+use Rattle.aegis_files.specs.Rekey.{RekeysBeginning}
 use Rattle.aegis_files.proofs.Files.{known_head, no_head, under_err}
 use Rattle.aegis_files.proofs.Rekeying.{nothing_sent, result_rekeyed}
 use Rattle.aegis_files.proofs.rekey.rekey_stream.Goals as goal
@@ -14,4 +14,4 @@ returns-clause-rekeyed g c =
     result_rekeyed _ c.in_ok-old_prefix.old_prefix _ _ _ _ _ _ _ c.rekey_under.result c.in_ok-old_prefix.ensures.long c.in_ok-old_prefix.ensures.read c.rekey_under.ensures.rekeyed
 
 pub returns-clause-stopped : goal.returns-clause-stopped
-returns-clause-stopped g c = under_err (λ e f. RekeysFront _ _ _ _ f _ _ e) c.in_ok-old_prefix.old_prefix _ _ c.rekey_under.result c.in_ok-old_prefix.ensures.read c.rekey_under.ensures.stopped
+returns-clause-stopped g c = under_err (λ e f. RekeysBeginning _ _ _ _ f _ _ e) c.in_ok-old_prefix.old_prefix _ _ c.rekey_under.result c.in_ok-old_prefix.ensures.read c.rekey_under.ensures.stopped

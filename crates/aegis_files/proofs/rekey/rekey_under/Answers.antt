@@ -35,7 +35,7 @@ returns-in_err-end-clause-stopped g c =
 
 pub seal_last-requires-clause-fits : goal.seal_last-requires-clause-fits
 seal_last-requires-clause-fits g c =
-    let m = c.message-text.ensures ∙ ap (message_of c.in_ok-opened.opened) c.deref.ensures.value in
+    let m = c.message-contents.ensures ∙ ap (message_of c.in_ok-opened.opened) c.deref.ensures.value in
     omega (arith, ap length m, next_fits _ _ _ _ _ _ _ _ _ _ _ _ _ _ _ _ c.records.invariant c.in_ok-opened.ensures.opened c.in_ok-opened.ensures.fits)
 
 pub returns-in_err-seal_last-clause-stopped : goal.returns-in_err-seal_last-clause-stopped
@@ -45,7 +45,7 @@ returns-in_err-seal_last-clause-stopped g c =
 
 pub seal_next-requires-clause-fits : goal.seal_next-requires-clause-fits
 seal_next-requires-clause-fits g c =
-    let m = c.message-text.ensures ∙ ap (message_of c.in_ok-opened.opened) c.deref.ensures.value in
+    let m = c.message-contents.ensures ∙ ap (message_of c.in_ok-opened.opened) c.deref.ensures.value in
     omega (arith, ap length m, next_fits _ _ _ _ _ _ _ _ _ _ _ _ _ _ _ _ c.records.invariant c.in_ok-opened.ensures.opened c.in_ok-opened.ensures.fits)
 
 pub returns-in_err-seal_next-clause-stopped : goal.returns-in_err-seal_next-clause-stopped
@@ -56,28 +56,28 @@ returns-in_err-seal_next-clause-stopped g c =
 pub returns-in_err-write_last-clause-stopped : goal.returns-in_err-write_last-clause-stopped
 returns-in_err-write_last-clause-stopped g c =
     let p = err_from_is_err_and c.from_residual-in_err-write_last.result c.from_residual-in_err-write_last.ensures.1 in
-    let m = c.message-text.ensures ∙ ap (message_of c.in_ok-opened.opened) c.deref.ensures.value in
+    let m = c.message-contents.ensures ∙ ap (message_of c.in_ok-opened.opened) c.deref.ensures.value in
     let sent = c.deref-then-opened.ensures.value ∙ c.in_ok-seal_last.ensures.appended ∙ ap (λ x. c.records.out.items ++ record_of c.records.sealer 1 x) m in
-    let written = c.in_err-write_last.ensures.front in
+    let written = c.in_err-write_last.ensures.beginning in
     rw (p.1, p.2) (stops_ending _ _ _ _ _ _ _ _ _ _ _ _ _ _ _ _ _ _ written.0 _ c.requires.old_long c.requires.new_long c.records.invariant (rw c.if-opened.true at c.in_ok-opened.ensures.opened) c.in_ok-end.ensures.read c.in_ok-end.ensures.end sent written.1 c.in_err-write_last.ensures.err)
 
 pub returns-then-opened-clause-rekeyed : goal.returns-then-opened-clause-rekeyed
 returns-then-opened-clause-rekeyed g c =
-    let m = c.message-text.ensures ∙ ap (message_of c.in_ok-opened.opened) c.deref.ensures.value in
+    let m = c.message-contents.ensures ∙ ap (message_of c.in_ok-opened.opened) c.deref.ensures.value in
     let sent = c.deref-then-opened.ensures.value ∙ c.in_ok-seal_last.ensures.appended ∙ ap (λ x. c.records.out.items ++ record_of c.records.sealer 1 x) m in
     rekeys_end _ _ _ _ _ _ _ _ _ _ _ _ _ _ _ _ _ _ c.records.invariant (rw c.if-opened.true at c.in_ok-opened.ensures.opened) c.in_ok-end.ensures.read c.in_ok-end.ensures.end sent c.in_ok-write_last.ensures.ok
 
 pub returns-in_err-write-clause-stopped : goal.returns-in_err-write-clause-stopped
 returns-in_err-write-clause-stopped g c =
     let p = err_from_is_err_and c.from_residual-in_err-write.result c.from_residual-in_err-write.ensures.1 in
-    let m = c.message-text.ensures ∙ ap (message_of c.in_ok-opened.opened) c.deref.ensures.value in
+    let m = c.message-contents.ensures ∙ ap (message_of c.in_ok-opened.opened) c.deref.ensures.value in
     let sent = c.deref-in-records.ensures.value ∙ c.in_ok-seal_next.ensures.appended ∙ ap (λ x. c.records.out.items ++ record_of c.records.sealer 0 x) m in
-    let written = c.in_err-write.ensures.front in
+    let written = c.in_err-write.ensures.beginning in
     rw (p.1, p.2) (stops_writing _ _ _ _ _ _ _ _ _ _ _ _ _ _ _ _ _ _ written.0 _ c.requires.old_long c.requires.new_long c.records.invariant (rw c.if-opened.false at c.in_ok-opened.ensures.opened) (c.in_ok-seal_next.ensures.progress ∙ ap (after c.records.sealer _) m) sent written.1 c.in_err-write.ensures.err)
 
 pub records-preserved : goal.records-preserved
 records-preserved g c =
-    let m = c.message-text.ensures ∙ ap (message_of c.in_ok-opened.opened) c.deref.ensures.value in
+    let m = c.message-contents.ensures ∙ ap (message_of c.in_ok-opened.opened) c.deref.ensures.value in
     let sent = c.deref-in-records.ensures.value ∙ c.in_ok-seal_next.ensures.appended ∙ ap (λ x. c.records.out.items ++ record_of c.records.sealer 0 x) m in
     rekeys_more _ _ _ _ _ _ _ _ _ _ _ _ _ _ _ _ _ _ _ c.records.invariant (rw c.if-opened.false at c.in_ok-opened.ensures.opened) (c.in_ok-seal_next.ensures.progress ∙ ap (after c.records.sealer _) m) sent c.in_ok-write.ensures.ok c.clear.ensures.items
 

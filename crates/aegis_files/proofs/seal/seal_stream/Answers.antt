@@ -33,7 +33,7 @@ returns-in_err-write-clause-stopped g c =
     let p = err_from_is_err_and c.from_residual-in_err-write.result c.from_residual-in_err-write.ensures.1 in
     let out = c.in_ok-extend_from_slice.ensures.items ∙ ap (λ l. l ++ c.args.prefix.now) c.in_ok-out.ensures.items in
     let all = c.deref.ensures.value ∙ c.in_ok-sealer.ensures.appended ∙ ap (λ l. l ++ header Second) out in
-    let written = c.in_err-write.ensures.front in
+    let written = c.in_err-write.ensures.beginning in
     rw (p.1, p.2) (stops_in_front _ _ _ _ _ _ written.0 _ c.told-prefix (written_in_time _ c.in_err-write.ensures.err)
     (subst (Appends _ _) (ap (take written.0) all) written.1))
 
@@ -64,7 +64,7 @@ returns-in_err-write_last-clause-stopped g c =
     let none = rw c.if-count-eq0.true at c.in_ok-count.ensures.read in
     let end = c.in_ok-count.ensures.end (omega (arith, placed_size _ _ _ placed, c.if-count-eq0.true)) in
     let sent = c.deref-then-count-eq0.ensures.value ∙ c.in_ok-seal_last.ensures.appended ∙ ap (λ l. l ++ record_of c.pieces.sealer 1 []) c.clear.ensures.items in
-    let written = c.in_err-write_last.ensures.front in
+    let written = c.in_err-write_last.ensures.beginning in
     rw (p.1, p.2) (stops_ending _ _ _ _ _ _ _ _ _ _ _ written.0 _ c.told-prefix c.pieces.invariant.sealed none end sent written.1 c.in_err-write_last.ensures.err)
 
 pub returns-then-count-eq0-clause-sealed : goal.returns-then-count-eq0-clause-sealed
@@ -126,7 +126,7 @@ returns-in_err-write-2-clause-stopped g c =
     record { room = c.pieces.invariant.room; all_is = c.deref_mut.ensures.value; same = c.fill.auto.buffer } in
     let size = placed_size _ _ _ placed in
     let is = placed_in _ count _ piece _ placed (omega (arith, size, c.in_ok-count.ensures.within)) c.deref_mut-in-pieces.ensures.value in
-    let written = c.in_err-write-2.ensures.front in
+    let written = c.in_err-write-2.ensures.beginning in
     rw (p.1, p.2) (stops_writing _ _ _ _ _ _ _ _ _ _ _ (take count piece) _ written.0 _ c.told-prefix (written_in_time _ c.in_err-write-2.ensures.err) c.pieces.invariant.sealed
     c.in_ok-count.ensures.read (rw is at c.seal_next_in_place.ensures.progress) (rw is at c.seal_next_in_place.ensures.written)
     (omega (arith, length-take count piece, size)) written.1)

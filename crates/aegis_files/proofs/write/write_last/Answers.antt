@@ -15,7 +15,7 @@ done (Err e) P p = tt
 pub returns-clause-ok : goal.returns-clause-ok
 returns-clause-ok g c = done c.flush.result _ (Appends-kept _ _ _ _ c.in_ok-write.ensures.ok c.flush.ensures.kept)
 
-pub returns-clause-front : goal.returns-clause-front
-returns-clause-front g c =
+pub returns-clause-beginning : goal.returns-clause-beginning
+returns-clause-beginning g c =
     let bytes = c.args.bytes.now in
     either c.flush.result _ (length bytes, subst (Appends _ _) (sym (take_all (length bytes) bytes (le_refl _))) (Appends-kept _ _ _ _ c.in_ok-write.ensures.ok c.flush.ensures.kept))

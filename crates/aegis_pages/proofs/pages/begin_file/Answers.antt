@@ -1,5 +1,5 @@
 use Rattle.std.proofs.Common.{◌∙◌, ap, length, List, subst, sym, ℕ}
-use Rattle.aegis_pages.specs.Headers.{IsHeader, IsSector}
+use Rattle.aegis_pages.specs.Headers.{IsHeader, IsHeaderBlock}
 use Rattle.aegis_pages.proofs.OpenFileFacts.{begun_certain, begun_known, known_kept}
 use Rattle.aegis_pages.proofs.pages.begin_file.Goals as goal
 
@@ -7,11 +7,11 @@ pub returns-in-Ok-sync-clause-known : goal.returns-in-Ok-sync-clause-known
 returns-in-Ok-sync-clause-known g c =
     known_kept (IsHeader c.args.layout.now 0 0) (g.S.Storage.bytes c.args.storage.now) _ _
     (begun_known c.args.layout.now c.deref.result.now _ _ _ (ap (λ (l : List ℕ). length l) c.deref.ensures.value ∙ c.in_ok-header.ensures.size)
-    (subst (IsSector c.args.layout.now 0 0) (sym c.deref.ensures.value) c.in_ok-header.ensures.header) c.in-Ok.ensures.resized c.in-Ok-write_at.ensures.written) c.sync.ensures.kept
+    (subst (IsHeaderBlock c.args.layout.now 0 0) (sym c.deref.ensures.value) c.in_ok-header.ensures.header) c.in-Ok.ensures.resized c.in-Ok-write_at.ensures.written) c.sync.ensures.kept
 
 pub returns-in-Ok-sync-clause-certain : goal.returns-in-Ok-sync-clause-certain
 returns-in-Ok-sync-clause-certain g c disk is =
     begun_certain (IsHeader c.args.layout.now 0 0) _ _ _ _ _ _ c.deref.result.now disk (g.met.S.Storage.possible c.args.storage.now) (g.met.S.Storage.possible c.write_at.new.self)
     (begun_known c.args.layout.now c.deref.result.now _ _ _ (ap (λ (l : List ℕ). length l) c.deref.ensures.value ∙ c.in_ok-header.ensures.size)
-    (subst (IsSector c.args.layout.now 0 0) (sym c.deref.ensures.value) c.in_ok-header.ensures.header) c.in-Ok.ensures.resized c.in-Ok-write_at.ensures.written)
+    (subst (IsHeaderBlock c.args.layout.now 0 0) (sym c.deref.ensures.value) c.in_ok-header.ensures.header) c.in-Ok.ensures.resized c.in-Ok-write_at.ensures.written)
     c.in-Ok.ensures.pending c.in-Ok-write_at.ensures.pending c.in-Ok-sync.ensures.certain is

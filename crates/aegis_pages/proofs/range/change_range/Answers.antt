@@ -1,5 +1,5 @@
 use Rattle.std.proofs.Common.{◌≡◌, ℕ, ◌+◌, ◌-◌, ◌/◌, ◌≤◌, ◌∙◌, Some, ap, arith, length, min}
-use Rattle.aegis_pages.specs.Changed.{text_at}
+use Rattle.aegis_pages.specs.Changed.{contents_at}
 use Rattle.aegis_pages.specs.Layouts.{Layout, inner}
 use Rattle.aegis_pages.proofs.ComposeFacts.{slice_inner}
 use Rattle.aegis_pages.proofs.KnownFacts.{known_map, known_map2}
@@ -19,27 +19,27 @@ returns-clause-written g c =
     let s = spans c.args.layout.now c.args.len c.args.at (length c.args.part.now) c.min.result c.page_bytes-page_bytes.result c.page_bytes-page_bytes.ensures.size.0 c.min.ensures c.page_bytes-page_bytes.ensures.value in
     let done : c.loop-number.number ≡ ((c.args.at + length c.args.part.now) + (c.page_bytes-page_bytes.result - 1)) / c.page_bytes-page_bytes.result =
     omega (arith, c.loop-number-test.false, c.loop-number.auto.number-end (first_last _ _ _ _ _ _ s)) in
-    known_map _ _ _ (λ file r. rewrites_all c.args.layout.now c.args.len c.args.at c.args.part.now _ _ (text_at c.args.changes.now.entries) (text_at c.loop-number.changes.entries) file s (rw done at c.loop-number.invariant.keeps) (rw done at r)) c.loop-number.invariant.rewrites
+    known_map _ _ _ (λ file r. rewrites_all c.args.layout.now c.args.len c.args.at c.args.part.now _ _ (contents_at c.args.changes.now.entries) (contents_at c.loop-number.changes.entries) file s (rw done at c.loop-number.invariant.keeps) (rw done at r)) c.loop-number.invariant.rewrites
 
 pub returns-clause-others : goal.returns-clause-others
 returns-clause-others g c =
     let s = spans c.args.layout.now c.args.len c.args.at (length c.args.part.now) c.min.result c.page_bytes-page_bytes.result c.page_bytes-page_bytes.ensures.size.0 c.min.ensures c.page_bytes-page_bytes.ensures.value in
-    keeps_others c.args.layout.now c.args.len c.args.at (length c.args.part.now) _ _ c.loop-number.number (text_at c.args.changes.now.entries) (text_at c.loop-number.changes.entries) s
+    keeps_others c.args.layout.now c.args.len c.args.at (length c.args.part.now) _ _ c.loop-number.number (contents_at c.args.changes.now.entries) (contents_at c.loop-number.changes.entries) s
     (c.loop-number.auto.number-end (first_last _ _ _ _ _ _ s)) c.loop-number.invariant.keeps
 
 pub returns-in_err-compose-clause-others : goal.returns-in_err-compose-clause-others
 returns-in_err-compose-clause-others g c =
     let s = spans c.args.layout.now c.args.len c.args.at (length c.args.part.now) c.min.result c.page_bytes-page_bytes.result c.page_bytes-page_bytes.ensures.size.0 c.min.ensures c.page_bytes-page_bytes.ensures.value in
     let low = c.loop-number-test.true in
-    keeps_others c.args.layout.now c.args.len c.args.at (length c.args.part.now) _ _ c.loop-number.number (text_at c.args.changes.now.entries) (text_at c.loop-number.changes.entries) s
+    keeps_others c.args.layout.now c.args.len c.args.at (length c.args.part.now) _ _ c.loop-number.number (contents_at c.args.changes.now.entries) (contents_at c.loop-number.changes.entries) s
     (omega (arith, low)) c.loop-number.invariant.keeps
 
 pub returns-in_default-clause-others : goal.returns-in_default-clause-others
 returns-in_default-clause-others g c =
     let s = spans c.args.layout.now c.args.len c.args.at (length c.args.part.now) c.min.result c.page_bytes-page_bytes.result c.page_bytes-page_bytes.ensures.size.0 c.min.ensures c.page_bytes-page_bytes.ensures.value in
     let low = c.loop-number-test.true in
-    keeps_others c.args.layout.now c.args.len c.args.at (length c.args.part.now) _ _ (c.loop-number.number + 1) (text_at c.args.changes.now.entries) (text_at c.set.new.self.entries) s
-    (omega (arith, low)) (keeps_more _ c.loop-number.number (text_at c.args.changes.now.entries) (text_at c.loop-number.changes.entries) (text_at c.set.new.self.entries) c.loop-number.auto.number
+    keeps_others c.args.layout.now c.args.len c.args.at (length c.args.part.now) _ _ (c.loop-number.number + 1) (contents_at c.args.changes.now.entries) (contents_at c.set.new.self.entries) s
+    (omega (arith, low)) (keeps_more _ c.loop-number.number (contents_at c.args.changes.now.entries) (contents_at c.loop-number.changes.entries) (contents_at c.set.new.self.entries) c.loop-number.auto.number
     c.loop-number.invariant.keeps c.set.ensures.others)
 
 pub loop-number-preserved : goal.loop-number-preserved
@@ -48,9 +48,9 @@ loop-number-preserved g c =
     let page = c.compose.new.page in
     let room = c.compose.auto.page ∙ c.loop-number.invariant.room in
     let inside = slice_inner layout c.nonce_bytes-nonce_bytes.result c.page_bytes-page_bytes.result page c.nonce_bytes-nonce_bytes.ensures.value c.page_bytes-page_bytes.ensures.value (room ∙ c.requires.room) in
-    let old = text_at c.args.changes.now.entries in
-    let new = text_at c.loop-number.changes.entries in
-    let next = text_at c.set.new.self.entries in
+    let old = contents_at c.args.changes.now.entries in
+    let new = contents_at c.loop-number.changes.entries in
+    let next = contents_at c.set.new.self.entries in
     record {
       room = room;
       size = c.set.ensures.size ∙ c.loop-number.invariant.size;

@@ -1,8 +1,8 @@
 use Rattle.std.proofs.Common.{◌≡◌, ℕ, ◌+◌, ◌-◌, ◌*◌, ◌<◌, ◌∙◌, IfSome, List, ap, arith, drop, get_or, length, sym, take}
 use Rattle.std.proofs.lemmas.List.{length-drop, length-take}
 use Rattle.aegis_storage.specs.Bytes.{overwritten}
-use Rattle.aegis_pages.specs.Changed.{text_at}
-use Rattle.aegis_pages.specs.Layouts.{box_bytes}
+use Rattle.aegis_pages.specs.Changed.{contents_at}
+use Rattle.aegis_pages.specs.Layouts.{sealed_bytes}
 use Rattle.aegis_pages.specs.SealedPages.{IsPage}
 use Rattle.aegis_pages.proofs.ComposeFacts.{inner_put, lies_so, live_at}
 use Rattle.aegis_pages.proofs.KnownFacts.{known_all, known_map}
@@ -22,36 +22,36 @@ returns-clause-composed g c =
     let page = c.if-live-gt0.page in
     let bytes = g.S.Storage.bytes c.args.storage.now in
     let room = c.if-live-gt0.auto.page ∙ c.requires.room in
-    let room_at = room ∙ ap (box_bytes layout) (sym value) in
+    let room_at = room ∙ ap (sealed_bytes layout) (sym value) in
     let said = c.live_bytes-live.ensures in
-    let facts : IfSome (g.S.Storage.bytes c.args.storage.now) (λ file. (text : List ℕ) → length text ≡ c.args.len
-    → (c.args.number * c.args.layout.now.page_bytes < c.args.len → IsPage c.args.layout.now (text_at c.args.changes.now.entries c.args.number) file c.args.number text)
+    let facts : IfSome (g.S.Storage.bytes c.args.storage.now) (λ file. (contents : List ℕ) → length contents ≡ c.args.len
+    → (c.args.number * c.args.layout.now.page_bytes < c.args.len → IsPage c.args.layout.now (contents_at c.args.changes.now.entries c.args.number) file c.args.number contents)
     → (i : ℕ) → i < c.live_bytes-live.result
     → get_or (take ((c.nonce_bytes-nonce_bytes.result + c.page_bytes-page_bytes.result) - c.nonce_bytes-nonce_bytes.result) (drop c.nonce_bytes-nonce_bytes.result c.if-live-gt0.page)) i 0
-    ≡ get_or text (c.args.number * c.page_bytes-page_bytes.result + i) 0) =
+    ≡ get_or contents (c.args.number * c.page_bytes-page_bytes.result + i) 0) =
     elim c.if-live-gt0.branch [
       | then-live-gt0+in_ok-show_page w ↦
-          known_map bytes _ _ (λ file only text is opens i low.
+          known_map bytes _ _ (λ file only contents is opens i low.
           let some = said.live w.if-live-gt0.true in
           let here : c.args.number * c.args.layout.now.page_bytes < c.args.len = omega (arith, some, low, start) in
-          live_at layout (text_at c.args.changes.now.entries c.args.number) number n p text file page i value nonce room (rw (← w.page-is) at only) (opens here)
+          live_at layout (contents_at c.args.changes.now.entries c.args.number) number n p contents file page i value nonce room (rw (← w.page-is) at only) (opens here)
           (omega (arith, low, said.within)) (omega (arith, some, low, is))) w.in_ok-show_page.ensures.only
-      | else-live-gt0 w ↦ known_all bytes _ (λ file text is opens i low. absurd (omega (arith, low, w.if-live-gt0.false)))
+      | else-live-gt0 w ↦ known_all bytes _ (λ file contents is opens i low. absurd (omega (arith, low, w.if-live-gt0.false)))
     ] in
     let size : length (take ((c.nonce_bytes-nonce_bytes.result + c.page_bytes-page_bytes.result) - c.nonce_bytes-nonce_bytes.result) (drop c.nonce_bytes-nonce_bytes.result c.if-live-gt0.page))
     ≡ c.page_bytes-page_bytes.result =
     omega (arith, room_at, nonce, length-take ((n + p) - n) (drop n page), length-drop n page) in
-    known_map bytes _ _ (λ file live_text text is opens i low.
+    known_map bytes _ _ (λ file live_contents contents is opens i low.
     let near : i < c.page_bytes-page_bytes.result = omega (arith, low, value) in
-    ap (λ (l : List ℕ). get_or l i 0) (inner_put layout n p page c.lay.new.text nonce room_at (c.lay.auto.text ∙ size))
-    ∙ lies_so text c.args.part.now _ c.lay.new.text p live (number * p) c.args.at
+    ap (λ (l : List ℕ). get_or l i 0) (inner_put layout n p page c.lay.new.contents nonce room_at (c.lay.auto.contents ∙ size))
+    ∙ lies_so contents c.args.part.now _ c.lay.new.contents p live (number * p) c.args.at
     (record {
       long = size;
       live_in = said.within;
-      live_text = live_text text is opens;
+      live_contents = live_contents contents is opens;
       rest = λ j past near apart. rw is (said.rest j past near apart);
       laid = c.lay.ensures.laid;
       kept = c.lay.ensures.kept;
       cleared = c.lay.ensures.cleared;
     }) i near
-    ∙ ap (λ (k : ℕ). get_or (overwritten text c.args.at c.args.part.now) k 0) (ap (λ (k : ℕ). k + i) start)) facts
+    ∙ ap (λ (k : ℕ). get_or (overwritten contents c.args.at c.args.part.now) k 0) (ap (λ (k : ℕ). k + i) start)) facts

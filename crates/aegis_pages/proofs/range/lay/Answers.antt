@@ -2,7 +2,7 @@ use Rattle.std.proofs.Common.{◌+◌, ◌-◌, ◌∙◌, ap, arith, drop, leng
 use Rattle.aegis_pages.proofs.LayFacts.{Lays, cleared_byte, kept_byte, laid_byte}
 use Rattle.aegis_pages.proofs.range.lay.Goals as goal
 
-lays : (c : goal.After-slice_known-then-from-to-1) → Lays c.args.text.now c.clear_from.new.bytes c.args.part.now
+lays : (c : goal.After-slice_known-then-from-to-1) → Lays c.args.contents.now c.clear_from.new.bytes c.args.part.now
     (take ((c.min-to.result - c.args.at) - (c.max-from.result - c.args.at)) (drop (c.max-from.result - c.args.at) c.args.part.now))
     c.put.new.bytes c.args.live c.args.start c.args.at c.max-from.result c.min-to.result
 lays c =

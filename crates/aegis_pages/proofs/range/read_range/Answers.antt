@@ -1,9 +1,9 @@
 use Rattle.std.proofs.Common.{◌≡◌, ◌+◌, ◌-◌, ◌%◌, ◌<◌, ◌≤◌, ◌∙◌, ℕ, ap, arith, drop, length, refl, take}
 use Rattle.std.proofs.lemmas.Nat.{mod_below}
 use Rattle.aegis_storage.specs.Bytes.{overwritten}
-use Rattle.aegis_pages.specs.Changed.{text_at}
+use Rattle.aegis_pages.specs.Changed.{contents_at}
 use Rattle.aegis_pages.proofs.KnownFacts.{known_map2}
-use Rattle.aegis_pages.proofs.RangeFacts.{Puts, bytes_more, text_more}
+use Rattle.aegis_pages.proofs.RangeFacts.{Puts, bytes_more, contents_more}
 use Rattle.aegis_pages.proofs.range.read_range.Given.{Over}
 use Rattle.aegis_pages.proofs.range.read_range.Goals as goal
 
@@ -41,13 +41,13 @@ loop-done-preserved g c =
       within = omega (arith, out, longer, count, within);
       room = c.show_page.auto.page ∙ c.loop-done.invariant.room;
       opened = known_map2 (g.S.Storage.bytes c.args.storage.now) _ _ _
-          (λ file before opens. bytes_more c.args.layout.now (text_at c.args.changes.now.entries) file c.show_page.new.page c.loop-done.out _ c.put.new.bytes c.args.at c.loop-done.done c.min-count.result (puts g c) before
+          (λ file before opens. bytes_more c.args.layout.now (contents_at c.args.changes.now.entries) file c.show_page.new.page c.loop-done.out _ c.put.new.bytes c.args.at c.loop-done.done c.min-count.result (puts g c) before
           (rw value at opens))
           c.loop-done.invariant.opened c.in_ok-show_page.ensures.shown;
       read = known_map2 (g.S.Storage.bytes c.args.storage.now) _ _ _
-          (λ file before only text are fits.
-          text_more c.args.layout.now (text_at c.args.changes.now.entries) file c.show_page.new.page c.loop-done.out _ c.put.new.bytes text c.args.at c.loop-done.done c.min-count.result (puts g c) are
-          (before text are (let h : c.args.at + length c.loop-done.out ≤ length text = omega (arith, longer, fits) in h)) (rw value at only)
-          (let h : c.args.at + (c.loop-done.done + c.min-count.result) ≤ length text = omega (arith, longer, fits, count, within) in h))
+          (λ file before only contents are fits.
+          contents_more c.args.layout.now (contents_at c.args.changes.now.entries) file c.show_page.new.page c.loop-done.out _ c.put.new.bytes contents c.args.at c.loop-done.done c.min-count.result (puts g c) are
+          (before contents are (let h : c.args.at + length c.loop-done.out ≤ length contents = omega (arith, longer, fits) in h)) (rw value at only)
+          (let h : c.args.at + (c.loop-done.done + c.min-count.result) ≤ length contents = omega (arith, longer, fits, count, within) in h))
           c.loop-done.invariant.read c.in_ok-show_page.ensures.only;
     }

@@ -1,14 +1,14 @@
 use Rattle.std.proofs.Common.{◌≡◌, ◌++◌}
 use Rattle.aegis_storage.specs.Disk.{Writes}
 use Rattle.aegis_storage.specs.Pending.{writes_of}
-use Rattle.aegis_pages.specs.Changed.{Texts, texts_in}
+use Rattle.aegis_pages.specs.Changed.{Plaintexts, plaintexts_in}
 use Rattle.aegis_pages.specs.Sealing.{Seals}
-use Rattle.aegis_pages.proofs.ChangedFacts.{texts_of}
+use Rattle.aegis_pages.proofs.ChangedFacts.{plaintexts_of}
 use Rattle.aegis_pages.proofs.sealing.seal_pages.Given as goal
 
--- the texts so far are sealed
+-- the contents so far are sealed
 abbrev pub invariant-loop-number : goal.invariant-loop-number
 invariant-loop-number g l = record {
-  parts : (done : Texts) × (more : Writes) × (done ++ texts_of l.number-iterator ≡ texts_in l.texts)
+  parts : (done : Plaintexts) × (more : Writes) × (done ++ plaintexts_of l.number-iterator ≡ plaintexts_in l.plaintexts)
       × (writes_of l.writes.items ≡ writes_of l.fn.writes.items ++ more) × Seals l.fn.layout done more;
 }

@@ -3,12 +3,12 @@ use Rattle.std.proofs.lemmas.List.{take_at}
 use Rattle.aegis_storage.specs.Journal.{IsJournal}
 use Rattle.aegis_storage.specs.Pending.{writes_of}
 use Rattle.aegis_storage.proofs.Disks.{left, on_ok_map}
-use Rattle.aegis_storage.proofs.Fronts.{emptied_front}
+use Rattle.aegis_storage.proofs.Beginnings.{emptied_beginning}
 use Rattle.aegis_storage.proofs.Journals.{finish, middle, over_gives, torn_journal}
 use Rattle.aegis_storage.proofs.atomic.commit.Goals as goal
 
-begins : (front bytes rest : List ℕ) → length front ≡ 33 → bytes ≡ front ++ rest → take 33 bytes ≡ front
-begins front bytes rest long is = ap (take 33) is ∙ take_at front rest 33 long
+begins : (beginning bytes rest : List ℕ) → length beginning ≡ 33 → bytes ≡ beginning ++ rest → take 33 bytes ≡ beginning
+begins beginning bytes rest long is = ap (take 33) is ∙ take_at beginning rest 33 long
 
 pub returns-in_err-write_journal-clause-recovers : goal.returns-in_err-write_journal-clause-recovers
 returns-in_err-write_journal-clause-recovers g c xs rest =
@@ -39,17 +39,17 @@ returns-clause-at_rest g c =
     })
     c.empty.ensures.certain
 
-pub returns-in_err-write_journal-clause-front : goal.returns-in_err-write_journal-clause-front
-returns-in_err-write_journal-clause-front g c empty =
-    let front = begins c.args.front.now c.deref.result.now _ (omega arith) (c.deref.ensures.value ∙ c.in_ok-content.ensures.journal) in
-    rw (← front) (c.write_journal.ensures.torn empty)
+pub returns-in_err-write_journal-clause-beginning : goal.returns-in_err-write_journal-clause-beginning
+returns-in_err-write_journal-clause-beginning g c empty =
+    let beginning = begins c.args.beginning.now c.deref.result.now _ (omega arith) (c.deref.ensures.value ∙ c.in_ok-content.ensures.journal) in
+    rw (← beginning) (c.write_journal.ensures.torn empty)
 
-pub returns-in_err-write_and_sync-clause-front : goal.returns-in_err-write_and_sync-clause-front
-returns-in_err-write_and_sync-clause-front g c empty =
-    let front = begins c.args.front.now c.deref.result.now _ (omega arith) (c.deref.ensures.value ∙ c.in_ok-content.ensures.journal) in
-    rw (← front) (c.write_journal.ensures.torn empty)
+pub returns-in_err-write_and_sync-clause-beginning : goal.returns-in_err-write_and_sync-clause-beginning
+returns-in_err-write_and_sync-clause-beginning g c empty =
+    let beginning = begins c.args.beginning.now c.deref.result.now _ (omega arith) (c.deref.ensures.value ∙ c.in_ok-content.ensures.journal) in
+    rw (← beginning) (c.write_journal.ensures.torn empty)
 
-pub returns-clause-front : goal.returns-clause-front
-returns-clause-front g c empty =
-    let front = begins c.args.front.now c.deref.result.now _ (omega arith) (c.deref.ensures.value ∙ c.in_ok-content.ensures.journal) in
-    emptied_front c.args.front.now c.deref.result.now _ (inr front) (left _ _ _ _ c.empty.ensures.pending (c.in_ok-write_journal.ensures.certain empty))
+pub returns-clause-beginning : goal.returns-clause-beginning
+returns-clause-beginning g c empty =
+    let beginning = begins c.args.beginning.now c.deref.result.now _ (omega arith) (c.deref.ensures.value ∙ c.in_ok-content.ensures.journal) in
+    emptied_beginning c.args.beginning.now c.deref.result.now _ (inr beginning) (left _ _ _ _ c.empty.ensures.pending (c.in_ok-write_journal.ensures.certain empty))

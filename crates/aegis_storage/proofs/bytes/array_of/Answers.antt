@@ -2,7 +2,7 @@ use Rattle.std.proofs.Common.{◌∙◌, ap, arith, get_or, length, sym, take}
 use Rattle.std.proofs.lemmas.List.{length-append, take_all}
 use Rattle.aegis_base.specs.Chunks.{joined}
 use Rattle.aegis_base.proofs.ChunkFacts.{chunk-within, joined-more, no_chunk}
-use Rattle.aegis_storage.proofs.Overwriting.{filled_front}
+use Rattle.aegis_storage.proofs.Overwriting.{filled_beginning}
 use Rattle.aegis_storage.proofs.bytes.array_of.Goals as goal
 
 pub put-requires : goal.put-requires
@@ -15,10 +15,10 @@ loop-part-preserved g c =
     record {
       counted = rw more (omega (arith, c.loop-part.invariant.counted, length-append (joined (take c.loop-part.part-index parts)) (get_or parts c.loop-part.part-index no_chunk).now));
       whole = omega (arith, c.put.auto.bytes, c.loop-part.invariant.whole);
-      front = rw (more, c.put.ensures) (filled_front c.loop-part.bytes _ (get_or parts c.loop-part.part-index no_chunk).now c.loop-part.done c.loop-part.invariant.front (sym c.loop-part.invariant.counted));
+      beginning = rw (more, c.put.ensures) (filled_beginning c.loop-part.bytes _ (get_or parts c.loop-part.part-index no_chunk).now c.loop-part.done c.loop-part.invariant.beginning (sym c.loop-part.invariant.counted));
     }
 
 pub returns : goal.returns
 returns g c =
     let all = ap joined (take_all c.loop-part.part-index c.args.parts.now (omega (arith, c.loop-part-test.false))) in
-    sym (take_all c.loop-part.done c.loop-part.bytes (omega (arith, c.loop-part.invariant.counted, c.loop-part.invariant.whole, ap length all, c.requires))) ∙ c.loop-part.invariant.front ∙ all
+    sym (take_all c.loop-part.done c.loop-part.bytes (omega (arith, c.loop-part.invariant.counted, c.loop-part.invariant.whole, ap length all, c.requires))) ∙ c.loop-part.invariant.beginning ∙ all

@@ -9,5 +9,5 @@ invariant-loop-part g l =
     record {
       counted : l.done ≡ length taken;
       whole : length l.bytes ≡ g.row.N;
-      front : take l.done l.bytes ≡ taken;
+      beginning : take l.done l.bytes ≡ taken;
     }

@@ -1,5 +1,5 @@
 use Rattle.aegis_storage.proofs.Disks.{on_ok_map}
-use Rattle.aegis_storage.proofs.Fronts.{append_certain}
+use Rattle.aegis_storage.proofs.Beginnings.{append_certain}
 use Rattle.aegis_storage.proofs.calls.append.Goals as goal
 
 pub returns-clause-certain : goal.returns-clause-certain

@@ -11,11 +11,11 @@ pub returns-clause-whole : goal.returns-clause-whole
 returns-clause-whole g c =
     let messages : texts c.deref-3.result.now ≡ map place_and_bytes (writes_of c.args.writes.now) =
     ap texts c.deref-3.ensures.value ∙ c.in_ok-messages-2.ensures.each ∙ ap (map vec_items) c.deref.ensures.value ∙ c.in_ok-messages.ensures.messages in record {
-      front = c.args.front.now;
+      beginning = c.args.beginning.now;
       prefix = c.args.prefix.now;
       stream = c.in-Ok.stream.items;
       version = Second;
-      front_size = omega arith;
+      beginning_size = omega arith;
       prefix_size = omega arith;
       within = all_within c.args.writes.now;
       records = rw messages at c.in-Ok.ensures.sealed;

@@ -1,6 +1,6 @@
 use Rattle.aegis_storage.specs.Disk.{after_writes}
 use Rattle.aegis_storage.proofs.Disks.{left, on_ok_map}
-use Rattle.aegis_storage.proofs.Fronts.{emptied_front, synced_front}
+use Rattle.aegis_storage.proofs.Beginnings.{emptied_beginning, synced_beginning}
 use Rattle.aegis_storage.proofs.Journals.{finish, middle, settled}
 use Rattle.aegis_storage.proofs.recovery.recover.Goals as goal
 
@@ -30,7 +30,7 @@ returns-clause-at_rest g c =
     record { bytes = redone.bytes; one = redone.one xs (after_writes writes xs) s.gives; rests = record { storage_is = redone.is; journal_is = certainly c.deref.result.now s.journal_is } })
     c.empty.ensures.certain
 
-pub returns-clause-front : goal.returns-clause-front
-returns-clause-front g c front keeps =
-    let s = synced_front front _ _ _ (g.met.J.Storage.possible c.args.journal.now) keeps c.in_ok-sync-2.ensures.certain in
-    emptied_front front s.bytes _ s.has (left _ _ _ _ c.empty.ensures.pending s.is)
+pub returns-clause-beginning : goal.returns-clause-beginning
+returns-clause-beginning g c beginning keeps =
+    let s = synced_beginning beginning _ _ _ (g.met.J.Storage.possible c.args.journal.now) keeps c.in_ok-sync-2.ensures.certain in
+    emptied_beginning beginning s.bytes _ s.has (left _ _ _ _ c.empty.ensures.pending s.is)

@@ -1,5 +1,5 @@
-use Rattle.aegis.proofs.Stepwise.{begun_front}
-use Rattle.aegis.proofs.record.laws.begun_is_a_front.Goals as goal
+use Rattle.aegis.proofs.Stepwise.{begun_beginning}
+use Rattle.aegis.proofs.record.laws.begun_is_a_beginning.Goals as goal
 
 pub returns : goal.returns
-returns c = begun_front
+returns c = begun_beginning

@@ -16,6 +16,6 @@ returns g c =
     rw (c.block_of_lane.ensures, c.block_of_lane-2.ensures, c.long_tags-low-2.ensures.low 0 first, c.long_tags-low-2.ensures.high 0 first)
     (mac_tag-long g.Self.LaneState.VARIANT c.LANES-lanes.result (g.Self.LaneState.lane c.args.self)
     (g.Self.Row.Row.block c.long_tags-low.result.0) (g.Self.Row.Row.block c.long_tags-low.result.1)
-    (g.Self.LaneState.lane c.fold_long.result 0) (g.Self.LaneState.lane c.finish-ended.result 0) count
+    (g.Self.LaneState.lane c.fold_long.result 0) (g.Self.LaneState.lane c.finalize-ended.result 0) count
     (g.met.Self.LaneState.lanes_are ∙ sym c.LANES-lanes.ensures) c.if-lanes-eq1.false c.long_tags-low.ensures.low c.long_tags-low.ensures.high
-    c.fold_long.ensures.first (c.finish-ended.ensures.lanes 0 first))
+    c.fold_long.ensures.first (c.finalize-ended.ensures.lanes 0 first))

@@ -16,5 +16,5 @@ returns g c =
     c.block_of_lane.ensures ∙ c.short_tags-2.ensures 0 first
     ∙ mac_tag-short g.Self.LaneState.VARIANT c.LANES-lanes.result (g.Self.LaneState.lane c.args.self)
     (g.Self.Row.Row.block c.short_tags.result) (g.Self.LaneState.lane c.fold_short-folded.result 0)
-    (g.Self.LaneState.lane c.finish-ended.result 0) count (g.met.Self.LaneState.lanes_are ∙ sym c.LANES-lanes.ensures)
-    c.if-lanes-eq1.false c.short_tags.ensures c.fold_short-folded.ensures.first (c.finish-ended.ensures.lanes 0 first)
+    (g.Self.LaneState.lane c.finalize-ended.result 0) count (g.met.Self.LaneState.lanes_are ∙ sym c.LANES-lanes.ensures)
+    c.if-lanes-eq1.false c.short_tags.ensures c.fold_short-folded.ensures.first (c.finalize-ended.ensures.lanes 0 first)

@@ -10,6 +10,6 @@ pub returns-clause-xored : goal.returns-clause-xored
 returns-clause-xored g c =
     let key = c.self.inside.key in let nonce = c.self.inside.nonce in let m = c.args.m.now in
     let out = c.pass_appended.new.out.items in
-    let sealed = on-ok c.pass_appended.result c.pass_appended.ensures.written (λ e. e key nonce [] [] c.begin-run.ensures.stands) in
+    let sealed = on-ok c.pass_appended.result c.pass_appended.ensures.written (λ e. e key nonce [] [] c.begin-context.ensures.stands) in
     let e : keystream g.S.LaneState.VARIANT key nonce (length m) ≡ xor m out = grind (arith, common_steps, sealed) in
     rw (← c.self.view_is) (xored-by g.S.LaneState.VARIANT key nonce m out (grind (arith, common_steps)) e)

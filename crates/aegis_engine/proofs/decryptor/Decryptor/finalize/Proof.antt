@@ -12,7 +12,7 @@ use mir.MapTy.{inst_fn}
 use base.Logic.{ent, emp, id⊢}
 use base.Fml.{ftrue, flft}
 use types.Kit.{‵, ◌⊛◌, raw, some, later, ◌$◌, ◌∵◌, !, qed, move, keep, drop, split, join, pick, fjoin, use1, await, suffices, frame, updating, now as at_once, done}
-use types.Run.{no_more, and_then, of_opd, returns, enter}
+use types.Context.{no_more, and_then, of_opd, returns, enter}
 use types.ByLocal.{alloc_all, pass_all, free_all, look_at, get, sets, lands_as}
 use contract.Monad.{fact}
 use contract.Running.{tables}
@@ -36,7 +36,7 @@ use Rattle.std.proofs.raw_atomic.Walks.{proved_at}
 use Rattle.std.specs.Prelude.{MatchResult}
 use Rattle.aegis_engine.proofs.CheckedMessage.{Call, asks, at, returned}
 use Rattle.aegis_engine.proofs.Results.{accepted_ok, ok_accepted, says_four, weaken}
-use Rattle.aegis_base.specs.Run.{IsAccepted, IsTagged}
+use Rattle.aegis_base.specs.Context.{IsAccepted, IsTagged}
 use Rattle.aegis_engine.proofs.destination.Checked.TheLaws.{the_row_laws as checked_laws}
 use Rattle.aegis_engine.specs.contracts.destination.Checked as ST
 use Rattle.aegis_engine.specs.contracts.decryptor.Decryptor as DT
@@ -81,17 +81,17 @@ finalize_spec 𝓤 𝓛 𝓜 𝓡 wired S n Rw LS fits LR CS CR gS dS gC dC gR d
     let others = ‵ (flft κs.1.0 qs.1.0) ⊛ ‵ (flft κs.1.1.0 qs.1.1.0) ⊛ ‵ (flft κs.1.1.1.0 qs.1.1.1.0) ⊛ ‵ (flft κs.1.1.1.1.0 qs.1.1.1.1.0) ⊛ ‵ ftrue in
     let SRow : RattleType = ST.the_row (record { mir = named 0; lft = κ }) in
     let L = gS in
-    let front = take d.run.message_bytes d.dst.now in
-    let held = d.run in
-    let Tagged : Type 0 → Type 0 = λ P. IsTagged L.VARIANT n held front a.1.0.now P in
-    let Found : Type 0 → Type 0 = λ P. IsAccepted L.VARIANT n held front a.1.0.now P in
+    let beginning = take d.context.message_bytes d.dst.now in
+    let held = d.context in
+    let Tagged : Type 0 → Type 0 = λ P. IsTagged L.VARIANT n held beginning a.1.0.now P in
+    let Found : Type 0 → Type 0 = λ P. IsAccepted L.VARIANT n held beginning a.1.0.now P in
     qed 𝓛 (raw (G.pre y) ∷ []) ∵ enter ! _ _ _ _ _ $ alloc_all ! (λ l. pass_all ! refl (typed, (tt'.0, tt)) $
     sets ! (of_opd ! (get ! refl)) refl typed $
     calls_at ! (framed 𝓤 𝓛.H 𝓜 𝓣) G (check_tag_met 𝓤 𝓛 𝓜 𝓡 (code.calls-aegis_engine::decryptor::Decryptor::check_tag 𝓡.env wired) S n Rw LS fits LR CS CR gS dS gC dC gR dR gRC dRC mS mC mR mRC) y
     (and_then ! (get ! refl) (and_then ! (get ! refl) (no_more !))) (λ v.
     use1 𝓛 (later (some (λ (r : SRow.Denot). ((‵ (flft κ q) ⊛ others) ⊛ ‵ (SRow.own_val r (v ∷ []))) ⊛ some (λ (ws : Lasts Gn κs a). ‵ (lasts Gn κs a ws)
-    ⊛ (raw (fact 𝓤 ((r.dst.ghost_name ≡ d.dst.ghost_name) × (r.dst.ref_ptr ≡ d.dst.ref_ptr))) ⊛ raw (fact 𝓤 (r.filled ≡ d.run.message_bytes)) ⊛ raw (fact 𝓤 (r.filled ≤ length r.dst.now)) ⊛ raw (fact 𝓤 (r.accepted ≡ true → r.dst.now ≡ d.dst.now))
-    ⊛ raw (fact 𝓤 (r.accepted ≡ false → r.dst.now ≡ replicate r.filled 0 ++ drop_list r.filled r.dst.now)) ⊛ raw (fact 𝓤 (drop_list r.filled r.dst.now ≡ drop_list d.run.message_bytes d.dst.now)) ⊛ raw (fact 𝓤 (Tagged (r.accepted ≡ true))) ⊛ raw (fact 𝓤 (Found (r.accepted ≡ true)))))))) (id⊢ 𝓤 (G.post y v)) $
+    ⊛ (raw (fact 𝓤 ((r.dst.ghost_name ≡ d.dst.ghost_name) × (r.dst.ref_ptr ≡ d.dst.ref_ptr))) ⊛ raw (fact 𝓤 (r.filled ≡ d.context.message_bytes)) ⊛ raw (fact 𝓤 (r.filled ≤ length r.dst.now)) ⊛ raw (fact 𝓤 (r.accepted ≡ true → r.dst.now ≡ d.dst.now))
+    ⊛ raw (fact 𝓤 (r.accepted ≡ false → r.dst.now ≡ replicate r.filled 0 ++ drop_list r.filled r.dst.now)) ⊛ raw (fact 𝓤 (drop_list r.filled r.dst.now ≡ drop_list d.context.message_bytes d.dst.now)) ⊛ raw (fact 𝓤 (Tagged (r.accepted ≡ true))) ⊛ raw (fact 𝓤 (Found (r.accepted ≡ true)))))))) (id⊢ 𝓤 (G.post y v)) $
     await ! tt $ pick ! (λ r. split ! $ split ! $ move ! (2 ∷ []) $ pick ! (λ ws. split ! $ drop ! $ split ! $ heard ! _ (λ same. split ! $ heard ! _ (λ count. split ! $ heard ! _ (λ within. split ! $ heard ! _ (λ kept. split ! $ heard ! _ (λ gone. split ! $ heard ! _ (λ rest. split ! $ heard ! _ (λ tagged. heard ! _ (λ found.
     move ! (1 ∷ []) $ peeks ! SRow _ (shows 𝓛 SRow) r (v ∷ []) (λ is.
     lands_as ! refl refl (((checked_laws (record { mir = named 0; lft = κ })).lawful 𝓛).typed r _ is).0 $

@@ -1,6 +1,6 @@
 use Rattle.std.proofs.Common.{◌≡◌, ◌+◌, length, take}
 use Rattle.aegis_base.specs.Chunks.{joined}
-use Rattle.aegis_base.specs.Run.{Takes}
+use Rattle.aegis_base.specs.Context.{Takes}
 use Rattle.aegis_engine.proofs.mac.Mac.update_all.Given as goal
 
 abbrev pub invariant-loop-chunk : goal.invariant-loop-chunk

@@ -1,7 +1,7 @@
 use Rattle.std.proofs.Common.{◌+◌, ◌∙◌, ap, arith, rules, ℕ}
 use Rattle.std.proofs.lemmas.Result.{err_from_is_err_and}
 use Rattle.aegis_pages.specs.Layouts.{IsPageSize}
-use Rattle.aegis_pages.specs.OpenFile.{HasText, IsCommitted}
+use Rattle.aegis_pages.specs.OpenFile.{HasContents, IsCommitted}
 use Rattle.aegis_pages.proofs.KnownFacts.{create_begins, if_both, known_map}
 use Rattle.aegis_pages.proofs.OpenFileFacts.{created_has, sealed_empty}
 use Rattle.aegis_pages.proofs.pages.Pages.create.Goals as goal
@@ -18,7 +18,7 @@ invariant_of-result g c =
     (c.in-Ok.ensures ∙ ap (λ (k : ℕ). c.args.page_bytes + (k + 32)) c.requires, c.new.ensures.size, omega arith, omega arith, g.met.L.LaneState.one_two_or_four)
 
 pub returns-clause-created : goal.returns-clause-created
-unfolding HasText
+unfolding HasContents
 returns-clause-created g c =
     known_map (g.S.Storage.bytes c.args.storage) _ _ (λ xs known. created_has c.new-layout.result c.new.result.entries _ c.new.ensures.none known) c.in_ok-begin_file.ensures.known
 

@@ -1,7 +1,7 @@
 use Rattle.std.proofs.Common.{◌+◌, ◌∙◌, ◌⊎◌, Err, false, IfSome, List, ap, inl, inr, subst, sym, ℕ}
 use Rattle.std.proofs.lemmas.Result.{err_from_is_err_and}
 use Rattle.aegis_pages.specs.Layouts.{Layout}
-use Rattle.aegis_pages.specs.OpenFile.{HasIn, HasText, OpensAtOne}
+use Rattle.aegis_pages.specs.OpenFile.{HasIn, HasContents, OpensAtOne}
 use Rattle.aegis_pages.specs.Reading.{layout_of}
 use Rattle.aegis_pages.specs.SealedPages.{IsFileOf}
 use Rattle.aegis_pages.proofs.KnownFacts.{only_error}
@@ -17,12 +17,12 @@ invariant_of-result g c =
     rw c.new-layout.ensures
     (c.in-Ok.ensures ∙ ap (λ (k : ℕ). c.in_ok-header.header.page_bytes + (k + 32)) c.requires, c.new.ensures.size, c.in_ok-header.ensures.header.len, c.in_ok-header.ensures.header.len, g.met.L.LaneState.one_two_or_four)
 
-pub returns-clause-text : goal.returns-clause-text
-unfolding HasText
-returns-clause-text g c empty =
+pub returns-clause-contents : goal.returns-clause-contents
+unfolding HasContents
+returns-clause-contents g c empty =
     let header = c.in_ok-header.header in
-    subst (λ (l : Layout). IfSome (g.S.Storage.bytes c.args.storage) (λ file. (text : List ℕ) → IsFileOf g.L.LaneState.VARIANT c.args.key.now text file
-    → HasIn l c.in_ok-header.header.counter c.in_ok-header.header.len c.in_ok-header.header.len c.new.result.entries false text (g.S.Storage.bytes c.recover_file.new.storage))) (sym c.new-layout.ensures)
+    subst (λ (l : Layout). IfSome (g.S.Storage.bytes c.args.storage) (λ file. (contents : List ℕ) → IsFileOf g.L.LaneState.VARIANT c.args.key.now contents file
+    → HasIn l c.in_ok-header.header.counter c.in_ok-header.header.len c.in_ok-header.header.len c.new.result.entries false contents (g.S.Storage.bytes c.recover_file.new.storage))) (sym c.new-layout.ensures)
     (opens_held (layout_of g.L.LaneState.VARIANT c.args.key.now header) header.counter header.len c.new.result.entries _ _ g.met.L.LaneState.one_two_or_four c.new.ensures.none
     c.in_ok-header.ensures.header.is (c.in_ok-header.ensures.kept empty))
 
@@ -44,9 +44,9 @@ returns-clause-recovered g c before now batch honest =
     c.in_ok-header.ensures.header.is (g.met.S.Storage.possible c.recover_file.new.storage) (c.in_ok-header.ensures.rests before now batch honest))
 
 pub returns-clause-committed : goal.returns-clause-committed
-returns-clause-committed g c text has =
-    let found = committed_batch g.L.LaneState.VARIANT c.args.key.now _ _ (g.J.Storage.bytes c.args.journal) text (g.met.J.Storage.possible c.args.journal) has in
-    either (returns-clause-recovered g c text text found.0 found.1)
+returns-clause-committed g c contents has =
+    let found = committed_batch g.L.LaneState.VARIANT c.args.key.now _ _ (g.J.Storage.bytes c.args.journal) contents (g.met.J.Storage.possible c.args.journal) has in
+    either (returns-clause-recovered g c contents contents found.0 found.1)
 
 pub returns-in_err-header-clause-accepts : goal.returns-in_err-header-clause-accepts
 returns-in_err-header-clause-accepts g c left =

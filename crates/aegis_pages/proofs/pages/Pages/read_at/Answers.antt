@@ -1,8 +1,8 @@
 use Rattle.std.proofs.Common.{◌≡◌, ◌+◌, ◌<◌, ◌≤◌, ◌∙◌, ℕ, List, ◌++◌, ap, arith, drop, false, length, refl, subst, sym, take}
 use Rattle.std.proofs.lemmas.List.{get_or_append_left, length-append, length-drop, length-take, take_all, take_at}
 use Rattle.aegis_storage.specs.Bytes.{overwritten, part_at}
-use Rattle.aegis_pages.specs.Changed.{text_at}
-use Rattle.aegis_pages.specs.OpenFile.{HasIn, HasText}
+use Rattle.aegis_pages.specs.Changed.{contents_at}
+use Rattle.aegis_pages.specs.OpenFile.{HasIn, HasContents}
 use Rattle.aegis_pages.specs.SealedPages.{IsByte}
 use Rattle.aegis_pages.proofs.KnownFacts.{known_all, known_map, read_within}
 use Rattle.aegis_pages.proofs.OpenFileFacts.{has_len, has_use, read_so, written_none, written_read}
@@ -10,9 +10,9 @@ use Rattle.aegis_pages.proofs.pages.Pages.read_at.Given.{Over}
 use Rattle.aegis_pages.proofs.pages.Pages.read_at.Goals as goal
 
 pub returns-then-at-self-clause-written : goal.returns-then-at-self-clause-written
-unfolding HasText
-returns-then-at-self-clause-written g c = rw (← c.self.view_is) (λ text part same stands.
-    written_none text part c.args.out.now c.args.at c.self.inside.len (has_len _ _ _ _ _ _ _ _ stands) same c.if-at-self.true)
+unfolding HasContents
+returns-then-at-self-clause-written g c = rw (← c.self.view_is) (λ contents part same stands.
+    written_none contents part c.args.out.now c.args.at c.self.inside.len (has_len _ _ _ _ _ _ _ _ stands) same c.if-at-self.true)
 
 pub invariant_of-self : goal.invariant_of-self
 invariant_of-self g c =
@@ -35,7 +35,7 @@ returns-in-Err-clause-refused g c =
     let low = c.if-at-self.false in
     let within : c.args.at + length (take c.min-count.result c.args.out.now) ≤ c.self.inside.len = omega (arith, count, low, length-take c.min-count.result c.args.out.now) in
     rw (← c.self.view_is)
-    (rw c.if-self.false (read_within c.self.inside.layout (text_at c.self.inside.changes.entries) (c.args.at + length (take c.min-count.result c.args.out.now)) c.self.inside.len _ within false c.in-Err.error c.in-Err.ensures.refused))
+    (rw c.if-self.false (read_within c.self.inside.layout (contents_at c.self.inside.changes.entries) (c.args.at + length (take c.min-count.result c.args.out.now)) c.self.inside.len _ within false c.in-Err.error c.in-Err.ensures.refused))
 
 pub invariant_of-self-2 : goal.invariant_of-self-2
 invariant_of-self-2 g c =
@@ -48,19 +48,19 @@ invariant_of-self-2 g c =
     omega (arith, same, all, length-take c.self.inside.page.bytes.len (new ++ drop (length new) items), length-append new (drop (length new) items), length-drop (length new) items) in
     (long ∙ c.self.invariant.0, c.self.invariant.1, c.self.invariant.2, c.self.invariant.3, c.self.invariant.4)
 
-reads : (g : Over) (c : goal.In_default g) (text : List ℕ) → HasIn c.self.inside.layout c.self.inside.counter c.self.inside.stored c.self.inside.len c.self.inside.changes.entries c.self.inside.is_broken text (g.S.Storage.bytes c.self.inside.storage)
-    → take c.min-count.result (c.read_range-read.new.out ++ drop c.min-count.result c.args.out.now) ≡ part_at text c.args.at c.min-count.result
-reads g c text stands =
+reads : (g : Over) (c : goal.In_default g) (contents : List ℕ) → HasIn c.self.inside.layout c.self.inside.counter c.self.inside.stored c.self.inside.len c.self.inside.changes.entries c.self.inside.is_broken contents (g.S.Storage.bytes c.self.inside.storage)
+    → take c.min-count.result (c.read_range-read.new.out ++ drop c.min-count.result c.args.out.now) ≡ part_at contents c.args.at c.min-count.result
+reads g c contents stands =
     let count = c.min-count.result in
     let out = c.read_range-read.new.out in
     let at = c.args.at in
     let low = c.if-at-self.false in
     let size : length c.read_range-read.new.out ≡ c.min-count.result = omega (arith, c.read_range-read.auto.out, c.min-count.ensures, length-take count c.args.out.now) in
-    let s = has_use _ _ _ _ _ _ text _ _ c.in_default.ensures.read stands in
-    let within : c.args.at + length c.read_range-read.new.out ≤ length text = omega (arith, s.2.size, size, low, c.min-count.ensures) in
+    let s = has_use _ _ _ _ _ _ contents _ _ c.in_default.ensures.read stands in
+    let within : c.args.at + length c.read_range-read.new.out ≤ length contents = omega (arith, s.2.size, size, low, c.min-count.ensures) in
     take_at out (drop count c.args.out.now) count size
-    ∙ read_so text out at within (s.1 text s.2.pages within)
-    ∙ ap (part_at text at) size
+    ∙ read_so contents out at within (s.1 contents s.2.pages within)
+    ∙ ap (part_at contents at) size
 
 all_long : (g : Over) (c : goal.In_default g) → length (c.read_range-read.new.out ++ drop c.min-count.result c.args.out.now) ≡ length c.args.out.now
 all_long g c = omega (
@@ -73,7 +73,7 @@ all_long g c = omega (
 )
 
 pub returns-clause-read : goal.returns-clause-read
-unfolding HasText
+unfolding HasContents
 returns-clause-read g c =
     let count = c.min-count.ensures in
     let out = c.read_range-read.new.out in
@@ -83,26 +83,26 @@ returns-clause-read g c =
       count = omega (arith, count);
       opened = known_map (g.S.Storage.bytes c.self.inside.storage) _ _ (λ bytes opened i low.
           let near : i < length c.read_range-read.new.out = omega (arith, low, size) in
-          subst (IsByte c.self.inside.layout (text_at c.self.inside.changes.entries) bytes (c.args.at + i)) (sym (get_or_append_left out rest 0 i near)) (opened i near)) c.in_default.ensures.opened;
-      text = λ text stands. reads g c text stands;
+          subst (IsByte c.self.inside.layout (contents_at c.self.inside.changes.entries) bytes (c.args.at + i)) (sym (get_or_append_left out rest 0 i near)) (opened i near)) c.in_default.ensures.opened;
+      contents = λ contents stands. reads g c contents stands;
     })
 
 pub returns-clause-whole : goal.returns-clause-whole
-unfolding HasText
-returns-clause-whole g c = rw (← c.self.view_is) (λ text stands within.
+unfolding HasContents
+returns-clause-whole g c = rw (← c.self.view_is) (λ contents stands within.
     let low = c.if-at-self.false in
     let count : c.min-count.result ≡ length c.args.out.now = omega (arith, c.min-count.ensures, low, within) in
     sym (take_all c.min-count.result (c.read_range-read.new.out ++ drop c.min-count.result c.args.out.now) (omega (arith, all_long g c, count)))
-    ∙ reads g c text stands ∙ ap (part_at text c.args.at) count)
+    ∙ reads g c contents stands ∙ ap (part_at contents c.args.at) count)
 
 pub returns-clause-written : goal.returns-clause-written
-unfolding HasText
-returns-clause-written g c = rw (← c.self.view_is) (λ text part same stands.
+unfolding HasContents
+returns-clause-written g c = rw (← c.self.view_is) (λ contents part same stands.
     let low = c.if-at-self.false in
     let count = c.min-count.ensures in
     let size = all_long g c in
-    written_read text part (c.read_range-read.new.out ++ drop c.min-count.result c.args.out.now) c.args.at c.self.inside.len c.min-count.result
-    (has_len _ _ _ _ _ _ _ _ stands) (same ∙ sym size) (omega (arith, count, size)) (reads g c (overwritten text c.args.at part) stands))
+    written_read contents part (c.read_range-read.new.out ++ drop c.min-count.result c.args.out.now) c.args.at c.self.inside.len c.min-count.result
+    (has_len _ _ _ _ _ _ _ _ stands) (same ∙ sym size) (omega (arith, count, size)) (reads g c (overwritten contents c.args.at part) stands))
 
 pub returns-clause-unchanged : goal.returns-clause-unchanged
 returns-clause-unchanged g c = rw (← c.self.view_is)
@@ -112,5 +112,5 @@ pub returns-then-at-self-clause-read : goal.returns-then-at-self-clause-read
 returns-then-at-self-clause-read g c = rw (← c.self.view_is) (record {
   count = let past = c.if-at-self.true in omega (arith, past);
   opened = known_all (g.S.Storage.bytes c.self.inside.storage) _ (λ bytes i low. absurd (omega (arith, low)));
-  text = λ text stands. refl;
+  contents = λ contents stands. refl;
 })

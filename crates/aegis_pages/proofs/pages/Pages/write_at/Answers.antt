@@ -1,7 +1,7 @@
 use Rattle.std.proofs.Common.{◌≡◌, ◌++◌, ◌∙◌, ap, arith, drop, length, take}
 use Rattle.std.proofs.lemmas.List.{length-append, length-drop, length-take}
 use Rattle.std.proofs.lemmas.Result.{err_from_is_err_and}
-use Rattle.aegis_pages.specs.OpenFile.{HasText}
+use Rattle.aegis_pages.specs.OpenFile.{HasContents}
 use Rattle.aegis_pages.proofs.OpenFileFacts.{wrote}
 use Rattle.aegis_pages.proofs.pages.Pages.write_at.Goals as goal
 
@@ -41,5 +41,5 @@ pub returns-clause-others : goal.returns-clause-others
 returns-clause-others g c = rw (← c.self.view_is) c.change_range.ensures.others
 
 pub returns-clause-written : goal.returns-clause-written
-unfolding HasText
-returns-clause-written g c = rw (← c.self.view_is) (λ text has. wrote _ _ _ _ _ _ _ _ _ _ text _ c.max-self-inside.ensures c.in_ok-change_range.ensures.written has)
+unfolding HasContents
+returns-clause-written g c = rw (← c.self.view_is) (λ contents has. wrote _ _ _ _ _ _ _ _ _ _ contents _ c.max-self-inside.ensures c.in_ok-change_range.ensures.written has)
