@@ -506,7 +506,7 @@ impl Variant {
         )
     }
 
-    /// Writes the sector of a header.
+    /// Writes a header block.
     pub fn page_header_seal(
         &self,
         header_block: &mut [u8; 512],
@@ -534,7 +534,7 @@ impl Variant {
         )
     }
 
-    /// Returns the header in a sector.
+    /// Returns the header in a header block.
     pub fn page_header_open(
         &self,
         header_block: &[u8; 512],

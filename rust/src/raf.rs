@@ -376,7 +376,7 @@ impl<A: Algorithm, I: RafIo, R: RafRng, J: RafIo> Raf<A, I, R, J> {
         Ok(())
     }
 
-    /// Returns the writes of a commit: the first sector of the file, the changed pages, and the next header. The first sector does
+    /// Returns the writes of a commit: the header block of the file, the changed pages, and the next header. The first of them does
     /// not change: it shows to which file the journal belongs.
     fn sealed_writes(
         &mut self,

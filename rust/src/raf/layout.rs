@@ -6,7 +6,7 @@ use crate::wipe::wipe;
 
 /// The length of a tag, at the end of a page.
 pub const TAG_BYTES: usize = 32;
-/// The length of the first sector, which has the header.
+/// The length of the header block.
 pub const HEADER_BLOCK_BYTES: usize = 512;
 /// Where the first page is.
 pub const FIRST_PAGE: u64 = 4096;
