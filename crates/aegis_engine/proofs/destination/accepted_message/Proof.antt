@@ -18,7 +18,7 @@ use prog.Wp.{Env}
 use types.Match.{live}
 use types.Kit.{updating, now as at_once, ‵, ◌⊛◌, raw, some, later, at_ret, ◌$◌, ◌∵◌, !, qed, move, keep, drop, split, split3, join, pick, rewrite, fsplit, fjoin, fpick, feq_l, use0, use1, use2, await, suffices, frame, done}
 use types.Part.{whole, sub, agg}
-use types.Context.{stop, fld, hop, from, addr, lit, and_then, no_more, of_opd, first, branches, exec, returns, enter}
+use types.Run.{stop, fld, hop, from, addr, lit, and_then, no_more, of_opd, first, branches, exec, returns, enter}
 use types.ByLocal.{alloc_all, pass_all, free_all, look_at, look_in_at, get, get_in, sets, sets_last, env}
 use contract.Monad.{fact}
 use contract.Running.{tables}

@@ -11,7 +11,7 @@ use mir.MapTy.{inst_fn}
 use base.Logic.{emp, id⊢}
 use base.Fml.{ftrue, flft}
 use types.Kit.{‵, ◌⊛◌, raw, some, later, ◌$◌, ◌∵◌, !, qed, move, keep, drop, split, join, pick, fjoin, use1, await, suffices, frame, done}
-use types.Context.{no_more, and_then, returns, enter}
+use types.Run.{no_more, and_then, returns, enter}
 use types.ByLocal.{alloc_all, pass_all, free_all, look_at, get, sets, lands_as}
 use contract.Monad.{fact}
 use contract.Running.{tables}
@@ -23,7 +23,7 @@ use denote.RattleType.{RattleType}
 use denote.Ref.{shr_vals, shr_Tells}
 use denote.Slice.{mut_slice_vals, mut_slice_Tells, ShrSlice, shr_slice_vals, shr_slice_Tells}
 use types.Part.{whole, sub, agg}
-use types.Context.{stop, fld, hop, from, addr}
+use types.Run.{stop, fld, hop, from, addr}
 use types.ByLocal.{look_in_at, get_in}
 use denote.Steps.{nothing, heard, peeks}
 use denote.Triple.Call.{calls_at}

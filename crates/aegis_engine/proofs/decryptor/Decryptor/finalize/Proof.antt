@@ -12,7 +12,7 @@ use mir.MapTy.{inst_fn}
 use base.Logic.{ent, emp, id⊢}
 use base.Fml.{ftrue, flft}
 use types.Kit.{‵, ◌⊛◌, raw, some, later, ◌$◌, ◌∵◌, !, qed, move, keep, drop, split, join, pick, fjoin, use1, await, suffices, frame, updating, now as at_once, done}
-use types.Context.{no_more, and_then, of_opd, returns, enter}
+use types.Run.{no_more, and_then, of_opd, returns, enter}
 use types.ByLocal.{alloc_all, pass_all, free_all, look_at, get, sets, lands_as}
 use contract.Monad.{fact}
 use contract.Running.{tables}
