@@ -27,4 +27,4 @@ returns-clause-read g c =
     let same : c.split_at.result.1.now ≡ header Second = search rules in
     let all : take 24 c.fill.new.buffer ++ header Second ≡ c.fill.new.buffer =
     ap (λ l. take 24 c.fill.new.buffer ++ l) (sym same ∙ c.split_at.ensures.back) ∙ take-append-drop 24 c.fill.new.buffer in
-    subst (Consumes _ _) (whole ∙ sym all ∙ ap (λ l. l ++ header Second) (sym (c.copy_from_slice.ensures.after ∙ c.split_at.ensures.beginning))) c.in_ok-fill.ensures.read
+    subst (Consumes _ _) (whole ∙ sym all ∙ ap (λ l. l ++ header Second) (sym (c.copy_from_slice.ensures.after ∙ c.split_at.ensures.front))) c.in_ok-fill.ensures.read

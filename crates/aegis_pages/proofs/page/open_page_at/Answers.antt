@@ -8,7 +8,7 @@ returns-clause-opened g c =
     let layout = c.args.layout.now in
     let old = c.args.sealed.now in
     let parts = cut layout c.nonce_bytes-nonce_bytes.result old c.split_at_mut-head.result.0.now _ c.split_at_mut-contents.result.0.now c.split_at_mut-contents.result.1.now c.nonce_bytes-nonce_bytes.ensures.value
-    c.requires.long c.split_at_mut-head.ensures.beginning c.split_at_mut-head.ensures.back c.split_at_mut-contents.ensures.beginning c.split_at_mut-contents.ensures.back in
+    c.requires.long c.split_at_mut-head.ensures.front c.split_at_mut-head.ensures.back c.split_at_mut-contents.ensures.front c.split_at_mut-contents.ensures.back in
     let m = c.decrypt_in_place-opened.new.mc in
     let is = inner_of layout c.split_at_mut-head.result.0.now m c.split_at_mut-contents.result.1.now parts.first parts.last in
     λ ok. record {
@@ -24,7 +24,7 @@ returns-clause-only g c =
     let layout = c.args.layout.now in
     let old = c.args.sealed.now in
     let parts = cut layout c.nonce_bytes-nonce_bytes.result old c.split_at_mut-head.result.0.now _ c.split_at_mut-contents.result.0.now c.split_at_mut-contents.result.1.now c.nonce_bytes-nonce_bytes.ensures.value
-    c.requires.long c.split_at_mut-head.ensures.beginning c.split_at_mut-head.ensures.back c.split_at_mut-contents.ensures.beginning c.split_at_mut-contents.ensures.back in
+    c.requires.long c.split_at_mut-head.ensures.front c.split_at_mut-head.ensures.back c.split_at_mut-contents.ensures.front c.split_at_mut-contents.ensures.back in
     λ m opens.
     let said = moved layout.variant g.L.LaneState.VARIANT m m layout.key c.cipher.result.key (take (nonce_bytes layout) old) c.cipher.result.nonce
     (associated_data layout c.args.number) c.associated_data-ad.result (inner layout old) c.split_at_mut-contents.result.0.now (drop (length old - 32) old) c.copy_from_slice-2.new.self
