@@ -10,7 +10,7 @@ use crate::failure::PartError;
 use aegis::record::{
     RECORD_BYTES, RECORD_HEAD_BYTES, RecordError, RecordOpener, RecordPosition, Version,
 };
-use aegis_files::{FileError, OpenedRange, TextRange, fill};
+use aegis_files::{ContentsRange, FileError, OpenedRange, fill};
 use std::fs::File;
 use std::io::{Read, Seek, SeekFrom};
 
@@ -28,7 +28,7 @@ pub const FIRST: RecordPosition = RecordPosition {
 #[derive(Clone, Copy)]
 pub struct Start {
     pub prefix: [u8; 24],
-    pub range: TextRange,
+    pub range: ContentsRange,
     /// The byte of the contents at which the part begins.
     pub from: u64,
 }
@@ -46,7 +46,7 @@ impl Start {
 }
 
 /// Whether a file that a system holds can have a record where the range begins.
-pub fn is_reachable(range: &TextRange) -> bool
+pub fn is_reachable(range: &ContentsRange) -> bool
     ensures version { OnTrue result (range.now.position.version ≡ Second) }
     ensures place { OnTrue result ((range.now.position.number ≤ MOST)
         × (range.now.position.before ≤ MOST)) }
@@ -168,7 +168,7 @@ pub fn start_of(file: &mut File, span: Span) -> Result<Start, PartError> {
     seek(file, byte_of(position))?;
     Ok(Start {
         prefix,
-        range: TextRange {
+        range: ContentsRange {
             position,
             skip: span.from.saturating_sub(position.before),
             length: span.length,
