@@ -37,7 +37,7 @@ pub enum Refusal {
     /// A page has less text than 256 bytes, or more than 65,536.
     WrongPageSize,
     /// The text of a file has more than 2^60 bytes, or a page begins after so many.
-    TextTooLong,
+    FileTooLong,
     /// The message that is to be erased has neither 0 bytes nor as many as were decrypted.
     WrongMessageLength,
 }
@@ -59,7 +59,7 @@ fn read(code: i32) -> Answer {
         -10 => Err(Refusal::UnknownHeader),
         -11 => Err(Refusal::WrongRecordLength),
         -12 => Err(Refusal::WrongPageSize),
-        -13 => Err(Refusal::TextTooLong),
+        -13 => Err(Refusal::FileTooLong),
         -14 => Err(Refusal::WrongMessageLength),
         other => unreachable!("the library does not return {other}"),
     }

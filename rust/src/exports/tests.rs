@@ -323,8 +323,8 @@ fn a_page_of_another_length_is_refused() {
             (0, 0, Refusal::WrongPageSize),
             (n + 287, 0, Refusal::WrongPageSize),
             (n + 65_569, 0, Refusal::WrongPageSize),
-            (n + 288, (1 << 52) + 1, Refusal::TextTooLong),
-            (n + 288, u64::MAX, Refusal::TextTooLong),
+            (n + 288, (1 << 52) + 1, Refusal::FileTooLong),
+            (n + 288, u64::MAX, Refusal::FileTooLong),
         ] {
             let (bytes, k) = (&mut page[..length], &[3; 33][..n]);
             let answer = variant.page_seal(bytes, &[1; 24], number, k, k);
