@@ -34,9 +34,9 @@ pub enum Refusal {
     UnknownHeader,
     /// A record has fewer bytes than a record of no message.
     WrongRecordLength,
-    /// A page has less text than 256 bytes, or more than 65,536.
+    /// A page has fewer than 256 bytes of contents, or more than 65,536.
     WrongPageSize,
-    /// The text of a file has more than 2^60 bytes, or a page begins after so many.
+    /// The contents of a file have more than 2^60 bytes, or a page begins after so many.
     FileTooLong,
     /// The message that is to be erased has neither 0 bytes nor as many as were decrypted.
     WrongMessageLength,

@@ -31,7 +31,7 @@ pub enum Refusal {
     WrongRecordLength,
     /// A page has fewer bytes than a page may have, or more.
     WrongPageSize,
-    /// The text of a file has more than `MAX_CONTENTS_BYTES` bytes, or a page begins after so many.
+    /// The contents of a file have more than `MAX_CONTENTS_BYTES` bytes, or a page begins after so many.
     FileTooLong,
     /// A message has not as many bytes as were decrypted.
     WrongMessageLength,
