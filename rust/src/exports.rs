@@ -468,18 +468,18 @@ impl State {
 /// The contents of a header of a file of sealed pages.
 #[derive(Clone, Copy, Debug, Default, PartialEq, Eq)]
 pub struct PageHeader {
-    /// How many bytes of text a page has, from 256 to 65,536.
+    /// How many bytes of contents a page has, from 256 to 65,536.
     pub page_size: u32,
     /// The file's id.
     pub id: [u8; 24],
     /// How many headers were written before it.
     pub counter: u64,
-    /// The length of the text, of at most 2^60 bytes.
+    /// The length of the contents, of at most 2^60 bytes.
     pub contents_len: u64,
 }
 
 impl Variant {
-    /// Seals page `number` of a random-access file. Its text has as many bytes in front of it as a nonce, and 32 after it for the
+    /// Seals page `number` of a random-access file. Its contents have as many bytes in front of them as a nonce, and 32 after them for the
     /// tag.
     pub fn page_seal(
         &self,

@@ -13,7 +13,7 @@ use aegis_c_calls::page as calls;
 use aegis_c_calls::refusal::{Refusal, code};
 use aegis_c_calls::variant::*;
 
-/// Seals the text of a page in place: `page` has as many bytes as a nonce, the text, and 32 bytes.
+/// Seals the contents of a page in place: `page` has as many bytes as a nonce, the contents, and 32 bytes.
 #[unsafe(no_mangle)]
 pub extern "C" fn hunkravy_proved_page_seal(
     variant: u32,
@@ -32,7 +32,7 @@ pub extern "C" fn hunkravy_proved_page_seal(
     )
 }
 
-/// Opens a page in place. If no text is sealed to it at this number, each of its bytes is 0xaa, and the result is
+/// Opens a page in place. If no contents are sealed to it at this number, each of its bytes is 0xaa, and the result is
 /// `INVALID_TAG`.
 #[unsafe(no_mangle)]
 pub extern "C" fn hunkravy_proved_page_open(
