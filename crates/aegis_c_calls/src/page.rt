@@ -11,7 +11,7 @@ use crate::refusal::Refusal;
 use aegis_base::LaneState;
 use aegis_engine::ERASED;
 use aegis_pages::{
-    FileLayout, HEADER_BLOCK_BYTES, header_block, open_header_block, open_page_at, seal_page_at,
+    FileLayout, HEADER_BLOCK_BYTES, open_header_block, open_page_at, seal_header, seal_page_at,
 };
 use check::{check_header, check_page};
 
@@ -78,7 +78,7 @@ pub fn page_header_seal<S: LaneState, const N: usize>(
     let (nonce, key) = nonce_and_key::<N>(npub, k)?;
     check_header(page_bytes, len)?;
     let layout = FileLayout::<S, N>::new(key, page_bytes, id);
-    *header_block = header_block(&layout, nonce, counter, len);
+    *header_block = seal_header(&layout, nonce, counter, len);
     Ok(())
 }
 

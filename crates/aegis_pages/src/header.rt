@@ -33,7 +33,7 @@ pub struct FileHeader {
 }
 
 /// Returns the block of a header.
-pub fn header_block<L: LaneState, const KEY_BYTES: usize>(
+pub fn seal_header<L: LaneState, const KEY_BYTES: usize>(
     layout: &FileLayout<L, KEY_BYTES>,
     nonce: &[u8; KEY_BYTES],
     counter: u64,

@@ -12,7 +12,7 @@
 //! aliases of it.
 //!
 //! A caller that reads and writes by itself seals and opens single pages by [`seal_page_at`] and [`open_page_at`], and
-//! headers by [`header_block`] and [`open_header_block`], under a [`FileLayout`].
+//! headers by [`seal_header`] and [`open_header_block`], under a [`FileLayout`].
 #![tactic(auto)]
 
 mod changes;
@@ -31,7 +31,7 @@ mod variants;
 
 pub use draws::Nonces;
 pub use error::PagesError;
-pub use header::{FileHeader, header_block, open_header_block};
+pub use header::{FileHeader, open_header_block, seal_header};
 pub use layout::{
     DEFAULT_PAGE_BYTES, FileLayout, HEADER_BLOCK_BYTES, MAX_CONTENTS_BYTES, MAX_PAGE_BYTES,
     MIN_PAGE_BYTES,

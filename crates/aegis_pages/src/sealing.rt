@@ -13,7 +13,7 @@ ghost use Rattle.aegis_pages.specs.SealedPages.{ArePages, IsSealed};
 use crate::changes::{ChangedPages, PageContents};
 use crate::draws::Nonces;
 use crate::error::PagesError;
-use crate::header::header_block;
+use crate::header::seal_header;
 use crate::layout::{FileLayout, HEADER_BLOCK_BYTES, MAX_CONTENTS_BYTES};
 use crate::page::sealed_page;
 use aegis_base::LaneState;
@@ -40,7 +40,7 @@ pub fn sealed_header<N: Nonces, L: LaneState, const KEY_BYTES: usize, A: Allocat
         Ok(()) => {}
         Err(error) => return Err(PagesError::Nonce(error)),
     }
-    let header_block = header_block(layout, &nonce, counter, len);
+    let header_block = seal_header(layout, &nonce, counter, len);
     match PendingWrite::new(alloc, 0, &header_block) {
         Ok(write) => Ok(write),
         Err(_) => Err(PagesError::OutOfMemory),

@@ -5,7 +5,7 @@ use Rattle.aegis_pages.specs.Layouts.{associated_data}
 use Rattle.aegis_pages.specs.declared.layout.TheConstants.{HEADER_NUMBER}
 use Rattle.aegis_pages.proofs.SealedFacts.{moved}
 use Rattle.aegis_pages.proofs.HeaderFacts.{made_nonce, made_header_block}
-use Rattle.aegis_pages.proofs.header.header_block.Goals as goal
+use Rattle.aegis_pages.proofs.header.seal_header.Goals as goal
 
 pub returns-clause-header : goal.returns-clause-header
 returns-clause-header g c =
