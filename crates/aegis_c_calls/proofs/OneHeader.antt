@@ -2,12 +2,12 @@
 use Rattle.std.proofs.Common.{◌≡◌, ℕ, List, refl, take, ap, subst, ◌∙◌}
 use Rattle.aegis_aes.specs.Lanes.{IsLaneCount}
 use Rattle.aegis_base.specs.Variant.{Variant}
-use Rattle.aegis_pages.specs.Headers.{header_text}
+use Rattle.aegis_pages.specs.Headers.{header_plaintext}
 use Rattle.aegis_pages.specs.Layouts.{Layout, OpensAt, sealed_bytes}
 use Rattle.aegis_pages.specs.declared.header.FileHeader.{FileHeader}
 use Rattle.aegis_pages.specs.declared.layout.TheConstants.{HEADER_NUMBER}
 use Rattle.aegis_pages.proofs.SealedFacts.{opens_one}
-use Rattle.aegis_pages.proofs.HeaderFacts.{one_layout, one_text}
+use Rattle.aegis_pages.proofs.HeaderFacts.{one_layout, one_contents}
 use Rattle.aegis_storage.specs.Bytes.{part_at}
 use Rattle.aegis_c_calls.specs.PageCalls.{HasHeader, file_of, header_of}
 
@@ -21,7 +21,7 @@ one_header variant key header_block a b count first second =
     let first_file : Layout = file_of variant key a.id a.page_bytes in
     let file : Layout = file_of variant key b.id b.page_bytes in
     let same : first_file ≡ file = one_layout first_file file (take 33 header_block) first.plaintext second.plaintext refl refl first.size second.size in
-    let opens : OpensAt file HEADER_NUMBER (part_at header_block 33 (sealed_bytes file 16)) (header_text a.counter a.len) =
-    subst (λ (o : Layout). OpensAt o HEADER_NUMBER (part_at header_block 33 (sealed_bytes o 16)) (header_text a.counter a.len)) same first.opens in
-    let text = one_text a.counter a.len b.counter b.len (opens_one file HEADER_NUMBER _ _ _ count opens second.opens) first.countable second.countable first.within second.within in
+    let opens : OpensAt file HEADER_NUMBER (part_at header_block 33 (sealed_bytes file 16)) (header_plaintext a.counter a.len) =
+    subst (λ (o : Layout). OpensAt o HEADER_NUMBER (part_at header_block 33 (sealed_bytes o 16)) (header_plaintext a.counter a.len)) same first.opens in
+    let text = one_contents a.counter a.len b.counter b.len (opens_one file HEADER_NUMBER _ _ _ count opens second.opens) first.countable second.countable first.within second.within in
     same_header a b (ap (λ (l : Layout). l.page_bytes) same) (ap (λ (l : Layout). l.id) same) text.0 text.1
