@@ -70,9 +70,7 @@ flag_open (m ∷ ms) = refl
 frames_more : (s : Sealing) (at : RecordPosition) (m : List ℕ) (ms : List (List ℕ)) (x : List ℕ)
     → frames s at 0 (m ∷ ms) ++ x ≡ frame s at 0 m ++ (frames s (next_position at m) 0 ms ++ x)
 unfolding frames
-frames_more s at m ms x =
-    append_assoc (frame s at (flag_before 0 ms) m) (frames s (next_position at m) 0 ms) x
-    ∙ ap (λ (f : ℕ). frame s at f m ++ (frames s (next_position at m) 0 ms ++ x)) (flag_open ms)
+frames_more s at m ms x = grind (arith, append_assoc, flag_open)
 
 -- the messages of one beginning and others are those of the longest one
 pub record Follows (s : Sealing) (at : RecordPosition) (ms ns : List (List ℕ)) (x y : List ℕ) : Type 0 where
@@ -132,14 +130,7 @@ known s bytes v ms end p =
 -- a beginning of records with the flag 0, of bytes that are read so
 pub beginning_follows : (s : Sealing) (is : IsSealing s) (bytes x : List ℕ) (v w : Version) (ms ns : List (List ℕ)) (b : End) → AreWithin v ms → bytes ≡ beginning s v 0 ms ++ x
     → (q : Reads s bytes w ns b) → (v ≡ w) × Follows s (first_position v) ms ns x q.rest
-beginning_follows s is bytes x v w ms ns b within e q =
-    let a : List ℕ = frames s (first_position v) 0 ms ++ x in
-    let all : header v ++ a ≡ header w ++ (frames s (first_position w) 0 ns ++ q.rest) =
-    sym (append_assoc (header v) (frames s (first_position v) 0 ms) x) ∙ sym e ∙ q.are ∙ append_assoc (header w) (frames s (first_position w) 0 ns) q.rest in
-    let same : w ≡ v = sym (header_one v w a _ all) in
-    let here = subst (λ u. AreWithin u ns × Ends s (position_after (first_position u) ns) q.rest b × (header v ++ a ≡ header u ++ (frames s (first_position u) 0 ns ++ q.rest)))
-    same (q.within, q.ends, all) in
-    (sym same, follows s is (first_position v) ms ns x q.rest b within here.0 here.1 (append_cancel_left (header v) a _ here.2))
+beginning_follows s is bytes x v w ms ns b within e q = grind (arith, append_assoc, header_one, follows, append_cancel_left)
 
 pub reads_one : (s : Sealing) (is : IsSealing s) (bytes : List ℕ) (v w : Version) (ms ns : List (List ℕ)) (a b : End) → Reads s bytes v ms a → Reads s bytes w ns b
     → (v ≡ w) × (ms ≡ ns) × (a ≡ b)
@@ -183,9 +174,7 @@ frames_append s at last (m ∷ ms) ns some =
 
 pub beginning_append : (s : Sealing) (v : Version) (last : ℕ) (ms ns : List (List ℕ)) → (last ≡ 0) ⊎ (0 < length ns)
     → beginning s v last (ms ++ ns) ≡ beginning s v 0 ms ++ frames s (position_after (first_position v) ms) last ns
-beginning_append s v last ms ns some =
-    ap (λ (l : List ℕ). header v ++ l) (frames_append s (first_position v) last ms ns some)
-    ∙ sym (append_assoc (header v) (frames s (first_position v) 0 ms) (frames s (position_after (first_position v) ms) last ns))
+beginning_append s v last ms ns some = grind (arith, frames_append, append_assoc)
 
 -- and one more
 frames_one : (s : Sealing) (at : RecordPosition) (last : ℕ) (m : List ℕ) → frames s at last (m ∷ []) ≡ frame s at last m

@@ -18,9 +18,7 @@ pub sealed_is : (v : Version) (p : Parts) (bytes : List ℕ) → Cut v p bytes �
 sealed_is v p bytes c = rw (there_is p, c.body) (take_at p.1 p.2 (length p.1) refl)
 
 pub sealed_end : (v : Version) (p : Parts) (bytes : List ℕ) → Cut v p bytes → 5 + length p.1 ≤ length bytes
-sealed_end v p bytes c =
-    let five = c.five in
-    omega (arith, ap length c.body, length-append p.1 p.2, length-drop 5 bytes)
+sealed_end v p bytes c = grind (arith, length-append, length-drop)
 
 -- what the buffer is if these bytes are written there
 put_is : (v : Version) (p : Parts) (bytes made : List ℕ) → Cut v p bytes → put_mid 5 (there p) bytes made ≡ take 5 bytes ++ (made ++ p.2)

@@ -1,12 +1,13 @@
 -- The length of a stream as a sum over its messages.
 use denote.Ref.{Bor}
-use Rattle.std.proofs.Common.{◌≡◌, ℕ, zero, suc, ◌+◌, ◌<◌, ◌≤◌, List, [], ◌∷◌, length, take, slice_index_or, add-one, refl, ap, sym, ◌∙◌, arith}
+use Rattle.std.proofs.Common.{◌≡◌, ℕ, zero, suc, ◌+◌, ◌<◌, ◌≤◌, List, [], ◌∷◌, length, take, slice_index_or, add-one, refl, ap, ◌∙◌, arith}
 use Rattle.std.specs.Int.{w32, to_le_bytes}
 use Rattle.std.proofs.lemmas.List.{length-append}
 use Rattle.aegis.specs.declared.record.position.RecordPosition.{RecordPosition}
 use Rattle.aegis.specs.declared.record.version.Version.{Version}
 use Rattle.aegis_base.specs.Chunks.{texts}
-use Rattle.aegis.specs.Progress.{Begun, Progress, sealing_in, start_of}
+use Rattle.aegis.specs.Progress.{Begun, Progress, start_of}
+use Rattle.aegis.specs.Records.{AreRecords, sealed}
 use Rattle.aegis.specs.RecordStream.{IsSealing, IsRecordStream, Sealing, first_position, flag_before, frame, frames, frames_length, beginning, header, next_position, position_after, records_length, start_at}
 use Rattle.aegis.proofs.Frames.{header_size}
 use Rattle.aegis.proofs.Sealed.{sealed-is}
@@ -34,15 +35,20 @@ pub length-stream : (s : Sealing) → IsSealing s → (v : Version) (ms : List (
     → length bytes ≡ records_length ms
 length-stream s is v ms bytes p = ap length p.are ∙ length-beginning s is v 1 ms
 
+pub stream_length : (v : Version) (key prefix context : List ℕ) (ms : List (List ℕ)) (bytes : List ℕ)
+    → AreRecords v key prefix context ms bytes → length bytes ≡ records_length ms
+stream_length v key prefix context ms bytes p =
+    length-stream (sealed key prefix context) (sealed-is key prefix context) v ms bytes p
+
 pub start_after : (at : RecordPosition) (ms : List (List ℕ)) → start_at (position_after at ms) ≡ start_at at + frames_length ms
 start_after at [] = omega arith
 start_after at (m ∷ ms) = let rest = start_after (next_position at m) ms in omega arith
 
 pub length-begun : (p : Progress) (ms : List (List ℕ)) (bytes : List ℕ) → Begun p ms bytes → length bytes ≡ start_of p
 unfolding Begun
-length-begun p ms bytes b =
-    let v : Version = p.position.version in
-    ap length b.are ∙ length-beginning (sealing_in p) (sealed-is p.key p.prefix p.context) v 0 ms ∙ sym (start_after (first_position v) ms) ∙ ap start_at (sym b.place)
+length-begun p ms bytes b = grind (arith, length-beginning, sealed-is, start_after)
+
+pub ruleset begun_laws = (length-begun)
 
 pub begun_start : (p : Progress) (ms : List (List ℕ)) (bytes : List ℕ) → Begun p ms bytes → start_of p ≡ records_length ms
 unfolding Begun
@@ -55,12 +61,12 @@ frames_length-next [] i d low = absurd (omega arith)
 frames_length-next (m ∷ ms) zero d low = omega arith
 frames_length-next (m ∷ ms) (suc i) d low = let rest = frames_length-next ms i d (omega arith) in omega arith
 
-pub frames_length-more : (slices : List (Bor (List ℕ))) (i : ℕ) (d : Bor (List ℕ)) → i < length slices
+pub frames_length_more : (slices : List (Bor (List ℕ))) (i : ℕ) (d : Bor (List ℕ)) → i < length slices
     → frames_length (texts (take (i + 1) slices)) ≡ frames_length (texts (take i slices)) + (37 + length (slice_index_or slices i d).now)
-frames_length-more slices i d low = rw add-one (frames_length-next slices i d low)
+frames_length_more slices i d low = rw add-one (frames_length-next slices i d low)
 
-pub frames_length-within : (slices : List (Bor (List ℕ))) (i : ℕ) → frames_length (texts (take i slices)) ≤ frames_length (texts slices)
-frames_length-within [] zero = omega arith
-frames_length-within [] (suc i) = omega arith
-frames_length-within (m ∷ ms) zero = omega arith
-frames_length-within (m ∷ ms) (suc i) = let rest = frames_length-within ms i in omega arith
+pub frames_length_within : (slices : List (Bor (List ℕ))) (i : ℕ) → frames_length (texts (take i slices)) ≤ frames_length (texts slices)
+frames_length_within [] zero = omega arith
+frames_length_within [] (suc i) = omega arith
+frames_length_within (m ∷ ms) zero = omega arith
+frames_length_within (m ∷ ms) (suc i) = let rest = frames_length_within ms i in omega arith

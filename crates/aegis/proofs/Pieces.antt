@@ -1,6 +1,6 @@
 -- A message that is sealed piece by piece after the bytes of a stream.
 use borrow.Rule.Slice.PartMut.{put_mid}
-use Rattle.std.proofs.Common.{◌≡◌, ℕ, ◌-◌, List, [], ◌++◌, length, take, drop, refl, sym, ap, ◌∙◌, append_assoc, arith}
+use Rattle.std.proofs.Common.{◌≡◌, ℕ, ◌-◌, List, [], ◌++◌, length, take, drop, sym, ap, ◌∙◌, append_assoc, arith}
 use Rattle.std.proofs.lemmas.List.{append-nil, drop_at, length-append, nil_from_length, take_at, with_items_is}
 use Rattle.std.specs.Prelude.{Vec}
 use Rattle.std.specs.Vec.{with_items}
@@ -43,13 +43,7 @@ piece_is n all out piece e long =
 pub piece_sealed : {Z : Type 0} (stream : Vec ℕ Z) (n : ℕ) (all out piece sealed : List ℕ) → all ≡ stream.items → stream.items ≡ out ++ piece → n ≡ length out
     → length sealed ≡ length piece → (with_items stream (put_mid n (length all - n) all sealed)).items ≡ out ++ sealed
 piece_sealed stream n all out piece sealed is e long same =
-    with_items_is stream (put_mid n (length all - n) all sealed)
-    (omega (arith, ap length put, ap length e, same, length-append out sealed, length-append out piece, stream.ok.0)) ∙ put
-  where
-    put : put_mid n (length all - n) all sealed ≡ out ++ sealed
-    put =
-        rw (is, e, take_at out piece n (sym long), drop_at out piece n (sym long), drop-past (length (out ++ piece) - n) piece (omega (arith, long, length-append out piece)), append-nil sealed)
-        refl
+    grind (arith, with_items_is, length-append, take_at, drop_at, drop-past, append-nil)
 
 -- the ciphertext and the tag of all of a message
 pub all_sealed : (cipher : RecordCipher) (position : RecordPosition) (flag : ℕ) (message rest : List ℕ) (encryptor : Held) (before out t all : List ℕ)
@@ -58,8 +52,4 @@ pub all_sealed : (cipher : RecordCipher) (position : RecordPosition) (flag : ℕ
     → all ≡ out ++ t → all ≡ before ++ sealing_of cipher position flag message
 unfolding sealed
 all_sealed cipher position flag message rest encryptor before out t all has none is e =
-    let whole : has.done ≡ message = sym (append-nil has.done) ∙ ap (λ (l : List ℕ). has.done ++ l) (sym (nil_from_length rest none)) ∙ has.parts in
-    e ∙ ap (λ (l : List ℕ). l ++ t) has.items
-    ∙ append_assoc before (ciphertext Aegis256 cipher.key.now (nonce_of cipher position) (data_of cipher position flag) has.done) t
-    ∙ ap (λ (l : List ℕ). before ++ (ciphertext Aegis256 cipher.key.now (nonce_of cipher position) (data_of cipher position flag) has.done ++ l)) (is has.done has.stands)
-    ∙ ap (λ (m : List ℕ). before ++ sealing_of cipher position flag m) whole
+    grind (arith, append-nil, nil_from_length, append_assoc)

@@ -1,5 +1,5 @@
 -- The parts of a record, and what its bytes are by them.
-use Rattle.std.proofs.Common.{◌≡◌, ℕ, ◌+◌, ◌<◌, ◌≤◌, true, false, ltb, List, [], ◌∷◌, ◌++◌, length, take, drop, get_or, Ok, Err, refl, sym, ap, subst, ◌∙◌, arith, inl, inr, suc}
+use Rattle.std.proofs.Common.{◌≡◌, ℕ, ◌+◌, ◌<◌, ◌≤◌, true, ltb, List, [], ◌∷◌, ◌++◌, length, take, drop, get_or, Ok, Err, refl, sym, ap, subst, ◌∙◌, arith, inl, inr, suc}
 use Rattle.std.specs.Int.{w32, from_le_bytes, to_le_bytes}
 use Rattle.std.proofs.lemmas.Bool.{cases_lt, le-ltb, lt-ltb}
 use Rattle.std.proofs.lemmas.List.{append-nil, drop_at, drop-append-le, length-append, length-take, get_or-take, get_or_past, take_at, take-append-drop, take-append-le}
@@ -23,23 +23,14 @@ pub unknown_is : (v : Version) (f : ℕ) (bytes : List ℕ) → 1 < f → parts_
 unknown_is v f bytes unknown = let flagged : ltb 1 f ≡ true = lt-ltb _ _ unknown in rw flagged refl
 
 pub long_is : (v : Version) (f : ℕ) (bytes : List ℕ) → f ≤ 1 → 4 ≤ length bytes → limit v < length_at bytes → parts_after v f bytes ≡ Err errors.TooLong
-long_is v f bytes known four long =
-    let flagged : ltb 1 f ≡ false = le-ltb _ _ known in
-    let there : ltb (length bytes) 4 ≡ false = le-ltb _ _ four in
-    let past : ltb (limit v) (length_at bytes) ≡ true = lt-ltb _ _ long in
-    rw (flagged, there, past) refl
+long_is v f bytes known four long = grind (arith, le-ltb, lt-ltb)
 
 abbrev found : ℕ → List ℕ → Parts
 found f bytes = (f, take (length_at bytes + 32) (drop 4 bytes), drop (length_at bytes + 32) (drop 4 bytes))
 
 pub whole_is : (v : Version) (f : ℕ) (bytes : List ℕ) → f ≤ 1 → 4 ≤ length bytes → length_at bytes ≤ limit v → length_at bytes + 32 ≤ length (drop 4 bytes)
     → parts_after v f bytes ≡ Ok (found f bytes)
-whole_is v f bytes known four within there =
-    let flagged : ltb 1 f ≡ false = le-ltb _ _ known in
-    let head : ltb (length bytes) 4 ≡ false = le-ltb _ _ four in
-    let allowed : ltb (limit v) (length_at bytes) ≡ false = le-ltb _ _ within in
-    let all : ltb (length (drop 4 bytes)) (length_at bytes + 32) ≡ false = le-ltb _ _ there in
-    rw (flagged, head, allowed, all) refl
+whole_is v f bytes known four within there = grind (arith, le-ltb)
 
 data Case (v : Version) (f : ℕ) (bytes : List ℕ) : Type 0 where
   Unknown : 1 < f → parts_after v f bytes ≡ Err errors.Flag → Case v f bytes
@@ -49,23 +40,7 @@ data Case (v : Version) (f : ℕ) (bytes : List ℕ) : Type 0 where
       → parts_after v f bytes ≡ Ok (found f bytes) → Case v f bytes
 
 case_of : (v : Version) (f : ℕ) (bytes : List ℕ) → Case v f bytes
-case_of v f bytes = elim (cases_lt 1 f) [
-  | inl unknown ↦ Unknown unknown (unknown_is v f bytes unknown)
-  | inr known ↦ let flagged : ltb 1 f ≡ false = le-ltb _ _ known in
-      elim (cases_lt (length bytes) 4) [
-        | inl short ↦ let test : ltb (length bytes) 4 ≡ true = lt-ltb _ _ short in Cut_off (rw (flagged, test) refl)
-        | inr four ↦ let head : ltb (length bytes) 4 ≡ false = le-ltb _ _ four in
-            elim (cases_lt (limit v) (length_at bytes)) [
-              | inl long ↦ Long known four long (long_is v f bytes known four long)
-              | inr within ↦ let allowed : ltb (limit v) (length_at bytes) ≡ false = le-ltb _ _ within in
-                  elim (cases_lt (length (drop 4 bytes)) (length_at bytes + 32)) [
-                    | inl missing ↦ let test : ltb (length (drop 4 bytes)) (length_at bytes + 32) ≡ true = lt-ltb _ _ missing in
-                        Cut_off (rw (flagged, head, allowed, test) refl)
-                    | inr there ↦ Whole known four within there (whole_is v f bytes known four within there)
-                  ]
-            ]
-      ]
-]
+case_of v f bytes = grind (arith, cases_lt, unknown_is, le-ltb, lt-ltb, long_is, whole_is)
 
 -- where the bytes are cut into these parts
 pub record Cut (v : Version) (p : Parts) (bytes : List ℕ) : Type 0 where
@@ -143,16 +118,7 @@ pub parts_frame : (s : Sealing) (is : IsSealing s) (at : RecordPosition) (flag :
     → parts at.version (frame s at flag m ++ x) ≡ Ok (flag, s at flag m, x)
 unfolding parts frame
 parts_frame s is at flag m x known within =
-    let four : List ℕ = to_le_bytes w32 (length m) in
-    let body : List ℕ = s at flag m in
-    let low = limit-within at.version in
-    let long : length body ≡ length m + 32 = is.long at flag m in
-    let others : drop 4 (four ++ (body ++ x)) ≡ body ++ x = drop_at four (body ++ x) 4 refl in
-    let number : length_at (four ++ (body ++ x)) ≡ length m =
-    ap (from_le_bytes w32) (take_at four (body ++ x) 4 refl) ∙ from_le_bytes-to_le_bytes_4 (length m) (omega arith) in
-    whole_is at.version flag (four ++ (body ++ x)) known (omega (arith, length-append four (body ++ x))) (omega (arith, number, within))
-    (omega (arith, number, ap length others, length-append body x))
-    ∙ rw (others, number, take_at body x (length m + 32) long, drop_at body x (length m + 32) long) refl
+    grind (arith, limit-within, drop_at, take_at, from_le_bytes-to_le_bytes_4, whole_is, length-append)
 
 -- bytes with these parts, of which the second is what a message is sealed to, begin with the record of the message
 pub record_sound : (s : Sealing) (is : IsSealing s) (at : RecordPosition) (flag : ℕ) (m sealed after bytes : List ℕ)

@@ -5,7 +5,7 @@ use Rattle.std.proofs.lemmas.List.{append-nil, drop_at, length-append, take_at, 
 use Rattle.aegis_base.specs.Variant.{Aegis256}
 use Rattle.aegis_base.specs.Message.{Opens, ciphertext, lane_before, seal, tag}
 use Rattle.aegis_base.proofs.Bijection.{ciphertext-injective, length-ciphertext}
-use Rattle.aegis_base.proofs.Lengths.{length-tag}
+use Rattle.aegis_base.proofs.Lengths.{length_tag}
 use Rattle.aegis.specs.declared.record.position.RecordPosition.{RecordPosition}
 use Rattle.aegis.specs.Records.{associated_data, nonce, sealed}
 use Rattle.aegis.specs.RecordStream.{IsSealing}
@@ -25,7 +25,7 @@ nonce_filled a z b p le ae long size be =
     spelled = rw (take_at p z 24 long, drop_at p z 24 long, drop-past 8 z (omega arith), append-nil le) refl
 
 tag_long : (key nonce ad m : List ℕ) → length (tag Aegis256 32 key nonce ad m) ≡ 32
-tag_long key nonce ad m = length-tag Aegis256 32 key nonce ad m (inl refl) (inr refl)
+tag_long key nonce ad m = length_tag Aegis256 32 key nonce ad m (inl refl) (inr refl)
 
 -- a ciphertext and the tag after it are what the message is sealed to
 pub joined : (key prefix context : List ℕ) (at : RecordPosition) (flag : ℕ) (m c t : List ℕ)
@@ -38,24 +38,14 @@ pub opened : (key prefix context : List ℕ) (at : RecordPosition) (flag : ℕ) 
     → Opens Aegis256 32 key (nonce prefix at.number) (associated_data at flag context) c t m
     → c ≡ take (length bytes - 32) bytes → t ≡ drop (length bytes - 32) bytes → sealed key prefix context at flag m ≡ bytes
 unfolding sealed
-opened key prefix context at flag m bytes c t opens ce te =
-    ap (λ (p : List ℕ × List ℕ). p.0 ++ p.1) opens ∙ ap (λ (l : List ℕ). l ++ t) ce ∙ ap (λ (l : List ℕ). take (length bytes - 32) bytes ++ l) te
-    ∙ take-append-drop (length bytes - 32) bytes
+opened key prefix context at flag m bytes c t opens ce te = grind (arith, opens, take-append-drop)
 
 -- and the other way round
 pub opens : (key prefix context : List ℕ) (at : RecordPosition) (flag : ℕ) (m bytes c t : List ℕ) → sealed key prefix context at flag m ≡ bytes
     → c ≡ take (length bytes - 32) bytes → t ≡ drop (length bytes - 32) bytes
     → Opens Aegis256 32 key (nonce prefix at.number) (associated_data at flag context) c t m
 unfolding sealed
-opens key prefix context at flag m bytes c t e ce te =
-    let n = nonce prefix at.number in
-    let ad = associated_data at flag context in
-    let x = ciphertext Aegis256 key n ad m in
-    let y = tag Aegis256 32 key n ad m in
-    let long : length x ≡ length bytes - 32 = let all = ap length e in omega (arith, length-append x y, tag_long key n ad m) in
-    let first : x ≡ c = sym (take_at x y (length bytes - 32) long) ∙ ap (take (length bytes - 32)) e ∙ sym ce in
-    let second : y ≡ t = sym (drop_at x y (length bytes - 32) long) ∙ ap (drop (length bytes - 32)) e ∙ sym te in
-    ap (λ (l : List ℕ). (l, y)) first ∙ ap (λ (l : List ℕ). (c, l)) second
+opens key prefix context at flag m bytes c t e ce te = grind (arith, length-append, tag_long, take_at, drop_at)
 
 pub sealed-is : (key prefix context : List ℕ) → IsSealing (sealed key prefix context)
 unfolding sealed

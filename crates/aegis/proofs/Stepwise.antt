@@ -2,7 +2,7 @@
 use Rattle.std.proofs.Common.{◌≡◌, ◌≢◌, ◌⊎◌, ℕ, zero, suc, ◌+◌, ◌==◌, ◌<◌, ◌≤◌, Bool, true, false, List, [], ◌∷◌, ◌++◌, length, take, drop, get_or, Result, Ok, Err, refl, sym, ap, subst, ◌∙◌, append_assoc, arith, inl, inr, nat_eq}
 use Rattle.std.proofs.lemmas.Bool.{true≢false, cases_lt}
 use Rattle.std.proofs.lemmas.Bool.Decides.{eqb_tells}
-use Rattle.std.proofs.lemmas.List.{append-nil, length-append, take-append-le, take_at}
+use Rattle.std.proofs.lemmas.List.{append-nil, length-append, nil_from_length, take-append-le, take_at}
 use Rattle.std.proofs.lemmas.Nat.{from_le_bytes-to_le_bytes_4}
 use Rattle.std.specs.Bool.{OnFalse, OnTrue}
 use Rattle.std.specs.Int.{w32, from_le_bytes, to_le_bytes}
@@ -15,8 +15,8 @@ use Rattle.aegis.specs.Fault.{AtEnd, AtHeader, AtRecord, HasFault, IsFaultAt, Is
 use Rattle.aegis.specs.Opening.{AcceptsNext, IsFirstFault, OpensNext}
 use Rattle.aegis.specs.Progress.{AreRecordsOfSomeVersion, Begun, IsRecordFault, IsUnder, Progress, after, last_flag, progress_at, record_of, sealing_in, start_of}
 use Rattle.aegis.specs.Records.{AreRecords, IsFault, sealed}
-use Rattle.aegis.specs.RecordStream.{AreWithin, Sealing, first_position, frame, frames, beginning, header, limit, next_position, position_after}
-use Rattle.aegis.proofs.Frames.{Closes, closes, frame_one, frame_sound, beginning_append, beginning_follows, beginning_push, position_append, version_after, within_append}
+use Rattle.aegis.specs.RecordStream.{AreWithin, IsOneRecordStream, Sealing, first_position, frame, frames, beginning, header, limit, position_after}
+use Rattle.aegis.proofs.Frames.{Closes, closes, frame_one, frame_sound, beginning_append, beginning_follows, beginning_push, header_size, one_record_stream, position_append, version_after, within_append}
 use Rattle.aegis.proofs.Lengths.{length-begun, length-frame}
 use Rattle.aegis.proofs.Reading.{fault_more, long_is, unknown_is, whole_is}
 use Rattle.aegis.proofs.Sealed.{sealed-is}
@@ -34,10 +34,7 @@ begun_open p ms before b = b.unended
 grown : (p : Progress) (last : ℕ) (ms : List (List ℕ)) (m bytes : List ℕ) → Begun p ms bytes
     → bytes ++ record_of p last m ≡ beginning (sealing_in p) p.position.version last (ms ++ m ∷ [])
 unfolding Begun
-grown p last ms m bytes b =
-    ap (λ (l : List ℕ). l ++ record_of p last m) b.are
-    ∙ ap (λ at. beginning (sealing_in p) p.position.version 0 ms ++ frame (sealing_in p) at last m) b.place
-    ∙ sym (beginning_push (sealing_in p) p.position.version last ms m)
+grown p last ms m bytes b = grind (arith, beginning_push)
 
 -- the progress after a record of a message of n bytes
 abbrev pub moved : Progress → Bool → ℕ → Progress
@@ -52,21 +49,12 @@ moved p is_last n = record {
 pub begun_more : (p : Progress) (n : ℕ) (m : List ℕ) → n ≡ length m → length m ≤ limit p.position.version → (ms : List (List ℕ)) (bytes : List ℕ) → Begun p ms bytes
     → Begun (moved p false n) (ms ++ m ∷ []) (bytes ++ record_of p 0 m)
 unfolding Begun
-begun_more p n m size low ms bytes b = rw size (record {
-  unended = refl;
-  place = ap (λ at. next_position at m) b.place ∙ sym (position_append (first_position p.position.version) ms (m ∷ []));
-  within = within_append p.position.version ms (m ∷ []) b.within (low, tt);
-  are = grown p 0 ms m bytes b;
-})
+begun_more p n m size low ms bytes b = grind (arith, position_append, within_append, grown)
 
 pub begun_last : (p : Progress) (m : List ℕ) → length m ≤ limit p.position.version → (ms : List (List ℕ)) (bytes : List ℕ) → Begun p ms bytes
     → AreRecords p.position.version p.key p.prefix p.context (ms ++ m ∷ []) (bytes ++ record_of p 1 m)
 unfolding Begun
-begun_last p m low ms bytes b = record {
-  some = omega (arith, length-append ms (m ∷ []));
-  within = within_append p.position.version ms (m ∷ []) b.within (low, tt);
-  are = grown p 1 ms m bytes b;
-}
+begun_last p m low ms bytes b = grind (arith, length-append, within_append, grown)
 
 -- records of messages after those of a stream that has begun
 pub begun_all : (key prefix context : List ℕ) (at : RecordPosition) (ns : List (List ℕ)) → AreWithin at.version ns → (ms : List (List ℕ)) (bytes : List ℕ)
@@ -74,28 +62,13 @@ pub begun_all : (key prefix context : List ℕ) (at : RecordPosition) (ns : List
     → Begun (progress_at key prefix context (position_after at ns)) (ms ++ ns) (bytes ++ frames (sealed key prefix context) at 0 ns)
 unfolding Begun
 begun_all key prefix context at ns within ms bytes b =
-    let s : Sealing = sealed key prefix context in
-    let v : Version = at.version in
-    record {
-      unended = refl;
-      place = rw (version_after at ns) (ap (λ q. position_after q ns) b.place ∙ sym (position_append (first_position v) ms ns));
-      within = rw (version_after at ns) (within_append v ms ns b.within within);
-      are = rw (version_after at ns) (ap (λ (l : List ℕ). l ++ frames s at 0 ns) b.are ∙ ap (λ q. beginning s v 0 ms ++ frames s q 0 ns) b.place
-          ∙ sym (beginning_append s v 0 ms ns (inl refl)));
-    }
+    grind (arith, version_after, position_append, within_append, beginning_append)
 
 pub begun_whole : (key prefix context : List ℕ) (at : RecordPosition) (ns : List (List ℕ)) → AreWithin at.version ns → 0 < length ns → (ms : List (List ℕ)) (bytes : List ℕ)
     → Begun (progress_at key prefix context at) ms bytes
     → AreRecords at.version key prefix context (ms ++ ns) (bytes ++ frames (sealed key prefix context) at 1 ns)
 unfolding Begun
-begun_whole key prefix context at ns within some ms bytes b =
-    let s : Sealing = sealed key prefix context in
-    let v : Version = at.version in
-    record {
-      some = omega (arith, length-append ms ns);
-      within = within_append v ms ns b.within within;
-      are = ap (λ (l : List ℕ). l ++ frames s at 1 ns) b.are ∙ ap (λ q. beginning s v 0 ms ++ frames s q 1 ns) b.place ∙ sym (beginning_append s v 1 ms ns (inr some));
-    }
+begun_whole key prefix context at ns within some ms bytes b = grind (arith, length-append, within_append, beginning_append)
 
 -- the messages so far are a beginning of those of any stream that begins so
 pub begun_beginning : (p : Progress) (ms : List (List ℕ)) (bytes : List ℕ) → Begun p ms bytes
@@ -117,10 +90,7 @@ begun_beginning p ms bytes b ns more (w, s) =
 pub header_fault : (key prefix context bytes more : List ℕ) → ((v : Version) → take 4 bytes ≢ header v)
     → (length bytes < 4 → more ≡ []) → IsFault key prefix context (bytes ++ more) errors.Header
 unfolding IsFaultOf
-header_fault key prefix context bytes more unknown cut = elim (cases_lt (length bytes) 4) [
-  | inl short ↦ AtHeader (λ v. rw (cut short, append-nil bytes) (unknown v)) refl
-  | inr four ↦ AtHeader (λ v. rw (take-append-le 4 bytes more four) (unknown v)) refl
-]
+header_fault key prefix context bytes more unknown cut = grind (arith, cases_lt, append-nil, take-append-le)
 
 pub header_now : (key prefix context bytes : List ℕ) → ((v : Version) → take 4 bytes ≢ header v) → IsFault key prefix context bytes errors.Header
 unfolding IsFaultOf
@@ -152,6 +122,12 @@ pub cut_of : (s : Sealing) (at : RecordPosition) (bytes : List ℕ) (e : RecordE
     → e ≡ errors.Truncated → parts at.version bytes ≡ Err errors.Truncated
 cut_of s at bytes e (inl memory) cut = absurd cc
 cut_of s at bytes e (inr fault) cut = cut_from s at (parts at.version bytes) e fault cut
+
+pub sealed_one_stream : (key prefix context : List ℕ) → IsOneRecordStream (sealed key prefix context)
+sealed_one_stream key prefix context = one_record_stream (sealed key prefix context) (sealed-is key prefix context)
+
+-- what the start of an opening uses
+pub ruleset begin_laws = (begun_none, header_fault, header_size, nil_from_length)
 
 -- ---- the record that was read
 
@@ -363,11 +339,7 @@ long_fault v head size known long body =
 pub head_whole : (v : Version) (head : List ℕ) → length head ≡ 5 → get_or head 0 0 ≤ 1 → told head ≤ limit v
     → (body : List ℕ) → 37 + told head ≤ length (head ++ body) → parts v (head ++ body) ≢ Err errors.Truncated
 unfolding parts
-head_whole v head size known within body there e =
-    let whole = whole_is v (get_or head 0 0) (get_or head 1 0 ∷ get_or head 2 0 ∷ get_or head 3 0 ∷ get_or head 4 0 ∷ body) known (omega arith) within
-    (omega (arith, there, size, length-append head body)) in
-    let cut = subst (λ (l : List ℕ). parts v (l ++ body) ≡ Err errors.Truncated) (five head size) e in
-    absurd cc
+head_whole v head size known within body there e = grind (arith, whole_is, length-append, five)
 
 pub head_len : (p : Progress) (head : List ℕ) → length head ≡ 5
     → (flag : ℕ) (m body rest : List ℕ) → length m ≤ 16777216 → head ++ body ≡ record_of p flag m ++ rest
@@ -381,3 +353,6 @@ head_len p head size flag m body rest low e =
     let same : four ≡ le = ap (λ (l : List ℕ). take 4 (drop 1 l)) spelled ∙ ap (take 4) (append_assoc le body_m rest) ∙ take_at le (body_m ++ rest) 4 refl in
     let number : told head ≡ length m = ap (from_le_bytes w32) same ∙ from_le_bytes-to_le_bytes_4 (length m) (omega arith) in
     length-record p.key p.prefix p.context p.position flag m ∙ ap (λ (n : ℕ). 37 + n) (sym number)
+
+-- what the length of a record by its first bytes uses
+pub ruleset head_laws = (flag_fault, head_len, head_whole, long_fault)

@@ -51,10 +51,7 @@ swap a b c = sym (xor_assoc a b c) ∙ ap (λ t. bit_xor t c) (xor_comm a b) ∙
 -- the terms of MixColumns, in the order of the code and in that of each row: a, b and c are the bytes of the next rows,
 -- and d and e the doubles of the row's own byte and of the next
 as-code : (a b c d e : ℕ) → bit_xor (bit_xor a (bit_xor b c)) (bit_xor d e) ≡ bit_xor (bit_xor e a) (bit_xor d (bit_xor b c))
-as-code a b c d e =
-    let bc = bit_xor b c in
-    xor_comm (bit_xor a bc) (bit_xor d e) ∙ xor_assoc d e (bit_xor a bc)
-    ∙ ap (bit_xor d) (sym (xor_assoc e a bc)) ∙ swap d (bit_xor e a) bc
+as-code a b c d e = grind (arith, xor_comm, swap)
 
 in-row-0 : (b c d f : ℕ) → bit_xor (bit_xor (bit_xor d f) b) c ≡ bit_xor f (bit_xor d (bit_xor b c))
 in-row-0 b c d f = xor_assoc (bit_xor d f) b c ∙ xor_assoc d f (bit_xor b c) ∙ swap d f (bit_xor b c)
@@ -177,12 +174,7 @@ mixed_byte s shifted next across doubles key n width fits l-shifted l-next l-acr
 pub mixed_long : (shifted next across doubles key : List ℕ) (n : ℕ)
     → length shifted ≡ n → length next ≡ n → length across ≡ n → length key ≡ n → doubles ≡ map xtime (zip2 bit_xor shifted next)
     → length (zip2 bit_xor (zip2 bit_xor (zip2 bit_xor next across) doubles) key) ≡ n
-mixed_long shifted next across doubles key n l-shifted l-next l-across l-key e =
-    let l-sum = length-zip2 bit_xor shifted next (l-shifted ∙ sym l-next) ∙ l-shifted in
-    let l-doubles = ap length e ∙ length-map (zip2 bit_xor shifted next) xtime ∙ l-sum in
-    let l-two = length-zip2 bit_xor next across (l-next ∙ sym l-across) ∙ l-next in
-    let l-three = length-zip2 bit_xor (zip2 bit_xor next across) doubles (l-two ∙ sym l-doubles) ∙ l-two in
-    length-zip2 bit_xor (zip2 bit_xor (zip2 bit_xor next across) doubles) key (l-three ∙ sym l-key) ∙ l-three
+mixed_long shifted next across doubles key n l-shifted l-next l-across l-key e = grind (arith, length-zip2, length-map)
 
 -- ---- whole blocks
 mixed-same : {a b c d r a' b' c' d' r' : ℕ} → a ≡ a' → b ≡ b' → c ≡ c' → d ≡ d' → r ≡ r' → mixed a b c d r ≡ mixed a' b' c' d' r'

@@ -1,7 +1,7 @@
 -- Bytes and blocks at places of a list.
 use Rattle.std.proofs.Common.{◌≡◌, ℕ, zero, suc, ◌+◌, ◌-◌, ◌%◌, ◌<◌, ◌≤◌, List, [], ◌∷◌, ◌++◌, length, map, get_or, replicate, take, drop, refl, sym, ap, ap₂, ◌∙◌, arith}
 use Rattle.std.proofs.lemmas.List.{get_or-map, length-map, places, same_lists, get_or_default, get_or_append_left, get_or-append_right}
-use Rattle.std.proofs.lemmas.Simd.{get_or-chunk, get_or-put_chunk_at, get_or-zip2, length-zip2}
+use Rattle.std.proofs.lemmas.Simd.{get_or-chunk, get_or-put_chunk_above, get_or-put_chunk_at, get_or-put_chunk_below, get_or-zip2, length-zip2}
 use Rattle.std.specs.Simd.Lanes.{chunk, put_chunk, zip2}
 use borrow.Rule.Slice.PartMut.{put_mid}
 use Rattle.std.specs.Int.Bits.{xor_zero_r}
@@ -25,11 +25,7 @@ get_or-bytes_at xs i (suc n) (suc k) d lt =
 
 -- the bytes of xs from place i on are b if each of them is
 pub bytes_at-is : (xs : List ℕ) (i n : ℕ) (b : List ℕ) → length b ≡ n → ((k : ℕ) → k < n → get_or xs (i + k) 0 ≡ get_or b k 0) → bytes_at xs i n ≡ b
-bytes_at-is xs i n b long same =
-    let len = length-bytes_at xs i n in
-    same_lists _ _ (len ∙ sym long) (λ k d lt.
-    let within : k < n = omega (arith, len) in
-    get_or-bytes_at xs i n k d within ∙ (same k within ∙ get_or_default b k 0 d (omega arith)))
+bytes_at-is xs i n b long same = grind (arith, length-bytes_at, same_lists, get_or-bytes_at, get_or_default)
 
 -- two lists have the same n bytes from place i on if each of them is the same
 pub bytes_at-same : (xs ys : List ℕ) (i n : ℕ) → ((k : ℕ) → i ≤ k → k < i + n → get_or xs k 0 ≡ get_or ys k 0) → bytes_at xs i n ≡ bytes_at ys i n
@@ -43,8 +39,8 @@ bytes_at-part xs i n e end room =
     sym (bytes_at-is xs i n (take (e - i) (drop i xs)) (grind (arith, places)) (λ k lt. grind (arith, places)))
 
 -- after ys is written to xs[i..i + n], the bytes there are ys
-pub bytes_at-put_mid : (xs ys : List ℕ) (i n k : ℕ) → length ys ≡ n → n ≡ k → i + n ≤ length xs → bytes_at (put_mid i k xs ys) i n ≡ ys
-bytes_at-put_mid xs ys i n k long same room =
+pub bytes_at_put_mid : (xs ys : List ℕ) (i n k : ℕ) → length ys ≡ n → n ≡ k → i + n ≤ length xs → bytes_at (put_mid i k xs ys) i n ≡ ys
+bytes_at_put_mid xs ys i n k long same room =
     bytes_at-is (put_mid i k xs ys) i n ys long (λ m lt. grind (arith, places))
 
 -- a block below place `from` stays if the bytes below `from` do
@@ -65,10 +61,12 @@ pub blocks_of_repeated : (bytes out : List ℕ) (n : ℕ) → length bytes ≡ 1
 blocks_of_repeated bytes out n long each p whole room =
     bytes_at-is out p 16 bytes long (λ k lt. each (p + k) (omega arith) ∙ ap (λ (j : ℕ). get_or bytes j 0) (omega arith))
 
+pub ruleset repeated_laws = (get_or-chunk, blocks_of_repeated)
+
 -- ---- blocks side by side
-pub block_at-zip2 : (f : ℕ → ℕ → ℕ) (a b : List ℕ) (n p : ℕ) → length a ≡ n → length b ≡ n → p + 16 ≤ n
+pub block_at_zip2 : (f : ℕ → ℕ → ℕ) (a b : List ℕ) (n p : ℕ) → length a ≡ n → length b ≡ n → p + 16 ≤ n
     → block_at (zip2 f a b) p ≡ zip2 f (block_at a p) (block_at b p)
-block_at-zip2 f a b n p la lb room =
+block_at_zip2 f a b n p la lb room =
     let x = block_at a p in
     let y = block_at b p in
     let lx = length-bytes_at a p 16 in
@@ -78,38 +76,42 @@ block_at-zip2 f a b n p la lb room =
     ∙ ap₂ f (sym (get_or-bytes_at a p 16 k 0 lt)) (sym (get_or-bytes_at b p 16 k 0 lt))
     ∙ sym (get_or-zip2 f x y k 0 0 0 (omega (arith, lx)) (omega (arith, ly))))
 
-pub block_at-map : (f : ℕ → ℕ) (a : List ℕ) (n p : ℕ) → length a ≡ n → p + 16 ≤ n → block_at (map f a) p ≡ map f (block_at a p)
-block_at-map f a n p long room =
+pub ruleset zip2_laws = (length-zip2, block_at_zip2)
+
+pub block_at_map : (f : ℕ → ℕ) (a : List ℕ) (n p : ℕ) → length a ≡ n → p + 16 ≤ n → block_at (map f a) p ≡ map f (block_at a p)
+block_at_map f a n p long room =
     let x = block_at a p in
     let lx = length-bytes_at a p 16 in
     bytes_at-is (map f a) p 16 (map f x) (length-map x f ∙ lx) (λ k lt.
     get_or-map f a (p + k) 0 0 (omega (arith, long)) ∙ ap f (sym (get_or-bytes_at a p 16 k 0 lt)) ∙ sym (get_or-map f x k 0 0 (omega (arith, lx))))
 
-pub block_at-chunk : (xs : List ℕ) (at n p : ℕ) → p + 16 ≤ n → block_at (chunk at n xs) p ≡ block_at xs (at + p)
-block_at-chunk xs at n p room =
+pub block_at_chunk : (xs : List ℕ) (at n p : ℕ) → p + 16 ≤ n → block_at (chunk at n xs) p ≡ block_at xs (at + p)
+block_at_chunk xs at n p room =
     bytes_at-is (chunk at n xs) p 16 (block_at xs (at + p)) (length-bytes_at xs (at + p) 16) (λ k lt.
     get_or-chunk at n xs (p + k) 0 (omega arith) ∙ ap (λ (j : ℕ). get_or xs j 0) (omega arith) ∙ sym (get_or-bytes_at xs (at + p) 16 k 0 lt))
 
-pub block_at-put_chunk : (xs ys : List ℕ) (at n p : ℕ) → length ys ≡ n → at + n ≤ length xs → p + 16 ≤ n
+pub block_at_put_chunk : (xs ys : List ℕ) (at n p : ℕ) → length ys ≡ n → at + n ≤ length xs → p + 16 ≤ n
     → block_at (put_chunk at xs ys) (at + p) ≡ block_at ys p
-block_at-put_chunk xs ys at n p long room inside =
+block_at_put_chunk xs ys at n p long room inside =
     bytes_at-is (put_chunk at xs ys) (at + p) 16 (block_at ys p) (length-bytes_at ys p 16) (λ k lt.
     ap (λ (j : ℕ). get_or (put_chunk at xs ys) j 0) (omega arith)
     ∙ get_or-put_chunk_at at xs ys (p + k) 0 (omega (arith, long)) (omega (arith, long)) ∙ sym (get_or-bytes_at ys p 16 k 0 lt))
 
+pub ruleset put_chunk_laws = (block_at_put_chunk, get_or-put_chunk_above, get_or-put_chunk_below)
+
 -- a block of the first of two lists, one after the other
-pub block_at-first : (a b : List ℕ) (p : ℕ) → p + 16 ≤ length a → block_at (a ++ b) p ≡ block_at a p
-block_at-first a b p room =
+pub block_at_first : (a b : List ℕ) (p : ℕ) → p + 16 ≤ length a → block_at (a ++ b) p ≡ block_at a p
+block_at_first a b p room =
     bytes_at-is (a ++ b) p 16 (block_at a p) (length-bytes_at a p 16) (λ k lt.
     get_or_append_left a b 0 (p + k) (omega arith) ∙ sym (get_or-bytes_at a p 16 k 0 lt))
 
-pub block_at-second : (a b : List ℕ) (n p e : ℕ) → length a ≡ n → e ≡ n + p → block_at (a ++ b) e ≡ block_at b p
-block_at-second a b n p e long place =
+pub block_at_second : (a b : List ℕ) (n p e : ℕ) → length a ≡ n → e ≡ n + p → block_at (a ++ b) e ≡ block_at b p
+block_at_second a b n p e long place =
     bytes_at-is (a ++ b) e 16 (block_at b p) (length-bytes_at b p 16) (λ k lt.
     get_or-append_right a b n (e + k) 0 long (omega arith) ∙ ap (λ (j : ℕ). get_or b j 0) (omega arith) ∙ sym (get_or-bytes_at b p 16 k 0 lt))
 
-pub block_at-all : (a : List ℕ) → length a ≡ 16 → block_at a 0 ≡ a
-block_at-all a long = bytes_at-is a 0 16 a long (λ k lt. ap (λ (j : ℕ). get_or a j 0) (omega arith))
+pub block_at_all : (a : List ℕ) → length a ≡ 16 → block_at a 0 ≡ a
+block_at_all a long = bytes_at-is a 0 16 a long (λ k lt. ap (λ (j : ℕ). get_or a j 0) (omega arith))
 
 pub xor-zeros : (b : List ℕ) (n : ℕ) → length b ≤ n → xor b (replicate n 0) ≡ b
 xor-zeros [] n long = refl

@@ -57,6 +57,7 @@ impl AesBlock {
 
     /// Returns the bitwise xor of two blocks.
     #[inline]
+    #[tactic(auto, using(crate::proofs::Places::zip2_laws))]
     pub fn xor(&self, other: AesBlock) -> AesBlock
         ensures { result ≡ xor self.now other }
     {
@@ -67,6 +68,7 @@ impl AesBlock {
 
     /// Returns the bitwise and of two blocks.
     #[inline]
+    #[tactic(auto, using(crate::proofs::Places::zip2_laws))]
     pub fn and(&self, other: AesBlock) -> AesBlock
         ensures { result ≡ and self.now other }
     {
@@ -77,6 +79,7 @@ impl AesBlock {
 
     /// Returns the block after one AES round: SubBytes, ShiftRows, MixColumns, and then the xor with `key` (FIPS 197,
     /// sections 5.1.1 to 5.1.4). The AEGIS specification calls it AESRound.
+    #[tactic(auto, using(crate::proofs::Places::block_at_all))]
     pub fn round(&self, key: AesBlock) -> AesBlock
         ensures { result ≡ round self.now key }
     {

@@ -50,6 +50,7 @@ impl AesBlock2 {
     }
 
     /// Returns the two blocks, in order.
+    #[tactic(auto, unfolding(crate::specs::Block::bytes_at), using(crate::proofs::Places::block_at_first))]
     pub fn as_blocks(&self) -> (AesBlock, AesBlock)
         ensures first { result.0 ≡ self.now.0 }
         ensures second { result.1 ≡ self.now.1 }
@@ -64,6 +65,7 @@ impl AesBlock2 {
     }
 
     /// Returns the second block and then the first.
+    #[tactic(auto, unfolding(crate::specs::Block::bytes_at), using(crate::proofs::Places::block_at_first))]
     pub fn exchanged(&self) -> AesBlock2
         ensures { result ≡ (self.now.1, self.now.0) }
     {

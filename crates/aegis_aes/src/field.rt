@@ -18,6 +18,7 @@ pub fn inverse_is_unique()
 
 /// The product of each byte with x.
 #[inline(always)]
+#[tactic(auto, using(std::proofs::lemmas::Simd::shifts_fit_splat, crate::proofs::Mixing::doubled))]
 pub(crate) fn times_x<const N: usize>(a: Simd<u8, N>) -> Simd<u8, N>
     ensures { result ≡ map xtime a.entry }
 {
@@ -61,6 +62,7 @@ pub(crate) fn product<const N: usize>(a: Simd<u8, N>, b: Simd<u8, N>) -> Simd<u8
 
 /// Returns the inverse of each byte, and 0 for 0 (FIPS 197, sections 4.2 and 5.1.1). It is the power 254, since the
 /// power 255 of each byte but 0 is 1.
+#[tactic(auto, using(crate::proofs::Powers::powers))]
 pub fn power_254<const N: usize>(a: Simd<u8, N>) -> Simd<u8, N>
     ensures { result ≡ map inverse a.entry }
 {

@@ -79,6 +79,7 @@ fn twice(bytes: [u8; 16]) -> u8x32
 
 // The same sixteen bytes in each block.
 #[inline(always)]
+#[tactic(auto, using(std::proofs::lemmas::Grind::common_steps, crate::proofs::Places::repeated_laws))]
 pub(crate) fn repeated<const N: usize>(bytes: [u8; 16]) -> Simd<u8, N>
     requires { N ≤ 32 }
     ensures long { length result ≡ N }

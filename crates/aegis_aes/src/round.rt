@@ -35,6 +35,7 @@ pub(crate) fn complete<const N: usize>(blocks: Simd<u8, N>, keys: Simd<u8, N>) -
 }
 
 /// A round of AES on each block, computed in the field.
+#[tactic(auto, unfolding(crate::specs::Round::round, crate::specs::Round::sub_bytes), using(crate::proofs::Places::block_at_map))]
 pub(crate) fn round_by_field<const N: usize>(blocks: Simd<u8, N>, keys: Simd<u8, N>) -> Simd<u8, N>
     requires { IsWidth N }
     ensures long { length result ≡ N }

@@ -102,6 +102,7 @@ impl Row for AesBlock {
         AesBlock::from_bytes(&bytes[at..at + 16])
     }
 
+    #[tactic(auto, using(crate::proofs::Places::bytes_at_put_mid))]
     fn store(self, out: &mut [u8], at: usize) {
         out[at..at + 16].copy_from_slice(&self.to_bytes());
     }
@@ -114,12 +115,14 @@ impl Row for AesBlock {
         AesBlock::and(&self, other)
     }
 
+    #[tactic(auto, unfolding(crate::specs::Round::sub_bytes))]
     fn sub_bytes_row(self) -> AesBlock {
         AesBlock {
             bytes: sub_bytes(self.bytes),
         }
     }
 
+    #[tactic(auto, using(crate::proofs::Places::block_at_all))]
     fn complete_row(self, key: AesBlock) -> AesBlock {
         AesBlock {
             bytes: complete(self.bytes, key.bytes),

@@ -7,6 +7,7 @@ use std::simd::prelude::*;
 
 /// Reads blocks from `bytes`, beginning at byte `at`.
 #[inline(always)]
+#[tactic(auto, using(crate::proofs::Places::block_at_chunk))]
 pub(crate) fn load<const N: usize>(bytes: &[u8], at: usize) -> Simd<u8, N>
     requires { at + N ≤ length bytes.now }
     ensures long { length result ≡ N }
@@ -18,6 +19,7 @@ pub(crate) fn load<const N: usize>(bytes: &[u8], at: usize) -> Simd<u8, N>
 
 /// Writes the blocks into `out`, beginning at byte `at`. The other bytes of `out` are unchanged.
 #[inline(always)]
+#[tactic(auto, using(crate::proofs::Places::put_chunk_laws))]
 pub(crate) fn store<const N: usize>(blocks: Simd<u8, N>, out: &mut [u8], at: usize)
     requires { at + N ≤ length out.old }
     ensures written { (p : ℕ) → p + 16 ≤ N
@@ -30,6 +32,7 @@ pub(crate) fn store<const N: usize>(blocks: Simd<u8, N>, out: &mut [u8], at: usi
 
 /// The bitwise xor, block by block.
 #[inline(always)]
+#[tactic(auto, using(crate::proofs::Places::zip2_laws))]
 pub(crate) fn xor_each<const N: usize>(a: Simd<u8, N>, b: Simd<u8, N>) -> Simd<u8, N>
     ensures long { length result ≡ N }
     ensures each { (p : ℕ) → p + 16 ≤ N
@@ -40,6 +43,7 @@ pub(crate) fn xor_each<const N: usize>(a: Simd<u8, N>, b: Simd<u8, N>) -> Simd<u
 
 /// The bitwise and, block by block.
 #[inline(always)]
+#[tactic(auto, using(crate::proofs::Places::zip2_laws))]
 pub(crate) fn and_each<const N: usize>(a: Simd<u8, N>, b: Simd<u8, N>) -> Simd<u8, N>
     ensures long { length result ≡ N }
     ensures each { (p : ℕ) → p + 16 ≤ N

@@ -1,10 +1,10 @@
 -- A message that continues: its ciphertext and its run.
-use Rattle.std.proofs.Common.{◌≡◌, ◌∙◌, sym, ap, refl, ℕ, ◌+◌, ◌-◌, ◌/◌, ◌%◌, ◌<◌, ⊎_elim, List, [], ◌++◌, length, bit_xor, slice_index, arith}
+use Rattle.std.proofs.Common.{◌≡◌, ◌∙◌, sym, ap, refl, ℕ, ◌+◌, ◌-◌, ◌<◌, ⊎_elim, List, [], ◌++◌, length, bit_xor, slice_index, arith}
 use Rattle.std.proofs.Math.Nat.{zero-div, zero-mod}
 use Rattle.std.proofs.lemmas.Bool.{cases_lt}
 use Rattle.std.proofs.lemmas.List.{get_or_append_left, get_or-append_right, length-append}
 use Rattle.aegis_aes.specs.Lanes.{IsLaneCount}
-use Rattle.aegis_base.specs.Variant.{Variant, rate}
+use Rattle.aegis_base.specs.Variant.{Variant}
 use Rattle.aegis_base.specs.Message.{ciphertext_from, keystream_byte_along}
 use Rattle.aegis_base.specs.Context.{HasFrom, IsAlong}
 use Rattle.aegis_base.proofs.Bijection.{ciphertext-is, ciphertext-reads, length-ciphertext, keystream_byte_along-before}
@@ -43,13 +43,7 @@ ciphertext-none variant lanes = sym (ciphertext-is variant lanes [] [] refl (λ 
 -- the beginning of a run
 pub along-none : (variant : Variant) (lanes here : ℕ → List (List ℕ)) (block x : List ℕ)
     → ((j : ℕ) → j < variant.lanes → here j ≡ lanes j) → IsAlong variant lanes here block x 0
-along-none variant lanes here block x same =
-    let none : 0 / rate variant ≡ 0 = zero-div (rate variant) in
-    let rest : 0 % rate variant ≡ 0 = zero-mod (rate variant) in
-    record {
-      whole = λ j inside. rw (none, after-none) (same j inside);
-      open_block = λ k h. absurd (omega arith);
-    }
+along-none variant lanes here block x same = grind (arith, zero-div, zero-mod, after-none)
 
 -- a run along a message is one along each longer message
 pub along-longer : (variant : Variant) (lanes here : ℕ → List (List ℕ)) (block m p : List ℕ)

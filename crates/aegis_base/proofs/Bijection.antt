@@ -9,9 +9,10 @@ use Rattle.std.proofs.lemmas.Nat.{xor_lt}
 use Rattle.std.proofs.lemmas.List.FromFn.{fill_by_all, get_or-map-range_with_len, length-map-range_with_len}
 use Rattle.aegis_aes.specs.Lanes.{IsLaneCount}
 use Rattle.aegis_base.specs.Variant.{Variant, rate}
-use Rattle.aegis_base.specs.Message.{after, ciphertext_byte, ciphertext_from, keystream_byte_along}
+use Rattle.aegis_base.specs.Message.{ciphertext_byte, ciphertext_from, keystream_byte_along, lane_before}
+use Rattle.aegis_base.specs.Laws.{IsOnto}
 use Rattle.aegis_aes.proofs.RoundBytes.{IsBytes}
-use Rattle.aegis_base.proofs.Bytes.{AreRows, append-bytes, more-bytes, none-bytes, keystream_byte_along-below}
+use Rattle.aegis_base.proofs.Bytes.{AreRows, append-bytes, lane_before-rows, more-bytes, none-bytes, keystream_byte_along-below}
 use Rattle.aegis_base.proofs.MessageFacts.{after-same, keystream_byte-same}
 
 -- ---- the ciphertext byte by byte
@@ -38,10 +39,7 @@ ciphertext-is variant lanes m c long reads = fill_by_all (ciphertext_byte varian
 pub keystream_byte_along-same : (variant : Variant) (lanes : ℕ → List (List ℕ)) (x y : List ℕ) (i : ℕ) → IsLaneCount variant.lanes
     → ((k : ℕ) → k < i / rate variant * rate variant → slice_index x k ≡ slice_index y k)
     → keystream_byte_along variant lanes x i ≡ keystream_byte_along variant lanes y i
-keystream_byte_along-same variant lanes x y i count same =
-    keystream_byte-same variant (λ j. after variant (lanes j) j x (i / rate variant))
-    (λ j. after variant (lanes j) j y (i / rate variant)) i count
-    (λ j low. after-same variant (lanes j) j x y (i / rate variant) low same)
+keystream_byte_along-same variant lanes x y i count same = grind (arith, keystream_byte-same, after-same)
 
 -- it depends only on the bytes before it
 pub keystream_byte_along-before : (variant : Variant) (lanes : ℕ → List (List ℕ)) (x y : List ℕ) (i : ℕ) → IsLaneCount variant.lanes
@@ -143,15 +141,22 @@ opened-bytes variant lanes c (suc n) count rows is =
     (keystream_byte_along-below variant lanes m n count rows before) in
     append-bytes m (bit_xor (slice_index c n) (keystream_byte_along variant lanes m n) ∷ []) before (more-bytes byte none-bytes)
 
-pub ciphertext-onto : (variant : Variant) (lanes : ℕ → List (List ℕ)) (c : List ℕ) → IsLaneCount variant.lanes
-    → (m : List ℕ) × (length m ≡ length c) × (ciphertext_from variant lanes m ≡ c)
-    × (((j : ℕ) → j < variant.lanes → AreRows (lanes j)) → IsBytes c → IsBytes m)
-ciphertext-onto variant lanes c count =
+pub ciphertext_onto : (variant : Variant) → IsLaneCount variant.lanes → IsOnto variant
+ciphertext_onto variant count key nonce ad c =
+    let lanes = lane_before variant key nonce ad in
     let m = opened variant lanes c (length c) in
     let is : IsOpened variant lanes c (length c) m = opened-opens variant lanes c (length c) count in
     let long : length m ≡ length c = is.long in (
       m,
       long,
       sym (ciphertext-is variant lanes m c (sym long) (λ i h. sym (is.opens i (omega arith)))),
-      opened-bytes variant lanes c (length c) count,
+      λ k n a s.
+          let rows = λ (j : ℕ) (inside : j < variant.lanes).
+          lane_before-rows variant key nonce ad j count inside (record { below = k }) (record { below = n })
+          (record { below = a }) in
+          let bytes = opened-bytes variant lanes c (length c) count rows (record { below = s }) in
+          bytes.below,
     )
+
+-- what the law of the bijection uses
+pub ruleset bijection_laws = (length-ciphertext, ciphertext-injective, ciphertext_onto)

@@ -1,6 +1,6 @@
 -- Lanes of bytes: if the key, the nonce, the associated data and the message are lists of bytes, so are the rows of the
 -- lanes and their keystream.
-use Rattle.std.proofs.Common.{◌≡◌, ℕ, zero, suc, ◌+◌, ◌*◌, ◌/◌, ◌%◌, ◌<◌, Bool, true, ◌&&◌, nat_lt, List, [], ◌∷◌, ◌++◌, take, drop, bit_and, bit_xor, slice_index, refl, arith, inl, inr}
+use Rattle.std.proofs.Common.{◌≡◌, ℕ, zero, suc, ◌+◌, ◌*◌, ◌/◌, ◌%◌, ◌<◌, Bool, true, ◌&&◌, nat_lt, List, [], ◌∷◌, ◌++◌, take, drop, bit_and, bit_xor, refl, arith, inl, inr}
 use Rattle.std.specs.Int.Bits.{and_lt}
 use Rattle.std.specs.Simd.Lanes.{zip2}
 use Rattle.std.proofs.lemmas.Bool.{and_parts, ltb-true}
@@ -19,11 +19,7 @@ pub none-bytes : IsBytes []
 none-bytes = record { below = λ i. omega arith }
 
 pub more-bytes : {x : ℕ} {xs : List ℕ} → x < 256 → IsBytes xs → IsBytes (x ∷ xs)
-more-bytes {x} {xs} low is = record { below = at }
-  where
-    at : (i : ℕ) → slice_index (x ∷ xs) i < 256
-    at zero = low
-    at (suc i) = is.below i
+more-bytes {x} {xs} low is = grind arith
 
 rest-bytes : {x : ℕ} {xs : List ℕ} → IsBytes (x ∷ xs) → IsBytes xs
 rest-bytes is = record { below = λ i. is.below (suc i) }
@@ -99,37 +95,17 @@ no-rows : AreRows []
 no-rows = record { at = λ i. none-bytes }
 
 more-rows : {b : List ℕ} {s : List (List ℕ)} → IsBytes b → AreRows s → AreRows (b ∷ s)
-more-rows {b} {s} is rows = record { at = each }
-  where
-    each : (i : ℕ) → IsBytes (block_in (b ∷ s) i)
-    each zero = is
-    each (suc i) = rows.at i
+more-rows {b} {s} is rows = grind arith
+
+ruleset row_laws = (no-rows, more-rows, xor-bytes, and-bytes, round-bytes, take-bytes, drop-bytes, c0-bytes, c1-bytes)
 
 update-rows : (family : Family) (s m : List (List ℕ)) → AreRows s → AreRows m → AreRows (update family s m)
-update-rows Family128 s m rows input =
-    more-rows (xor-bytes (round-bytes (block_in s 7) (rows.at 0)) (input.at 0))
-    (more-rows (round-bytes (block_in s 0) (rows.at 1))
-    (more-rows (round-bytes (block_in s 1) (rows.at 2))
-    (more-rows (round-bytes (block_in s 2) (rows.at 3))
-    (more-rows (xor-bytes (round-bytes (block_in s 3) (rows.at 4)) (input.at 1))
-    (more-rows (round-bytes (block_in s 4) (rows.at 5))
-    (more-rows (round-bytes (block_in s 5) (rows.at 6))
-    (more-rows (round-bytes (block_in s 6) (rows.at 7)) no-rows)))))))
-update-rows Family256 s m rows input =
-    more-rows (xor-bytes (round-bytes (block_in s 5) (rows.at 0)) (input.at 0))
-    (more-rows (round-bytes (block_in s 0) (rows.at 1))
-    (more-rows (round-bytes (block_in s 1) (rows.at 2))
-    (more-rows (round-bytes (block_in s 2) (rows.at 3))
-    (more-rows (round-bytes (block_in s 3) (rows.at 4))
-    (more-rows (round-bytes (block_in s 4) (rows.at 5)) no-rows)))))
+update-rows Family128 s m rows input = search (row_laws, rows.at, input.at) depth 12
+update-rows Family256 s m rows input = search (row_laws, rows.at, input.at) depth 12
 
 add_context-rows : (family : Family) (c : List ℕ) (s : List (List ℕ)) → IsBytes c → AreRows s → AreRows (add_context family c s)
-add_context-rows Family128 c s is rows =
-    more-rows (rows.at 0) (more-rows (rows.at 1) (more-rows (rows.at 2) (more-rows (xor-bytes (rows.at 3) is)
-    (more-rows (rows.at 4) (more-rows (rows.at 5) (more-rows (rows.at 6) (more-rows (xor-bytes (rows.at 7) is) no-rows)))))))
-add_context-rows Family256 c s is rows =
-    more-rows (rows.at 0) (more-rows (rows.at 1) (more-rows (rows.at 2) (more-rows (xor-bytes (rows.at 3) is)
-    (more-rows (rows.at 4) (more-rows (xor-bytes (rows.at 5) is) no-rows)))))
+add_context-rows Family128 c s is rows = search (row_laws, rows.at) depth 12
+add_context-rows Family256 c s is rows = search (row_laws, rows.at) depth 12
 
 times-rows : (n : ℕ) (f : List (List ℕ) → List (List ℕ)) (s : List (List ℕ))
     → ((r : List (List ℕ)) → AreRows r → AreRows (f r)) → AreRows s → AreRows (times n f s)
@@ -137,14 +113,8 @@ times-rows zero f s kept rows = rows
 times-rows (suc n) f s kept rows = kept (times n f s) (times-rows n f s kept rows)
 
 first_blocks-rows : (family : Family) (key nonce : List ℕ) → IsBytes key → IsBytes nonce → AreRows (first_blocks family key nonce)
-first_blocks-rows Family128 key nonce k n =
-    more-rows (xor-bytes k n) (more-rows c1-bytes (more-rows c0-bytes (more-rows c1-bytes (more-rows (xor-bytes k n)
-    (more-rows (xor-bytes k c0-bytes) (more-rows (xor-bytes k c1-bytes) (more-rows (xor-bytes k c0-bytes) no-rows)))))))
-first_blocks-rows Family256 key nonce k n =
-    let low = take-bytes 16 key k in
-    let high = drop-bytes 16 key k in
-    more-rows (xor-bytes low (take-bytes 16 nonce n)) (more-rows (xor-bytes high (drop-bytes 16 nonce n))
-    (more-rows c1-bytes (more-rows c0-bytes (more-rows (xor-bytes low c0-bytes) (more-rows (xor-bytes high c1-bytes) no-rows)))))
+first_blocks-rows Family128 key nonce k n = search row_laws depth 12
+first_blocks-rows Family256 key nonce k n = search row_laws depth 12
 
 -- an update of initialization in the family 256
 turned-rows : (c b : List ℕ) (s : List (List ℕ)) → IsBytes c → IsBytes b → AreRows s
@@ -192,11 +162,8 @@ lane_before-rows variant key nonce ad j count inside k n is =
     after-rows variant (init variant key nonce j) j ad _ (init-rows variant key nonce j count inside k n) is
 
 keystream_blocks-rows : (family : Family) (s : List (List ℕ)) → AreRows s → AreRows (keystream_blocks family s)
-keystream_blocks-rows Family128 s rows =
-    more-rows (xor-bytes (xor-bytes (rows.at 6) (rows.at 1)) (and-bytes (rows.at 2) (rows.at 3)))
-    (more-rows (xor-bytes (xor-bytes (rows.at 2) (rows.at 5)) (and-bytes (rows.at 6) (rows.at 7))) no-rows)
-keystream_blocks-rows Family256 s rows =
-    more-rows (xor-bytes (xor-bytes (rows.at 1) (rows.at 4)) (xor-bytes (rows.at 5) (and-bytes (rows.at 2) (rows.at 3)))) no-rows
+keystream_blocks-rows Family128 s rows = search (row_laws, rows.at) depth 12
+keystream_blocks-rows Family256 s rows = search (row_laws, rows.at) depth 12
 
 -- the keystream along bytes, from lanes of bytes, is bytes
 pub keystream_byte_along-below : (variant : Variant) (lanes : ℕ → List (List ℕ)) (m : List ℕ) (i : ℕ) → IsLaneCount variant.lanes

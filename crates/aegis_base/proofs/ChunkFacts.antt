@@ -28,3 +28,6 @@ pub chunk-within : (chunks : List (Bor (List ℕ))) (i : ℕ) → i < length chu
     → length (joined (take i chunks)) + length (get_or chunks i no_chunk).now ≤ length (joined chunks)
 chunk-within chunks i low =
     omega (arith, ap length (joined-more chunks i low), length-append (joined (take i chunks)) (get_or chunks i no_chunk).now, joined-within chunks (i + 1))
+
+-- what a count of the bytes of chunks uses
+pub ruleset chunk_laws = (joined-more, joined-within, length-append)

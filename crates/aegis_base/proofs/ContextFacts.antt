@@ -32,12 +32,7 @@ module _ (variant : Variant) (lanes here : ℕ → List (List ℕ)) (x : List �
 -- a run along a list is one along each list with the same first bytes
 pub along-same : (variant : Variant) (lanes here : ℕ → List (List ℕ)) (block x y : List ℕ) (t : ℕ)
     → ((k : ℕ) → k < t → slice_index x k ≡ slice_index y k) → IsAlong variant lanes here block x t → IsAlong variant lanes here block y t
-along-same variant lanes here block x y t same on =
-    let whole : t / rate variant * rate variant + t % rate variant ≡ t = div-add-mod' t (rate variant) in
-    record {
-      whole = λ j inside. on.whole j inside ∙ after-same variant (lanes j) j x y (t / rate variant) inside (λ k h. same k (omega arith));
-      open_block = λ k h. on.open_block k h ∙ same (t / rate variant * rate variant + k) (omega arith);
-    }
+along-same variant lanes here block x y t same on = grind (arith, div-add-mod', after-same)
 
 -- n more bytes of x are kept in the open block, which changes from `block` to `next`
 pub record IsKept (variant : Variant) (lanes here : ℕ → List (List ℕ)) (block next x : List ℕ) (t n : ℕ) : Type 0 where
@@ -171,6 +166,4 @@ pub unpadded : (variant : Variant) (lanes here : ℕ → List (List ℕ)) (block
     → IsAlong variant lanes here block x (length x) → length x % rate variant ≡ 0
     → (j : ℕ) → j < variant.lanes → here j ≡ after_all variant (lanes j) j x
 unpadded variant lanes here block x count on none j inside =
-    let r : ℕ = rate variant in
-    let whole : length x / r * r + length x % r ≡ length x = div-add-mod' (length x) r in
-    rw (block_count-whole variant (length x) r refl (rate-positive variant count) (omega arith)) (on.whole j inside)
+    grind (arith, div-add-mod', block_count-whole, rate-positive)

@@ -1,5 +1,5 @@
 -- What the values that seal or open a message stand for, as the message continues and at its end.
-use Rattle.std.proofs.Common.{◌≡◌, ◌∙◌, sym, ap, refl, ℕ, ◌+◌, ◌/◌, ◌<◌, List, [], ◌++◌, length, bit_xor, slice_index, arith}
+use Rattle.std.proofs.Common.{◌≡◌, ◌∙◌, sym, ap, ℕ, ◌+◌, ◌/◌, ◌<◌, List, [], ◌++◌, length, bit_xor, slice_index, arith}
 use Rattle.std.proofs.Math.Nat.{zero-div}
 use Rattle.std.proofs.lemmas.List.{length-append}
 use Rattle.std.proofs.lemmas.List.FromFn.{get_or-map-range_with_len}
@@ -71,5 +71,4 @@ pub stands-begun : (variant : Variant) (lane : ℕ → List (List ℕ)) (updates
     → Stands variant (held_by variant lane updates block ad_bytes 0) key nonce ad []
 unfolding Stands
 stands-begun variant lane updates block ad_bytes key nonce ad long counted begun =
-    let none = zero-div (rate variant) in
-    (long, refl, omega arith, along-held variant _ lane block [] 0 (along-none variant _ lane block [] begun))
+    grind (arith, zero-div, along-held, along-none)

@@ -4,7 +4,7 @@ use Rattle.std.specs.Int.Bits.{xor_zero_r}
 use Rattle.aegis_aes.specs.Block.{xor}
 use Rattle.aegis_aes.specs.Lanes.{context}
 use Rattle.aegis_base.specs.Variant.{Family, Family128, Family256, Variant}
-use Rattle.aegis_base.specs.Lane.{add_context, c0, c1, first_blocks, high_half, low_half, block_in, init, init_turn, init_turns, update, times}
+use Rattle.aegis_base.specs.Lane.{add_context, c0, c1, first_blocks, high_half, low_half, block_in, init, init_turn, update, times}
 use Rattle.aegis_base.specs.Laws.{IsInitPlain, plain_turn}
 use Rattle.aegis_base.proofs.Lengths.{length-round}
 
@@ -86,8 +86,6 @@ turns-plain family key nonce (suc n) s is =
     ap (init_turn family key nonce (context 0 1)) (turns-plain family key nonce n s is)
     ∙ turn-plain family key nonce (times n (plain_turn family key nonce) s) (turns-short family key nonce n s is)
 
-pub init-plain : (variant : Variant) → variant.lanes ≡ 1 → IsInitPlain variant
+pub init_plain : (variant : Variant) → variant.lanes ≡ 1 → IsInitPlain variant
 unfolding init
-init-plain variant one key nonce =
-    let family = variant.family in
-    rw one (turns-plain family key nonce (init_turns family) (first_blocks family key nonce) (first_blocks-short family key nonce))
+init_plain variant one key nonce = grind (arith, turns-plain, first_blocks-short)

@@ -1,6 +1,6 @@
 -- Keystreams: the ciphertext of a message's beginning is the beginning of its ciphertext, and xoring twice with one
 -- list changes nothing.
-use Rattle.std.proofs.Common.{◌≡◌, ◌∙◌, sym, ap, refl, ℕ, ◌<◌, ◌≤◌, List, [], ◌∷◌, length, bit_xor, replicate, slice_index, take, arith, inl, inr, ◌/◌, ◌*◌}
+use Rattle.std.proofs.Common.{◌≡◌, ◌∙◌, sym, ap, refl, ℕ, ◌<◌, ◌≤◌, List, [], ◌∷◌, length, bit_xor, replicate, slice_index, take, arith, inl, inr}
 use Rattle.std.specs.Int.Bits.{xor_assoc}
 use Rattle.std.proofs.lemmas.Bool.{cases_lt}
 use Rattle.std.proofs.lemmas.Nat.{xor_comm}
@@ -8,7 +8,8 @@ use Rattle.std.proofs.lemmas.List.{get_or-take, get_or_past, take_all, length-re
 use Rattle.std.proofs.lemmas.Simd.{length-zip2}
 use Rattle.aegis_aes.specs.Block.{xor}
 use Rattle.aegis_aes.specs.Lanes.{IsLaneCount}
-use Rattle.aegis_base.specs.Variant.{Variant, rate}
+use Rattle.aegis_base.specs.Variant.{Variant}
+use Rattle.aegis_base.specs.Laws.{IsKeystreamShared}
 use Rattle.aegis_base.specs.Message.{ciphertext_from, lane_before, keystream, keystream_byte_along, xor_keystream}
 use Rattle.aegis_base.proofs.Bijection.{bit_xor-twice, ciphertext-is, ciphertext-reads, length-ciphertext, keystream_byte_along-before, keystream_byte_along-same}
 
@@ -28,43 +29,39 @@ ciphertext-take variant lanes m k count low =
     ∙ ap (bit_xor (slice_index (take k m) i)) keystream)
 
 -- k may pass the end of the message
-pub ciphertext-prefix : (variant : Variant) (lanes : ℕ → List (List ℕ)) (m : List ℕ) (k : ℕ) → IsLaneCount variant.lanes
+pub ciphertext_prefix : (variant : Variant) (lanes : ℕ → List (List ℕ)) (m : List ℕ) (k : ℕ) → IsLaneCount variant.lanes
     → ciphertext_from variant lanes (take k m) ≡ take k (ciphertext_from variant lanes m)
-ciphertext-prefix variant lanes m k count = elim (cases_lt k (length m)) [
-  | inl h ↦ sym (ciphertext-take variant lanes m k count (omega arith))
-  | inr h ↦
-      ap (ciphertext_from variant lanes) (take_all k m h)
-      ∙ sym (take_all k (ciphertext_from variant lanes m) (omega (arith, length-ciphertext variant lanes m)))
-]
+ciphertext_prefix variant lanes m k count =
+    grind (arith, cases_lt, ciphertext-take, take_all, length-ciphertext)
 
 -- the xor of two bytes that were xored with one byte
 xor-shared : (a b k : ℕ) → bit_xor (bit_xor a k) (bit_xor b k) ≡ bit_xor a b
 xor-shared a b k =
     xor_assoc a k (bit_xor b k) ∙ ap (bit_xor a) (xor_comm k (bit_xor b k) ∙ bit_xor-twice b k)
 
-pub ciphertext-shared : (variant : Variant) (lanes : ℕ → List (List ℕ)) (x y : List ℕ) (i : ℕ) → IsLaneCount variant.lanes
-    → length x ≡ length y → ((k : ℕ) → k < i / rate variant * rate variant → slice_index x k ≡ slice_index y k)
-    → bit_xor (slice_index (ciphertext_from variant lanes x) i) (slice_index (ciphertext_from variant lanes y) i)
-    ≡ bit_xor (slice_index x i) (slice_index y i)
-ciphertext-shared variant lanes x y i count long agree = elim (cases_lt i (length x)) [
-  | inl h ↦
-      rw (ciphertext-reads variant lanes x i h, ciphertext-reads variant lanes y i (omega arith), keystream_byte_along-same variant lanes x y i count agree)
-      (xor-shared (slice_index x i) (slice_index y i) (keystream_byte_along variant lanes y i))
-  | inr h ↦
-      rw (
-        get_or_past (ciphertext_from variant lanes x) i 0 (omega (arith, length-ciphertext variant lanes x)),
-        get_or_past (ciphertext_from variant lanes y) i 0 (omega (arith, length-ciphertext variant lanes y)),
-        get_or_past x i 0 h,
-        get_or_past y i 0 (omega arith),
-      ) refl
-]
+pub keystream_shared : (variant : Variant) → IsLaneCount variant.lanes → IsKeystreamShared variant
+keystream_shared variant count key nonce ad x y n i long agree here =
+    let lanes = lane_before variant key nonce ad in
+    elim (cases_lt i (length x)) [
+      | inl h ↦
+          rw (
+            ciphertext-reads variant lanes x i h,
+            ciphertext-reads variant lanes y i (omega arith),
+            keystream_byte_along-same variant lanes x y i count (rw here agree),
+          ) (xor-shared (slice_index x i) (slice_index y i) (keystream_byte_along variant lanes y i))
+      | inr h ↦
+          rw (
+            get_or_past (ciphertext_from variant lanes x) i 0 (omega (arith, length-ciphertext variant lanes x)),
+            get_or_past (ciphertext_from variant lanes y) i 0 (omega (arith, length-ciphertext variant lanes y)),
+            get_or_past x i 0 h,
+            get_or_past y i 0 (omega arith),
+          ) refl
+    ]
 
-pub keystream-take : (variant : Variant) (key nonce : List ℕ) (k n : ℕ) → IsLaneCount variant.lanes → k ≤ n
+pub keystream_take : (variant : Variant) (key nonce : List ℕ) (k n : ℕ) → IsLaneCount variant.lanes → k ≤ n
     → keystream variant key nonce k ≡ take k (keystream variant key nonce n)
-keystream-take variant key nonce k n count low =
-    let lanes = lane_before variant key nonce [] in
-    sym (ciphertext-take variant lanes (replicate n 0) k count (omega (arith, length-replicate {A = ℕ} n 0))
-    ∙ ap (ciphertext_from variant lanes) (take-replicate k n 0 low))
+keystream_take variant key nonce k n count low =
+    grind (arith, ciphertext-take, length-replicate, take-replicate)
 
 pub length-keystream : (variant : Variant) (key nonce : List ℕ) (n : ℕ) → length (keystream variant key nonce n) ≡ n
 length-keystream variant key nonce n =
@@ -77,10 +74,6 @@ xor-twice (x ∷ m) (y ∷ s) e =
     let shorter : length s ≡ length m = omega (arith, e) in
     rw (bit_xor-twice x y, xor-twice m s shorter) refl
 
-pub xor_keystream-twice : (variant : Variant) (key nonce m : List ℕ)
+pub xor_keystream_twice : (variant : Variant) (key nonce m : List ℕ)
     → xor_keystream variant key nonce (xor_keystream variant key nonce m) ≡ m
-xor_keystream-twice variant key nonce m =
-    let s = keystream variant key nonce (length m) in
-    let long : length s ≡ length m = length-keystream variant key nonce (length m) in
-    let same : length (xor m s) ≡ length m = length-zip2 bit_xor m s (sym long) in
-    ap (λ (n : ℕ). xor (xor m s) (keystream variant key nonce n)) same ∙ xor-twice m s long
+xor_keystream_twice variant key nonce m = grind (arith, length-keystream, length-zip2, xor-twice)

@@ -5,12 +5,12 @@ use Rattle.aegis_aes.specs.Lanes.{IsLaneCount, xor_lanes}
 use Rattle.aegis_aes.proofs.Places.{bytes_at-is, get_or-bytes_at, length-bytes_at}
 
 -- lanes with the same blocks have the same xor
-pub xor_lanes-same : (f g : ℕ → List ℕ) (d : ℕ) → ((j : ℕ) → j < d → f j ≡ g j) → xor_lanes f d ≡ xor_lanes g d
+pub xor_lanes_same : (f g : ℕ → List ℕ) (d : ℕ) → ((j : ℕ) → j < d → f j ≡ g j) → xor_lanes f d ≡ xor_lanes g d
 unfolding xor_lanes
-xor_lanes-same f g zero same = refl
-xor_lanes-same f g (suc zero) same = same 0 (omega arith)
-xor_lanes-same f g (suc (suc d)) same =
-    let rest = xor_lanes-same f g (suc d) (λ j h. same j (omega arith)) in
+xor_lanes_same f g zero same = refl
+xor_lanes_same f g (suc zero) same = same 0 (omega arith)
+xor_lanes_same f g (suc (suc d)) same =
+    let rest = xor_lanes_same f g (suc d) (λ j h. same j (omega arith)) in
     let here = same (suc d) (omega arith) in
     rw (rest, here) refl
 
@@ -57,10 +57,10 @@ xor_lanes-append f g n (suc (suc d)) long =
     let beginning : length (xor_lanes f (suc d)) ≡ length (f (suc d)) = length-xor_lanes f n d before ∙ sym (long (suc d) (omega arith)) in
     rw rest (zip2-append (xor_lanes f (suc d)) (f (suc d)) (xor_lanes g (suc d)) (g (suc d)) beginning)
 
-pub count-positive : (d : ℕ) → IsLaneCount d → 0 < d
-count-positive d (inl one) = omega arith
-count-positive d (inr (inl two)) = omega arith
-count-positive d (inr (inr four)) = omega arith
+pub count_positive : (d : ℕ) → IsLaneCount d → 0 < d
+count_positive d (inl one) = omega arith
+count_positive d (inr (inl two)) = omega arith
+count_positive d (inr (inr four)) = omega arith
 
 pub length-xor_lanes-count : (f : ℕ → List ℕ) (n d : ℕ) → IsLaneCount d → ((j : ℕ) → j < d → length (f j) ≡ n) → length (xor_lanes f d) ≡ n
 length-xor_lanes-count f n d (inl one) long = rw one (length-xor_lanes f n 0 (λ j h. long j (omega arith)))

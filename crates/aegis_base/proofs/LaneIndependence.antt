@@ -6,9 +6,8 @@ use Rattle.std.proofs.lemmas.List.{get_or_past}
 use Rattle.aegis_aes.specs.Block.{block_at}
 use Rattle.aegis_aes.specs.Lanes.{IsLaneCount}
 use Rattle.aegis_base.specs.Variant.{Family, Family128, Family256, Variant, rate}
-use Rattle.aegis_base.specs.Laws.{AgreeInLane}
-use Rattle.aegis_base.specs.Message.{after, after_all, ciphertext, ciphertext_from, lane_before, lane_of, share, keystream_byte_along}
-use Rattle.aegis_base.specs.Lane.{init}
+use Rattle.aegis_base.specs.Laws.{AgreeInLane, AreLanesIndependent}
+use Rattle.aegis_base.specs.Message.{after, after_all, ciphertext_from, lane_of, share, keystream_byte_along}
 use Rattle.aegis_base.proofs.Bijection.{ciphertext-reads, length-ciphertext}
 use Rattle.aegis_base.proofs.LaneFacts.{bytes_at-same}
 use Rattle.aegis_base.proofs.MessageFacts.{lane_of-within, variant_of}
@@ -90,10 +89,6 @@ ciphertext_from-in_lane variant f g m n j count same long agree i here = elim (c
       ∙ sym (get_or_past (ciphertext_from variant g n) i 0 (omega (arith, length-ciphertext variant g n)))
 ]
 
-pub ciphertext-in_lane : (variant : Variant) (key nonce ad₁ ad₂ m n : List ℕ) (j : ℕ) → IsLaneCount variant.lanes
-    → length ad₁ ≡ length ad₂ → AgreeInLane variant.lanes j ad₁ ad₂ → length m ≡ length n → AgreeInLane variant.lanes j m n
-    → AgreeInLane variant.lanes j (ciphertext variant key nonce ad₁ m) (ciphertext variant key nonce ad₂ n)
-ciphertext-in_lane variant key nonce ad₁ ad₂ m n j count ad_long ad_agree long agree i here =
-    let inside : j < variant.lanes = subst (λ (q : ℕ). q < variant.lanes) here (lane_of-within variant.lanes i count) in
-    ciphertext_from-in_lane variant (lane_before variant key nonce ad₁) (lane_before variant key nonce ad₂) m n j count
-    (after_all-in_lane variant (init variant key nonce j) j ad₁ ad₂ count inside ad_long ad_agree) long agree i here
+pub lanes_independent : (variant : Variant) → IsLaneCount variant.lanes → AreLanesIndependent variant
+lanes_independent variant count key nonce ad₁ ad₂ m n j ad_long ad_agree long agree i here =
+    grind (arith, lane_of-within, ciphertext_from-in_lane, after_all-in_lane)

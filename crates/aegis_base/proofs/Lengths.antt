@@ -5,10 +5,10 @@ use Rattle.std.proofs.Math.Seq.{drop-append_seam, take-append_seam}
 use Rattle.std.proofs.lemmas.List.{length-append}
 use Rattle.std.proofs.lemmas.List.FromFn.{length-map-range_with_len}
 use Rattle.aegis_aes.specs.Block.{xor}
-use Rattle.aegis_aes.specs.Lanes.{IsLaneCount, context}
+use Rattle.aegis_aes.specs.Lanes.{IsLaneCount}
 use Rattle.aegis_aes.specs.Round.{complete_byte, complete_round, round, sub_bytes}
 use Rattle.aegis_base.specs.Variant.{Family, Family128, Family256, Variant}
-use Rattle.aegis_base.specs.Lane.{IsTagLength, add_context, bit_lengths, finalize, first_blocks, high_tag, lane_tag, last_block, last_input, low_tag, block_in, short_tag, init, init_turn, init_turns, update, times}
+use Rattle.aegis_base.specs.Lane.{IsTagLength, add_context, bit_lengths, finalize, high_tag, lane_tag, last_block, last_input, low_tag, block_in, short_tag, init, init_turn, init_turns, update, times}
 use Rattle.aegis_base.specs.Message.{after, lane_end, tag}
 use Rattle.aegis_base.proofs.LaneFacts.{length-xor, length-xor_lanes-count}
 
@@ -16,15 +16,10 @@ pub length-round : (b k : List ℕ) → length (round b k) ≡ 16
 unfolding round complete_round
 length-round b k = length-map-range_with_len (λ n. complete_byte (sub_bytes b) k (n / 4) (n % 4)) 0 16
 
--- a block of 16 bytes
-record IsBlock (b : List ℕ) : Type 0 where
-  long : length b ≡ 16
+xor-block : (a b : List ℕ) → length a ≡ 16 → length b ≡ 16 → length (xor a b) ≡ 16
+xor-block a b is also = length-xor a b (is ∙ sym also) ∙ also
 
-round-block : (b k : List ℕ) → IsBlock (round b k)
-round-block b k = record { long = length-round b k }
-
-xor-block : {a b : List ℕ} → IsBlock a → IsBlock b → IsBlock (xor a b)
-xor-block {a} {b} is also = record { long = length-xor a b (is.long ∙ sym also.long) ∙ also.long }
+ruleset block_laws = (length-round, xor-block)
 
 -- ---- a lane after at least one update
 
@@ -55,9 +50,7 @@ init_turns-positive Family256 = omega arith
 
 pub init-updated : (variant : Variant) (key nonce : List ℕ) (j : ℕ) → IsUpdated variant.family (init variant key nonce j)
 unfolding init
-init-updated variant key nonce j =
-    times-updated variant.family (init_turns variant.family) (init_turn variant.family key nonce (context j variant.lanes)) (first_blocks variant.family key nonce)
-    (init_turns-positive variant.family) (init_turn-updated variant.family key nonce (context j variant.lanes))
+init-updated variant key nonce j = grind (arith, times-updated, init_turns-positive, init_turn-updated)
 
 pub after-updated : (variant : Variant) (s : List (List ℕ)) (j : ℕ) (x : List ℕ) (n : ℕ) → IsUpdated variant.family s
     → IsUpdated variant.family (after variant s j x n)
@@ -75,20 +68,9 @@ pub record IsWhole (family : Family) (s : List (List ℕ)) : Type 0 where
 update-whole : (family : Family) (s : List (List ℕ)) (block : List ℕ) → length block ≡ 16
     → IsWhole family (update family s (last_input family block))
 update-whole Family128 s block e =
-    let r : (i k : ℕ) → IsBlock (round (block_in s i) (block_in s k)) = λ i k. round-block (block_in s i) (block_in s k) in
-    let input : IsBlock block = record { long = e } in
-    let low = xor-block (xor-block (xor-block (r 7 0) input) (r 0 1)) (xor-block (r 1 2) (r 2 3)) in
-    let fourth = xor-block (xor-block (r 3 4) input) (r 4 5) in
-    let high = xor-block fourth (xor-block (r 5 6) (r 6 7)) in
-    let short = xor-block low (xor-block fourth (r 5 6)) in
-    record { short = short.long; low = low.long; high = high.long }
+    record { short = search block_laws depth 12; low = search block_laws depth 12; high = search block_laws depth 12 }
 update-whole Family256 s block e =
-    let r : (i k : ℕ) → IsBlock (round (block_in s i) (block_in s k)) = λ i k. round-block (block_in s i) (block_in s k) in
-    let input : IsBlock block = record { long = e } in
-    let low = xor-block (xor-block (xor-block (r 5 0) input) (r 0 1)) (r 1 2) in
-    let high = xor-block (xor-block (r 2 3) (r 3 4)) (r 4 5) in
-    let short = xor-block low high in
-    record { short = short.long; low = low.long; high = high.long }
+    record { short = search block_laws depth 12; low = search block_laws depth 12; high = search block_laws depth 12 }
 
 length-last_block : (family : Family) (s : List (List ℕ)) (p q : ℕ) → IsUpdated family s → length (last_block family s p q) ≡ 16
 length-last_block Family128 s p q is = length-xor (block_in s 2) (bit_lengths p q) is.long
@@ -126,9 +108,9 @@ lane_end-whole : (variant : Variant) (key nonce ad m : List ℕ) (j : ℕ) → I
 lane_end-whole variant key nonce ad m j =
     finalize-whole variant.family _ _ _ (after-updated variant _ j m _ (after-updated variant _ j ad _ (init-updated variant key nonce j)))
 
-pub length-tag : (variant : Variant) (n : ℕ) (key nonce ad m : List ℕ) → IsLaneCount variant.lanes → IsTagLength n
+pub length_tag : (variant : Variant) (n : ℕ) (key nonce ad m : List ℕ) → IsLaneCount variant.lanes → IsTagLength n
     → length (tag variant n key nonce ad m) ≡ n
 unfolding tag
-length-tag variant n key nonce ad m count is =
+length_tag variant n key nonce ad m count is =
     let tag_of = λ (j : ℕ). lane_tag variant.family n (lane_end variant key nonce ad m j) in
     length-xor_lanes-count tag_of n variant.lanes count (λ j low. length-lane_tag variant.family n _ is (lane_end-whole variant key nonce ad m j))

@@ -11,4 +11,3 @@ pub mod MessageFacts
 pub mod ContextFacts
 pub mod InitFacts
 pub mod KeystreamFacts
-mod SliceFacts

@@ -1,5 +1,5 @@
 -- What the fold of the lanes' tags depends on, and the MAC from lanes that have taken in its input.
-use Rattle.std.proofs.Common.{◌≡◌, ◌∙◌, sym, ap, refl, ℕ, zero, suc, ◌+◌, ◌-◌, ◌*◌, ◌<◌, ◌≤◌, ◌==◌, ◌⊎◌, if◌then◌else◌, List, [], ◌∷◌, ◌++◌, length, replicate, slice_index, arith, inl, inr}
+use Rattle.std.proofs.Common.{◌≡◌, ◌∙◌, sym, ap, refl, ℕ, zero, suc, ◌+◌, ◌-◌, ◌*◌, ◌<◌, ◌≤◌, ◌⊎◌, List, [], ◌∷◌, ◌++◌, length, replicate, slice_index, arith, inl, inr}
 use Rattle.std.proofs.lemmas.List.{get_or-replicate, length-replicate}
 use Rattle.std.proofs.lemmas.Nat.{div-mul-add}
 use Rattle.aegis_aes.specs.Lanes.{IsLaneCount, xor_lanes}
@@ -8,7 +8,7 @@ use Rattle.aegis_base.specs.Lane.{IsTagLength, finalize, high_tag, lane_tag, low
 use Rattle.aegis_base.specs.Laws.{AgreeInLane}
 use Rattle.aegis_base.specs.Mac.{fold, fold_long, fold_short, mac, mac_input, mac_lane, mac_tag, short_fold_turn, short_fold_turns}
 use Rattle.aegis_base.specs.Message.{after, after_all, block_count, share_at}
-use Rattle.aegis_base.proofs.LaneFacts.{count-positive}
+use Rattle.aegis_base.proofs.LaneFacts.{count_positive}
 use Rattle.aegis_base.proofs.Lengths.{IsUpdated, IsWhole, after-updated, finalize-updated, finalize-whole, length-lane_tag, init-updated, update-updated, tag-halves}
 use Rattle.aegis_base.proofs.LaneIndependence.{after_all-in_lane}
 use Rattle.aegis_base.proofs.MessageFacts.{rate-positive, share_at-same}
@@ -38,24 +38,18 @@ fold_long-same variant f g low high s (suc k) bound same also =
 -- lanes whose tags of 16 bytes are the same, with the same lane 0
 fold-short_tags : (variant : Variant) (f g : ℕ → List (List ℕ)) → f 0 ≡ g 0
     → ((j : ℕ) → j < variant.lanes → short_tag variant.family (f j) ≡ short_tag variant.family (g j)) → fold variant 16 f ≡ fold variant 16 g
-fold-short_tags variant f g first same =
-    fold_short-same variant (λ j. short_tag variant.family (f j)) (λ j. short_tag variant.family (g j)) (f 0) (short_fold_turns variant.family variant.lanes) (omega arith) same
-    ∙ ap (λ (s : List (List ℕ)). fold_short variant.family (λ j. short_tag variant.family (g j)) s (short_fold_turns variant.family variant.lanes)) first
+fold-short_tags variant f g first same = grind (arith, fold_short-same)
 
 -- lanes whose tags of 32 bytes have the same halves, with the same lane 0
 fold-long_tags : (variant : Variant) (f g : ℕ → List (List ℕ)) → f 0 ≡ g 0
     → ((j : ℕ) → j < variant.lanes → low_tag variant.family (f j) ≡ low_tag variant.family (g j))
     → ((j : ℕ) → j < variant.lanes → high_tag variant.family (f j) ≡ high_tag variant.family (g j)) → fold variant 32 f ≡ fold variant 32 g
-fold-long_tags variant f g first same also =
-    fold_long-same variant (λ j. low_tag variant.family (f j)) (λ j. high_tag variant.family (f j)) (λ j. low_tag variant.family (g j)) (λ j. high_tag variant.family (g j)) (f 0) (variant.lanes - 1) (omega arith) same also
-    ∙ ap (λ (s : List (List ℕ)). fold_long variant.family (λ j. low_tag variant.family (g j)) (λ j. high_tag variant.family (g j)) s (variant.lanes - 1)) first
+fold-long_tags variant f g first same also = grind (arith, fold_long-same)
 
 mac_tag-fold : (variant : Variant) (n : ℕ) (f g : ℕ → List (List ℕ)) → f 0 ≡ g 0 → fold variant n f ≡ fold variant n g
     → mac_tag variant n f ≡ mac_tag variant n g
 unfolding mac_tag
-mac_tag-fold variant n f g first same =
-    ap (λ (s : List (List ℕ)). lane_tag variant.family n (if variant.lanes == 1 then s else finalize variant.family (fold variant n f) variant.lanes (8 * n))) first
-    ∙ ap (λ (s : List (List ℕ)). lane_tag variant.family n (if variant.lanes == 1 then g 0 else finalize variant.family s variant.lanes (8 * n))) same
+mac_tag-fold variant n f g first same = grind arith
 
 -- lanes with the same lane 0 and the same tags have the same MAC
 pub mac_tag-by_tags : (variant : Variant) (n : ℕ) (f g : ℕ → List (List ℕ)) → IsTagLength n → f 0 ≡ g 0
@@ -73,19 +67,19 @@ mac_tag-by_tags variant n f g (inr e) first whole also =
 pub mac_tag-same : (variant : Variant) (n : ℕ) (f g : ℕ → List (List ℕ)) → IsLaneCount variant.lanes → IsTagLength n
     → ((j : ℕ) → j < variant.lanes → f j ≡ g j) → mac_tag variant n f ≡ mac_tag variant n g
 mac_tag-same variant n f g count (inl e) same =
-    let first = same 0 (count-positive variant.lanes count) in
+    let first = same 0 (count_positive variant.lanes count) in
     rw e (mac_tag-fold variant 16 f g first (fold-short_tags variant f g first (λ j h. ap (short_tag variant.family) (same j h))))
 mac_tag-same variant n f g count (inr e) same =
-    let first = same 0 (count-positive variant.lanes count) in
+    let first = same 0 (count_positive variant.lanes count) in
     rw e (mac_tag-fold variant 32 f g first
     (fold-long_tags variant f g first (λ j h. ap (low_tag variant.family) (same j h)) (λ j h. ap (high_tag variant.family) (same j h))))
 
 -- ---- the MAC of given lanes
 
-pub mac_tag-one : (variant : Variant) (n : ℕ) (lanes : ℕ → List (List ℕ)) → variant.lanes ≡ 1
+pub mac_tag_one : (variant : Variant) (n : ℕ) (lanes : ℕ → List (List ℕ)) → variant.lanes ≡ 1
     → xor_lanes (λ j. lane_tag variant.family n (lanes j)) variant.lanes ≡ mac_tag variant n lanes
 unfolding mac_tag xor_lanes
-mac_tag-one variant n lanes e = rw e refl
+mac_tag_one variant n lanes e = rw e refl
 
 -- with several lanes, from lane 0 after the fold and its end
 pub mac_tag-folded : (variant : Variant) (n : ℕ) (lanes : ℕ → List (List ℕ)) → IsLaneCount variant.lanes → (variant.lanes ≡ 1 → ⊥)
@@ -96,22 +90,22 @@ mac_tag-folded variant n lanes (inr (inl two)) more = rw two refl
 mac_tag-folded variant n lanes (inr (inr four)) more = rw four refl
 
 -- of 16 bytes, with `tags` for the lanes' tags
-pub mac_tag-short : (variant : Variant) (number : ℕ) (lanes : ℕ → List (List ℕ)) (tags : ℕ → List ℕ) (folded ended : List (List ℕ))
+pub mac_tag_short : (variant : Variant) (number : ℕ) (lanes : ℕ → List (List ℕ)) (tags : ℕ → List ℕ) (folded ended : List (List ℕ))
     → IsLaneCount variant.lanes → variant.lanes ≡ number → (number ≡ 1 → ⊥) → ((j : ℕ) → j < variant.lanes → tags j ≡ short_tag variant.family (lanes j))
     → folded ≡ fold_short variant.family tags (lanes 0) (short_fold_turns variant.family variant.lanes) → ended ≡ finalize variant.family folded number 128
     → short_tag variant.family ended ≡ mac_tag variant 16 lanes
-mac_tag-short variant number lanes tags folded ended count is more same fold end =
+mac_tag_short variant number lanes tags folded ended count is more same fold end =
     let read = fold_short-same variant tags (λ j. short_tag variant.family (lanes j)) (lanes 0) (short_fold_turns variant.family variant.lanes) (omega arith) same in
     let several : variant.lanes ≡ 1 → ⊥ = λ one. more (sym is ∙ one) in
     rw (end, fold, read, ← is) (mac_tag-folded variant 16 lanes count several)
 
 -- of 32 bytes, with `low` and `high` for the halves of the lanes' tags
-pub mac_tag-long : (variant : Variant) (number : ℕ) (lanes : ℕ → List (List ℕ)) (low high : ℕ → List ℕ) (folded ended : List (List ℕ))
+pub mac_tag_long : (variant : Variant) (number : ℕ) (lanes : ℕ → List (List ℕ)) (low high : ℕ → List ℕ) (folded ended : List (List ℕ))
     → IsLaneCount variant.lanes → variant.lanes ≡ number → (number ≡ 1 → ⊥) → ((j : ℕ) → j < variant.lanes → low j ≡ low_tag variant.family (lanes j))
     → ((j : ℕ) → j < variant.lanes → high j ≡ high_tag variant.family (lanes j))
     → folded ≡ fold_long variant.family low high (lanes 0) (variant.lanes - 1) → ended ≡ finalize variant.family folded number 256
     → low_tag variant.family ended ++ high_tag variant.family ended ≡ mac_tag variant 32 lanes
-mac_tag-long variant number lanes low high folded ended count is more same also fold end =
+mac_tag_long variant number lanes low high folded ended count is more same also fold end =
     let read = fold_long-same variant low high (λ j. low_tag variant.family (lanes j)) (λ j. high_tag variant.family (lanes j)) (lanes 0) (variant.lanes - 1) (omega arith) same also in
     let several : variant.lanes ≡ 1 → ⊥ = λ one. more (sym is ∙ one) in
     rw (end, fold, read, ← is) (mac_tag-folded variant 32 lanes count several)
@@ -146,9 +140,7 @@ pub mac-is : (variant : Variant) (n : ℕ) (last ended : ℕ → List (List ℕ)
     → ((j : ℕ) → j < variant.lanes → ended j ≡ finalize variant.family (last j) p q) → p ≡ 8 * length x → q ≡ 8 * n
     → mac_tag variant n ended ≡ mac variant n key nonce x
 unfolding mac
-mac-is variant n last ended key nonce x p q count is absorbed end e f =
-    mac_tag-same variant n ended (mac_lane variant n key nonce x) count is
-    (λ j h. end j h ∙ rw (absorbed j h, e, f) refl)
+mac-is variant n last ended key nonce x p q count is absorbed end e f = grind (arith, mac_tag-same)
 
 -- ---- how long a MAC is
 
@@ -195,12 +187,10 @@ mac_lane-whole : (variant : Variant) (n : ℕ) (key nonce x : List ℕ) (j : ℕ
 mac_lane-whole variant n key nonce x j =
     finalize-whole variant.family _ _ _ (after-updated variant _ j (mac_input variant x) _ (init-updated variant key nonce j))
 
-pub length-mac : (variant : Variant) (n : ℕ) (key nonce x : List ℕ) → IsLaneCount variant.lanes → IsTagLength n
+pub length_mac : (variant : Variant) (n : ℕ) (key nonce x : List ℕ) → IsLaneCount variant.lanes → IsTagLength n
     → length (mac variant n key nonce x) ≡ n
 unfolding mac
-length-mac variant n key nonce x count is =
-    length-mac_tag variant n (mac_lane variant n key nonce x) count is (mac_lane-whole variant n key nonce x 0)
-    (finalize-updated variant.family _ _ _)
+length_mac variant n key nonce x count is = grind (arith, length-mac_tag, mac_lane-whole, finalize-updated)
 
 -- ---- inputs that agree in lane 0
 
@@ -221,18 +211,15 @@ length-mac_input variant (a ∷ x) (b ∷ y) long = long
 mac_lane-same : (variant : Variant) (n : ℕ) (key nonce x y : List ℕ) (j : ℕ) → IsLaneCount variant.lanes → j < variant.lanes → length x ≡ length y
     → AgreeInLane variant.lanes j x y → mac_lane variant n key nonce x j ≡ mac_lane variant n key nonce y j
 mac_lane-same variant n key nonce x y j count inside long agree =
-    let ran = after_all-in_lane variant (init variant key nonce j) j (mac_input variant x) (mac_input variant y) count inside
-    (length-mac_input variant x y long) (mac_input-in_lane variant j x y long agree) in
-    ap (λ (s : List (List ℕ)). finalize variant.family s (8 * length x) (8 * n)) ran
-    ∙ ap (λ (k : ℕ). finalize variant.family (after_all variant (init variant key nonce j) j (mac_input variant y)) (8 * k) (8 * n)) long
+    grind (arith, after_all-in_lane, length-mac_input, mac_input-in_lane)
 
-pub mac-of_tags : (variant : Variant) (n : ℕ) (key nonce x y : List ℕ) → IsLaneCount variant.lanes → IsTagLength n → length x ≡ length y
+pub mac_of_tags : (variant : Variant) (n : ℕ) (key nonce x y : List ℕ) → IsLaneCount variant.lanes → IsTagLength n → length x ≡ length y
     → AgreeInLane variant.lanes 0 x y
     → ((j : ℕ) → 0 < j → j < variant.lanes → lane_tag variant.family n (mac_lane variant n key nonce x j) ≡ lane_tag variant.family n (mac_lane variant n key nonce y j))
     → mac variant n key nonce x ≡ mac variant n key nonce y
 unfolding mac
-mac-of_tags variant n key nonce x y count is long agree same =
-    let first = mac_lane-same variant n key nonce x y 0 count (count-positive variant.lanes count) long agree in
+mac_of_tags variant n key nonce x y count is long agree same =
+    let first = mac_lane-same variant n key nonce x y 0 count (count_positive variant.lanes count) long agree in
     mac_tag-by_tags variant n (mac_lane variant n key nonce x) (mac_lane variant n key nonce y) is first
     (λ j h. mac_lane-whole variant n key nonce x j) (λ j h. mac_lane-whole variant n key nonce y j) each
   where

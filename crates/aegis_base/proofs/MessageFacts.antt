@@ -82,9 +82,7 @@ rate-positive variant count = rate_of-positive variant.family variant.lanes coun
 -- without associated data the lanes before the message are those after initialization
 pub before-none : (variant : Variant) (key nonce : List ℕ) (j : ℕ) → IsLaneCount variant.lanes
     → lane_before variant key nonce [] j ≡ init variant key nonce j
-before-none variant key nonce j count =
-    let none : block_count variant 0 ≡ 0 = div-eq_of_lt (let positive = rate-positive variant count in omega arith) in
-    rw (none, after-none) refl
+before-none variant key nonce j count = grind (arith, div-eq_of_lt, rate-positive, after-none)
 
 -- place i of a message and the same place of another rate block
 record IsSamePlace (variant : Variant) (i k : ℕ) : Type 0 where
@@ -173,9 +171,4 @@ block_count-whole variant n r e positive whole =
 
 -- there are no more rate blocks than bytes
 pub block_count-below : (variant : Variant) (n : ℕ) → IsLaneCount variant.lanes → block_count variant n ≤ n
-block_count-below variant n count =
-    let positive = rate-positive variant count in
-    let more : n ≤ n * rate variant = le-mul_of_pos_right n positive in
-    let below : n + (rate variant - 1) < (n + 1) * rate variant = omega arith in
-    let quotient = div_below (n + (rate variant - 1)) (rate variant) (n + 1) positive below in
-    omega arith
+block_count-below variant n count = grind (arith, rate-positive, le-mul_of_pos_right, div_below)

@@ -32,6 +32,7 @@ pub fn counted_within(total: u64, more: usize) -> u64
 }
 
 /// Returns the length of all chunks together, in bytes, or `None` exactly if it is more than [`MAX_AEAD_BYTES`].
+#[tactic(auto, using(std::proofs::lemmas::Grind::common_steps, crate::proofs::ChunkFacts::chunk_laws))]
 pub fn chunks_len(chunks: &[&[u8]]) -> Option<u64>
     ensures within { length (joined chunks.now) ≤ MAX_AEAD_BYTES
         → result ≡ Some (length (joined chunks.now)) }

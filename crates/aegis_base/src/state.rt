@@ -156,6 +156,7 @@ pub trait LaneState: Copy {
             → Self.Row.block result.1 j ≡ high_tag VARIANT.family (lane self j) };
 
     /// Returns the tag of 16 bytes: the xor of the lanes' tags.
+    #[tactic(auto, using(crate::proofs::LaneFacts::xor_lanes_same))]
     final fn short_tag(self) -> AesBlock
         ensures { result ≡ xor_lanes (λ j. lane_tag VARIANT.family 16 (lane self j))
             VARIANT.lanes }
@@ -227,6 +228,7 @@ pub trait LaneState: Copy {
 
     /// Returns the MAC of 16 bytes, from the lanes after their first end: the tag of a single lane, and with more lanes
     /// the tag of lane 0 after the fold and a second end, with the number of lanes and the MAC's 128 bits.
+    #[tactic(auto, using(crate::proofs::MacFacts::mac_tag_short, crate::proofs::LaneFacts::count_positive))]
     final fn short_mac_tag(self) -> AesBlock
         requires { updates self + 16 < 2 ^ 64 }
         ensures { result ≡ mac_tag VARIANT 16 (lane self) }
@@ -241,6 +243,7 @@ pub trait LaneState: Copy {
     }
 
     /// Returns the halves of the MAC of 32 bytes, low half first, in the same way, with the MAC's 256 bits.
+    #[tactic(auto, using(crate::proofs::MacFacts::mac_tag_long, crate::proofs::LaneFacts::count_positive))]
     final fn long_mac_tag(self) -> (AesBlock, AesBlock)
         requires { updates self + 16 < 2 ^ 64 }
         ensures { result.0 ++ result.1 ≡ mac_tag VARIANT 32 (lane self) }

@@ -17,9 +17,7 @@ pub stands-started : (variant : Variant) (lane : ℕ → List (List ℕ)) (updat
     → updates ≡ 0 → ((j : ℕ) → j < variant.lanes → lane j ≡ init variant key nonce j)
     → Stands variant (held_by variant lane updates block 0 0) key nonce [] []
 stands-started variant lane updates block key nonce count none started =
-    let positive = rate-positive variant count in
-    let zero : block_count variant 0 ≡ 0 = div-eq_of_lt (omega arith) in
-    stands-begun variant lane updates block 0 key nonce [] refl (none ∙ sym zero) (λ j inside. started j inside ∙ sym (before-none variant key nonce j count))
+    grind (arith, rate-positive, div-eq_of_lt, stands-begun, before-none)
 
 -- m xored with the xor of m and c is c
 xor-back : (m c : List ℕ) → length c ≡ length m → xor m (xor m c) ≡ c

@@ -67,22 +67,12 @@ sealed-append Keystream a b c d e = xor-append a b c d e
 
 -- after the part that fills the open block, whole rate blocks follow only if none is open
 pub unopened-after : (t first len r q : ℕ) → (first < len → (t + first) % q ≡ 0) → IsUnopened (t + first) ((len - first) / r) q
-unopened-after t first len r q fills some =
-    ⊎_elim fills
-    (λ (all : len ≤ first). let none : len - first ≡ 0 = omega arith in
-    let zero_blocks : (len - first) / r ≡ 0 = ap (λ (n : ℕ). n / r) none ∙ zero-div r in absurd (omega arith))
-    (cases_lt first len)
+unopened-after t first len r q fills some = grind (arith, zero-div, cases_lt)
 
 -- a piece with no byte before or after its whole rate blocks; r and v are the rate q
 pub only-blocks : (t first len r v q : ℕ) → r ≡ q → v ≡ q → first + (len - (first + (len - first) / r * v)) ≡ 0 → (first < len → (t + first) % q ≡ 0)
     → ((len - first) / r * q ≡ len) × IsUnopened t ((len - first) / r) q
-only-blocks t first len r v q read again none fills =
-    let n : ℕ = (len - first) / r in
-    let floor : n * r ≤ len - first = div-mul-le_self (len - first) r in
-    let fits : n * q ≤ len - first = rw (← read) floor in
-    let last : n * v ≡ n * q = ap (λ (m : ℕ). n * m) again in
-    let here : t + first ≡ t = omega arith in
-    (omega arith, subst (λ (m : ℕ). IsUnopened m n q) here (unopened-after t first len r q fills))
+only-blocks t first len r v q read again none fills = grind (arith, div-mul-le_self, unopened-after)
 
 -- the updates of the three parts of a piece of len bytes
 pub updates-of-parts : (t first n len r u v w x : ℕ) → 0 < r → IsUnopened (t + first) n r → first + n * r ≤ len

@@ -15,15 +15,8 @@ pub record IsPassed (variant : Variant) (old new : Held) (pass : Pass) (source o
 
 pub passed-more : (variant : Variant) (old now new : Held) (pass : Pass) (a b c d : List ℕ) → length c ≡ length a
     → IsPassed variant old now pass a c → IsPassed variant now new pass b d → IsPassed variant old new pass (a ++ b) (c ++ d)
-passed-more variant old now new pass a b c d long first next = record {
-  takes = λ key nonce ad m is.
-      rw (absorbed-append pass a b c d, ← append_assoc m (absorbed pass a c) (absorbed pass b d))
-      (next.takes key nonce ad (m ++ absorbed pass a c) (first.takes key nonce ad m is));
-  encrypts = λ key nonce ad m is.
-      rw (absorbed-append pass a b c d, sealed-append pass a b c d long, ← append_assoc m (absorbed pass a c) (absorbed pass b d), ← append_assoc (ciphertext variant key nonce ad m) (sealed pass a c) (sealed pass b d))
-      (next.encrypts key nonce ad (m ++ absorbed pass a c) (first.takes key nonce ad m is)
-      ∙ ap (λ (xs : List ℕ). xs ++ sealed pass b d) (first.encrypts key nonce ad m is));
-}
+passed-more variant old now new pass a b c d long first next =
+    grind (arith, absorbed-append, append_assoc, sealed-append)
 
 -- the rest of a list is its next n bytes and then the rest after them
 pub cut-at : (source : List ℕ) (at n : ℕ) → drop at source ≡ slice_range source at (at + n) ++ drop (at + n) source

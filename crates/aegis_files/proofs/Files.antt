@@ -10,7 +10,7 @@ use Rattle.aegis.specs.declared.record.error.RecordError.TheVariants as errors
 use Rattle.aegis.specs.declared.record.version.Version.TheVariants.{Second}
 use Rattle.aegis.specs.Progress.{last_flag}
 use Rattle.aegis.specs.Records.{AreRecords, IsFault, sealed}
-use Rattle.aegis.specs.RecordStream.{first_position, frames, beginning, header, position_after, start_at}
+use Rattle.aegis.specs.RecordStream.{first_position, frames, header, position_after, start_at}
 use Rattle.aegis.proofs.Frames.{one_fault}
 use Rattle.aegis.proofs.Lengths.{start_after}
 use Rattle.aegis.proofs.Sealed.{sealed-is}
@@ -28,24 +28,12 @@ use Rattle.aegis_files.proofs.Pieces.{at_end, concat-short, read_some, two_prefi
 -- a stream's records follow its header
 pub all_records : (key prefix context : List ℕ) (flag : ℕ) (ms : List (List ℕ)) (bytes : List ℕ) → AreFrom key prefix context (first_position Second) flag ms [] bytes → flag ≡ 1
     → AreRecords Second key prefix context ms (header Second ++ bytes)
-all_records key prefix context flag ms bytes r one = some r.known
-  where
-    some : (flag ≡ 0) ⊎ ((flag ≡ 1) × (0 < length ms)) → AreRecords Second key prefix context ms (header Second ++ bytes)
-    some (inl zero) = absurd (omega (arith, zero, one))
-    some (inr known) = record {
-      some = known.1;
-      within = r.within;
-      are = ap (λ (l : List ℕ). header Second ++ l) (r.are ∙ append-nil (frames (sealed key prefix context) (first_position Second) flag ms))
-          ∙ ap (λ (n : ℕ). beginning (sealed key prefix context) Second n ms) one;
-    }
+all_records key prefix context flag ms bytes r one = grind (arith, append-nil)
 
 -- the contents of a file are those of its stream, and so of the records after its header
 contents_are : (key prefix context contents bytes : List ℕ) → length prefix ≡ 24 → (it : IsSealedFile key context contents (prefix ++ (header Second ++ bytes)))
     → AreRecords Second key prefix context it.is.messages (header Second ++ bytes)
-contents_are key prefix context contents bytes long it =
-    let same = two_prefixes it.prefix prefix it.is.stream (header Second ++ bytes) it.long long (sym it.is.file_is) in
-    subst (λ (l : List ℕ). AreRecords Second key l context it.is.messages (header Second ++ bytes)) same.0
-    (subst (AreRecords Second key it.prefix context it.is.messages) same.1 it.is.are)
+contents_are key prefix context contents bytes long it = grind (arith, two_prefixes)
 
 contents_from : (key prefix context contents bytes : List ℕ) → length prefix ≡ 24 → (it : IsSealedFile key context contents (prefix ++ (header Second ++ bytes)))
     → AreContentsFrom key prefix context (first_position Second) it.is.messages contents bytes

@@ -64,9 +64,7 @@ reads_next p q last left left' found m rest read opens alone = record {
 
 -- the message in the record's part of the buffer
 pub message_kept : (opened : OpenedInPlace) (part after : List ℕ) → 5 + opened.message_len ≤ length part → message_of opened part ≡ message_of opened (part ++ after)
-message_kept opened part after fits =
-    sym (ap (take opened.message_len) (drop-append-le 5 part after (omega arith))
-    ∙ take-append-le opened.message_len (drop 5 part) after (omega (arith, length-drop 5 part)))
+message_kept opened part after fits = grind (arith, drop-append-le, take-append-le, length-drop)
 
 -- ---- it is refused
 

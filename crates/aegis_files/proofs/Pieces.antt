@@ -1,11 +1,12 @@
 -- Pieces that are put together.
 use Rattle.std.proofs.Common.{◌≡◌, ℕ, zero, suc, ◌+◌, ◌-◌, ◌≤◌, List, [], ◌∷◌, ◌++◌, Option, None, Some, IfSome, drop, length, take, refl, sym, ap, ◌∙◌, append_assoc, arith}
-use Rattle.std.proofs.lemmas.List.{append-nil, drop_at, length-append, length-drop, take-append-drop, take_all, take_at}
+use Rattle.std.proofs.lemmas.List.{append-nil, drop_at, length-append, length-drop, take_all, take_at}
+use Rattle.std.proofs.Math.Seq.{take-add}
 use Rattle.std.specs.List.{AllByRecursion, concat}
 use Rattle.std.specs.Io.KnownBytes.{Consumes, IsAtEnd}
 use Rattle.aegis.specs.declared.record.position.RecordPosition.{RecordPosition}
 use Rattle.aegis.specs.Progress.{Begun, Progress}
-use Rattle.aegis.specs.RecordStream.{first_position, frames_length, next_position, position_after}
+use Rattle.aegis.specs.RecordStream.{frames_length, next_position, position_after}
 
 pub concat-push : (ms : List (List ℕ)) (m : List ℕ) → concat (ms ++ m ∷ []) ≡ concat ms ++ m
 concat-push [] m = append-nil m
@@ -15,13 +16,8 @@ pub concat-append : (ms ns : List (List ℕ)) → concat (ms ++ ns) ≡ concat m
 concat-append [] ns = refl
 concat-append (m ∷ ms) ns = ap (λ (l : List ℕ). m ++ l) (concat-append ms ns) ∙ sym (append_assoc m (concat ms) (concat ns))
 
--- messages and a beginning of one more begin the concatenation of all
-pub concat-cut : (ms : List (List ℕ)) (m : List ℕ) (n : ℕ) → concat (ms ++ m ∷ []) ≡ (concat ms ++ take n m) ++ drop n m
-concat-cut ms m n =
-    concat-push ms m ∙ ap (λ (l : List ℕ). concat ms ++ l) (sym (take-append-drop n m)) ∙ sym (append_assoc (concat ms) (take n m) (drop n m))
-
-pub slice-end : (bytes : List ℕ) (start : ℕ) → take (length bytes - start) (drop start bytes) ≡ drop start bytes
-slice-end bytes start = let len = length-drop start bytes in take_all (length bytes - start) (drop start bytes) (omega arith)
+pub slice_end : (bytes : List ℕ) (start : ℕ) → take (length bytes - start) (drop start bytes) ≡ drop start bytes
+slice_end bytes start = let len = length-drop start bytes in take_all (length bytes - start) (drop start bytes) (omega arith)
 
 -- a property of each message, and of one more
 pub all_push : (P : List ℕ → Type 0) (ms : List (List ℕ)) (m : List ℕ) → AllByRecursion P ms → P m → AllByRecursion P (ms ++ m ∷ [])
@@ -43,9 +39,7 @@ counted_after at (m ∷ ms) =
 
 pub counted : (p : Progress) (ms : List (List ℕ)) (bytes : List ℕ) → Begun p ms bytes → (p.position.number ≡ length ms) × (p.position.before ≡ length (concat ms))
 unfolding Begun
-counted p ms bytes b =
-    let c = counted_after (first_position p.position.version) ms in
-    (ap (λ (q : RecordPosition). q.number) b.place ∙ c.0 ∙ omega arith, ap (λ (q : RecordPosition). q.before) b.place ∙ c.1 ∙ omega arith)
+counted p ms bytes b = grind (arith, counted_after)
 
 -- what was read of bytes that are known
 pub read_some : (all left : Option (List ℕ)) (taken : List ℕ) (P : List ℕ → Type 0) → Consumes all left taken
@@ -86,3 +80,6 @@ part-append (suc skip) (suc len) [] b =
 part-append (suc skip) len (x ∷ a) b =
     let e : suc skip - suc (length a) ≡ skip - length a = omega arith in
     rw e (part-append skip len a b)
+
+-- what the loop that writes bytes uses
+pub ruleset write_laws = (take-add, slice_end)

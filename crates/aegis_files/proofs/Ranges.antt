@@ -72,11 +72,7 @@ contents_part : (key prefix context : List ℕ) (range : ContentsRange) (message
     → (t : AreContentsFrom key prefix context range.position following contents f) → (on : GoesOn flag messages following)
     → part_of_contents range contents ≡ part_of range messages ++ take (range.length - length (part_of range messages)) (drop (range.skip - length (concat messages)) (concat on.others))
 contents_part key prefix context range messages following contents f flag t on =
-    ap (λ (l : List ℕ). take range.length (drop (range.position.before + range.skip) l)) (t.contents_is ∙ concat-append t.messages following)
-    ∙ ap (λ (n : ℕ). take range.length (drop (n + range.skip) (concat t.messages ++ concat following))) (counted (progress_at key prefix context range.position) t.messages t.before t.begun).1
-    ∙ ap (take range.length) (drop-append-add (concat t.messages) (concat following) range.skip)
-    ∙ ap (λ (l : List ℕ). take range.length (drop range.skip l)) (ap concat on.are ∙ concat-append messages on.others)
-    ∙ part-append range.skip range.length (concat messages) (concat on.others)
+    grind (arith, concat-append, counted, drop-append-add, part-append)
 
 -- ---- why it fails
 
@@ -162,12 +158,7 @@ beginning_one a b x y e =
 -- the part of messages, and of one more
 part_more : (range : ContentsRange) (messages : List (List ℕ)) (m piece : List ℕ) (skip len : ℕ) → skip ≡ range.skip - length (concat messages)
     → len ≡ range.length - length (part_of range messages) → piece ≡ take len (drop skip m) → part_of range (messages ++ m ∷ []) ≡ part_of range messages ++ piece
-part_more range messages m piece skip len s l is =
-    ap (λ (x : List ℕ). take range.length (drop range.skip x)) (concat-push messages m)
-    ∙ part-append range.skip range.length (concat messages) m
-    ∙ ap (λ (n : ℕ). part_of range messages ++ take n (drop (range.skip - length (concat messages)) m)) (sym l)
-    ∙ ap (λ (n : ℕ). part_of range messages ++ take len (drop n m)) (sym s)
-    ∙ ap (λ (x : List ℕ). part_of range messages ++ x) (sym is)
+part_more range messages m piece skip len s l is = grind (arith, concat-push, part-append)
 
 pub range_more : (key prefix context : List ℕ) (range : ContentsRange) (p q : Progress) (is_last : Bool) (skip skip' more more' : ℕ) (stream left left' old new new' : Option (List ℕ)) (m piece : List ℕ)
     → RangeMore key prefix context range p skip more stream left old new → ReadsNext p q left left' is_last m → start_of q ≤ MAX_AEAD_BYTES → piece ≡ take more (drop skip m)

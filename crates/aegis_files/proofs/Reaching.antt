@@ -1,12 +1,12 @@
 -- Records that are read or written one after the other, from a position on.
-use Rattle.std.proofs.Common.{◌≡◌, ◌⊎◌, ℕ, ◌+◌, ◌<◌, ◌≤◌, Bool, true, false, List, [], ◌∷◌, ◌++◌, length, refl, sym, ap, subst, ◌∙◌, arith, inl, inr}
+use Rattle.std.proofs.Common.{◌≡◌, ℕ, ◌+◌, ◌<◌, ◌≤◌, Bool, true, false, List, [], ◌∷◌, ◌++◌, length, refl, ap, ◌∙◌, arith}
 use Rattle.std.proofs.lemmas.List.{length-append}
 use Rattle.std.specs.List.{concat}
 use Rattle.aegis.specs.declared.record.position.RecordPosition.{RecordPosition}
 use Rattle.aegis.specs.declared.record.version.Version.TheVariants.{Second}
 use Rattle.aegis.specs.Progress.{Progress, after, last_flag, progress_at, record_of, start_of}
 use Rattle.aegis.specs.Records.{AreRecords, sealed}
-use Rattle.aegis.specs.RecordStream.{AreWithin, first_position, frame, frames, frames_length, header, limit, position_after, start_at}
+use Rattle.aegis.specs.RecordStream.{AreWithin, first_position, frames, frames_length, header, limit, position_after, start_at}
 use Rattle.aegis.proofs.Frames.{frames_push, position_append, version_after, within_append}
 use Rattle.aegis.proofs.Lengths.{length-frames, start_after}
 use Rattle.aegis.proofs.Sealed.{sealed-is}
@@ -28,29 +28,12 @@ pub reaches_more : (key prefix context : List ℕ) (at : RecordPosition) (p q : 
     → Reaches key prefix context at p false messages bytes → q ≡ after p is_last m → length m ≤ limit p.position.version
     → Reaches key prefix context at q is_last (messages ++ m ∷ []) (bytes ++ record_of p (last_flag is_last) m)
 reaches_more key prefix context at p q is_last messages bytes m r next low =
-    let here : RecordPosition = position_after at messages in
-    let within : length m ≤ limit at.version = subst (λ v. length m ≤ limit v) (ap (λ (p : Progress). p.position.version) r.reached ∙ version_after at messages) low in
-    record {
-      reached = next ∙ ap (λ (p : Progress). after p is_last m) r.reached
-          ∙ ap (λ (q : RecordPosition). record (progress_at key prefix context q) { ended = is_last }) (sym (position_append at messages (m ∷ [])));
-      some = λ _. omega (arith, length-append messages (m ∷ []));
-      within = within_append at.version messages (m ∷ []) r.within (within, tt);
-      are = ap (λ (p : Progress). bytes ++ record_of p (last_flag is_last) m) r.reached
-          ∙ ap (λ (l : List ℕ). l ++ frame (sealed key prefix context) here (last_flag is_last) m) r.are
-          ∙ sym (frames_push (sealed key prefix context) at (last_flag is_last) messages m);
-    }
+    grind (arith, version_after, position_append, length-append, within_append, frames_push)
 
 -- how far it is
 pub reaches_size : (key prefix context : List ℕ) (at : RecordPosition) (p : Progress) (is_last : Bool) (messages : List (List ℕ)) (bytes : List ℕ)
     → Reaches key prefix context at p is_last messages bytes → start_of p ≡ start_at at + length bytes
-reaches_size key prefix context at p is_last messages bytes r =
-    omega (
-      arith,
-      ap (λ (p : Progress). start_of p) r.reached,
-      start_after at messages,
-      ap length r.are,
-      length-frames (sealed key prefix context) (sealed-is key prefix context) at (last_flag is_last) messages,
-    )
+reaches_size key prefix context at p is_last messages bytes r = grind (arith, start_after, length-frames, sealed-is)
 
 pub reaches_start : (key prefix context : List ℕ) (at : RecordPosition) (p : Progress) (is_last : Bool) (messages : List (List ℕ)) (bytes : List ℕ)
     → Reaches key prefix context at p is_last messages bytes → start_of p ≡ start_at at + frames_length messages
@@ -58,21 +41,11 @@ reaches_start key prefix context at p is_last messages bytes r = ap (λ (p : Pro
 
 pub reaches_counts : (key prefix context : List ℕ) (at : RecordPosition) (p : Progress) (is_last : Bool) (messages : List (List ℕ)) (bytes : List ℕ)
     → Reaches key prefix context at p is_last messages bytes → (p.position.number ≡ at.number + length messages) × (p.position.before ≡ at.before + length (concat messages))
-reaches_counts key prefix context at p is_last messages bytes r =
-    let c = counted_after at messages in
-    (ap (λ (p : Progress). p.position.number) r.reached ∙ c.0, ap (λ (p : Progress). p.position.before) r.reached ∙ c.1)
+reaches_counts key prefix context at p is_last messages bytes r = grind (arith, counted_after)
 
 pub are_from : (key prefix context : List ℕ) (at : RecordPosition) (p : Progress) (is_last : Bool) (messages : List (List ℕ)) (taken rest f : List ℕ)
     → Reaches key prefix context at p is_last messages taken → f ≡ taken ++ rest → AreFrom key prefix context at (last_flag is_last) messages rest f
-are_from key prefix context at p is_last messages taken rest f r is = record {
-  known = known is_last r.some;
-  within = r.within;
-  are = is ∙ ap (λ (l : List ℕ). l ++ rest) r.are;
-}
-  where
-    known : (is_last : Bool) → (is_last ≡ true → 0 < length messages) → (last_flag is_last ≡ 0) ⊎ ((last_flag is_last ≡ 1) × (0 < length messages))
-    known false some = inl refl
-    known true some = inr (refl, some refl)
+are_from key prefix context at p is_last messages taken rest f r is = grind arith
 
 -- a header and these records are a stream
 pub reaches_stream : (key prefix context : List ℕ) (p : Progress) (messages : List (List ℕ)) (bytes : List ℕ)

@@ -18,7 +18,7 @@ use Rattle.aegis_files.specs.Range.{AreFrom}
 use Rattle.aegis_files.specs.Reading.{FailsNext, LeavesSome, ReadsNext}
 use Rattle.aegis_files.specs.Rekey.{RekeysBeginning}
 use Rattle.aegis_files.specs.SealedFile.{IsFileOf, IsSealedFile, IsWriteError}
-use Rattle.aegis_files.proofs.Files.{refuses_file, refuses_more, some_with, under}
+use Rattle.aegis_files.proofs.Files.{refuses_file, refuses_more, some_with, under, known_head, no_head, under_err}
 use Rattle.aegis_files.proofs.Pieces.{read_some}
 use Rattle.aegis_files.proofs.Ranges.{fails_from, refuses_from, unwritten}
 use Rattle.aegis_files.proofs.Reaching.{Reaches, are_from, reaches_more, reaches_none, reaches_start, reaches_stream, reaches_version}
@@ -57,13 +57,7 @@ pub next_fits : (p p' q : Progress) (last : Bool) (key prefix new_key new_prefix
     → RekeysSome p q key prefix new_key new_prefix context stream left old new pending → ReadsNext p p' left left' last m → start_of p' ≤ MAX_AEAD_BYTES
     → start_of q + (RECORD_BYTES + length m) ≤ MAX_AEAD_BYTES
 next_fits p p' q last key prefix new_key new_prefix context stream left left' old new pending m s next room =
-    omega (
-      arith,
-      reaches_start key prefix context (first_position Second) p false s.messages s.taken s.opened,
-      reaches_start new_key new_prefix context (first_position Second) q false s.messages s.made s.sealed,
-      room,
-      ap (λ (p : Progress). start_of p) next.progress,
-    )
+    grind (arith, reaches_start)
 
 -- one more record in either file
 opened_next : (p p' q : Progress) (last : Bool) (key prefix new_key new_prefix context : List ℕ) (stream left left' old new : Option (List ℕ)) (pending m : List ℕ)
@@ -83,9 +77,7 @@ sealed_next p p' q q' last key prefix new_key new_prefix context stream left lef
 -- bytes that were pending are written before the record
 joined : (new_prefix made sent pending bytes out : List ℕ) → new_prefix ++ (header Second ++ made) ≡ sent ++ pending → out ≡ pending ++ bytes
     → new_prefix ++ (header Second ++ (made ++ bytes)) ≡ sent ++ out
-joined new_prefix made sent pending bytes out all is =
-    ap (λ (l : List ℕ). new_prefix ++ l) (sym (append_assoc (header Second) made bytes)) ∙ sym (append_assoc new_prefix (header Second ++ made) bytes)
-    ∙ ap (λ (l : List ℕ). l ++ bytes) all ∙ append_assoc sent pending bytes ∙ ap (λ (l : List ℕ). sent ++ l) (sym is)
+joined new_prefix made sent pending bytes out all is = grind (arith, append_assoc)
 
 pub rekeys_more : (p p' q q' : Progress) (key prefix new_key new_prefix context : List ℕ) (stream left left' old new new' : Option (List ℕ)) (pending m out none : List ℕ)
     → RekeysSome p q key prefix new_key new_prefix context stream left old new pending → ReadsNext p p' left left' false m
@@ -194,9 +186,7 @@ between : (p q : Progress) (key prefix new_key new_prefix context : List ℕ) (s
     → (s : RekeysSome p q key prefix new_key new_prefix context stream left old new pending) → f ≡ s.taken ++ rest → RefusesFile key context (prefix ++ (header Second ++ f)) e
     → RekeysBeginning key new_key new_prefix context (prefix ++ (header Second ++ f)) old new e
 between p q key prefix new_key new_prefix context stream left old new pending f rest e long new_long s is refuses =
-    stops key new_key new_prefix context _ s.sent pending s.messages 0 old new e new_long s.sealed.within
-    (ap (λ (l : List ℕ). new_prefix ++ (header Second ++ l)) (sym s.sealed.are) ∙ s.all) s.written
-    (inr (in_file key prefix context f rest s.messages 0 long (are_from key prefix context (first_position Second) p false s.messages s.taken rest f s.opened is))) (inl refl) refuses
+    grind (arith, stops, in_file, are_from)
 
 pub stops_memory : (p q : Progress) (key prefix new_key new_prefix context : List ℕ) (stream left old new : Option (List ℕ)) (pending : List ℕ) (e : FileError) → length prefix ≡ 24 → length new_prefix ≡ 24
     → RekeysSome p q key prefix new_key new_prefix context stream left old new pending → e ≡ Stream errors.OutOfMemory
@@ -267,3 +257,6 @@ pub result_rekeyed : {T : Type 0} (key prefix new_key new_prefix context : List 
 result_rekeyed key prefix new_key new_prefix context file left old new (Err e) long read s = tt
 result_rekeyed key prefix new_key new_prefix context file left old new (Ok x) long read s =
     under _ prefix file left read (some_with left _ _ (λ f o. (o.0, record { prefix = prefix; long = long; is = o.1 }, o.2, o.3, o.4)) s)
+
+-- what sealing a file anew uses
+pub ruleset rekey_laws = (known_head, no_head, under_err, nothing_sent, result_rekeyed)

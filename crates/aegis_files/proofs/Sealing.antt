@@ -1,7 +1,7 @@
 -- The facts that hold between two pieces that are sealed, and those that hold if sealing fails.
 use borrow.Rule.Slice.PartMut.{post_of, put_mid}
 use Rattle.std.proofs.Common.{◌≡◌, ◌≢◌, ◌⊎◌, ℕ, ◌+◌, ◌-◌, ◌*◌, ◌<◌, ◌≤◌, true, false, List, [], ◌∷◌, ◌++◌, Option, None, Some, IfSome, drop, length, take, refl, sym, ap, subst, ◌∙◌, append_assoc, arith, inl, inr}
-use Rattle.std.proofs.KnownBytes.{Appends-trans, Consumes-nil, Consumes-trans}
+use Rattle.std.proofs.KnownBytes.{Consumes-trans}
 use Rattle.std.proofs.Math.Nat.{le-div_iff_mul-le}
 use Rattle.std.proofs.lemmas.Bool.{cases_lt}
 use Rattle.std.proofs.lemmas.List.{append-nil, drop-take, drop_at, length-append, length-drop, length-take, nil_from_length, take-append-drop, take-append-le, take-take, with_items_is}
@@ -100,27 +100,12 @@ pub record SealsSome (p : Progress) (key prefix context : List ℕ) (contents le
 
 pub seals_begin : (p : Progress) (key prefix context : List ℕ) (contents old new : Option (List ℕ)) → p ≡ progress_at key prefix context (first_position Second)
     → Appends old new (prefix ++ header Second) → SealsSome p key prefix context contents contents old new
-seals_begin p key prefix context contents old new is written = record {
-  messages = [];
-  sent = [];
-  reaches = reaches_none key prefix context (first_position Second) p is;
-  read = Consumes-nil contents;
-  written = written;
-  within = tt;
-  room = rw is (omega arith);
-  full = full contents;
-}
-  where
-    full : (contents : Option (List ℕ)) → IfSome contents (λ t. IsFull p contents)
-    full None = tt
-    full (Some t) = rw is (inl refl)
+seals_begin p key prefix context contents old new is written = grind (arith, reaches_none)
 
 -- one more record was written
 more_written : (prefix sent bytes : List ℕ) (old new new' : Option (List ℕ)) → Appends old new (prefix ++ (header Second ++ sent)) → Appends new new' bytes
     → Appends old new' (prefix ++ (header Second ++ (sent ++ bytes)))
-more_written prefix sent bytes old new new' before written =
-    subst (Appends old new') (append_assoc prefix (header Second ++ sent) bytes ∙ ap (λ (l : List ℕ). prefix ++ l) (append_assoc (header Second) sent bytes))
-    (Appends-trans old new new' (prefix ++ (header Second ++ sent)) bytes before written)
+more_written prefix sent bytes old new new' before written = grind (arith, append_assoc)
 
 -- no piece is too long for a record
 piece_fits : (p : Progress) (key prefix context : List ℕ) (ms : List (List ℕ)) (sent m : List ℕ) → Reaches key prefix context (first_position Second) p false ms sent → IsPiece m
@@ -313,9 +298,7 @@ stops_long p key prefix context (Some t) left left' old new m long s read some p
 
 -- some bytes of the next record were written
 cut : (prefix sent out : List ℕ) (n : ℕ) → prefix ++ (header Second ++ (sent ++ out)) ≡ (prefix ++ (header Second ++ (sent ++ take n out))) ++ drop n out
-cut prefix sent out n =
-    ap (λ (l : List ℕ). prefix ++ (header Second ++ (sent ++ l))) (sym (take-append-drop n out)) ∙ ap (λ (l : List ℕ). prefix ++ (header Second ++ l)) (sym (append_assoc sent (take n out) (drop n out)))
-    ∙ ap (λ (l : List ℕ). prefix ++ l) (sym (append_assoc (header Second) (sent ++ take n out) (drop n out))) ∙ sym (append_assoc prefix (header Second ++ (sent ++ take n out)) (drop n out))
+cut prefix sent out n = grind (arith, take-append-drop, append_assoc)
 
 pub stops_writing : (p q : Progress) (key prefix context : List ℕ) (contents left left' old new new' : Option (List ℕ)) (m bytes : List ℕ) (n : ℕ) (e : FileError)
     → length prefix ≡ 24 → e ≢ TooLong → SealsSome p key prefix context contents left old new → Consumes left left' m → q ≡ after p false m → bytes ≡ record_of p 0 m → IsPiece m

@@ -27,6 +27,7 @@ pub(crate) const FIRST: RecordPosition = RecordPosition {
 const HEAD_BYTES: usize = 24 + 4;
 
 // Reads the prefix and the header of a file, and returns the prefix.
+#[tactic(auto, using(std::proofs::lemmas::Grind::common_steps, crate::proofs::Files::other_head, crate::proofs::Files::short_head))]
 pub(crate) fn read_prefix<R: Read>(input: &mut R) -> Result<[u8; 24], FileError>
     ensures read { IfOk result (λ prefix. Consumes (R.remaining input.old)
         (R.remaining input.new) (prefix ++ header Second)) }

@@ -14,6 +14,7 @@ use std::io::{ErrorKind, Read};
 
 /// Reads until the buffer is full or the input is at its end, and returns the number of bytes read. An interrupted read
 /// is tried again. Returns [`FileError::Read`] if a read fails; some bytes may have been read before.
+#[tactic(auto, using(std::proofs::lemmas::Grind::common_steps, crate::proofs::Filling::fill_laws))]
 pub fn fill<R: Read>(input: &mut R, buffer: &mut [u8]) -> Result<usize, FileError>
     ensures within { IfOk result (λ n. n ≤ length buffer.new) }
     ensures read { IfOk result
@@ -45,6 +46,7 @@ const STEP_BYTES: usize = RECORD_BYTES as usize + PIECE_BYTES;
 
 // Reads the bytes `from..to` of the buffer, or all that are left of the input, and returns where they end. The buffer
 // is made longer if it is shorter than that, and is not filled again.
+#[tactic(auto, using(std::proofs::lemmas::Grind::common_steps, crate::proofs::Filling::filled_part, crate::proofs::Filling::longer))]
 fn fill_step<R: Read, A: Allocator>(
     input: &mut R,
     buffer: &mut Vec<u8, A>,

@@ -84,6 +84,7 @@ fn rekey_under<'a, R: Read, W: Write, A: Allocator + Copy>(
 /// Under one key, a prefix must be used for one file only. The context must have at most [`MAX_CONTEXT_BYTES`]. Memory
 /// is allocated for one record and the new record. In a file that someone else made with the key, each can have up to
 /// 16 MiB.
+#[tactic(auto, using(std::proofs::lemmas::Result::err_from_is_err_and, crate::proofs::Rekeying::rekey_laws))]
 pub fn rekey_stream<R: Read, W: Write, A: Allocator + Copy>(
     alloc: A,
     key: &Key,

@@ -10,6 +10,7 @@ use std::io::{ErrorKind, Write};
 
 /// Writes all bytes. An interrupted write is tried again. Returns [`FileError::Write`] if a write fails; a beginning of
 /// the bytes was written then.
+#[tactic(auto, using(std::proofs::lemmas::Grind::common_steps, crate::proofs::Pieces::write_laws))]
 pub fn write<W: Write>(output: &mut W, bytes: &[u8]) -> Result<(), FileError>
     ensures ok { OnOk result (Appends (W.contents output.old) (W.contents output.new) bytes.now) }
     ensures err { IfErr result IsWriteError }

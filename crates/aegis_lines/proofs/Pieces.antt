@@ -1,5 +1,6 @@
 -- Fields and pieces of bytes: that their digits decode, and to how many bytes.
-use Rattle.std.proofs.Common.{◌≡◌, ℕ, ◌+◌, ◌/◌, ◌%◌, ◌<◌, ◌==◌, ◌&&◌, ◌++◌, Bool, true, false, List, [], ◌∷◌, Ok, append-nil, arith, get_or, leb, length, map, refl, take}
+use Rattle.std.proofs.lemmas.Grind.{flat_map-append}
+use Rattle.std.proofs.Common.{◌≡◌, ℕ, ◌+◌, ◌/◌, ◌%◌, ◌<◌, ◌==◌, ◌&&◌, ◌++◌, Bool, true, false, List, [], ◌∷◌, Ok, append-nil, arith, get_or, leb, length, map, refl, take, append_assoc}
 use Rattle.std.proofs.lemmas.List.{get_or-map, length-append, length-map, map-append, map_push, take_more}
 use Rattle.std.proofs.lemmas.List.Folds.{concat-append, list_all-append, list_all_more}
 use Rattle.std.proofs.lemmas.List.Splits.{length-slice_split}
@@ -100,3 +101,9 @@ more_measured pieces i d bytes messages here total records next low here-is next
       total-is = λ are. rw (more, concat-append, length-append, append-nil, ← before.total-is are, ← next-is (is_bytes_at pieces i d are low)) refl;
       records-is = λ are. rw (more, frames_length-push, ← next-is (is_bytes_at pieces i d are low), before.records-is are) (omega arith);
     }
+
+-- field i of the texts is the text of field i
+pub ruleset field_laws = (get_or-map)
+
+-- one more message that is shown
+pub ruleset shown_laws = (append_assoc, flat_map-append, map-append, take_more)

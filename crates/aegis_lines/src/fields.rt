@@ -30,6 +30,7 @@ pub fn split<A: Allocator>(
 }
 
 /// Returns field `index` of a line. The command is field 0.
+#[tactic(auto, using(std::proofs::lemmas::Grind::common_steps, crate::proofs::Pieces::field_laws))]
 pub fn field<'a>(fields: &[&'a [u8]], index: usize) -> &'a [u8]
     requires { index < length fields.now }
     ensures { result.now ≡ field_of (texts fields.now) index }

@@ -13,6 +13,7 @@ use aegis_base::slices;
 use std::alloc::{AllocError, Allocator};
 
 /// Returns the answer to `sealrec K P X M`.
+#[tactic(auto, using(std::proofs::lemmas::Grind::common_steps, crate::proofs::Pieces::within_all))]
 pub fn answer_sealing<A: Allocator + Copy>(
     alloc: A,
     fields: &[&[u8]],
@@ -49,6 +50,7 @@ pub fn answer_opening<A: Allocator + Copy>(
 }
 
 // Messages as they are printed, from a stream of so many bytes, which is longer than they are.
+#[tactic(auto, using(std::proofs::lemmas::Grind::common_steps, crate::proofs::Pieces::shown_laws))]
 fn opened_text<A: Allocator + Copy>(
     alloc: A,
     messages: &[Vec<u8, A>],

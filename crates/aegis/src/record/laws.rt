@@ -11,6 +11,7 @@ ghost use Rattle.aegis.specs.declared.record.version.Version.{Version};
 
 /// Under one key, prefix and context two lists of messages, or two versions, never have the same stream, and no stream
 /// is a proper prefix of another.
+#[tactic(auto, using(crate::proofs::Stepwise::sealed_one_stream))]
 pub fn one_record_stream()
     ensures { (key prefix context : List ℕ) → IsOneRecordStream (sealed key prefix context) }
 {}
@@ -21,6 +22,7 @@ pub fn one_fault()
 {}
 
 /// A stream has 4 bytes, and for each message 37 and its length.
+#[tactic(auto, using(crate::proofs::Lengths::stream_length))]
 pub fn record_stream_lengths()
     ensures { (v : Version) (key prefix context : List ℕ) (ms : List (List ℕ))
         (bytes : List ℕ)
@@ -29,6 +31,7 @@ pub fn record_stream_lengths()
 
 /// The bytes before a record are as many as `start_of` gives: 4, 37 for each record before it, and the lengths of their
 /// messages.
+#[tactic(auto, using(crate::proofs::Lengths::begun_laws))]
 pub fn begun_lengths()
     ensures { (p : Progress) (ms : List (List ℕ)) (bytes : List ℕ) → Begun p ms bytes
         → length bytes ≡ start_of p }

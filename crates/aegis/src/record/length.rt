@@ -17,6 +17,7 @@ pub const RECORD_BYTES: u64 = 1 + 4 + 32;
 
 /// Returns how many bytes the stream of the messages has: 4, and for each message 37 and its length. Returns `None`
 /// exactly if that is more than [`MAX_AEAD_BYTES`].
+#[tactic(auto, using(crate::proofs::Lengths::frames_length_more, crate::proofs::Lengths::frames_length_within))]
 pub fn records_len(messages: &[&[u8]]) -> Option<u64>
     ensures within { records_length (texts messages.now) ≤ MAX_AEAD_BYTES
         → result ≡ Some (records_length (texts messages.now)) }

@@ -31,6 +31,7 @@ pub struct RecordCipher<'a> {
 }
 
 // Returns the nonce of a record.
+#[tactic(auto, using(crate::proofs::Sealed::nonce_filled))]
 fn nonce(prefix: &[u8; 24], number: u64) -> Nonce
     ensures { result ≡ nonce prefix.now number }
 {
@@ -138,6 +139,7 @@ impl RecordCipher<'_> {
 
     /// Seals a message in place: `sealed` has the message and then 32 bytes, over which its ciphertext and its tag are
     /// written.
+    #[tactic(auto, using(crate::proofs::Sealed::joined))]
     pub fn seal_in_place(&self, position: RecordPosition, flag: u8, sealed: &mut [u8])
         requires context { length self.now.context.now ≤ MAX_CONTEXT_BYTES }
         requires long { 32 ≤ length sealed.old }

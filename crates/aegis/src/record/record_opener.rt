@@ -75,6 +75,7 @@ impl<'a> RecordOpener<'a> {
     ///
     /// The context has at most [`MAX_CONTEXT_BYTES`]. The only error is [`RecordError::Header`], if no version has this
     /// header.
+    #[tactic(auto, using(std::proofs::lemmas::Grind::common_steps, crate::proofs::Stepwise::begin_laws))]
     pub fn new(
         key: &'a Key,
         prefix: &'a [u8; 24],
@@ -158,6 +159,7 @@ impl<'a> RecordOpener<'a> {
     ///
     /// The bytes are not authenticated. The error is [`RecordError::Flag`] or [`RecordError::TooLong`]: the fault of
     /// any record that begins with them.
+    #[tactic(auto, using(crate::proofs::Stepwise::head_laws))]
     pub fn record_len(&self, head: &[u8; 5]) -> Result<usize, RecordError>
         ensures least { IfOk result (λ n. RECORD_BYTES ≤ n) }
         ensures most { IfOk result (λ n. n ≤ RECORD_BYTES + MAX_MESSAGE_BYTES) }

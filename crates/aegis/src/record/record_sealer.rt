@@ -112,6 +112,7 @@ impl<'a> RecordSealer<'a> {
     ///
     /// A prefix must be used for one stream only under its key. The context has at most [`MAX_CONTEXT_BYTES`].
     /// [`RecordError::OutOfMemory`] is the only error; `out` is then as it was.
+    #[tactic(auto, using(crate::proofs::Stepwise::begun_none))]
     pub fn new<A: Allocator>(
         key: &'a Key,
         prefix: &'a [u8; 24],
@@ -165,6 +166,7 @@ impl<'a> RecordSealer<'a> {
     /// [`RecordSealer::remaining`] are left. [`RecordError::OutOfMemory`] is the only error; the sealer and `out` are
     /// then as they were. The next call uses the same record number, so `out`'s spare memory must not be given to
     /// anyone if the next message differs from that of the failed call.
+    #[tactic(auto, using(crate::proofs::Stepwise::appended_long, crate::proofs::Stepwise::begun_more))]
     pub fn seal_next<A: Allocator>(
         &mut self,
         message: &[u8],
@@ -197,6 +199,7 @@ impl<'a> RecordSealer<'a> {
     ///
     /// The limits are those of [`RecordSealer::seal_next`], so what was sealed can be opened.
     /// [`RecordError::OutOfMemory`] is the only error; `out` is then as it was, and the stream has no end.
+    #[tactic(auto, using(crate::proofs::Stepwise::appended_long))]
     pub fn seal_last<A: Allocator>(
         self,
         message: &[u8],

@@ -6,7 +6,7 @@ use Rattle.aegis_aes.specs.Permutes.{entry}
 use Rattle.aegis_aes.specs.Round.{sub_bytes, substitute}
 use Rattle.aegis_aes.specs.declared.permutes.TheConstants.{IN_HIGH, IN_LOW, INVERSE, OUT_ONE, OUT_TWO, SCALED}
 use Rattle.aegis_aes.proofs.Nibbles.{all_substituted, changed, first, found, half, halves, inverse_places, lower, scaled_places, second, shifted, small, sum_of, themselves, total, upper, xor_places}
-use Rattle.aegis_aes.proofs.Places.{block_at-map}
+use Rattle.aegis_aes.proofs.Places.{block_at_map}
 use Rattle.aegis_aes.proofs.permutes.sub_bytes.Goals as goal
 
 -- the places of an inverse xored with those of the scaled quotient
@@ -54,4 +54,4 @@ returns-clause-bytes g c =
 pub returns-clause-blocks : goal.returns-clause-blocks
 unfolding sub_bytes
 returns-clause-blocks g c p whole room =
-    ap (λ x. block_at x p) (returns-clause-bytes g c) ∙ block_at-map substitute c.args.bytes g.row.N p c.fits-bytes.0 room
+    ap (λ x. block_at x p) (returns-clause-bytes g c) ∙ block_at_map substitute c.args.bytes g.row.N p c.fits-bytes.0 room

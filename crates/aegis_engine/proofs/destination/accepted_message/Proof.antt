@@ -62,9 +62,6 @@ is_false : (t : Bool) → T (not t) → t ≡ false
 is_false true y = absurd y
 is_false false y = refl
 
-never_both : {t : Bool} → t ≡ true → t ≡ false → ⊥
-never_both e e' = subst T (sym e ∙ e') tt
-
 pub accepted_message_spec : {M : Type 1} → statement M
 unfolding follows_by
 accepted_message_spec 𝓤 𝓛 𝓜 𝓡 wired =

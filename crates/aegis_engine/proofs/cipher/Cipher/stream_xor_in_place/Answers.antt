@@ -2,7 +2,7 @@ use Rattle.std.proofs.Common.{◌≡◌, ◌∙◌, ap, [], length, arith}
 use Rattle.std.proofs.lemmas.Grind.{common_steps}
 use Rattle.aegis_aes.specs.Block.{xor}
 use Rattle.aegis_base.specs.Message.{keystream, xor_keystream}
-use Rattle.aegis_base.proofs.KeystreamFacts.{xor_keystream-twice}
+use Rattle.aegis_base.proofs.KeystreamFacts.{xor_keystream_twice}
 use Rattle.aegis_engine.proofs.KeystreamFacts.{xored-by}
 use Rattle.aegis_engine.proofs.cipher.Cipher.stream_xor_in_place.Goals as goal
 
@@ -17,4 +17,4 @@ pub returns-clause-undone : goal.returns-clause-undone
 returns-clause-undone g c =
     let L = g.S.LaneState in
     ap (xor_keystream L.VARIANT c.args.self.key c.args.self.nonce) (returns-clause-xored g c)
-    ∙ xor_keystream-twice L.VARIANT c.args.self.key c.args.self.nonce c.args.mc.now
+    ∙ xor_keystream_twice L.VARIANT c.args.self.key c.args.self.nonce c.args.mc.now
