@@ -14,8 +14,8 @@
  * nonce of hunkravy_key_bytes(variant) bytes, the ciphertext, and the tag.
  *
  * A crash may tear writes that were not synced, and a file with a torn header is lost. The example pages.c has no
- * journal. docs/PAGES.md defines the journal, and the functions of hunkravy_records.h encrypt and decrypt it. If a file
- * has a journal that is not empty, let `aegis_pages` or `raf` complete it before you open the file.
+ * journal. docs/PAGES.md defines the journal, and hunkravy_mac of hunkravy.h authenticates it. If a file has a journal
+ * that is not empty, let `aegis_pages` or `raf` complete it before you open the file.
  *
  * To change bytes of a page: read the page, decrypt it, change its contents, encrypt it with a fresh nonce, and write
  * it. To change the length: write the new pages, and then the header with the next counter. After the contents the last

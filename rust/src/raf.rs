@@ -74,7 +74,7 @@ use alloc::vec;
 use alloc::vec::Vec;
 use changes::Changes;
 use core::fmt;
-use journal::{JournalSeal, PREFIX_BYTES, PendingWrite};
+use journal::{JOURNAL_KEY_BYTES, JournalSeal, PendingWrite};
 use layout::{HEADER_BLOCK_BYTES, Layout, journal_key};
 use std::io::ErrorKind;
 #[cfg(feature = "raf")]
@@ -275,9 +275,9 @@ impl<A: Algorithm, I: RafIo, R: RafRng, J: RafIo> Raf<A, I, R, J> {
         let mut seal = JournalSeal {
             key: journal_key::<A>(&self.layout.key),
             start: self.layout.journal_start(),
-            prefix: [0; PREFIX_BYTES],
+            nonce: [0; JOURNAL_KEY_BYTES],
         };
-        self.rng.fill(&mut seal.prefix)?;
+        self.rng.fill(&mut seal.nonce)?;
         // Not before: sealing may take long, and the file may be moved meanwhile.
         self.io.check_path()?;
         self.make_room(&writes)?;

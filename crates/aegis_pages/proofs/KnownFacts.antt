@@ -1,7 +1,7 @@
 -- Bytes that are known, or not, and errors.
 use Rattle.std.proofs.Common.{◌≡◌, ℕ, ◌≤◌, ◌≢◌, ◌∙◌, Bool, Err, Result, List, Option, None, Some, IfSome, refl, sym, arith, rules}
 use Rattle.aegis_pages.specs.declared.error.PagesError.{PagesError}
-use Rattle.aegis_pages.specs.declared.error.PagesError.TheVariants.{Read, Write, Nonce, Header, Damaged, OutOfMemory, Journal, Broken}
+use Rattle.aegis_pages.specs.declared.error.PagesError.TheVariants.{Read, Write, Nonce, Header, Damaged, OutOfMemory, Journal, OldJournal, Broken}
 use Rattle.aegis_pages.specs.Errors.{IsReadRefusal, IsBeginError, IsCreateRefusal, IsReadError}
 use Rattle.aegis_pages.specs.Layouts.{IsPageSize, Layout}
 use Rattle.aegis_pages.specs.SealedPages.{Changes}
@@ -41,10 +41,13 @@ create_begins n size Journal is = size
 create_begins n size _ is = absurd is
 
 -- reading failed, and so the file was not left alone
-pub reads_only : (e : PagesError) → IsReadError e → (e ≢ Journal) × (e ≢ Header)
-reads_only (Read e) is = (search rules, search rules)
+reads_only : (e : PagesError) → IsReadError e → (e ≢ Journal) × (e ≢ Header) × (e ≢ OldJournal)
+reads_only (Read e) is = (search rules, search rules, search rules)
 reads_only _ is = absurd is
 
 -- a result that is this error, and no other one
 pub only_error : {T : Type 0} (r : Result T PagesError) (e k : PagesError) → r ≡ Err e → e ≢ k → r ≢ Err k
 only_error r e k is other same = other (let both : Err e ≡ Err k = sym is ∙ same in cc)
+
+pub never_left : {T : Type 0} (r : Result T PagesError) (e : PagesError) → r ≡ Err e → IsReadError e → (r ≢ Err Journal) × (r ≢ Err Header) × (r ≢ Err OldJournal)
+never_left r e is reads = let other = reads_only e reads in (only_error r e Journal is other.0, only_error r e Header is other.1, only_error r e OldJournal is other.2)

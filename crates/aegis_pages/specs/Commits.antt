@@ -5,16 +5,16 @@ use Rattle.aegis_base.specs.Variant.{Variant, key_length}
 use Rattle.aegis_storage.specs.Bytes.{part_at}
 use Rattle.aegis_storage.specs.Disk.{Disk, Writes, after_writes}
 use Rattle.aegis_storage.specs.Journal.{IsAtRest, IsJournal, IsNoForgery, IsOneOf, KeepsBeginning, RecoversUnlessForged}
-use Rattle.aegis_pages.specs.declared.layout.TheConstants.{JOURNAL_MAGIC}
+use Rattle.aegis_pages.specs.declared.layout.TheConstants.{JOURNAL_MAGIC, OLD_JOURNAL_MAGIC}
 use Rattle.aegis_pages.specs.Errors.{HasNoHeader}
 use Rattle.aegis_pages.specs.Headers.{IsHeader}
 use Rattle.aegis_pages.specs.Layouts.{Layout, journal_beginning}
 use Rattle.aegis_pages.specs.SealedPages.{IsFileOf, IsFileUnder}
 
--- the key of the journals of files under a key: a MAC of 32 bytes of the journals' magic number, under the nonce of all
+-- the key of the journals of files under a key: a MAC of 16 bytes of the journals' magic number, under the nonce of all
 -- bytes 255
 abbrev pub journal_key : Variant → List ℕ → List ℕ
-journal_key variant key = mac variant 32 key (replicate (key_length variant.family) 255) JOURNAL_MAGIC
+journal_key variant key = mac variant 16 key (replicate (key_length variant.family) 255) JOURNAL_MAGIC
 
 -- how many bytes a header has
 abbrev pub head_bytes : Variant → ℕ
@@ -81,6 +81,10 @@ KnownSame (Some xs) new = new ≡ Some xs
 -- the bytes have more than a beginning, and do not begin with this one
 abbrev pub IsOfAnother : (beginning bytes : List ℕ) → Type 0
 IsOfAnother beginning bytes = (33 < length bytes) × (take 33 bytes ≢ beginning)
+
+-- the bytes have more than a beginning, and begin like a journal of the first format
+abbrev pub IsOldJournal : (bytes : List ℕ) → Type 0
+IsOldJournal bytes = (33 < length bytes) × (take 4 bytes ≡ OLD_JOURNAL_MAGIC)
 
 -- The journal may be made again, or emptied: if it is whole, and the file has a header, its commit began or ended with
 -- that one; and if it is not whole the file has a header, and it has no more than a beginning, or begins with that of the file.

@@ -6,6 +6,6 @@ use std::io;
 /// is never set back. The nonce of all bytes 255 must never be drawn, since [`crate::Pages::commitment`] is under it.
 /// No contract says that a nonce is fresh, or that it is another than that one.
 pub trait Nonces {
-    /// Fills `nonce`, or returns an error. It has 16 or 32 bytes by the variant, or 24 for the prefix of a journal.
+    /// Fills `nonce`, or returns an error. It has 16 or 32 bytes by the variant, and 16 for a journal.
     fn draw(&mut self, nonce: &mut [u8]) -> io::Result<()>;
 }

@@ -36,6 +36,9 @@ pub enum PagesError {
     /// The journal is that of another file, or of another state of this one.
     #[error("the journal of another file, or of another state of this one")]
     Journal,
+    /// The journal is of the first format. Open the file with the version that wrote it.
+    #[error("a journal of an older format: open the file with the version that wrote it")]
+    OldJournal,
     /// A commit has failed. The file is to be opened again.
     #[error("a commit has failed: open the file again")]
     Broken,

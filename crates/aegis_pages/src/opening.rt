@@ -3,7 +3,7 @@
 ghost use Rattle.std.specs.Prelude.{◌≡◌, ◌≢◌, ◌+◌, ◌≤◌, ◌↔◌, [], Err, IfErr, IfNone, IfOk, IfSome, IsOk, IsSome, IsTrue, List, None, OnOk, Some, length, take, ℕ};
 ghost use Rattle.aegis_base.specs.Variant.{key_length};
 ghost use Rattle.aegis_storage.specs.Pending.{writes_of};
-ghost use Rattle.aegis_pages.specs.Commits.{Fits, IsHonest, IsLeftByCommit, IsOfAnother, IsOfCommit, KnownSame, RecoversContentsUnlessForged, RestsAtContents, head_bytes, journal_key};
+ghost use Rattle.aegis_pages.specs.Commits.{Fits, IsHonest, IsLeftByCommit, IsOfAnother, IsOfCommit, IsOldJournal, KnownSame, RecoversContentsUnlessForged, RestsAtContents, head_bytes, journal_key};
 ghost use Rattle.aegis_pages.specs.Errors.{IsLeftAlone, IsOpenRefusal};
 ghost use Rattle.aegis_pages.specs.Layouts.{IsPageSize, journal_beginning};
 ghost use Rattle.aegis_pages.specs.Reading.{HasHeader, layout_of};
@@ -12,9 +12,9 @@ use crate::error::PagesError;
 use crate::header::{FileHeader, read_header, read_header_block};
 use crate::layout::{
     FileLayout, HEADER_BLOCK_BYTES, HEADER_PLAINTEXT_BYTES, JOURNAL_MAGIC, MAX_CONTENTS_BYTES,
-    PLAINTEXT_HEADER_BYTES, TAG_BYTES,
+    OLD_JOURNAL_MAGIC, PLAINTEXT_HEADER_BYTES, TAG_BYTES,
 };
-use aegis::aegis256::Key;
+use aegis::aegis128l::Key;
 use aegis_base::LaneState;
 use aegis_engine::mac_at_once;
 use aegis_storage::{PendingWrite, Storage, journaled_writes, read_all, recover};
@@ -27,7 +27,7 @@ pub fn journal_key<L: LaneState, const KEY_BYTES: usize>(key: &[u8; KEY_BYTES]) 
     requires { KEY_BYTES ≡ key_length L.VARIANT.family }
     ensures { result ≡ journal_key L.VARIANT key.now }
 {
-    mac_at_once::<L, 32>(key, &[255; KEY_BYTES], &JOURNAL_MAGIC)
+    mac_at_once::<L, 16>(key, &[255; KEY_BYTES], &JOURNAL_MAGIC)
 }
 
 // Returns whether a write makes a file begin with these bytes.
@@ -65,9 +65,22 @@ pub fn is_of_another(beginning: &[u8; PLAINTEXT_HEADER_BYTES], journal: &[u8]) -
     start[..] != beginning[..]
 }
 
+// Returns whether a journal is of the first format, which only older versions make again.
+fn is_old(journal: &[u8]) -> bool
+    ensures { IsTrue result ↔ IsOldJournal journal.now }
+{
+    if journal.len() > PLAINTEXT_HEADER_BYTES {
+        let (magic, _) = journal.split_at(4);
+        magic[..] == OLD_JOURNAL_MAGIC[..]
+    } else {
+        false
+    }
+}
+
 /// Returns an error if a journal must not be made again or emptied: [`PagesError::Journal`] if the file has a header
 /// and the journal is whole but of another commit, or does not begin with the beginning of this file's journals, and
-/// [`PagesError::Header`] if the file has no header and the journal is not whole.
+/// [`PagesError::Header`] if the file has no header and the journal is not whole. In place of both it is
+/// [`PagesError::OldJournal`] if the journal is not whole and of the first format.
 pub fn check_journal<L: LaneState, const KEY_BYTES: usize, A: Allocator + Copy>(
     key: &[u8; KEY_BYTES],
     header_block: Option<[u8; HEADER_BLOCK_BYTES]>,
@@ -93,10 +106,14 @@ pub fn check_journal<L: LaneState, const KEY_BYTES: usize, A: Allocator + Copy>(
         → IsOk result)) }
     ensures alone { IfErr result IsLeftAlone }
     ensures none { result ≡ Err PagesError.Header → header ≡ None }
+    ensures old { result ≡ Err PagesError.OldJournal → IsOldJournal journal.now }
+    ensures named { IfNone writes.now (IsOldJournal journal.now
+        → (result ≢ Err PagesError.Journal) × (result ≢ Err PagesError.Header)) }
 {
     let Some(header) = header else {
         return match writes {
             Some(_) => Ok(()),
+            None if is_old(journal) => Err(PagesError::OldJournal),
             None => Err(PagesError::Header),
         };
     };
@@ -106,10 +123,13 @@ pub fn check_journal<L: LaneState, const KEY_BYTES: usize, A: Allocator + Copy>(
             header.page_bytes,
             &header.id,
         ).journal_beginning();
-        if is_of_another(&beginning, journal) {
-            return Err(PagesError::Journal);
+        if !is_of_another(&beginning, journal) {
+            return Ok(());
         }
-        return Ok(());
+        if is_old(journal) {
+            return Err(PagesError::OldJournal);
+        }
+        return Err(PagesError::Journal);
     };
     match header_block {
         Some(header_block) => {
@@ -131,7 +151,8 @@ pub fn check_journal<L: LaneState, const KEY_BYTES: usize, A: Allocator + Copy>(
 /// made again and emptied; so it is also if the file has no header. A torn one is emptied if the file has a header.
 /// Otherwise nothing is changed: the error is [`PagesError::Journal`] for a whole journal of another commit, or one
 /// that does not begin with the beginning of this file's, and [`PagesError::Header`] if the file has no header and the
-/// journal is not whole. Neither is returned for what a commit and a crash left, unless that is a forgery.
+/// journal is not whole, or [`PagesError::OldJournal`] for one of the first format. None of them is returned for what a
+/// commit and a crash left, unless that is a forgery.
 ///
 /// The others are [`PagesError::Read`], [`PagesError::Write`] and [`PagesError::OutOfMemory`]. Nothing is then lost:
 /// call it again.
@@ -167,7 +188,8 @@ pub fn recover_file<
         IfSome (J.bytes journal.old) (Fits L.VARIANT key.now file))) }
     ensures accepts { IsLeftByCommit L.VARIANT key.now (S.bytes storage.old) (J.bytes journal.old)
         (S.disk storage.old) (J.disk journal.old)
-        → (result ≢ Err PagesError.Journal) × (result ≢ Err PagesError.Header) }
+        → (result ≢ Err PagesError.Journal) × (result ≢ Err PagesError.Header)
+        × (result ≢ Err PagesError.OldJournal) }
     ensures alone { IfErr result (λ error. IsLeftAlone error
         → (storage.new ≡ storage.old) × (journal.new ≡ journal.old)) }
     ensures refused { IfErr result (IsOpenRefusal L.VARIANT key.now (S.bytes storage.old)) }

@@ -24,7 +24,7 @@ use crate::opening::{journal_key, recover_file};
 use crate::range::{change_range, read_range};
 use crate::sealing::{sealed_commit, sealed_header};
 use aegis_base::{LaneState, SavedLanes};
-use aegis_storage::{PREFIX_BYTES, Storage, commit};
+use aegis_storage::{NONCE_BYTES, Storage, commit};
 use std::alloc::Allocator;
 use std::io;
 use std::io::ErrorKind;
@@ -33,8 +33,8 @@ use std::marker::Model;
 /// Contents in sealed pages, over a storage and its journal.
 ///
 /// Changes are kept in memory until they are committed: then all of them are there after a crash, or none. Each page
-/// and header that a commit writes takes one nonce, and each commit one prefix. The contracts name the contents where
-/// the storage's bytes are known: they and the changes are then the file of contents (`HasContents`).
+/// and header that a commit writes takes one nonce, and so does its journal. The contracts name the contents where the
+/// storage's bytes are known: they and the changes are then the file of contents (`HasContents`).
 #[derive(Drop)]
 pub struct Pages<L: LaneState, const KEY_BYTES: usize, S: Storage, J: Storage, N, A: Allocator> {
     alloc: A,
@@ -201,8 +201,9 @@ impl<
     }
 
     /// Opens the file that the storage holds, and completes a commit that was cut short, or leaves out all of it, as
-    /// [`crate::recover_file`] does, whose errors it returns. So it returns neither [`PagesError::Journal`] nor
-    /// [`PagesError::Header`] for what a commit and a crash left, unless that is a forgery.
+    /// [`crate::recover_file`] does, whose errors it returns. So it returns none of [`PagesError::Journal`],
+    /// [`PagesError::OldJournal`] and [`PagesError::Header`] for what a commit and a crash left, unless that is a
+    /// forgery.
     pub fn open(
         alloc: A,
         mut storage: S,
@@ -228,7 +229,8 @@ impl<
             → HasContents pages contents × HasCommitted pages contents) }
         ensures accepts { IsLeftByCommit L.VARIANT key.now (S.bytes storage) (J.bytes journal)
             (S.disk storage) (J.disk journal)
-            → (result ≢ Err PagesError.Journal) × (result ≢ Err PagesError.Header) }
+            → (result ≢ Err PagesError.Journal) × (result ≢ Err PagesError.Header)
+            × (result ≢ Err PagesError.OldJournal) }
         ensures fits { OnOk result (IfSome (S.bytes storage) (λ file.
             IfSome (J.bytes journal) (Fits L.VARIANT key.now file))) }
         ensures refused { IfErr result (IsOpenRefusal L.VARIANT key.now (S.bytes storage)) }
@@ -413,8 +415,8 @@ impl<
             counter,
             self.len,
         )?;
-        let mut prefix = [0; PREFIX_BYTES];
-        match self.nonces.draw(&mut prefix) {
+        let mut nonce = [0; NONCE_BYTES];
+        match self.nonces.draw(&mut nonce) {
             Ok(()) => {}
             Err(error) => return Err(PagesError::Nonce(error)),
         }
@@ -425,7 +427,7 @@ impl<
             &mut self.journal,
             &key,
             &self.layout.journal_beginning(),
-            &prefix,
+            &nonce,
             &[],
             &writes,
         );

@@ -1,60 +1,106 @@
 -- Journals, and the states of a commit and of a recovery.
-use Rattle.std.proofs.Common.{◌≡◌, ℕ, ◌+◌, ◌≤◌, ◌⊎◌, inl, inr, IfNone, IfSome, List, [], ◌∷◌, ◌++◌, None, Some, Option, drop, length, map, take, refl, sym, ap, subst, ◌∙◌, arith}
-use Rattle.std.proofs.lemmas.List.{drop_at, length-append, take_at}
+use Rattle.std.proofs.Common.{◌≡◌, ℕ, ◌+◌, ◌^◌, ◌<◌, ◌≤◌, ◌⊎◌, inl, inr, IfNone, IfSome, List, [], ◌∷◌, ◌++◌, None, Some, Option, drop, length, take, refl, sym, ap, subst, ◌∙◌, arith}
+use Rattle.std.proofs.lemmas.List.{append_assoc, drop_at, length-append, take_at}
 use Rattle.std.proofs.lemmas.Nat.{from_le_bytes-to_le_bytes_8}
 use Rattle.std.specs.Int.{from_le_bytes, to_le_bytes, w64}
-use Rattle.aegis.specs.Records.{AreRecords, sealed}
-use Rattle.aegis.proofs.Sealed.{sealed-is}
-use Rattle.aegis.proofs.Frames.{one_record_stream}
+use Rattle.aegis_base.specs.Mac.{mac}
+use Rattle.aegis_base.specs.Variant.{Aegis128L}
+use Rattle.aegis_base.proofs.MacFacts.{length-mac}
 use Rattle.aegis_storage.specs.declared.store.TheConstants.{MAX_STORAGE_BYTES}
 use Rattle.aegis_storage.specs.Calls.{GivesFrom}
 use Rattle.aegis_storage.specs.Disk.{Adds, Crashed, Disk, IsPossible, MakesCertain, Size, Writes, WritesAll, after, certain, changes, after_writes}
-use Rattle.aegis_storage.specs.Journal.{AreWithin, GivesOneOf, IsAtRest, IsJournal, IsOneOf, IsNoForgery, RecoversUnlessForged, RecoversKnown, place_and_bytes}
+use Rattle.aegis_storage.specs.Journal.{AreWithin, GivesOneOf, IsAtRest, IsFramed, IsJournal, IsOneOf, IsNoForgery, RecoversUnlessForged, RecoversKnown, authenticated, entries, entry}
+use Rattle.aegis_storage.specs.Pending.{writes_of}
+use Rattle.std.specs.declared.vec.Vec.{Vec}
+use Rattle.aegis_storage.specs.declared.pending.PendingWrite.{PendingWrite}
 use Rattle.aegis_storage.proofs.Crashing.{written_again}
 use Rattle.aegis_storage.proofs.Disks.{Left, certain_only, cut_left, left_synced, readable, readable_certain}
+use Rattle.aegis_storage.proofs.Lists.{all_within}
 
 -- ---- one list of writes for a journal
 
-same_write : (v w : ℕ × List ℕ) → v.0 + length v.1 ≤ MAX_STORAGE_BYTES → w.0 + length w.1 ≤ MAX_STORAGE_BYTES → place_and_bytes v ≡ place_and_bytes w → v ≡ w
-same_write v w low high same =
-    let place : v.0 ≡ w.0 =
-    sym (from_le_bytes-to_le_bytes_8 v.0 (omega (arith, low))) ∙ ap (from_le_bytes w64) (sym (take_at (to_le_bytes w64 v.0) v.1 8 refl) ∙ ap (take 8) same ∙ take_at (to_le_bytes w64 w.0) w.1 8 refl)
-    ∙ from_le_bytes-to_le_bytes_8 w.0 (omega (arith, high)) in
-    let bytes : v.1 ≡ w.1 = sym (drop_at (to_le_bytes w64 v.0) v.1 8 refl) ∙ ap (drop 8) same ∙ drop_at (to_le_bytes w64 w.0) w.1 8 refl in
-    ap (λ (n : ℕ). (n, v.1)) place ∙ ap (λ (l : List ℕ). (w.0, l)) bytes
+-- parts of the same lengths
+same_parts : (n : ℕ) (ps qs xs ys : List ℕ) → length ps ≡ n → length qs ≡ n → ps ++ xs ≡ qs ++ ys → (ps ≡ qs) × (xs ≡ ys)
+same_parts n ps qs xs ys p q same = (sym (take_at ps xs n p) ∙ ap (take n) same ∙ take_at qs ys n q, sym (drop_at ps xs n p) ∙ ap (drop n) same ∙ drop_at qs ys n q)
 
-same_writes : (vs ws : Writes) → AreWithin vs → AreWithin ws → map place_and_bytes vs ≡ map place_and_bytes ws → vs ≡ ws
+pub same_number : (m n : ℕ) (xs ys : List ℕ) → m < 2 ^ 64 → n < 2 ^ 64 → to_le_bytes w64 m ++ xs ≡ to_le_bytes w64 n ++ ys → (m ≡ n) × (xs ≡ ys)
+same_number m n xs ys low high same =
+    let parts = same_parts 8 (to_le_bytes w64 m) (to_le_bytes w64 n) xs ys refl refl same in
+    (sym (from_le_bytes-to_le_bytes_8 m low) ∙ ap (from_le_bytes w64) parts.0 ∙ from_le_bytes-to_le_bytes_8 n high, parts.1)
+
+-- a write and the bytes after it, number after number
+pub spread : (write : ℕ × List ℕ) (rest : List ℕ) → entry write ++ rest ≡ to_le_bytes w64 write.0 ++ (to_le_bytes w64 (length write.1) ++ (write.1 ++ rest))
+spread write rest =
+    append_assoc (to_le_bytes w64 write.0) (to_le_bytes w64 (length write.1) ++ write.1) rest
+    ∙ ap (λ (l : List ℕ). to_le_bytes w64 write.0 ++ l) (append_assoc (to_le_bytes w64 (length write.1)) write.1 rest)
+
+same_entry : (v w : ℕ × List ℕ) (xs ys : List ℕ) → v.0 + length v.1 ≤ MAX_STORAGE_BYTES → w.0 + length w.1 ≤ MAX_STORAGE_BYTES → entry v ++ xs ≡ entry w ++ ys → (v ≡ w) × (xs ≡ ys)
+same_entry v w xs ys low high same =
+    let place = same_number v.0 w.0 _ _ (omega (arith, low)) (omega (arith, high)) (sym (spread v xs) ∙ same ∙ spread w ys) in
+    let count = same_number (length v.1) (length w.1) _ _ (omega (arith, low)) (omega (arith, high)) place.1 in
+    let bytes = same_parts (length v.1) v.1 w.1 xs ys refl (sym count.0) count.1 in
+    (ap (λ (n : ℕ). (n, v.1)) place.0 ∙ ap (λ (l : List ℕ). (w.0, l)) bytes.0, bytes.1)
+
+same_writes : (vs ws : Writes) → AreWithin vs → AreWithin ws → entries vs ≡ entries ws → vs ≡ ws
 same_writes [] [] p q same = refl
-same_writes [] (w ∷ ws) p q same = absurd (let sizes : 0 ≡ length (map place_and_bytes (w ∷ ws)) = ap length same in omega (arith, sizes))
-same_writes (v ∷ vs) [] p q same = absurd (let sizes : length (map place_and_bytes (v ∷ vs)) ≡ 0 = ap length same in omega (arith, sizes))
+same_writes [] (w ∷ ws) p q same = absurd (let sizes : 0 ≡ length (entries (w ∷ ws)) = ap length same in omega (arith, sizes))
+same_writes (v ∷ vs) [] p q same = absurd (let sizes : length (entries (v ∷ vs)) ≡ 0 = ap length same in omega (arith, sizes))
 same_writes (v ∷ vs) (w ∷ ws) p q same =
-    let first : place_and_bytes v ≡ place_and_bytes w = cc in
-    let rest : map place_and_bytes vs ≡ map place_and_bytes ws = cc in
-    ap (λ x. x ∷ vs) (same_write v w p.0 q.0 first) ∙ ap (λ (l : Writes). w ∷ l) (same_writes vs ws p.1 q.1 rest)
+    let first = same_entry v w (entries vs) (entries ws) p.0 q.0 same in
+    ap (λ x. x ∷ vs) first.0 ∙ ap (λ (l : Writes). w ∷ l) (same_writes vs ws p.1 q.1 first.1)
 
--- the stream of a journal, by its parts
-pub records_at : (key context : List ℕ) (writes : Writes) (journal rest prefix stream : List ℕ) (is : IsJournal key context writes journal) → rest ≡ drop 33 journal → prefix ≡ take 24 rest → stream ≡ drop 24 rest
-    → AreRecords is.version key prefix context (map place_and_bytes writes) stream
-records_at key context writes journal rest prefix stream is past head end =
-    let inside : rest ≡ is.prefix ++ is.stream = past ∙ ap (drop 33) is.are ∙ drop_at is.beginning (is.prefix ++ is.stream) 33 is.beginning_size in
-    let first : is.prefix ≡ prefix = sym (take_at is.prefix is.stream 24 is.prefix_size) ∙ ap (take 24) (sym inside) ∙ sym head in
-    let last : is.stream ≡ stream = sym (drop_at is.prefix is.stream 24 is.prefix_size) ∙ ap (drop 24) (sym inside) ∙ sym end in
-    subst (λ (l : List ℕ). AreRecords is.version key prefix context (map place_and_bytes writes) l) last
-    (subst (λ (l : List ℕ). AreRecords is.version key l context (map place_and_bytes writes) is.stream) first is.records)
+-- what is left behind some writes begins with no write, so the whole is of no writes
+pub no_writes : (done : Writes) (rest : List ℕ) (writes : Writes) → 0 < length rest → ((write : ℕ × List ℕ) (after : List ℕ) → write.0 + length write.1 ≤ MAX_STORAGE_BYTES → rest ≡ entry write ++ after → ⊥)
+    → AreWithin done → AreWithin writes → entries done ++ rest ≡ entries writes → ⊥
+no_writes [] rest [] some none p q same = omega (arith, some, ap length same)
+no_writes [] rest (w ∷ ws) some none p q same = none w (entries ws) q.0 same
+no_writes (v ∷ vs) rest [] some none p q same = let sizes : length (entries (v ∷ vs) ++ rest) ≡ 0 = ap length same in omega (arith, sizes)
+no_writes (v ∷ vs) rest (w ∷ ws) some none p q same =
+    no_writes vs rest ws some none p.1 q.1 (same_entry v w (entries vs ++ rest) (entries ws) p.0 q.0 (sym (append_assoc (entry v) (entries vs) rest) ∙ same)).1
+
+-- the parts of a journal
+long-mac : (key nonce bytes : List ℕ) → length (mac Aegis128L 32 key nonce bytes) ≡ 32
+long-mac key nonce bytes = length-mac Aegis128L 32 key nonce bytes (inl refl) (inr refl)
+
+pub framed_parts : (key context xs journal : List ℕ) (is : IsFramed key context xs journal) (beginning nonce content end : List ℕ) → length beginning ≡ 33 → length nonce ≡ 16 → length end ≡ 32
+    → journal ≡ beginning ++ (nonce ++ (content ++ end)) → (content ≡ xs) × (end ≡ mac Aegis128L 32 key nonce (authenticated context content))
+framed_parts key context xs journal is beginning nonce content end p q r are =
+    let tag : List ℕ = mac Aegis128L 32 key is.nonce (authenticated context xs) in
+    let first = same_parts 33 beginning is.beginning _ _ p is.beginning_size (sym are ∙ is.are) in
+    let second = same_parts 16 nonce is.nonce _ _ q is.nonce_size first.1 in
+    let long : length tag ≡ 32 = long-mac key is.nonce (authenticated context xs) in
+    let sizes : length xs ≡ length content = omega (arith, ap length second.1, r, long, length-append content end, length-append xs tag) in
+    let third = same_parts (length content) content xs end tag refl sizes second.1 in
+    (third.0, third.1 ∙ sym (ap (λ (l : List ℕ). mac Aegis128L 32 key l (authenticated context xs)) second.0) ∙ sym (ap (λ (l : List ℕ). mac Aegis128L 32 key nonce (authenticated context l)) third.0))
+
+pub length-framed : (key context content journal : List ℕ) → IsFramed key context content journal → 81 ≤ length journal
+length-framed key context content journal is =
+    let tag : List ℕ = mac Aegis128L 32 key is.nonce (authenticated context content) in
+    let long : length tag ≡ 32 = long-mac key is.nonce (authenticated context content) in
+    let beginning = is.beginning_size in let nonce = is.nonce_size in
+    omega (arith, ap length is.are, beginning, nonce, long, length-append is.beginning (is.nonce ++ (content ++ tag)), length-append is.nonce (content ++ tag), length-append content tag)
+
+one_content : (key context xs ys journal : List ℕ) → IsFramed key context xs journal → IsFramed key context ys journal → xs ≡ ys
+one_content key context xs ys journal p q =
+    (framed_parts key context ys journal q p.beginning p.nonce xs _ p.beginning_size p.nonce_size (long-mac key p.nonce (authenticated context xs)) p.are).0
 
 pub one_journal : (key context : List ℕ) (vs ws : Writes) (journal : List ℕ) → IsJournal key context vs journal → IsJournal key context ws journal → vs ≡ ws
-one_journal key context vs ws journal p q =
-    let rest : List ℕ = drop 33 journal in
-    let a = records_at key context vs journal rest (take 24 rest) (drop 24 rest) p refl refl refl in
-    let b = records_at key context ws journal rest (take 24 rest) (drop 24 rest) q refl refl refl in
-    same_writes vs ws p.within q.within
-    (one_record_stream (sealed key (take 24 rest) context) (sealed-is key (take 24 rest) context) p.version q.version (map place_and_bytes vs) (map place_and_bytes ws) (drop 24 rest) (drop 24 rest) [] [] a b refl).1
-
-pub length-journal : (key context : List ℕ) (writes : Writes) (journal : List ℕ) → IsJournal key context writes journal → 24 ≤ length journal
-length-journal key context writes journal is = omega (arith, ap length is.are, is.prefix_size, length-append is.beginning (is.prefix ++ is.stream), length-append is.prefix is.stream)
+one_journal key context vs ws journal p q = same_writes vs ws p.within q.within (one_content key context (entries vs) (entries ws) journal p.framed q.framed)
 
 pub empty_is_none : (key context : List ℕ) (writes : Writes) → IsJournal key context writes [] → ⊥
-empty_is_none key context writes is = let long : 24 ≤ 0 = length-journal key context writes [] is in omega (arith, long)
+empty_is_none key context writes is = let long : 81 ≤ 0 = length-framed key context (entries writes) [] is.framed in omega (arith, long)
+
+-- ---- the writes in the content of a journal
+
+pub if_found : {A : Type 0} (key context content journal : List ℕ) → IsFramed key context content journal → (found : Option (Vec (PendingWrite A) A))
+    → IfSome found (λ writes. content ≡ entries (writes_of writes.items)) → IfSome found (λ writes. IsJournal key context (writes_of writes.items) journal)
+if_found key context content journal framed None is = tt
+if_found key context content journal framed (Some writes) is = record { within = all_within writes.items; framed = subst (λ (l : List ℕ). IsFramed key context l journal) is framed }
+
+pub if_not_found : {X : Type 0} (key context content journal : List ℕ) → IsFramed key context content journal → (found : Option X)
+    → IfNone found ((writes : Writes) → AreWithin writes → content ≡ entries writes → ⊥) → IfNone found ((writes : Writes) → IsJournal key context writes journal → ⊥)
+if_not_found key context content journal framed None none = λ writes is. none writes is.within (one_content key context content (entries writes) journal framed is.framed)
+if_not_found key context content journal framed (Some x) none = tt
 
 -- ---- states
 
@@ -189,10 +235,6 @@ settled key context xs writes a_bytes b_bytes c_bytes storage storage' journal j
     }
 
 -- ---- what is known
-
-pub if_none_map : {X P Q : Type 0} (o : Option X) → (P → Q) → IfNone o P → IfNone o Q
-if_none_map None f p = f p
-if_none_map (Some x) f p = tt
 
 pub known_whole : (key context : List ℕ) (writes : Writes) (js : List ℕ) (a b : Option (List ℕ)) → IsJournal key context writes js → WritesAll a b writes → RecoversKnown key context (Some js) a b
 known_whole key context writes js None b is all = tt

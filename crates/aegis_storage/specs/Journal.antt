@@ -1,37 +1,50 @@
 -- The journal of writes, and what recovery makes of a storage by it.
-use Rattle.std.specs.Prelude.{◌≡◌, ℕ, ◌+◌, ◌≤◌, ◌⊎◌, List, [], ◌++◌, Option, None, Some, ⊤, length, map, take}
+use Rattle.std.specs.Prelude.{◌≡◌, ℕ, ◌+◌, ◌≤◌, ◌⊎◌, List, [], ◌++◌, Option, None, Some, ⊤, length, take}
 use Rattle.std.specs.Int.{to_le_bytes, w64}
-use Rattle.std.specs.List.{AllByRecursion}
-use Rattle.aegis.specs.declared.record.version.Version.{Version}
-use Rattle.aegis.specs.declared.record.version.Version.TheVariants.{Second}
-use Rattle.aegis.specs.Records.{AreRecords, records}
+use Rattle.std.specs.List.{AllByRecursion, flat_map}
+use Rattle.aegis_base.specs.Mac.{mac}
+use Rattle.aegis_base.specs.Variant.{Aegis128L}
+use Rattle.aegis_storage.specs.declared.journal.TheConstants.{MAX_JOURNAL_BYTES}
 use Rattle.aegis_storage.specs.declared.store.TheConstants.{MAX_STORAGE_BYTES}
 use Rattle.aegis_storage.specs.Disk.{Crashed, Disk, Writes, certain, after_writes}
 
--- the message of a write's record: its place, and then its bytes
-abbrev pub place_and_bytes : ℕ × List ℕ → List ℕ
-place_and_bytes write = to_le_bytes w64 write.0 ++ write.1
+-- a write in a journal: its place, its length and its bytes
+abbrev pub entry : ℕ × List ℕ → List ℕ
+entry write = to_le_bytes w64 write.0 ++ (to_le_bytes w64 (length write.1) ++ write.1)
+
+-- the writes in a journal, one after the other
+abbrev pub entries : Writes → List ℕ
+entries writes = flat_map entry writes
 
 -- no write passes the last place of a storage
 abbrev pub AreWithin : Writes → Type 0
 AreWithin writes = AllByRecursion (λ write. write.0 + length write.1 ≤ MAX_STORAGE_BYTES) writes
 
--- the journal of writes that `commit` makes
-abbrev pub journal_of : (key beginning prefix context : List ℕ) → Writes → List ℕ
-journal_of key beginning prefix context writes = beginning ++ (prefix ++ records Second key prefix context (map place_and_bytes writes))
+-- what the MAC of a journal is of: the context behind its length, and the writes
+abbrev pub authenticated : (context content : List ℕ) → List ℕ
+authenticated context content = to_le_bytes w64 (length context) ++ (context ++ content)
 
--- The bytes are a journal of these writes: a beginning, a prefix, and a whole stream under the prefix, the key and the
--- context.
-pub record IsJournal (key context : List ℕ) (writes : Writes) (bytes : List ℕ) : Type 0 where
+-- a journal: a beginning, a nonce, the writes, and the MAC
+abbrev pub framed : (key beginning nonce context content : List ℕ) → List ℕ
+framed key beginning nonce context content = beginning ++ (nonce ++ (content ++ mac Aegis128L 32 key nonce (authenticated context content)))
+
+-- the journal of writes that `commit` makes
+abbrev pub journal_of : (key beginning nonce context : List ℕ) → Writes → List ℕ
+journal_of key beginning nonce context writes = framed key beginning nonce context (entries writes)
+
+-- The bytes are a beginning, a nonce, this content, and its MAC under the nonce, the key and the context.
+pub record IsFramed (key context content bytes : List ℕ) : Type 0 where
   pub beginning : List ℕ
-  pub prefix : List ℕ
-  pub stream : List ℕ
-  pub version : Version
+  pub nonce : List ℕ
   pub beginning_size : length beginning ≡ 33
-  pub prefix_size : length prefix ≡ 24
+  pub nonce_size : length nonce ≡ 16
+  pub fits : length bytes ≤ MAX_JOURNAL_BYTES
+  pub are : bytes ≡ framed key beginning nonce context content
+
+-- The bytes are a journal of these writes.
+pub record IsJournal (key context : List ℕ) (writes : Writes) (bytes : List ℕ) : Type 0 where
   pub within : AreWithin writes
-  pub records : AreRecords version key prefix context (map place_and_bytes writes) stream
-  pub are : bytes ≡ beginning ++ (prefix ++ stream)
+  pub framed : IsFramed key context (entries writes) bytes
 
 -- Recovery of a storage that holds `old`, by what the journal holds, gives `new`.
 pub record IsRecovered (key context journal old new : List ℕ) : Type 0 where

@@ -6,10 +6,10 @@ ghost use Rattle.aegis_storage.specs.Journal.{IsAtRest, KeepsBeginning, Recovers
 ghost use Rattle.aegis_storage.specs.Pending.{writes_of};
 
 use crate::calls::{empty, write_and_sync, write_journal};
-use crate::journal::{BEGINNING_BYTES, PREFIX_BYTES, journal_bytes};
+use crate::journal::{BEGINNING_BYTES, NONCE_BYTES, journal_bytes};
 use crate::pending::PendingWrite;
 use crate::store::Storage;
-use aegis::aegis256::Key;
+use aegis::aegis128l::Key;
 use aegis::record::MAX_CONTEXT_BYTES;
 use std::alloc::Allocator;
 use std::io;
@@ -18,18 +18,17 @@ use std::io::ErrorKind;
 /// Makes the writes, the first of them first, so that after a crash [`crate::recover`] makes all of them or none.
 ///
 /// The storage and the journal must be at rest: all that they hold is synced, and the journal is empty, as `commit` and
-/// `recover` leave them with `Ok`. The writes are sealed into the journal, of which the beginning is written and synced
-/// first, and then the rest; then they are made and synced, and then the journal is emptied and synced. With no writes
-/// nothing is called.
+/// `recover` leave them with `Ok`. The journal authenticates the writes and does not encrypt them. First its beginning
+/// is written and synced, and then the rest; then the writes are made and synced, and then the journal is emptied and
+/// synced. With no writes nothing is called.
 ///
-/// Under one key a prefix must be used for one journal only. The context names the storage; it has at most
-/// [`MAX_CONTEXT_BYTES`]. The beginning is what the journal begins with, in plaintext. Whatever a crash leaves, a
-/// journal with more than [`BEGINNING_BYTES`] begins with it.
+/// Under one key a nonce must be used for one journal only. The context names the storage; it has at most
+/// [`MAX_CONTEXT_BYTES`]. The beginning is what the journal begins with. Whatever a crash leaves, a journal with more
+/// than [`BEGINNING_BYTES`] begins with it.
 ///
 /// After an error, call `recover` before anything else. The error is that of a call, or `AlreadyExists` if the journal
-/// is not empty, which changes nothing, or `InvalidInput` if a write has more than
-/// [`aegis::record::MAX_MESSAGE_BYTES`] less 8 bytes or the journal would be longer than a record stream may be, or
-/// `OutOfMemory`. Memory is taken for a journal three times over.
+/// is not empty, which changes nothing, or `InvalidInput` if the journal would have more than
+/// [`crate::MAX_JOURNAL_BYTES`], or `OutOfMemory`. Memory is taken for the journal, and for a copy while it grows.
 #[tactic(auto, using(crate::proofs::Beginnings::empty_beginning, crate::proofs::Journals::at_rest_recovers))]
 pub fn commit<S: Storage, J: Storage, A: Allocator + Copy>(
     alloc: A,
@@ -37,7 +36,7 @@ pub fn commit<S: Storage, J: Storage, A: Allocator + Copy>(
     journal: &mut J,
     key: &Key,
     beginning: &[u8; BEGINNING_BYTES],
-    prefix: &[u8; PREFIX_BYTES],
+    nonce: &[u8; NONCE_BYTES],
     context: &[u8],
     writes: &[PendingWrite<A>],
 ) -> io::Result<()>
@@ -61,7 +60,7 @@ pub fn commit<S: Storage, J: Storage, A: Allocator + Copy>(
     if journal.size()? != 0 {
         return Err(io::Error::from(ErrorKind::AlreadyExists));
     }
-    let content = journal_bytes(alloc, key, beginning, prefix, context, writes)?;
+    let content = journal_bytes(alloc, key, beginning, nonce, context, writes)?;
     write_journal(journal, &content)?;
     write_and_sync(storage, writes)?;
     empty(journal)

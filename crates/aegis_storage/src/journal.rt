@@ -1,20 +1,18 @@
-//! The bytes of a journal: a beginning of the caller's, 24 bytes of a prefix, and a record stream with a record for
-//! each write.
+//! The bytes of a journal: a beginning of the caller's, a nonce, the writes, each as its place, its length and its
+//! bytes, and their MAC. Nothing is encrypted.
 
-ghost use Rattle.std.specs.Prelude.{◌≡◌, ◌≢◌, ◌+◌, ◌<◌, ◌≤◌, IfNone, IfOk, IfSome, List, length, map, vec_items, ℕ};
-ghost use Rattle.aegis.specs.RecordStream as stream;
-ghost use Rattle.aegis.specs.declared.record.version.Version.TheVariants.{Second};
+ghost use Rattle.std.specs.Prelude.{◌≡◌, ◌≢◌, ◌+◌, ◌<◌, ◌≤◌, ◌^◌, ◌++◌, [], IfNone, IfOk, IfSome, List, OnOk, length, ℕ};
+ghost use Rattle.std.specs.Int.{to_le_bytes, w64};
+ghost use Rattle.aegis_base.specs.Context.{Stands};
+ghost use Rattle.aegis_base.specs.Variant.{Aegis128L};
 ghost use Rattle.aegis_storage.specs.Disk.{Writes};
-ghost use Rattle.aegis_storage.specs.Journal.{AreWithin, IsJournal, journal_of, place_and_bytes};
+ghost use Rattle.aegis_storage.specs.Journal.{AreWithin, IsFramed, IsJournal, authenticated, entries, entry, journal_of};
 ghost use Rattle.aegis_storage.specs.Pending.{writes_of};
 
 use crate::pending::PendingWrite;
 use crate::store::MAX_STORAGE_BYTES;
-use aegis::aegis256::Key;
-use aegis::record::{
-    MAX_CONTEXT_BYTES, MAX_MESSAGE_BYTES, RecordError, open_records, records_len, seal_records,
-};
-use aegis_base::slices;
+use aegis::aegis128l::{Aegis128LMac, Key, Nonce};
+use aegis::record::MAX_CONTEXT_BYTES;
 use std::alloc::{AllocError, Allocator};
 use std::io;
 use std::io::ErrorKind;
@@ -23,44 +21,46 @@ use std::io::ErrorKind;
 /// journal can be told from that of another storage also if it is torn.
 pub const BEGINNING_BYTES: usize = 33;
 
-/// How many bytes the prefix has, which comes next.
-pub const PREFIX_BYTES: usize = 24;
+/// How many bytes the nonce has, which comes next.
+pub const NONCE_BYTES: usize = 16;
 
-// How many bytes the place has, with which a message begins.
-const PLACE_BYTES: usize = 8;
+/// How many bytes a journal has at most, 2^60.
+pub const MAX_JOURNAL_BYTES: usize = 1_152_921_504_606_846_976;
 
-// Returns the message of a write's record: the place, least byte first, and the bytes.
-fn message_of<A: Allocator + Copy>(
-    alloc: A,
-    write: &PendingWrite<A>,
-) -> Result<Vec<u8, A>, AllocError>
-    ensures { IfOk result
-        (λ made. made.items ≡ place_and_bytes (write.now.place, write.now.bytes.items)) }
+// How many bytes the MAC has, with which a journal ends.
+const MAC_BYTES: usize = 32;
+
+// How many bytes a place or a length has.
+const NUMBER_BYTES: usize = 8;
+
+// Returns the MAC that has taken in the context behind its length, and the writes of a journal.
+fn mac_of(key: &Key, nonce: &Nonce, context: &[u8], content: &[u8]) -> Aegis128LMac<32>
+    requires context { length context.now ≤ MAX_CONTEXT_BYTES }
+    requires content { length content.now ≤ MAX_JOURNAL_BYTES }
+    ensures { Stands Aegis128L result key.now nonce.now []
+        (authenticated context.now content.now) }
 {
-    let mut message = Vec::new(alloc);
-    message.extend_from_slice(&write.place.to_le_bytes())?;
-    message.extend_from_slice(&write.bytes)?;
-    Ok(message)
+    let mut mac = Aegis128LMac::new_with_nonce(key, nonce);
+    mac.update(&(context.len() as u64).to_le_bytes());
+    mac.update(context);
+    mac.update(content);
+    mac
 }
 
-// Returns the messages of the writes. The error is that one would be too long, or want of memory.
-fn messages_of<A: Allocator + Copy>(
-    alloc: A,
+// Appends the writes.
+fn append_writes<A: Allocator>(
+    journal: &mut Vec<u8, A>,
     writes: &[PendingWrite<A>],
-) -> io::Result<Vec<Vec<u8, A>, A>>
-    ensures messages { IfOk result
-        (λ made. map vec_items made.items ≡ map place_and_bytes (writes_of writes.now)) }
-    ensures within { IfOk result (λ made. stream.AreWithin Second (map vec_items made.items)) }
+) -> Result<(), AllocError>
+    ensures { OnOk result
+        (journal.new.items ≡ journal.old.items ++ entries (writes_of writes.now)) }
 {
-    let mut messages = Vec::with_capacity(alloc, writes.len())?;
     for write in writes {
-        let message = message_of(alloc, write)?;
-        if message.len() > MAX_MESSAGE_BYTES {
-            return Err(io::Error::from(ErrorKind::InvalidInput));
-        }
-        messages.push(message)?;
+        journal.extend_from_slice(&write.place.to_le_bytes())?;
+        journal.extend_from_slice(&(write.bytes.len() as u64).to_le_bytes())?;
+        journal.extend_from_slice(&write.bytes)?;
     }
-    Ok(messages)
+    Ok(())
 }
 
 /// Returns the journal of the writes. The error is that it would be too long, or want of memory.
@@ -68,71 +68,112 @@ pub fn journal_bytes<A: Allocator + Copy>(
     alloc: A,
     key: &Key,
     beginning: &[u8; BEGINNING_BYTES],
-    prefix: &[u8; PREFIX_BYTES],
+    nonce: &Nonce,
     context: &[u8],
     writes: &[PendingWrite<A>],
 ) -> io::Result<Vec<u8, A>>
-    requires some { 0 < length writes.now }
-    requires context_within { length context.now ≤ MAX_CONTEXT_BYTES }
+    requires { length context.now ≤ MAX_CONTEXT_BYTES }
     ensures journal { IfOk result (λ made. made.items
-        ≡ journal_of key.now beginning.now prefix.now context.now (writes_of writes.now)) }
+        ≡ journal_of key.now beginning.now nonce.now context.now (writes_of writes.now)) }
     ensures whole { IfOk result
         (λ made. IsJournal key.now context.now (writes_of writes.now) made.items) }
-    ensures size { IfOk result (λ made. length made.items ≤ MAX_STORAGE_BYTES) }
+    ensures size { IfOk result (λ made. length made.items ≤ MAX_JOURNAL_BYTES) }
 {
-    let messages = messages_of(alloc, writes)?;
-    let messages = slices(alloc, &messages)?;
-    if records_len(&messages).is_none() {
-        return Err(io::Error::from(ErrorKind::InvalidInput));
-    }
-    let Ok(stream) = seal_records(alloc, key, prefix, context, &messages) else {
-        return Err(io::Error::from(ErrorKind::OutOfMemory));
-    };
     let mut journal = Vec::new(alloc);
     journal.extend_from_slice(beginning)?;
-    journal.extend_from_slice(prefix)?;
-    journal.extend_from_slice(&stream)?;
+    journal.extend_from_slice(nonce)?;
+    append_writes(&mut journal, writes)?;
+    if journal.len() > MAX_JOURNAL_BYTES - MAC_BYTES {
+        return Err(io::Error::from(ErrorKind::InvalidInput));
+    }
+    let (_start, content) = journal.split_at(BEGINNING_BYTES + NONCE_BYTES);
+    let mac = mac_of(key, nonce, context, content).finalize();
+    journal.extend_from_slice(&mac)?;
     Ok(journal)
 }
 
-// Returns the write of a message, or `None` if it is the message of no write.
-fn write_of<A: Allocator>(alloc: A, message: &[u8]) -> Result<Option<PendingWrite<A>>, AllocError>
-    ensures some { IfOk result (λ found. IfSome found
-        (λ write. message.now ≡ place_and_bytes (write.place, write.bytes.items))) }
-    ensures none { IfOk result (λ found. IfNone found ((write : ℕ × List ℕ)
-        → write.0 + length write.1 ≤ MAX_STORAGE_BYTES → message.now ≢ place_and_bytes write)) }
+// Returns the content of a journal, or `None` if the bytes are none under this key and context.
+fn content_of<'a>(key: &Key, context: &[u8], journal: &'a [u8]) -> Option<&'a [u8]>
+    requires { length context.now ≤ MAX_CONTEXT_BYTES }
+    ensures some { IfSome result
+        (λ content. IsFramed key.now context.now content.now journal.now) }
+    ensures none { IfNone result ((content : List ℕ)
+        → IsFramed key.now context.now content journal.now → ⊥) }
 {
-    if message.len() < PLACE_BYTES {
-        return Ok(None);
+    if journal.len() < BEGINNING_BYTES + NONCE_BYTES + MAC_BYTES
+        || journal.len() > MAX_JOURNAL_BYTES
+    {
+        return None;
     }
-    let (head, bytes) = message.split_at(PLACE_BYTES);
-    let mut place = [0; PLACE_BYTES];
-    place.copy_from_slice(head);
-    let place = u64::from_le_bytes(place);
-    if bytes.len() as u64 > MAX_STORAGE_BYTES || place > MAX_STORAGE_BYTES - bytes.len() as u64 {
-        return Ok(None);
+    let (_beginning, rest) = journal.split_at(BEGINNING_BYTES);
+    let (head, rest) = rest.split_at(NONCE_BYTES);
+    let (content, tail) = rest.split_at(rest.len() - MAC_BYTES);
+    let mut nonce = [0; NONCE_BYTES];
+    nonce.copy_from_slice(head);
+    let mut mac = [0; MAC_BYTES];
+    mac.copy_from_slice(tail);
+    match mac_of(key, &nonce, context, content).verify(&mac) {
+        Ok(()) => Some(content),
+        Err(_) => None,
     }
-    Ok(Some(PendingWrite::new(alloc, place, bytes)?))
 }
 
-// Returns the writes of the messages, or `None` if one of them is the message of no write.
+// Returns the number with which the bytes begin, least byte first, and the bytes after it.
+fn number_and_rest(bytes: &[u8]) -> Option<(u64, &[u8])>
+    ensures some { IfSome result
+        (λ found. bytes.now ≡ to_le_bytes w64 found.0 ++ found.1.now) }
+    ensures none { IfNone result (length bytes.now < 8) }
+{
+    if bytes.len() < NUMBER_BYTES {
+        return None;
+    }
+    let (head, rest) = bytes.split_at(NUMBER_BYTES);
+    let mut number = [0; NUMBER_BYTES];
+    number.copy_from_slice(head);
+    Some((u64::from_le_bytes(number), rest))
+}
+
+// Returns the write with which the content of a journal begins, and the bytes after it, or `None` if there is none.
+fn write_and_rest<'a, A: Allocator>(
+    alloc: A,
+    content: &'a [u8],
+) -> Result<Option<(PendingWrite<A>, &'a [u8])>, AllocError>
+    ensures some { IfOk result (λ found. IfSome found (λ first. content.now
+        ≡ entry (first.0.place, first.0.bytes.items) ++ first.1.now)) }
+    ensures none { IfOk result (λ found. IfNone found ((write : ℕ × List ℕ) (rest : List ℕ)
+        → write.0 + length write.1 ≤ MAX_STORAGE_BYTES → content.now ≢ entry write ++ rest)) }
+{
+    let Some((place, rest)) = number_and_rest(content) else {
+        return Ok(None);
+    };
+    let Some((count, rest)) = number_and_rest(rest) else {
+        return Ok(None);
+    };
+    if count > rest.len() as u64 || place > MAX_STORAGE_BYTES - count {
+        return Ok(None);
+    }
+    let (bytes, rest) = rest.split_at(count as usize);
+    Ok(Some((PendingWrite::new(alloc, place, bytes)?, rest)))
+}
+
+// Returns the writes of the content of a journal, or `None` if it is that of no writes.
 fn writes_in<A: Allocator + Copy>(
     alloc: A,
-    messages: &[Vec<u8, A>],
+    content: &[u8],
 ) -> Result<Option<Vec<PendingWrite<A>, A>>, AllocError>
     ensures some { IfOk result (λ found. IfSome found
-        (λ writes. map vec_items messages.now ≡ map place_and_bytes (writes_of writes.items))) }
-    ensures within { IfOk result (λ found. IfSome found
-        (λ writes. AreWithin (writes_of writes.items))) }
+        (λ writes. content.now ≡ entries (writes_of writes.items))) }
     ensures none { IfOk result (λ found. IfNone found ((writes : Writes)
-        → AreWithin writes → map vec_items messages.now ≢ map place_and_bytes writes)) }
+        → AreWithin writes → content.now ≢ entries writes)) }
 {
-    let mut writes = Vec::with_capacity(alloc, messages.len())?;
-    for message in messages {
-        let Some(write) = write_of(alloc, message)? else {
+    let mut writes = Vec::new(alloc);
+    let mut rest = content;
+    'writes: while !rest.is_empty() {
+        let Some((write, after)) = write_and_rest(alloc, rest)? else {
             return Ok(None);
         };
         writes.push(write)?;
+        rest = after;
     }
     Ok(Some(writes))
 }
@@ -151,18 +192,8 @@ pub fn journaled_writes<A: Allocator + Copy>(
     ensures none { IfOk result (λ found. IfNone found ((writes : Writes)
         → IsJournal key.now context.now writes journal.now → ⊥)) }
 {
-    if journal.len() < BEGINNING_BYTES + PREFIX_BYTES {
-        return Ok(None);
-    }
-    let (_beginning, rest) = journal.split_at(BEGINNING_BYTES);
-    let (head, stream) = rest.split_at(PREFIX_BYTES);
-    let mut prefix = [0; PREFIX_BYTES];
-    prefix.copy_from_slice(head);
-    match open_records(alloc, key, &prefix, context, stream) {
-        Ok(messages) => Ok(writes_in(alloc, &messages)?),
-        Err(error) => match error {
-            RecordError::OutOfMemory => Err(io::Error::from(ErrorKind::OutOfMemory)),
-            _ => Ok(None),
-        },
+    match content_of(key, context, journal) {
+        Some(content) => Ok(writes_in(alloc, content)?),
+        None => Ok(None),
     }
 }

@@ -1,8 +1,8 @@
 //! Storages, and writes that are all there after a crash, or none of them.
 //!
 //! A [`Storage`] holds bytes that are read and written at any place: a vector, or a file. [`commit`] makes writes, by
-//! way of a second storage, the journal; after a crash [`recover`] makes all of them or none. It stands on
-//! [`aegis::record`], which seals the journal.
+//! way of a second storage, the journal; after a crash [`recover`] makes all of them or none. The journal is
+//! authenticated by a MAC of [`aegis::aegis128l`], and not encrypted.
 //!
 //! What a crash may leave is a definition, `Crashed` of `specs/Disk.antt`: the synced bytes, but where a write was to
 //! come since any bytes, and one of the sizes. What is promised of it is `RecoversUnlessForged` of
@@ -13,7 +13,7 @@
 //! let mut writes = Vec::new(alloc);
 //! writes.push(PendingWrite::new(alloc, 0, b"both of these")?)?;
 //! writes.push(PendingWrite::new(alloc, 100, b"or none")?)?;
-//! commit(alloc, &mut storage, &mut journal, &key, &beginning, &prefix, b"accounts", &writes)?;
+//! commit(alloc, &mut storage, &mut journal, &key, &beginning, &nonce, b"accounts", &writes)?;
 //! ```
 #![tactic(auto)]
 
@@ -28,7 +28,7 @@ mod store;
 
 pub use atomic::commit;
 pub use calls::read_all;
-pub use journal::{BEGINNING_BYTES, PREFIX_BYTES, journaled_writes};
+pub use journal::{BEGINNING_BYTES, MAX_JOURNAL_BYTES, NONCE_BYTES, journaled_writes};
 pub use pending::PendingWrite;
 pub use recovery::recover;
 pub use store::{MAX_STORAGE_BYTES, NoJournal, Storage};

@@ -8,7 +8,7 @@ ghost use Rattle.aegis_storage.specs.Journal.{GivesOneOf, IsNoForgery, KeepsBegi
 use crate::calls::{empty, read_all, write_and_sync};
 use crate::journal::journaled_writes;
 use crate::store::Storage;
-use aegis::aegis256::Key;
+use aegis::aegis128l::Key;
 use aegis::record::MAX_CONTEXT_BYTES;
 use std::alloc::Allocator;
 use std::io;

@@ -6,11 +6,11 @@ use aegis_storage::{PendingWrite, Storage};
 use std::alloc::Global;
 use std::io;
 
-const KEY: [u8; 32] = [7; 32];
+const KEY: [u8; 16] = [7; 16];
 
 const FRONT: [u8; 33] = [5; 33];
 
-const PREFIX: [u8; 24] = [9; 24];
+const NONCE: [u8; 16] = [9; 16];
 
 const CONTEXT: [u8; 4] = *b"test";
 

@@ -13,6 +13,8 @@ pub enum Error {
     Header,
     /// The journal belongs to another file, or to another state of this one, or the file of that name is no journal.
     Journal,
+    /// The journal is of the first format, which this version does not apply. Open the file with the version that wrote it.
+    OldJournal,
     /// Authentication of the page of this number fails.
     Damaged(u64),
     /// The contents would have more than [`MAX_SIZE`](super::MAX_SIZE) bytes, or 2^64 - 1 commits were made.
@@ -43,6 +45,9 @@ impl fmt::Display for Error {
             Error::Header => "no header that was written by this algorithm and under this key",
             Error::Journal => {
                 "the journal of another file, or of another state of this one, or no journal"
+            }
+            Error::OldJournal => {
+                "a journal of an older format: open the file with the version that wrote it"
             }
             Error::TooLong => "too long",
             Error::ChunkSize => "a chunk has 256 to 65,536 bytes",

@@ -1,18 +1,21 @@
 //! Writes that are all there after a crash, or none of them, by way of a journal.
 //!
-//! The proved crate `aegis_storage` writes the same bytes between the same syncs. Here neighbouring writes are one call.
+//! A journal has the writes in the clear, and their MAC. The proved crate `aegis_storage` writes the same bytes between the same
+//! syncs. Here neighbouring writes are one call.
 
 use super::io::RafIo;
 use super::layout::PLAINTEXT_HEADER_BYTES;
-use crate::records::{HEADER_BYTES, Opener, RECORD_BYTES, Sealer};
+use crate::aegis128l::Aegis128LMac;
 use crate::wipe::wipe;
 use alloc::vec::Vec;
 use std::io;
 
-/// The length of the prefix of the record stream.
-pub const PREFIX_BYTES: usize = 24;
-/// The length of the place with which a message begins.
-const PLACE_BYTES: usize = 8;
+/// The length of the key and of the nonce of a journal's MAC.
+pub const JOURNAL_KEY_BYTES: usize = 16;
+/// The length of the MAC, with which a journal ends.
+const MAC_BYTES: usize = 32;
+/// The length of a place or of a length.
+const NUMBER_BYTES: usize = 8;
 /// The last byte of a file lies below this place.
 const MAX_BYTES: u64 = i64::MAX as u64;
 
@@ -22,11 +25,11 @@ pub struct PendingWrite {
     pub bytes: Vec<u8>,
 }
 
-/// The key, the first bytes and the prefix of a journal.
+/// The key, the first bytes and the nonce of a journal.
 pub struct JournalSeal {
-    pub key: [u8; 32],
+    pub key: [u8; JOURNAL_KEY_BYTES],
     pub start: [u8; PLAINTEXT_HEADER_BYTES],
-    pub prefix: [u8; PREFIX_BYTES],
+    pub nonce: [u8; JOURNAL_KEY_BYTES],
 }
 
 impl Drop for JournalSeal {
@@ -93,59 +96,72 @@ pub fn empty(journal: &mut impl RafIo) -> io::Result<()> {
     journal.sync()
 }
 
-/// Returns the journal of one or more writes: its first bytes, the prefix, and a record stream with a record for each write.
+/// Returns the MAC of the writes in a journal, after the length of its context, which is empty.
+fn mac_of(
+    key: &[u8; JOURNAL_KEY_BYTES],
+    nonce: &[u8; JOURNAL_KEY_BYTES],
+    content: &[u8],
+) -> Aegis128LMac<MAC_BYTES> {
+    let mut mac = Aegis128LMac::new_with_nonce(key, nonce);
+    mac.update(&[0; NUMBER_BYTES]);
+    mac.update(content);
+    mac
+}
+
+/// Returns the journal of writes: its first bytes, the nonce, each write as its place, its length and its bytes, and the MAC.
 fn journal_bytes(seal: &JournalSeal, writes: &[PendingWrite]) -> Vec<u8> {
-    const WITHIN: &str = "a page is not too long for a record";
-    let mut sealer = Sealer::new(&seal.key, &seal.prefix, &[]).expect("the context is empty");
-    let bytes_of = |write: &PendingWrite| PLACE_BYTES + write.bytes.len() + RECORD_BYTES;
+    let bytes_of = |write: &PendingWrite| 2 * NUMBER_BYTES + write.bytes.len();
     let length: usize = writes.iter().map(bytes_of).sum();
-    let mut journal =
-        Vec::with_capacity(PLAINTEXT_HEADER_BYTES + PREFIX_BYTES + HEADER_BYTES + length);
+    let start = PLAINTEXT_HEADER_BYTES + JOURNAL_KEY_BYTES;
+    let mut journal = Vec::with_capacity(start + length + MAC_BYTES);
     journal.extend_from_slice(&seal.start);
-    journal.extend_from_slice(&seal.prefix);
-    journal.extend_from_slice(&sealer.header());
-    let message = |write: &PendingWrite| [&write.place.to_le_bytes(), &write.bytes[..]].concat();
-    let (last, others) = writes.split_last().expect("there is a write");
-    for write in others {
-        let sealed = sealer.seal_next(&message(write), &mut journal);
-        sealed.expect(WITHIN);
+    journal.extend_from_slice(&seal.nonce);
+    for write in writes {
+        journal.extend_from_slice(&write.place.to_le_bytes());
+        journal.extend_from_slice(&(write.bytes.len() as u64).to_le_bytes());
+        journal.extend_from_slice(&write.bytes);
     }
-    let sealed = sealer.seal_last(&message(last), &mut journal);
-    sealed.expect(WITHIN);
+    let mac = mac_of(&seal.key, &seal.nonce, &journal[start..]).finalize();
+    journal.extend_from_slice(&mac);
     journal
 }
 
-/// Returns the writes of a journal, or `None` if the bytes are no whole journal under this key.
-pub fn journaled_writes(key: &[u8; 32], journal: &[u8]) -> Option<Vec<PendingWrite>> {
+/// Returns the writes of a journal, or `None` if the bytes are no whole journal under this key. Its MAC is verified first.
+pub fn journaled_writes(
+    key: &[u8; JOURNAL_KEY_BYTES],
+    journal: &[u8],
+) -> Option<Vec<PendingWrite>> {
     let (_start, rest) = journal.split_first_chunk::<PLAINTEXT_HEADER_BYTES>()?;
-    let (prefix, rest) = rest.split_first_chunk::<PREFIX_BYTES>()?;
-    let (header, mut rest) = rest.split_first_chunk::<HEADER_BYTES>()?;
-    let mut opener = Opener::new(key, prefix, &[], header).ok()?;
+    let (nonce, rest) = rest.split_first_chunk::<JOURNAL_KEY_BYTES>()?;
+    let (mut content, mac) = rest.split_last_chunk::<MAC_BYTES>()?;
+    mac_of(key, nonce, content).verify(mac).ok()?;
     let mut writes = Vec::new();
-    while !opener.has_ended() {
-        let opened = opener.open_next(rest).ok()?;
-        writes.push(write_of(&opened.message)?);
-        rest = opened.rest;
+    while !content.is_empty() {
+        let (write, rest) = first_write(content)?;
+        writes.push(write);
+        content = rest;
     }
-    opener.finish(rest).ok()?;
     Some(writes)
 }
 
-/// Returns the write of a message, or `None` if it is that of no write.
-fn write_of(message: &[u8]) -> Option<PendingWrite> {
-    let (place, bytes) = message.split_first_chunk::<PLACE_BYTES>()?;
-    let place = u64::from_le_bytes(*place);
-    let end = place.checked_add(bytes.len() as u64)?;
-    (end <= MAX_BYTES).then(|| PendingWrite {
-        place,
-        bytes: bytes.to_vec(),
-    })
+/// Returns the write with which the content of a journal begins, and the bytes after it, or `None` if there is none.
+fn first_write(content: &[u8]) -> Option<(PendingWrite, &[u8])> {
+    let (place, rest) = content.split_first_chunk::<NUMBER_BYTES>()?;
+    let (length, rest) = rest.split_first_chunk::<NUMBER_BYTES>()?;
+    let (place, length) = (u64::from_le_bytes(*place), u64::from_le_bytes(*length));
+    let end = place.checked_add(length)?;
+    if end > MAX_BYTES || length > rest.len() as u64 {
+        return None;
+    }
+    let (bytes, rest) = rest.split_at(length as usize);
+    let bytes = bytes.to_vec();
+    Some((PendingWrite { place, bytes }, rest))
 }
 
 #[cfg(test)]
 mod tests {
     use super::{
-        JournalSeal, PLAINTEXT_HEADER_BYTES, PREFIX_BYTES, PendingWrite, journal_bytes,
+        JOURNAL_KEY_BYTES, JournalSeal, PLAINTEXT_HEADER_BYTES, PendingWrite, journal_bytes,
         journaled_writes,
     };
     use crate::wipe::tests::left_of;
@@ -155,20 +171,20 @@ mod tests {
     #[test]
     fn a_seal_that_was_dropped() {
         let seal = JournalSeal {
-            key: [1; 32],
+            key: [1; JOURNAL_KEY_BYTES],
             start: [2; PLAINTEXT_HEADER_BYTES],
-            prefix: [3; PREFIX_BYTES],
+            nonce: [3; JOURNAL_KEY_BYTES],
         };
-        assert_eq!(left_of(seal, |seal| &seal.key), [0; 32]);
+        assert_eq!(left_of(seal, |seal| &seal.key), [0; JOURNAL_KEY_BYTES]);
     }
 
     /// A journal opens if its writes are within the longest file.
     #[test]
     fn places() {
         let seal = JournalSeal {
-            key: [1; 32],
+            key: [1; JOURNAL_KEY_BYTES],
             start: [2; PLAINTEXT_HEADER_BYTES],
-            prefix: [3; PREFIX_BYTES],
+            nonce: [3; JOURNAL_KEY_BYTES],
         };
         for (place, is_within) in [
             (0, true),

@@ -1,6 +1,7 @@
 //! How a file is laid out: its header and its pages, which the library seals and opens.
 
 use super::Algorithm;
+use super::journal::JOURNAL_KEY_BYTES;
 use crate::exports::PageHeader;
 use crate::wipe::wipe;
 
@@ -18,7 +19,9 @@ pub const PLAINTEXT_HEADER_BYTES: usize = 33;
 const HEADER_PLAINTEXT_BYTES: usize = 16;
 
 const MAGIC: [u8; 4] = *b"AGP1";
-const JOURNAL_MAGIC: [u8; 4] = *b"AGPJ";
+const JOURNAL_MAGIC: [u8; 4] = *b"AGJ2";
+/// What a journal of the first format begins with, which was an encrypted record stream.
+const OLD_JOURNAL_MAGIC: [u8; 4] = *b"AGPJ";
 
 /// The key, the page size and the id of a file. The key is overwritten when it is dropped.
 pub struct Layout<A: Algorithm> {
@@ -139,8 +142,8 @@ pub fn header_bytes<A: Algorithm>(header_block: &[u8; HEADER_BLOCK_BYTES]) -> &[
 
 /// Returns the MAC, under the key and the nonce whose bytes are all 255, of the first bytes of a journal: the key of the
 /// journals of all files under that key.
-pub fn journal_key<A: Algorithm>(key: &A::Key) -> [u8; 32] {
-    let mut mac = [0; 32];
+pub fn journal_key<A: Algorithm>(key: &A::Key) -> [u8; JOURNAL_KEY_BYTES] {
+    let mut mac = [0; JOURNAL_KEY_BYTES];
     let nonce = commitment_nonce::<A>();
     let answer = A::EXPORTS.mac(&JOURNAL_MAGIC, nonce.as_ref(), key.as_ref(), &mut mac);
     assert_eq!(answer, Ok(()), "the lengths are right");
@@ -158,6 +161,11 @@ pub fn commitment_nonce<A: Algorithm>() -> A::Nonce {
 /// before it writes any after them, so a longer journal begins with them after a crash.
 pub fn is_of_another(start: &[u8; PLAINTEXT_HEADER_BYTES], journal: &[u8]) -> bool {
     journal.len() > PLAINTEXT_HEADER_BYTES && !journal.starts_with(start)
+}
+
+/// Returns whether a journal is of the first format, and has more than its first bytes.
+pub fn is_old(journal: &[u8]) -> bool {
+    journal.len() > PLAINTEXT_HEADER_BYTES && journal.starts_with(&OLD_JOURNAL_MAGIC)
 }
 
 #[cfg(test)]

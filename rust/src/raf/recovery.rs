@@ -3,7 +3,7 @@
 use super::io::{RafIo, read_all};
 use super::journal::{PendingWrite, empty, journaled_writes, write_and_sync};
 use super::layout::{
-    HEADER_BLOCK_BYTES, Layout, header_bytes, is_of_another, journal_key, open_header,
+    HEADER_BLOCK_BYTES, Layout, header_bytes, is_of_another, is_old, journal_key, open_header,
 };
 use super::{Algorithm, Error, Result};
 use crate::exports::PageHeader;
@@ -15,7 +15,8 @@ use std::io;
 /// - A complete journal under this key is written to the file and emptied. The file has no header then, or its header is the
 ///   first or the last one of the commit, byte for byte.
 /// - A torn journal is emptied if the file has a header and the journal begins as those of this file do, or has no record.
-/// - Otherwise nothing is changed, and the error is [`Error::Journal`] or [`Error::Header`].
+/// - Otherwise nothing is changed, and the error is [`Error::Journal`] or [`Error::Header`], or [`Error::OldJournal`] if the journal
+///   is of the first format.
 pub fn recover<A: Algorithm>(
     io: &mut impl RafIo,
     journal: &mut impl RafIo,
@@ -55,10 +56,12 @@ fn check_journal<A: Algorithm>(
     writes: Option<&[PendingWrite]>,
     journal: &[u8],
 ) -> Result<()> {
+    let is_old = writes.is_none() && is_old(journal);
+    let named = |error| if is_old { Error::OldJournal } else { error };
     let found = header_block
         .and_then(|header_block| Some((header_block, open_header::<A>(key, header_block)?)));
     let Some((header_block, header)) = found else {
-        return writes.map(|_| ()).ok_or(Error::Header);
+        return writes.map(|_| ()).ok_or(named(Error::Header));
     };
     let start = Layout::<A>::of(key, &header).journal_start();
     let is_its_own = match writes {
@@ -68,7 +71,7 @@ fn check_journal<A: Algorithm>(
     if is_its_own {
         Ok(())
     } else {
-        Err(Error::Journal)
+        Err(named(Error::Journal))
     }
 }
 

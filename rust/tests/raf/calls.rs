@@ -416,7 +416,7 @@ fn a_source_of_random_bytes_that_fails() {
             .create(disks.0.clone(), &KEY);
         assert!(matches!(refused, Err(Error::Io(_))));
     }
-    // The nonces of two pages and of the header, and the prefix.
+    // The nonces of two pages and of the header, and that of the journal.
     for left in 0..2 {
         let mut file = RafBuilder::<Aegis256>::new()
             .rng(FailingRandom(Random(5), left))

@@ -119,7 +119,7 @@ fn each_changed_byte_of_a_journal() {
         changed.1[at] ^= 1 << (at % 8);
         let (file, disks) = open_by(&changed, &KEY);
         let text = text_of(&mut file.unwrap()).unwrap();
-        // The front is not sealed: a whole journal is that of this file by the headers in it.
+        // The MAC is not of the front: a whole journal is that of this file by the headers in it.
         assert_eq!(
             text,
             if at < 33 {
@@ -215,6 +215,19 @@ fn bytes_that_are_no_journal() {
     for other in [vec![b'a'; 34], vec![0; 5000], own, bytes.0.clone()] {
         check_refused(&(bytes.0.clone(), other), &KEY, is_journal);
     }
+}
+
+/// A torn journal of the first format changes nothing, also if the file has no header, and the error names the format.
+#[test]
+fn a_journal_of_the_first_format() {
+    let (bytes, _) = file(1);
+    let (mut cut, _) = cut_short(&bytes, JOURNAL_CALLS);
+    cut.1[..4].copy_from_slice(b"AGPJ");
+    cut.1.pop();
+    let is_old: fn(&Error) -> bool = |error| matches!(error, Error::OldJournal);
+    check_refused(&cut, &KEY, is_old);
+    cut.0[..512].fill(0);
+    check_refused(&cut, &KEY, is_old);
 }
 
 /// A journal of this file that is older than its last commit, or newer, changes nothing.

@@ -15,7 +15,7 @@ pub const JOURNAL_CALLS: usize = 4;
 /// Returns what the journals of another file begin with, whose pages have 256 bytes.
 pub fn front_of_another() -> [u8; 33] {
     let mut front = [0x6d; 33];
-    front[..9].copy_from_slice(b"AGPJ\x21\0\x01\0\0");
+    front[..9].copy_from_slice(b"AGJ2\x21\0\x01\0\0");
     front
 }
 

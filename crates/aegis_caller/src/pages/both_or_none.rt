@@ -5,7 +5,7 @@ ghost use Rattle.aegis_storage.specs.Disk.{Writes};
 ghost use Rattle.aegis_storage.specs.Journal.{IsAtRest, IsNoForgery, RecoversUnlessForged, RestsAtEither};
 ghost use Rattle.aegis_storage.specs.declared.store.TheConstants.{MAX_STORAGE_BYTES};
 
-use aegis::aegis256::Key;
+use aegis::aegis128l::{Key, Nonce};
 use aegis_storage::laws::recovers_at_rest;
 use aegis_storage::{PendingWrite, Storage, commit, recover};
 use std::alloc::Allocator;
@@ -19,7 +19,7 @@ pub fn write_both<S: Storage, J: Storage, A: Allocator + Copy>(
     journal: &mut J,
     key: &Key,
     beginning: &[u8; 33],
-    prefix: &[u8; 24],
+    nonce: &Nonce,
     places: (u64, u64),
     first: &[u8],
     second: &[u8],
@@ -34,16 +34,7 @@ pub fn write_both<S: Storage, J: Storage, A: Allocator + Copy>(
     let mut writes = Vec::new(alloc);
     writes.push(PendingWrite::new(alloc, places.0, first)?)?;
     writes.push(PendingWrite::new(alloc, places.1, second)?)?;
-    commit(
-        alloc,
-        storage,
-        journal,
-        key,
-        beginning,
-        prefix,
-        &[],
-        &writes,
-    )
+    commit(alloc, storage, journal, key, beginning, nonce, &[], &writes)
 }
 
 /// Opens a storage after a crash that has not left a forged journal: with `Ok` it has both writes or none, and is ready

@@ -1,7 +1,7 @@
 //! Commits that are cut at each call, and journals that are not the file's.
 
 use super::{
-    Counter, ID, InVectors, KEY, TestPages, commit, create, first, is_all, open, open_with,
+    Counter, ID, InVectors, KEY, TestPages, commit, copy, create, first, is_all, open, open_with,
     part_mut, read, small_file, write,
 };
 use aegis_256::State256X1;
@@ -157,7 +157,7 @@ fn a_commit_that_is_cut_at_each_call(rt: HostRuntime) -> Result<(), Fail> {
 // The beginning of the journals of a file whose ID has this byte throughout.
 fn beginning_of(id: u8) -> [u8; 33] {
     let mut beginning = [id; 33];
-    beginning[..9].copy_from_slice(b"AGPJ\x21\x00\x01\x00\x00");
+    beginning[..9].copy_from_slice(b"AGJ2\x21\x00\x01\x00\x00");
     beginning
 }
 
@@ -292,6 +292,21 @@ fn journals_of_other_states(rt: HostRuntime) -> Result<(), Fail> {
     let (newer, _) = pages.into_storages();
     let refused = refusal(alloc, &newer, &journal, &KEY)?;
     assert!(rt; matches!(refused, Some(PagesError::Journal)));
+    Ok(())
+}
+
+// A journal of the first format is left as it is, and named.
+#[test]
+fn journals_of_the_first_format(rt: HostRuntime) -> Result<(), Fail> {
+    let alloc = rt.alloc();
+    let (mut file, journal) = committing(alloc)?;
+    let mut old = first(&journal, 200).to_vec(alloc)?;
+    copy(part_mut(&mut old, 0, 4), b"AGPJ");
+    let refused = refusal(alloc, &file, &old, &KEY)?;
+    assert!(rt; matches!(refused, Some(PagesError::OldJournal)));
+    part_mut(&mut file, 0, 512).fill(0);
+    let refused = refusal(alloc, &file, &old, &KEY)?;
+    assert!(rt; matches!(refused, Some(PagesError::OldJournal)));
     Ok(())
 }
 

@@ -1,6 +1,6 @@
 //! A commit and a recovery that are cut at each call.
 
-use super::{ALL_CALLS, BATCHES, CONTEXT, FRONT, Fill, KEY, PREFIX, after, before, writes_of};
+use super::{ALL_CALLS, BATCHES, CONTEXT, FRONT, Fill, KEY, NONCE, after, before, writes_of};
 use crate::disk::TestDisk;
 use crate::tears::left_of;
 use aegis_storage::{commit, recover};
@@ -137,7 +137,7 @@ fn committed(
         &mut journal,
         &KEY,
         &FRONT,
-        &PREFIX,
+        &NONCE,
         &CONTEXT,
         &writes,
     );

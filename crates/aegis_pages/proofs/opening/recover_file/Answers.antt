@@ -3,7 +3,7 @@ use Rattle.std.proofs.lemmas.Result.{err_from_is_err_and}
 use Rattle.aegis_storage.specs.Pending.{writes_of}
 use Rattle.aegis_pages.specs.Commits.{IsLeftByCommit}
 use Rattle.aegis_pages.proofs.AcceptFacts.{accepts_all}
-use Rattle.aegis_pages.proofs.KnownFacts.{only_error, reads_only}
+use Rattle.aegis_pages.proofs.KnownFacts.{never_left}
 use Rattle.aegis_pages.proofs.RecoveryFacts.{fits_all, honest_as, kept_by_empty, recovers_again, recovers_as, rests_at_contents}
 use Rattle.aegis_pages.proofs.opening.recover_file.Goals as goal
 
@@ -54,17 +54,17 @@ returns-in-Some-clause-fits g c =
 pub returns-in_err-header_block-clause-accepts : goal.returns-in_err-header_block-clause-accepts
 returns-in_err-header_block-clause-accepts g c _ =
     let p = err_from_is_err_and c.from_residual.result c.from_residual.ensures.1 in
-    let other = reads_only _ c.in_err-header_block.ensures.refused in (only_error _ _ _ (p.1 ∙ ap Err p.2) other.0, only_error _ _ _ (p.1 ∙ ap Err p.2) other.1)
+    never_left _ _ (p.1 ∙ ap Err p.2) c.in_err-header_block.ensures.refused
 
 pub returns-in_err-header-clause-accepts : goal.returns-in_err-header-clause-accepts
 returns-in_err-header-clause-accepts g c _ =
     let p = err_from_is_err_and c.from_residual-in_err-header.result c.from_residual-in_err-header.ensures.1 in
-    let other = reads_only _ c.in_err-header.ensures.refused in (only_error _ _ _ (p.1 ∙ ap Err p.2) other.0, only_error _ _ _ (p.1 ∙ ap Err p.2) other.1)
+    never_left _ _ (p.1 ∙ ap Err p.2) c.in_err-header.ensures.refused
 
 pub returns-in_err-header-2-clause-accepts : goal.returns-in_err-header-2-clause-accepts
 returns-in_err-header-2-clause-accepts g c _ =
     let p = err_from_is_err_and c.from_residual-in_err-header-2.result c.from_residual-in_err-header-2.ensures.1 in
-    let other = reads_only _ c.in_err-header-2.ensures.refused in (only_error _ _ _ (p.1 ∙ ap Err p.2) other.0, only_error _ _ _ (p.1 ∙ ap Err p.2) other.1)
+    never_left _ _ (p.1 ∙ ap Err p.2) c.in_err-header-2.ensures.refused
 
 pub returns-in_err-check_journal-clause-accepts : goal.returns-in_err-check_journal-clause-accepts
 unfolding IsLeftByCommit

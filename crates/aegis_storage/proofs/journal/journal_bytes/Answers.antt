@@ -1,23 +1,35 @@
-use Rattle.std.proofs.Common.{◌≡◌, ◌∙◌, ap, arith, map, vec_items}
+use Rattle.std.proofs.Common.{◌≡◌, ◌++◌, ◌∙◌, ap, arith, drop, List, ℕ}
 use Rattle.std.proofs.lemmas.Grind.{common_steps}
-use Rattle.aegis.specs.declared.record.version.Version.TheVariants.{Second}
-use Rattle.aegis_base.specs.Chunks.{texts}
-use Rattle.aegis_storage.specs.Journal.{place_and_bytes}
+use Rattle.std.proofs.lemmas.List.{append_assoc, drop_at, length-append}
+use Rattle.aegis_base.specs.Mac.{mac}
+use Rattle.aegis_base.specs.Variant.{Aegis128L}
+use Rattle.aegis_storage.specs.Journal.{authenticated, entries}
 use Rattle.aegis_storage.specs.Pending.{writes_of}
 use Rattle.aegis_storage.proofs.Lists.{all_within}
 use Rattle.aegis_storage.proofs.journal.journal_bytes.Goals as goal
 
+pub returns-clause-journal : goal.returns-clause-journal
+returns-clause-journal g c =
+    let beginning = c.args.beginning.now in
+    let nonce = c.args.nonce.now in
+    let content : List ℕ = entries (writes_of c.args.writes.now) in
+    let begun : c.append_writes.new.journal.items ≡ (beginning ++ nonce) ++ content = grind (arith, common_steps) in
+    let last = c.split_at.ensures.back ∙ ap (drop 49) (c.deref.ensures.value ∙ begun) ∙ drop_at (beginning ++ nonce) content 49 (omega (arith, length-append beginning nonce)) in
+    let tag : c.finalize-mac.result ≡ mac Aegis128L 32 c.args.key.now nonce (authenticated c.args.context.now c.split_at.result.1.now) = c.finalize-mac.ensures c.args.key.now nonce _ c.mac_of.ensures in
+    c.in_ok-extend_from_slice-3.ensures.items ∙ ap (λ (l : List ℕ). l ++ c.finalize-mac.result) begun ∙ append_assoc (beginning ++ nonce) content c.finalize-mac.result
+    ∙ append_assoc beginning nonce (content ++ c.finalize-mac.result)
+    ∙ ap (λ (l : List ℕ). beginning ++ (nonce ++ (content ++ l)))
+    (tag ∙ ap (λ (l : List ℕ). mac Aegis128L 32 c.args.key.now nonce (authenticated c.args.context.now l)) last)
+
 pub returns-clause-whole : goal.returns-clause-whole
-returns-clause-whole g c =
-    let messages : texts c.deref-3.result.now ≡ map place_and_bytes (writes_of c.args.writes.now) =
-    ap texts c.deref-3.ensures.value ∙ c.in_ok-messages-2.ensures.each ∙ ap (map vec_items) c.deref.ensures.value ∙ c.in_ok-messages.ensures.messages in record {
-      beginning = c.args.beginning.now;
-      prefix = c.args.prefix.now;
-      stream = c.in-Ok.stream.items;
-      version = Second;
-      beginning_size = omega arith;
-      prefix_size = omega arith;
-      within = all_within c.args.writes.now;
-      records = rw messages at c.in-Ok.ensures.sealed;
-      are = grind (arith, common_steps);
-    }
+returns-clause-whole g c = record {
+  within = all_within c.args.writes.now;
+  framed = record {
+    beginning = c.args.beginning.now;
+    nonce = c.args.nonce.now;
+    beginning_size = omega arith;
+    nonce_size = omega arith;
+    fits = grind (arith, common_steps);
+    are = returns-clause-journal g c;
+  };
+}
