@@ -35,7 +35,7 @@
 //! [`Raf::commitment`] and [`Raf::verify`] replace the Merkle tree. Changes are committed, and a file is locked while it is open.
 //!
 //! `docs/PAGES.md` in the repository of Hunkravy has the format. The proved crate `aegis_pages` reads and writes it too. Proved
-//! functions of the library encrypt and decrypt each page, each header and each record of a journal. Reading and writing files
+//! functions of the library encrypt and decrypt each page and each header, and authenticate a journal. Reading and writing files
 //! around them is tested against the proved crate, and not proved.
 
 mod algorithm;

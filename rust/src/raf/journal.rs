@@ -1,7 +1,7 @@
 //! Writes that are all there after a crash, or none of them, by way of a journal.
 //!
-//! A journal has the writes in the clear, and their MAC. The proved crate `aegis_storage` writes the same bytes between the same
-//! syncs. Here neighbouring writes are one call.
+//! A journal has the writes, which are encrypted pages and headers, and their MAC. The proved crate `aegis_storage` writes the
+//! same bytes between the same syncs. Here neighbouring writes are one call.
 
 use super::io::RafIo;
 use super::layout::PLAINTEXT_HEADER_BYTES;
