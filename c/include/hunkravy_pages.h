@@ -10,8 +10,8 @@
  * `aegis_pages` and `raf` read and write the same files; docs/PAGES.md of the repository has the format.
  *
  * A file begins with a header block of HUNKRAVY_PAGE_HEADER_BLOCK_BYTES: the variant, the page size, the file's id, a
- * counter, and the length of the contents. The pages begin at byte HUNKRAVY_PAGE_FIRST. Each page is complete, the last one too: a
- * nonce of hunkravy_key_bytes(variant) bytes, the ciphertext, and the tag.
+ * counter, and the length of the contents. The pages begin at byte HUNKRAVY_PAGE_FIRST. Each page is complete, the last
+ * one too: a nonce of hunkravy_key_bytes(variant) bytes, the ciphertext, and the tag.
  *
  * A crash may tear writes that were not synced, and a file with a torn header is lost. The example pages.c has no
  * journal. docs/PAGES.md defines the journal, and hunkravy_mac of hunkravy.h authenticates it. If a file has a journal
@@ -23,7 +23,7 @@
  *
  * `k` is a key and `npub` a nonce, of hunkravy_key_bytes(variant) bytes each. Use a FRESH RANDOM NONCE for each page
  * and each header that you encrypt. With nonces of 16 bytes encrypt at most 2^48 pages and headers under one key. `id`
- * is 24 bytes of the file's own. They may be random, and need not be secret.
+ * is 24 bytes of the file's own. They may be random, and need not be secret. The nonce of bytes 255 is reserved.
  *
  * The rules of hunkravy.h on pointers and codes apply here too. Pointers without a length are never null.
  */
@@ -52,9 +52,9 @@ extern "C" {
 #define HUNKRAVY_PAGE_MAX_CONTENTS_BYTES (UINT64_C(1) << 60)
 
 /*
- * Returns the position of page `number` in a file of this variant and page size. Returns UINT64_MAX, where no file has
- * a page, if there is no such variant or page size, or if the page would begin after HUNKRAVY_PAGE_MAX_CONTENTS_BYTES
- * of the contents.
+ * Returns the position of page `number` in a file of this variant and page size. Returns UINT64_MAX, which is never a
+ * position, if there is no such variant or page size, or if the page would begin after
+ * HUNKRAVY_PAGE_MAX_CONTENTS_BYTES of the contents.
  */
 uint64_t hunkravy_page_place(uint32_t variant, uint32_t page_size, uint64_t number);
 
