@@ -24,14 +24,14 @@ said=$(memcheck) || { cat "$log" >&2; exit 1; }
 echo "$said"
 openings=${said##* }
 awk -v messages="$((openings / 3))" '
-    BEGIN { most["at-once"] = most["on-a-state"] = most["all-of-a-page"] = 3; most["in-a-box"] = 11; most["what-a-header-has"] = 4 }
+    BEGIN { most["at-once"] = most["on-a-state"] = most["all-of-a-page"] = 3; most["in-place"] = 11; most["what-a-header-has"] = 4 }
     / used_suppression: / && sub(/^accepted-or-refused-/, "", $4) { count[$4] += $3 }
     END {
         for (kind in count) {
             print kind ": " count[kind] " branches"
             many += count[kind] > messages * most[kind]
         }
-        # A call at once and a box are opened by one function, which is inlined into some of its callers.
-        many += count["at-once"] + count["in-a-box"] > messages * 11
-        exit many || !count["at-once"] || !count["on-a-state"] || !count["in-a-box"]
+        # One function opens a message at once, and a record, a page or a header in place. It is inlined into some callers.
+        many += count["at-once"] + count["in-place"] > messages * 11
+        exit many || !count["at-once"] || !count["on-a-state"] || !count["in-place"]
     }' "$log"

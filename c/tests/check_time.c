@@ -111,10 +111,10 @@ static void check_messages(const struct message *this)
             hunkravy_state_decrypt_unverified(&st, mc + first, c + first, rest));
     RETURNS(HUNKRAVY_OK, hunkravy_state_decrypt_in_place_unverified(&st, mc, 0));
     copy = st;
-    RETURNS(HUNKRAVY_OK, hunkravy_state_decrypt_final(&st, mc + first, rest, mac, this->maclen));
+    RETURNS(HUNKRAVY_OK, hunkravy_state_decrypt_final(&st, mc, this->length, mac, this->maclen));
     mac[0] ^= 1;
     RETURNS(HUNKRAVY_INVALID_TAG,
-            hunkravy_state_decrypt_final(&copy, mc + first, rest, mac, this->maclen));
+            hunkravy_state_decrypt_final(&copy, mc, this->length, mac, this->maclen));
 }
 
 static void check_macs(const struct message *this)
