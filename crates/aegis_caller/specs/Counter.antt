@@ -3,5 +3,5 @@ use Rattle.std.specs.Prelude.{ℕ, List}
 use Rattle.std.specs.Int.{to_le_bytes, w64}
 
 -- a number in 8 bytes, the lowest first
-unfoldable pub counter_text : ℕ → List ℕ
-counter_text n = to_le_bytes w64 n
+unfoldable pub counter_contents : ℕ → List ℕ
+counter_contents n = to_le_bytes w64 n

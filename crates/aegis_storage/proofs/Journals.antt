@@ -5,7 +5,7 @@ use Rattle.std.proofs.lemmas.Nat.{from_le_bytes-to_le_bytes_8}
 use Rattle.std.specs.Int.{from_le_bytes, to_le_bytes, w64}
 use Rattle.aegis_base.specs.Mac.{mac}
 use Rattle.aegis_base.specs.Variant.{Aegis128L}
-use Rattle.aegis_base.proofs.MacFacts.{length-mac}
+use Rattle.aegis_base.proofs.MacFacts.{length_mac}
 use Rattle.aegis_storage.specs.declared.store.TheConstants.{MAX_STORAGE_BYTES}
 use Rattle.aegis_storage.specs.Calls.{GivesFrom}
 use Rattle.aegis_storage.specs.Disk.{Adds, Crashed, Disk, IsPossible, MakesCertain, Size, Writes, WritesAll, after, certain, changes, after_writes}
@@ -60,7 +60,7 @@ no_writes (v ∷ vs) rest (w ∷ ws) some none p q same =
 
 -- the parts of a journal
 long-mac : (key nonce bytes : List ℕ) → length (mac Aegis128L 32 key nonce bytes) ≡ 32
-long-mac key nonce bytes = length-mac Aegis128L 32 key nonce bytes (inl refl) (inr refl)
+long-mac key nonce bytes = length_mac Aegis128L 32 key nonce bytes (inl refl) (inr refl)
 
 pub framed_parts : (key context xs journal : List ℕ) (is : IsFramed key context xs journal) (beginning nonce content end : List ℕ) → length beginning ≡ 33 → length nonce ≡ 16 → length end ≡ 32
     → journal ≡ beginning ++ (nonce ++ (content ++ end)) → (content ≡ xs) × (end ≡ mac Aegis128L 32 key nonce (authenticated context content))
