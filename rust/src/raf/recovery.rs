@@ -14,7 +14,7 @@ use std::io;
 ///
 /// - A complete journal under this key is written to the file and emptied. The file has no header then, or its header is the
 ///   first or the last one of the commit, byte for byte.
-/// - A torn journal is emptied if the file has a header and the journal begins as those of this file do, or has no record.
+/// - A torn journal is emptied if the file has a header and the journal begins as those of this file do, or has at most 33 bytes.
 /// - Otherwise nothing is changed, and the error is [`Error::Journal`] or [`Error::Header`], or [`Error::OldJournal`] if the journal
 ///   is of the first format.
 pub fn recover<A: Algorithm>(
@@ -82,7 +82,7 @@ fn is_of_commit(header: &[u8], writes: &[PendingWrite]) -> bool {
     writes.first().is_some_and(has_header) || writes.last().is_some_and(has_header)
 }
 
-/// Reads the first sector, or returns `None` if there are fewer bytes.
+/// Reads the header block, or returns `None` if there are fewer bytes.
 pub fn read_header_block(io: &mut impl RafIo) -> Result<Option<[u8; HEADER_BLOCK_BYTES]>> {
     if io.get_size()? < HEADER_BLOCK_BYTES as u64 {
         return Ok(None);
