@@ -1,6 +1,6 @@
 """The AEGIS ciphers, their MACs, and sealed files.
 
-A message is encrypted in one call or in chunks. No byte of a decrypted message can be read before its tag is verified:
+A message is encrypted in one call or in chunks. A decrypted message is returned only after its tag is verified:
 
 >>> from hunkravy import Aegis256, InvalidTag
 >>> cipher = Aegis256(Aegis256.generate_key())

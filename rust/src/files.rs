@@ -32,7 +32,7 @@ use crate::records::{HEADER_BYTES, Prefix};
 /// The context of the record stream in a sealed file.
 const CONTEXT: &[u8] = b"hunkravy v1";
 
-/// The number of bytes of the contents in a record that [`SealedWriter`] writes. The last two records have less.
+/// The number of bytes of the contents in a record that [`SealedWriter`] writes. The last one is empty.
 const PIECE_BYTES: usize = 65_536;
 
 /// The number of bytes of a file in front of its first record.

@@ -1,10 +1,10 @@
 //! Encrypted files that are read and written at any place.
 //!
 //! The contents are split into pages, each of which is encrypted on its own. [`Raf::batch`] makes several changes together: it
-//! commits them, or discards them if one of them fails. Outside a batch changes stay in memory until [`Raf::commit`]; then
-//! [`Raf::sync`] and dropping commit too, as the names that they are taken from do. **After a crash all changes of a commit are there, or none.** A commit writes its
-//! changes to the journal first, the file `PATH.journal` beside the file. It removes the journal at the end. Opening completes a
-//! commit that was interrupted.
+//! commits them, or discards them if one of them fails. Outside a batch changes stay in memory until a commit: [`Raf::commit`],
+//! [`Raf::sync`], dropping, or a write past the limit. **After a crash all changes of a commit are there, or none.** A commit
+//! writes its changes to the journal first, the file `PATH.journal` beside the file. It removes the journal at the end. Opening
+//! completes a commit that was interrupted.
 //!
 //! Bytes that are read are zeros, or were written at this place of this file or of a copy of it. They may be older ones: an
 //! older page, or an older file, is detected only if [`Raf::commitment`] was kept elsewhere. After the end of its contents an
@@ -32,7 +32,7 @@
 //! ```
 //!
 //! The names are those of the module `raf` of the crate `aegis`. The format of the files and the derived keys are different.
-//! [`Raf::commitment`] and [`Raf::verify`] replace the Merkle tree. Changes are committed, and a file is locked while it is open.
+//! [`Raf::commitment`] and [`Raf::verify`] replace the Merkle tree. Changes need a commit, and an open file is locked.
 //!
 //! `docs/PAGES.md` in the repository of Hunkravy has the format. The proved crate `aegis_pages` reads and writes it too. Proved
 //! functions of the library encrypt and decrypt each page and each header, and authenticate a journal. Reading and writing files

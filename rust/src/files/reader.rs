@@ -16,8 +16,8 @@ const FIRST_BYTES: usize = RECORD_BYTES + PIECE_BYTES;
 /// follows it. Earlier bytes are a verified prefix of the contents. Nothing is read from the inner reader before the first
 /// read or seek.
 ///
-/// Over an inner reader that is [`Seek`](io::Seek) it is `Seek` too. A seek reads and verifies only the record that has the
-/// place. The records before it are not verified. A place past the end may be sought, and reading there returns no bytes.
+/// Over an inner reader that is [`Seek`](io::Seek) it is `Seek` too. A seek verifies only the record that has the place. A place
+/// past the end may be sought, and reading there returns no bytes.
 ///
 /// # Errors
 ///

@@ -30,7 +30,7 @@ pub enum Error {
     /// The file was renamed, removed or replaced while it was open, or it has several names (hard links). Its journal would not
     /// be found.
     Moved,
-    /// A commit has failed while it was written. Open the file again.
+    /// Writing a commit failed. Open the file again.
     Broken,
 }
 
