@@ -2,6 +2,7 @@
 
 import os
 import shutil
+import signal
 import socket
 import stat
 import subprocess
@@ -50,7 +51,7 @@ class Outputs(Scene):
         os.symlink(write("aside", ""), "turned")
         run = self.begun("seal --force -k key late turned")
         time.sleep(0.5)
-        self.shell((0, 141), "ln -sfn key turned; echo late > late")
+        self.shell((0, 141, -signal.SIGPIPE), "ln -sfn key turned; echo late > late")
         self.ends(run, 3)
         self.is_same("key", before)
 
