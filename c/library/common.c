@@ -14,35 +14,35 @@ const char *hunkravy_error_text(int code)
     case HUNKRAVY_OK:
         return "success";
     case HUNKRAVY_INVALID_TAG:
-        return "the tag is wrong: the bytes, the key, the nonce or the associated data are not those that were sealed";
+        return "invalid tag: the data, key, nonce or associated data differ from those that were encrypted";
     case HUNKRAVY_WRONG_NONCE_LENGTH:
-        return "the nonce's length is not that of the variant";
+        return "wrong nonce length for this variant";
     case HUNKRAVY_WRONG_KEY_LENGTH:
-        return "the key's length is not that of the variant";
+        return "wrong key length for this variant";
     case HUNKRAVY_MESSAGE_TOO_LONG:
         return "the message is too long";
     case HUNKRAVY_DATA_TOO_LONG:
         return "the associated data are too long";
     case HUNKRAVY_WRONG_TAG_LENGTH:
-        return "the tag has neither 16 nor 32 bytes";
+        return "the tag length must be 16 or 32 bytes";
     case HUNKRAVY_WRONG_STATE:
-        return "the state was not begun, has ended, or is for other calls";
+        return "the state is not initialized, is finished, or belongs to other functions";
     case HUNKRAVY_WRONG_VARIANT:
-        return "no variant has this number";
+        return "unknown variant";
     case HUNKRAVY_CONTEXT_TOO_LONG:
-        return "the context of the record stream is too long";
+        return "the context is too long";
     case HUNKRAVY_UNKNOWN_HEADER:
-        return "the header is not that of a record stream";
+        return "unknown record stream header";
     case HUNKRAVY_WRONG_RECORD_LENGTH:
-        return "the record has no room for its head and its tag";
+        return "the record is shorter than its head and tag";
     case HUNKRAVY_WRONG_PAGE_SIZE:
-        return "a page has no such size";
+        return "invalid page size";
     case HUNKRAVY_FILE_TOO_LONG:
-        return "the text of the file is too long";
+        return "the contents are too long";
     case HUNKRAVY_WRONG_MESSAGE_LENGTH:
-        return "the message has not as many bytes as were decrypted";
+        return "not the length of the decrypted message";
     default:
-        return "no code of this library";
+        return "unknown error code";
     }
 }
 

@@ -283,20 +283,20 @@ static void check_texts(void)
 {
     static const char *const texts[] = {
         "success",
-        "the tag is wrong: the bytes, the key, the nonce or the associated data are not those that were sealed",
-        "the nonce's length is not that of the variant",
-        "the key's length is not that of the variant",
+        "invalid tag: the data, key, nonce or associated data differ from those that were encrypted",
+        "wrong nonce length for this variant",
+        "wrong key length for this variant",
         "the message is too long",
         "the associated data are too long",
-        "the tag has neither 16 nor 32 bytes",
-        "the state was not begun, has ended, or is for other calls",
-        "no variant has this number",
-        "the context of the record stream is too long",
-        "the header is not that of a record stream",
-        "the record has no room for its head and its tag",
-        "a page has no such size",
-        "the text of the file is too long",
-        "the message has not as many bytes as were decrypted"};
+        "the tag length must be 16 or 32 bytes",
+        "the state is not initialized, is finished, or belongs to other functions",
+        "unknown variant",
+        "the context is too long",
+        "unknown record stream header",
+        "the record is shorter than its head and tag",
+        "invalid page size",
+        "the contents are too long",
+        "not the length of the decrypted message"};
     static const int codes[] = {HUNKRAVY_OK,
                                 HUNKRAVY_INVALID_TAG,
                                 HUNKRAVY_WRONG_NONCE_LENGTH,
@@ -316,8 +316,8 @@ static void check_texts(void)
     for (int i = 0; i < 15; i++) {
         HOLDS(codes[i] == -i && strcmp(hunkravy_error_text(-i), texts[i]) == 0);
     }
-    HOLDS(strcmp(hunkravy_error_text(-15), "no code of this library") == 0);
-    HOLDS(strcmp(hunkravy_error_text(1), "no code of this library") == 0);
+    HOLDS(strcmp(hunkravy_error_text(-15), "unknown error code") == 0);
+    HOLDS(strcmp(hunkravy_error_text(1), "unknown error code") == 0);
     HOLDS(strcmp(hunkravy_version(), HUNKRAVY_VERSION) == 0);
 }
 

@@ -45,13 +45,13 @@ CAUSES = {
     "truncated": "the file ends before the end of its last record",
     "flag": "the flag of record {} is neither 0 nor 1",
     "too_long": "the length of record {} is more than 16 MiB",
-    "damaged": "record {} is damaged, or was encrypted with another key",
+    "damaged": "record {} is damaged, or the key is wrong",
     "trailing": "bytes follow the last record",
 }
 
 
 class SealedFileError(ValueError):
-    """A sealed file is damaged, truncated or not one, or the key is another.
+    """The file is no sealed file, is damaged or truncated, or the key is wrong.
 
     `cause` is "header", "truncated", "flag", "too_long", "damaged" or "trailing". `record` is the number of the record
     that was read, counted from 0.
@@ -69,7 +69,7 @@ class SealedFileError(ValueError):
 def read_key(path: Union[str, os.PathLike[str]]) -> bytes:
     """Returns the key of a key file of the tool: 64 hexadecimal digits, and at most two bytes of white space.
 
-    Raises `ValueError` if the file is another, and `OSError` if it cannot be read.
+    Raises `ValueError` if it is no key file, and `OSError` if it cannot be read.
     """
     with open(path, "rb") as file:
         found = KEY_FILE.fullmatch(file.read(67))
@@ -97,8 +97,8 @@ class SealedWriter(Sealed):
     """Writes a sealed file to `file`, a file object that is open for writing bytes.
 
     `key` has 32 bytes. The file is complete once `close` has returned, or a `with` block of the writer has ended
-    without an exception. After an exception in the block or of `write`, or if the writer is dropped, it does not open.
-    If completing it raises an exception, it may be complete or not. `file` is not closed.
+    without an exception. After an exception in the block or of `write`, or if the writer is dropped, the file does not open.
+    If `close` raises an exception, the file may be complete or not. `file` is not closed.
 
     Bytes are written in pieces of 65,536. `close` writes the last piece, and `flush` does not. In a `with` block
     `close` takes effect at its end, so an `io.TextIOWrapper` inside it may close the writer.
@@ -156,7 +156,7 @@ class SealedWriter(Sealed):
     def __enter__(self) -> Self:
         self._check_open()
         if self._is_entered:
-            raise RuntimeError("the writer has a `with` block already")
+            raise RuntimeError("the writer already has a `with` block")
         self._is_entered = True
         return self
 
@@ -182,7 +182,7 @@ class SealedWriter(Sealed):
 
     def _check_may_finish(self) -> None:
         if not self._may_finish:
-            raise OSError("the file cannot be completed, since writing was interrupted")
+            raise OSError("the file cannot be completed: an earlier write failed")
 
     def _take_in(self, contents: memoryview) -> None:
         """Copies contents to the record, which is written when it is full."""
@@ -207,7 +207,7 @@ class SealedWriter(Sealed):
         while data:
             written = self._file.write(data)
             if not isinstance(written, int) or not 0 < written <= len(data):
-                raise OSError(f"the file has written {written} of {len(data)} bytes")
+                raise OSError(f"only {written} of {len(data)} bytes were written")
             data = data[written:]
 
     def _finish(self) -> None:
@@ -319,7 +319,7 @@ class SealedReader(Sealed):
             self._position = position
             self._error = None
             if sought < 0:
-                raise ValueError(f"the position {sought} is before the contents")
+                raise ValueError(f"the position {sought} is in front of the contents")
             return position
 
     def close(self) -> None:
@@ -337,7 +337,7 @@ class SealedReader(Sealed):
         if self._error is not None:
             # Another one each time, since a raised one keeps the frames, and what they hold.
             raise type(self._error)(*self._error.args)
-        self._error = OSError("an earlier call of the reader was interrupted")
+        self._error = OSError("an earlier call of this reader was interrupted")
 
     def _fault(self, cause: str) -> SealedFileError:
         return SealedFileError(cause, self._number)
@@ -377,7 +377,7 @@ class SealedReader(Sealed):
             most = min(length - len(self._record), max(len(self._record), PIECE_BYTES + RECORD_BYTES))
             data = self._file.read(most)
             if data is None:
-                raise BlockingIOError("the file has no bytes yet")
+                raise BlockingIOError("no bytes are available yet")
             if not data:
                 return
             self._record += data

@@ -22,7 +22,7 @@ class Secret:
     __slots__ = ()
 
     def __reduce_ex__(self, protocol: SupportsIndex) -> NoReturn:
-        raise TypeError(f"{type(self).__name__} objects have a secret, and cannot be copied or pickled")
+        raise TypeError(f"{type(self).__name__} objects hold a secret, and cannot be copied or pickled")
 
     def __getstate__(self) -> NoReturn:
         self.__reduce_ex__(0)

@@ -154,10 +154,10 @@ class Errors(unittest.TestCase):
             with self.assertRaises(hunkravy.InvalidTag):
                 CIPHER.decrypt(NONCE, bytes(length))
 
-    def test_texts(self) -> None:
-        with self.assertRaisesRegex(hunkravy.InvalidTag, "tag is wrong"):
+    def test_error_messages(self) -> None:
+        with self.assertRaisesRegex(hunkravy.InvalidTag, "invalid tag"):
             CIPHER.decrypt(NONCE, bytes(40))
-        with self.assertRaisesRegex(hunkravy.InvalidTag, "tag is wrong"):
+        with self.assertRaisesRegex(hunkravy.InvalidTag, "invalid tag"):
             Aegis256Mac(KEY).verify(bytes(32))
         with self.assertRaisesRegex(TypeError, "^only the six variants are made, such as Aegis256$"):
             hunkravy.Cipher(KEY)
@@ -247,7 +247,7 @@ class Errors(unittest.TestCase):
             lambda: decryptor.update(b"more"),
         ]
         for call in calls:
-            with self.assertRaisesRegex(RuntimeError, "has ended"):
+            with self.assertRaisesRegex(RuntimeError, "is finished"):
                 call()
 
     def test_an_error_takes_nothing_in(self) -> None:

@@ -212,10 +212,10 @@ class Damaged(unittest.TestCase):
         self.assertRaises(TypeError, reader.readinto, b"abc")
         self.assertEqual(reader.read(), b"contents")
 
-    def test_texts(self) -> None:
+    def test_error_messages(self) -> None:
         for cause, text in (
             ("header", "the file does not begin with the header of a sealed file"),
-            ("damaged", "record 3 is damaged, or was encrypted with another key"),
+            ("damaged", "record 3 is damaged, or the key is wrong"),
         ):
             self.assertEqual(str(SealedFileError(cause, 3)), text)
 

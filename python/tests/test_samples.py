@@ -97,7 +97,7 @@ class Example(unittest.TestCase):
 
 
 class Found(unittest.TestCase):
-    def test_all_tests(self) -> None:
+    def test_no_test_is_left_out(self) -> None:
         found = unittest.defaultTestLoader.discover(str(HERE))
         self.assertEqual(found.countTestCases(), 92)
 

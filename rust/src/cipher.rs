@@ -75,7 +75,7 @@ impl<V: Variant, const TAG_BYTES: usize> Cipher<V, TAG_BYTES> {
     /// assert_eq!((ciphertext.len(), tag.len()), (9, 32));
     /// ```
     #[track_caller]
-    #[must_use = "the message cannot be opened without its tag"]
+    #[must_use = "the message cannot be decrypted without its tag"]
     pub fn encrypt(self, m: &[u8], ad: &[u8]) -> (Vec<u8>, Tag<TAG_BYTES>) {
         let mut mc = m.to_vec();
         let tag = self.encrypt_in_place(&mut mc, ad);
@@ -92,7 +92,7 @@ impl<V: Variant, const TAG_BYTES: usize> Cipher<V, TAG_BYTES> {
     /// assert_ne!(&buffer, b"a message");
     /// ```
     #[track_caller]
-    #[must_use = "the message cannot be opened without its tag"]
+    #[must_use = "the message cannot be decrypted without its tag"]
     pub fn encrypt_in_place(self, mc: &mut [u8], ad: &[u8]) -> Tag<TAG_BYTES> {
         let mut tag = [0; TAG_BYTES];
         let (nonce, key) = (self.nonce.as_ref(), self.key.as_ref());

@@ -23,7 +23,7 @@ use core::fmt;
 /// let in_one_call = Aegis128L::<16>::new(&key, &nonce).encrypt(b"AEGIS fast", b"header");
 /// assert_eq!((chunks.concat(), tag), in_one_call);
 /// ```
-#[must_use = "the message cannot be opened without its tag"]
+#[must_use = "the message cannot be decrypted without its tag"]
 pub struct Encryptor<V: Variant, const TAG_BYTES: usize> {
     run: Run<V>,
 }
@@ -104,7 +104,7 @@ impl<V: Variant, const TAG_BYTES: usize> Encryptor<V, TAG_BYTES> {
     /// let tag = cipher.encryptor(b"header").finalize();
     /// assert_eq!(tag, cipher.encrypt_in_place(&mut [], b"header"));
     /// ```
-    #[must_use = "the message cannot be opened without its tag"]
+    #[must_use = "the message cannot be decrypted without its tag"]
     pub fn finalize(self) -> Tag<TAG_BYTES> {
         self.run.tag()
     }

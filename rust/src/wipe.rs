@@ -41,7 +41,7 @@ pub(crate) mod tests {
     }
 
     #[test]
-    fn bytes() {
+    fn wipe_zeroes_exactly_the_slice() {
         let mut bytes = [1; 5];
         super::wipe(&mut bytes[1..]);
         assert_eq!(bytes, [1, 0, 0, 0, 0]);

@@ -343,7 +343,7 @@ fn wiping() {
 
 /// The library's struct of a stream has as many words in its header.
 #[test]
-fn structs() {
+fn stream_struct_has_the_size_of_the_header() {
     let header = include_str!("../../c/include/hunkravy_records.h");
     let exports = include_str!("../src/exports.rs");
     let number = |text: &str, start: &str| -> u32 {

@@ -185,7 +185,7 @@ fn of_a_sealed_file(path: &Path) {
 /// A file takes the limit and a write over it, and in a commit twice as much again; one that is read takes no more than
 /// a page and what is constant. No page and no record that was freed has any of the text left.
 #[test]
-fn of_a_file() {
+fn memory_of_files_is_limited_and_wiped() {
     let path = std::env::temp_dir().join(format!("hunkravy-memory-{}", std::process::id()));
     let changes = LIMIT + LIMIT / 10 + 2 * CHUNK_BYTES;
     // Beside a page of the text: its place in a map or a list, and in the journal its record.

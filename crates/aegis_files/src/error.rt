@@ -19,7 +19,7 @@ pub enum FileError {
     #[error("{0}")]
     Stream(RecordError),
     /// The record stream would have more than 2^61 - 1 bytes.
-    #[error("too long")]
+    #[error("the record stream is too long")]
     TooLong,
 }
 

@@ -68,9 +68,9 @@ fn is_done(is_last: bool, left: u64, skip: u64) -> bool
 /// bytes of messages that are sealed at just these positions. Nothing is known of the records before those that were
 /// read, nor of the ones after them.
 ///
-/// After any error, only bytes of the part from verified records were written, all of them unless a write failed. The
-/// file of contents are refused only if memory runs out. The error is [`FileError::TooLong`] only if the record stream
-/// has more than [`aegis::MAX_AEAD_BYTES`].
+/// After any error, only bytes of the part from verified records were written, all of them unless a write failed. A
+/// sealed file of any contents is rejected only if memory runs out. The error is [`FileError::TooLong`] only if the
+/// record stream has more than [`aegis::MAX_AEAD_BYTES`].
 ///
 /// The context must have at most [`MAX_CONTEXT_BYTES`], and the record must start at byte [`aegis::MAX_AEAD_BYTES`] of
 /// the stream at most. Memory is allocated for one record, as its bytes come.

@@ -74,12 +74,12 @@ fn rekey_under<'a, R: Read, W: Write, A: Allocator + Copy>(
 /// verified.
 ///
 /// Returns `Ok` only if the whole input is a file of some contents, and the file of those contents was written. A file
-/// is refused only if it is not the file of any contents, and the error is then its first fault, or if memory runs out.
+/// is rejected only if it is not the file of any contents, with its first fault as the error, or if memory runs out.
 /// The error is [`FileError::TooLong`] only if the input's record stream has more than [`aegis::MAX_AEAD_BYTES`].
 ///
 /// After an error, a beginning of a file under the new key was written, whose messages are those of verified records at
-/// the input's beginning. If it is a file that opens, it has the input's whole contents, and a write or the flush
-/// failed; so after any other error it is the file of no contents.
+/// the input's beginning. If it opens, it has the input's whole contents, and a write or the flush failed. So after any
+/// other error it does not open.
 ///
 /// Under one key, a prefix must be used for one file only. The context must have at most [`MAX_CONTEXT_BYTES`]. Memory
 /// is allocated for one record and the new record. In a file that someone else made with the key, each can have up to

@@ -29,10 +29,9 @@ fn record_buffer<A: Allocator>(alloc: A) -> Result<Vec<u8, A>, AllocError>
 /// Under one key, a prefix must be used for one file only. The context must have at most [`MAX_CONTEXT_BYTES`]. Memory
 /// is allocated at the start only, for one record: each piece is read to its place in it, and sealed there.
 ///
-/// After an error, a beginning of such a file was written, whose pieces are a beginning of the contents. If it is a
-/// file that opens, it has the whole contents, and a write or the flush failed; so after any other error it is the file
-/// of no contents. The error is [`FileError::TooLong`] only if the record stream would have more than
-/// [`aegis::MAX_AEAD_BYTES`].
+/// After an error, a beginning of such a file was written, whose pieces are a beginning of the contents. If it opens,
+/// it has the whole contents, and a write or the flush failed. So after any other error it does not open. The error is
+/// [`FileError::TooLong`] only if the record stream would have more than [`aegis::MAX_AEAD_BYTES`].
 pub fn seal_stream<R: Read, W: Write, A: Allocator + Copy>(
     alloc: A,
     key: &Key,

@@ -1,12 +1,12 @@
-//! Sealed pages: contents that are read and written at any place, in a file of which each page is sealed by itself, and
-//! whose changes are all there after a crash, or none.
+//! Sealed pages: contents that are read and written at any place, in a file whose pages are sealed one by one. After a
+//! crash, the changes of a commit are all there, or none.
 //!
-//! [`SealedPages`] stands over any [`aegis_storage::Storage`], as a vector or a file, and a second one for its journal,
-//! and draws a fresh nonce for each page and header that it writes from a [`Nonces`] of the caller's. Changes are kept
-//! in memory until [`Pages::commit`]. Each page is sealed to its number and its file, so a page that was changed, moved
-//! or brought from another file is refused. An older page of the same number and file is not detected, nor is an older
-//! copy of the whole file, unless the caller keeps the file's commitment elsewhere: one MAC over the tags of all pages
-//! ([`Pages::commitment`], [`Pages::verify`]).
+//! [`SealedPages`] works on any [`aegis_storage::Storage`], such as a vector or a file, and on a second one for its
+//! journal. It takes a fresh nonce for each page and header that it writes from the caller's [`Nonces`]. Changes are
+//! kept in memory until [`Pages::commit`]. Each page is bound to its number and its file: a page that was changed,
+//! moved or copied from another file is rejected. An older page of the same number and file is not detected, nor is an
+//! older copy of the whole file, unless the caller keeps the file's commitment elsewhere: one MAC over the tags of all
+//! pages ([`Pages::commitment`], [`Pages::verify`]).
 //!
 //! [`Pages`] is generic in the variant of AEGIS, and [`SealedPages`], for AEGIS-256, and the five other names are
 //! aliases of it.

@@ -83,12 +83,12 @@ pub record RecoversUnlessForged (key context xs : List ℕ) (writes : Writes) (s
   pub gives : (ys js : List ℕ) → Crashed storage_disk ys → Crashed journal_disk js → IsNoForgery key context writes js
       → GivesOneOf key context xs (after_writes writes xs) js ys
 
--- the bytes are no longer than a beginning, or begin with this one
+-- the bytes are at most 33, as many as the beginning of a journal, or begin with this beginning
 abbrev pub HasBeginning : (beginning bytes : List ℕ) → Type 0
 HasBeginning beginning bytes = (length bytes ≤ 33) ⊎ (take 33 bytes ≡ beginning)
 
--- Whatever a crash now leaves of the journal, it is no longer than a beginning, or begins with this one: so a journal
--- that has more than a beginning is known by it, also if it is torn.
+-- Whatever a crash now leaves of the journal has at most 33 bytes, or begins with this beginning. So the file of a
+-- longer journal is known by its beginning, also if the journal is torn.
 pub record KeepsBeginning (beginning : List ℕ) (journal : Option Disk) : Type 0 where
   pub disk : Disk
   pub is : journal ≡ Some disk

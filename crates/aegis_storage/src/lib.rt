@@ -2,12 +2,11 @@
 //!
 //! A [`Storage`] holds bytes that are read and written at any place: a vector, or a file. [`commit`] makes writes, by
 //! way of a second storage, the journal; after a crash [`recover`] makes all of them or none. The journal is
-//! authenticated by a MAC of [`aegis::aegis128l`], and not encrypted.
+//! authenticated with a MAC of [`aegis::aegis128l`], and not encrypted.
 //!
-//! What a crash may leave is a definition, `Crashed` of `specs/Disk.antt`: the synced bytes, but where a write was to
-//! come since any bytes, and one of the sizes. What is promised of it is `RecoversUnlessForged` of
-//! `specs/Journal.antt`. Its one premise on AEGIS is that the journal which the crash leaves is no forgery
-//! (`IsNoForgery`).
+//! What a crash may leave is a definition, `Crashed` of `specs/Disk.antt`: the synced bytes, any bytes at the places
+//! that were written since, and one of the sizes. The promise is `RecoversUnlessForged` of `specs/Journal.antt`. Its
+//! one premise on AEGIS is that the journal which the crash leaves is no forgery (`IsNoForgery`).
 //!
 //! ```
 //! let mut writes = Vec::new(alloc);

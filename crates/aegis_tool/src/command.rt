@@ -80,7 +80,7 @@ fn key_argument<'a>(alloc: Global) -> Arg<'a> {
         .long("key-file")
         .short('k')
         .required(true)
-        .help("The key file, as keygen writes it; standard input if it is -")
+        .help("The key file; - for standard input")
 }
 
 fn new_key_argument<'a>(alloc: Global) -> Arg<'a> {
@@ -88,7 +88,7 @@ fn new_key_argument<'a>(alloc: Global) -> Arg<'a> {
         .long("new-key-file")
         .short('n')
         .required(true)
-        .help("The key file to seal under; standard input if it is -")
+        .help("The key file to seal under; - for standard input")
 }
 
 fn from_argument<'a>(alloc: Global) -> Arg<'a> {
@@ -106,11 +106,11 @@ fn length_argument<'a>(alloc: Global) -> Arg<'a> {
 }
 
 fn input_argument<'a>(alloc: Global) -> Arg<'a> {
-    Arg::new(alloc, "IN").help("The file to read; standard input if it is - or missing")
+    Arg::new(alloc, "IN").help("The file to read; standard input if - or omitted")
 }
 
 fn output_argument<'a>(alloc: Global) -> Arg<'a> {
-    Arg::new(alloc, "OUT").help("The file to write; standard output if it is - or missing")
+    Arg::new(alloc, "OUT").help("The file to write; standard output if - or omitted")
 }
 
 fn force_argument<'a>(alloc: Global) -> Arg<'a> {
@@ -125,7 +125,7 @@ fn quiet_argument<'a>(alloc: Global) -> Arg<'a> {
         .action(ArgAction::SetTrue)
         .long("quiet")
         .short('q')
-        .help("Print nothing but errors")
+        .help("Print only errors")
 }
 
 // Adds the arguments that name a part of the contents.
@@ -137,7 +137,7 @@ fn with_part<'a>(alloc: Global, command: Command<'a>) -> Result<Command<'a>, All
 
 fn keygen<'a>(alloc: Global) -> Result<Command<'a>, AllocError> {
     Command::new(alloc, "keygen")
-        .about("Draws a key at random")
+        .about("Generates a random key")
         .arg(output_argument(alloc))
 }
 
@@ -174,7 +174,7 @@ fn rekey<'a>(alloc: Global) -> Result<Command<'a>, AllocError> {
 
 fn check<'a>(alloc: Global) -> Result<Command<'a>, AllocError> {
     Command::new(alloc, "check")
-        .about("Opens a sealed file without writing its contents")
+        .about("Verifies a whole sealed file and writes nothing")
         .arg(key_argument(alloc))?
         .arg(quiet_argument(alloc))?
         .arg(input_argument(alloc))
@@ -182,7 +182,7 @@ fn check<'a>(alloc: Global) -> Result<Command<'a>, AllocError> {
 
 fn info<'a>(alloc: Global) -> Result<Command<'a>, AllocError> {
     Command::new(alloc, "info")
-        .about("Shows what can be seen of a sealed file without its key; verifies nothing")
+        .about("Prints the number of records and of bytes, without a key; verifies nothing")
         .arg(quiet_argument(alloc))?
         .arg(input_argument(alloc))
 }

@@ -16,73 +16,73 @@ pub enum Failure<'a> {
     NotSealed(Name<'a>),
     #[error("{0} is a sealed file of version 1 (AGR1), which this program does not open")]
     FirstVersion(Name<'a>),
-    #[error("{0}: the key is not the one it was sealed under, or the file is damaged in its first record{1}")]
+    #[error("{0}: the key is wrong, or the prefix or first record is damaged{1}")]
     Key(Name<'a>, Lost),
     #[error("{0} is damaged{1}; record {2} does not open{3}")]
     Damaged(Name<'a>, Verified, u64, Lost),
-    #[error("{0} is damaged: where a record should begin is none{1}")]
+    #[error("{0} is damaged: the head of a record is invalid{1}")]
     NoRecord(Name<'a>, Verified),
-    #[error("{0} is cut off{1}")]
+    #[error("{0} is truncated{1}")]
     Truncated(Name<'a>, Verified),
-    #[error("{0} is cut off, or a length in it is damaged: at least {1} bytes are missing")]
+    #[error("{0} is truncated, or a length in it is damaged: at least {1} bytes are missing")]
     Missing(Name<'a>, u64),
-    #[error("{0} goes on after the end of its sealed file")]
+    #[error("{0} has bytes after its last record")]
     Trailing(Name<'a>),
-    #[error("{0} is longer than a sealed file may be")]
+    #[error("{0} is longer than a sealed file can be")]
     TooLong(Name<'a>),
-    #[error("{0}: the key is not the one it was sealed under, or the file is damaged before record {1}, or in it{2}")]
+    #[error("{0}: the key is wrong, or the file is damaged in record {1} or in front of it{2}")]
     DamagedPart(Name<'a>, u64, Lost),
-    #[error("{0} is damaged in the part or before it")]
+    #[error("{0} is damaged in the part or in front of it")]
     NoPart(Name<'a>),
-    #[error("{0} is cut off in the part or before it")]
+    #[error("{0} is truncated in the part or in front of it")]
     TruncatedPart(Name<'a>),
     #[error("{0} has only {1} bytes of contents")]
     PastBytes(Name<'a>, u64),
-    #[error("{0} was changed while it was read")]
+    #[error("{0} changed while it was read")]
     Changed(Name<'a>),
     #[error("{0} cannot be read: {1}")]
     Input(Name<'a>, io::Error),
-    #[error("{0} is a folder: pack it with tar first, as in tar -c {0} | hunkravy seal -k KEY - OUT")]
+    #[error("{0} is a folder: pack it with tar first: tar -c {0} | hunkravy seal -k KEY - OUT")]
     Folder(Name<'a>),
     #[error("{0} cannot be written: {1}")]
     Output(Name<'a>, io::Error),
-    #[error("{0} is complete, but its folder cannot be synced, so after a power loss it may be as it was: {1}")]
+    #[error("{0} is complete, but its folder cannot be synced: a power loss may undo the change: {1}")]
     Unsynced(Name<'a>, io::Error),
-    #[error("{0} is complete, but has a second name, which cannot be removed")]
+    #[error("{0} is complete, but its second name cannot be removed")]
     SecondName(Name<'a>),
-    #[error("{0} cannot be written: its folder, or its file .OUT.hunkravy- and 16 digits, was renamed, removed or mounted over meanwhile")]
+    #[error("{0} cannot be written: its folder, or its temporary file .OUT.hunkravy-*, was renamed, removed or mounted over")]
     Moved(Name<'a>),
-    #[error("{0} exists; --force replaces a file")]
+    #[error("{0} exists: use --force to replace it")]
     Exists(Name<'a>),
-    #[error("{0} exists, and keygen replaces no file")]
+    #[error("{0} exists: keygen never replaces a file")]
     KeyExists(Name<'a>),
     #[error("{0} is a link to a file that does not exist: name that file")]
     DanglingLink(Name<'a>),
-    #[error("{0} is a link, but the file that it leads to is not found by its name: name that file")]
+    #[error("{0} is a link to a file that cannot be found by name: name that file")]
     NoNameHere(Name<'a>),
     #[error("{0} is a folder or a block device: name a file")]
     NoOutput(Name<'a>),
-    #[error("{0} is a device or a pipe that was not there when the run began")]
+    #[error("{0} is a device or a pipe that did not exist when the run began")]
     Appeared(Name<'a>),
-    #[error("{0} is the input too: input and output must be different files")]
+    #[error("{0} is also the input: input and output must be different files")]
     SameFile(Name<'a>),
-    #[error("{0} is the key file {1}: it would be lost")]
+    #[error("{0} is the key file {1}: writing it would destroy the key")]
     OverKey(Name<'a>, Name<'a>),
-    #[error("standard output is a terminal: name OUT, redirect the output by >, or write - for OUT to print it anyway")]
+    #[error("standard output is a terminal: name OUT, redirect with >, or give - as OUT to print there")]
     Terminal,
-    #[error("the contents are not text that a terminal can show: name OUT, redirect the output by >, or write - for OUT to print it anyway")]
+    #[error("the contents are not printable text: name OUT, redirect with >, or give - as OUT to print them")]
     NoText,
     #[error("the key file {0} cannot be read: {1}")]
     KeyFile(Name<'a>, io::Error),
-    #[error("the key file {0} has no key: 64 hexadecimal digits and a line feed, as keygen writes them")]
+    #[error("{0} is not a key file: expected 64 hexadecimal digits and a line feed")]
     NoKey(Name<'a>),
-    #[error("the system gives no random bytes: {0}")]
+    #[error("the system returned no random bytes: {0}")]
     Random(io::Error),
-    #[error("a part is opened of a file alone: name IN")]
+    #[error("--from and --length need a file: name IN")]
     NoFile,
-    #[error("standard input is the key: name IN, and the other key file if there are two")]
+    #[error("the key is read from standard input: name IN, and use a file for any second key")]
     StandardKey,
-    #[error("there is no command; --help lists them")]
+    #[error("no command: --help lists them")]
     NoCommand,
     #[error("out of memory")]
     OutOfMemory,
@@ -240,7 +240,7 @@ impl Seen {
     }
 }
 
-/// The error of opening a part of a text.
+/// The error of opening a part of the contents.
 #[derive(Debug, Drop)]
 pub enum PartError {
     File(FileError),

@@ -18,7 +18,7 @@ const OTHERS: u32 = 0o066;
 // A key file has two more bytes at most: it ends with a line feed, or with a carriage return before it.
 const MOST_BYTES: usize = 66;
 
-/// Draws a key at random, and returns it as the line of a key file.
+/// Generates a random key, and returns it as the line of a key file.
 pub fn draw<'a>(rt: &(impl RandomSource + AllocGlobal)) -> Result<String, Failure<'a>> {
     let mut key = [0; 32];
     if let Err(error) = rt.fill_bytes(&mut key) {
@@ -89,7 +89,7 @@ pub fn read<'a>(rt: &HostRuntime, name: &'a str, quiet: bool) -> Result<KeyFile<
     if found.is_file() && found.mode() & OTHERS != 0 && !quiet {
         let shown = Name(name);
         let _ = eprintln!(rt;
-            "hunkravy: the mode of {shown} lets others read or change the key: set it to 0600"
+            "hunkravy: the mode of {shown} lets others read or change the key: run chmod 600"
         );
     }
     Ok(KeyFile {

@@ -82,7 +82,7 @@ fn carry_out_words(rt: &HostRuntime) -> anyhow::Result<u8> {
         Ok(words) => words.collect(rt.alloc())?,
         Err(error) if error.kind() == ErrorKind::InvalidData => {
             let _ = eprintln!(rt;
-                "hunkravy: a word of the command line, or the program's own name, is not UTF-8: give such a file another name"
+                "hunkravy: an argument, or the program's own name, is not UTF-8: rename the file"
             );
             return Ok(MISUSED);
         }

@@ -13,19 +13,19 @@ Examples:
   hunkravy rekey -k backup.key -n new.key docs.sealed docs.new
 
 Exit status:
-  0  all went well
-  1  a sealed file is rejected, or the part is not in it
-  2  the command line is not understood
-  3  any other failure: I/O, memory, no key, or an OUT that is rejected
+  0  success
+  1  the sealed file is rejected, or it has no such part
+  2  the command line is wrong
+  3  any other failure: I/O, memory, a bad key file, or a rejected OUT
 
 Files:
   Outputs get mode 0600. File names must be UTF-8.
-  OUT is written as .OUT.hunkravy- and 16 hexadecimal digits beside it, and gets
-  its name once it is complete. A run that is interrupted leaves that file. It may
-  hold plaintext; delete it once no run writes it. To find all of them:
+  OUT is written beside its place as .OUT.hunkravy- and 16 hexadecimal digits, and
+  renamed once it is complete. An interrupted run leaves that file. It may hold
+  plaintext: delete it when no run is writing it. To find all of them:
   find . -name '.*.hunkravy-*'. Only --force replaces a file.
-  seal cannot see that a command before a pipe failed.
-  A key file has 64 hexadecimal digits and a line feed. With -k - the key is read
-  from standard input: age -d key.age | hunkravy open -k - IN OUT
-  On standard output contents are written as they are opened: use them only if
-  the exit status is 0.";
+  In a pipeline, seal cannot see that the command in front of it failed.
+  A key file has 64 hexadecimal digits and a line feed. -k - reads the key from
+  standard input: age -d key.age | hunkravy open -k - IN OUT
+  On standard output, contents are written while the file is being verified: use
+  them only if the exit status is 0.";

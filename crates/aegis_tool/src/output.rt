@@ -1,10 +1,10 @@
 //! Where a command writes. A file gets its name only once it is complete.
 //!
-//! A file OUT is written under a name of its own beside it, `.OUT.hunkravy-` and 16 hexadecimal digits that are drawn
-//! at random. It is created there, synced, and linked to the name OUT, which fails if there is such a file by then; to
-//! replace one it is renamed. Then the folder is synced. So OUT is the complete file, or as it was before, and no file
-//! that another created is opened, removed or replaced, but OUT by `--force`. If OUT is a link, all this happens beside
-//! the file that it leads to. A device or a pipe is written directly.
+//! A file OUT is written under a name of its own beside it, `.OUT.hunkravy-` and 16 random hexadecimal digits. It is
+//! created there, synced, and linked to the name OUT, which fails if a file has that name by then; with `--force` it is
+//! renamed instead. Then the folder is synced. So OUT is the complete file, or as it was before. No file of another
+//! program is opened, removed or replaced. Exception: OUT with `--force`. If OUT is a link, all this happens beside the
+//! file that it leads to. A device or a pipe is written directly.
 //!
 //! No output has one of the three standard descriptors, which are free if the caller has closed them: a message would
 //! be written into it. `try_clone` takes the lowest descriptor after those.
@@ -351,7 +351,7 @@ impl<'a> Part<'a> {
 
     fn say_it_stays(&self, rt: &HostRuntime) {
         let _ = eprintln!(rt;
-            "hunkravy: {} is not removed, and may hold plaintext or a key",
+            "hunkravy: {} was not removed, and may hold plaintext or a key",
             Name(self.name.as_str())
         );
     }
@@ -433,7 +433,7 @@ impl<'a> Part<'a> {
     fn say_renamed(&self, rt: &HostRuntime, error: &io::Error) {
         if !self.quiet {
             let _ = eprintln!(rt;
-                "hunkravy: {} was renamed to, and not linked: {error}",
+                "hunkravy: {} got its name by rename, since linking failed: {error}",
                 self.output
             );
         }

@@ -35,13 +35,13 @@ pub struct Verified(pub Option<u64>);
 impl fmt::Display for Verified {
     fn fmt<W: fmt::Write>(&self, f: &mut fmt::Formatter<W>) -> fmt::Result {
         match self.0 {
-            Some(bytes) => write!(f, "; the first {bytes} bytes of the contents are right"),
+            Some(bytes) => write!(f, "; the first {bytes} bytes of the contents are verified"),
             None => Ok(()),
         }
     }
 }
 
-/// The bytes of the contents that a damaged record has, by its length, if that is known.
+/// The bytes of the contents that a damaged record has according to its length, if that is known.
 #[derive(Clone, Copy, Debug)]
 pub struct Lost(pub Option<(u64, u64)>);
 
@@ -50,7 +50,7 @@ impl fmt::Display for Lost {
         match self.0 {
             Some((from, end)) if from < end => write!(
                 f,
-                ", with bytes {from} to {} of the contents by its length; --from {end} opens what follows, if the length is right",
+                " (bytes {from} to {} of the contents, if its length is right; then --from {end} opens the rest)",
                 end - 1
             ),
             _ => Ok(()),

@@ -1,4 +1,4 @@
-//! Sealing, opening and checking files, and drawing keys.
+//! Sealing, opening and checking files, and generating keys.
 
 use crate::command::{Place, Span, Transfer};
 use crate::failure::{Failure, PartError, Seen, Stopped, printed};
@@ -44,7 +44,7 @@ enum Task {
     },
 }
 
-// Opens a part of a text. The input begins at the record that it starts in.
+// Opens a part of the contents. The input begins at the record that it starts in.
 fn carry_part<R: Read, W: Write>(
     alloc: Global,
     key: &Key,
@@ -60,7 +60,7 @@ fn carry_part<R: Read, W: Write>(
     start.reached(&opened)
 }
 
-// Reads the input, and writes its sealed file, its text, or a part of that.
+// Reads the input, and writes its sealed file, its contents, or a part of them.
 fn carry<R: Read, W: Write>(
     alloc: Global,
     task: &Task,
@@ -233,7 +233,7 @@ fn key_of<'a>(rt: &HostRuntime, paths: Transfer<'a>) -> Result<KeyFile<'a>, Fail
     }
 }
 
-// Draws the prefix of a new sealed file.
+// Generates the prefix of a new sealed file.
 fn draw_prefix<'a>(rt: &HostRuntime) -> Result<[u8; 24], Failure<'a>> {
     let mut prefix = [0; 24];
     match rt.fill_bytes(&mut prefix) {
@@ -255,15 +255,15 @@ pub fn seal<'a>(rt: &HostRuntime, paths: Transfer<'a>) -> Result<(), Stopped<'a>
     transfer(rt, &task, paths, &[&key])
 }
 
-/// Opens a sealed file. On standard output the text is written as it is opened, so the exit status must be checked
-/// before the text is used.
+/// Opens a sealed file. On standard output the contents are written as they are opened, so the exit status must be
+/// checked before they are used.
 pub fn open<'a>(rt: &HostRuntime, paths: Transfer<'a>) -> Result<(), Stopped<'a>> {
     let key = key_of(rt, paths)?;
     refuse_inputs(rt, paths, &[&key])?;
     transfer(rt, &Task::Open { key: key.key }, paths, &[&key])
 }
 
-/// Opens a part of the text of a sealed file, without the rest of it.
+/// Opens a part of the contents of a sealed file, without the rest.
 pub fn open_part<'a>(rt: &HostRuntime, span: Span, paths: Transfer<'a>) -> Result<(), Stopped<'a>> {
     let key = key_of(rt, paths)?;
     refuse_inputs(rt, paths, &[&key])?;
@@ -311,7 +311,7 @@ pub fn rekey<'a>(
     transfer(rt, &task, paths, &[&key, &new])
 }
 
-// Reads a sealed file, and discards its text. Returns how many bytes it has.
+// Reads a sealed file, and discards its contents. Returns how many bytes it has.
 fn check_from<'a, R: Read + Drop>(
     rt: &HostRuntime,
     task: &Task,
@@ -321,7 +321,7 @@ fn check_from<'a, R: Read + Drop>(
     carry_out(rt, task, paths, input, io::sink()).map_err(|stopped| stopped.failure)
 }
 
-/// Opens a sealed file without writing its text, and prints how many bytes it has.
+/// Opens a sealed file without writing its contents, and prints how many bytes it has.
 pub fn check<'a>(rt: &HostRuntime, paths: Transfer<'a>) -> Result<(), Failure<'a>> {
     let key = key_of(rt, paths)?;
     if !paths.quiet {

@@ -1,7 +1,7 @@
 //! Seals and opens files under a key.
 //!
-//! The exit status is 0 if all went well, 1 if a file is refused, 2 if the command line is not understood, and 3 for an
-//! I/O error, if memory runs out, or for a file that is no key.
+//! The exit status is 0 on success, 1 if a sealed file is rejected, 2 if the command line is wrong, and 3 for any other
+//! failure: I/O, memory, a bad key file, or a rejected output.
 #![tactic(auto)]
 
 use std::process::ExitCode;

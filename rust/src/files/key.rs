@@ -28,7 +28,7 @@ const MOST_BYTES: usize = 66;
 pub fn read_key(path: impl AsRef<Path>) -> io::Result<Key> {
     let mut bytes = Wiped([0; MOST_BYTES + 1]);
     let count = read_all(&mut File::open(path)?, &mut bytes.0)?;
-    let no_key = || io::Error::new(ErrorKind::InvalidData, "no key: 64 hexadecimal digits");
+    let no_key = || io::Error::new(ErrorKind::InvalidData, "not a key file: expected 64 hexadecimal digits");
     key_of(&bytes.0[..count]).ok_or_else(no_key)
 }
 
@@ -74,7 +74,7 @@ mod tests {
     use std::io::{self, ErrorKind, Read};
 
     #[test]
-    fn keys() {
+    fn key_is_64_digits_and_white_space() {
         let digits = "00fF1aA2".repeat(8);
         let key = key_of(digits.as_bytes()).unwrap();
         assert_eq!(key[..8], [0, 0xff, 0x1a, 0xa2, 0, 0xff, 0x1a, 0xa2]);

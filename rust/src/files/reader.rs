@@ -260,7 +260,7 @@ impl<R: Read> BufRead for SealedReader<R> {
     fn fill_buf(&mut self) -> io::Result<&[u8]> {
         self.check()?;
         if self.is_lost {
-            return Err(io::Error::other("a seek has failed: seek again"));
+            return Err(io::Error::other("a seek failed: seek again"));
         }
         while self.unread().is_empty() && !self.is_at_end {
             self.advance()?;

@@ -88,7 +88,7 @@ impl<W: Write> SealedWriter<W> {
 
     fn check(&self) -> io::Result<()> {
         if self.has_failed {
-            return Err(io::Error::other("the sealed file has failed before"));
+            return Err(io::Error::other("an earlier write of this sealed file failed"));
         }
         Ok(())
     }

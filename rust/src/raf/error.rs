@@ -42,20 +42,20 @@ impl fmt::Display for Error {
         let text = match self {
             Error::Io(error) => return error.fmt(f),
             Error::Damaged(page) => return write!(f, "page {page} is damaged"),
-            Error::Header => "no header that was written by this algorithm and under this key",
+            Error::Header => "no header for this algorithm and key: the key is wrong, or the file is damaged or another",
             Error::Journal => {
-                "the journal of another file, or of another state of this one, or no journal"
+                "the journal does not belong to this file"
             }
             Error::OldJournal => {
-                "a journal of an older format: open the file with the version that wrote it"
+                "the journal has an older format: open the file with the version that wrote it"
             }
-            Error::TooLong => "too long",
-            Error::ChunkSize => "a chunk has 256 to 65,536 bytes",
+            Error::TooLong => "the contents are too long, or no more commits are possible",
+            Error::ChunkSize => "the chunk size must be 256 to 65,536 bytes",
             Error::ContextTooLong => "the context is too long",
-            Error::Commitment => "not the file that was committed to",
+            Error::Commitment => "the file differs from its commitment",
             Error::Locked => "the file is open elsewhere",
-            Error::Moved => "the file is not, or not only, at the path by which it was opened",
-            Error::Broken => "a commit has failed: open the file again",
+            Error::Moved => "the file was renamed, removed or replaced, or has a second name",
+            Error::Broken => "a commit failed: open the file again",
         };
         f.write_str(text)
     }

@@ -379,7 +379,7 @@ fn mode_beside(of: u32, is_of_its_group: bool) -> u32 {
 fn no_journal() -> io::Error {
     io::Error::new(
         io::ErrorKind::InvalidData,
-        "there can be no journal: its path has no regular file, or one with several names, or one that other users may write",
+        "the journal is rejected: it is not a regular file, has several names, or is writable by other users",
     )
 }
 
@@ -695,7 +695,7 @@ mod tests {
 
     /// The name of a new file is synced with it, once.
     #[test]
-    fn names() {
+    fn the_name_of_a_new_file_is_synced_once() {
         let path = std::env::temp_dir().join(format!("hunkravy-names-{}", std::process::id()));
         let mut made = FileIo::create_new(&path).unwrap();
         let mut created = FileIo::create(&path).unwrap();

@@ -180,7 +180,7 @@ mod tests {
 
     /// A journal opens if its writes are within the longest file.
     #[test]
-    fn places() {
+    fn journal_opens_only_within_the_longest_file() {
         let seal = JournalSeal {
             key: [1; JOURNAL_KEY_BYTES],
             start: [2; PLAINTEXT_HEADER_BYTES],

@@ -34,9 +34,9 @@ pub enum Error {
 impl fmt::Display for Error {
     fn fmt(&self, f: &mut fmt::Formatter<'_>) -> fmt::Result {
         f.write_str(match self {
-            Error::Header => "no header of a record stream",
-            Error::Truncated => "truncated",
-            Error::Flag => "a record has an unknown flag",
+            Error::Header => "the header of the record stream is missing",
+            Error::Truncated => "the record stream is truncated",
+            Error::Flag => "the flag of a record is neither 0 nor 1",
             Error::TooLong => "a message is longer than 16 MiB",
             Error::Damaged(number) => return write!(f, "record {number} is damaged"),
             Error::Trailing => "bytes follow the last record",

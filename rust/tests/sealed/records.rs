@@ -185,7 +185,7 @@ fn unfinished() {
 
 /// A stream that is moved, also to another thread, still has its context.
 #[test]
-fn moved() {
+fn moved_stream_keeps_its_context() {
     fn shared<T: Send + Sync>(value: T) -> T {
         value
     }

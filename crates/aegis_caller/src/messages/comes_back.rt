@@ -5,7 +5,7 @@ ghost use Rattle.std.specs.Prelude.{◌≡◌, ◌≤◌, IsOk, length};
 use aegis::MAX_AEAD_BYTES;
 use aegis::aegis256::{Aegis256, Error, Key, Nonce};
 
-/// Decrypting a ciphertext always succeeds, and gives the message.
+/// Decrypting what was encrypted succeeds, and gives the message.
 pub fn comes_back(key: &Key, nonce: &Nonce, header: &[u8], message: &mut [u8]) -> Result<(), Error>
     requires header_within { length header.now ≤ MAX_AEAD_BYTES }
     requires message_within { length message.old ≤ MAX_AEAD_BYTES }

@@ -12,7 +12,7 @@ const BEFORE_THE_MESSAGE: &[u8] =
 
 // A line that seals a message of 8 MiB is read and answered by a heap that has four times its length.
 #[test]
-fn four_times_its_length(rt: HostRuntime) -> Result<(), Fail> {
+fn allocates_at_most_four_times_the_line(rt: HostRuntime) -> Result<(), Fail> {
     let mut message = vec![in rt.alloc(); 0x5a; MESSAGE_BYTES]?;
     let mut line = Vec::from_slice(rt.alloc(), BEFORE_THE_MESSAGE)?;
     line.extend_from_slice(hex::encode(rt.alloc(), &message)?.as_bytes())?;
