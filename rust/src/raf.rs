@@ -111,8 +111,8 @@ pub struct Raf<A: Algorithm, I: RafIo = FileIo, R: RafRng = DefaultRng, J: RafIo
     size: u64,
     changes: Changes,
     buffer_limit: usize,
-    /// The page that was last read or written, with its nonce in front of it and its tag after it.
-    page: Vec<u8>,
+    /// The pages that were last read, or the one that was last written, each with its nonce in front of it and its tag after it.
+    pages: Vec<u8>,
     is_broken: bool,
     /// Whether a change has failed since the last commit, so that those in memory may be a part of what was to be
     /// committed.
@@ -165,16 +165,20 @@ impl<A: Algorithm, I: RafIo, R: RafRng, J: RafIo> Raf<A, I, R, J> {
     fn read_each(&mut self, buf: &mut [u8], offset: u64) -> Result<usize> {
         self.check_is_whole()?;
         let count = self.size.saturating_sub(offset).min(buf.len() as u64) as usize;
+        let (mut number, mut at) = self.place(offset);
         let mut rest = &mut buf[..count];
-        let mut next = offset;
         while !rest.is_empty() {
-            let (number, at) = self.place(next);
-            self.show_page(number)?;
-            let part = &self.layout.contents(&mut self.page)[at..];
-            let bytes = part.len().min(rest.len());
-            rest[..bytes].copy_from_slice(&part[..bytes]);
-            rest = &mut rest[bytes..];
-            next += bytes as u64;
+            let most = self.layout.page_count((at + rest.len()) as u64);
+            let count = self.show_pages(number, most)?;
+            let pages = self.pages.chunks_exact_mut(self.layout.page_bytes());
+            for page in pages.take(count) {
+                let part = &self.layout.contents(page)[at..];
+                let bytes = part.len().min(rest.len());
+                rest[..bytes].copy_from_slice(&part[..bytes]);
+                rest = &mut rest[bytes..];
+                at = 0;
+            }
+            number += count as u64;
         }
         Ok(count)
     }
@@ -221,7 +225,7 @@ impl<A: Algorithm, I: RafIo, R: RafRng, J: RafIo> Raf<A, I, R, J> {
         let mut changes = Changes::default();
         for number in pages {
             self.change_page(number, data, offset)?;
-            changes.set(number, self.layout.contents(&mut self.page))?;
+            changes.set(number, self.layout.contents(&mut self.pages))?;
         }
         self.changes.append(changes);
         self.size = self.size.max(end);
@@ -336,24 +340,36 @@ impl<A: Algorithm, I: RafIo, R: RafRng, J: RafIo> Raf<A, I, R, J> {
         (offset / chunk_size, (offset % chunk_size) as usize)
     }
 
-    /// Puts the contents of a page into its place: the one that it was changed to, or else that of the file's page.
-    fn show_page(&mut self, number: u64) -> Result<()> {
+    /// Puts the contents of this page into the first place, and those of the pages after it into the next ones: of a changed page
+    /// alone, and otherwise of pages up to the next changed one, which are read in one call. Returns how many: 1 to `most`.
+    fn show_pages(&mut self, number: u64, most: u64) -> Result<usize> {
+        let page_bytes = self.layout.page_bytes();
         if let Some(contents) = self.changes.get(number) {
-            self.layout
-                .contents(&mut self.page)
-                .copy_from_slice(contents);
-            return Ok(());
+            let page = &mut self.pages[..page_bytes];
+            self.layout.contents(page).copy_from_slice(contents);
+            return Ok(1);
         }
-        let place = self.layout.page_place(number);
-        self.io.read_at(&mut self.page, place)?;
-        if self.layout.open(number, &mut self.page) {
-            Ok(())
-        } else {
-            Err(Error::Damaged(number))
+        let unchanged = self.changes.first_from(number) - number;
+        let count = most
+            .min(unchanged)
+            .min((self.pages.len() / page_bytes) as u64) as usize;
+        let pages = &mut self.pages[..count * page_bytes];
+        match self.io.read_at(pages, self.layout.page_place(number)) {
+            // The first damaged page is named, also if the file ends after it.
+            Err(error) if error.kind() == ErrorKind::UnexpectedEof && count > 1 => {
+                return self.show_pages(number, 1);
+            }
+            read => read?,
         }
+        for (page, number) in pages.chunks_exact_mut(page_bytes).zip(number..) {
+            if !self.layout.open(number, page) {
+                return Err(Error::Damaged(number));
+            }
+        }
+        Ok(count)
     }
 
-    /// Puts the contents of a page into its place as it is after `data` was written over the contents from `offset` on. The page is
+    /// Puts the contents of a page into the first place as it is after `data` was written over the contents from `offset` on. The page is
     /// read only if some of its bytes are kept.
     fn change_page(&mut self, number: u64, data: &[u8], offset: u64) -> Result<()> {
         let chunk_size = u64::from(self.layout.chunk_size);
@@ -364,9 +380,9 @@ impl<A: Algorithm, I: RafIo, R: RafRng, J: RafIo> Raf<A, I, R, J> {
             live = 0;
         }
         if live > 0 {
-            self.show_page(number)?;
+            self.show_pages(number, 1)?;
         }
-        let contents = self.layout.contents(&mut self.page);
+        let contents = self.layout.contents(&mut self.pages);
         contents[live as usize..].fill(0);
         let (from, to) = (offset.max(first), end.min(first + chunk_size));
         if from < to {
@@ -423,7 +439,7 @@ impl<A: Algorithm, I: RafIo, R: RafRng, J: RafIo> Drop for Raf<A, I, R, J> {
         if !self.is_cut_short && !std::thread::panicking() {
             let _ = self.commit();
         }
-        wipe(&mut self.page);
+        wipe(&mut self.pages);
     }
 }
 

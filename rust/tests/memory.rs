@@ -21,11 +21,14 @@ const GROWN: [usize; 5] = [1137, 2 * RECORD_BYTES, 200_037, 2 * 200_037, 500_037
 
 /// Whether an allocation is that of a text. No others of the program have these lengths.
 fn is_of_text(layout: Layout) -> bool {
-    let lengths = [CHUNK_BYTES, PAGE_BYTES, RECORD_BYTES];
+    let lengths = [CHUNK_BYTES, PAGE_BYTES, READ_BYTES, RECORD_BYTES];
     let is_one = lengths.contains(&layout.size()) || GROWN.contains(&layout.size());
     layout.align() == 1 && is_one
 }
 const LIMIT: usize = 1 << 20;
+/// What is read in one call, in whole pages, and what a commit gathers for one.
+const READ_BYTES: usize = 64 * 1024 / PAGE_BYTES * PAGE_BYTES;
+const GATHERED: usize = 256 * 1024;
 /// A text is of this byte, in which a freed page is recognized.
 const MARK: u8 = 0xc7;
 
@@ -182,18 +185,18 @@ fn of_a_sealed_file(path: &Path) {
     fs::remove_file(path).unwrap();
 }
 
-/// A file takes the limit and a write over it, and in a commit twice as much again; one that is read takes no more than
-/// a page and what is constant. No page and no record that was freed has any of the text left.
+/// A file takes the limit and a write over it, and in a commit as much again; one that is read takes the bytes of one call.
+/// What is constant is added. No page and no record that was freed has any of the text left.
 #[test]
 fn memory_of_files_is_limited_and_wiped() {
     let path = std::env::temp_dir().join(format!("hunkravy-memory-{}", std::process::id()));
     let changes = LIMIT + LIMIT / 10 + 2 * CHUNK_BYTES;
-    // Beside a page of the text: its place in a map or a list, and in the journal its record.
-    let most = 3 * in_pages(changes, 160) + LIMIT / 10 + 20_000;
+    // Beside a page of the text: its place in a map or a list.
+    let most = 2 * in_pages(changes, 160) + LIMIT / 10 + GATHERED + 20_000;
     let written = most_of(|| write(&path));
     assert!(written > 2 * LIMIT && written < most, "{written} of {most}");
     let read = most_of(|| read(&path));
-    assert!(read > PAGE_BYTES && read < PAGE_BYTES + 20_000, "{read}");
+    assert!(read > PAGE_BYTES && read < READ_BYTES + 20_000, "{read}");
     fs::remove_file(&path).unwrap();
     of_a_sealed_file(&path);
     assert!(FREED.load(SeqCst) > 10_000, "{FREED:?}");

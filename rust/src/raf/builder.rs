@@ -235,7 +235,7 @@ impl<A: Algorithm, R: RafRng, J: RafIo> RafBuilder<A, R, J> {
             io,
             journal: self.journal,
             rng: self.rng,
-            page: vec![0; layout.page_bytes()],
+            pages: vec![0; layout.pages_in_a_read() * layout.page_bytes()],
             layout,
             counter: header.counter,
             stored: header.contents_len,

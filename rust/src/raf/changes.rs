@@ -38,6 +38,12 @@ impl Changes {
         self.0.get(&number).map(|contents| &*contents.0)
     }
 
+    /// Returns the number of the first changed page from this number on, or the greatest number if there is none.
+    pub fn first_from(&self, number: u64) -> u64 {
+        let next = self.0.range(number..).next();
+        next.map_or(u64::MAX, |(number, _)| *number)
+    }
+
     /// Returns an error if there is no memory for this number of pages of contents of this length.
     pub fn check_room(pages: u64, contents_bytes: u64) -> io::Result<()> {
         let bytes = pages.saturating_mul(contents_bytes + ADDED_BYTES);

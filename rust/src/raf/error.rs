@@ -42,10 +42,10 @@ impl fmt::Display for Error {
         let text = match self {
             Error::Io(error) => return error.fmt(f),
             Error::Damaged(page) => return write!(f, "page {page} is damaged"),
-            Error::Header => "no header for this algorithm and key: the key is wrong, or the file is damaged or another",
-            Error::Journal => {
-                "the journal does not belong to this file"
+            Error::Header => {
+                "no header for this algorithm and key: the key is wrong, or the file is damaged or another"
             }
+            Error::Journal => "the journal does not belong to this file",
             Error::OldJournal => {
                 "the journal has an older format: open the file with the version that wrote it"
             }

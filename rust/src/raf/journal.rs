@@ -48,46 +48,102 @@ pub fn commit(
     if !journal.keeps_bytes() {
         return write_and_sync(io, writes);
     }
-    write_journal(journal, &journal_bytes(seal, writes))?;
+    write_journal(journal, seal, writes)?;
     write_and_sync(io, writes)?;
     empty(journal)
 }
 
 /// Writes a journal, and syncs it: the first bytes first, so that a longer journal begins with them after any crash.
-fn write_journal(journal: &mut impl RafIo, bytes: &[u8]) -> io::Result<()> {
-    let (start, rest) = bytes.split_at(PLAINTEXT_HEADER_BYTES);
-    journal.write_at(start, 0)?;
+fn write_journal(
+    journal: &mut impl RafIo,
+    seal: &JournalSeal,
+    writes: &[PendingWrite],
+) -> io::Result<()> {
+    journal.write_at(&seal.start, 0)?;
     journal.sync()?;
-    journal.write_at(rest, PLAINTEXT_HEADER_BYTES as u64)?;
-    journal.sync()
+    let mut neighbours = Neighbours::new(journal);
+    let mut place = PLAINTEXT_HEADER_BYTES as u64;
+    pass_content(seal, writes, |bytes| {
+        neighbours.write(bytes, place)?;
+        place += bytes.len() as u64;
+        Ok(())
+    })?;
+    neighbours.finish()
 }
 
-/// The most writes that are made in one call.
-const MOST_WRITES: usize = 64;
-
-/// Makes the writes, neighbours in one call, and syncs them.
-pub fn write_and_sync(io: &mut impl RafIo, writes: &[PendingWrite]) -> io::Result<()> {
-    let are_neighbours =
-        |one: &PendingWrite, next: &PendingWrite| one.place + one.bytes.len() as u64 == next.place;
-    for run in writes
-        .chunk_by(are_neighbours)
-        .flat_map(|run| run.chunks(MOST_WRITES))
-    {
-        match run {
-            [write] => io.write_at(&write.bytes, write.place)?,
-            run => io.write_at(&joined(run), run[0].place)?,
+/// Passes on the bytes of a journal after its first ones: the nonce, each write as its place, its length and its bytes, and the
+/// MAC.
+fn pass_content(
+    seal: &JournalSeal,
+    writes: &[PendingWrite],
+    mut pass: impl FnMut(&[u8]) -> io::Result<()>,
+) -> io::Result<()> {
+    let mut mac = new_mac(&seal.key, &seal.nonce);
+    pass(&seal.nonce)?;
+    for write in writes {
+        let mut head = [0; 2 * NUMBER_BYTES];
+        head[..NUMBER_BYTES].copy_from_slice(&write.place.to_le_bytes());
+        head[NUMBER_BYTES..].copy_from_slice(&(write.bytes.len() as u64).to_le_bytes());
+        for bytes in [&head[..], &write.bytes] {
+            mac.update(bytes);
+            pass(bytes)?;
         }
     }
-    io.sync()
+    pass(&mac.finalize())
 }
 
-/// Returns the bytes of writes, one after the other.
-fn joined(writes: &[PendingWrite]) -> Vec<u8> {
-    let mut bytes = Vec::with_capacity(writes.iter().map(|write| write.bytes.len()).sum());
+/// Makes the writes, and syncs them.
+pub fn write_and_sync(io: &mut impl RafIo, writes: &[PendingWrite]) -> io::Result<()> {
+    let mut neighbours = Neighbours::new(io);
     for write in writes {
-        bytes.extend_from_slice(&write.bytes);
+        neighbours.write(&write.bytes, write.place)?;
     }
-    bytes
+    neighbours.finish()
+}
+
+/// The most bytes that are written in one call. A longer write is a call of its own.
+const MOST_BYTES: usize = 256 * 1024;
+
+/// Writes in their order, neighbours in one call.
+struct Neighbours<'i, I> {
+    io: &'i mut I,
+    place: u64,
+    bytes: Vec<u8>,
+}
+
+impl<'i, I: RafIo> Neighbours<'i, I> {
+    fn new(io: &'i mut I) -> Self {
+        Neighbours {
+            io,
+            place: 0,
+            bytes: Vec::with_capacity(MOST_BYTES),
+        }
+    }
+
+    /// Adds a write. The bytes may be written later, with their neighbours.
+    fn write(&mut self, bytes: &[u8], place: u64) -> io::Result<()> {
+        let end = self.place + self.bytes.len() as u64;
+        if place != end || self.bytes.len() + bytes.len() > MOST_BYTES {
+            self.flush()?;
+            self.place = place;
+        }
+        self.bytes.extend_from_slice(bytes);
+        Ok(())
+    }
+
+    fn flush(&mut self) -> io::Result<()> {
+        if !self.bytes.is_empty() {
+            self.io.write_at(&self.bytes, self.place)?;
+            self.bytes.clear();
+        }
+        Ok(())
+    }
+
+    /// Makes the writes that are left, and syncs them all.
+    fn finish(mut self) -> io::Result<()> {
+        self.flush()?;
+        self.io.sync()
+    }
 }
 
 /// Empties a journal, and syncs that.
@@ -96,34 +152,14 @@ pub fn empty(journal: &mut impl RafIo) -> io::Result<()> {
     journal.sync()
 }
 
-/// Returns the MAC of the writes in a journal, after the length of its context, which is empty.
-fn mac_of(
+/// Returns the MAC of a journal, which has taken in the length of its context. That is empty.
+fn new_mac(
     key: &[u8; JOURNAL_KEY_BYTES],
     nonce: &[u8; JOURNAL_KEY_BYTES],
-    content: &[u8],
 ) -> Aegis128LMac<MAC_BYTES> {
     let mut mac = Aegis128LMac::new_with_nonce(key, nonce);
     mac.update(&[0; NUMBER_BYTES]);
-    mac.update(content);
     mac
-}
-
-/// Returns the journal of writes: its first bytes, the nonce, each write as its place, its length and its bytes, and the MAC.
-fn journal_bytes(seal: &JournalSeal, writes: &[PendingWrite]) -> Vec<u8> {
-    let bytes_of = |write: &PendingWrite| 2 * NUMBER_BYTES + write.bytes.len();
-    let length: usize = writes.iter().map(bytes_of).sum();
-    let start = PLAINTEXT_HEADER_BYTES + JOURNAL_KEY_BYTES;
-    let mut journal = Vec::with_capacity(start + length + MAC_BYTES);
-    journal.extend_from_slice(&seal.start);
-    journal.extend_from_slice(&seal.nonce);
-    for write in writes {
-        journal.extend_from_slice(&write.place.to_le_bytes());
-        journal.extend_from_slice(&(write.bytes.len() as u64).to_le_bytes());
-        journal.extend_from_slice(&write.bytes);
-    }
-    let mac = mac_of(&seal.key, &seal.nonce, &journal[start..]).finalize();
-    journal.extend_from_slice(&mac);
-    journal
 }
 
 /// Returns the writes of a journal, or `None` if the bytes are no whole journal under this key. Its MAC is verified first.
@@ -134,7 +170,9 @@ pub fn journaled_writes(
     let (_start, rest) = journal.split_first_chunk::<PLAINTEXT_HEADER_BYTES>()?;
     let (nonce, rest) = rest.split_first_chunk::<JOURNAL_KEY_BYTES>()?;
     let (mut content, mac) = rest.split_last_chunk::<MAC_BYTES>()?;
-    mac_of(key, nonce, content).verify(mac).ok()?;
+    let mut computed = new_mac(key, nonce);
+    computed.update(content);
+    computed.verify(mac).ok()?;
     let mut writes = Vec::new();
     while !content.is_empty() {
         let (write, rest) = first_write(content)?;
@@ -161,8 +199,8 @@ fn first_write(content: &[u8]) -> Option<(PendingWrite, &[u8])> {
 #[cfg(test)]
 mod tests {
     use super::{
-        JOURNAL_KEY_BYTES, JournalSeal, PLAINTEXT_HEADER_BYTES, PendingWrite, journal_bytes,
-        journaled_writes,
+        JOURNAL_KEY_BYTES, JournalSeal, PLAINTEXT_HEADER_BYTES, PendingWrite, journaled_writes,
+        pass_content,
     };
     use crate::wipe::tests::left_of;
     use alloc::vec;
@@ -194,7 +232,12 @@ mod tests {
             (u64::MAX, false),
         ] {
             let bytes = vec![4; 3];
-            let journal = journal_bytes(&seal, &[PendingWrite { place, bytes }]);
+            let mut journal = seal.start.to_vec();
+            let passed = pass_content(&seal, &[PendingWrite { place, bytes }], |bytes| {
+                journal.extend_from_slice(bytes);
+                Ok(())
+            });
+            assert!(passed.is_ok());
             let writes = journaled_writes(&seal.key, &journal);
             let found = writes.map(|writes| (writes.len(), writes[0].place));
             assert_eq!(found, is_within.then_some((1, place)));

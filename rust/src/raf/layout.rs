@@ -5,6 +5,8 @@ use super::journal::JOURNAL_KEY_BYTES;
 use crate::exports::PageHeader;
 use crate::wipe::wipe;
 
+/// How many bytes are read in one call, at most, unless a page has more.
+const READ_BYTES: usize = 64 * 1024;
 /// The length of a tag, at the end of a page.
 pub const TAG_BYTES: usize = 32;
 /// The length of the header block.
@@ -43,6 +45,11 @@ impl<A: Algorithm> Layout<A> {
     /// The length of a page.
     pub fn page_bytes(&self) -> usize {
         A::EXPORTS.key_bytes + self.chunk_size as usize + TAG_BYTES
+    }
+
+    /// How many pages are read in one call, at most.
+    pub fn pages_in_a_read(&self) -> usize {
+        (READ_BYTES / self.page_bytes()).max(1)
     }
 
     /// Where a page begins.
