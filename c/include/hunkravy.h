@@ -1,7 +1,7 @@
 /*
  * Hunkravy: the six AEGIS ciphers, and their MACs and keystreams, for Linux on x86-64-v2 or better and on aarch64.
- * Record streams are in hunkravy_records.h, and the pages of files in place in hunkravy_pages.h. No function
- * allocates memory.
+ * Record streams are in hunkravy_records.h, and the pages of files that are written in place in hunkravy_pages.h. No
+ * function allocates memory.
  *
  * Build a program with `cc program.c $(pkg-config --cflags --libs hunkravy)`. After `make install PREFIX=/some/where`
  * set PKG_CONFIG_PATH to /some/where/lib/pkgconfig first, and LD_LIBRARY_PATH to /some/where/lib to run the program.
@@ -11,18 +11,19 @@
  * FUNCTIONS FOR
  *
  * - a message in one buffer: hunkravy_encrypt_in_place, hunkravy_decrypt_in_place;
- * - a message in another buffer: hunkravy_encrypt, hunkravy_decrypt, or both with _combined, with the tag after the
- *   ciphertext; to verify only: hunkravy_verify;
+ * - a message in another buffer: hunkravy_encrypt, hunkravy_decrypt; with the tag after the ciphertext:
+ *   hunkravy_encrypt_combined, hunkravy_decrypt_combined; to verify only: hunkravy_verify;
  * - a message in chunks: hunkravy_state_init, then hunkravy_state_encrypt_in_place and hunkravy_state_encrypt_final;
  * - a ciphertext in chunks that can be read twice: hunkravy_state_init, hunkravy_state_decrypt_check and
- *   hunkravy_state_decrypt_final with 0 bytes; then again with hunkravy_state_decrypt_in_place_unverified;
+ *   hunkravy_state_decrypt_final with 0 bytes; then the same again, with
+ *   hunkravy_state_decrypt_in_place_unverified in place of hunkravy_state_decrypt_check;
  * - a ciphertext in chunks that can be read once: hunkravy_state_decrypt_in_place_unverified, and
  *   hunkravy_state_decrypt_final with the whole message;
  * - a MAC: hunkravy_mac, hunkravy_mac_verify, hunkravy_mac_init; a keystream: hunkravy_stream.
  *
  * NEVER DO THIS. Nothing detects it:
  *
- * - Do not encrypt two messages with the same key and nonce, and do not use one nonce for a message and for a
+ * - Do not encrypt two messages with the same key and nonce, and do not use a nonce for both a message and a
  *   keystream. An attacker then learns about both messages, and may forge others. Nonces of 32 bytes can be random.
  *   Nonces of 16 bytes can be random for up to 2^48 messages under one key.
  * - Do not continue two copies of a state with different messages. That uses its nonce twice.
@@ -36,8 +37,8 @@
  * - A pointer points to as many bytes as its length, which is the next parameter or is in the comment. Inputs are
  *   initialised; outputs need not be. A pointer may be null if its length is a parameter and is 0.
  * - An output overlaps no other argument, unless the comment allows the same pointer.
- * - Until a function returns, no other thread or process reads an output, or writes an output or an input. An output
- *   may hold the plaintext then, or bytes that are not verified yet, even if the process is killed.
+ * - Until a function returns, no other thread or process may read an output, or write an output or an input. Meanwhile
+ *   an output may hold the plaintext, or bytes that are not verified yet, even if the process is killed.
  *
  * THREADS. Use a state from one thread at a time. All other functions can run in any number of threads, with outputs
  * of their own.
@@ -47,9 +48,9 @@
  *
  * ERRORS. A function that is marked HUNKRAVY_MUST_USE returns HUNKRAVY_OK or one of the codes below. It checks the
  * variant or the state, and then the lengths of the nonce, the key, the message, the associated data and the tag, in
- * this order. The first that is wrong gives the code. After an error nothing is written, unless the comment says so.
+ * this order. The first wrong one gives the code. After an error nothing is written, unless the comment says so.
  *
- * ABI. Before 1.0.0 each minor version may change it, with the number of libhunkravy.so.
+ * ABI. Before 1.0.0 any minor version may change the ABI, and then the soname of libhunkravy.so.
  */
 #ifndef HUNKRAVY_H
 #define HUNKRAVY_H
@@ -72,7 +73,7 @@ extern "C" {
 
 enum hunkravy_code {
     HUNKRAVY_OK = 0,
-    /* The tag or the MAC is wrong, or the bytes are not the record or the page that they should be. */
+    /* The tag or the MAC is wrong, or the bytes are not the expected record or page. */
     HUNKRAVY_INVALID_TAG = -1,
     /* The nonce does not have the length of the variant. */
     HUNKRAVY_WRONG_NONCE_LENGTH = -2,
@@ -84,7 +85,7 @@ enum hunkravy_code {
     HUNKRAVY_DATA_TOO_LONG = -5,
     /* The tag, or the MAC, has neither 16 nor 32 bytes. */
     HUNKRAVY_WRONG_TAG_LENGTH = -6,
-    /* The state is zeroed (it has ended, or was not initialised), or is for other functions. */
+    /* The state is zeroed (it has ended, or was not initialised), or belongs to other functions. */
     HUNKRAVY_WRONG_STATE = -7,
     /* The variant is none of the six. */
     HUNKRAVY_WRONG_VARIANT = -8,
@@ -188,11 +189,11 @@ HUNKRAVY_MUST_USE int hunkravy_verify(uint32_t variant, const uint8_t *c, size_t
     const uint8_t *ad, size_t adlen, const uint8_t *npub, size_t npublen, const uint8_t *k, size_t klen,
     const uint8_t *mac, size_t maclen);
 
-/* ---- A message in chunks of any lengths, also 0 */
+/* ---- A message in chunks of any length, including 0 */
 
 /*
  * The state of a message or of a MAC. It holds its variant, and whether it encrypts, decrypts or computes a MAC. Do
- * not write to it: the functions are safe on any bytes, and their output is then unspecified.
+ * not write to it: the functions are safe on any state, but their output is then unspecified.
  *
  * A state can be copied with `=`, and dropped at any time. Nothing has to be freed. For a zeroed state every function
  * except the two inits returns HUNKRAVY_WRONG_STATE. Until it has ended a state is as secret as the key: call
@@ -203,8 +204,8 @@ typedef struct hunkravy_state {
 } hunkravy_state;
 
 /*
- * Initialises a state for a message with `adlen` bytes of associated data. The next function on it decides whether the
- * message is encrypted or decrypted. After an error the state is zeroed.
+ * Initialises a state for a message with `adlen` bytes of associated data. The first function that is called with it
+ * decides whether the message is encrypted or decrypted. After an error the state is zeroed.
  */
 HUNKRAVY_MUST_USE int hunkravy_state_init(uint32_t variant, hunkravy_state *st,
     const uint8_t *ad, size_t adlen, const uint8_t *npub, size_t npublen, const uint8_t *k, size_t klen);
@@ -240,7 +241,7 @@ HUNKRAVY_MUST_USE int hunkravy_state_decrypt_unverified(hunkravy_state *st, uint
 
 /*
  * Processes the next `clen` bytes of the ciphertext, and writes only the state. If hunkravy_state_decrypt_final then
- * returns HUNKRAVY_OK, the tag is right. So a ciphertext that can be read twice needs no unverified bytes: check it
+ * returns HUNKRAVY_OK, the tag is right. So if you can read the ciphertext twice, avoid unverified bytes: check it
  * first, then initialise the state again and decrypt. Verify the tag again at the end, since the ciphertext may have
  * changed. Returns HUNKRAVY_MESSAGE_TOO_LONG if all chunks together are too long. After an error the state is
  * unchanged.
@@ -249,8 +250,8 @@ HUNKRAVY_MUST_USE int hunkravy_state_decrypt_check(hunkravy_state *st, const uin
 
 /*
  * Verifies the tag `mac` of all chunks, and zeroes the state. `m` holds the whole decrypted message of `mlen` bytes. If
- * the chunks are in several buffers, pass 0 bytes, and erase the buffers after an error. If the chunks were only
- * checked, pass 0 bytes too. Any other length is HUNKRAVY_WRONG_MESSAGE_LENGTH.
+ * the chunks are in several buffers, pass 0 as `mlen`, and erase the buffers after an error. If the chunks were only
+ * checked, pass 0 too. Any other length is HUNKRAVY_WRONG_MESSAGE_LENGTH.
  *
  * After HUNKRAVY_OK the decrypted chunks are the message. After HUNKRAVY_INVALID_TAG the state is zeroed too, and
  * each of the `mlen` bytes at `m` is 0xaa. After any other error the state is unchanged, and the chunks are still

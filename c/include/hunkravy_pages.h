@@ -1,5 +1,5 @@
 /*
- * The pages of files in place: the contents of a file, encrypted page by page. These functions encrypt and decrypt a
+ * Files that are written in place: their contents are encrypted page by page. These functions encrypt and decrypt a
  * page or a header. Your program reads and writes the file.
  *
  * A crash while you write MAY LOSE THE FILE, unless you write through a journal. `raf` of the Cargo package and the
@@ -7,25 +7,26 @@
  *
  * The contents are split into pages of one size. Each page is encrypted separately, with any variant and a tag of 32
  * bytes. A page decrypts only under its number and the id of its file. An older page of the same number decrypts too.
- * `aegis_pages` and `raf` read and write the same files; docs/PAGES.md of the repository has the format.
+ * `aegis_pages` and `raf` read and write the same files; docs/PAGES.md in the repository defines the format.
  *
  * A file begins with a header block of HUNKRAVY_PAGE_HEADER_BLOCK_BYTES: the variant, the page size, the file's id, a
- * counter, and the length of the contents. The pages begin at byte HUNKRAVY_PAGE_FIRST. Each page is complete, the last
- * one too: a nonce of hunkravy_key_bytes(variant) bytes, the ciphertext, and the tag.
+ * counter, and the length of the contents. The pages begin at byte HUNKRAVY_PAGE_FIRST. All pages have the full
+ * length, even the last: a nonce of hunkravy_key_bytes(variant) bytes, the ciphertext, and the tag.
  *
  * A crash may tear writes that were not synced, and a file with a torn header is lost. The example pages.c has no
  * journal. docs/PAGES.md defines the journal, and hunkravy_mac of hunkravy.h authenticates it. If a file has a journal
  * that is not empty, let `aegis_pages` or `raf` complete it before you open the file.
  *
  * To change bytes of a page: read the page, decrypt it, change its contents, encrypt it with a fresh nonce, and write
- * it. To change the length: write the new pages, and then the header with the next counter. After the contents the last
- * page may still have truncated bytes. If the contents grow, write that page too, with zeros in their place.
+ * it. To change the length: write the new pages, and then the header with the next counter. After the end of the
+ * contents the last page may hold truncated bytes. If the contents grow, rewrite that page with zeros there.
  *
  * `k` is a key and `npub` a nonce, of hunkravy_key_bytes(variant) bytes each. Use a FRESH RANDOM NONCE for each page
  * and each header that you encrypt. With nonces of 16 bytes encrypt at most 2^48 pages and headers under one key. `id`
- * is 24 bytes of the file's own. They may be random, and need not be secret. The nonce of bytes 255 is reserved.
+ * is 24 bytes that are unique to the file. They may be random, and need not be secret. The nonce whose bytes are all
+ * 255 is reserved.
  *
- * The rules of hunkravy.h on pointers and codes apply here too. Pointers without a length are never null.
+ * The rules of hunkravy.h on pointers, threads and errors apply here too. Pointers without a length are never null.
  */
 #ifndef HUNKRAVY_PAGES_H
 #define HUNKRAVY_PAGES_H
@@ -38,9 +39,9 @@ extern "C" {
 
 #define HUNKRAVY_PAGE_ID_BYTES 24
 #define HUNKRAVY_PAGE_TAG_BYTES 32
-/* The limit on the length of a page without its contents: its nonce and its tag. */
+/* The most bytes that a page has beside its contents: its nonce and its tag. */
 #define HUNKRAVY_PAGE_MAX_ADDED_BYTES 64
-/* The page size, in bytes of contents: at least, at most, and for most uses. */
+/* The page size, in bytes of contents: minimum, maximum and default. */
 #define HUNKRAVY_PAGE_MIN_SIZE 256
 #define HUNKRAVY_PAGE_MAX_SIZE 65536
 #define HUNKRAVY_PAGE_DEFAULT_SIZE 4032

@@ -1,7 +1,7 @@
 /*
  * Record streams: a list of messages, each encrypted in place with AEGIS-256 and a tag of 32 bytes. A message is
  * returned only after its tag is verified, and a record decrypts only at its place in its stream. The last record is
- * marked: a stream is whole only if its last record was decrypted.
+ * marked: a stream is complete only if its last record was decrypted.
  *
  * A stream is a header of 4 bytes, AGR2, and a record for each message. A record is a head of 5 bytes, the
  * ciphertext, and the tag. The limits are HUNKRAVY_RECORD_MAX_MESSAGE_BYTES for a message,
@@ -10,7 +10,7 @@
  * `k` is a key of 32 bytes. `prefix` is 24 bytes for ONE STREAM ONLY under that key. They can be random, and need not
  * be secret. The context is authenticated, and is not a part of the stream. It may be the name of a file.
  *
- * The rules of hunkravy.h on pointers, threads and errors hold here. Pointers without a length are never null.
+ * The rules of hunkravy.h on pointers, threads and errors apply here too. Pointers without a length are never null.
  */
 #ifndef HUNKRAVY_RECORDS_H
 #define HUNKRAVY_RECORDS_H
@@ -34,7 +34,7 @@ extern "C" {
 
 /*
  * The state of a record stream. It has the key, and THE POINTER TO THE CONTEXT: until the stream has ended, the
- * context must stay in its place and must not change. Do not write to the state.
+ * context must stay at its address and must not change. Do not write to the state.
  *
  * A state can be dropped at any time. Nothing has to be freed. Call hunkravy_wipe before you drop one that has not
  * ended. A stream that has ended is zeroed, and every function except those that begin one returns
@@ -61,9 +61,9 @@ HUNKRAVY_MUST_USE int hunkravy_record_begin_open(hunkravy_record_stream *st, con
     const uint8_t *prefix, const uint8_t *context, size_t contextlen, const uint8_t *header);
 
 /*
- * Begins to decrypt a stream at record `number`, counted from 0, after records with messages of `before` bytes
- * together. A wrong position is not detected here: the record then does not decrypt. Nothing is known of the earlier
- * records, and the stream is whole only if its last record was decrypted.
+ * Begins to decrypt a stream at record `number`, counted from 0. The messages before it have `before` bytes in total.
+ * A wrong position is not detected here: the record then does not decrypt. The earlier records are not verified, and
+ * the stream is complete only if its last record was decrypted.
  *
  * Returns HUNKRAVY_OK, HUNKRAVY_CONTEXT_TOO_LONG, or HUNKRAVY_MESSAGE_TOO_LONG if the record would begin after the
  * limit of a stream. After an error the state is zeroed.
@@ -88,7 +88,7 @@ HUNKRAVY_MUST_USE int hunkravy_record_seal_last(hunkravy_record_stream *st, uint
 
 /*
  * Writes the length of the next record, whose first HUNKRAVY_RECORD_HEAD_BYTES are at `head`, to `recordlen`. The
- * length IS NOT VERIFIED. It is at most 16 MiB and 37 bytes. Use it only to read this many bytes.
+ * length IS NOT VERIFIED. It is at most 16 MiB + 37 bytes. Use it only to read this many bytes.
  *
  * Returns HUNKRAVY_OK, HUNKRAVY_WRONG_STATE if the state does not decrypt, HUNKRAVY_INVALID_TAG if no record begins
  * with these bytes, or HUNKRAVY_MESSAGE_TOO_LONG if the message would be too long. After an error nothing is written.

@@ -1,5 +1,5 @@
 /*
- * libsodium's crypto_aead_aegis128l and crypto_aead_aegis256, with the names and parameters of libsodium, over
+ * libsodium's crypto_aead_aegis128l and crypto_aead_aegis256, with the names and parameters of libsodium, built on
  * hunkravy.h. Also sodium_init, randombytes_buf and sodium_memzero. A program that uses no other function of libsodium
  * includes this header in place of sodium.h, and links with libhunkravy in place of libsodium.
  *
@@ -11,7 +11,7 @@
  *   verifies the tag.
  * - A parameter whose name ends in `_p` is null or points to a length, which the function sets. After a decryption that
  *   fails the length is 0.
- * - On more than crypto_aead_.._MESSAGEBYTES_MAX bytes encryption ends the program, and decryption returns -1.
+ * - With more than crypto_aead_.._MESSAGEBYTES_MAX bytes encryption aborts the program, and decryption returns -1.
  * - Never encrypt two messages with the same key and nonce. `nsec` is not used.
  *
  * Different from libsodium:
@@ -46,7 +46,7 @@ HUNKRAVY_MUST_USE static inline int sodium_init(void)
     return 0;
 }
 
-/* Writes `size` random bytes to `buf`. Ends the program if the system has none. */
+/* Writes `size` random bytes to `buf`. Aborts the program if the system has none. */
 static inline void randombytes_buf(void *const buf, const size_t size)
 {
     size_t done = 0;
@@ -71,7 +71,7 @@ static inline void sodium_memzero(void *const pnt, const size_t len)
 
 /*
  * Writes the ciphertext of the `mlen` bytes at `m` to `c`, and its tag of 32 bytes to `mac`. Sets `*maclen_p`
- * to 32. Returns 0. Ends the program if the message or the associated data are too long.
+ * to 32. Returns 0. Aborts the program if the message or the associated data are too long.
  */
 static inline int hunkravy_sodium_encrypt_detached(uint32_t variant, unsigned char *c, unsigned char *mac,
     unsigned long long *maclen_p, const unsigned char *m, unsigned long long mlen, const unsigned char *ad,
@@ -119,7 +119,7 @@ HUNKRAVY_MUST_USE static inline int hunkravy_sodium_decrypt_detached(uint32_t va
 
 /*
  * Writes the ciphertext of the `mlen` bytes at `m` and then its tag to `c`. Sets `*clen_p` to `mlen + 32`. Returns 0.
- * Ends the program if the message or the associated data are too long.
+ * Aborts the program if the message or the associated data are too long.
  */
 static inline int hunkravy_sodium_encrypt(uint32_t variant, unsigned char *c, unsigned long long *clen_p,
     const unsigned char *m, unsigned long long mlen, const unsigned char *ad, unsigned long long adlen,

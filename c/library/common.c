@@ -14,7 +14,7 @@ const char *hunkravy_error_text(int code)
     case HUNKRAVY_OK:
         return "success";
     case HUNKRAVY_INVALID_TAG:
-        return "invalid tag: the data, key, nonce or associated data differ from those that were encrypted";
+        return "invalid tag: the data, the key, the nonce or the associated data is wrong";
     case HUNKRAVY_WRONG_NONCE_LENGTH:
         return "wrong nonce length for this variant";
     case HUNKRAVY_WRONG_KEY_LENGTH:
@@ -26,7 +26,7 @@ const char *hunkravy_error_text(int code)
     case HUNKRAVY_WRONG_TAG_LENGTH:
         return "the tag length must be 16 or 32 bytes";
     case HUNKRAVY_WRONG_STATE:
-        return "the state is not initialized, is finished, or belongs to other functions";
+        return "the state has ended, was not initialised, or belongs to other functions";
     case HUNKRAVY_WRONG_VARIANT:
         return "unknown variant";
     case HUNKRAVY_CONTEXT_TOO_LONG:
@@ -36,11 +36,11 @@ const char *hunkravy_error_text(int code)
     case HUNKRAVY_WRONG_RECORD_LENGTH:
         return "the record is shorter than its head and tag";
     case HUNKRAVY_WRONG_PAGE_SIZE:
-        return "invalid page size";
+        return "the page size must be 256 to 65,536 bytes";
     case HUNKRAVY_FILE_TOO_LONG:
-        return "the contents are too long";
+        return "the contents or the page number are too large";
     case HUNKRAVY_WRONG_MESSAGE_LENGTH:
-        return "not the length of the decrypted message";
+        return "the length is neither 0 nor that of the decrypted message";
     default:
         return "unknown error code";
     }

@@ -283,20 +283,20 @@ static void check_texts(void)
 {
     static const char *const texts[] = {
         "success",
-        "invalid tag: the data, key, nonce or associated data differ from those that were encrypted",
+        "invalid tag: the data, the key, the nonce or the associated data is wrong",
         "wrong nonce length for this variant",
         "wrong key length for this variant",
         "the message is too long",
         "the associated data are too long",
         "the tag length must be 16 or 32 bytes",
-        "the state is not initialized, is finished, or belongs to other functions",
+        "the state has ended, was not initialised, or belongs to other functions",
         "unknown variant",
         "the context is too long",
         "unknown record stream header",
         "the record is shorter than its head and tag",
-        "invalid page size",
-        "the contents are too long",
-        "not the length of the decrypted message"};
+        "the page size must be 256 to 65,536 bytes",
+        "the contents or the page number are too large",
+        "the length is neither 0 nor that of the decrypted message"};
     static const int codes[] = {HUNKRAVY_OK,
                                 HUNKRAVY_INVALID_TAG,
                                 HUNKRAVY_WRONG_NONCE_LENGTH,

@@ -340,8 +340,8 @@ impl<A: Algorithm, I: RafIo, R: RafRng, J: RafIo> Raf<A, I, R, J> {
         (offset / chunk_size, (offset % chunk_size) as usize)
     }
 
-    /// Puts the contents of this page into the first place, and those of the pages after it into the next ones: of a changed page
-    /// alone, and otherwise of pages up to the next changed one, which are read in one call. Returns how many: 1 to `most`.
+    /// Puts the contents of pages into their places, from this page on, and returns of how many pages: 1 to `most`. A changed page
+    /// comes alone. Others are read in one call, up to the next changed one.
     fn show_pages(&mut self, number: u64, most: u64) -> Result<usize> {
         let page_bytes = self.layout.page_bytes();
         if let Some(contents) = self.changes.get(number) {

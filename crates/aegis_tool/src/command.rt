@@ -88,14 +88,14 @@ fn new_key_argument<'a>(alloc: Global) -> Arg<'a> {
         .long("new-key-file")
         .short('n')
         .required(true)
-        .help("The key file to seal under; - for standard input")
+        .help("The new key file; - for standard input")
 }
 
 fn from_argument<'a>(alloc: Global) -> Arg<'a> {
     Arg::new(alloc, "BYTE")
         .long("from")
         .value_parser(value_parser!(u64))
-        .help("Start at this byte of the contents (from 0)")
+        .help("Start at this byte of the contents (counted from 0)")
 }
 
 fn length_argument<'a>(alloc: Global) -> Arg<'a> {
@@ -166,7 +166,7 @@ fn open<'a>(alloc: Global) -> Result<Command<'a>, AllocError> {
 
 fn rekey<'a>(alloc: Global) -> Result<Command<'a>, AllocError> {
     let command = Command::new(alloc, "rekey")
-        .about("Seals the contents of a sealed file under another key")
+        .about("Seals a sealed file again under another key")
         .arg(key_argument(alloc))?
         .arg(new_key_argument(alloc))?;
     with_files(alloc, command)
@@ -182,7 +182,7 @@ fn check<'a>(alloc: Global) -> Result<Command<'a>, AllocError> {
 
 fn info<'a>(alloc: Global) -> Result<Command<'a>, AllocError> {
     Command::new(alloc, "info")
-        .about("Prints the number of records and of bytes, without a key; verifies nothing")
+        .about("Prints how many records and bytes a file has; needs no key, verifies nothing")
         .arg(quiet_argument(alloc))?
         .arg(input_argument(alloc))
 }

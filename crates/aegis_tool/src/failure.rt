@@ -12,13 +12,13 @@ use thiserror::Error;
 /// The error of a command. Each names the file, and says what to do where something can be done.
 #[derive(Debug, Drop, Error)]
 pub enum Failure<'a> {
-    #[error("{0} is not a sealed file: its first bytes after the prefix are not AGR2")]
+    #[error("{0} is not a sealed file: its bytes 24 to 27 are not AGR2")]
     NotSealed(Name<'a>),
     #[error("{0} is a sealed file of version 1 (AGR1), which this program does not open")]
     FirstVersion(Name<'a>),
     #[error("{0}: the key is wrong, or the prefix or first record is damaged{1}")]
     Key(Name<'a>, Lost),
-    #[error("{0} is damaged{1}; record {2} does not open{3}")]
+    #[error("{0} is damaged: record {2} does not open{3}{1}")]
     Damaged(Name<'a>, Verified, u64, Lost),
     #[error("{0} is damaged: the head of a record is invalid{1}")]
     NoRecord(Name<'a>, Verified),
@@ -26,63 +26,63 @@ pub enum Failure<'a> {
     Truncated(Name<'a>, Verified),
     #[error("{0} is truncated, or a length in it is damaged: at least {1} bytes are missing")]
     Missing(Name<'a>, u64),
-    #[error("{0} has bytes after its last record")]
+    #[error("{0} is damaged: bytes follow its last record")]
     Trailing(Name<'a>),
     #[error("{0} is longer than a sealed file can be")]
     TooLong(Name<'a>),
-    #[error("{0}: the key is wrong, or the file is damaged in record {1} or in front of it{2}")]
+    #[error("{0}: the key is wrong, or the file is damaged in or before record {1}{2}")]
     DamagedPart(Name<'a>, u64, Lost),
-    #[error("{0} is damaged in the part or in front of it")]
+    #[error("{0} is damaged in or before the requested part")]
     NoPart(Name<'a>),
-    #[error("{0} is truncated in the part or in front of it")]
+    #[error("{0} is truncated in or before the requested part")]
     TruncatedPart(Name<'a>),
-    #[error("{0} has only {1} bytes of contents")]
+    #[error("{0} has only {1} bytes of contents: --from is past their end")]
     PastBytes(Name<'a>, u64),
-    #[error("{0} changed while it was read")]
+    #[error("{0} changed while it was read: try again")]
     Changed(Name<'a>),
     #[error("{0} cannot be read: {1}")]
     Input(Name<'a>, io::Error),
-    #[error("{0} is a folder: pack it with tar first: tar -c {0} | hunkravy seal -k KEY - OUT")]
+    #[error("{0} is a folder: to seal it, run tar -c {0} | hunkravy seal -k KEY - OUT")]
     Folder(Name<'a>),
     #[error("{0} cannot be written: {1}")]
     Output(Name<'a>, io::Error),
-    #[error("{0} is complete, but its folder cannot be synced: a power loss may undo the change: {1}")]
+    #[error("{0} is complete, but a power loss may undo it, since its folder cannot be synced: {1}")]
     Unsynced(Name<'a>, io::Error),
-    #[error("{0} is complete, but its second name cannot be removed")]
+    #[error("{0} is complete, but .OUT.hunkravy-* beside it remains: delete that name")]
     SecondName(Name<'a>),
     #[error("{0} cannot be written: its folder, or its temporary file .OUT.hunkravy-*, was renamed, removed or mounted over")]
     Moved(Name<'a>),
     #[error("{0} exists: use --force to replace it")]
     Exists(Name<'a>),
-    #[error("{0} exists: keygen never replaces a file")]
+    #[error("{0} exists: keygen never replaces a file, so give another name")]
     KeyExists(Name<'a>),
-    #[error("{0} is a link to a file that does not exist: name that file")]
+    #[error("{0} is a link to a missing file: give the path of that file")]
     DanglingLink(Name<'a>),
-    #[error("{0} is a link to a file that cannot be found by name: name that file")]
+    #[error("{0} is a link to a file that has no path here: give another path")]
     NoNameHere(Name<'a>),
-    #[error("{0} is a folder or a block device: name a file")]
+    #[error("{0} is a folder or a block device: give a file")]
     NoOutput(Name<'a>),
-    #[error("{0} is a device or a pipe that did not exist when the run began")]
+    #[error("{0} became a device or a pipe during the run: give another OUT")]
     Appeared(Name<'a>),
     #[error("{0} is also the input: input and output must be different files")]
     SameFile(Name<'a>),
     #[error("{0} is the key file {1}: writing it would destroy the key")]
     OverKey(Name<'a>, Name<'a>),
-    #[error("standard output is a terminal: name OUT, redirect with >, or give - as OUT to print there")]
+    #[error("standard output is a terminal: give a file as OUT, redirect with >, or give - to print")]
     Terminal,
-    #[error("the contents are not printable text: name OUT, redirect with >, or give - as OUT to print them")]
+    #[error("the contents are not printable text: give a file as OUT, redirect with >, or give - to print")]
     NoText,
-    #[error("the key file {0} cannot be read: {1}")]
+    #[error("the key cannot be read from {0}: {1}")]
     KeyFile(Name<'a>, io::Error),
-    #[error("{0} is not a key file: expected 64 hexadecimal digits and a line feed")]
+    #[error("{0} holds no key: expected 64 hexadecimal digits")]
     NoKey(Name<'a>),
     #[error("the system returned no random bytes: {0}")]
     Random(io::Error),
-    #[error("--from and --length need a file: name IN")]
+    #[error("--from and --length need a file as IN")]
     NoFile,
-    #[error("the key is read from standard input: name IN, and use a file for any second key")]
+    #[error("standard input can be used only once: give files for IN and for any second key")]
     StandardKey,
-    #[error("no command: --help lists them")]
+    #[error("no command: see hunkravy --help")]
     NoCommand,
     #[error("out of memory")]
     OutOfMemory,

@@ -351,7 +351,7 @@ impl<'a> Part<'a> {
 
     fn say_it_stays(&self, rt: &HostRuntime) {
         let _ = eprintln!(rt;
-            "hunkravy: {} was not removed, and may hold plaintext or a key",
+            "hunkravy: {} was not removed: delete it, since it may hold plaintext or a key",
             Name(self.name.as_str())
         );
     }
@@ -433,7 +433,7 @@ impl<'a> Part<'a> {
     fn say_renamed(&self, rt: &HostRuntime, error: &io::Error) {
         if !self.quiet {
             let _ = eprintln!(rt;
-                "hunkravy: {} got its name by rename, since linking failed: {error}",
+                "hunkravy: {} was renamed into place, since linking failed: {error}",
                 self.output
             );
         }

@@ -50,7 +50,7 @@ impl fmt::Display for Lost {
         match self.0 {
             Some((from, end)) if from < end => write!(
                 f,
-                " (bytes {from} to {} of the contents, if its length is right; then --from {end} opens the rest)",
+                " (bytes {from} to {} of the contents, if the length of the record is right; for the rest, try --from {end})",
                 end - 1
             ),
             _ => Ok(()),

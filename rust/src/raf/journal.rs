@@ -152,7 +152,7 @@ pub fn empty(journal: &mut impl RafIo) -> io::Result<()> {
     journal.sync()
 }
 
-/// Returns the MAC of a journal, which has taken in the length of its context. That is empty.
+/// Returns the MAC of a journal after the length of its context, which is empty.
 fn new_mac(
     key: &[u8; JOURNAL_KEY_BYTES],
     nonce: &[u8; JOURNAL_KEY_BYTES],
