@@ -1,6 +1,6 @@
 /*
- * Encrypts a file in chunks, and decrypts it again without writing a byte of a forged one:
- * AEGIS-256 on a state.
+ * Encrypts a file in chunks with AEGIS-256, and decrypts it again. The decryption first verifies
+ * the whole file, and writes nothing of a forged one.
  *
  * cc chunks.c $(pkg-config --cflags --libs hunkravy)
  */
@@ -38,7 +38,7 @@ static int encrypt_chunks(hunkravy_state *state, FILE *out, FILE *plain, uint8_t
 }
 
 /*
- * Writes `plain`, encrypted, to `out`. Returns 0, or -1 if a file or the system failed; drop the
+ * Writes `plain`, encrypted, to `out`. Returns 0, or -1 if a file or the system failed; discard the
  * output then.
  */
 static int encrypt_file(FILE *out, FILE *plain, const uint8_t *key)
@@ -54,7 +54,7 @@ static int encrypt_file(FILE *out, FILE *plain, const uint8_t *key)
         return -1;
     }
     result = encrypt_chunks(&state, out, plain, header + NONCE_BYTES);
-    /* After an error it has not ended. */
+    /* After an error the state has not ended. */
     hunkravy_wipe(&state, sizeof state);
     rewind(out);
     return result == 0 && fwrite(header, 1, HEADER_BYTES, out) == HEADER_BYTES && fflush(out) == 0
@@ -105,7 +105,7 @@ static int pass(FILE *out, FILE *encrypted, const uint8_t *key)
 
 /*
  * Writes the message of an encrypted file to `out`. Returns 0, or -1. If the file is forged,
- * nothing was written; but if a file failed, or changed between the passes, drop the output.
+ * nothing was written; but if a file failed, or changed between the passes, discard the output.
  */
 static int decrypt_file(FILE *out, FILE *encrypted, const uint8_t *key)
 {
@@ -113,7 +113,8 @@ static int decrypt_file(FILE *out, FILE *encrypted, const uint8_t *key)
 }
 
 /*
- * Encrypts and decrypts a file of several chunks. Returns 0 if all is as it should be.
+ * Encrypts and decrypts a file of several chunks, and then a changed one. Returns 0 if every step
+ * ends as expected.
  */
 static int try_files(FILE *plain, FILE *encrypted, FILE *decrypted, const uint8_t *key)
 {
@@ -154,6 +155,6 @@ int main(void)
     if (result != 0) {
         return EXIT_FAILURE;
     }
-    puts("hunkravy: the file was decrypted in chunks, and the changed file was refused");
+    puts("hunkravy: the file was decrypted in chunks, and the changed file was rejected");
     return EXIT_SUCCESS;
 }

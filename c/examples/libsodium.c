@@ -41,6 +41,6 @@ int main(void)
         return EXIT_FAILURE;
     }
     sodium_memzero(key, sizeof key);
-    puts("libsodium: the message came back, and the changed ciphertext was refused");
+    puts("libsodium: the message came back, and the changed ciphertext was rejected");
     return EXIT_SUCCESS;
 }

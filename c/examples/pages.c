@@ -1,13 +1,13 @@
 /*
- * Keeps a text in a file of sealed pages, which a crash while it writes MAY LOSE, all of it: there is
- * no journal. For files that outlast a crash use `raf` of the Cargo package or the Rattle crate
+ * Keeps a text in a file of sealed pages, of which a crash during a write MAY LOSE ALL: there is no
+ * journal. For files that outlast a crash use `raf` of the Cargo package or the Rattle crate
  * `aegis_pages`. It reads and writes the text at any place:
  *
  *     pages KEYFILE FILE PLACE [TEXT]
  *
  * A key file has 32 bytes. The first call makes the file. TEXT is written at PLACE, which is not
  * past the text's end; without TEXT it prints what is there, at most 4,096 bytes. Without FILE it
- * tries itself on a temporary file. docs/PAGES.md of the repository has the format of the file.
+ * tests itself on a temporary file. docs/PAGES.md in the repository defines the format of the file.
  *
  * cc pages.c $(pkg-config --cflags --libs hunkravy)
  */
@@ -92,7 +92,7 @@ static int read_page(const struct file *file, uint64_t number)
                HUNKRAVY_OK;
 }
 
-/* Seals the page by a nonce that is drawn for it, and writes it. */
+/* Seals the page with a random nonce, and writes it. */
 static int write_page(const struct file *file, uint64_t number)
 {
     uint8_t nonce[NONCE_BYTES];
@@ -124,7 +124,7 @@ static long read_text(const struct file *file, uint8_t *bytes, size_t length, ui
     return (long)length;
 }
 
-/* Writes over the text. A page that has some keeps what is not written over. */
+/* Writes over the text. Pages keep the bytes that are not overwritten. */
 static int write_text(struct file *file, const uint8_t *bytes, size_t length, uint64_t place)
 {
     size_t done = 0, count, at;
@@ -190,6 +190,9 @@ int main(int count, char **arguments)
 
     if (count == 4 || count == 5) {
         result = run(&file, arguments, arguments[4]);
+        if (!result) {
+            fputs("pages: failed: check KEYFILE, FILE, PLACE and the output\n", stderr);
+        }
     } else if (count > 2) {
         fputs("usage: pages KEYFILE FILE PLACE [TEXT]\n", stderr);
     } else if (temporary != NULL && getentropy(file.key, sizeof file.key) == 0) {

@@ -6,7 +6,7 @@
  *     records open KEYFILE < sealed > plain
  *
  * A key file has 32 bytes. If the opener fails, what it has written is only the beginning of what
- * was sealed. Without these arguments the program tries both on each other.
+ * was sealed. Without these arguments the program tests itself.
  *
  * cc records.c $(pkg-config --cflags --libs hunkravy)
  */
@@ -34,7 +34,7 @@ static const uint8_t CONTEXT[] = "example record streams, version 1";
 static uint8_t record[PIECE_BYTES + HUNKRAVY_RECORD_BYTES];
 static uint8_t *const piece = record + HEAD_BYTES;
 
-/* Says whether a file has no more bytes. Of a file that failed ferror then holds. */
+/* Says whether a file has no more bytes. If reading failed, ferror is set. */
 static int is_at_end(FILE *in)
 {
     int byte = getc(in);
@@ -80,7 +80,7 @@ static int seal(FILE *out, FILE *in, const uint8_t *key)
     }
     result =
         fwrite(begin, 1, sizeof begin, out) == sizeof begin ? seal_pieces(&stream, out, in) : -1;
-    /* After an error it has not ended. */
+    /* After an error the stream has not ended. */
     hunkravy_wipe(&stream, sizeof stream);
     return result;
 }
@@ -132,7 +132,7 @@ static int open_sealed(FILE *out, FILE *in, const uint8_t *key)
     return result;
 }
 
-/* ---- Trying both on each other */
+/* ---- The program's test of itself */
 
 /* Opens what another process seals to a pipe. Returns 0, or -1. */
 static int through_pipe(FILE *opened, FILE *plain, const uint8_t *key)
@@ -158,7 +158,7 @@ static int through_pipe(FILE *opened, FILE *plain, const uint8_t *key)
     return waitpid(child, &status, 0) == child && status == 0 ? result : -1;
 }
 
-/* Seals `plain` to a file, and changes the byte `at` from its end. Returns 0 if it is refused. */
+/* Seals `plain` to a file, and changes the byte `at` from its end. Returns 0 if it is rejected. */
 static int try_changed(FILE *plain, const uint8_t *key, long at)
 {
     FILE *sealed = tmpfile(), *opened = tmpfile();
@@ -238,13 +238,16 @@ int main(int count, char **arguments)
                      : strcmp(arguments[1], "open") == 0 ? open_sealed(stdout, stdin, key)
                                                          : -1;
         }
+        if (result != 0) {
+            fputs("records: failed: check the command, KEYFILE, input and output\n", stderr);
+        }
     } else {
         FILE *plain = tmpfile(), *opened = tmpfile();
         if (plain != NULL && opened != NULL && getentropy(key, sizeof key) == 0) {
             result = try_all(plain, opened, key);
         }
         if (result == 0) {
-            puts("hunkravy: a stream was opened from a pipe, and each changed one was refused");
+            puts("hunkravy: a stream was opened from a pipe, and each changed one was rejected");
         }
     }
     hunkravy_wipe(key, sizeof key);

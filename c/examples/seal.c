@@ -1,7 +1,7 @@
 /*
- * Encrypts a message into a packet, and decrypts it again: AEGIS-256, a nonce drawn at random, a
- * tag of 32 bytes. A packet that is sent twice opens twice: put a number into the message, and
- * reject a number that came before, if that matters.
+ * Encrypts a message into a packet, and decrypts it again: AEGIS-256, a random nonce, a tag of 32
+ * bytes. A packet that is sent twice decrypts twice: if that matters, number the messages and
+ * reject repeats.
  *
  * cc seal.c $(pkg-config --cflags --libs hunkravy)
  */
@@ -55,7 +55,7 @@ static int open_packet(uint8_t *message, const uint8_t *packet, size_t length, c
     return 0;
 }
 
-/* Seals and opens a packet, and one that was changed. Returns 0 if all is as it should be. */
+/* Seals and opens a packet, and then a changed one. Returns 0 if every step ends as expected. */
 static int try_packet(const uint8_t *key)
 {
     static const uint8_t message[] = "a message";
@@ -84,6 +84,6 @@ int main(void)
     if (result != 0) {
         return EXIT_FAILURE;
     }
-    puts("hunkravy: the packet was opened, and the changed packet was refused");
+    puts("hunkravy: the packet was opened, and the changed packet was rejected");
     return EXIT_SUCCESS;
 }

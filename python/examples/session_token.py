@@ -1,4 +1,4 @@
-"""Session tokens: a server gives one to a client, which can neither read nor change it, and accepts it until it
+"""Session tokens: a server gives one to a client, which cannot read or change it; the server accepts it until it
 expires.
 
 A token is URL-safe base64 of a key's id (4 bytes), a nonce (32), and the encrypted payload with its tag. The id is
@@ -22,7 +22,7 @@ PURPOSE = b"session token, version 1"
 
 
 class InvalidToken(Exception):
-    """The token is too old, was altered, or is of a key that is not known."""
+    """The token is too old, was altered, or was issued under an unknown key."""
 
 
 class Tokens:
@@ -52,7 +52,7 @@ class Tokens:
             content = json.loads(cipher.decrypt(nonce, ciphertext, PURPOSE + key_id))
         except InvalidTag:
             raise InvalidToken from None
-        # A time that is no number is late too.
+        # A time that is not a number is late too.
         if not (time.time() if now is None else now) < content["until"]:
             raise InvalidToken
         return content["payload"]

@@ -17,7 +17,7 @@ not authentic
 Never use a nonce twice under one key: nothing detects it.
 
 The ciphers are a C library with a proved core. This package is tested, and not proved. Several threads may use an
-object, and other threads run while the library works on 4 KiB or more.
+object, and the GIL is released for work on 4 KiB or more.
 """
 
 from ._ciphers import (
@@ -72,7 +72,7 @@ __all__ = [
 
 
 def level() -> int:
-    """Returns which build of the library runs: 3 or 2 for x86-64-v3 or x86-64-v2, and 0 on ARM.
+    """Returns which build of the library runs: 3 or 2 for x86-64-v3 or x86-64-v2, and 0 on aarch64.
 
     >>> level() in (0, 2, 3)
     True

@@ -18,12 +18,12 @@ NO_DATA = b""
 class Cipher(variants.Variant, variants.Secret):
     """A cipher with a key: `Aegis256` or another of the six variants.
 
-    `key` has `KEY_BYTES` bytes. `tag_length` is the length of its tags in bytes, 16 or 32. Another length of either is
-    a `ValueError`.
+    `key` has `KEY_BYTES` bytes. `tag_length` is the length of its tags in bytes, 16 or 32. Any other length of either
+    raises `ValueError`.
 
     Keys, nonces, data and associated data may be any contiguous buffers of bytes, such as bytes, bytearray, memoryview,
-    mmap and array. A nonce has `NONCE_BYTES` bytes. Another length of a nonce or of an output buffer is a `ValueError`,
-    and then nothing is written.
+    mmap and array. A nonce has `NONCE_BYTES` bytes. Any other length of a nonce or of an output buffer raises
+    `ValueError`, and then nothing is written.
     """
 
     __slots__ = ("_cipher", "_tag_length")
@@ -64,7 +64,7 @@ class Cipher(variants.Variant, variants.Secret):
         associated_data: Optional[ReadableBuffer],
         buf: WriteableBuffer,
     ) -> int:
-        """Encrypts a message into a buffer of the message's length and the tag's. Returns that length.
+        """Encrypts a message into `buf`, which must be as long as message and tag together. Returns that length.
 
         The other arguments may lie in the buffer. Until the method returns, the buffer may hold the message. If it
         raises an exception, nothing was written.
@@ -107,7 +107,7 @@ class Cipher(variants.Variant, variants.Secret):
         return Decryptor._of(self._begin(nonce, associated_data))
 
     def keystream(self, nonce: ReadableBuffer, length: int) -> bytes:
-        """Returns the first bytes of a keystream. Never use a nonce for a message and for a keystream."""
+        """Returns the first bytes of a keystream. Never use a nonce for both a message and a keystream."""
         return self._cipher.keystream(nonce, length)
 
     def _begin(self, nonce: ReadableBuffer, associated_data: Optional[ReadableBuffer]) -> _native.State:
@@ -117,14 +117,14 @@ class Cipher(variants.Variant, variants.Secret):
 class Chunks(variants.Secret):
     """A message in chunks. Each method raises `RuntimeError` once the message has ended.
 
-    A method that raises `TypeError`, `ValueError` or `MemoryError` has taken nothing in.
+    A method that raises `TypeError`, `ValueError` or `MemoryError` has had no effect.
     """
 
     __slots__ = ("_state",)
     _state: _native.State
 
     def __init__(self) -> None:
-        raise TypeError(f"only ciphers make {type(self).__name__} objects, with `encryptor` and `decryptor`")
+        raise TypeError(f"create {type(self).__name__} objects with a cipher's `encryptor` or `decryptor`")
 
     @classmethod
     def _of(cls, state: _native.State) -> Self:
@@ -179,8 +179,8 @@ class Decryptor(Chunks):
     def finalize(self, tag: ReadableBuffer) -> bytes:
         """Ends the ciphertext, and returns its message.
 
-        Raises `InvalidTag`, and erases the message, if the tag is wrong. A tag of another length is a `ValueError`, and
-        then the ciphertext has not ended.
+        Raises `InvalidTag`, and erases the message, if the tag is wrong. Any other length of the tag raises
+        `ValueError`, and `finalize` can be called again.
         """
         return self._state.decrypt_final(tag)
 

@@ -41,9 +41,9 @@ MOST_PIECE_BYTES = 1 << 24
 KEY_FILE = re.compile(rb"([0-9A-Fa-f]{64})(?:\s{0,2}|\xc2[\x85\xa0])")
 
 CAUSES = {
-    "header": "the file does not begin with the header of a sealed file",
-    "truncated": "the file ends before the end of its last record",
-    "flag": "the flag of record {} is neither 0 nor 1",
+    "header": "not a sealed file: bytes 24 to 27 are not AGR2",
+    "truncated": "the file is truncated",
+    "flag": "the first byte of record {} is neither 0 nor 1",
     "too_long": "the length of record {} is more than 16 MiB",
     "damaged": "record {} is damaged, or the key is wrong",
     "trailing": "bytes follow the last record",
@@ -51,7 +51,7 @@ CAUSES = {
 
 
 class SealedFileError(ValueError):
-    """The file is no sealed file, is damaged or truncated, or the key is wrong.
+    """The file is not a sealed file, is damaged or truncated, or the key is wrong.
 
     `cause` is "header", "truncated", "flag", "too_long", "damaged" or "trailing". `record` is the number of the record
     that was read, counted from 0.
@@ -67,14 +67,15 @@ class SealedFileError(ValueError):
 
 
 def read_key(path: Union[str, os.PathLike[str]]) -> bytes:
-    """Returns the key of a key file of the tool: 64 hexadecimal digits, and at most two bytes of white space.
+    """Returns the key of a key file of the tool `hunkravy`.
 
-    Raises `ValueError` if it is no key file, and `OSError` if it cannot be read.
+    A key file has 64 hexadecimal digits, and at most two bytes of white space. Raises `ValueError` if it is not a key
+    file, and `OSError` if it cannot be read.
     """
     with open(path, "rb") as file:
         found = KEY_FILE.fullmatch(file.read(67))
     if found is None:
-        raise ValueError(f"{os.fspath(path)!r} is not a key file")
+        raise ValueError(f"{os.fspath(path)!r} is not a key file: expected 64 hexadecimal digits")
     return bytes.fromhex(found[1].decode())
 
 
@@ -140,7 +141,7 @@ class SealedWriter(Sealed):
             return len(contents)
 
     def close(self) -> None:
-        """Completes the file, unless a method raised an exception before: then it raises `OSError`.
+        """Completes the file, or raises `OSError` if an earlier write failed.
 
         In a `with` block of the writer the file is completed at its end.
         """
@@ -178,7 +179,7 @@ class SealedWriter(Sealed):
         # That of the base class would complete the file.
         super().close()
         if self._may_finish:
-            warnings.warn(f"{type(self).__name__} was dropped: its file is not complete", ResourceWarning, source=self)
+            warnings.warn(f"{type(self).__name__} was not closed: its file is incomplete", ResourceWarning, source=self)
 
     def _check_may_finish(self) -> None:
         if not self._may_finish:
@@ -227,7 +228,7 @@ class SealedReader(Sealed):
     later call raises it again. The first one may come when the reader is made. `file` is not closed.
 
     If `file` can seek, the reader can: the place is found with the lengths of the records before it, whose contents are
-    not verified. Reading single lines is fast with an `io.BufferedReader` around the reader.
+    not verified. To read line by line, wrap the reader in an `io.BufferedReader`.
     """
 
     def __init__(self, file: BinaryIO, key: ReadableBuffer) -> None:
@@ -291,21 +292,22 @@ class SealedReader(Sealed):
             return filled
 
     def readall(self) -> Union[bytes, Any]:
-        """Returns the rest of the contents. That of the base class reads less at a time."""
+        """Returns the rest of the contents."""
+        # The method of the base class reads less at a time.
         parts = []
         while part := self.read(PIECE_BYTES):
             parts.append(part)
         return part if part is None and not parts else b"".join(parts)
 
     def seek(self, offset: int, whence: int = os.SEEK_SET) -> int:
-        """Goes to a position in the contents, and returns it. No bytes are read after the end of the contents.
+        """Goes to a position in the contents, and returns it. Reading past the end returns no bytes.
 
         Verifies the record that has the position, and with `os.SEEK_END` the last one.
         """
         offset = operator.index(offset)
         with self._lock:
             if not self.seekable():
-                raise io.UnsupportedOperation("the file cannot seek")
+                raise io.UnsupportedOperation("the underlying file is not seekable")
             if whence not in (os.SEEK_SET, os.SEEK_CUR, os.SEEK_END):
                 raise ValueError(f"whence must be 0, 1 or 2, not {whence}")
             self._begin_call()
@@ -319,7 +321,7 @@ class SealedReader(Sealed):
             self._position = position
             self._error = None
             if sought < 0:
-                raise ValueError(f"the position {sought} is in front of the contents")
+                raise ValueError(f"negative position {sought}")
             return position
 
     def close(self) -> None:
@@ -337,7 +339,7 @@ class SealedReader(Sealed):
         if self._error is not None:
             # Another one each time, since a raised one keeps the frames, and what they hold.
             raise type(self._error)(*self._error.args)
-        self._error = OSError("an earlier call of this reader was interrupted")
+        self._error = OSError("an earlier call was interrupted: open the file again")
 
     def _fault(self, cause: str) -> SealedFileError:
         return SealedFileError(cause, self._number)

@@ -18,7 +18,7 @@ class Mac(variants.Variant, variants.Secret):
 
     `key` has `KEY_BYTES` bytes, and must be used for nothing but MACs. `message` is the first chunk of the input, as in
     `hmac.new`: it is not a nonce. `nonce` has `NONCE_BYTES` bytes, and is zeros if it is left out. `tag_length` is the
-    length of the MAC in bytes, 16 or 32. Another length of a key or a nonce is a `ValueError`.
+    length of the MAC in bytes, 16 or 32. Any other length of a key or a nonce raises `ValueError`.
 
     >>> from hunkravy import Aegis128LMac
     >>> mac = Aegis128LMac(bytes(16))
@@ -64,12 +64,12 @@ class Mac(variants.Variant, variants.Secret):
     def verify(self, mac: ReadableBuffer) -> None:
         """Raises `InvalidTag` unless this is the MAC of the input so far. More input may follow.
 
-        The time does not depend on where they differ. Bytes of another length are a `ValueError`.
+        The comparison does not stop at the first difference. Any other length raises `ValueError`.
         """
         self._state.mac_verify(mac)
 
     def copy(self) -> Self:
-        """Returns a MAC that has taken in the same input, with a state of its own.
+        """Returns an independent copy with the same input so far.
 
         If a subclass has attributes, the copy has them too, except those in slots.
         """

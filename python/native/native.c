@@ -51,7 +51,9 @@ static void *result_of(void *object, int code, void *result)
     PyObject *error = code == HUNKRAVY_INVALID_TAG ? of_module(object, "InvalidTag")
         : Py_NewRef(code == HUNKRAVY_WRONG_STATE ? PyExc_RuntimeError : PyExc_ValueError);
     if (error != NULL) {
-        PyErr_SetString(error, hunkravy_error_text(code));
+        /* The package's classes call a state only in its own role, and so get this code only after its message. */
+        PyErr_SetString(error,
+            code == HUNKRAVY_WRONG_STATE ? "this message has already ended" : hunkravy_error_text(code));
         Py_DECREF(error);
     }
     return NULL;
@@ -369,7 +371,7 @@ static PyObject *cipher_new(PyTypeObject *type, PyObject *arguments, PyObject *n
         return NULL;
     }
     if (hunkravy_key_bytes(variant) == 0) {
-        PyErr_SetString(PyExc_TypeError, "only the six variants are made, such as Aegis256");
+        PyErr_SetString(PyExc_TypeError, "use one of the six variants, such as Aegis256");
     } else if (tag_length != HUNKRAVY_SHORT_TAG_BYTES && tag_length != HUNKRAVY_LONG_TAG_BYTES) {
         PyErr_Format(PyExc_ValueError, "tag_length must be 16 or 32, not %zd", tag_length);
     } else if (has_length("the key", key.len, hunkravy_key_bytes(variant))) {

@@ -214,7 +214,7 @@ class Damaged(unittest.TestCase):
 
     def test_error_messages(self) -> None:
         for cause, text in (
-            ("header", "the file does not begin with the header of a sealed file"),
+            ("header", "not a sealed file: bytes 24 to 27 are not AGR2"),
             ("damaged", "record 3 is damaged, or the key is wrong"),
         ):
             self.assertEqual(str(SealedFileError(cause, 3)), text)
@@ -273,7 +273,7 @@ class Writing(unittest.TestCase):
         writer.write(bytes(100_000))
         writer.flush()
         self.assertEqual(len(file.getvalue()), 28 + 37 + PIECE)
-        with self.assertRaisesRegex(SealedFileError, "^the file ends before"):
+        with self.assertRaisesRegex(SealedFileError, "^the file is truncated$"):
             SealedReader(io.BytesIO(file.getvalue()), KEY).read()
         writer.close()
         writer.close()
@@ -290,7 +290,7 @@ class Writing(unittest.TestCase):
                 self.assertEqual(SealedReader(written, KEY).read(), b"contents")
 
     def assert_incomplete(self, file: io.BytesIO) -> None:
-        with self.assertRaisesRegex(SealedFileError, "^the file ends before"):
+        with self.assertRaisesRegex(SealedFileError, "^the file is truncated$"):
             SealedReader(io.BytesIO(file.getvalue()), KEY).read()
 
     def test_an_exception_in_a_block(self) -> None:
@@ -319,7 +319,7 @@ class Writing(unittest.TestCase):
 
     def test_a_writer_that_is_dropped(self) -> None:
         file = io.BytesIO()
-        with self.assertWarnsRegex(ResourceWarning, "not complete"):
+        with self.assertWarnsRegex(ResourceWarning, "was not closed: its file is incomplete$"):
             SealedWriter(file, KEY).write(b"contents")
         self.assert_incomplete(file)
 
@@ -651,7 +651,7 @@ class Keys(unittest.TestCase):
                 read_key(str(path) + "-missing")
 
     def assert_rejected(self, path: pathlib.Path) -> None:
-        with self.assertRaisesRegex(ValueError, "is not a key file$") as raised:
+        with self.assertRaisesRegex(ValueError, "is not a key file: expected 64 hexadecimal digits$") as raised:
             read_key(path)
         self.assertNotIn("00112233", str(raised.exception))
 

@@ -1,4 +1,5 @@
-//! Sends encrypted messages over a pair of sockets: none can be changed, left out, repeated or moved, nor the end cut off.
+//! Sends encrypted messages over a pair of sockets: changed, missing, repeated or moved messages, and a truncated stream, are
+//! detected.
 
 use hunkravy::records::{HEADER_BYTES, Key, Opener, Prefix, RECORD_HEAD_BYTES, Sealer};
 use std::error::Error;

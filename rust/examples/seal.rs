@@ -1,4 +1,4 @@
-//! Seals and opens a message, at once and in chunks, and makes its MAC.
+//! Seals and opens a message, in one call and in chunks, and computes its MAC.
 
 use hunkravy::ERASED;
 use hunkravy::aegis256::{Aegis256, Error, Key, Nonce, Tag};
@@ -9,7 +9,7 @@ fn seal(key: &Key, nonce: &Nonce, header: &[u8], message: &mut [u8]) -> Tag<32> 
     Aegis256::new(key, nonce).encrypt_in_place(message, header)
 }
 
-/// Turns a ciphertext into its message. One that is refused is erased.
+/// Turns a ciphertext into its message. One that is rejected is erased.
 fn open(
     key: &Key,
     nonce: &Nonce,
@@ -73,7 +73,7 @@ fn main() -> Result<(), Error> {
     check_chunks(&[7; 32], &[2; 32])?;
     check_mac(&[8; 32])?;
 
-    // A program takes both from a source of random bytes, and no nonce twice under one key.
+    // A real program generates both at random, and never uses a nonce twice under one key.
     let (key, nonce) = ([7; 32], [1; 32]);
     let mut buffer = *b"the message";
     let tag = seal(&key, &nonce, b"the header", &mut buffer);
@@ -85,6 +85,6 @@ fn main() -> Result<(), Error> {
     let refused = open(&key, &nonce, b"another header", &mut buffer, &tag);
     assert_eq!(refused, Err(Error::InvalidTag));
     assert_eq!(buffer, [ERASED; 11]);
-    println!("opened, and refused with another header");
+    println!("opened, and rejected with another header");
     Ok(())
 }

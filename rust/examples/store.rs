@@ -1,8 +1,8 @@
-//! A small store of names and values in an encrypted file. A crash leaves all of a change, or nothing of it; but one while
-//! the file is made may leave a file that does not open, which is to be removed.
+//! A small store of names and values in an encrypted file. A crash leaves all of a change, or nothing of it; but a crash
+//! during creation may leave a file that does not open: remove it.
 //!
 //! `store KEYFILE FILE NAME=VALUE` sets a value, and `store KEYFILE FILE` prints all of them. A key is made by
-//! `head -c 32 /dev/urandom > KEYFILE`. Without arguments it tries itself on a file that it removes.
+//! `head -c 32 /dev/urandom > KEYFILE`. Without arguments it tests itself on a file that it removes.
 
 use hunkravy::raf::{Aegis256, Raf};
 use std::collections::BTreeMap;
@@ -36,7 +36,7 @@ impl Store {
     /// Sets a value. With `Ok` it is certain to be there after a crash. After an error open the store again.
     fn set(&mut self, name: &str, value: &str) -> Result<()> {
         if name.contains(['=', '\n']) || value.contains(['\r', '\n']) {
-            return Err("a name has no = and no line, and a value is one line".into());
+            return Err("a name must have no = or newline, and a value must be one line".into());
         }
         self.values.insert(name.to_owned(), value.to_owned());
         let text = self.text();
@@ -81,7 +81,7 @@ fn run() -> Result<()> {
     }
     let mut store = Store::open(path, &read_key(key)?)?;
     for line in rest {
-        let (name, value) = line.split_once('=').ok_or("not NAME=VALUE")?;
+        let (name, value) = line.split_once('=').ok_or("expected NAME=VALUE")?;
         store.set(name, value)?;
     }
     print!("{}", store.text());

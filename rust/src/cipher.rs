@@ -10,10 +10,10 @@ use core::fmt;
 /// A cipher with tags of `TAG_BYTES` bytes, 16 or 32: a key and a nonce.
 ///
 /// Use a nonce for one message or one keystream under a key, and never again. Nothing checks this. The functions for one
-/// message consume the cipher, and the functions for chunks borrow it. Ciphers of more than one lane are `Copy`.
+/// message consume the cipher, and the functions for chunks borrow it. The X2 and X4 ciphers are `Copy`.
 ///
-/// Lengths are in bytes. Associated data and a message have at most [`MAX_AEAD_BYTES`](crate::MAX_AEAD_BYTES) each: with more
-/// the functions panic before they have changed anything. Keystreams have no limit. Only [`encrypt`](Self::encrypt),
+/// Lengths are in bytes. Associated data and a message have at most [`MAX_AEAD_BYTES`](crate::MAX_AEAD_BYTES) each: if one is
+/// longer, the functions panic and change nothing. Keystreams have no limit. Only [`encrypt`](Self::encrypt),
 /// [`decrypt`](Self::decrypt) and [`stream_xor`](Self::stream_xor) allocate.
 ///
 /// ```
@@ -26,7 +26,7 @@ use core::fmt;
 /// # Ok::<(), Error>(())
 /// ```
 ///
-/// A cipher of one lane encrypts one message:
+/// An AEGIS-128L or AEGIS-256 cipher encrypts one message:
 ///
 /// ```compile_fail,E0382
 /// let cipher = hunkravy::aegis128l::Aegis128L::<16>::new(&[1; 16], &[2; 16]);
@@ -100,7 +100,7 @@ impl<V: Variant, const TAG_BYTES: usize> Cipher<V, TAG_BYTES> {
         tag
     }
 
-    /// Decrypts a ciphertext, and returns its message. Comparing the tags reads each byte.
+    /// Decrypts a ciphertext, and returns its message. The comparison of the tags does not stop at the first difference.
     ///
     /// # Errors
     ///
@@ -123,7 +123,7 @@ impl<V: Variant, const TAG_BYTES: usize> Cipher<V, TAG_BYTES> {
         Ok(mc)
     }
 
-    /// Decrypts the ciphertext at `mc` in place. Comparing the tags reads each byte.
+    /// Decrypts the ciphertext at `mc` in place. The comparison of the tags does not stop at the first difference.
     ///
     /// # Errors
     ///
@@ -149,7 +149,7 @@ impl<V: Variant, const TAG_BYTES: usize> Cipher<V, TAG_BYTES> {
         accepted(V::EXPORTS.decrypt_in_place(mc, ad, nonce, key, tag))
     }
 
-    /// Overwrites `out` with the keystream from its beginning. `TAG_BYTES` has no effect on it.
+    /// Fills `out` with the beginning of the keystream. `TAG_BYTES` has no effect on it.
     ///
     /// ```
     /// use hunkravy::aegis128x4::Aegis128X4;
@@ -210,7 +210,7 @@ impl<V: Variant, const TAG_BYTES: usize> Cipher<V, TAG_BYTES> {
         Encryptor::new(Run::new(&self.key, &self.nonce, associated_data))
     }
 
-    /// Begins to decrypt a message in chunks, into `plaintext`, which has room for the whole message.
+    /// Begins to decrypt a message in chunks, into `plaintext`, which must have room for the whole message.
     ///
     /// ```
     /// use hunkravy::aegis128l::{Aegis128L, Error};

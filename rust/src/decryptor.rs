@@ -9,8 +9,8 @@ use core::{fmt, mem};
 ///
 /// [`Cipher::decryptor`](crate::Cipher::decryptor) returns one. Nothing can read the destination while it is borrowed, and
 /// [`finalize`](Self::finalize) returns the message only if the tag is right. After a wrong tag, or if the decryptor is
-/// dropped before, zeros overwrite the message, and the rest of the destination is unchanged. A decryptor that is leaked, for
-/// example by [`mem::forget`](core::mem::forget), overwrites nothing.
+/// dropped first, zeros overwrite the message, and the rest of the destination is unchanged. A decryptor that is leaked, for
+/// example with [`mem::forget`](core::mem::forget), overwrites nothing.
 ///
 /// ```
 /// use hunkravy::aegis128l::{Aegis128L, Error};

@@ -4,7 +4,7 @@ use crate::run::Run;
 use crate::{Tag, Variant};
 use core::fmt;
 
-/// Encrypts a message in chunks of any lengths: each byte to a byte of ciphertext, and the tag at the end.
+/// Encrypts a message in chunks of any lengths: each chunk gives as many bytes of ciphertext, and the end the tag.
 ///
 /// [`Cipher::encryptor`](crate::Cipher::encryptor) returns one. If it is dropped before [`finalize`](Self::finalize), there is
 /// no tag, and the ciphertext cannot be decrypted.
@@ -33,7 +33,7 @@ impl<V: Variant, const TAG_BYTES: usize> Encryptor<V, TAG_BYTES> {
         Self { run }
     }
 
-    /// Encrypts the next chunk into `ciphertext`, which has the same length.
+    /// Encrypts the next chunk into `ciphertext`, which must have the same length.
     ///
     /// # Panics
     ///
@@ -52,7 +52,7 @@ impl<V: Variant, const TAG_BYTES: usize> Encryptor<V, TAG_BYTES> {
         assert_eq!(
             plaintext.len(),
             ciphertext.len(),
-            "a chunk's ciphertext has its length"
+            "the buffers must have equal length"
         );
         assert!(
             plaintext.len() as u64 <= self.remaining(),

@@ -8,7 +8,7 @@
 
 use core::marker::PhantomData;
 
-/// Each byte of a buffer in place after authentication has failed: 0xaa.
+/// The value of each byte of an in-place buffer after authentication fails: 0xaa.
 pub const ERASED: u8 = 0xaa;
 
 /// The error of a function: the first wrong length, or else the tag.

@@ -106,7 +106,7 @@ impl<V: Variant, const TAG_BYTES: usize> Mac<V, TAG_BYTES> {
         self.run.mac()
     }
 
-    /// Checks that `expected` is the MAC of the input. The comparison reads each byte.
+    /// Checks that `expected` is the MAC of the input. The comparison does not stop at the first difference.
     ///
     /// # Errors
     ///

@@ -6,9 +6,9 @@
 //! writes its changes to the journal first, the file `PATH.journal` beside the file. It removes the journal at the end. Opening
 //! completes a commit that was interrupted.
 //!
-//! Bytes that are read are zeros, or were written at this place of this file or of a copy of it. They may be older ones: an
-//! older page, or an older file, is detected only if [`Raf::commitment`] was kept elsewhere. After the end of its contents an
-//! older page has zeros, or bytes that were truncated there.
+//! A read returns zeros, or bytes that were written at this place of this file or of a copy. They may be old: an older page or
+//! file is detected only with a [`Raf::commitment`] kept elsewhere. Past the end of its contents an older page holds zeros, or
+//! bytes truncated there.
 //!
 //! ```
 //! use hunkravy::raf::{Aegis256, Raf};
@@ -34,9 +34,9 @@
 //! The names are those of the module `raf` of the crate `aegis`. The format of the files and the derived keys are different.
 //! [`Raf::commitment`] and [`Raf::verify`] replace the Merkle tree. Changes need a commit, and an open file is locked.
 //!
-//! `docs/PAGES.md` in the repository of Hunkravy has the format. The proved crate `aegis_pages` reads and writes it too. Proved
-//! functions of the library encrypt and decrypt each page and each header, and authenticate a journal. Reading and writing files
-//! around them is tested against the proved crate, and not proved.
+//! `docs/PAGES.md` in the repository defines the format. The proved crate `aegis_pages` reads and writes it too. Proved
+//! functions of the library encrypt and decrypt each page and each header, and authenticate a journal. Reading and writing
+//! files around them is tested against the proved crate, and not proved.
 
 mod algorithm;
 mod batch;
@@ -88,9 +88,8 @@ pub const MAX_SIZE: u64 = 1 << 60;
 
 /// An encrypted file. [`RafBuilder`] has all ways to create and to open one.
 ///
-/// Changes are kept in memory until a commit: [`commit`](Raf::commit), [`sync`](Raf::sync), dropping, and a
-/// [`write`](Raf::write) or [`truncate`](Raf::truncate) after which they are more than the
-/// [limit](RafBuilder::buffer_limit).
+/// Changes are kept in memory until a commit: [`commit`](Raf::commit), [`sync`](Raf::sync), dropping, and any
+/// [`write`](Raf::write) or extending [`truncate`](Raf::truncate) that leaves them past the [limit](RafBuilder::buffer_limit).
 ///
 /// **Dropping ignores the error of its commit**, so call `commit` first. After a change or a commit that has failed or panicked,
 /// dropping does not commit, until a `commit` succeeds or [`discard`](Raf::discard) is called. Dropping does not commit while its
@@ -148,7 +147,8 @@ impl<A: Algorithm, I: RafIo, R: RafRng, J: RafIo> Raf<A, I, R, J> {
         self.size
     }
 
-    /// Reads the contents from `offset` on. Returns how many bytes: as many as `buf` has, or those up to the end.
+    /// Reads the contents at `offset` into `buf`. Returns the number of bytes: the length of `buf`, or fewer at the end of the
+    /// contents.
     ///
     /// # Errors
     ///
@@ -191,9 +191,9 @@ impl<A: Algorithm, I: RafIo, R: RafRng, J: RafIo> Raf<A, I, R, J> {
     ///
     /// # Errors
     ///
-    /// [`Error::TooLong`], [`Error::Damaged`], [`Error::Io`] or [`Error::Broken`]: nothing has changed. If memory does not suffice
-    /// it is an [`Error::Io`] of kind [`OutOfMemory`](std::io::ErrorKind::OutOfMemory). Or an error of
-    /// [`commit`](Raf::commit): the change is in memory as that function says. With a limit of `usize::MAX` no write commits.
+    /// - [`Error::TooLong`], [`Error::Damaged`], [`Error::Broken`], or [`Error::Io`] (of kind
+    ///   [`OutOfMemory`](std::io::ErrorKind::OutOfMemory) if memory runs out): nothing has changed.
+    /// - An error of [`commit`](Raf::commit), which documents the state. With a limit of `usize::MAX` no write commits.
     pub fn write(&mut self, data: &[u8], offset: u64) -> Result<usize> {
         // It stays so if the change fails, or if a panic ends it.
         let was_cut_short = core::mem::replace(&mut self.is_cut_short, true);

@@ -1,7 +1,7 @@
 //! Record streams: lists of messages, each of which is encrypted and decrypted on its own with AEGIS-256.
 //!
 //! They are for messages over a socket, and for more data than memory holds. A record opens only at its place in its stream, so
-//! none can be changed, left out, repeated or moved. The last record is marked, so a truncated stream is detected.
+//! changed, missing, repeated or moved records are detected. The last record is marked, so a truncated stream is detected.
 //!
 //! A stream has a header of [`HEADER_BYTES`] and a record for each message. Its prefix is sent or stored beside it, and does
 //! not have to be secret. **Use a prefix for one stream only under a key**: generate it at random. The context names what the

@@ -10,7 +10,7 @@ pub type Tag<const TAG_BYTES: usize> = [u8; TAG_BYTES];
 /// A variant of AEGIS. The marker of each module implements it, and is the first parameter of [`Cipher`](crate::Cipher),
 /// [`Encryptor`](crate::Encryptor), [`Decryptor`](crate::Decryptor) and [`Mac`](crate::Mac).
 ///
-/// No other type can implement it. It is for code that is generic in the variant:
+/// No other type can implement it. It is for code that is generic over the variant:
 ///
 /// ```
 /// use hunkravy::{Cipher, Tag, Variant, aegis128l::Aegis128L, aegis256::Aegis256};
@@ -57,7 +57,7 @@ pub(crate) const fn assert_tag_bytes<const TAG_BYTES: usize>() {
     const {
         assert!(
             TAG_BYTES == 16 || TAG_BYTES == 32,
-            "a tag has 16 or 32 bytes"
+            "TAG_BYTES must be 16 or 32"
         )
     }
 }
@@ -68,7 +68,7 @@ macro_rules! module {
         $(#[$use:meta])*
         mod $module:ident, $standard:literal, $cipher:ident, $mac:ident, $exports:ident, $bytes:literal $(, $copy:meta)?
     ) => {
-        #[doc = concat!($standard, ": ", $bytes, " bytes of key and of nonce.")]
+        #[doc = concat!($standard, ": keys and nonces of ", $bytes, " bytes.")]
         ///
         $(#[$use])*
         ///

@@ -40,7 +40,7 @@ fn records() {
 fn seal() {
     let printed = printed("seal", &[]);
     assert_eq!(printed.lines().count(), 3);
-    assert!(printed.ends_with("opened, and refused with another header\n"));
+    assert!(printed.ends_with("opened, and rejected with another header\n"));
 }
 
 #[test]

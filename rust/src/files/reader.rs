@@ -12,22 +12,22 @@ const FIRST_BYTES: usize = RECORD_BYTES + PIECE_BYTES;
 
 /// Decrypts a sealed file, which it reads from an inner reader. It returns only verified bytes.
 ///
-/// **The file is whole only if reading reaches the end without an error.** Then the last record was verified, and nothing
+/// **The file is complete only if reading reaches the end without an error.** Then the last record was verified, and nothing
 /// follows it. Earlier bytes are a verified prefix of the contents. Nothing is read from the inner reader before the first
 /// read or seek.
 ///
-/// Over an inner reader that is [`Seek`](io::Seek) it is `Seek` too. A seek verifies only the record that has the place. A place
-/// past the end may be sought, and reading there returns no bytes.
+/// If the inner reader is [`Seek`](io::Seek), so is this reader. A seek verifies only the record at the new place. Seeking past
+/// the end is allowed, and reading there returns no bytes.
 ///
 /// # Errors
 ///
 /// A fault of the file is an error of kind [`ErrorKind::InvalidData`]. It holds the first fault, a
-/// [`records::Error`](crate::records::Error), which [`io::Error::get_ref`] and [`io::Error::downcast`] return. A read that
-/// finds it comes after all bytes in front of it. After a fault every read and every seek returns it again.
+/// [`records::Error`](crate::records::Error), which [`io::Error::get_ref`] and [`io::Error::downcast`] return. Reading returns
+/// all bytes before the fault first. After a fault every read and every seek returns it again.
 ///
-/// An error of the inner reader, such as [`ErrorKind::WouldBlock`], is returned, and the next read continues. So is
-/// [`ErrorKind::OutOfMemory`]. After [`ErrorKind::Interrupted`] the inner reader is read again. If the inner reader fails in a
-/// seek, the position is unchanged. Seek again before you read: until then a read may fail, but returns no wrong byte.
+/// [`ErrorKind::OutOfMemory`] and errors of the inner reader, such as [`ErrorKind::WouldBlock`], are returned, and the next
+/// read continues. After [`ErrorKind::Interrupted`] the inner reader is read again. If the inner reader fails in a seek, the
+/// position is unchanged. Seek again before you read: until then a read may fail, but returns no wrong byte.
 ///
 /// # Panics
 ///
@@ -233,7 +233,10 @@ fn read(inner: &mut impl Read, buf: &mut [u8]) -> io::Result<usize> {
     loop {
         match inner.read(buf) {
             Ok(count) => {
-                assert!(count <= buf.len(), "a reader returns what it has read");
+                assert!(
+                    count <= buf.len(),
+                    "the inner reader returned too large a count"
+                );
                 return Ok(count);
             }
             Err(error) if error.kind() == ErrorKind::Interrupted => (),

@@ -23,7 +23,7 @@ impl<A: Algorithm, I: RafIo, R: RafRng, J: RafIo> Raf<A, I, R, J> {
     /// Calls `changes`, and commits what it changes if it returns `Ok`. If it returns `Err` or panics, its changes are discarded.
     ///
     /// Changes that were made before are committed first. No write in the batch commits, so all of its changes are in memory,
-    /// also past the [limit](super::RafBuilder::buffer_limit). A [`commit`](Raf::commit) in `changes` commits what was changed
+    /// even past the [limit](super::RafBuilder::buffer_limit). A [`commit`](Raf::commit) in `changes` commits what was changed
     /// until then.
     ///
     /// # Errors

@@ -81,11 +81,12 @@ impl<A: Algorithm, R: RafRng, J: JournalChoice> RafBuilder<A, R, J> {
         }
     }
 
-    /// Sets the journal. The default is a [`JournalFile`](super::JournalFile) beside a file of the system. Other storages have no
-    /// journal by default: a crash or an error in a commit may leave some of its changes, or damage the file.
+    /// Sets the journal. For a [`FileIo`] that was opened through a path the default is a [`JournalFile`] beside the file. A
+    /// storage without a [`journal_path`](RafIo::journal_path) has no journal by default: a crash or an error in a commit may
+    /// leave some of its changes, or damage the file.
     ///
-    /// If a journal is set, opening does not complete a commit from the journal beside the file. Open the file once with the
-    /// default before.
+    /// If a journal is set, opening does not complete a commit from the journal beside the file. First open the file once with
+    /// the default journal.
     pub fn journal<K: RafIo>(self, journal: K) -> RafBuilder<A, R, K> {
         RafBuilder {
             chunk_size: self.chunk_size,
@@ -114,17 +115,17 @@ impl<A: Algorithm, R: RafRng, J: JournalChoice> RafBuilder<A, R, J> {
         self.begin(io, key, &draws)
     }
 
-    /// Opens the file in `io`. A commit that was interrupted is completed, or all of it is left out.
+    /// Opens the file in `io`. An interrupted commit is completed, or discarded as a whole.
     ///
-    /// If authentication of the header fails, since a crash has torn it, a whole journal under the key is used: its writes
-    /// overwrite the file, whichever file it is.
+    /// If authentication of the header fails, for example after a torn write, a complete journal under the key is applied. It
+    /// overwrites the file, even if the journal belongs to another one.
     ///
     /// # Errors
     ///
     /// These errors change nothing, but may remove an empty journal:
     /// - [`Error::Locked`] and [`Error::Moved`];
     /// - [`Error::Header`]: there is no header of this algorithm and key;
-    /// - [`Error::Journal`]: the journal belongs to another file or to another state of this one, or is no journal.
+    /// - [`Error::Journal`]: the journal belongs to another file or to another state of this one, or is not a journal.
     /// - [`Error::OldJournal`]: the journal is of an older format.
     ///
     /// After [`Error::Io`] nothing is lost: open the file again.

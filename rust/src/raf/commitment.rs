@@ -8,7 +8,7 @@ impl<A: Algorithm, I: RafIo, R: RafRng, J: RafIo> Raf<A, I, R, J> {
     /// Returns the commitment of the file at the last commit: a MAC, under the key, of the counter and the size in its header and
     /// of the tag of each page. With an older page or an older header the commitment is different.
     ///
-    /// Keep it where nobody can set it back together with the file. Computing it reads every tag. Only opening reads the header:
+    /// Keep it where nobody can roll it back with the file. Computing it reads every tag. Only opening reads the header:
     /// open the file again to see whether it was replaced.
     ///
     /// # Errors
@@ -18,7 +18,7 @@ impl<A: Algorithm, I: RafIo, R: RafRng, J: RafIo> Raf<A, I, R, J> {
         Ok(self.commitment_mac()?.finalize())
     }
 
-    /// Returns `Ok` if the commitment of the file is `expected`. The comparison reads each byte.
+    /// Returns `Ok` if the commitment of the file is `expected`. The comparison does not stop at the first difference.
     ///
     /// # Errors
     ///

@@ -25,7 +25,7 @@ const DOMAIN: &[u8; 24] = b"hunkravy raf file key v1";
 /// # Ok::<(), hunkravy::raf::Error>(())
 /// ```
 pub fn derive_key<const N: usize>(master_key: &[u8; N], context: &[u8]) -> Result<[u8; N]> {
-    const { assert!(N == 16 || N == 32, "a key has 16 or 32 bytes") }
+    const { assert!(N == 16 || N == 32, "N must be 16 or 32") }
     let mut key = [0; N];
     derive(master_key, context, &mut key)?;
     Ok(key)

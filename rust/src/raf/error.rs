@@ -11,7 +11,7 @@ pub enum Error {
     Io(io::Error),
     /// The file has no header of this algorithm and this key.
     Header,
-    /// The journal belongs to another file, or to another state of this one, or the file of that name is no journal.
+    /// The journal belongs to another file, or to another state of this one, or the file of that name is not a journal.
     Journal,
     /// The journal is of the first format, which this version does not apply. Open the file with the version that wrote it.
     OldJournal,
@@ -21,7 +21,7 @@ pub enum Error {
     TooLong,
     /// The chunk size is not from 256 to 65,536 bytes.
     ChunkSize,
-    /// The context of a key has more bytes than it may have.
+    /// The context of a key has more than 120 bytes (16-byte key) or 72 (32-byte key).
     ContextTooLong,
     /// The commitment of the file is not the expected one.
     Commitment,
@@ -43,7 +43,7 @@ impl fmt::Display for Error {
             Error::Io(error) => return error.fmt(f),
             Error::Damaged(page) => return write!(f, "page {page} is damaged"),
             Error::Header => {
-                "no header for this algorithm and key: the key is wrong, or the file is damaged or another"
+                "cannot open the header: wrong key or algorithm, damaged file, or not a raf file"
             }
             Error::Journal => "the journal does not belong to this file",
             Error::OldJournal => {
@@ -51,10 +51,12 @@ impl fmt::Display for Error {
             }
             Error::TooLong => "the contents are too long, or no more commits are possible",
             Error::ChunkSize => "the chunk size must be 256 to 65,536 bytes",
-            Error::ContextTooLong => "the context is too long",
-            Error::Commitment => "the file differs from its commitment",
-            Error::Locked => "the file is open elsewhere",
-            Error::Moved => "the file was renamed, removed or replaced, or has a second name",
+            Error::ContextTooLong => {
+                "the context is longer than 120 bytes (16-byte key) or 72 (32-byte key)"
+            }
+            Error::Commitment => "the commitment is not the expected one",
+            Error::Locked => "the file is already open, here or in another program",
+            Error::Moved => "the file was renamed, removed or replaced, or has several hard links",
             Error::Broken => "a commit failed: open the file again",
         };
         f.write_str(text)

@@ -85,8 +85,8 @@ impl FileIo {
     /// a file.
     ///
     /// The path is not known. So there is no journal unless [`RafBuilder::journal`](super::RafBuilder::journal) sets one, and a
-    /// commit that was interrupted is not completed. The name of a new file is not synced. A copy of the descriptor, for example of
-    /// [`File::try_clone`], has the same lock: open no second [`Raf`](super::Raf) over one.
+    /// commit that was interrupted is not completed. The name of a new file is not synced. A copy of the descriptor, such as
+    /// from [`File::try_clone`], shares the lock: do not open a second [`Raf`](super::Raf) on it.
     pub fn new(file: File) -> Self {
         FileIo {
             file,
@@ -224,9 +224,9 @@ impl RafIo for NoJournal {
 /// - ACLs, and users and groups that a user namespace hides, are not checked. Users who may write the journal through them can make
 ///   a crash leave some of the changes of a commit.
 ///
-/// A journal is rejected with [`io::ErrorKind::InvalidData`], and nothing is changed, in three cases: it is a link or no file; it has
-/// several names (hard links); a user may write it who may not write the file, by owner, group and mode. The owner of a file
-/// counts as a member of its group.
+/// A journal that is a link or not a file, or has several names (hard links), is rejected with
+/// [`io::ErrorKind::InvalidData`], and nothing is changed. So is one that a user may write who may not write the file, by
+/// owner, group and mode. The owner of a file counts as a member of its group.
 ///
 /// A file of this name with up to 33 bytes may be the rest of a journal after a crash. Opening removes it, and a commit removes an
 /// empty one. If an empty one cannot be removed, opening ignores it, and a commit fails with the changes still in memory.
@@ -281,7 +281,7 @@ fn open_same(path: &Path, found: &Metadata) -> io::Result<File> {
     }
 }
 
-/// Returns what is at the path of a journal, if it has any bytes. An error if it is no file, or one that has other names too,
+/// Returns what is at the path of a journal, if it has any bytes. An error if it is not a file, or has other names too,
 /// or that someone may write who may not write the file of the journal. A crash may have left an empty one before it got its
 /// owner and its mode, so it counts as none.
 fn journal_at(path: &Path) -> io::Result<Option<Metadata>> {

@@ -4,8 +4,8 @@ use super::Result;
 
 /// A source of random bytes, for nonces and ids.
 pub trait RafRng {
-    /// Fills `buf` with random bytes. After an error the bytes of `buf` are not used. **No call may give the bytes of an earlier
-    /// one** under the same key.
+    /// Fills `buf` with random bytes. After an error the bytes of `buf` are not used. **Never return the same bytes twice**
+    /// under one key.
     fn fill(&mut self, buf: &mut [u8]) -> Result<()>;
 }
 

@@ -7,7 +7,7 @@ use core::fmt;
 /// opener returns the first fault, in the order of the bytes.
 ///
 /// ```
-/// assert_eq!(hunkravy::records::Error::Damaged(3).to_string(), "record 3 is damaged");
+/// assert_eq!(hunkravy::records::Error::Damaged(3).to_string(), "record 3 is damaged, or the key, prefix or context is wrong");
 /// ```
 #[derive(Clone, Copy, Debug, PartialEq, Eq)]
 #[non_exhaustive]
@@ -34,11 +34,16 @@ pub enum Error {
 impl fmt::Display for Error {
     fn fmt(&self, f: &mut fmt::Formatter<'_>) -> fmt::Result {
         f.write_str(match self {
-            Error::Header => "the header of the record stream is missing",
+            Error::Header => "not a record stream: the header is wrong",
             Error::Truncated => "the record stream is truncated",
-            Error::Flag => "the flag of a record is neither 0 nor 1",
+            Error::Flag => "the first byte of a record is neither 0 nor 1",
             Error::TooLong => "a message is longer than 16 MiB",
-            Error::Damaged(number) => return write!(f, "record {number} is damaged"),
+            Error::Damaged(number) => {
+                return write!(
+                    f,
+                    "record {number} is damaged, or the key, prefix or context is wrong"
+                );
+            }
             Error::Trailing => "bytes follow the last record",
             Error::StreamTooLong => "the stream is longer than 2^61 - 1 bytes",
             Error::ContextTooLong => "the context is longer than 65,535 bytes",

@@ -32,10 +32,10 @@ pub struct OpenedInPlace<'b> {
 
 /// Decrypts the records of a stream, in their order. Its state is overwritten when it is dropped.
 ///
-/// The stream is whole only if [`finish`](Self::finish) returns `Ok`. Until then it may be truncated.
+/// The stream is complete only if [`finish`](Self::finish) returns `Ok`. Until then it may be truncated.
 ///
-/// After an error every function returns the same error. So no record is tried again with other bytes. An exception is
-/// [`Error::Trailing`] after the last record: [`finish`](Self::finish) returns it only for bytes in its argument.
+/// After an error every function returns the same error, so a record cannot be retried with other bytes. Exception: after the
+/// last record [`finish`](Self::finish) returns [`Error::Trailing`] only if its `rest` is not empty.
 #[must_use]
 pub struct Opener<'c> {
     records: Records<'c>,
@@ -69,7 +69,7 @@ impl<'c> Opener<'c> {
 
     /// Begins to open a stream at one of its records, without those before it.
     ///
-    /// The position does not have to be verified: a record opens only at its own. The records before it are not verified.
+    /// The position need not be trusted: a record opens only at its own position. The records before it are not verified.
     ///
     /// # Errors
     ///
@@ -127,8 +127,8 @@ impl<'c> Opener<'c> {
     ///
     /// # Errors
     ///
-    /// [`Error::Flag`] or [`Error::TooLong`], which is the fault of any record that begins with these bytes; or
-    /// [`Error::Trailing`] after the last record.
+    /// [`Error::Flag`] or [`Error::TooLong`] if no record begins with these bytes; or [`Error::Trailing`] after the last
+    /// record.
     pub fn record_len(&mut self, head: &[u8; RECORD_HEAD_BYTES]) -> Result<usize, Error> {
         self.check()?;
         let length = self.records.record_len(head);
@@ -141,7 +141,7 @@ impl<'c> Opener<'c> {
         })
     }
 
-    /// Opens the next record, which is at the beginning of `bytes`. `bytes` has the whole record, or the rest of the stream.
+    /// Opens the next record, which is at the beginning of `bytes`. Pass at least the whole record, or the rest of the stream.
     ///
     /// # Errors
     ///

@@ -78,8 +78,8 @@ impl<'c> Sealer<'c> {
         self.append(message, stream, true)
     }
 
-    /// Encrypts the next message in place. The message is at `record`, after [`RECORD_HEAD_BYTES`] bytes and before 32 bytes of
-    /// any contents. All of `record` becomes the record of the message.
+    /// Encrypts the next message in place. `record` holds [`RECORD_HEAD_BYTES`] bytes of any value, the message, and 32 bytes
+    /// of any value. All of it becomes the record.
     ///
     /// # Errors
     ///
@@ -138,7 +138,7 @@ impl<'c> Sealer<'c> {
     #[track_caller]
     fn seal(&mut self, record: &mut [u8], is_last: bool) -> Result<(), Error> {
         let message_len = record.len().checked_sub(RECORD_BYTES);
-        if message_len.expect("a record has at least 37 bytes") > MAX_MESSAGE_BYTES {
+        if message_len.expect("the record buffer is less than 37 bytes") > MAX_MESSAGE_BYTES {
             return Err(Error::TooLong);
         }
         match self.records.seal(record, is_last) {

@@ -138,7 +138,7 @@ fn the_longest_message() {
 }
 
 #[test]
-#[should_panic = "a record has at least 37 bytes"]
+#[should_panic = "the record buffer is less than 37 bytes"]
 fn a_record_without_room() {
     let _ = sealer().seal_next_in_place(&mut [0; 36]);
 }
