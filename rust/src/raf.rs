@@ -72,10 +72,12 @@ pub use rng::{DefaultRng, RafRng};
 use crate::wipe::wipe;
 use alloc::vec;
 use alloc::vec::Vec;
-use changes::Changes;
+use changes::{Changes, SealedChanges};
 use core::fmt;
+use core::iter::once;
+use core::ops::Range;
 use journal::{JOURNAL_KEY_BYTES, JournalSeal, PendingWrite};
-use layout::{HEADER_BLOCK_BYTES, Layout, journal_key};
+use layout::{Layout, journal_key};
 use std::io::ErrorKind;
 #[cfg(feature = "raf")]
 use std::path::Path;
@@ -112,6 +114,8 @@ pub struct Raf<A: Algorithm, I: RafIo = FileIo, R: RafRng = DefaultRng, J: RafIo
     buffer_limit: usize,
     /// The pages that were last read, or the one that was last written, each with its nonce in front of it and its tag after it.
     pages: Vec<u8>,
+    /// The numbers of the pages whose contents are in the first ones of `pages`.
+    shown: Range<u64>,
     is_broken: bool,
     /// Whether a change has failed since the last commit, so that those in memory may be a part of what was to be
     /// committed.
@@ -169,16 +173,16 @@ impl<A: Algorithm, I: RafIo, R: RafRng, J: RafIo> Raf<A, I, R, J> {
         let mut rest = &mut buf[..count];
         while !rest.is_empty() {
             let most = self.layout.page_count((at + rest.len()) as u64);
-            let count = self.show_pages(number, most)?;
+            let shown = self.show_pages(number, most)?;
+            number += shown.len() as u64;
             let pages = self.pages.chunks_exact_mut(self.layout.page_bytes());
-            for page in pages.take(count) {
+            for page in pages.take(shown.end).skip(shown.start) {
                 let part = &self.layout.contents(page)[at..];
                 let bytes = part.len().min(rest.len());
                 rest[..bytes].copy_from_slice(&part[..bytes]);
                 rest = &mut rest[bytes..];
                 at = 0;
             }
-            number += count as u64;
         }
         Ok(count)
     }
@@ -225,7 +229,7 @@ impl<A: Algorithm, I: RafIo, R: RafRng, J: RafIo> Raf<A, I, R, J> {
         let mut changes = Changes::default();
         for number in pages {
             self.change_page(number, data, offset)?;
-            changes.set(number, self.layout.contents(&mut self.pages))?;
+            changes.set(number, &self.pages[..self.layout.page_bytes()])?;
         }
         self.changes.append(changes);
         self.size = self.size.max(end);
@@ -240,6 +244,7 @@ impl<A: Algorithm, I: RafIo, R: RafRng, J: RafIo> Raf<A, I, R, J> {
             return Ok(());
         }
         self.check_is_whole()?;
+        self.shown = 0..0;
         self.changes.cut(self.layout.page_count(size));
         self.size = size;
         Ok(())
@@ -275,16 +280,21 @@ impl<A: Algorithm, I: RafIo, R: RafRng, J: RafIo> Raf<A, I, R, J> {
         let counter = self.counter.checked_add(1).ok_or(Error::TooLong)?;
         let header_block = recovery::read_header_block(&mut self.io)?
             .ok_or(Error::Io(ErrorKind::UnexpectedEof.into()))?;
-        let writes = self.sealed_writes(&header_block, counter)?;
-        let mut seal = JournalSeal {
-            key: journal_key::<A>(&self.layout.key),
-            start: self.layout.journal_start(),
-            nonce: [0; JOURNAL_KEY_BYTES],
-        };
-        self.rng.fill(&mut seal.nonce)?;
+        let nonces = self.nonces(self.changes.len() + 1)?;
+        let seal = self.journal_seal()?;
+        let next_header = self
+            .layout
+            .header(counter, self.size, &nonces[self.changes.len()]);
+        let sealed = SealedChanges::new(&self.layout, &mut self.changes, &nonces);
+        let at_the_start = |bytes| once(PendingWrite { place: 0, bytes });
+        // The first write does not change the file: it shows to which file the journal belongs.
+        let writes: Vec<_> = at_the_start(&header_block[..])
+            .chain(sealed.writes())
+            .chain(at_the_start(&next_header))
+            .collect();
         // Not before: sealing may take long, and the file may be moved meanwhile.
         self.io.check_path()?;
-        self.make_room(&writes)?;
+        make_room(&mut self.io, &writes)?;
         self.journal.check_path()?;
         if self.journal.get_size()? != 0 {
             return Err(Error::Journal);
@@ -294,19 +304,20 @@ impl<A: Algorithm, I: RafIo, R: RafRng, J: RafIo> Raf<A, I, R, J> {
         self.is_broken = false;
         self.counter = counter;
         self.stored = self.size;
-        self.changes.clear();
+        drop(writes);
+        sealed.forget();
         Ok(())
     }
 
-    /// Makes the file as long as the writes make it. If it cannot be so long, this fails before there is a journal, whose
-    /// writes nobody could make, so that the file would not open.
-    fn make_room(&mut self, writes: &[PendingWrite]) -> Result<()> {
-        let end_of = |write: &PendingWrite| write.place + write.bytes.len() as u64;
-        let end = writes.iter().map(end_of).max().unwrap_or(0);
-        if end > self.io.get_size()? {
-            self.io.set_size(end)?;
-        }
-        Ok(())
+    /// Returns what the next journal is made with.
+    fn journal_seal(&mut self) -> Result<JournalSeal> {
+        let mut seal = JournalSeal {
+            key: journal_key::<A>(&self.layout.key),
+            start: self.layout.journal_start(),
+            nonce: [0; JOURNAL_KEY_BYTES],
+        };
+        self.rng.fill(&mut seal.nonce)?;
+        Ok(seal)
     }
 
     /// Commits the changes: the same as [`commit`](Raf::commit).
@@ -316,6 +327,7 @@ impl<A: Algorithm, I: RafIo, R: RafRng, J: RafIo> Raf<A, I, R, J> {
 
     /// Discards all changes since the last commit.
     pub fn discard(&mut self) {
+        self.shown = 0..0;
         self.changes.clear();
         self.size = self.stored;
         self.is_cut_short = false;
@@ -340,13 +352,25 @@ impl<A: Algorithm, I: RafIo, R: RafRng, J: RafIo> Raf<A, I, R, J> {
         (offset / chunk_size, (offset % chunk_size) as usize)
     }
 
-    /// Puts the contents of pages into their places, from this page on, and returns of how many pages: 1 to `most`. A changed page
-    /// comes alone. Others are read in one call, up to the next changed one.
-    fn show_pages(&mut self, number: u64, most: u64) -> Result<usize> {
+    /// Shows pages from this one on: those that are shown already, or others. Returns which of `pages` they are, 1 to `most`.
+    fn show_pages(&mut self, number: u64, most: u64) -> Result<Range<usize>> {
+        if self.shown.contains(&number) {
+            let first = (number - self.shown.start) as usize;
+            let count = most.min(self.shown.end - number) as usize;
+            return Ok(first..first + count);
+        }
+        self.shown = 0..0;
+        let count = self.read_pages(number, most)?;
+        self.shown = number..number + count as u64;
+        Ok(0..count)
+    }
+
+    /// Puts the contents of pages into the first places, from this page on, and returns of how many pages: 1 to `most`. A changed
+    /// page comes alone. Others are read in one call, up to the next changed one.
+    fn read_pages(&mut self, number: u64, most: u64) -> Result<usize> {
         let page_bytes = self.layout.page_bytes();
-        if let Some(contents) = self.changes.get(number) {
-            let page = &mut self.pages[..page_bytes];
-            self.layout.contents(page).copy_from_slice(contents);
+        if let Some(page) = self.changes.get(number) {
+            self.pages[..page_bytes].copy_from_slice(page);
             return Ok(1);
         }
         let unchanged = self.changes.first_from(number) - number;
@@ -357,7 +381,7 @@ impl<A: Algorithm, I: RafIo, R: RafRng, J: RafIo> Raf<A, I, R, J> {
         match self.io.read_at(pages, self.layout.page_place(number)) {
             // The first damaged page is named, also if the file ends after it.
             Err(error) if error.kind() == ErrorKind::UnexpectedEof && count > 1 => {
-                return self.show_pages(number, 1);
+                return self.read_pages(number, 1);
             }
             read => read?,
         }
@@ -372,6 +396,7 @@ impl<A: Algorithm, I: RafIo, R: RafRng, J: RafIo> Raf<A, I, R, J> {
     /// Puts the contents of a page into the first place as it is after `data` was written over the contents from `offset` on. The page is
     /// read only if some of its bytes are kept.
     fn change_page(&mut self, number: u64, data: &[u8], offset: u64) -> Result<()> {
+        self.shown = 0..0;
         let chunk_size = u64::from(self.layout.chunk_size);
         let first = number * chunk_size;
         let end = offset + data.len() as u64;
@@ -380,7 +405,7 @@ impl<A: Algorithm, I: RafIo, R: RafRng, J: RafIo> Raf<A, I, R, J> {
             live = 0;
         }
         if live > 0 {
-            self.show_pages(number, 1)?;
+            self.read_pages(number, 1)?;
         }
         let contents = self.layout.contents(&mut self.pages);
         contents[live as usize..].fill(0);
@@ -390,33 +415,6 @@ impl<A: Algorithm, I: RafIo, R: RafRng, J: RafIo> Raf<A, I, R, J> {
             contents[(from - first) as usize..(to - first) as usize].copy_from_slice(part);
         }
         Ok(())
-    }
-
-    /// Returns the writes of a commit: the header block of the file, the changed pages, and the next header. The first of them does
-    /// not change: it shows to which file the journal belongs.
-    fn sealed_writes(
-        &mut self,
-        header_block: &[u8; HEADER_BLOCK_BYTES],
-        counter: u64,
-    ) -> Result<Vec<PendingWrite>> {
-        let nonces = self.nonces(self.changes.len() + 1)?;
-        let mut writes = vec![PendingWrite {
-            place: 0,
-            bytes: header_block.to_vec(),
-        }];
-        for ((number, contents), nonce) in self.changes.iter().zip(&nonces) {
-            let mut bytes = vec![0; self.layout.page_bytes()];
-            self.layout.contents(&mut bytes).copy_from_slice(contents);
-            self.layout.seal(number, nonce, &mut bytes);
-            let place = self.layout.page_place(number);
-            writes.push(PendingWrite { place, bytes });
-        }
-        let nonce = &nonces[self.changes.len()];
-        writes.push(PendingWrite {
-            place: 0,
-            bytes: self.layout.header(counter, self.size, nonce).to_vec(),
-        });
-        Ok(writes)
     }
 
     /// Returns nonces that are generated in one call.
@@ -431,6 +429,17 @@ impl<A: Algorithm, I: RafIo, R: RafRng, J: RafIo> Raf<A, I, R, J> {
         };
         Ok(random.chunks_exact(bytes).map(of_bytes).collect())
     }
+}
+
+/// Makes the file as long as the writes make it. If it cannot be so long, this fails before there is a journal, whose writes
+/// nobody could make, so that the file would not open.
+fn make_room(io: &mut impl RafIo, writes: &[PendingWrite<'_>]) -> Result<()> {
+    let end_of = |write: &PendingWrite<'_>| write.place + write.bytes.len() as u64;
+    let end = writes.iter().map(end_of).max().unwrap_or(0);
+    if end > io.get_size()? {
+        io.set_size(end)?;
+    }
+    Ok(())
 }
 
 /// Commits the changes, and ignores the error, unless a change has failed or the thread panics.

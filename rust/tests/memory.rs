@@ -185,16 +185,16 @@ fn of_a_sealed_file(path: &Path) {
     fs::remove_file(path).unwrap();
 }
 
-/// A file takes the limit and a write over it, and in a commit as much again; one that is read takes the bytes of one call.
-/// What is constant is added. No page and no record that was freed has any of the text left.
+/// A file takes the limit and a write over it, also in a commit; one that is read takes the bytes of one call. What is constant
+/// is added. No page and no record that was freed has any of the text left.
 #[test]
 fn memory_of_files_is_limited_and_wiped() {
     let path = std::env::temp_dir().join(format!("hunkravy-memory-{}", std::process::id()));
     let changes = LIMIT + LIMIT / 10 + 2 * CHUNK_BYTES;
     // Beside a page of the text: its place in a map or a list.
-    let most = 2 * in_pages(changes, 160) + LIMIT / 10 + GATHERED + 20_000;
+    let most = in_pages(changes, 240) + LIMIT / 10 + READ_BYTES + GATHERED + 20_000;
     let written = most_of(|| write(&path));
-    assert!(written > 2 * LIMIT && written < most, "{written} of {most}");
+    assert!(written > LIMIT && written < most, "{written} of {most}");
     let read = most_of(|| read(&path));
     assert!(read > PAGE_BYTES && read < READ_BYTES + 20_000, "{read}");
     fs::remove_file(&path).unwrap();

@@ -237,6 +237,7 @@ impl<A: Algorithm, R: RafRng, J: RafIo> RafBuilder<A, R, J> {
             journal: self.journal,
             rng: self.rng,
             pages: vec![0; layout.pages_in_a_read() * layout.page_bytes()],
+            shown: 0..0,
             layout,
             counter: header.counter,
             stored: header.contents_len,

@@ -1,14 +1,18 @@
 //! The pages that were changed since the last commit.
 
+use super::Algorithm;
+use super::journal::PendingWrite;
+use super::layout::Layout;
 use crate::wipe::Wiped;
 use alloc::boxed::Box;
 use alloc::vec::Vec;
 use core::hint::black_box;
+use core::mem;
 use std::collections::BTreeMap;
 use std::io::{self, ErrorKind};
 
 /// The number of bytes that a page takes beside its contents, at most.
-const ADDED_BYTES: u64 = 128;
+const ADDED_BYTES: u64 = 192;
 
 /// Returns a vector with room for this number of bytes, or an error if memory runs out.
 fn with_room(bytes: usize) -> io::Result<Vec<u8>> {
@@ -18,7 +22,7 @@ fn with_room(bytes: usize) -> io::Result<Vec<u8>> {
     Ok(vector)
 }
 
-/// The contents of changed pages, by the numbers of the pages. They are overwritten when they are dropped.
+/// Changed pages by their numbers, each with room for its nonce and its tag. They are overwritten when they are dropped.
 #[derive(Default)]
 pub struct Changes(BTreeMap<u64, Wiped<Box<[u8]>>>);
 
@@ -33,9 +37,9 @@ impl Changes {
         self.0.len()
     }
 
-    /// Returns the contents of a page that was changed.
+    /// Returns a page that was changed.
     pub fn get(&self, number: u64) -> Option<&[u8]> {
-        self.0.get(&number).map(|contents| &*contents.0)
+        self.0.get(&number).map(|page| &*page.0)
     }
 
     /// Returns the number of the first changed page from this number on, or the greatest number if there is none.
@@ -52,10 +56,10 @@ impl Changes {
         Ok(())
     }
 
-    /// Keeps a copy of the contents of a page. Returns an error if memory runs out.
-    pub fn set(&mut self, number: u64, contents: &[u8]) -> io::Result<()> {
-        let mut copy = with_room(contents.len())?;
-        copy.extend_from_slice(contents);
+    /// Keeps a copy of a page. Returns an error if memory runs out.
+    pub fn set(&mut self, number: u64, page: &[u8]) -> io::Result<()> {
+        let mut copy = with_room(page.len())?;
+        copy.extend_from_slice(page);
         self.0.insert(number, Wiped(copy.into_boxed_slice()));
         Ok(())
     }
@@ -77,9 +81,58 @@ impl Changes {
     }
 
     /// Returns the pages and their numbers, the lowest first.
-    pub fn iter(&self) -> impl Iterator<Item = (u64, &[u8])> {
+    fn iter_mut(&mut self) -> impl Iterator<Item = (u64, &mut [u8])> {
         self.0
-            .iter()
-            .map(|(number, contents)| (*number, &*contents.0))
+            .iter_mut()
+            .map(|(number, page)| (*number, &mut *page.0))
+    }
+}
+
+/// Changed pages that are sealed where they are, for a commit. If it is dropped they are opened again.
+pub struct SealedChanges<'c, A: Algorithm> {
+    layout: &'c Layout<A>,
+    changes: &'c mut Changes,
+    /// How many of the pages are sealed.
+    count: usize,
+}
+
+impl<'c, A: Algorithm> SealedChanges<'c, A> {
+    /// Seals each page with one of these nonces.
+    pub fn new(layout: &'c Layout<A>, changes: &'c mut Changes, nonces: &[A::Nonce]) -> Self {
+        let mut sealed = SealedChanges {
+            layout,
+            changes,
+            count: 0,
+        };
+        for ((number, page), nonce) in sealed.changes.iter_mut().zip(nonces) {
+            layout.seal(number, nonce, page);
+            sealed.count += 1;
+        }
+        sealed
+    }
+
+    /// Returns the writes of the pages, the lowest first.
+    pub fn writes(&self) -> impl Iterator<Item = PendingWrite<'_>> {
+        self.changes.0.iter().map(|(number, page)| PendingWrite {
+            place: self.layout.page_place(*number),
+            bytes: &page.0,
+        })
+    }
+
+    /// Forgets the pages, which were written. They are not overwritten, since they are encrypted.
+    pub fn forget(self) {
+        for page in self.changes.0.values_mut() {
+            drop(mem::take(&mut page.0));
+        }
+        self.changes.clear();
+    }
+}
+
+impl<A: Algorithm> Drop for SealedChanges<'_, A> {
+    fn drop(&mut self) {
+        for (number, page) in self.changes.iter_mut().take(self.count) {
+            let is_opened = self.layout.open(number, page);
+            debug_assert!(is_opened, "nobody else has the page");
+        }
     }
 }

@@ -20,9 +20,9 @@ const NUMBER_BYTES: usize = 8;
 const MAX_BYTES: u64 = i64::MAX as u64;
 
 /// A write that is to be made.
-pub struct PendingWrite {
+pub struct PendingWrite<'b> {
     pub place: u64,
-    pub bytes: Vec<u8>,
+    pub bytes: &'b [u8],
 }
 
 /// The key, the first bytes and the nonce of a journal.
@@ -43,7 +43,7 @@ pub fn commit(
     io: &mut impl RafIo,
     journal: &mut impl RafIo,
     seal: &JournalSeal,
-    writes: &[PendingWrite],
+    writes: &[PendingWrite<'_>],
 ) -> io::Result<()> {
     if !journal.keeps_bytes() {
         return write_and_sync(io, writes);
@@ -57,7 +57,7 @@ pub fn commit(
 fn write_journal(
     journal: &mut impl RafIo,
     seal: &JournalSeal,
-    writes: &[PendingWrite],
+    writes: &[PendingWrite<'_>],
 ) -> io::Result<()> {
     journal.write_at(&seal.start, 0)?;
     journal.sync()?;
@@ -75,7 +75,7 @@ fn write_journal(
 /// MAC.
 fn pass_content(
     seal: &JournalSeal,
-    writes: &[PendingWrite],
+    writes: &[PendingWrite<'_>],
     mut pass: impl FnMut(&[u8]) -> io::Result<()>,
 ) -> io::Result<()> {
     let mut mac = new_mac(&seal.key, &seal.nonce);
@@ -84,7 +84,7 @@ fn pass_content(
         let mut head = [0; 2 * NUMBER_BYTES];
         head[..NUMBER_BYTES].copy_from_slice(&write.place.to_le_bytes());
         head[NUMBER_BYTES..].copy_from_slice(&(write.bytes.len() as u64).to_le_bytes());
-        for bytes in [&head[..], &write.bytes] {
+        for bytes in [&head, write.bytes] {
             mac.update(bytes);
             pass(bytes)?;
         }
@@ -93,10 +93,10 @@ fn pass_content(
 }
 
 /// Makes the writes, and syncs them.
-pub fn write_and_sync(io: &mut impl RafIo, writes: &[PendingWrite]) -> io::Result<()> {
+pub fn write_and_sync(io: &mut impl RafIo, writes: &[PendingWrite<'_>]) -> io::Result<()> {
     let mut neighbours = Neighbours::new(io);
     for write in writes {
-        neighbours.write(&write.bytes, write.place)?;
+        neighbours.write(write.bytes, write.place)?;
     }
     neighbours.finish()
 }
@@ -163,10 +163,10 @@ fn new_mac(
 }
 
 /// Returns the writes of a journal, or `None` if the bytes are no whole journal under this key. Its MAC is verified first.
-pub fn journaled_writes(
+pub fn journaled_writes<'b>(
     key: &[u8; JOURNAL_KEY_BYTES],
-    journal: &[u8],
-) -> Option<Vec<PendingWrite>> {
+    journal: &'b [u8],
+) -> Option<Vec<PendingWrite<'b>>> {
     let (_start, rest) = journal.split_first_chunk::<PLAINTEXT_HEADER_BYTES>()?;
     let (nonce, rest) = rest.split_first_chunk::<JOURNAL_KEY_BYTES>()?;
     let (mut content, mac) = rest.split_last_chunk::<MAC_BYTES>()?;
@@ -183,7 +183,7 @@ pub fn journaled_writes(
 }
 
 /// Returns the write with which the content of a journal begins, and the bytes after it, or `None` if there is none.
-fn first_write(content: &[u8]) -> Option<(PendingWrite, &[u8])> {
+fn first_write(content: &[u8]) -> Option<(PendingWrite<'_>, &[u8])> {
     let (place, rest) = content.split_first_chunk::<NUMBER_BYTES>()?;
     let (length, rest) = rest.split_first_chunk::<NUMBER_BYTES>()?;
     let (place, length) = (u64::from_le_bytes(*place), u64::from_le_bytes(*length));
@@ -192,7 +192,6 @@ fn first_write(content: &[u8]) -> Option<(PendingWrite, &[u8])> {
         return None;
     }
     let (bytes, rest) = rest.split_at(length as usize);
-    let bytes = bytes.to_vec();
     Some((PendingWrite { place, bytes }, rest))
 }
 
@@ -203,7 +202,6 @@ mod tests {
         pass_content,
     };
     use crate::wipe::tests::left_of;
-    use alloc::vec;
 
     /// Nothing of the key is left.
     #[test]
@@ -231,7 +229,7 @@ mod tests {
             (u64::MAX - 2, false),
             (u64::MAX, false),
         ] {
-            let bytes = vec![4; 3];
+            let bytes = &[4; 3];
             let mut journal = seal.start.to_vec();
             let passed = pass_content(&seal, &[PendingWrite { place, bytes }], |bytes| {
                 journal.extend_from_slice(bytes);

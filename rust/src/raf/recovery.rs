@@ -53,7 +53,7 @@ pub fn recover<A: Algorithm>(
 fn check_journal<A: Algorithm>(
     key: &A::Key,
     header_block: Option<&[u8; HEADER_BLOCK_BYTES]>,
-    writes: Option<&[PendingWrite]>,
+    writes: Option<&[PendingWrite<'_>]>,
     journal: &[u8],
 ) -> Result<()> {
     let is_old = writes.is_none() && is_old(journal);
@@ -77,8 +77,8 @@ fn check_journal<A: Algorithm>(
 
 /// Returns whether the header of a file is the one before a commit, which its first write has, or the one after it, which its
 /// last write has.
-fn is_of_commit(header: &[u8], writes: &[PendingWrite]) -> bool {
-    let has_header = |write: &PendingWrite| write.place == 0 && write.bytes.starts_with(header);
+fn is_of_commit(header: &[u8], writes: &[PendingWrite<'_>]) -> bool {
+    let has_header = |write: &PendingWrite<'_>| write.place == 0 && write.bytes.starts_with(header);
     writes.first().is_some_and(has_header) || writes.last().is_some_and(has_header)
 }
 
