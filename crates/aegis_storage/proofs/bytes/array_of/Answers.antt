@@ -1,4 +1,5 @@
 use Rattle.std.proofs.Common.{◌∙◌, ap, arith, get_or, length, sym, take}
+use Rattle.std.proofs.lemmas.Grind.{common_steps}
 use Rattle.std.proofs.lemmas.List.{length-append, take_all}
 use Rattle.aegis_base.specs.Chunks.{joined}
 use Rattle.aegis_base.proofs.ChunkFacts.{chunk-within, joined-more, no_chunk}
@@ -13,12 +14,10 @@ loop-part-preserved g c =
     let parts = c.args.parts.now in
     let more = joined-more parts c.loop-part.part-index c.loop-part-test.true in
     record {
-      counted = rw more (omega (arith, c.loop-part.invariant.counted, length-append (joined (take c.loop-part.part-index parts)) (get_or parts c.loop-part.part-index no_chunk).now));
+      counted = rw more (grind (arith, common_steps));
       whole = omega (arith, c.put.auto.bytes, c.loop-part.invariant.whole);
       beginning = rw (more, c.put.ensures) (filled_beginning c.loop-part.bytes _ (get_or parts c.loop-part.part-index no_chunk).now c.loop-part.done c.loop-part.invariant.beginning (sym c.loop-part.invariant.counted));
     }
 
 pub returns : goal.returns
-returns g c =
-    let all = ap joined (take_all c.loop-part.part-index c.args.parts.now (omega (arith, c.loop-part-test.false))) in
-    sym (take_all c.loop-part.done c.loop-part.bytes (omega (arith, c.loop-part.invariant.counted, c.loop-part.invariant.whole, ap length all, c.requires))) ∙ c.loop-part.invariant.beginning ∙ all
+returns g c = grind (arith, common_steps, c.loop-part.invariant.counted, c.loop-part.invariant.whole, c.loop-part.invariant.beginning, c.requires)

@@ -15,7 +15,7 @@ loop-write-preserved g c =
     let more : writes_of (take (i + 1) c.args.writes.now) ≡ writes_of (take i c.args.writes.now) ++ (write.place, c.deref.result.now) ∷ [] =
     writes_taken c.args.writes.now i write c.deref.result.now c.loop-write-test.true c.write-item.is c.deref.ensures.value in
     rw more
-    (all_more_written _ _ _ _ _ _ c.loop-write.invariant.0 c.in_ok-write_at.ensures.written, adds_writes _ _ _ _ _ c.loop-write.invariant.1 c.write_at.ensures.pending)
+    (all_more_written (writes_of (take i c.args.writes.now)) _ _ _ _ _ c.loop-write.invariant.0 c.in_ok-write_at.ensures.written, adds_writes _ _ _ _ _ c.loop-write.invariant.1 c.write_at.ensures.pending)
 
 pub returns-in_err-write_at-clause-pending : goal.returns-in_err-write_at-clause-pending
 returns-in_err-write_at-clause-pending g c =

@@ -15,11 +15,7 @@ returns-clause-journal g c =
     let content : List ℕ = entries (writes_of c.args.writes.now) in
     let begun : c.append_writes.new.journal.items ≡ (beginning ++ nonce) ++ content = grind (arith, common_steps) in
     let last = c.split_at.ensures.back ∙ ap (drop 49) (c.deref.ensures.value ∙ begun) ∙ drop_at (beginning ++ nonce) content 49 (omega (arith, length-append beginning nonce)) in
-    let tag : c.finalize-mac.result ≡ mac Aegis128L 32 c.args.key.now nonce (authenticated c.args.context.now c.split_at.result.1.now) = c.finalize-mac.ensures c.args.key.now nonce _ c.mac_of.ensures in
-    c.in_ok-extend_from_slice-3.ensures.items ∙ ap (λ (l : List ℕ). l ++ c.finalize-mac.result) begun ∙ append_assoc (beginning ++ nonce) content c.finalize-mac.result
-    ∙ append_assoc beginning nonce (content ++ c.finalize-mac.result)
-    ∙ ap (λ (l : List ℕ). beginning ++ (nonce ++ (content ++ l)))
-    (tag ∙ ap (λ (l : List ℕ). mac Aegis128L 32 c.args.key.now nonce (authenticated c.args.context.now l)) last)
+    let tag = rw last at (c.finalize-mac.ensures c.args.key.now nonce _ c.mac_of.ensures) in rw (c.in_ok-extend_from_slice-3.ensures.items, begun, tag) (simp append_assoc)
 
 pub returns-clause-whole : goal.returns-clause-whole
 returns-clause-whole g c = record {
