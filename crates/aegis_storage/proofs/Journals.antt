@@ -13,8 +13,7 @@ use Rattle.aegis_storage.specs.Journal.{AreWithin, Gives, GivesOneOf, IsAtRest, 
 use Rattle.aegis_storage.specs.Pending.{writes_of}
 use Rattle.std.specs.declared.vec.Vec.{Vec}
 use Rattle.aegis_storage.specs.declared.pending.PendingWrite.{PendingWrite}
-use Rattle.aegis_storage.proofs.Crashing.{written_again}
-use Rattle.aegis_storage.proofs.Disks.{certain_has, certain_leaves, cut, has_left, leaves_also, left, left_synced, readable, readable_certain}
+use Rattle.aegis_storage.proofs.Disks.{certain_has, certain_leaves, cut, has_left, leaves_also, left, left_synced, readable, readable_certain, written_again}
 use Rattle.aegis_storage.proofs.Lists.{all_within}
 
 -- ---- one list of writes for a journal

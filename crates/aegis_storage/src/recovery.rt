@@ -29,7 +29,8 @@ fn redo<S: Storage, A: Allocator + Copy>(
         → CrashLeaves (GivesOneOf key.now context.now a b journal.now) (S.disk storage.new) }
     ensures certain { OnOk result ((xs : List ℕ) → S.disk storage.old ≡ Some (certain xs)
         → (bytes : List ℕ) × (S.disk storage.new ≡ Some (certain bytes))
-        × ((a b : List ℕ) → GivesOneOf key.now context.now a b journal.now xs → IsOneOf a b bytes)) }
+        × ((a b : List ℕ) → GivesOneOf key.now context.now a b journal.now xs
+        → IsOneOf a b bytes)) }
 {
     match journaled_writes(alloc, key, context, journal)? {
         Some(writes) => write_and_sync(storage, &writes),
