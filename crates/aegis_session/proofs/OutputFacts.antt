@@ -1,5 +1,5 @@
 -- Answers one after the other.
-use Rattle.std.proofs.Common.{◌≡◌, ℕ, ◌-◌, Result, Ok, Err, OnOk, length-drop, Bool, true, false, ◌||◌, List, [], ◌∷◌, ◌++◌, Option, take, drop, length, refl, ap, sym, ◌∙◌, append_assoc, append-nil, take-append-drop, arith}
+use Rattle.std.proofs.Common.{◌≡◌, ℕ, ◌-◌, Result, Ok, Err, OnOk, Bool, ◌||◌, List, [], ◌∷◌, ◌++◌, Option, take, drop, length, refl, ap, sym, ◌∙◌, append_assoc, append-nil, take-append-drop, arith}
 use Rattle.std.proofs.Math.Bool.{or_assoc}
 use Rattle.std.proofs.KnownBytes.{Appends-nil, Appends-trans, Appends-kept}
 use Rattle.std.proofs.lemmas.Grind.{common_steps, flat_map-append}

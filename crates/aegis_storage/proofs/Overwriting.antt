@@ -1,7 +1,8 @@
 -- Bytes that are overwritten.
 use Rattle.std.proofs.Common.{◌≡◌, ℕ, ◌+◌, ◌-◌, ◌<◌, ◌≤◌, ◌⊎◌, List, ◌++◌, get_or, length, take, arith, min}
 use Rattle.std.proofs.lemmas.Grind.{common_steps, same_number_lists}
-use Rattle.std.proofs.lemmas.List.{get_or_past, places}
+use Rattle.aegis_base.proofs.ChunkFacts.{chunk-within, joined-more}
+use Rattle.std.proofs.lemmas.List.{get_or_past, places, with_items_is}
 use Rattle.aegis_storage.specs.Bytes.{overwritten, part_at, resized}
 
 pub length-resized : (xs : List ℕ) (n : ℕ) → length (resized xs n) ≡ n
@@ -56,3 +57,8 @@ overwritten_end xs at bs long = grind (arith, common_steps)
 
 pub overwritten_whole : (text part : List ℕ) → length text ≤ length part → overwritten text 0 part ≡ part
 overwritten_whole text part short = grind (arith, common_steps)
+
+-- what a vector that is written past its end uses, and an array that is filled part by part
+pub ruleset grown = (common_steps, overwritten_resized, with_items_is)
+
+pub ruleset filling = (common_steps, chunk-within, filled_beginning, joined-more)
