@@ -1,7 +1,6 @@
 -- Bytes that are appended, and the beginning of a journal.
-use Rattle.std.proofs.Common.{◌≡◌, ℕ, ◌+◌, ◌≤◌, ◌⊎◌, inl, inr, List, [], ◌∷◌, ◌++◌, Some, Option, length, take, refl, ap, ◌∙◌, arith}
+use Rattle.std.proofs.Common.{◌≡◌, ℕ, ◌+◌, ◌≤◌, ◌⊎◌, inl, inr, List, [], ◌∷◌, Some, Option, length, take, refl, ap, ◌∙◌, arith}
 use Rattle.std.proofs.lemmas.List.{take_all}
-use Rattle.aegis_storage.specs.Bytes.{overwritten}
 use Rattle.aegis_storage.specs.Disk.{Adds, Change, CrashLeaves, Crashed, Disk, IsPartOfOne, IsPossible, MakesCertain, Size, Write, after, certain, changed}
 use Rattle.aegis_storage.specs.Journal.{HasBeginning, KeepsBeginning}
 use Rattle.aegis_storage.proofs.Disks.{after_parts, certain_has, cut, has_left, leaves_also, left, readable}

@@ -10,9 +10,10 @@ loop-write-init g c = (search rules, none_made _ [])
 
 pub loop-write-preserved : goal.loop-write-preserved
 loop-write-preserved g c =
-    rw (writes_taken c.args.writes.now c.loop-write.write-index c.write-item.result c.deref.result.now c.loop-write-test.true c.write-item.is c.deref.ensures.value)
-    (all_more_written (writes_of (take c.loop-write.write-index c.args.writes.now)) _ _ _ _ _ c.loop-write.invariant.0 c.in_ok-write_at.ensures.written,
-    adds_writes _ _ _ _ _ c.loop-write.invariant.1 c.write_at.ensures.pending)
+    rw (writes_taken c.args.writes.now c.loop-write.write-index c.write-item.result c.deref.result.now c.loop-write-test.true c.write-item.is c.deref.ensures.value) (
+      all_more_written (writes_of (take c.loop-write.write-index c.args.writes.now)) _ _ _ _ _ c.loop-write.invariant.0 c.in_ok-write_at.ensures.written,
+      adds_writes _ _ _ _ _ c.loop-write.invariant.1 c.write_at.ensures.pending,
+    )
 
 pub returns-in_err-write_at-clause-pending : goal.returns-in_err-write_at-clause-pending
 returns-in_err-write_at-clause-pending g c =

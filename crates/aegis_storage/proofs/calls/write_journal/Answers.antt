@@ -1,4 +1,4 @@
-use Rattle.std.proofs.Common.{◌≡◌, ◌∙◌, ◌++◌, [], Some, ap, arith, length, refl}
+use Rattle.std.proofs.Common.{◌≡◌, ◌∙◌, ◌++◌, [], Some, ap, arith, refl}
 use Rattle.std.proofs.lemmas.Grind.{common_steps}
 use Rattle.aegis_storage.specs.Disk.{certain}
 use Rattle.aegis_storage.proofs.Disks.{on_ok_map}

@@ -1,9 +1,7 @@
 use Rattle.std.proofs.Common.{◌≡◌, ◌++◌, ◌∙◌, ap, arith, drop, List, ℕ}
 use Rattle.std.proofs.lemmas.Grind.{common_steps}
 use Rattle.std.proofs.lemmas.List.{append_assoc, drop_at, length-append}
-use Rattle.aegis_base.specs.Mac.{mac}
-use Rattle.aegis_base.specs.Variant.{Aegis128L}
-use Rattle.aegis_storage.specs.Journal.{authenticated, entries}
+use Rattle.aegis_storage.specs.Journal.{entries}
 use Rattle.aegis_storage.specs.Pending.{writes_of}
 use Rattle.aegis_storage.proofs.Lists.{all_within}
 use Rattle.aegis_storage.proofs.journal.journal_bytes.Goals as goal
