@@ -1,6 +1,7 @@
 -- How the lines after begun bytes change with each byte.
-use Rattle.std.proofs.Common.{◌≡◌, ◌≢◌, ℕ, Bool, true, List, [], ◌∷◌, ◌++◌, map, inl, inr, refl, ap, sym, ◌∙◌}
-use Rattle.std.proofs.lemmas.Bool.Decides.{eqb_tells}
+use Rattle.std.proofs.Common.{◌≡◌, ◌≢◌, ℕ, ◌+◌, ◌<◌, Bool, true, List, [], ◌∷◌, ◌++◌, drop, get_or, length, map, refl, ap, sym, ◌∙◌, add-one, arith}
+use Rattle.std.proofs.Math.Seq.{drop-cons}
+use Rattle.std.proofs.lemmas.Bool.Decides.{nat_tests}
 use Rattle.std.specs.Io.BufRead.{strip_last}
 use Rattle.aegis_session.specs.Lines.{lines_of, lines_after, pieces, with_byte, with_bytes}
 
@@ -22,10 +23,7 @@ with_bytes-longer ends [] byte more = refl
 with_bytes-longer ends (first ∷ bytes) byte more = ap (with_byte ends first) (with_bytes-longer ends bytes byte more)
 
 pieces-byte : (ends : Bool) (byte : ℕ) (more : List ℕ) → byte ≢ 10 → pieces ends (byte ∷ more) ≡ with_byte ends byte (pieces ends more)
-pieces-byte ends byte more other = elim (eqb_tells byte 10) [
-  | inl same ↦ absurd (other same.1)
-  | inr differs ↦ rw differs.0 refl
-]
+pieces-byte ends byte more other = grind (arith, nat_tests)
 
 pub lines_after-longer : (ends : Bool) (begun more : List ℕ) (byte : ℕ) → byte ≢ 10
     → lines_after ends begun (byte ∷ more) ≡ lines_after ends (begun ++ byte ∷ []) more
@@ -37,10 +35,18 @@ with_bytes-alone : (byte : ℕ) (bytes : List ℕ) → with_bytes true (byte ∷
 with_bytes-alone byte [] = refl
 with_bytes-alone byte (next ∷ bytes) = ap (with_byte true byte) (with_bytes-alone next bytes)
 
-pub lines_after-nothing : (ends : Bool) → lines_after ends [] [] ≡ []
+-- At the end of the input, an empty rest is no line, and any other is the last line.
+pub no_last_line : (begun : List ℕ) → length begun ≡ 0 → lines_after true begun [] ≡ []
 unfolding lines_after
-lines_after-nothing ends = refl
+no_last_line [] none = refl
+no_last_line (byte ∷ bytes) none = absurd (omega arith)
 
-pub lines_after-alone : (byte : ℕ) (bytes : List ℕ) → lines_after true (byte ∷ bytes) [] ≡ strip_last 13 (byte ∷ bytes) ∷ []
+pub last_line : (begun : List ℕ) → 0 < length begun → lines_after true begun [] ≡ strip_last 13 begun ∷ []
 unfolding lines_after
-lines_after-alone byte bytes = ap (map (strip_last 13)) (with_bytes-alone byte bytes)
+last_line [] some = absurd (omega arith)
+last_line (byte ∷ bytes) some = ap (map (strip_last 13)) (with_bytes-alone byte bytes)
+
+-- one byte after the bytes before it
+pub next_byte : (ends : Bool) (begun bytes more : List ℕ) (i : ℕ) → i < length bytes
+    → lines_after ends begun (drop i bytes ++ more) ≡ lines_after ends begun (get_or bytes i 0 ∷ (drop (i + 1) bytes ++ more))
+next_byte ends begun bytes more i within = rw (add-one, drop-cons bytes i 0 within)

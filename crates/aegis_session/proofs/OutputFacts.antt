@@ -1,9 +1,8 @@
 -- Answers one after the other.
-use Rattle.std.proofs.Common.{◌≡◌, ℕ, ◌-◌, Result, Ok, Err, OnOk, length-drop, Bool, true, false, ◌||◌, List, [], ◌∷◌, ◌++◌, Option, take, drop, length, refl, ap, sym, ◌∙◌, append_assoc, append-nil, take-append-drop, arith}
+use Rattle.std.proofs.Common.{◌≡◌, ℕ, ◌-◌, Result, Ok, Err, OnOk, Bool, ◌||◌, List, [], ◌∷◌, ◌++◌, Option, take, drop, length, refl, ap, sym, ◌∙◌, append_assoc, append-nil, take-append-drop, arith}
 use Rattle.std.proofs.Math.Bool.{or_assoc}
-use Rattle.std.proofs.lemmas.List.{take_all}
 use Rattle.std.proofs.KnownBytes.{Appends-nil, Appends-trans, Appends-kept}
-use Rattle.std.proofs.lemmas.Grind.{flat_map-append}
+use Rattle.std.proofs.lemmas.Grind.{common_steps, flat_map-append}
 use Rattle.std.proofs.lemmas.List.Folds.{list_any-append}
 use Rattle.std.specs.List.{list_any}
 use Rattle.std.specs.Io.KnownBytes.{Appends, Keeps}
@@ -16,10 +15,6 @@ AreAnswers-append [] (text ∷ texts) lines' texts' p q = absurd p
 AreAnswers-append (line ∷ lines) [] lines' texts' p q = absurd p
 AreAnswers-append (line ∷ lines) (text ∷ texts) lines' texts' p q = (p.0, AreAnswers-append lines texts lines' texts' p.1 q)
 
-or-false : (b : Bool) → b ≡ (b || false)
-or-false true = refl
-or-false false = refl
-
 pub no_answers : (lines : List (List ℕ)) (saw : Bool) (old new : Option (List ℕ)) → Appends old new [] → Answers lines lines saw saw old new
 no_answers lines saw old new kept = record {
   answered = [];
@@ -27,7 +22,7 @@ no_answers lines saw old new kept = record {
   split = refl;
   answers = tt;
   written = kept;
-  errors = or-false saw;
+  errors = grind arith;
 }
 
 pub one_answer : (line text : List ℕ) (others : List (List ℕ)) (saw : Bool) (old new : Option (List ℕ)) → IsAnswer line text → Appends old new (text ++ 10 ∷ [])
@@ -38,7 +33,7 @@ one_answer line text others saw old new answer written = record {
   split = refl;
   answers = (answer, tt);
   written = rw append-nil written;
-  errors = ap (λ b. saw || b) (or-false (is_error text));
+  errors = grind arith;
 }
 
 pub more_answers : (first second third : List (List ℕ)) (a b c : Bool) (x y z : Option (List ℕ)) → Answers first second a b x y → Answers second third b c y z
@@ -53,15 +48,8 @@ more_answers first second third a b c x y z p q = record {
       ∙ ap (λ s. a || s) (sym (list_any-append is_error p.texts q.texts));
 }
 
-pub kept_answers : (first second : List (List ℕ)) (a b : Bool) (x y z : Option (List ℕ)) → Answers first second a b x y → Keeps y z → Answers first second a b x z
-kept_answers first second a b x y z p kept = record {
-  answered = p.answered;
-  texts = p.texts;
-  split = p.split;
-  answers = p.answers;
-  written = Appends-kept x y z _ p.written kept;
-  errors = p.errors;
-}
+pub appends_none : (old new : Option (List ℕ)) → Keeps old new → Appends old new []
+appends_none old new kept = Appends-kept old old new [] (Appends-nil old) kept
 
 -- Nothing was written.
 pub no_beginning : (lines : List (List ℕ)) (old new : Option (List ℕ)) → Appends old new [] → AnswersSome lines old new
@@ -108,11 +96,11 @@ more_beginning first second a b x y z p q = record {
 
 -- All lines were answered, and the writer kept what it was given.
 pub all_beginning : (first : List (List ℕ)) (a b : Bool) (x y z : Option (List ℕ)) → Answers first [] a b x y → Keeps y z → AnswersSome first x z
-all_beginning first a b x y z p kept = more_beginning first [] a b x y z p (no_beginning [] y z (Appends-kept y y z [] (Appends-nil y) kept))
+all_beginning first a b x y z p kept = more_beginning first [] a b x y z p (no_beginning [] y z (appends_none y z kept))
 
 -- a slice from a place to the end
 pub slice-end : (bytes : List ℕ) (start : ℕ) → take (length bytes - start) (drop start bytes) ≡ drop start bytes
-slice-end bytes start = let len = length-drop start bytes in take_all (length bytes - start) (drop start bytes) (omega arith)
+slice-end bytes start = grind (arith, common_steps)
 
 -- a consequence of two facts of a call that returned `Ok`
 pub on_ok_both : {T E P Q S : Type 0} (r : Result T E) → (P → Q → S) → OnOk r P → OnOk r Q → OnOk r S

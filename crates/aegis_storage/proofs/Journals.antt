@@ -2,19 +2,18 @@
 use Rattle.std.proofs.Common.{◌≡◌, ℕ, ◌+◌, ◌^◌, ◌<◌, ◌≤◌, ◌⊎◌, inl, inr, IfNone, IfSome, List, [], ◌∷◌, ◌++◌, None, Some, Option, drop, length, take, refl, sym, ap, subst, ◌∙◌, arith}
 use Rattle.std.proofs.lemmas.List.{append_assoc, drop_at, length-append, take_at}
 use Rattle.std.proofs.lemmas.Nat.{from_le_bytes-to_le_bytes_8}
-use Rattle.std.specs.Int.{from_le_bytes, to_le_bytes, w64}
+use Rattle.std.proofs.lemmas.Grind.{common_steps}
+use Rattle.std.specs.Int.{to_le_bytes, w64}
 use Rattle.aegis_base.specs.Mac.{mac}
 use Rattle.aegis_base.specs.Variant.{Aegis128L}
 use Rattle.aegis_base.proofs.MacFacts.{length_mac}
 use Rattle.aegis_storage.specs.declared.store.TheConstants.{MAX_STORAGE_BYTES}
-use Rattle.aegis_storage.specs.Calls.{GivesFrom}
-use Rattle.aegis_storage.specs.Disk.{Adds, Crashed, Disk, IsPossible, MakesCertain, Size, Writes, WritesAll, after, certain, changes, after_writes}
-use Rattle.aegis_storage.specs.Journal.{AreWithin, GivesOneOf, IsAtRest, IsFramed, IsJournal, IsOneOf, IsNoForgery, RecoversUnlessForged, RecoversKnown, authenticated, entries, entry}
+use Rattle.aegis_storage.specs.Disk.{Adds, CrashLeaves, Crashed, Disk, IsPossible, MakesCertain, Size, Writes, WritesAll, certain, certain_left, changes, after_writes}
+use Rattle.aegis_storage.specs.Journal.{AreWithin, Gives, GivesOneOf, IsAtRest, IsFramed, IsJournal, IsOneOf, IsNoForgery, RecoversUnlessForged, RecoversKnown, authenticated, entries, entry}
 use Rattle.aegis_storage.specs.Pending.{writes_of}
 use Rattle.std.specs.declared.vec.Vec.{Vec}
 use Rattle.aegis_storage.specs.declared.pending.PendingWrite.{PendingWrite}
-use Rattle.aegis_storage.proofs.Crashing.{written_again}
-use Rattle.aegis_storage.proofs.Disks.{Left, certain_only, cut_left, left_synced, readable, readable_certain}
+use Rattle.aegis_storage.proofs.Disks.{certain_has, certain_leaves, cut, has_left, leaves_also, left, left_synced, readable, readable_certain, written_again}
 use Rattle.aegis_storage.proofs.Lists.{all_within}
 
 -- ---- one list of writes for a journal
@@ -23,20 +22,12 @@ use Rattle.aegis_storage.proofs.Lists.{all_within}
 same_parts : (n : ℕ) (ps qs xs ys : List ℕ) → length ps ≡ n → length qs ≡ n → ps ++ xs ≡ qs ++ ys → (ps ≡ qs) × (xs ≡ ys)
 same_parts n ps qs xs ys p q same = (sym (take_at ps xs n p) ∙ ap (take n) same ∙ take_at qs ys n q, sym (drop_at ps xs n p) ∙ ap (drop n) same ∙ drop_at qs ys n q)
 
-pub same_number : (m n : ℕ) (xs ys : List ℕ) → m < 2 ^ 64 → n < 2 ^ 64 → to_le_bytes w64 m ++ xs ≡ to_le_bytes w64 n ++ ys → (m ≡ n) × (xs ≡ ys)
-same_number m n xs ys low high same =
-    let parts = same_parts 8 (to_le_bytes w64 m) (to_le_bytes w64 n) xs ys refl refl same in
-    (sym (from_le_bytes-to_le_bytes_8 m low) ∙ ap (from_le_bytes w64) parts.0 ∙ from_le_bytes-to_le_bytes_8 n high, parts.1)
-
--- a write and the bytes after it, number after number
-pub spread : (write : ℕ × List ℕ) (rest : List ℕ) → entry write ++ rest ≡ to_le_bytes w64 write.0 ++ (to_le_bytes w64 (length write.1) ++ (write.1 ++ rest))
-spread write rest =
-    append_assoc (to_le_bytes w64 write.0) (to_le_bytes w64 (length write.1) ++ write.1) rest
-    ∙ ap (λ (l : List ℕ). to_le_bytes w64 write.0 ++ l) (append_assoc (to_le_bytes w64 (length write.1)) write.1 rest)
+same_number : (m n : ℕ) (xs ys : List ℕ) → m < 2 ^ 64 → n < 2 ^ 64 → to_le_bytes w64 m ++ xs ≡ to_le_bytes w64 n ++ ys → (m ≡ n) × (xs ≡ ys)
+same_number m n xs ys low high same = grind (arith, same_parts 8 (to_le_bytes w64 m) (to_le_bytes w64 n) xs ys refl refl same, from_le_bytes-to_le_bytes_8)
 
 same_entry : (v w : ℕ × List ℕ) (xs ys : List ℕ) → v.0 + length v.1 ≤ MAX_STORAGE_BYTES → w.0 + length w.1 ≤ MAX_STORAGE_BYTES → entry v ++ xs ≡ entry w ++ ys → (v ≡ w) × (xs ≡ ys)
 same_entry v w xs ys low high same =
-    let place = same_number v.0 w.0 _ _ (omega (arith, low)) (omega (arith, high)) (sym (spread v xs) ∙ same ∙ spread w ys) in
+    let place = same_number v.0 w.0 _ _ (omega (arith, low)) (omega (arith, high)) (simp append_assoc at same) in
     let count = same_number (length v.1) (length w.1) _ _ (omega (arith, low)) (omega (arith, high)) place.1 in
     let bytes = same_parts (length v.1) v.1 w.1 xs ys refl (sym count.0) count.1 in
     (ap (λ (n : ℕ). (n, v.1)) place.0 ∙ ap (λ (l : List ℕ). (w.0, l)) bytes.0, bytes.1)
@@ -46,8 +37,7 @@ same_writes [] [] p q same = refl
 same_writes [] (w ∷ ws) p q same = absurd (let sizes : 0 ≡ length (entries (w ∷ ws)) = ap length same in omega (arith, sizes))
 same_writes (v ∷ vs) [] p q same = absurd (let sizes : length (entries (v ∷ vs)) ≡ 0 = ap length same in omega (arith, sizes))
 same_writes (v ∷ vs) (w ∷ ws) p q same =
-    let first = same_entry v w (entries vs) (entries ws) p.0 q.0 same in
-    ap (λ x. x ∷ vs) first.0 ∙ ap (λ (l : Writes). w ∷ l) (same_writes vs ws p.1 q.1 first.1)
+    let first = same_entry v w (entries vs) (entries ws) p.0 q.0 same in rw (first.0, same_writes vs ws p.1 q.1 first.1)
 
 -- what is left behind some writes begins with no write, so the whole is of no writes
 pub no_writes : (done : Writes) (rest : List ℕ) (writes : Writes) → 0 < length rest → ((write : ℕ × List ℕ) (after : List ℕ) → write.0 + length write.1 ≤ MAX_STORAGE_BYTES → rest ≡ entry write ++ after → ⊥)
@@ -68,17 +58,11 @@ framed_parts key context xs journal is beginning nonce content end p q r are =
     let tag : List ℕ = mac Aegis128L 32 key is.nonce (authenticated context xs) in
     let first = same_parts 33 beginning is.beginning _ _ p is.beginning_size (sym are ∙ is.are) in
     let second = same_parts 16 nonce is.nonce _ _ q is.nonce_size first.1 in
-    let long : length tag ≡ 32 = long-mac key is.nonce (authenticated context xs) in
-    let sizes : length xs ≡ length content = omega (arith, ap length second.1, r, long, length-append content end, length-append xs tag) in
-    let third = same_parts (length content) content xs end tag refl sizes second.1 in
-    (third.0, third.1 ∙ sym (ap (λ (l : List ℕ). mac Aegis128L 32 key l (authenticated context xs)) second.0) ∙ sym (ap (λ (l : List ℕ). mac Aegis128L 32 key nonce (authenticated context l)) third.0))
+    let sizes : length xs ≡ length content = omega (arith, ap length second.1, r, long-mac key is.nonce (authenticated context xs), length-append content end, length-append xs tag) in
+    let third = same_parts (length content) content xs end tag refl sizes second.1 in (third.0, rw (second.0, third.0) third.1)
 
 pub length-framed : (key context content journal : List ℕ) → IsFramed key context content journal → 81 ≤ length journal
-length-framed key context content journal is =
-    let tag : List ℕ = mac Aegis128L 32 key is.nonce (authenticated context content) in
-    let long : length tag ≡ 32 = long-mac key is.nonce (authenticated context content) in
-    let beginning = is.beginning_size in let nonce = is.nonce_size in
-    omega (arith, ap length is.are, beginning, nonce, long, length-append is.beginning (is.nonce ++ (content ++ tag)), length-append is.nonce (content ++ tag), length-append content tag)
+length-framed key context content journal is = grind (arith, common_steps, long-mac key is.nonce (authenticated context content))
 
 one_content : (key context xs ys journal : List ℕ) → IsFramed key context xs journal → IsFramed key context ys journal → xs ≡ ys
 one_content key context xs ys journal p q =
@@ -102,95 +86,71 @@ pub if_not_found : {X : Type 0} (key context content journal : List ℕ) → IsF
 if_not_found key context content journal framed None none = λ writes is. none writes is.within (one_content key context content (entries writes) journal framed is.framed)
 if_not_found key context content journal framed (Some x) none = tt
 
--- ---- states
-
-one_of : (a b xs ys : List ℕ) → ys ≡ xs → IsOneOf a b xs → IsOneOf a b ys
-one_of a b xs ys same one = subst (λ (l : List ℕ). IsOneOf a b l) (sym same) one
-
-gives_same : (key context a b js ks xs ys : List ℕ) → ks ≡ js → ys ≡ xs → GivesOneOf key context a b js xs → GivesOneOf key context a b ks ys
-gives_same key context a b js ks xs ys same also gives =
-    subst (λ (l : List ℕ). GivesOneOf key context a b l ys) (sym same) (subst (λ (l : List ℕ). GivesOneOf key context a b js l) (sym also) gives)
+-- ---- recovery
 
 -- an empty journal changes nothing
-by_empty : (key context a b xs : List ℕ) → IsOneOf a b xs → GivesOneOf key context a b [] xs
-by_empty key context a b xs one = record { whole = λ writes is. absurd (empty_is_none key context writes is); other = λ not. one }
+by_empty : (key context old : List ℕ) (P : List ℕ → Type 0) → P old → Gives key context [] old P
+by_empty key context old P p = record { whole = λ writes is. absurd (empty_is_none key context writes is); other = λ not. p }
+
+-- the writes of a whole journal are made
+by_journal : (key context js old : List ℕ) (writes : Writes) (P : List ℕ → Type 0) → IsJournal key context writes js → P (after_writes writes old) → Gives key context js old P
+by_journal key context js old writes P is p = record {
+  whole = λ found found_is. rw (one_journal key context found writes js found_is is) p;
+  other = λ not. absurd (not writes is);
+}
+
+-- ---- states
+
+recovers_by : (key context xs : List ℕ) (writes : Writes) (P Q : List ℕ → Type 0) (storage journal : Option Disk) → CrashLeaves P storage → CrashLeaves Q journal
+    → ((ys js : List ℕ) → P ys → Q js → IsNoForgery key context writes js → GivesOneOf key context xs (after_writes writes xs) js ys) → RecoversUnlessForged key context xs writes storage journal
+recovers_by key context xs writes P Q storage journal s j gives = record {
+  storage_disk = s.disk;
+  journal_disk = j.disk;
+  storage_is = s.is;
+  journal_is = j.is;
+  gives = λ ys js p q. gives ys js (s.has ys p) (j.has js q);
+}
 
 pub rest_recovers : (key context xs : List ℕ) (writes : Writes) (storage journal : Option Disk) (zs : List ℕ) → IsOneOf xs (after_writes writes xs) zs → IsAtRest storage journal zs
     → RecoversUnlessForged key context xs writes storage journal
-rest_recovers key context xs writes storage journal zs one rest = record {
-  storage_disk = certain zs;
-  journal_disk = certain [];
-  storage_is = rest.storage_is;
-  journal_is = rest.journal_is;
-  gives = λ ys js p q _. gives_same key context xs (after_writes writes xs) [] js zs ys (certain_only [] js q) (certain_only zs ys p) (by_empty key context xs (after_writes writes xs) zs one);
-}
+rest_recovers key context xs writes storage journal zs one rest =
+    recovers_by key context xs writes _ _ storage journal (certain_leaves storage zs rest.storage_is) (certain_leaves journal [] rest.journal_is)
+    (λ ys js p q _. rw (p, q) (by_empty key context zs (IsOneOf xs (after_writes writes xs)) one))
 
 pub at_rest_recovers : (key context xs : List ℕ) (writes : Writes) (storage journal : Option Disk) → IsAtRest storage journal xs → RecoversUnlessForged key context xs writes storage journal
 at_rest_recovers key context xs writes storage journal rest = rest_recovers key context xs writes storage journal xs (inl refl) rest
 
 -- while the journal is written
-pub torn_journal : (key context : List ℕ) (writes : Writes) (torn : Disk) (storage journal : Option Disk) (xs : List ℕ) → storage ≡ Some (certain xs) → journal ≡ Some torn
+pub torn_journal : (key context xs : List ℕ) (writes : Writes) (P : List ℕ → Type 0) (storage journal : Option Disk) → storage ≡ Some (certain xs) → CrashLeaves P journal
     → RecoversUnlessForged key context xs writes storage journal
-torn_journal key context writes torn storage journal xs storage_is journal_is = record {
-  storage_disk = certain xs;
-  journal_disk = torn;
-  storage_is = storage_is;
-  journal_is = journal_is;
-  gives = λ ys ks p q no_forgery. record {
-    whole = λ found is. inr (ap (after_writes found) (certain_only xs ys p) ∙ ap (λ (l : Writes). after_writes l xs) (no_forgery found is));
-    other = λ not. inl (certain_only xs ys p);
-  };
-}
+torn_journal key context xs writes P storage journal is torn =
+    recovers_by key context xs writes _ P storage journal (certain_leaves storage xs is) torn
+    (λ ys js p _ no_forgery. rw p (record { whole = λ found found_is. inr (ap (λ (l : Writes). after_writes l xs) (no_forgery found found_is)); other = λ not. inl refl }))
 
 -- once the journal is certain, and while the writes are made
-pub over_gives : (key context : List ℕ) (writes : Writes) (a b js xs : List ℕ) (state : Option Disk) → IsJournal key context writes js → IsOneOf a b (after_writes writes xs)
-    → Left state (after (certain xs) (changes writes)) → GivesFrom key context a b js state
-over_gives key context writes a b js xs state is one over = record {
-  disk = over.disk;
-  is = over.is;
-  gives = λ ys p.
-      let crashed = over.within ys p in record {
-        whole = λ found found_is.
-            one_of a b (after_writes writes xs) (after_writes found ys) (ap (λ (l : Writes). after_writes l ys) (one_journal key context found writes js found_is is)
-            ∙ ap (after_writes writes) crashed.are ∙ written_again writes crashed.parts xs crashed.of_pending) one;
-        other = λ not. absurd (not writes is);
-      };
-}
+pub certain_gives : (key context a b js xs : List ℕ) (state : Option Disk) → state ≡ Some (certain xs) → GivesOneOf key context a b js xs → CrashLeaves (GivesOneOf key context a b js) state
+certain_gives key context a b js xs state is gives = certain_has (GivesOneOf key context a b js) state xs gives is
 
-pub certain_gives : (key context a b js xs : List ℕ) (state : Option Disk) → state ≡ Some (certain xs) → GivesOneOf key context a b js xs → GivesFrom key context a b js state
-certain_gives key context a b js xs state is gives = record {
-  disk = certain xs;
-  is = is;
-  gives = λ ys p. gives_same key context a b js js xs ys refl (certain_only xs ys p) gives;
-}
+pub over_gives : (key context a b js xs : List ℕ) (writes : Writes) (old new : Option Disk) → IsJournal key context writes js → IsOneOf a b (after_writes writes xs) → old ≡ Some (certain xs)
+    → Adds old new (changes writes) → CrashLeaves (GivesOneOf key context a b js) new
+over_gives key context a b js xs writes old new whole one is adds =
+    leaves_also _ (GivesOneOf key context a b js) new
+    (λ ys crashed. by_journal key context js ys writes (IsOneOf a b) whole (rw (crashed.are, written_again writes crashed.parts xs crashed.of_pending) one))
+    (left old new (certain xs) (changes writes) adds is)
 
-pub middle : (key context xs : List ℕ) (writes : Writes) (js : List ℕ) (storage journal : Option Disk) → GivesFrom key context xs (after_writes writes xs) js storage → journal ≡ Some (certain js)
+pub middle : (key context xs : List ℕ) (writes : Writes) (js : List ℕ) (storage journal : Option Disk) → CrashLeaves (GivesOneOf key context xs (after_writes writes xs) js) storage → journal ≡ Some (certain js)
     → RecoversUnlessForged key context xs writes storage journal
-middle key context xs writes js storage journal from is = record {
-  storage_disk = from.disk;
-  journal_disk = certain js;
-  storage_is = from.is;
-  journal_is = is;
-  gives = λ ys ks p q _. gives_same key context xs (after_writes writes xs) js ks ys ys (certain_only js ks q) refl (from.gives ys p);
-}
+middle key context xs writes js storage journal from is = recovers_by key context xs writes _ _ storage journal from (certain_leaves journal js is) (λ ys ks p q _. rw q p)
 
 -- while the journal is emptied
-pub finish : (key context xs : List ℕ) (writes : Writes) (js zs : List ℕ) (storage journal : Option Disk) → GivesFrom key context xs (after_writes writes xs) js storage → storage ≡ Some (certain zs)
-    → IsOneOf xs (after_writes writes xs) zs → Left journal (after (certain js) (Size 0 ∷ [])) → RecoversUnlessForged key context xs writes storage journal
-finish key context xs writes js zs storage journal from is one cut = record {
-  storage_disk = certain zs;
-  journal_disk = cut.disk;
-  storage_is = is;
-  journal_is = cut.is;
-  gives = λ ys ks p q _. cases ys ks p (cut_left js ks (cut.within ks q));
-}
+pub finish : (key context xs : List ℕ) (writes : Writes) (js zs : List ℕ) (storage journal journal' : Option Disk) → CrashLeaves (GivesOneOf key context xs (after_writes writes xs) js) storage → storage ≡ Some (certain zs)
+    → IsOneOf xs (after_writes writes xs) zs → journal ≡ Some (certain js) → Adds journal journal' (Size 0 ∷ []) → RecoversUnlessForged key context xs writes storage journal'
+finish key context xs writes js zs storage journal journal' from is one journal_is adds =
+    recovers_by key context xs writes _ _ storage journal' (certain_leaves storage zs is) (cut js journal journal' journal_is adds) (λ ys ks p q _. rw p (cases ks q))
   where
-    same_disk : from.disk ≡ certain zs
-    same_disk = let both : Some from.disk ≡ Some (certain zs) = sym from.is ∙ is in cc
-
-    cases : (ys ks : List ℕ) → Crashed (certain zs) ys → (ks ≡ js) ⊎ (ks ≡ []) → GivesOneOf key context xs (after_writes writes xs) ks ys
-    cases ys ks p (inl whole) = gives_same key context xs (after_writes writes xs) js ks ys ys whole refl (from.gives ys (subst (λ (d : Disk). Crashed d ys) (sym same_disk) p))
-    cases ys ks p (inr none) = gives_same key context xs (after_writes writes xs) [] ks zs ys none (certain_only zs ys p) (by_empty key context xs (after_writes writes xs) zs one)
+    cases : (ks : List ℕ) → (ks ≡ js) ⊎ (ks ≡ []) → GivesOneOf key context xs (after_writes writes xs) ks zs
+    cases ks (inl whole) = rw whole (has_left (GivesOneOf key context xs (after_writes writes xs) js) storage (certain zs) zs from is (certain_left zs))
+    cases ks (inr none) = rw none (by_empty key context zs (IsOneOf xs (after_writes writes xs)) one)
 
 -- ---- syncs
 
@@ -198,14 +158,8 @@ finish key context xs writes js zs storage journal from is one cut = record {
 pub synced_recovers : (key context xs : List ℕ) (writes : Writes) (storage storage' journal journal' : Option Disk) → Adds storage storage' [] → Adds journal journal' [] → RecoversUnlessForged key context xs writes storage journal
     → RecoversUnlessForged key context xs writes storage' journal'
 synced_recovers key context xs writes storage storage' journal journal' p q recovers =
-    let s = left_synced storage storage' recovers.storage_disk p recovers.storage_is in
-    let j = left_synced journal journal' recovers.journal_disk q recovers.journal_is in record {
-      storage_disk = s.disk;
-      journal_disk = j.disk;
-      storage_is = s.is;
-      journal_is = j.is;
-      gives = λ ys js a b. recovers.gives ys js (s.within ys a) (j.within js b);
-    }
+    recovers_by key context xs writes _ _ storage' journal' (left_synced storage storage' recovers.storage_disk p recovers.storage_is)
+    (left_synced journal journal' recovers.journal_disk q recovers.journal_is) recovers.gives
 
 -- Both are synced, and the journal was read.
 pub record Settled (key context : List ℕ) (storage journal : Option Disk) (a b js : List ℕ) : Type 0 where
@@ -213,9 +167,6 @@ pub record Settled (key context : List ℕ) (storage journal : Option Disk) (a b
   pub storage_is : storage ≡ Some (certain now)
   pub journal_is : journal ≡ Some (certain js)
   pub gives : GivesOneOf key context a b js now
-
-if_some_is : (P : List ℕ → Type 0) (js : List ℕ) (bytes : Option (List ℕ)) → bytes ≡ Some js → IfSome bytes P → P js
-if_some_is P js bytes is found = subst (λ (o : Option (List ℕ)). IfSome o P) is found
 
 -- `a_bytes` are the storage's, and `b_bytes` and `c_bytes` the journal's before and after its sync
 pub settled : (key context xs : List ℕ) (writes : Writes) (a_bytes b_bytes c_bytes : Option (List ℕ)) (storage storage' journal journal' : Option Disk) (read js : List ℕ)
@@ -226,12 +177,11 @@ settled key context xs writes a_bytes b_bytes c_bytes storage storage' journal j
     let x = readable a_bytes storage recovers.storage_disk p recovers.storage_is in
     let y = readable b_bytes journal recovers.journal_disk q recovers.journal_is in
     let synced = t recovers.journal_disk y.xs recovers.journal_is y.is in
-    let js_are : js ≡ y.xs = same ∙ if_some_is (λ ys. read ≡ ys) y.xs c_bytes (readable_certain c_bytes journal' y.xs r synced) found in record {
+    let js_are : js ≡ y.xs = same ∙ rw (readable_certain c_bytes journal' y.xs r synced) at found in record {
       now = x.xs;
       storage_is = s recovers.storage_disk x.xs recovers.storage_is x.is;
-      journal_is = synced ∙ ap (λ (l : List ℕ). Some (certain l)) (sym js_are);
-      gives = gives_same key context xs (after_writes writes xs) y.xs js x.xs x.xs js_are refl
-          (recovers.gives x.xs y.xs x.possible y.possible (if_some_is (IsNoForgery key context writes) y.xs b_bytes y.is no_forgery));
+      journal_is = rw js_are synced;
+      gives = rw js_are (recovers.gives x.xs y.xs x.possible y.possible (rw y.is at no_forgery));
     }
 
 -- ---- what is known
@@ -239,10 +189,7 @@ settled key context xs writes a_bytes b_bytes c_bytes storage storage' journal j
 pub known_whole : (key context : List ℕ) (writes : Writes) (js : List ℕ) (a b : Option (List ℕ)) → IsJournal key context writes js → WritesAll a b writes → RecoversKnown key context (Some js) a b
 known_whole key context writes js None b is all = tt
 known_whole key context writes js (Some xs) None is all = absurd all
-known_whole key context writes js (Some xs) (Some ys) is all = record {
-  whole = λ found found_is. all ∙ ap (λ (l : Writes). after_writes l xs) (sym (one_journal key context found writes js found_is is));
-  other = λ not. absurd (not writes is);
-}
+known_whole key context writes js (Some xs) (Some ys) is all = by_journal key context js xs writes (λ given. ys ≡ given) is all
 
 pub known_other : (key context js : List ℕ) (a : Option (List ℕ)) → ((writes : Writes) → IsJournal key context writes js → ⊥) → RecoversKnown key context (Some js) a a
 known_other key context js None not = tt
@@ -254,11 +201,6 @@ pub crashed_recovers : (key context xs : List ℕ) (writes : Writes) (storage jo
     → Crashed storage ys → Crashed journal js → RecoversUnlessForged key context xs writes (Some (certain ys)) (Some (certain js))
 crashed_recovers key context xs writes storage journal ys js recovers p q =
     let s : storage ≡ recovers.storage_disk = (let is = recovers.storage_is in cc) in
-    let j : journal ≡ recovers.journal_disk = (let is = recovers.journal_is in cc) in record {
-      storage_disk = certain ys;
-      journal_disk = certain js;
-      storage_is = refl;
-      journal_is = refl;
-      gives = λ zs ks a b nf. gives_same key context xs (after_writes writes xs) js ks ys zs (certain_only js ks b) (certain_only ys zs a)
-          (recovers.gives ys js (subst (λ (d : Disk). Crashed d ys) s p) (subst (λ (d : Disk). Crashed d js) j q) (subst (IsNoForgery key context writes) (certain_only js ks b) nf));
-    }
+    let j : journal ≡ recovers.journal_disk = (let is = recovers.journal_is in cc) in
+    recovers_by key context xs writes _ _ (Some (certain ys)) (Some (certain js)) (certain_leaves (Some (certain ys)) ys refl) (certain_leaves (Some (certain js)) js refl)
+    (λ zs ks a b no_forgery. rw (a, b) (recovers.gives ys js (rw s at p) (rw j at q) (rw b at no_forgery)))

@@ -1,4 +1,3 @@
-pub mod Crashing
 pub mod Disks
 pub mod Beginnings
 pub mod Journals

@@ -13,20 +13,20 @@ resized xs n = take n xs ++ replicate (n - length xs) 0
 abbrev pub overwritten : List ℕ → ℕ → List ℕ → List ℕ
 overwritten xs at bs = resized xs at ++ (bs ++ drop (at + length bs) xs)
 
+-- if the first is known, so is the second, and they are related
+abbrev pub IfKnown : {X : Type 0} → (X → X → Type 0) → Option X → Option X → Type 0
+IfKnown R None new = ⊤
+IfKnown R (Some x) None = ⊥
+IfKnown R (Some x) (Some y) = R x y
+
 -- known bytes are overwritten by bs
 abbrev pub WritesAt : Option (List ℕ) → Option (List ℕ) → ℕ → List ℕ → Type 0
-WritesAt None new at bs = ⊤
-WritesAt (Some xs) None at bs = ⊥
-WritesAt (Some xs) (Some ys) at bs = ys ≡ overwritten xs at bs
+WritesAt old new at bs = IfKnown (λ xs ys. ys ≡ overwritten xs at bs) old new
 
 -- known bytes are kept, or overwritten by n bytes at most
 abbrev pub TearsAt : Option (List ℕ) → Option (List ℕ) → ℕ → ℕ → Type 0
-TearsAt None new at n = ⊤
-TearsAt (Some xs) None at n = ⊥
-TearsAt (Some xs) (Some ys) at n = (ys ≡ xs) ⊎ ((torn : List ℕ) × (length torn ≤ n) × (ys ≡ overwritten xs at torn))
+TearsAt old new at n = IfKnown (λ xs ys. (ys ≡ xs) ⊎ ((torn : List ℕ) × (length torn ≤ n) × (ys ≡ overwritten xs at torn))) old new
 
 -- known bytes are resized
 abbrev pub ResizesTo : Option (List ℕ) → Option (List ℕ) → ℕ → Type 0
-ResizesTo None new n = ⊤
-ResizesTo (Some xs) None n = ⊥
-ResizesTo (Some xs) (Some ys) n = ys ≡ resized xs n
+ResizesTo old new n = IfKnown (λ xs ys. ys ≡ resized xs n) old new

@@ -1,7 +1,7 @@
 -- What a storage holds after a crash: what was synced, and of what came since any parts in any order.
 use Rattle.std.specs.Prelude.{◌≡◌, ℕ, ◌+◌, ◌≤◌, ◌⊎◌, List, [], ◌∷◌, ◌++◌, Option, None, Some, ⊤, length, map}
 use Rattle.std.proofs.Common.{refl}
-use Rattle.aegis_storage.specs.Bytes.{overwritten, resized}
+use Rattle.aegis_storage.specs.Bytes.{IfKnown, overwritten, resized}
 
 -- a call that changes the bytes: these bytes are written at a place, or there are to be n of them
 pub data Change : Type 0 where
@@ -31,9 +31,7 @@ after_writes writes xs = applied (changes writes) xs
 
 -- known bytes are changed by writes
 abbrev pub WritesAll : Option (List ℕ) → Option (List ℕ) → Writes → Type 0
-WritesAll None new writes = ⊤
-WritesAll (Some xs) None writes = ⊥
-WritesAll (Some xs) (Some ys) writes = ys ≡ after_writes writes xs
+WritesAll old new writes = IfKnown (λ xs ys. ys ≡ after_writes writes xs) old new
 
 -- What a sync has made certain, and the changes since then, the first of them first. A change whose call returned an
 -- error may be among them.
@@ -76,6 +74,12 @@ pub record Crashed (disk : Disk) (bytes : List ℕ) : Type 0 where
   pub of_pending : AreParts disk.pending parts
   pub are : bytes ≡ applied parts disk.synced
 
+-- The disk is known, and P holds of whatever a crash now leaves of it.
+pub record CrashLeaves (P : List ℕ → Type 0) (state : Option Disk) : Type 0 where
+  pub disk : Disk
+  pub is : state ≡ Some disk
+  pub has : (bytes : List ℕ) → Crashed disk bytes → P bytes
+
 -- ---- what calls do to a disk that is known
 
 -- Whatever a crash may leave of the first, also after the same further changes, it may leave of the second.
@@ -85,9 +89,7 @@ pub record IsWithin (now disk : Disk) : Type 0 where
 -- A crash may leave no more than if these changes were pending, too. So some of them may be certain already, as in a
 -- vector, and some, or all, not made, as after an error.
 abbrev pub Adds : Option Disk → Option Disk → List Change → Type 0
-Adds None new more = ⊤
-Adds (Some disk) None more = ⊥
-Adds (Some disk) (Some now) more = IsWithin now (after disk more)
+Adds old new more = IfKnown (λ disk now. IsWithin now (after disk more)) old new
 
 -- what can be read is certain
 abbrev pub MakesCertain : Option (List ℕ) → Option Disk → Option Disk → Type 0

@@ -1,12 +1,13 @@
 -- The journal of writes, and what recovery makes of a storage by it.
-use Rattle.std.specs.Prelude.{◌≡◌, ℕ, ◌+◌, ◌≤◌, ◌⊎◌, List, [], ◌++◌, Option, None, Some, ⊤, length, take}
+use Rattle.std.specs.Prelude.{◌≡◌, ℕ, ◌+◌, ◌≤◌, ◌⊎◌, List, [], ◌++◌, IfSome, Option, Some, length, take}
 use Rattle.std.specs.Int.{to_le_bytes, w64}
 use Rattle.std.specs.List.{AllByRecursion, flat_map}
 use Rattle.aegis_base.specs.Mac.{mac}
 use Rattle.aegis_base.specs.Variant.{Aegis128L}
 use Rattle.aegis_storage.specs.declared.journal.TheConstants.{MAX_JOURNAL_BYTES}
 use Rattle.aegis_storage.specs.declared.store.TheConstants.{MAX_STORAGE_BYTES}
-use Rattle.aegis_storage.specs.Disk.{Crashed, Disk, Writes, certain, after_writes}
+use Rattle.aegis_storage.specs.Bytes.{IfKnown}
+use Rattle.aegis_storage.specs.Disk.{CrashLeaves, Crashed, Disk, Writes, certain, after_writes}
 
 -- a write in a journal: its place, its length and its bytes
 abbrev pub entry : ℕ × List ℕ → List ℕ
@@ -28,10 +29,6 @@ authenticated context content = to_le_bytes w64 (length context) ++ (context ++ 
 abbrev pub framed : (key beginning nonce context content : List ℕ) → List ℕ
 framed key beginning nonce context content = beginning ++ (nonce ++ (content ++ mac Aegis128L 32 key nonce (authenticated context content)))
 
--- the journal of writes that `commit` makes
-abbrev pub journal_of : (key beginning nonce context : List ℕ) → Writes → List ℕ
-journal_of key beginning nonce context writes = framed key beginning nonce context (entries writes)
-
 -- The bytes are a beginning, a nonce, this content, and its MAC under the nonce, the key and the context.
 pub record IsFramed (key context content bytes : List ℕ) : Type 0 where
   pub beginning : List ℕ
@@ -46,27 +43,23 @@ pub record IsJournal (key context : List ℕ) (writes : Writes) (bytes : List �
   pub within : AreWithin writes
   pub framed : IsFramed key context (entries writes) bytes
 
--- Recovery of a storage that holds `old`, by what the journal holds, gives `new`.
-pub record IsRecovered (key context journal old new : List ℕ) : Type 0 where
+-- Recovery of a storage that holds `old`, by what the journal holds, gives bytes of which P holds.
+pub record Gives (key context journal old : List ℕ) (P : List ℕ → Type 0) : Type 0 where
   -- the writes of a whole journal are made again
-  pub whole : (writes : Writes) → IsJournal key context writes journal → new ≡ after_writes writes old
+  pub whole : (writes : Writes) → IsJournal key context writes journal → P (after_writes writes old)
   -- any other journal changes nothing
-  pub other : ((writes : Writes) → IsJournal key context writes journal → ⊥) → new ≡ old
+  pub other : ((writes : Writes) → IsJournal key context writes journal → ⊥) → P old
 
--- the same of what is known
+-- recovery by a known journal turns known bytes into what it gives
 abbrev pub RecoversKnown : (key context : List ℕ) → (journal old new : Option (List ℕ)) → Type 0
-RecoversKnown key context None old new = ⊤
-RecoversKnown key context (Some js) None new = ⊤
-RecoversKnown key context (Some js) (Some xs) None = ⊥
-RecoversKnown key context (Some js) (Some xs) (Some ys) = IsRecovered key context js xs ys
+RecoversKnown key context journal old new = IfSome journal (λ js. IfKnown (λ xs ys. Gives key context js xs (λ given. ys ≡ given)) old new)
 
 abbrev pub IsOneOf : (a b bytes : List ℕ) → Type 0
 IsOneOf a b bytes = (bytes ≡ a) ⊎ (bytes ≡ b)
 
--- Recovery of a storage that holds `old`, by what the journal holds, gives a or b.
-pub record GivesOneOf (key context a b journal old : List ℕ) : Type 0 where
-  pub whole : (writes : Writes) → IsJournal key context writes journal → IsOneOf a b (after_writes writes old)
-  pub other : ((writes : Writes) → IsJournal key context writes journal → ⊥) → IsOneOf a b old
+-- recovery gives a or b
+abbrev pub GivesOneOf : (key context a b journal old : List ℕ) → Type 0
+GivesOneOf key context a b journal old = Gives key context journal old (IsOneOf a b)
 
 -- The premise on AEGIS: if the bytes are a journal under the key and the context, then of these writes. Bytes that are
 -- not are a forgery, which nobody can find without the key but by chance.
@@ -89,10 +82,8 @@ HasBeginning beginning bytes = (length bytes ≤ 33) ⊎ (take 33 bytes ≡ begi
 
 -- Whatever a crash now leaves of the journal has at most 33 bytes, or begins with this beginning. So the file of a
 -- longer journal is known by its beginning, also if the journal is torn.
-pub record KeepsBeginning (beginning : List ℕ) (journal : Option Disk) : Type 0 where
-  pub disk : Disk
-  pub is : journal ≡ Some disk
-  pub has : (js : List ℕ) → Crashed disk js → HasBeginning beginning js
+abbrev pub KeepsBeginning : (beginning : List ℕ) → (journal : Option Disk) → Type 0
+KeepsBeginning beginning journal = CrashLeaves (HasBeginning beginning) journal
 
 -- The storage holds xs and the journal is empty, and both are certain.
 pub record IsAtRest (storage journal : Option Disk) (xs : List ℕ) : Type 0 where

@@ -1,5 +1,4 @@
 pub mod Bytes
-pub mod Calls
 pub mod Disk
 pub mod Journal
 pub mod Pending

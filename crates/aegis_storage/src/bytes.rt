@@ -21,6 +21,7 @@ pub fn clear_from(bytes: &mut [u8], at: usize)
 }
 
 /// Returns the parts, one after the other.
+#[tactic(auto, using(crate::proofs::Overwriting::filling))]
 pub fn array_of<const N: usize>(parts: &[&[u8]]) -> [u8; N]
     requires { length (joined parts.now) ≡ N }
     ensures { result ≡ joined parts.now }

@@ -6,7 +6,7 @@ ghost use Rattle.std.specs.Int.{to_le_bytes, w64};
 ghost use Rattle.aegis_base.specs.Context.{Stands};
 ghost use Rattle.aegis_base.specs.Variant.{Aegis128L};
 ghost use Rattle.aegis_storage.specs.Disk.{Writes};
-ghost use Rattle.aegis_storage.specs.Journal.{AreWithin, IsFramed, IsJournal, authenticated, entries, entry, journal_of};
+ghost use Rattle.aegis_storage.specs.Journal.{AreWithin, IsFramed, IsJournal, authenticated, entries, entry, framed};
 ghost use Rattle.aegis_storage.specs.Pending.{writes_of};
 
 use crate::pending::PendingWrite;
@@ -74,7 +74,7 @@ pub fn journal_bytes<A: Allocator + Copy>(
 ) -> io::Result<Vec<u8, A>>
     requires { length context.now ≤ MAX_CONTEXT_BYTES }
     ensures journal { IfOk result (λ made. made.items
-        ≡ journal_of key.now beginning.now nonce.now context.now (writes_of writes.now)) }
+        ≡ framed key.now beginning.now nonce.now context.now (entries (writes_of writes.now))) }
     ensures whole { IfOk result
         (λ made. IsJournal key.now context.now (writes_of writes.now) made.items) }
     ensures size { IfOk result (λ made. length made.items ≤ MAX_JOURNAL_BYTES) }

@@ -6,7 +6,7 @@ ghost use Rattle.aegis_storage.specs.Disk.{AreParts, Change, Crashed, Disk, Writ
 ghost use Rattle.aegis_storage.specs.Journal.{IsAtRest, KeepsBeginning, RecoversUnlessForged};
 
 /// After any parts of writes, in any order, all of the writes give what they give without these.
-#[tactic(auto, using(crate::proofs::Crashing::written_again))]
+#[tactic(auto, using(crate::proofs::Disks::written_again))]
 pub fn written_again()
     ensures { (writes : Writes) (parts : List Change) (xs : List ℕ)
         → AreParts (changes writes) parts

@@ -1,9 +1,8 @@
 //! What a storage and its journal hold after a crash.
 
 ghost use Rattle.std.specs.Prelude.{◌≡◌, ◌≤◌, IfSome, List, OnOk, Some, length, ℕ};
-ghost use Rattle.aegis_storage.specs.Calls.{GivesFrom, IsRedone};
-ghost use Rattle.aegis_storage.specs.Disk.{Writes, certain};
-ghost use Rattle.aegis_storage.specs.Journal.{GivesOneOf, IsNoForgery, KeepsBeginning, RecoversUnlessForged, RecoversKnown, RestsAtEither};
+ghost use Rattle.aegis_storage.specs.Disk.{CrashLeaves, Writes, certain};
+ghost use Rattle.aegis_storage.specs.Journal.{GivesOneOf, IsNoForgery, IsOneOf, KeepsBeginning, RecoversUnlessForged, RecoversKnown, RestsAtEither};
 
 use crate::calls::{empty, read_all, write_and_sync};
 use crate::journal::journaled_writes;
@@ -27,9 +26,11 @@ fn redo<S: Storage, A: Allocator + Copy>(
         (S.bytes storage.old) (S.bytes storage.new)) }
     ensures torn { (a b xs : List ℕ) → S.disk storage.old ≡ Some (certain xs)
         → GivesOneOf key.now context.now a b journal.now xs
-        → GivesFrom key.now context.now a b journal.now (S.disk storage.new) }
+        → CrashLeaves (GivesOneOf key.now context.now a b journal.now) (S.disk storage.new) }
     ensures certain { OnOk result ((xs : List ℕ) → S.disk storage.old ≡ Some (certain xs)
-        → IsRedone key.now context.now journal.now xs (S.disk storage.new)) }
+        → (bytes : List ℕ) × (S.disk storage.new ≡ Some (certain bytes))
+        × ((a b : List ℕ) → GivesOneOf key.now context.now a b journal.now xs
+        → IsOneOf a b bytes)) }
 {
     match journaled_writes(alloc, key, context, journal)? {
         Some(writes) => write_and_sync(storage, &writes),
@@ -45,7 +46,7 @@ fn redo<S: Storage, A: Allocator + Copy>(
 ///
 /// With `Ok` both are at rest. After an error, which is that of a call or `OutOfMemory`, nothing is lost: call it
 /// again. Memory is taken for the journal, whatever it holds, and for its writes.
-#[tactic(auto, using(crate::proofs::Beginnings::beginning_synced, crate::proofs::Journals::synced_recovers, crate::proofs::Disks::none_made))]
+#[tactic(auto, using(crate::proofs::Disks::synced_leaves, crate::proofs::Journals::synced_recovers, crate::proofs::Disks::none_made))]
 pub fn recover<S: Storage, J: Storage, A: Allocator + Copy>(
     alloc: A,
     storage: &mut S,

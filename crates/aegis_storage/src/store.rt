@@ -92,7 +92,7 @@ impl<A: Allocator> Storage for Vec<u8, A> {
         Ok(())
     }
 
-    #[tactic(auto, using(crate::proofs::Disks::unmade))]
+    #[tactic(auto, using(crate::proofs::Disks::made, crate::proofs::Disks::unmade, crate::proofs::Overwriting::grown))]
     fn write_at(&mut self, at: u64, part: &[u8]) -> io::Result<()> {
         let start = at as usize;
         let end = start + part.len();

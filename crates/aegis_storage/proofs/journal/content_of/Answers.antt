@@ -1,17 +1,11 @@
 use Rattle.std.proofs.Common.{◌≡◌, ◌++◌, arith}
 use Rattle.std.proofs.lemmas.Grind.{common_steps}
 use Rattle.aegis_storage.proofs.Journals.{framed_parts, length-framed}
-use Rattle.aegis_storage.proofs.journal.content_of.Goals.{then-journal-via-then-journal, then-journal-via-else-journal+then-journal-gt-MAX_JOURNAL_BYTES}
 use Rattle.aegis_storage.proofs.journal.content_of.Goals as goal
 
 pub returns-then-journal-clause-none : goal.returns-then-journal-clause-none
 returns-then-journal-clause-none c content is =
-    let long = length-framed c.args.key.now c.args.context.now content c.args.journal.now is in
-    let fits = is.fits in
-    elim c.then-journal.branch [
-      | then-journal-via-then-journal w ↦ omega (arith, w.if-journal.true, long)
-      | then-journal-via-else-journal+then-journal-gt-MAX_JOURNAL_BYTES w ↦ omega (arith, w.if-journal-gt-MAX_JOURNAL_BYTES.true, fits)
-    ]
+    let long = length-framed c.args.key.now c.args.context.now content c.args.journal.now is in let fits = is.fits in grind (arith, long, fits)
 
 pub returns-in-Err-clause-none : goal.returns-in-Err-clause-none
 returns-in-Err-clause-none c content is =

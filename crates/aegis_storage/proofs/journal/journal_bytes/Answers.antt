@@ -1,9 +1,7 @@
 use Rattle.std.proofs.Common.{◌≡◌, ◌++◌, ◌∙◌, ap, arith, drop, List, ℕ}
 use Rattle.std.proofs.lemmas.Grind.{common_steps}
 use Rattle.std.proofs.lemmas.List.{append_assoc, drop_at, length-append}
-use Rattle.aegis_base.specs.Mac.{mac}
-use Rattle.aegis_base.specs.Variant.{Aegis128L}
-use Rattle.aegis_storage.specs.Journal.{authenticated, entries}
+use Rattle.aegis_storage.specs.Journal.{entries}
 use Rattle.aegis_storage.specs.Pending.{writes_of}
 use Rattle.aegis_storage.proofs.Lists.{all_within}
 use Rattle.aegis_storage.proofs.journal.journal_bytes.Goals as goal
@@ -15,11 +13,7 @@ returns-clause-journal g c =
     let content : List ℕ = entries (writes_of c.args.writes.now) in
     let begun : c.append_writes.new.journal.items ≡ (beginning ++ nonce) ++ content = grind (arith, common_steps) in
     let last = c.split_at.ensures.back ∙ ap (drop 49) (c.deref.ensures.value ∙ begun) ∙ drop_at (beginning ++ nonce) content 49 (omega (arith, length-append beginning nonce)) in
-    let tag : c.finalize-mac.result ≡ mac Aegis128L 32 c.args.key.now nonce (authenticated c.args.context.now c.split_at.result.1.now) = c.finalize-mac.ensures c.args.key.now nonce _ c.mac_of.ensures in
-    c.in_ok-extend_from_slice-3.ensures.items ∙ ap (λ (l : List ℕ). l ++ c.finalize-mac.result) begun ∙ append_assoc (beginning ++ nonce) content c.finalize-mac.result
-    ∙ append_assoc beginning nonce (content ++ c.finalize-mac.result)
-    ∙ ap (λ (l : List ℕ). beginning ++ (nonce ++ (content ++ l)))
-    (tag ∙ ap (λ (l : List ℕ). mac Aegis128L 32 c.args.key.now nonce (authenticated c.args.context.now l)) last)
+    let tag = rw last at (c.finalize-mac.ensures c.args.key.now nonce _ c.mac_of.ensures) in rw (c.in_ok-extend_from_slice-3.ensures.items, begun, tag) (simp append_assoc)
 
 pub returns-clause-whole : goal.returns-clause-whole
 returns-clause-whole g c = record {

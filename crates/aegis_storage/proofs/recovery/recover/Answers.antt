@@ -1,5 +1,5 @@
 use Rattle.aegis_storage.specs.Disk.{after_writes}
-use Rattle.aegis_storage.proofs.Disks.{left, on_ok_map}
+use Rattle.aegis_storage.proofs.Disks.{on_ok_map}
 use Rattle.aegis_storage.proofs.Beginnings.{emptied_beginning, synced_beginning}
 use Rattle.aegis_storage.proofs.Journals.{finish, middle, settled}
 use Rattle.aegis_storage.proofs.recovery.recover.Goals as goal
@@ -17,7 +17,8 @@ returns-clause-recovers g c xs writes no_forgery recovers =
     (g.met.S.Storage.possible c.args.storage.now) (g.met.J.Storage.possible c.args.journal.now) (g.met.J.Storage.possible c.sync-2.new.self) recovers no_forgery
     c.in_ok-sync.ensures.certain c.in_ok-sync-2.ensures.certain c.in_ok-content.ensures c.deref.ensures.value in
     let redone = c.in_ok-redo.ensures.certain s.now s.storage_is in
-    finish _ _ xs writes c.deref.result.now redone.bytes _ _ (c.redo.ensures.torn xs (after_writes writes xs) s.now s.storage_is s.gives) redone.is (redone.one xs (after_writes writes xs) s.gives) (left _ _ _ _ c.empty.ensures.pending s.journal_is)
+    finish _ _ xs writes c.deref.result.now redone.0 _ _ _ (c.redo.ensures.torn xs (after_writes writes xs) s.now s.storage_is s.gives) redone.1 (redone.2 xs (after_writes writes xs) s.gives)
+    s.journal_is c.empty.ensures.pending
 
 pub returns-clause-at_rest : goal.returns-clause-at_rest
 returns-clause-at_rest g c =
@@ -27,10 +28,10 @@ returns-clause-at_rest g c =
     (g.met.S.Storage.possible c.args.storage.now) (g.met.J.Storage.possible c.args.journal.now) (g.met.J.Storage.possible c.sync-2.new.self) recovers no_forgery
     c.in_ok-sync.ensures.certain c.in_ok-sync-2.ensures.certain c.in_ok-content.ensures c.deref.ensures.value in
     let redone = c.in_ok-redo.ensures.certain s.now s.storage_is in
-    record { bytes = redone.bytes; one = redone.one xs (after_writes writes xs) s.gives; rests = record { storage_is = redone.is; journal_is = certainly c.deref.result.now s.journal_is } })
+    record { bytes = redone.0; one = redone.2 xs (after_writes writes xs) s.gives; rests = record { storage_is = redone.1; journal_is = certainly c.deref.result.now s.journal_is } })
     c.empty.ensures.certain
 
 pub returns-clause-beginning : goal.returns-clause-beginning
 returns-clause-beginning g c beginning keeps =
     let s = synced_beginning beginning _ _ _ (g.met.J.Storage.possible c.args.journal.now) keeps c.in_ok-sync-2.ensures.certain in
-    emptied_beginning beginning s.bytes _ s.has (left _ _ _ _ c.empty.ensures.pending s.is)
+    emptied_beginning beginning s.bytes _ _ s.has s.is c.empty.ensures.pending

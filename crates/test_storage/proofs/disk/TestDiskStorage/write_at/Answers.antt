@@ -1,4 +1,4 @@
-use Rattle.std.proofs.Common.{◌≡◌, ◌∙◌, List, OnOk, OnErr, Result, Ok, Err, ap, arith, inr, ℕ}
+use Rattle.std.proofs.Common.{◌≡◌, OnOk, OnErr, Result, Ok, Err, arith, inr}
 use Rattle.aegis_storage.specs.Bytes.{overwritten}
 use Rattle.aegis_storage.specs.Disk.{applied}
 use Rattle.test_storage.specs.Pending.{bytes_of, changes_of}
@@ -15,9 +15,7 @@ all_err (Err e) p = p
 
 is_written : (c : goal.After-count) → applied (changes_of c.push.new.self.items) c.args.self.now.synced.items ≡ overwritten (bytes_of c.args.self.now) c.args.at c.args.part.now
 is_written c =
-    applied_pushed c.args.self.now.pending.items c.push.new.self.items _ c.args.self.now.synced.items c.in_ok-push.ensures.items
-    ∙ ap (λ (n : ℕ). overwritten (bytes_of c.args.self.now) n c.in_ok-write.write.bytes.items) c.in_ok-write.ensures.place
-    ∙ ap (λ (l : List ℕ). overwritten (bytes_of c.args.self.now) c.args.at l) c.in_ok-write.ensures.bytes
+    rw (c.in_ok-write.ensures.place, c.in_ok-write.ensures.bytes) at (applied_pushed c.args.self.now.pending.items c.push.new.self.items _ c.args.self.now.synced.items c.in_ok-push.ensures.items)
 
 pub returns-clause-written : goal.returns-clause-written
 returns-clause-written c = all_ok c.count.result (is_written c)
