@@ -31,12 +31,10 @@ begins n len head old new left left' is r =
 -- no more bytes than the record has
 pub only_record : (p : Progress) (flag : ℕ) (m rest all : List ℕ) (len : ℕ) → length all ≤ len → all ≡ record_of p flag m ++ rest → length (record_of p flag m) ≡ len
     → rest ≡ []
-only_record p flag m rest all len within is long =
-    nil_from_length rest (omega (arith, within, long, ap length is, length-append (record_of p flag m) rest))
+only_record p flag m rest all len within is long = grind (arith, length-append, nil_from_length)
 
 pub too_short : (p : Progress) (flag : ℕ) (m rest all : List ℕ) → length all < 37 → all ≡ record_of p flag m ++ rest → rest ≡ []
-too_short p flag m rest all short is =
-    absurd (omega (arith, short, ap length is, length-append (record_of p flag m) rest, length-record p.key p.prefix p.context p.position flag m))
+too_short p flag m rest all short is = grind (arith, length-append, length-record)
 
 pub within_limit : (v : Version) (n : ℕ) → n ≤ limit v → n ≤ MAX_MESSAGE_BYTES
 within_limit First n low = omega (arith, low)

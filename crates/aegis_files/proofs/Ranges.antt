@@ -2,7 +2,8 @@
 use Rattle.std.proofs.Common.{◌≡◌, ◌⊎◌, ℕ, ◌+◌, ◌-◌, ◌<◌, ◌≤◌, Bool, true, false, List, [], ◌∷◌, ◌++◌, Option, Some, IfSome, drop, length, take, refl, sym, ap, subst, ◌∙◌, append_assoc, arith, inl, inr}
 use Rattle.std.proofs.KnownBytes.{Appends-nil, Appends-trans, Consumes-nil, Consumes-trans}
 use Rattle.std.proofs.Math.Seq.{drop-append-add}
-use Rattle.std.proofs.lemmas.List.{append-nil, drop_at, length-append, length-take, take_at, take-append-drop}
+use Rattle.std.proofs.lemmas.List.Folds.{concat-append}
+use Rattle.std.proofs.lemmas.List.{append-nil, append_cancel_left, length-append, length-take, take_at, take-append-drop}
 use Rattle.std.specs.Io.KnownBytes.{Appends, Consumes}
 use Rattle.std.specs.List.{concat}
 use Rattle.aegis_base.specs.declared.error.TheConstants.{MAX_AEAD_BYTES}
@@ -12,9 +13,9 @@ use Rattle.aegis.specs.declared.record.position.RecordPosition.{RecordPosition}
 use Rattle.aegis.specs.Progress.{AreRecordsOfSomeVersion, Progress, after, last_flag, progress_at, record_of, start_of}
 use Rattle.aegis.specs.Records.{IsFault, sealed}
 use Rattle.aegis.specs.RecordStream.{Sealing, frames, position_after, start_at}
-use Rattle.aegis.proofs.Frames.{one_fault, one_record_stream}
+use Rattle.aegis.proofs.Frames.{one_fault}
 use Rattle.aegis.proofs.Sealed.{sealed-is}
-use Rattle.aegis.proofs.Stepwise.{begun_all, begun_beginning, begun_whole}
+use Rattle.aegis.proofs.Stepwise.{begun_all, begun_beginning, begun_whole, sealed_one_stream}
 use Rattle.aegis_files.specs.declared.error.FileError.{FileError}
 use Rattle.aegis_files.specs.declared.error.FileError.TheVariants.{Stream, TooLong}
 use Rattle.aegis_files.specs.declared.range.OpenedRange.{OpenedRange}
@@ -23,7 +24,7 @@ use Rattle.aegis_files.specs.Range.{AreFrom, IsFaultFrom, AreContentsFrom, Opens
 use Rattle.aegis_files.specs.Reading.{FailsNext, Long, NoMemory, ReadsNext, Refused, Unread}
 use Rattle.aegis_files.specs.SealedFile.{IsWriteError}
 use Rattle.aegis_files.proofs.Reaching.{Reaches, are_from, reaches_more, reaches_none, reaches_size}
-use Rattle.aegis_files.proofs.Pieces.{concat-append, concat-push, counted, part-append, part_nil, read_some}
+use Rattle.aegis_files.proofs.Pieces.{concat-push, counted, part-append, part_nil, read_some}
 
 -- ---- the contents
 
@@ -32,10 +33,6 @@ pub record GoesOn (flag : ℕ) (messages following : List (List ℕ)) : Type 0 w
   pub others : List (List ℕ)
   pub are : following ≡ messages ++ others
   pub ends : flag ≡ 1 → others ≡ []
-
--- what follows equal lists of messages
-after_them : (a x y : List (List ℕ)) → a ++ x ≡ a ++ y → x ≡ y
-after_them a x y e = sym (drop_at a x (length a) refl) ∙ ap (drop (length a)) e ∙ drop_at a y (length a) refl
 
 pub goes_on : (key prefix context : List ℕ) (at : RecordPosition) (flag : ℕ) (messages : List (List ℕ)) (rest f : List ℕ) (following : List (List ℕ)) (contents : List ℕ)
     → AreFrom key prefix context at flag messages rest f → AreContentsFrom key prefix context at following contents f → GoesOn flag messages following
@@ -54,16 +51,16 @@ goes_on key prefix context at flag messages rest f following contents r t = go r
         (subst (AreRecordsOfSomeVersion key prefix context (t.messages ++ following)) (bytes 0 zero) t.are) in
         record {
           others = other.0;
-          are = after_them t.messages following (messages ++ other.0) (other.1 ∙ append_assoc t.messages messages other.0);
+          are = append_cancel_left t.messages following (messages ++ other.0) (other.1 ∙ append_assoc t.messages messages other.0);
           ends = λ one. absurd (omega (arith, zero, one));
         }
     go (inr (one, some)) =
-        let only = one_record_stream s (sealed-is key prefix context) t.are.0 at.version (t.messages ++ following) (t.messages ++ messages) (t.before ++ f)
+        let only = sealed_one_stream key prefix context t.are.0 at.version (t.messages ++ following) (t.messages ++ messages) (t.before ++ f)
         (t.before ++ frames s at 1 messages) [] rest t.are.1 (begun_whole key prefix context at messages r.within some t.messages t.before t.begun)
         (append-nil (t.before ++ f) ∙ bytes 1 one) in
         record {
           others = [];
-          are = after_them t.messages following (messages ++ []) (only.1 ∙ ap (λ (l : List (List ℕ)). t.messages ++ l) (sym (append-nil messages)));
+          are = append_cancel_left t.messages following (messages ++ []) (only.1 ∙ ap (λ (l : List (List ℕ)). t.messages ++ l) (sym (append-nil messages)));
           ends = λ _. refl;
         }
 
@@ -92,7 +89,7 @@ refuses_from key prefix context at f e refused too_long = record {
         absurd ((one_fault (sealed key prefix context) (sealed-is key prefix context)).1 (t.before ++ f) t.are.0 (t.messages ++ following) why t.are.1 (fault t.messages t.before t.begun))
 
 pub unwritten : (key prefix context : List ℕ) (at : RecordPosition) (f : List ℕ) (e : FileError) → IsWriteError e → RefusesFrom key prefix context at f e
-unwritten key prefix context at f e (why, is) = refuses_from key prefix context at f e (λ d other. absurd cc) (λ long. absurd cc)
+unwritten key prefix context at f e why = grind (arith, refuses_from)
 
 pub fails_from : (key prefix context : List ℕ) (at : RecordPosition) (p : Progress) (messages : List (List ℕ)) (taken rest f : List ℕ) (e : FileError)
     → Reaches key prefix context at p false messages taken → f ≡ taken ++ rest → FailsNext p (Some rest) e → RefusesFrom key prefix context at f e

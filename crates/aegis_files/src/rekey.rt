@@ -10,9 +10,10 @@ ghost use Rattle.aegis_files.specs.SealedFile.{IsFileOf, IsSealedFile};
 use crate::error::FileError;
 use crate::next::{message, next_message};
 use crate::open::{FIRST, end, read_prefix};
+use crate::seal::begin;
 use crate::write::{write, write_last};
 use aegis::aegis256::Key;
-use aegis::record::{MAX_CONTEXT_BYTES, RecordOpener, RecordSealer};
+use aegis::record::{MAX_CONTEXT_BYTES, RecordOpener};
 use std::alloc::Allocator;
 use std::io::{Read, Write};
 
@@ -51,8 +52,7 @@ fn rekey_under<'a, R: Read, W: Write, A: Allocator + Copy>(
     let mut opener = RecordOpener::begin_at(from.key, from.prefix, context, FIRST);
     let FileKey { key, prefix } = to;
     let mut out = Vec::new(alloc);
-    out.extend_from_slice(prefix)?;
-    let mut sealer = RecordSealer::new(key, prefix, context, &mut out)?;
+    let mut sealer = begin(key, prefix, context, &mut out)?;
     let mut buffer = Vec::new(alloc);
     'records: loop {
         let opened = next_message(input, &mut opener, &mut buffer)?;
