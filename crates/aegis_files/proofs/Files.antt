@@ -51,32 +51,25 @@ refuses_by : (key prefix context bytes : List ℕ) (e : FileError) → length pr
     → ((why : RecordError) → e ≡ Stream why → (why ≡ errors.OutOfMemory) ⊎ IsFault key prefix context (header Second ++ bytes) why)
     → (e ≡ TooLong → MAX_AEAD_BYTES < length (header Second ++ bytes)) → RefusesFile key context (prefix ++ (header Second ++ bytes)) e
 refuses_by key prefix context bytes e long refused too_long = record {
-  refused = λ why it. reason why (refused why it);
-  accepted = λ contents s why it. memory contents s why (refused why it);
+  refused = λ why it. elim (refused why it) [
+    | inl none ↦ inl none
+    | inr fault ↦ inr (inr (prefix, bytes, long, refl, fault))
+  ];
+  accepted = λ contents s why it. elim (refused why it) [
+    | inl none ↦ none
+    | inr fault ↦ absurd ((one_fault (sealed key prefix context) (sealed-is key prefix context)).1 (header Second ++ bytes) Second s.is.messages why
+        (contents_are key prefix context contents bytes long s) fault)
+  ];
   too_long = λ it. omega (arith, too_long it, long, length-append prefix (header Second ++ bytes));
 }
-  where
-    reason : (why : RecordError) → (why ≡ errors.OutOfMemory) ⊎ IsFault key prefix context (header Second ++ bytes) why
-        → (why ≡ errors.OutOfMemory) ⊎ IsFileFault key context (prefix ++ (header Second ++ bytes)) why
-    reason why (inl none) = inl none
-    reason why (inr fault) = inr (inr (prefix, bytes, long, refl, fault))
-
-    memory : (contents : List ℕ) → IsSealedFile key context contents (prefix ++ (header Second ++ bytes)) → (why : RecordError)
-        → (why ≡ errors.OutOfMemory) ⊎ IsFault key prefix context (header Second ++ bytes) why → why ≡ errors.OutOfMemory
-    memory contents s why (inl none) = none
-    memory contents s why (inr fault) =
-        absurd ((one_fault (sealed key prefix context) (sealed-is key prefix context)).1 (header Second ++ bytes) Second s.is.messages why
-        (contents_are key prefix context contents bytes long s) fault)
 
 pub refuses_file : (key prefix context bytes : List ℕ) (e : FileError) → length prefix ≡ 24 → RefusesFrom key prefix context (first_position Second) bytes e
     → RefusesFile key context (prefix ++ (header Second ++ bytes)) e
 refuses_file key prefix context bytes e long r =
-    refuses_by key prefix context bytes e long (λ why it. reason why (r.refused why it)) (λ it. omega (arith, r.too_long it, length-append (header Second) bytes))
-  where
-    reason : (why : RecordError) → (why ≡ errors.OutOfMemory) ⊎ IsFaultFrom key prefix context (first_position Second) bytes why
-        → (why ≡ errors.OutOfMemory) ⊎ IsFault key prefix context (header Second ++ bytes) why
-    reason why (inl none) = inl none
-    reason why (inr fault) = inr (fault [] (header Second) (begun_none key prefix context Second (header Second) refl))
+    refuses_by key prefix context bytes e long (λ why it. elim (r.refused why it) [
+      | inl none ↦ inl none
+      | inr fault ↦ inr (fault [] (header Second) (begun_none key prefix context Second (header Second) refl))
+    ]) (λ it. omega (arith, r.too_long it, length-append (header Second) bytes))
 
 -- bytes are left after the last record, or they cannot be read
 pub refuses_more : (key prefix context bytes rest : List ℕ) (ms : List (List ℕ)) (flag : ℕ) (left : Option (List ℕ)) (e : FileError) → length prefix ≡ 24
@@ -189,21 +182,19 @@ fails_within key prefix context left old new e long why = some_with left _ _ (λ
 
 -- a part of so many bytes ends with the last record
 is_last : (key prefix context bytes : List ℕ) (opened : OpenedRange) (left old new : Option (List ℕ)) → OpensRange key prefix context all opened bytes left old new → opened.is_last ≡ true
-is_last key prefix context bytes opened left old new o = done o.whole
-  where
-    done : (opened.is_last ≡ true) ⊎ ((opened.length ≡ 18446744073709551615) × (0 ≤ length (concat o.messages))) → opened.is_last ≡ true
-    done (inl last) = last
-    done (inr (full, in_it)) =
-        absurd (omega (
-          arith,
-          full,
-          o.count,
-          o.fits,
-          ap start_at o.ended,
-          start_after (first_position Second) o.messages,
-          concat-short o.messages,
-          length-take 18446744073709551615 (concat o.messages),
-        ))
+is_last key prefix context bytes opened left old new o = elim o.whole [
+  | inl last ↦ last
+  | inr full ↦ absurd (omega (
+      arith,
+      full.0,
+      o.count,
+      o.fits,
+      ap start_at o.ended,
+      start_after (first_position Second) o.messages,
+      concat-short o.messages,
+      length-take 18446744073709551615 (concat o.messages),
+    ))
+]
 
 pub ends_file : {T : Type 0} (key prefix context : List ℕ) (opened : OpenedRange) (file left left' old new : Option (List ℕ)) (r : Result T FileError) → length prefix ≡ 24
     → Consumes file left (prefix ++ header Second) → IfSome left (λ bytes. OpensRange key prefix context all opened bytes left' old new)

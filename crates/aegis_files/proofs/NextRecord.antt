@@ -42,23 +42,19 @@ within_limit Second n low = low
 
 -- ---- the record is opened
 
-is_record : (bytes found rest : List ℕ) → found ≡ bytes ++ rest → rest ≡ [] → found ≡ bytes
-is_record bytes found rest is none = is ∙ ap (λ (l : List ℕ). bytes ++ l) none ∙ append-nil bytes
+flagged : (p : Progress) (last : Bool) (found m rest : List ℕ) → OnFalse last (found ≡ record_of p 0 m ++ rest) → OnTrue last (found ≡ record_of p 1 m ++ rest)
+    → found ≡ record_of p (last_flag last) m ++ rest
+flagged p false found m rest next last = next
+flagged p true found m rest next last = last
 
 pub reads_next : (p q : Progress) (last : Bool) (left left' : Option (List ℕ)) (found m rest : List ℕ) → Consumes left left' found → OpensNext p q found last m rest
     → ((flag : ℕ) → length m ≤ MAX_MESSAGE_BYTES → found ≡ record_of p flag m ++ rest → rest ≡ []) → ReadsNext p q left left' last m
-reads_next p q last left left' found m rest read opens alone = record {
-  read = is_read last opens.next opens.last;
-  progress = opens.progress;
-  within = opens.within;
-}
-  where
-    whole : (flag : ℕ) → found ≡ record_of p flag m ++ rest → Consumes left left' (record_of p flag m)
-    whole flag is = subst (Consumes left left') (is_record (record_of p flag m) found rest is (alone flag (within_limit p.position.version (length m) opens.within) is)) read
-
-    is_read : (last : Bool) → OnFalse last (found ≡ record_of p 0 m ++ rest) → OnTrue last (found ≡ record_of p 1 m ++ rest) → Consumes left left' (record_of p (last_flag last) m)
-    is_read false next last = whole 0 next
-    is_read true next last = whole 1 last
+reads_next p q last left left' found m rest read opens alone =
+    let bytes : List ℕ = record_of p (last_flag last) m in
+    let is = flagged p last found m rest opens.next opens.last in
+    let none = alone (last_flag last) (within_limit p.position.version (length m) opens.within) is in
+    let all : found ≡ bytes = is ∙ ap (λ (l : List ℕ). bytes ++ l) none ∙ append-nil bytes in
+    record { read = subst (Consumes left left') all read; progress = opens.progress; within = opens.within }
 
 -- the message in the record's part of the buffer
 pub message_kept : (opened : OpenedInPlace) (part after : List ℕ) → 5 + opened.message_len ≤ length part → message_of opened part ≡ message_of opened (part ++ after)

@@ -10,7 +10,7 @@ use Rattle.aegis_base.specs.declared.error.TheConstants.{MAX_AEAD_BYTES}
 use Rattle.aegis.specs.declared.record.error.RecordError.{RecordError}
 use Rattle.aegis.specs.declared.record.error.RecordError.TheVariants as errors
 use Rattle.aegis.specs.declared.record.position.RecordPosition.{RecordPosition}
-use Rattle.aegis.specs.Progress.{AreRecordsOfSomeVersion, Progress, after, last_flag, progress_at, record_of, start_of}
+use Rattle.aegis.specs.Progress.{AreRecordsOfSomeVersion, Begun, Progress, after, last_flag, progress_at, record_of, start_of}
 use Rattle.aegis.specs.Records.{IsFault, sealed}
 use Rattle.aegis.specs.RecordStream.{Sealing, frames, position_after, start_at}
 use Rattle.aegis.proofs.Frames.{one_fault}
@@ -78,34 +78,34 @@ pub refuses_from : (key prefix context : List ℕ) (at : RecordPosition) (f : Li
     → RefusesFrom key prefix context at f e
 refuses_from key prefix context at f e refused too_long = record {
   refused = refused;
-  accepted = λ following contents t why is. memory following contents t why (refused why is);
+  accepted = λ following contents t why is. elim (refused why is) [
+    | inl none ↦ none
+    | inr fault ↦ absurd ((one_fault (sealed key prefix context) (sealed-is key prefix context)).1 (t.before ++ f) t.are.0 (t.messages ++ following) why t.are.1
+        (fault t.messages t.before t.begun))
+  ];
   too_long = too_long;
 }
-  where
-    memory : (following : List (List ℕ)) (contents : List ℕ) → AreContentsFrom key prefix context at following contents f → (why : RecordError)
-        → (why ≡ errors.OutOfMemory) ⊎ IsFaultFrom key prefix context at f why → why ≡ errors.OutOfMemory
-    memory following contents t why (inl is) = is
-    memory following contents t why (inr fault) =
-        absurd ((one_fault (sealed key prefix context) (sealed-is key prefix context)).1 (t.before ++ f) t.are.0 (t.messages ++ following) why t.are.1 (fault t.messages t.before t.begun))
 
 pub unwritten : (key prefix context : List ℕ) (at : RecordPosition) (f : List ℕ) (e : FileError) → IsWriteError e → RefusesFrom key prefix context at f e
 unwritten key prefix context at f e why = grind (arith, refuses_from)
 
+-- the fault of the rest is that of all
+faults_more : (key prefix context : List ℕ) (at : RecordPosition) (p : Progress) (messages : List (List ℕ)) (taken rest f : List ℕ) (why : RecordError)
+    → Reaches key prefix context at p false messages taken → f ≡ taken ++ rest
+    → ((ms : List (List ℕ)) (before : List ℕ) → Begun p ms before → IsFault p.key p.prefix p.context (before ++ rest) why) → IsFaultFrom key prefix context at f why
+faults_more key prefix context at p messages taken rest f why r is fault ms before b =
+    subst (λ (l : List ℕ). IsFault key prefix context l why) (append_assoc before taken rest ∙ ap (λ (l : List ℕ). before ++ l) (sym is))
+    (subst (λ (q : Progress). IsFault q.key q.prefix q.context ((before ++ taken) ++ rest) why) r.reached
+    (fault (ms ++ messages) (before ++ taken) (rw (r.reached, r.are) (begun_all key prefix context at messages r.within ms before b))))
+
 pub fails_from : (key prefix context : List ℕ) (at : RecordPosition) (p : Progress) (messages : List (List ℕ)) (taken rest f : List ℕ) (e : FileError)
     → Reaches key prefix context at p false messages taken → f ≡ taken ++ rest → FailsNext p (Some rest) e → RefusesFrom key prefix context at f e
-fails_from key prefix context at p messages taken rest f e r is (Unread (why, read)) = refuses_from key prefix context at f e (λ d other. absurd cc) (λ long. absurd cc)
-fails_from key prefix context at p messages taken rest f e r is (NoMemory none) = refuses_from key prefix context at f e (λ d other. inl cc) (λ long. absurd cc)
+fails_from key prefix context at p messages taken rest f e r is (Unread read) = grind (arith, refuses_from)
+fails_from key prefix context at p messages taken rest f e r is (NoMemory none) = grind (arith, refuses_from)
 fails_from key prefix context at p messages taken rest f e r is (Refused why it fault) =
-    refuses_from key prefix context at f e (λ d other. inr (let same : why ≡ d = cc in subst (IsFaultFrom key prefix context at f) same faults)) (λ long. absurd cc)
-  where
-    faults : IsFaultFrom key prefix context at f why
-    faults ms before b =
-        subst (λ (l : List ℕ). IsFault key prefix context l why) (append_assoc before taken rest ∙ ap (λ (l : List ℕ). before ++ l) (sym is))
-        (subst (λ (q : Progress). IsFault q.key q.prefix q.context ((before ++ taken) ++ rest) why) r.reached
-        (fault (ms ++ messages) (before ++ taken) (rw (r.reached, r.are) (begun_all key prefix context at messages r.within ms before b))))
+    let faults = faults_more key prefix context at p messages taken rest f why r is fault in grind (arith, refuses_from)
 fails_from key prefix context at p messages taken rest f e r is (Long it past) =
-    refuses_from key prefix context at f e (λ d other. absurd cc)
-    (λ long. omega (arith, past, reaches_size key prefix context at p false messages taken r, ap length is, length-append taken rest))
+    let size = reaches_size key prefix context at p false messages taken r in grind (arith, refuses_from, length-append)
 
 -- ---- between records
 
@@ -178,13 +178,12 @@ range_more key prefix context range p q is_last skip skip' more more' stream lef
       omega (arith, length-append s.messages (m ∷ [])),
     )
   where
-    go : (ms : List (List ℕ)) → before.some.messages ≡ ms → (0 < more) ⊎ (0 < skip)
-        → (length (part_of range ms) < range.length) ⊎ (length (concat ms) < range.skip)
-    go ms is (inl low) = inl (subst (λ (l : List (List ℕ)). length (part_of range l) < range.length) is (omega (arith, low, before.some.more_is)))
-    go ms is (inr low) = inr (subst (λ (l : List (List ℕ)). length (concat l) < range.skip) is (omega (arith, low, before.some.skip_is)))
-
     needed : (ms : List (List ℕ)) → before.some.messages ≡ ms → 0 < length ms → (length (part_of range ms) < range.length) ⊎ (length (concat ms) < range.skip)
-    needed ms is some = go ms is (before.on (subst (λ (l : List (List ℕ)). 0 < length l) (sym is) some))
+    needed ms is some =
+        let on = before.on in
+        let left_out = before.some.skip_is in
+        let to_write = before.some.more_is in
+        grind arith
 
 pub range_end : (key prefix context : List ℕ) (range : ContentsRange) (p : Progress) (is_last : Bool) (skip more : ℕ) (opened : OpenedRange) (stream left old new : Option (List ℕ))
     → (s : RangeSome key prefix context range p is_last skip more stream left old new) → 0 < length s.messages → (is_last ≡ true) ⊎ ((more ≡ 0) × (skip ≡ 0))
