@@ -1,10 +1,11 @@
 -- Pieces that are put together.
-use Rattle.std.proofs.Common.{◌≡◌, ℕ, zero, suc, ◌+◌, ◌-◌, ◌<◌, ◌≤◌, List, [], ◌∷◌, ◌++◌, Option, None, Some, IfSome, drop, length, take, refl, sym, ap, ◌∙◌, append_assoc, arith}
+use Rattle.std.proofs.Common.{◌≡◌, ℕ, zero, suc, ◌+◌, ◌-◌, ◌<◌, ◌≤◌, List, [], ◌∷◌, ◌++◌, Option, None, Some, IfSome, drop, length, take, refl, sym, ap, ◌∙◌, append_assoc, arith, le_refl, subst}
+use Rattle.std.proofs.KnownBytes.{Appends-kept}
 use Rattle.std.proofs.lemmas.List.{append-nil, drop_at, length-append, length-drop, length-take, take_all, take_at}
 use Rattle.std.proofs.lemmas.List.Folds.{concat-append}
 use Rattle.std.proofs.Math.Seq.{drop-nil, take-add, take-nil}
 use Rattle.std.specs.List.{AllByRecursion, concat}
-use Rattle.std.specs.Io.KnownBytes.{Consumes, IsAtEnd}
+use Rattle.std.specs.Io.KnownBytes.{Appends, Consumes, IsAtEnd, Keeps}
 use Rattle.aegis.specs.declared.record.position.RecordPosition.{RecordPosition}
 use Rattle.aegis.specs.Progress.{Begun, Progress}
 use Rattle.aegis.specs.RecordStream.{frames_length, next_position, position_after}
@@ -54,6 +55,7 @@ was_at_end a b read end = grind arith
 pub some_left : (a b : Option (List ℕ)) (taken : List ℕ) → Consumes a b taken → 0 < length taken → IfSome a (λ rest. 0 < length rest)
 some_left a b taken read some = grind (arith, length-append)
 
+-- what looking for the end of a file uses
 pub ruleset end_laws = (was_at_end, some_left, length-take)
 
 -- the prefix of a file, and what follows it
@@ -76,6 +78,13 @@ part-append (suc skip) (suc len) [] b =
     let f : suc skip - 0 ≡ suc skip = omega arith in
     rw (e, f) refl
 part-append (suc skip) len (x ∷ a) b = let rest = part-append skip len a b in grind (arith, rest)
+
+-- all bytes were written, and then the writer was flushed
+pub flushed : (a b c : Option (List ℕ)) (bytes : List ℕ) → Appends a b bytes → Keeps b c → (n : ℕ) × Appends a c (take n bytes)
+flushed a b c bytes sent kept = (length bytes, subst (Appends a c) (sym (take_all (length bytes) bytes (le_refl (length bytes)))) (Appends-kept a b c bytes sent kept))
+
+-- what writing the last bytes uses
+pub ruleset last_laws = (Appends-kept, flushed)
 
 -- what the loop that writes bytes uses
 pub ruleset write_laws = (take-add, slice_end)

@@ -26,6 +26,7 @@ struct FileKey<'a> {
 
 // Seals the messages of the records that follow the old file's prefix and header. Both streams have the same length at
 // each record, so what fits into the old one fits into the new one.
+#[tactic(auto, using(crate::proofs::Rekeying::next_fits))]
 fn rekey_under<'a, R: Read, W: Write, A: Allocator + Copy>(
     alloc: A,
     from: FileKey<'a>,

@@ -1,11 +1,11 @@
-use Rattle.std.proofs.Common.{◌++◌, ◌∙◌, ap, arith, false, length, refl, true}
+use Rattle.std.proofs.Common.{◌++◌, ◌∙◌, ap, arith, false, true}
 use Rattle.std.proofs.lemmas.Result.{err_from_is_err_and}
 use Rattle.aegis.specs.Calls.{message_of}
 use Rattle.aegis.specs.Progress.{Progress, after, record_of, start_of}
 use Rattle.aegis.specs.RecordStream.{header}
 use Rattle.aegis.specs.declared.record.version.Version.TheVariants.{Second}
 use Rattle.aegis_files.specs.declared.error.FileError.TheVariants.{Stream}
-use Rattle.aegis_files.proofs.Rekeying.{next_fits, none_at_first, rekeys_begin, rekeys_end, rekeys_more, stops_end, stops_memory, stops_next, stops_writing}
+use Rattle.aegis_files.proofs.Rekeying.{none_at_first, rekeys_begin, rekeys_end, rekeys_more, stops_end, stops_memory, stops_next, stops_writing}
 use Rattle.aegis_files.proofs.rekey.rekey_under.Goals as goal
 
 pub returns-in_err-sealer-clause-stopped : goal.returns-in_err-sealer-clause-stopped
@@ -28,20 +28,10 @@ returns-in_err-end-clause-stopped g c =
     let p = err_from_is_err_and c.from_residual-in_err-end.result c.from_residual-in_err-end.ensures.1 in
     rw (p.1, p.2) (stops_end _ _ _ _ _ _ _ _ _ _ _ _ _ _ _ _ c.requires.old_long c.requires.new_long c.records.invariant (rw c.if-opened.true at c.in_ok-opened.ensures.opened) c.in_err-end.ensures.err)
 
-pub seal_last-requires-clause-fits : goal.seal_last-requires-clause-fits
-seal_last-requires-clause-fits g c =
-    let m = c.message-contents.ensures ∙ ap (message_of c.in_ok-opened.opened) c.deref.ensures.value in
-    omega (arith, ap length m, next_fits _ _ _ _ _ _ _ _ _ _ _ _ _ _ _ _ c.records.invariant c.in_ok-opened.ensures.opened c.in_ok-opened.ensures.fits)
-
 pub returns-in_err-seal_last-clause-stopped : goal.returns-in_err-seal_last-clause-stopped
 returns-in_err-seal_last-clause-stopped g c =
     let p = err_from_is_err_and c.from_residual-in_err-seal_last.result c.from_residual-in_err-seal_last.ensures.1 in
     rw (p.1, p.2) (stops_memory _ _ _ _ _ _ _ _ _ _ _ _ _ c.requires.old_long c.requires.new_long c.records.invariant (ap (λ e. Stream e) c.in_err-seal_last.ensures.err))
-
-pub seal_next-requires-clause-fits : goal.seal_next-requires-clause-fits
-seal_next-requires-clause-fits g c =
-    let m = c.message-contents.ensures ∙ ap (message_of c.in_ok-opened.opened) c.deref.ensures.value in
-    omega (arith, ap length m, next_fits _ _ _ _ _ _ _ _ _ _ _ _ _ _ _ _ c.records.invariant c.in_ok-opened.ensures.opened c.in_ok-opened.ensures.fits)
 
 pub returns-in_err-seal_next-clause-stopped : goal.returns-in_err-seal_next-clause-stopped
 returns-in_err-seal_next-clause-stopped g c =
