@@ -110,8 +110,7 @@ unread key context file old e why = grind (arith, no_head, Appends-nil)
 -- the same of a file of which this much is known
 pub known_head : (file : Option (List ℕ)) (e : FileError) (P : List ℕ → Type 0) → IsReadError e ⊎ ((e ≡ Stream errors.Header) × HasNoHead file)
     → ((f : List ℕ) → IsReadError e ⊎ ((e ≡ Stream errors.Header) × (take 4 (drop 24 f) ≢ header Second)) → P f) → IfSome file P
-known_head None e P why go = tt
-known_head (Some f) e P why go = go f why
+known_head file e P why go = grind arith
 
 pub fails_unread : (key context : List ℕ) (file old : Option (List ℕ)) (e : FileError) → IsReadError e ⊎ ((e ≡ Stream errors.Header) × HasNoHead file)
     → IfSome file (λ f. FailsWith key context f old old e)
@@ -137,17 +136,14 @@ other_head file left taken read long other = read_some file left taken _ read (�
 -- a fact of the file, by the bytes after its header
 pub under : (P : List ℕ → Type 0) (prefix : List ℕ) (file left : Option (List ℕ)) → Consumes file left (prefix ++ header Second)
     → IfSome left (λ bytes. P (prefix ++ (header Second ++ bytes))) → IfSome file P
-under P prefix None left read p = tt
-under P prefix (Some f) None read p = absurd read
-under P prefix (Some f) (Some bytes) read p = subst P (sym (read ∙ append_assoc prefix (header Second) bytes)) p
+under P prefix file left read p = grind (arith, append_assoc)
 
 pub under_err : {T : Type 0} (P : FileError → List ℕ → Type 0) (prefix : List ℕ) (file left : Option (List ℕ)) (r : Result T FileError) → Consumes file left (prefix ++ header Second)
     → IfErr r (λ e. IfSome left (λ bytes. P e (prefix ++ (header Second ++ bytes)))) → IfErr r (λ e. IfSome file (P e))
 under_err P prefix file left r read p = grind (arith, under)
 
 pub some_with : (a : Option (List ℕ)) (P Q : List ℕ → Type 0) → ((x : List ℕ) → P x → Q x) → IfSome a P → IfSome a Q
-some_with None P Q so p = tt
-some_with (Some x) P Q so p = so x p
+some_with a P Q so p = grind arith
 
 -- all of the contents, as a part
 abbrev pub all : ContentsRange

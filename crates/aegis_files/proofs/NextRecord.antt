@@ -37,15 +37,13 @@ pub too_short : (p : Progress) (flag : ℕ) (m rest all : List ℕ) → length a
 too_short p flag m rest all short is = grind (arith, length-append, length-record)
 
 pub within_limit : (v : Version) (n : ℕ) → n ≤ limit v → n ≤ MAX_MESSAGE_BYTES
-within_limit First n low = omega (arith, low)
-within_limit Second n low = low
+within_limit v n low = grind arith
 
 -- ---- the record is opened
 
 flagged : (p : Progress) (last : Bool) (found m rest : List ℕ) → OnFalse last (found ≡ record_of p 0 m ++ rest) → OnTrue last (found ≡ record_of p 1 m ++ rest)
     → found ≡ record_of p (last_flag last) m ++ rest
-flagged p false found m rest next last = next
-flagged p true found m rest next last = last
+flagged p last found m rest next whole = grind arith
 
 pub reads_next : (p q : Progress) (last : Bool) (left left' : Option (List ℕ)) (found m rest : List ℕ) → Consumes left left' found → OpensNext p q found last m rest
     → ((flag : ℕ) → length m ≤ MAX_MESSAGE_BYTES → found ≡ record_of p flag m ++ rest → rest ≡ []) → ReadsNext p q left left' last m

@@ -41,9 +41,7 @@ counted p ms bytes b = grind (arith, counted_after)
 -- what was read of bytes that are known
 pub read_some : (all left : Option (List ℕ)) (taken : List ℕ) (P : List ℕ → Type 0) → Consumes all left taken
     → ((f rest : List ℕ) → all ≡ Some f → f ≡ taken ++ rest → left ≡ Some rest → P f) → IfSome all P
-read_some None left taken P read go = tt
-read_some (Some f) None taken P read go = absurd read
-read_some (Some f) (Some rest) taken P read go = go f rest refl read refl
+read_some all left taken P read go = grind arith
 
 pub at_end : (rest : List ℕ) (left : Option (List ℕ)) → left ≡ Some rest → IsAtEnd left → rest ≡ []
 at_end rest left e end = grind arith

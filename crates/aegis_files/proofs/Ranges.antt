@@ -191,16 +191,12 @@ pub range_end : (key prefix context : List ℕ) (range : ContentsRange) (p : Pro
     → IfSome stream (λ f. OpensRange key prefix context range opened f left old new)
 range_end key prefix context range p is_last skip more opened stream left old new s some done written_is end_is last_is = read_some stream left s.taken _ s.read opens
   where
-    whole : (is_last ≡ true) ⊎ ((more ≡ 0) × (skip ≡ 0)) → (opened.is_last ≡ true) ⊎ ((opened.length ≡ range.length) × (range.skip ≤ length (concat s.messages)))
-    whole (inl last) = inl (last_is ∙ last)
-    whole (inr (none, in_it)) = inr (omega (arith, written_is, none), omega (arith, in_it, s.skip_is))
+    whole : (opened.is_last ≡ true) ⊎ ((opened.length ≡ range.length) × (range.skip ≤ length (concat s.messages)))
+    whole = let left_out = s.skip_is in grind arith
 
-    no_more : (others : List (List ℕ)) → (last_flag is_last ≡ 1 → others ≡ []) → (is_last ≡ true) ⊎ ((more ≡ 0) × (skip ≡ 0))
+    no_more : (others : List (List ℕ)) → (last_flag is_last ≡ 1 → others ≡ [])
         → take (range.length - length (part_of range s.messages)) (drop (range.skip - length (concat s.messages)) (concat others)) ≡ []
-    no_more others ends (inl last) =
-        let none : others ≡ [] = ends (rw last refl) in
-        rw none (part_nil (range.skip - length (concat s.messages)) (range.length - length (part_of range s.messages)))
-    no_more others ends (inr (none, in_it)) = let zero : range.length - length (part_of range s.messages) ≡ 0 = sym s.more_is ∙ none in rw zero refl
+    no_more others ends = let to_write = s.more_is in grind (arith, part_nil)
 
     opens : (f rest : List ℕ) → stream ≡ Some f → f ≡ s.taken ++ rest → left ≡ Some rest → OpensRange key prefix context range opened f left old new
     opens f rest known is after =
@@ -215,12 +211,12 @@ range_end key prefix context range p is_last skip more opened stream left old ne
           count = omega (arith, written_is, s.more_is, length-take range.length (drop range.skip (concat s.messages)));
           ended = end;
           fits = rw end_is s.fits;
-          whole = whole done;
+          whole = whole;
           read = after;
           needed = s.needed;
           of_contents = λ following contents t.
               let on = goes_on key prefix context range.position (last_flag is_last) s.messages rest f following contents records t in
-              sym (contents_part key prefix context range s.messages following contents f (last_flag is_last) t on ∙ ap (λ (l : List ℕ). part_of range s.messages ++ l) (no_more on.others on.ends done)
+              sym (contents_part key prefix context range s.messages following contents f (last_flag is_last) t on ∙ ap (λ (l : List ℕ). part_of range s.messages ++ l) (no_more on.others on.ends)
               ∙ append-nil (part_of range s.messages));
         }
 

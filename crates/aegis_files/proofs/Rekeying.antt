@@ -236,9 +236,7 @@ pub result_rekeyed : {T : Type 0} (key prefix new_key new_prefix context : List 
     × (new_file : List ℕ) × IsFileOf new_key new_prefix context contents new_file × Appends old new new_file))
     → OnOk r (IfSome file (λ f. (contents : List ℕ) × IsSealedFile key context contents f
     × (new_file : List ℕ) × IsFileOf new_key new_prefix context contents new_file × Appends old new new_file))
-result_rekeyed key prefix new_key new_prefix context file left old new (Err e) long read s = tt
-result_rekeyed key prefix new_key new_prefix context file left old new (Ok x) long read s =
-    under _ prefix file left read (some_with left _ _ (λ f o. (o.0, record { prefix = prefix; long = long; is = o.1 }, o.2, o.3, o.4)) s)
+result_rekeyed key prefix new_key new_prefix context file left old new r long read s = grind (arith, under, some_with)
 
 -- what sealing a file anew uses
 pub ruleset rekey_laws = (known_head, no_head, under_err, nothing_sent, result_rekeyed)
