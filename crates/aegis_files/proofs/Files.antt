@@ -1,5 +1,5 @@
 -- A file that is opened: its facts, by those of the records after its header.
-use Rattle.std.proofs.Common.{◌≡◌, ◌≢◌, ◌⊎◌, ℕ, ◌<◌, ◌≤◌, true, List, [], ◌++◌, Option, None, Some, IfErr, IfSome, OnOk, Result, Ok, Err, drop, length, take, refl, sym, ap, subst, ◌∙◌, append_assoc, arith, inl, inr}
+use Rattle.std.proofs.Common.{◌≡◌, ◌≢◌, ◌⊎◌, ℕ, ◌<◌, ◌≤◌, true, List, [], ◌++◌, Option, Some, IfErr, IfSome, OnOk, Result, Ok, Err, drop, length, take, refl, sym, ap, subst, ◌∙◌, append_assoc, arith, inl, inr}
 use Rattle.std.proofs.KnownBytes.{Appends-nil}
 use Rattle.std.proofs.lemmas.List.{append-nil, drop_at, length-append, length-drop, length-take, take-append-drop, take_all, take_at}
 use Rattle.std.specs.Io.KnownBytes.{Appends, Consumes, IsAtEnd}
@@ -19,8 +19,8 @@ use Rattle.aegis_files.specs.declared.error.FileError.{FileError}
 use Rattle.aegis_files.specs.declared.error.FileError.TheVariants.{Stream, TooLong}
 use Rattle.aegis_files.specs.declared.range.OpenedRange.{OpenedRange}
 use Rattle.aegis_files.specs.declared.range.ContentsRange.{ContentsRange}
-use Rattle.aegis_files.specs.Opening.{FailsWith, IsFileFault, RefusesFile}
-use Rattle.aegis_files.specs.Range.{AreFrom, IsFaultFrom, AreContentsFrom, OpensRange, RefusesFrom, StopsRange, part_of, part_of_contents}
+use Rattle.aegis_files.specs.Opening.{FailsWith, RefusesFile}
+use Rattle.aegis_files.specs.Range.{AreFrom, AreContentsFrom, OpensRange, RefusesFrom, StopsRange, part_of, part_of_contents}
 use Rattle.aegis_files.specs.Reading.{HasNoHead, LeavesSome}
 use Rattle.aegis_files.specs.SealedFile.{IsReadError, IsSealedFile, IsWriteError}
 use Rattle.aegis_files.proofs.Pieces.{at_end, concat-short, read_some, two_prefixes}
@@ -181,15 +181,15 @@ is_last : (key prefix context bytes : List ℕ) (opened : OpenedRange) (left old
 is_last key prefix context bytes opened left old new o = elim o.whole [
   | inl last ↦ last
   | inr full ↦ absurd (omega (
-      arith,
-      full.0,
-      o.count,
-      o.fits,
-      ap start_at o.ended,
-      start_after (first_position Second) o.messages,
-      concat-short o.messages,
-      length-take 18446744073709551615 (concat o.messages),
-    ))
+    arith,
+    full.0,
+    o.count,
+    o.fits,
+    ap start_at o.ended,
+    start_after (first_position Second) o.messages,
+    concat-short o.messages,
+    length-take 18446744073709551615 (concat o.messages),
+  ))
 ]
 
 pub ends_file : {T : Type 0} (key prefix context : List ℕ) (opened : OpenedRange) (file left left' old new : Option (List ℕ)) (r : Result T FileError) → length prefix ≡ 24
