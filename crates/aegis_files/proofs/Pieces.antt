@@ -30,9 +30,7 @@ concat-short (m ∷ ms) = let rest = concat-short ms in omega (arith, length-app
 pub counted_after : (at : RecordPosition) (ms : List (List ℕ))
     → ((position_after at ms).number ≡ at.number + length ms) × ((position_after at ms).before ≡ at.before + length (concat ms))
 counted_after at [] = (omega arith, omega arith)
-counted_after at (m ∷ ms) =
-    let rest = counted_after (next_position at m) ms in
-    (omega (arith, rest.0), omega (arith, rest.1, length-append m (concat ms)))
+counted_after at (m ∷ ms) = let rest = counted_after (next_position at m) ms in grind (arith, rest, length-append)
 
 pub counted : (p : Progress) (ms : List (List ℕ)) (bytes : List ℕ) → Begun p ms bytes → (p.position.number ≡ length ms) × (p.position.before ≡ length (concat ms))
 unfolding Begun

@@ -105,10 +105,10 @@ whole_read : (p q p' : Progress) (key prefix new_key new_prefix context f : List
 whole_read p q p' key prefix new_key new_prefix context f stream left left' old new pending m rest s next end is known = record {
   messages = s.messages ++ m ∷ [];
   stream = header Second ++ f;
-  are = subst (λ (l : List ℕ). AreRecords Second key prefix context (s.messages ++ m ∷ []) (header Second ++ l))
-      (sym (is ∙ ap (λ (l : List ℕ). (s.taken ++ record_of p 1 m) ++ l) (at_end rest left' known end) ∙ append-nil (s.taken ++ record_of p 1 m)))
-      (reaches_stream key prefix context p' (s.messages ++ m ∷ []) (s.taken ++ record_of p 1 m)
-      (opened_next p p' q true key prefix new_key new_prefix context stream left left' old new pending m s next));
+  are =
+      let none = at_end rest left' known end in
+      let r = opened_next p p' q true key prefix new_key new_prefix context stream left left' old new pending m s next in
+      grind (arith, reaches_stream, append-nil);
   contents_is = refl;
   file_is = refl;
 }
