@@ -1,5 +1,5 @@
 -- A file that is opened: its facts, by those of the records after its header.
-use Rattle.std.proofs.Common.{◌≡◌, ◌≢◌, ◌⊎◌, ℕ, ◌<◌, ◌≤◌, true, List, [], ◌++◌, Option, None, Some, IfErr, IfSome, OnOk, Result, Ok, Err, drop, length, take, refl, sym, ap, subst, ◌∙◌, append_assoc, arith, inl, inr}
+use Rattle.std.proofs.Common.{◌≡◌, ◌≢◌, ◌⊎◌, ℕ, ◌<◌, ◌≤◌, true, List, [], ◌++◌, Option, Some, IfErr, IfSome, OnOk, Result, Ok, Err, drop, length, take, refl, sym, ap, subst, ◌∙◌, append_assoc, arith, inl, inr}
 use Rattle.std.proofs.KnownBytes.{Appends-nil}
 use Rattle.std.proofs.lemmas.List.{append-nil, drop_at, length-append, length-drop, length-take, take-append-drop, take_all, take_at}
 use Rattle.std.specs.Io.KnownBytes.{Appends, Consumes, IsAtEnd}
@@ -19,8 +19,8 @@ use Rattle.aegis_files.specs.declared.error.FileError.{FileError}
 use Rattle.aegis_files.specs.declared.error.FileError.TheVariants.{Stream, TooLong}
 use Rattle.aegis_files.specs.declared.range.OpenedRange.{OpenedRange}
 use Rattle.aegis_files.specs.declared.range.ContentsRange.{ContentsRange}
-use Rattle.aegis_files.specs.Opening.{FailsWith, IsFileFault, RefusesFile}
-use Rattle.aegis_files.specs.Range.{AreFrom, IsFaultFrom, AreContentsFrom, OpensRange, RefusesFrom, StopsRange, part_of, part_of_contents}
+use Rattle.aegis_files.specs.Opening.{FailsWith, RefusesFile}
+use Rattle.aegis_files.specs.Range.{AreFrom, AreContentsFrom, OpensRange, RefusesFrom, StopsRange, part_of, part_of_contents}
 use Rattle.aegis_files.specs.Reading.{HasNoHead, LeavesSome}
 use Rattle.aegis_files.specs.SealedFile.{IsReadError, IsSealedFile, IsWriteError}
 use Rattle.aegis_files.proofs.Pieces.{at_end, concat-short, read_some, two_prefixes}
@@ -51,46 +51,34 @@ refuses_by : (key prefix context bytes : List ℕ) (e : FileError) → length pr
     → ((why : RecordError) → e ≡ Stream why → (why ≡ errors.OutOfMemory) ⊎ IsFault key prefix context (header Second ++ bytes) why)
     → (e ≡ TooLong → MAX_AEAD_BYTES < length (header Second ++ bytes)) → RefusesFile key context (prefix ++ (header Second ++ bytes)) e
 refuses_by key prefix context bytes e long refused too_long = record {
-  refused = λ why it. reason why (refused why it);
-  accepted = λ contents s why it. memory contents s why (refused why it);
+  refused = λ why it. elim (refused why it) [
+    | inl none ↦ inl none
+    | inr fault ↦ inr (inr (prefix, bytes, long, refl, fault))
+  ];
+  accepted = λ contents s why it. elim (refused why it) [
+    | inl none ↦ none
+    | inr fault ↦ absurd ((one_fault (sealed key prefix context) (sealed-is key prefix context)).1 (header Second ++ bytes) Second s.is.messages why
+        (contents_are key prefix context contents bytes long s) fault)
+  ];
   too_long = λ it. omega (arith, too_long it, long, length-append prefix (header Second ++ bytes));
 }
-  where
-    reason : (why : RecordError) → (why ≡ errors.OutOfMemory) ⊎ IsFault key prefix context (header Second ++ bytes) why
-        → (why ≡ errors.OutOfMemory) ⊎ IsFileFault key context (prefix ++ (header Second ++ bytes)) why
-    reason why (inl none) = inl none
-    reason why (inr fault) = inr (inr (prefix, bytes, long, refl, fault))
-
-    memory : (contents : List ℕ) → IsSealedFile key context contents (prefix ++ (header Second ++ bytes)) → (why : RecordError)
-        → (why ≡ errors.OutOfMemory) ⊎ IsFault key prefix context (header Second ++ bytes) why → why ≡ errors.OutOfMemory
-    memory contents s why (inl none) = none
-    memory contents s why (inr fault) =
-        absurd ((one_fault (sealed key prefix context) (sealed-is key prefix context)).1 (header Second ++ bytes) Second s.is.messages why
-        (contents_are key prefix context contents bytes long s) fault)
 
 pub refuses_file : (key prefix context bytes : List ℕ) (e : FileError) → length prefix ≡ 24 → RefusesFrom key prefix context (first_position Second) bytes e
     → RefusesFile key context (prefix ++ (header Second ++ bytes)) e
 refuses_file key prefix context bytes e long r =
-    refuses_by key prefix context bytes e long (λ why it. reason why (r.refused why it)) (λ it. omega (arith, r.too_long it, length-append (header Second) bytes))
-  where
-    reason : (why : RecordError) → (why ≡ errors.OutOfMemory) ⊎ IsFaultFrom key prefix context (first_position Second) bytes why
-        → (why ≡ errors.OutOfMemory) ⊎ IsFault key prefix context (header Second ++ bytes) why
-    reason why (inl none) = inl none
-    reason why (inr fault) = inr (fault [] (header Second) (begun_none key prefix context Second (header Second) refl))
+    refuses_by key prefix context bytes e long (λ why it. elim (r.refused why it) [
+      | inl none ↦ inl none
+      | inr fault ↦ inr (fault [] (header Second) (begun_none key prefix context Second (header Second) refl))
+    ]) (λ it. omega (arith, r.too_long it, length-append (header Second) bytes))
 
 -- bytes are left after the last record, or they cannot be read
-pub refuses_more : (key prefix context bytes rest : List ℕ) (ms : List (List ℕ)) (flag : ℕ) (left left' : Option (List ℕ)) (e : FileError) → length prefix ≡ 24
-    → AreFrom key prefix context (first_position Second) flag ms rest bytes → flag ≡ 1 → left ≡ Some rest → LeavesSome left left' e
+pub refuses_more : (key prefix context bytes rest : List ℕ) (ms : List (List ℕ)) (flag : ℕ) (left : Option (List ℕ)) (e : FileError) → length prefix ≡ 24
+    → AreFrom key prefix context (first_position Second) flag ms rest bytes → flag ≡ 1 → left ≡ Some rest → LeavesSome left e
     → RefusesFile key context (prefix ++ (header Second ++ bytes)) e
-refuses_more key prefix context bytes rest ms flag left left' e long r one known (inl (why, is)) = refuses_by key prefix context bytes e long (λ d it. absurd cc) (λ it. absurd cc)
-refuses_more key prefix context bytes rest ms flag left left' e long r one known (inr (is, more)) =
+refuses_more key prefix context bytes rest ms flag left e long r one known (inl (why, is)) = refuses_by key prefix context bytes e long (λ d it. absurd cc) (λ it. absurd cc)
+refuses_more key prefix context bytes rest ms flag left e long r one known (inr (is, more)) =
     refuses_by key prefix context bytes e long (λ d it. inr (let same : errors.Trailing ≡ d = cc in subst (IsFault key prefix context (header Second ++ bytes)) same fault)) (λ it. absurd cc)
   where
-    some : (left left' : Option (List ℕ)) → left ≡ Some rest → Consumes left left' more.0 → 0 < length rest
-    some None b known read = absurd cc
-    some (Some l) None known read = absurd read
-    some (Some l) (Some r) known read = let same : l ≡ rest = cc in omega (arith, ap length same, ap length read, more.1, length-append more.0 r)
-
     fs : List ℕ
     fs = frames (sealed key prefix context) (first_position Second) flag ms
 
@@ -98,7 +86,7 @@ refuses_more key prefix context bytes rest ms flag left left' e long r one known
     fault =
         subst (λ (l : List ℕ). IsFault key prefix context l errors.Trailing) (append_assoc (header Second) fs rest ∙ ap (λ (l : List ℕ). header Second ++ l) (sym r.are))
         (after_a_stream key prefix context ms (header Second ++ fs) rest
-        (Second, all_records key prefix context flag ms fs (record { known = r.known; within = r.within; are = sym (append-nil fs) }) one) (some left left' known more.2))
+        (Second, all_records key prefix context flag ms fs (record { known = r.known; within = r.within; are = sym (append-nil fs) }) one) (subst (λ l. IfSome l (λ x. 0 < length x)) known more))
 
 -- a file with no prefix and header
 head_is : (key context contents file : List ℕ) → IsSealedFile key context contents file → take 4 (drop 24 file) ≡ header Second
@@ -117,19 +105,12 @@ no_head key context file e (inr (is, none)) = record {
 
 unread : (key context file : List ℕ) (old : Option (List ℕ)) (e : FileError) → IsReadError e ⊎ ((e ≡ Stream errors.Header) × (take 4 (drop 24 file) ≢ header Second))
     → FailsWith key context file old old e
-unread key context file old e why = record {
-  begun = [];
-  written = Appends-nil old;
-  verified = inl refl;
-  beginning = λ contents it. (contents, refl);
-  refuses = no_head key context file e why;
-}
+unread key context file old e why = grind (arith, no_head, Appends-nil)
 
 -- the same of a file of which this much is known
 pub known_head : (file : Option (List ℕ)) (e : FileError) (P : List ℕ → Type 0) → IsReadError e ⊎ ((e ≡ Stream errors.Header) × HasNoHead file)
     → ((f : List ℕ) → IsReadError e ⊎ ((e ≡ Stream errors.Header) × (take 4 (drop 24 f) ≢ header Second)) → P f) → IfSome file P
-known_head None e P why go = tt
-known_head (Some f) e P why go = go f why
+known_head file e P why go = grind arith
 
 pub fails_unread : (key context : List ℕ) (file old : Option (List ℕ)) (e : FileError) → IsReadError e ⊎ ((e ≡ Stream errors.Header) × HasNoHead file)
     → IfSome file (λ f. FailsWith key context f old old e)
@@ -155,18 +136,14 @@ other_head file left taken read long other = read_some file left taken _ read (�
 -- a fact of the file, by the bytes after its header
 pub under : (P : List ℕ → Type 0) (prefix : List ℕ) (file left : Option (List ℕ)) → Consumes file left (prefix ++ header Second)
     → IfSome left (λ bytes. P (prefix ++ (header Second ++ bytes))) → IfSome file P
-under P prefix None left read p = tt
-under P prefix (Some f) None read p = absurd read
-under P prefix (Some f) (Some bytes) read p = subst P (sym (read ∙ append_assoc prefix (header Second) bytes)) p
+under P prefix file left read p = grind (arith, append_assoc)
 
 pub under_err : {T : Type 0} (P : FileError → List ℕ → Type 0) (prefix : List ℕ) (file left : Option (List ℕ)) (r : Result T FileError) → Consumes file left (prefix ++ header Second)
     → IfErr r (λ e. IfSome left (λ bytes. P e (prefix ++ (header Second ++ bytes)))) → IfErr r (λ e. IfSome file (P e))
-under_err P prefix file left (Ok x) read p = tt
-under_err P prefix file left (Err e) read p = under (P e) prefix file left read p
+under_err P prefix file left r read p = grind (arith, under)
 
 pub some_with : (a : Option (List ℕ)) (P Q : List ℕ → Type 0) → ((x : List ℕ) → P x → Q x) → IfSome a P → IfSome a Q
-some_with None P Q so p = tt
-some_with (Some x) P Q so p = so x p
+some_with a P Q so p = grind arith
 
 -- all of the contents, as a part
 abbrev pub all : ContentsRange
@@ -201,35 +178,32 @@ fails_within key prefix context left old new e long why = some_with left _ _ (λ
 
 -- a part of so many bytes ends with the last record
 is_last : (key prefix context bytes : List ℕ) (opened : OpenedRange) (left old new : Option (List ℕ)) → OpensRange key prefix context all opened bytes left old new → opened.is_last ≡ true
-is_last key prefix context bytes opened left old new o = done o.whole
-  where
-    done : (opened.is_last ≡ true) ⊎ ((opened.length ≡ 18446744073709551615) × (0 ≤ length (concat o.messages))) → opened.is_last ≡ true
-    done (inl last) = last
-    done (inr (full, in_it)) =
-        absurd (omega (
-          arith,
-          full,
-          o.count,
-          o.fits,
-          ap start_at o.ended,
-          start_after (first_position Second) o.messages,
-          concat-short o.messages,
-          length-take 18446744073709551615 (concat o.messages),
-        ))
+is_last key prefix context bytes opened left old new o = elim o.whole [
+  | inl last ↦ last
+  | inr full ↦ absurd (omega (
+    arith,
+    full.0,
+    o.count,
+    o.fits,
+    ap start_at o.ended,
+    start_after (first_position Second) o.messages,
+    concat-short o.messages,
+    length-take 18446744073709551615 (concat o.messages),
+  ))
+]
 
-pub ends_file : {T : Type 0} (key prefix context : List ℕ) (opened : OpenedRange) (file left left' left'' old new : Option (List ℕ)) (r : Result T FileError) → length prefix ≡ 24
+pub ends_file : {T : Type 0} (key prefix context : List ℕ) (opened : OpenedRange) (file left left' old new : Option (List ℕ)) (r : Result T FileError) → length prefix ≡ 24
     → Consumes file left (prefix ++ header Second) → IfSome left (λ bytes. OpensRange key prefix context all opened bytes left' old new)
-    → OnOk r (Consumes left' left'' []) → OnOk r (IsAtEnd left'')
-    → OnOk r (IfSome file (λ f. (contents : List ℕ) × Appends old new contents × IsSealedFile key context contents f))
-ends_file key prefix context opened file left left' left'' old new (Err e) long read o none end = tt
-ends_file key prefix context opened file left left' left'' old new (Ok x) long read o none end = under _ prefix file left read (some_with left _ _ whole o)
+    → OnOk r (IsAtEnd left') → OnOk r (IfSome file (λ f. (contents : List ℕ) × Appends old new contents × IsSealedFile key context contents f))
+ends_file key prefix context opened file left left' old new (Err e) long read o end = tt
+ends_file key prefix context opened file left left' old new (Ok x) long read o end = under _ prefix file left read (some_with left _ _ whole o)
   where
     whole : (bytes : List ℕ) → OpensRange key prefix context all opened bytes left' old new
         → (contents : List ℕ) × Appends old new contents × IsSealedFile key context contents (prefix ++ (header Second ++ bytes))
     whole bytes s =
         let last = is_last key prefix context bytes opened left' old new s in
         let fits = subst (λ q. start_at q ≤ MAX_AEAD_BYTES) s.ended s.fits in
-        let nothing = nothing_after s.rest left' s.read none in
+        let nothing = at_end s.rest left' s.read end in
         let records = subst (λ (l : List ℕ). AreFrom key prefix context (first_position Second) (last_flag opened.is_last) s.messages l bytes) nothing s.records in (
           concat s.messages,
           subst (Appends old new) (all_of s.messages fits) s.written,
@@ -245,20 +219,12 @@ ends_file key prefix context opened file left left' left'' old new (Ok x) long r
             };
           },
         )
-      where
-        nothing_after : (rest : List ℕ) (left' : Option (List ℕ)) → left' ≡ Some rest → Consumes left' left'' [] → rest ≡ []
-        nothing_after rest left' is read = both left' left'' is read end
-          where
-            both : (left' left'' : Option (List ℕ)) → left' ≡ Some rest → Consumes left' left'' [] → IsAtEnd left'' → rest ≡ []
-            both None b is read end = absurd cc
-            both (Some l) None is read end = absurd read
-            both (Some l) (Some r) is read end = let same : l ≡ rest = cc in sym same ∙ read ∙ end
 
-pub fails_end : {T : Type 0} (key prefix context : List ℕ) (opened : OpenedRange) (file left left' left'' old new : Option (List ℕ)) (r : Result T FileError) → length prefix ≡ 24
-    → Consumes file left (prefix ++ header Second) → IfSome left (λ bytes. OpensRange key prefix context all opened bytes left' old new) → IfErr r (LeavesSome left' left'')
+pub fails_end : {T : Type 0} (key prefix context : List ℕ) (opened : OpenedRange) (file left left' old new : Option (List ℕ)) (r : Result T FileError) → length prefix ≡ 24
+    → Consumes file left (prefix ++ header Second) → IfSome left (λ bytes. OpensRange key prefix context all opened bytes left' old new) → IfErr r (LeavesSome left')
     → IfErr r (λ e. IfSome file (λ f. FailsWith key context f old new e))
-fails_end key prefix context opened file left left' left'' old new (Ok x) long read o why = tt
-fails_end key prefix context opened file left left' left'' old new (Err e) long read o why = under _ prefix file left read (some_with left _ _ fails o)
+fails_end key prefix context opened file left left' old new (Ok x) long read o why = tt
+fails_end key prefix context opened file left left' old new (Err e) long read o why = under _ prefix file left read (some_with left _ _ fails o)
   where
     fails : (bytes : List ℕ) → OpensRange key prefix context all opened bytes left' old new → FailsWith key context (prefix ++ (header Second ++ bytes)) old new e
     fails bytes s =
@@ -266,5 +232,5 @@ fails_end key prefix context opened file left left' left'' old new (Err e) long 
         file_fails key prefix context bytes s.rest (part_of all s.messages) [] s.messages (last_flag opened.is_last) old new e long s.records s.written
         (sym (all_of s.messages fits) ∙ sym (append-nil (part_of all s.messages))) (inl refl)
         (λ following contents t. ([], sym (s.of_contents following contents t) ∙ sym (append-nil (part_of all s.messages))))
-        (refuses_more key prefix context bytes s.rest s.messages (last_flag opened.is_last) left' left'' e long s.records
+        (refuses_more key prefix context bytes s.rest s.messages (last_flag opened.is_last) left' e long s.records
         (rw (is_last key prefix context bytes opened left' old new s) refl) s.read why)

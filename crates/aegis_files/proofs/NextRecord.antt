@@ -1,5 +1,5 @@
 -- The next record is read, and opened where it lies.
-use Rattle.std.proofs.Common.{◌≡◌, ℕ, ◌+◌, ◌<◌, ◌≤◌, Bool, true, false, List, [], ◌++◌, Option, Err, drop, length, take, refl, sym, ap, subst, ◌∙◌, arith}
+use Rattle.std.proofs.Common.{◌≡◌, ℕ, ◌+◌, ◌<◌, ◌≤◌, Bool, List, [], ◌++◌, Option, Err, drop, length, take, refl, sym, ap, subst, ◌∙◌, arith}
 use Rattle.std.proofs.lemmas.List.{append-nil, drop-append-le, length-append, length-drop, nil_from_length, take-append-drop, take-append-le, take-take}
 use Rattle.std.specs.Bool.{OnFalse, OnTrue}
 use Rattle.std.specs.Io.KnownBytes.{Consumes, IsAtEnd}
@@ -15,7 +15,6 @@ use Rattle.aegis.specs.declared.record.error.RecordError.TheVariants as errors
 use Rattle.aegis.specs.declared.record.record_opener.in_place.OpenedInPlace.{OpenedInPlace}
 use Rattle.aegis.specs.declared.record.version.TheConstants.{MAX_MESSAGE_BYTES}
 use Rattle.aegis.specs.declared.record.version.Version.{Version}
-use Rattle.aegis.specs.declared.record.version.Version.TheVariants.{First, Second}
 use Rattle.aegis_files.specs.declared.error.FileError.TheVariants.{Stream}
 use Rattle.aegis_files.specs.Reading.{FailsNext, ReadsNext, ReadsPart, Refused}
 use Rattle.aegis_files.proofs.Pieces.{at_end, read_some}
@@ -31,36 +30,28 @@ begins n len head old new left left' is r =
 -- no more bytes than the record has
 pub only_record : (p : Progress) (flag : ℕ) (m rest all : List ℕ) (len : ℕ) → length all ≤ len → all ≡ record_of p flag m ++ rest → length (record_of p flag m) ≡ len
     → rest ≡ []
-only_record p flag m rest all len within is long =
-    nil_from_length rest (omega (arith, within, long, ap length is, length-append (record_of p flag m) rest))
+only_record p flag m rest all len within is long = grind (arith, length-append, nil_from_length)
 
 pub too_short : (p : Progress) (flag : ℕ) (m rest all : List ℕ) → length all < 37 → all ≡ record_of p flag m ++ rest → rest ≡ []
-too_short p flag m rest all short is =
-    absurd (omega (arith, short, ap length is, length-append (record_of p flag m) rest, length-record p.key p.prefix p.context p.position flag m))
+too_short p flag m rest all short is = grind (arith, length-append, length-record)
 
 pub within_limit : (v : Version) (n : ℕ) → n ≤ limit v → n ≤ MAX_MESSAGE_BYTES
-within_limit First n low = omega (arith, low)
-within_limit Second n low = low
+within_limit v n low = grind arith
 
 -- ---- the record is opened
 
-is_record : (bytes found rest : List ℕ) → found ≡ bytes ++ rest → rest ≡ [] → found ≡ bytes
-is_record bytes found rest is none = is ∙ ap (λ (l : List ℕ). bytes ++ l) none ∙ append-nil bytes
+flagged : (p : Progress) (last : Bool) (found m rest : List ℕ) → OnFalse last (found ≡ record_of p 0 m ++ rest) → OnTrue last (found ≡ record_of p 1 m ++ rest)
+    → found ≡ record_of p (last_flag last) m ++ rest
+flagged p last found m rest next whole = grind arith
 
 pub reads_next : (p q : Progress) (last : Bool) (left left' : Option (List ℕ)) (found m rest : List ℕ) → Consumes left left' found → OpensNext p q found last m rest
     → ((flag : ℕ) → length m ≤ MAX_MESSAGE_BYTES → found ≡ record_of p flag m ++ rest → rest ≡ []) → ReadsNext p q left left' last m
-reads_next p q last left left' found m rest read opens alone = record {
-  read = is_read last opens.next opens.last;
-  progress = opens.progress;
-  within = opens.within;
-}
-  where
-    whole : (flag : ℕ) → found ≡ record_of p flag m ++ rest → Consumes left left' (record_of p flag m)
-    whole flag is = subst (Consumes left left') (is_record (record_of p flag m) found rest is (alone flag (within_limit p.position.version (length m) opens.within) is)) read
-
-    is_read : (last : Bool) → OnFalse last (found ≡ record_of p 0 m ++ rest) → OnTrue last (found ≡ record_of p 1 m ++ rest) → Consumes left left' (record_of p (last_flag last) m)
-    is_read false next last = whole 0 next
-    is_read true next last = whole 1 last
+reads_next p q last left left' found m rest read opens alone =
+    let bytes : List ℕ = record_of p (last_flag last) m in
+    let is = flagged p last found m rest opens.next opens.last in
+    let none = alone (last_flag last) (within_limit p.position.version (length m) opens.within) is in
+    let all : found ≡ bytes = is ∙ ap (λ (l : List ℕ). bytes ++ l) none ∙ append-nil bytes in
+    record { read = subst (Consumes left left') all read; progress = opens.progress; within = opens.within }
 
 -- the message in the record's part of the buffer
 pub message_kept : (opened : OpenedInPlace) (part after : List ℕ) → 5 + opened.message_len ≤ length part → message_of opened part ≡ message_of opened (part ++ after)

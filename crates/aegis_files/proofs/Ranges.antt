@@ -2,19 +2,20 @@
 use Rattle.std.proofs.Common.{◌≡◌, ◌⊎◌, ℕ, ◌+◌, ◌-◌, ◌<◌, ◌≤◌, Bool, true, false, List, [], ◌∷◌, ◌++◌, Option, Some, IfSome, drop, length, take, refl, sym, ap, subst, ◌∙◌, append_assoc, arith, inl, inr}
 use Rattle.std.proofs.KnownBytes.{Appends-nil, Appends-trans, Consumes-nil, Consumes-trans}
 use Rattle.std.proofs.Math.Seq.{drop-append-add}
-use Rattle.std.proofs.lemmas.List.{append-nil, drop_at, length-append, length-take, take_at, take-append-drop}
+use Rattle.std.proofs.lemmas.List.Folds.{concat-append}
+use Rattle.std.proofs.lemmas.List.{append-nil, append_cancel_left, length-append, length-take, take_at, take-append-drop}
 use Rattle.std.specs.Io.KnownBytes.{Appends, Consumes}
 use Rattle.std.specs.List.{concat}
 use Rattle.aegis_base.specs.declared.error.TheConstants.{MAX_AEAD_BYTES}
 use Rattle.aegis.specs.declared.record.error.RecordError.{RecordError}
 use Rattle.aegis.specs.declared.record.error.RecordError.TheVariants as errors
 use Rattle.aegis.specs.declared.record.position.RecordPosition.{RecordPosition}
-use Rattle.aegis.specs.Progress.{AreRecordsOfSomeVersion, Progress, after, last_flag, progress_at, record_of, start_of}
+use Rattle.aegis.specs.Progress.{AreRecordsOfSomeVersion, Begun, Progress, after, last_flag, progress_at, record_of, start_of}
 use Rattle.aegis.specs.Records.{IsFault, sealed}
 use Rattle.aegis.specs.RecordStream.{Sealing, frames, position_after, start_at}
-use Rattle.aegis.proofs.Frames.{one_fault, one_record_stream}
+use Rattle.aegis.proofs.Frames.{one_fault}
 use Rattle.aegis.proofs.Sealed.{sealed-is}
-use Rattle.aegis.proofs.Stepwise.{begun_all, begun_beginning, begun_whole}
+use Rattle.aegis.proofs.Stepwise.{begun_all, begun_beginning, begun_whole, sealed_one_stream}
 use Rattle.aegis_files.specs.declared.error.FileError.{FileError}
 use Rattle.aegis_files.specs.declared.error.FileError.TheVariants.{Stream, TooLong}
 use Rattle.aegis_files.specs.declared.range.OpenedRange.{OpenedRange}
@@ -23,7 +24,7 @@ use Rattle.aegis_files.specs.Range.{AreFrom, IsFaultFrom, AreContentsFrom, Opens
 use Rattle.aegis_files.specs.Reading.{FailsNext, Long, NoMemory, ReadsNext, Refused, Unread}
 use Rattle.aegis_files.specs.SealedFile.{IsWriteError}
 use Rattle.aegis_files.proofs.Reaching.{Reaches, are_from, reaches_more, reaches_none, reaches_size}
-use Rattle.aegis_files.proofs.Pieces.{concat-append, concat-push, counted, part-append, part_nil, read_some}
+use Rattle.aegis_files.proofs.Pieces.{concat-push, counted, part-append, part_nil, read_some}
 
 -- ---- the contents
 
@@ -32,10 +33,6 @@ pub record GoesOn (flag : ℕ) (messages following : List (List ℕ)) : Type 0 w
   pub others : List (List ℕ)
   pub are : following ≡ messages ++ others
   pub ends : flag ≡ 1 → others ≡ []
-
--- what follows equal lists of messages
-after_them : (a x y : List (List ℕ)) → a ++ x ≡ a ++ y → x ≡ y
-after_them a x y e = sym (drop_at a x (length a) refl) ∙ ap (drop (length a)) e ∙ drop_at a y (length a) refl
 
 pub goes_on : (key prefix context : List ℕ) (at : RecordPosition) (flag : ℕ) (messages : List (List ℕ)) (rest f : List ℕ) (following : List (List ℕ)) (contents : List ℕ)
     → AreFrom key prefix context at flag messages rest f → AreContentsFrom key prefix context at following contents f → GoesOn flag messages following
@@ -54,16 +51,16 @@ goes_on key prefix context at flag messages rest f following contents r t = go r
         (subst (AreRecordsOfSomeVersion key prefix context (t.messages ++ following)) (bytes 0 zero) t.are) in
         record {
           others = other.0;
-          are = after_them t.messages following (messages ++ other.0) (other.1 ∙ append_assoc t.messages messages other.0);
+          are = append_cancel_left t.messages following (messages ++ other.0) (other.1 ∙ append_assoc t.messages messages other.0);
           ends = λ one. absurd (omega (arith, zero, one));
         }
     go (inr (one, some)) =
-        let only = one_record_stream s (sealed-is key prefix context) t.are.0 at.version (t.messages ++ following) (t.messages ++ messages) (t.before ++ f)
+        let only = sealed_one_stream key prefix context t.are.0 at.version (t.messages ++ following) (t.messages ++ messages) (t.before ++ f)
         (t.before ++ frames s at 1 messages) [] rest t.are.1 (begun_whole key prefix context at messages r.within some t.messages t.before t.begun)
         (append-nil (t.before ++ f) ∙ bytes 1 one) in
         record {
           others = [];
-          are = after_them t.messages following (messages ++ []) (only.1 ∙ ap (λ (l : List (List ℕ)). t.messages ++ l) (sym (append-nil messages)));
+          are = append_cancel_left t.messages following (messages ++ []) (only.1 ∙ ap (λ (l : List (List ℕ)). t.messages ++ l) (sym (append-nil messages)));
           ends = λ _. refl;
         }
 
@@ -81,34 +78,34 @@ pub refuses_from : (key prefix context : List ℕ) (at : RecordPosition) (f : Li
     → RefusesFrom key prefix context at f e
 refuses_from key prefix context at f e refused too_long = record {
   refused = refused;
-  accepted = λ following contents t why is. memory following contents t why (refused why is);
+  accepted = λ following contents t why is. elim (refused why is) [
+    | inl none ↦ none
+    | inr fault ↦ absurd ((one_fault (sealed key prefix context) (sealed-is key prefix context)).1 (t.before ++ f) t.are.0 (t.messages ++ following) why t.are.1
+        (fault t.messages t.before t.begun))
+  ];
   too_long = too_long;
 }
-  where
-    memory : (following : List (List ℕ)) (contents : List ℕ) → AreContentsFrom key prefix context at following contents f → (why : RecordError)
-        → (why ≡ errors.OutOfMemory) ⊎ IsFaultFrom key prefix context at f why → why ≡ errors.OutOfMemory
-    memory following contents t why (inl is) = is
-    memory following contents t why (inr fault) =
-        absurd ((one_fault (sealed key prefix context) (sealed-is key prefix context)).1 (t.before ++ f) t.are.0 (t.messages ++ following) why t.are.1 (fault t.messages t.before t.begun))
 
 pub unwritten : (key prefix context : List ℕ) (at : RecordPosition) (f : List ℕ) (e : FileError) → IsWriteError e → RefusesFrom key prefix context at f e
-unwritten key prefix context at f e (why, is) = refuses_from key prefix context at f e (λ d other. absurd cc) (λ long. absurd cc)
+unwritten key prefix context at f e why = grind (arith, refuses_from)
+
+-- the fault of the rest is that of all
+faults_more : (key prefix context : List ℕ) (at : RecordPosition) (p : Progress) (messages : List (List ℕ)) (taken rest f : List ℕ) (why : RecordError)
+    → Reaches key prefix context at p false messages taken → f ≡ taken ++ rest
+    → ((ms : List (List ℕ)) (before : List ℕ) → Begun p ms before → IsFault p.key p.prefix p.context (before ++ rest) why) → IsFaultFrom key prefix context at f why
+faults_more key prefix context at p messages taken rest f why r is fault ms before b =
+    subst (λ (l : List ℕ). IsFault key prefix context l why) (append_assoc before taken rest ∙ ap (λ (l : List ℕ). before ++ l) (sym is))
+    (subst (λ (q : Progress). IsFault q.key q.prefix q.context ((before ++ taken) ++ rest) why) r.reached
+    (fault (ms ++ messages) (before ++ taken) (rw (r.reached, r.are) (begun_all key prefix context at messages r.within ms before b))))
 
 pub fails_from : (key prefix context : List ℕ) (at : RecordPosition) (p : Progress) (messages : List (List ℕ)) (taken rest f : List ℕ) (e : FileError)
     → Reaches key prefix context at p false messages taken → f ≡ taken ++ rest → FailsNext p (Some rest) e → RefusesFrom key prefix context at f e
-fails_from key prefix context at p messages taken rest f e r is (Unread (why, read)) = refuses_from key prefix context at f e (λ d other. absurd cc) (λ long. absurd cc)
-fails_from key prefix context at p messages taken rest f e r is (NoMemory none) = refuses_from key prefix context at f e (λ d other. inl cc) (λ long. absurd cc)
+fails_from key prefix context at p messages taken rest f e r is (Unread read) = grind (arith, refuses_from)
+fails_from key prefix context at p messages taken rest f e r is (NoMemory none) = grind (arith, refuses_from)
 fails_from key prefix context at p messages taken rest f e r is (Refused why it fault) =
-    refuses_from key prefix context at f e (λ d other. inr (let same : why ≡ d = cc in subst (IsFaultFrom key prefix context at f) same faults)) (λ long. absurd cc)
-  where
-    faults : IsFaultFrom key prefix context at f why
-    faults ms before b =
-        subst (λ (l : List ℕ). IsFault key prefix context l why) (append_assoc before taken rest ∙ ap (λ (l : List ℕ). before ++ l) (sym is))
-        (subst (λ (q : Progress). IsFault q.key q.prefix q.context ((before ++ taken) ++ rest) why) r.reached
-        (fault (ms ++ messages) (before ++ taken) (rw (r.reached, r.are) (begun_all key prefix context at messages r.within ms before b))))
+    let faults = faults_more key prefix context at p messages taken rest f why r is fault in grind (arith, refuses_from)
 fails_from key prefix context at p messages taken rest f e r is (Long it past) =
-    refuses_from key prefix context at f e (λ d other. absurd cc)
-    (λ long. omega (arith, past, reaches_size key prefix context at p false messages taken r, ap length is, length-append taken rest))
+    let size = reaches_size key prefix context at p false messages taken r in grind (arith, refuses_from, length-append)
 
 -- ---- between records
 
@@ -181,13 +178,12 @@ range_more key prefix context range p q is_last skip skip' more more' stream lef
       omega (arith, length-append s.messages (m ∷ [])),
     )
   where
-    go : (ms : List (List ℕ)) → before.some.messages ≡ ms → (0 < more) ⊎ (0 < skip)
-        → (length (part_of range ms) < range.length) ⊎ (length (concat ms) < range.skip)
-    go ms is (inl low) = inl (subst (λ (l : List (List ℕ)). length (part_of range l) < range.length) is (omega (arith, low, before.some.more_is)))
-    go ms is (inr low) = inr (subst (λ (l : List (List ℕ)). length (concat l) < range.skip) is (omega (arith, low, before.some.skip_is)))
-
     needed : (ms : List (List ℕ)) → before.some.messages ≡ ms → 0 < length ms → (length (part_of range ms) < range.length) ⊎ (length (concat ms) < range.skip)
-    needed ms is some = go ms is (before.on (subst (λ (l : List (List ℕ)). 0 < length l) (sym is) some))
+    needed ms is some =
+        let on = before.on in
+        let left_out = before.some.skip_is in
+        let to_write = before.some.more_is in
+        grind arith
 
 pub range_end : (key prefix context : List ℕ) (range : ContentsRange) (p : Progress) (is_last : Bool) (skip more : ℕ) (opened : OpenedRange) (stream left old new : Option (List ℕ))
     → (s : RangeSome key prefix context range p is_last skip more stream left old new) → 0 < length s.messages → (is_last ≡ true) ⊎ ((more ≡ 0) × (skip ≡ 0))
@@ -195,16 +191,12 @@ pub range_end : (key prefix context : List ℕ) (range : ContentsRange) (p : Pro
     → IfSome stream (λ f. OpensRange key prefix context range opened f left old new)
 range_end key prefix context range p is_last skip more opened stream left old new s some done written_is end_is last_is = read_some stream left s.taken _ s.read opens
   where
-    whole : (is_last ≡ true) ⊎ ((more ≡ 0) × (skip ≡ 0)) → (opened.is_last ≡ true) ⊎ ((opened.length ≡ range.length) × (range.skip ≤ length (concat s.messages)))
-    whole (inl last) = inl (last_is ∙ last)
-    whole (inr (none, in_it)) = inr (omega (arith, written_is, none), omega (arith, in_it, s.skip_is))
+    whole : (opened.is_last ≡ true) ⊎ ((opened.length ≡ range.length) × (range.skip ≤ length (concat s.messages)))
+    whole = let left_out = s.skip_is in grind arith
 
-    no_more : (others : List (List ℕ)) → (last_flag is_last ≡ 1 → others ≡ []) → (is_last ≡ true) ⊎ ((more ≡ 0) × (skip ≡ 0))
+    no_more : (others : List (List ℕ)) → (last_flag is_last ≡ 1 → others ≡ [])
         → take (range.length - length (part_of range s.messages)) (drop (range.skip - length (concat s.messages)) (concat others)) ≡ []
-    no_more others ends (inl last) =
-        let none : others ≡ [] = ends (rw last refl) in
-        rw none (part_nil (range.skip - length (concat s.messages)) (range.length - length (part_of range s.messages)))
-    no_more others ends (inr (none, in_it)) = let zero : range.length - length (part_of range s.messages) ≡ 0 = sym s.more_is ∙ none in rw zero refl
+    no_more others ends = let to_write = s.more_is in grind (arith, part_nil)
 
     opens : (f rest : List ℕ) → stream ≡ Some f → f ≡ s.taken ++ rest → left ≡ Some rest → OpensRange key prefix context range opened f left old new
     opens f rest known is after =
@@ -219,12 +211,12 @@ range_end key prefix context range p is_last skip more opened stream left old ne
           count = omega (arith, written_is, s.more_is, length-take range.length (drop range.skip (concat s.messages)));
           ended = end;
           fits = rw end_is s.fits;
-          whole = whole done;
+          whole = whole;
           read = after;
           needed = s.needed;
           of_contents = λ following contents t.
               let on = goes_on key prefix context range.position (last_flag is_last) s.messages rest f following contents records t in
-              sym (contents_part key prefix context range s.messages following contents f (last_flag is_last) t on ∙ ap (λ (l : List ℕ). part_of range s.messages ++ l) (no_more on.others on.ends done)
+              sym (contents_part key prefix context range s.messages following contents f (last_flag is_last) t on ∙ ap (λ (l : List ℕ). part_of range s.messages ++ l) (no_more on.others on.ends)
               ∙ append-nil (part_of range s.messages));
         }
 

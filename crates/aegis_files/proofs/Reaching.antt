@@ -50,8 +50,7 @@ are_from key prefix context at p is_last messages taken rest f r is = grind arit
 -- a header and these records are a stream
 pub reaches_stream : (key prefix context : List ℕ) (p : Progress) (messages : List (List ℕ)) (bytes : List ℕ)
     → Reaches key prefix context (first_position Second) p true messages bytes → AreRecords Second key prefix context messages (header Second ++ bytes)
-reaches_stream key prefix context p messages bytes r =
-    record { some = r.some refl; within = r.within; are = ap (λ (l : List ℕ). header Second ++ l) r.are }
+reaches_stream key prefix context p messages bytes r = grind arith
 
 pub reaches_version : (key prefix context : List ℕ) (at : RecordPosition) (p : Progress) (is_last : Bool) (messages : List (List ℕ)) (bytes : List ℕ)
     → Reaches key prefix context at p is_last messages bytes → p.position.version ≡ at.version

@@ -1,5 +1,5 @@
 -- The facts that hold between two records that are sealed anew, and those that hold if that fails.
-use Rattle.std.proofs.Common.{◌≡◌, ◌⊎◌, ℕ, ◌+◌, ◌≤◌, Bool, true, false, List, [], ◌∷◌, ◌++◌, Option, None, Some, IfSome, OnOk, Result, Ok, Err, drop, length, take, refl, sym, ap, subst, ◌∙◌, append_assoc, arith, inl, inr}
+use Rattle.std.proofs.Common.{◌≡◌, ◌⊎◌, ℕ, ◌+◌, ◌≤◌, Bool, true, false, List, [], ◌∷◌, ◌++◌, Option, Some, IfSome, OnOk, Result, drop, length, take, refl, sym, ap, subst, ◌∙◌, append_assoc, arith, inl, inr}
 use Rattle.std.proofs.KnownBytes.{Appends-nil, Appends-trans, Consumes-nil, Consumes-trans}
 use Rattle.std.proofs.lemmas.List.{append-nil, take-append-drop}
 use Rattle.std.specs.Io.KnownBytes.{Appends, Consumes, IsAtEnd}
@@ -19,7 +19,7 @@ use Rattle.aegis_files.specs.Reading.{FailsNext, LeavesSome, ReadsNext}
 use Rattle.aegis_files.specs.Rekey.{RekeysBeginning}
 use Rattle.aegis_files.specs.SealedFile.{IsFileOf, IsSealedFile, IsWriteError}
 use Rattle.aegis_files.proofs.Files.{refuses_file, refuses_more, some_with, under, known_head, no_head, under_err}
-use Rattle.aegis_files.proofs.Pieces.{read_some}
+use Rattle.aegis_files.proofs.Pieces.{at_end, read_some}
 use Rattle.aegis_files.proofs.Ranges.{fails_from, refuses_from, unwritten}
 use Rattle.aegis_files.proofs.Reaching.{Reaches, are_from, reaches_more, reaches_none, reaches_start, reaches_stream, reaches_version}
 use Rattle.aegis_files.proofs.Sealing.{opens_whole}
@@ -98,35 +98,30 @@ rekeys_more p p' q q' key prefix new_key new_prefix context stream left left' ol
 -- ---- the last record
 
 -- all of the old file was read
-whole_read : (p q p' : Progress) (key prefix new_key new_prefix context f : List ℕ) (stream left left' left'' old new : Option (List ℕ)) (pending m rest : List ℕ)
-    → (s : RekeysSome p q key prefix new_key new_prefix context stream left old new pending) → ReadsNext p p' left left' true m → Consumes left' left'' [] → IsAtEnd left''
+whole_read : (p q p' : Progress) (key prefix new_key new_prefix context f : List ℕ) (stream left left' old new : Option (List ℕ)) (pending m rest : List ℕ)
+    → (s : RekeysSome p q key prefix new_key new_prefix context stream left old new pending) → ReadsNext p p' left left' true m → IsAtEnd left'
     → f ≡ (s.taken ++ record_of p 1 m) ++ rest → left' ≡ Some rest
     → IsFileOf key prefix context (concat (s.messages ++ m ∷ [])) (prefix ++ (header Second ++ f))
-whole_read p q p' key prefix new_key new_prefix context f stream left left' left'' old new pending m rest s next none end is known = record {
+whole_read p q p' key prefix new_key new_prefix context f stream left left' old new pending m rest s next end is known = record {
   messages = s.messages ++ m ∷ [];
   stream = header Second ++ f;
-  are = subst (λ (l : List ℕ). AreRecords Second key prefix context (s.messages ++ m ∷ []) (header Second ++ l))
-      (sym (is ∙ ap (λ (l : List ℕ). (s.taken ++ record_of p 1 m) ++ l) (nothing left' left'' known none end) ∙ append-nil (s.taken ++ record_of p 1 m)))
-      (reaches_stream key prefix context p' (s.messages ++ m ∷ []) (s.taken ++ record_of p 1 m)
-      (opened_next p p' q true key prefix new_key new_prefix context stream left left' old new pending m s next));
+  are =
+      let none = at_end rest left' known end in
+      let r = opened_next p p' q true key prefix new_key new_prefix context stream left left' old new pending m s next in
+      grind (arith, reaches_stream, append-nil);
   contents_is = refl;
   file_is = refl;
 }
-  where
-    nothing : (a b : Option (List ℕ)) → a ≡ Some rest → Consumes a b [] → IsAtEnd b → rest ≡ []
-    nothing None b is read end = absurd cc
-    nothing (Some l) None is read end = absurd read
-    nothing (Some l) (Some r) is read end = let same : l ≡ rest = cc in sym same ∙ read ∙ end
 
-pub rekeys_end : (p p' q : Progress) (key prefix new_key new_prefix context : List ℕ) (stream left left' left'' old new new' : Option (List ℕ)) (pending m out : List ℕ)
+pub rekeys_end : (p p' q : Progress) (key prefix new_key new_prefix context : List ℕ) (stream left left' old new new' : Option (List ℕ)) (pending m out : List ℕ)
     → RekeysSome p q key prefix new_key new_prefix context stream left old new pending → ReadsNext p p' left left' true m
-    → Consumes left' left'' [] → IsAtEnd left'' → out ≡ pending ++ record_of q 1 m → Appends new new' out
+    → IsAtEnd left' → out ≡ pending ++ record_of q 1 m → Appends new new' out
     → IfSome stream (λ f. (contents : List ℕ) × IsFileOf key prefix context contents (prefix ++ (header Second ++ f))
     × (file : List ℕ) × IsFileOf new_key new_prefix context contents file × Appends old new' file)
-rekeys_end p p' q key prefix new_key new_prefix context stream left left' left'' old new new' pending m out s next none end out_is written =
+rekeys_end p p' q key prefix new_key new_prefix context stream left left' old new new' pending m out s next end out_is written =
     read_some stream left' (s.taken ++ record_of p 1 m) _ (Consumes-trans stream left left' s.taken (record_of p 1 m) s.read next.read) (λ f rest known is after_it. (
       concat (s.messages ++ m ∷ []),
-      whole_read p q p' key prefix new_key new_prefix context f stream left left' left'' old new pending m rest s next none end is after_it,
+      whole_read p q p' key prefix new_key new_prefix context f stream left left' old new pending m rest s next end is after_it,
       new_prefix ++ (header Second ++ (s.made ++ record_of q 1 m)),
       record {
         messages = s.messages ++ m ∷ [];
@@ -154,14 +149,10 @@ stops key new_key new_prefix context file begun rest ms flag old new e long with
   verified = verified;
   ends = ends;
   opens = λ other it.
-      let whole = opens_whole new_key new_prefix context begun rest other ms flag (IsSealedFile key context (concat ms) file × IsWriteError e) long within is (paired ends) it in
-      (subst (λ (l : List ℕ). IsSealedFile key context l file) (sym whole.0) whole.1.0, whole.1.1);
+      let whole = opens_whole new_key new_prefix context begun rest other ms flag (IsSealedFile key context (concat ms) file) (IsWriteError e) long within is ends it in
+      (subst (λ (l : List ℕ). IsSealedFile key context l file) (sym whole.0) whole.1, whole.2);
   refuses = refuses;
 }
-  where
-    paired : (flag ≡ 0) ⊎ ((flag ≡ 1) × IsSealedFile key context (concat ms) file × IsWriteError e) → (flag ≡ 0) ⊎ ((flag ≡ 1) × (IsSealedFile key context (concat ms) file × IsWriteError e))
-    paired (inl zero) = inl zero
-    paired (inr last) = inr (last.0, (last.1, last.2))
 
 pub nothing_sent : (key new_key new_prefix context file : List ℕ) (old : Option (List ℕ)) (e : FileError) → length new_prefix ≡ 24 → RefusesFile key context file e
     → RekeysBeginning key new_key new_prefix context file old old e
@@ -178,8 +169,7 @@ no_memory key prefix context f e long is = refuses_file key prefix context f e l
 
 pub none_at_first : (key prefix new_key new_prefix context : List ℕ) (stream old : Option (List ℕ)) (e : FileError) → length prefix ≡ 24 → length new_prefix ≡ 24 → e ≡ Stream errors.OutOfMemory
     → IfSome stream (λ f. RekeysBeginning key new_key new_prefix context (prefix ++ (header Second ++ f)) old old e)
-none_at_first key prefix new_key new_prefix context None old e long new_long is = tt
-none_at_first key prefix new_key new_prefix context (Some f) old e long new_long is = nothing_sent key new_key new_prefix context _ old e new_long (no_memory key prefix context f e long is)
+none_at_first key prefix new_key new_prefix context stream old e long new_long is = grind (arith, nothing_sent, no_memory)
 
 -- between two records
 between : (p q : Progress) (key prefix new_key new_prefix context : List ℕ) (stream left old new : Option (List ℕ)) (pending f rest : List ℕ) (e : FileError) → length prefix ≡ 24 → length new_prefix ≡ 24
@@ -201,50 +191,42 @@ stops_next p q key prefix new_key new_prefix context stream left old new pending
     between p q key prefix new_key new_prefix context stream left old new pending f rest e long new_long s is (refuses_file key prefix context f e long
     (fails_from key prefix context (first_position Second) p s.messages s.taken rest f e s.opened is (subst (λ l. FailsNext p l e) after_it why))))
 
-pub stops_end : (p p' q : Progress) (key prefix new_key new_prefix context : List ℕ) (stream left left' left'' old new : Option (List ℕ)) (pending m : List ℕ) (e : FileError) → length prefix ≡ 24
-    → length new_prefix ≡ 24 → RekeysSome p q key prefix new_key new_prefix context stream left old new pending → ReadsNext p p' left left' true m → LeavesSome left' left'' e
+pub stops_end : (p p' q : Progress) (key prefix new_key new_prefix context : List ℕ) (stream left left' old new : Option (List ℕ)) (pending m : List ℕ) (e : FileError) → length prefix ≡ 24
+    → length new_prefix ≡ 24 → RekeysSome p q key prefix new_key new_prefix context stream left old new pending → ReadsNext p p' left left' true m → LeavesSome left' e
     → IfSome stream (λ f. RekeysBeginning key new_key new_prefix context (prefix ++ (header Second ++ f)) old new e)
-stops_end p p' q key prefix new_key new_prefix context stream left left' left'' old new pending m e long new_long s next why =
+stops_end p p' q key prefix new_key new_prefix context stream left left' old new pending m e long new_long s next why =
     read_some stream left' (s.taken ++ record_of p 1 m) _ (Consumes-trans stream left left' s.taken (record_of p 1 m) s.read next.read) (λ f rest known is after_it.
     between p q key prefix new_key new_prefix context stream left old new pending f (record_of p 1 m ++ rest) e long new_long s (is ∙ append_assoc s.taken (record_of p 1 m) rest)
-    (refuses_more key prefix context f rest (s.messages ++ m ∷ []) 1 left' left'' e long
+    (refuses_more key prefix context f rest (s.messages ++ m ∷ []) 1 left' e long
     (are_from key prefix context (first_position Second) p' true (s.messages ++ m ∷ []) (s.taken ++ record_of p 1 m) rest f
     (opened_next p p' q true key prefix new_key new_prefix context stream left left' old new pending m s next) is) refl after_it why))
 
 -- at a record, of which n bytes were written with those that were pending
 cut : (sent out : List ℕ) (n : ℕ) → sent ++ out ≡ (sent ++ take n out) ++ drop n out
-cut sent out n = ap (λ (l : List ℕ). sent ++ l) (sym (take-append-drop n out)) ∙ sym (append_assoc sent (take n out) (drop n out))
+cut sent out n = grind (arith, take-append-drop, append_assoc)
 
-pub stops_writing : (p p' q q' : Progress) (key prefix new_key new_prefix context : List ℕ) (stream left left' old new new' : Option (List ℕ)) (pending m out : List ℕ) (n : ℕ) (e : FileError)
-    → length prefix ≡ 24 → length new_prefix ≡ 24 → RekeysSome p q key prefix new_key new_prefix context stream left old new pending → ReadsNext p p' left left' false m
-    → q' ≡ after q false m → out ≡ pending ++ record_of q 0 m → Appends new new' (take n out) → IsWriteError e
+pub stops_writing : (p p' q : Progress) (last : Bool) (key prefix new_key new_prefix context : List ℕ) (stream left left' old new new' : Option (List ℕ)) (pending m out : List ℕ) (n : ℕ) (e : FileError)
+    → length prefix ≡ 24 → length new_prefix ≡ 24 → RekeysSome p q key prefix new_key new_prefix context stream left old new pending → ReadsNext p p' left left' last m
+    → (last ≡ true → IsAtEnd left') → out ≡ pending ++ record_of q (last_flag last) m → Appends new new' (take n out) → IsWriteError e
     → IfSome stream (λ f. RekeysBeginning key new_key new_prefix context (prefix ++ (header Second ++ f)) old new' e)
-stops_writing p p' q q' key prefix new_key new_prefix context stream left left' old new new' pending m out n e long new_long s next q_is out_is written why =
-    read_some stream left' (s.taken ++ record_of p 0 m) _ (Consumes-trans stream left left' s.taken (record_of p 0 m) s.read next.read) (λ f rest known is after_it.
+stops_writing p p' q last key prefix new_key new_prefix context stream left left' old new new' pending m out n e long new_long s next end out_is written why =
     let ms : List (List ℕ) = s.messages ++ m ∷ [] in
-    let made = sealed_next p p' q q' false key prefix new_key new_prefix context stream left left' old new pending m s next q_is in
-    stops key new_key new_prefix context _ (s.sent ++ take n out) (drop n out) ms 0 old new' e new_long made.within
-    (ap (λ (l : List ℕ). new_prefix ++ (header Second ++ l)) (sym made.are) ∙ joined new_prefix s.made s.sent pending (record_of q 0 m) out s.all out_is ∙ cut s.sent out n)
+    let taken : List ℕ = s.taken ++ record_of p (last_flag last) m in
+    let made = sealed_next p p' q (after q last m) last key prefix new_key new_prefix context stream left left' old new pending m s next refl in
+    let read = opened_next p p' q last key prefix new_key new_prefix context stream left left' old new pending m s next in
+    read_some stream left' taken _ (Consumes-trans stream left left' s.taken (record_of p (last_flag last) m) s.read next.read) (λ f rest known is left_is.
+    stops key new_key new_prefix context _ (s.sent ++ take n out) (drop n out) ms (last_flag last) old new' e new_long made.within
+    (ap (λ (l : List ℕ). new_prefix ++ (header Second ++ l)) (sym made.are) ∙ joined new_prefix s.made s.sent pending (record_of q (last_flag last) m) out s.all out_is ∙ cut s.sent out n)
     (Appends-trans old new new' s.sent (take n out) s.written written)
-    (inr (in_file key prefix context f rest ms 0 long (are_from key prefix context (first_position Second) p' false ms (s.taken ++ record_of p 0 m) rest f
-    (opened_next p p' q false key prefix new_key new_prefix context stream left left' old new pending m s next) is)))
-    (inl refl) (refuses_file key prefix context f e long (unwritten key prefix context (first_position Second) f e why)))
-
-pub stops_ending : (p p' q : Progress) (key prefix new_key new_prefix context : List ℕ) (stream left left' left'' old new new' : Option (List ℕ)) (pending m out : List ℕ) (n : ℕ) (e : FileError)
-    → length prefix ≡ 24 → length new_prefix ≡ 24 → RekeysSome p q key prefix new_key new_prefix context stream left old new pending → ReadsNext p p' left left' true m
-    → Consumes left' left'' [] → IsAtEnd left'' → out ≡ pending ++ record_of q 1 m → Appends new new' (take n out) → IsWriteError e
-    → IfSome stream (λ f. RekeysBeginning key new_key new_prefix context (prefix ++ (header Second ++ f)) old new' e)
-stops_ending p p' q key prefix new_key new_prefix context stream left left' left'' old new new' pending m out n e long new_long s next none end out_is written why =
-    read_some stream left' (s.taken ++ record_of p 1 m) _ (Consumes-trans stream left left' s.taken (record_of p 1 m) s.read next.read) (λ f rest known is after_it.
-    let ms : List (List ℕ) = s.messages ++ m ∷ [] in
-    let made = sealed_next p p' q (after q true m) true key prefix new_key new_prefix context stream left left' old new pending m s next refl in
-    let whole = whole_read p q p' key prefix new_key new_prefix context f stream left left' left'' old new pending m rest s next none end is after_it in
-    stops key new_key new_prefix context _ (s.sent ++ take n out) (drop n out) ms 1 old new' e new_long made.within
-    (ap (λ (l : List ℕ). new_prefix ++ (header Second ++ l)) (sym made.are) ∙ joined new_prefix s.made s.sent pending (record_of q 1 m) out s.all out_is ∙ cut s.sent out n)
-    (Appends-trans old new new' s.sent (take n out) s.written written)
-    (inr (in_file key prefix context f rest ms 1 long (are_from key prefix context (first_position Second) p' true ms (s.taken ++ record_of p 1 m) rest f
-    (opened_next p p' q true key prefix new_key new_prefix context stream left left' old new pending m s next) is)))
-    (inr (refl, record { prefix = prefix; long = long; is = whole }, why)) (refuses_file key prefix context f e long (unwritten key prefix context (first_position Second) f e why)))
+    (inr (in_file key prefix context f rest ms (last_flag last) long (are_from key prefix context (first_position Second) p' last ms taken rest f read is)))
+    (ends last next end f rest is left_is) (refuses_file key prefix context f e long (unwritten key prefix context (first_position Second) f e why)))
+  where
+    ends : (last : Bool) → ReadsNext p p' left left' last m → (last ≡ true → IsAtEnd left') → (f rest : List ℕ) → f ≡ (s.taken ++ record_of p (last_flag last) m) ++ rest → left' ≡ Some rest
+        → (last_flag last ≡ 0) ⊎ ((last_flag last ≡ 1) × IsSealedFile key context (concat (s.messages ++ m ∷ [])) (prefix ++ (header Second ++ f)) × IsWriteError e)
+    ends false next end f rest is left_is = inl refl
+    ends true next end f rest is left_is =
+        let whole = whole_read p q p' key prefix new_key new_prefix context f stream left left' old new pending m rest s next (end refl) is left_is in
+        inr (refl, record { prefix = prefix; long = long; is = whole }, why)
 
 -- ---- the old file
 
@@ -254,9 +236,7 @@ pub result_rekeyed : {T : Type 0} (key prefix new_key new_prefix context : List 
     × (new_file : List ℕ) × IsFileOf new_key new_prefix context contents new_file × Appends old new new_file))
     → OnOk r (IfSome file (λ f. (contents : List ℕ) × IsSealedFile key context contents f
     × (new_file : List ℕ) × IsFileOf new_key new_prefix context contents new_file × Appends old new new_file))
-result_rekeyed key prefix new_key new_prefix context file left old new (Err e) long read s = tt
-result_rekeyed key prefix new_key new_prefix context file left old new (Ok x) long read s =
-    under _ prefix file left read (some_with left _ _ (λ f o. (o.0, record { prefix = prefix; long = long; is = o.1 }, o.2, o.3, o.4)) s)
+result_rekeyed key prefix new_key new_prefix context file left old new r long read s = grind (arith, under, some_with)
 
 -- what sealing a file anew uses
 pub ruleset rekey_laws = (known_head, no_head, under_err, nothing_sent, result_rekeyed)

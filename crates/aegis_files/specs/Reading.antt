@@ -42,5 +42,5 @@ pub data FailsNext (p : Progress) (left : Option (List ℕ)) (e : FileError) : T
   Long : e ≡ TooLong → IfSome left (λ rest. MAX_AEAD_BYTES < start_of p + length rest) → FailsNext p left e
 
 -- a read failed, or some bytes were left
-abbrev pub LeavesSome : Option (List ℕ) → Option (List ℕ) → FileError → Type 0
-LeavesSome left left' e = IsReadError e ⊎ ((e ≡ Stream errors.Trailing) × ((more : List ℕ) × (0 < length more) × Consumes left left' more))
+abbrev pub LeavesSome : Option (List ℕ) → FileError → Type 0
+LeavesSome left e = IsReadError e ⊎ ((e ≡ Stream errors.Trailing) × IfSome left (λ rest. 0 < length rest))

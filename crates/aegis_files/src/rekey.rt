@@ -10,9 +10,10 @@ ghost use Rattle.aegis_files.specs.SealedFile.{IsFileOf, IsSealedFile};
 use crate::error::FileError;
 use crate::next::{message, next_message};
 use crate::open::{FIRST, end, read_prefix};
+use crate::seal::begin;
 use crate::write::{write, write_last};
 use aegis::aegis256::Key;
-use aegis::record::{MAX_CONTEXT_BYTES, RecordOpener, RecordSealer};
+use aegis::record::{MAX_CONTEXT_BYTES, RecordOpener};
 use std::alloc::Allocator;
 use std::io::{Read, Write};
 
@@ -25,6 +26,7 @@ struct FileKey<'a> {
 
 // Seals the messages of the records that follow the old file's prefix and header. Both streams have the same length at
 // each record, so what fits into the old one fits into the new one.
+#[tactic(auto, using(crate::proofs::Rekeying::next_fits))]
 fn rekey_under<'a, R: Read, W: Write, A: Allocator + Copy>(
     alloc: A,
     from: FileKey<'a>,
@@ -51,8 +53,7 @@ fn rekey_under<'a, R: Read, W: Write, A: Allocator + Copy>(
     let mut opener = RecordOpener::begin_at(from.key, from.prefix, context, FIRST);
     let FileKey { key, prefix } = to;
     let mut out = Vec::new(alloc);
-    out.extend_from_slice(prefix)?;
-    let mut sealer = RecordSealer::new(key, prefix, context, &mut out)?;
+    let mut sealer = begin(key, prefix, context, &mut out)?;
     let mut buffer = Vec::new(alloc);
     'records: loop {
         let opened = next_message(input, &mut opener, &mut buffer)?;

@@ -1,15 +1,21 @@
 //! Sealing a file, from a reader to a writer.
 
-ghost use Rattle.std.specs.Prelude.{◌≡◌, ◌+◌, ◌≤◌, IfErr, IfOk, IfSome, List, OnOk, length, ℕ};
-ghost use Rattle.std.specs.Io.KnownBytes.{Appends};
+ghost use Rattle.std.specs.Prelude.{◌≡◌, ◌+◌, ◌<◌, ◌≤◌, ◌++◌, IfErr, IfOk, IfSome, List, OnOk, length, ℕ};
+ghost use Rattle.std.specs.Io.KnownBytes.{Appends, Consumes, IsAtEnd};
 ghost use Rattle.std.specs.List.{AllByRecursion};
-ghost use Rattle.aegis_files.specs.SealedFile.{IsFileOf, IsPiece, WritesFileBeginning};
+ghost use Rattle.aegis.specs.Calls.{message_at};
+ghost use Rattle.aegis.specs.Progress.{progress_at};
+ghost use Rattle.aegis.specs.RecordStream.{first_position, header};
+ghost use Rattle.aegis.specs.declared.record.version.Version.TheVariants.{Second};
+ghost use Rattle.aegis_files.specs.SealedFile.{IsFileOf, IsPiece, IsReadError, WritesFileBeginning};
 
 use crate::error::FileError;
 use crate::reading::fill;
 use crate::write::{write, write_last};
 use aegis::aegis256::Key;
-use aegis::record::{MAX_CONTEXT_BYTES, RECORD_BYTES, RECORD_HEAD_BYTES, RecordSealer};
+use aegis::record::{
+    MAX_CONTEXT_BYTES, RECORD_BYTES, RECORD_HEAD_BYTES, RecordError, RecordSealer,
+};
 use std::alloc::{AllocError, Allocator};
 use std::io::{Read, Write};
 
@@ -21,6 +27,44 @@ fn record_buffer<A: Allocator>(alloc: A) -> Result<Vec<u8, A>, AllocError>
     ensures { IfOk result (λ buffer. length buffer.items ≡ RECORD_BYTES + PIECE_BYTES) }
 {
     vec![in alloc; 0; RECORD_BYTES as usize + PIECE_BYTES]
+}
+
+// Reads a piece to its place in the buffer, and returns how many bytes it has.
+#[tactic(auto, using(std::proofs::lemmas::Grind::common_steps, crate::proofs::Sealing::piece_laws))]
+fn read_piece<R: Read, A: Allocator>(
+    input: &mut R,
+    buffer: &mut Vec<u8, A>,
+) -> Result<usize, FileError>
+    requires { length buffer.old.items ≡ RECORD_BYTES + PIECE_BYTES }
+    ensures room { length buffer.new.items ≡ RECORD_BYTES + PIECE_BYTES }
+    ensures within { IfOk result (λ n. n ≤ PIECE_BYTES) }
+    ensures read { IfOk result (λ n. Consumes (R.remaining input.old) (R.remaining input.new)
+        (message_at n buffer.new.items)) }
+    ensures end { IfOk result (λ n. n < PIECE_BYTES → IsAtEnd (R.remaining input.new)) }
+    ensures err { IfErr result IsReadError }
+{
+    Ok(fill(
+        input,
+        &mut buffer[RECORD_HEAD_BYTES..RECORD_HEAD_BYTES + PIECE_BYTES],
+    )?)
+}
+
+// Appends the prefix and the header of a file, and returns the sealer of its records.
+pub(crate) fn begin<'a, A: Allocator>(
+    key: &'a Key,
+    prefix: &'a [u8; 24],
+    context: &'a [u8],
+    out: &mut Vec<u8, A>,
+) -> Result<RecordSealer<'a>, FileError>
+    requires { length context.now ≤ MAX_CONTEXT_BYTES }
+    ensures appended { OnOk result
+        (out.new.items ≡ out.old.items ++ (prefix.now ++ header Second)) }
+    ensures progress { IfOk result (λ sealer. sealer
+        ≡ progress_at key.now prefix.now context.now (first_position Second)) }
+    ensures err { IfErr result (λ e. e ≡ FileError.Stream RecordError.OutOfMemory) }
+{
+    out.extend_from_slice(prefix)?;
+    Ok(RecordSealer::new(key, prefix, context, out)?)
 }
 
 /// Seals the whole input: writes the prefix, and then the record stream of the input's pieces. The last message is
@@ -52,12 +96,10 @@ pub fn seal_stream<R: Read, W: Write, A: Allocator + Copy>(
     let mut buffer = record_buffer(alloc)?;
     // The prefix and the header, and later the last record.
     let mut out = Vec::with_capacity(alloc, RECORD_BYTES as usize)?;
-    out.extend_from_slice(prefix)?;
-    let mut sealer = RecordSealer::new(key, prefix, context, &mut out)?;
+    let mut sealer = begin(key, prefix, context, &mut out)?;
     write(output, &out)?;
     'pieces: loop {
-        let piece = &mut buffer[RECORD_HEAD_BYTES..RECORD_HEAD_BYTES + PIECE_BYTES];
-        let count = fill(input, piece)?;
+        let count = read_piece(input, &mut buffer)?;
         if count == 0 {
             out.clear();
             sealer.seal_last(&[], &mut out)?;

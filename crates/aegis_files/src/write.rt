@@ -36,6 +36,7 @@ pub fn write<W: Write>(output: &mut W, bytes: &[u8]) -> Result<(), FileError>
 }
 
 /// Writes the last bytes, and flushes the writer.
+#[tactic(auto, using(crate::proofs::Pieces::last_laws))]
 pub fn write_last<W: Write>(output: &mut W, bytes: &[u8]) -> Result<(), FileError>
     ensures ok { OnOk result (Appends (W.contents output.old) (W.contents output.new) bytes.now) }
     ensures err { IfErr result IsWriteError }

@@ -14,8 +14,8 @@ returns-in_err-open_range-clause-refused g c =
 
 pub returns-clause-opened : goal.returns-clause-opened
 returns-clause-opened g c =
-    ends_file _ c.in_ok-prefix.prefix _ _ _ _ _ _ _ _ c.end.result c.in_ok-prefix.ensures.long c.in_ok-prefix.ensures.read c.in_ok-open_range.ensures.opened c.end.ensures.read c.end.ensures.end
+    ends_file _ c.in_ok-prefix.prefix _ _ _ _ _ _ _ c.end.result c.in_ok-prefix.ensures.long c.in_ok-prefix.ensures.read c.in_ok-open_range.ensures.opened c.end.ensures.end
 
 pub returns-clause-refused : goal.returns-clause-refused
 returns-clause-refused g c =
-    fails_end _ c.in_ok-prefix.prefix _ _ _ _ _ _ _ _ c.end.result c.in_ok-prefix.ensures.long c.in_ok-prefix.ensures.read c.in_ok-open_range.ensures.opened c.end.ensures.err
+    fails_end _ c.in_ok-prefix.prefix _ _ _ _ _ _ _ c.end.result c.in_ok-prefix.ensures.long c.in_ok-prefix.ensures.read c.in_ok-open_range.ensures.opened c.end.ensures.err
