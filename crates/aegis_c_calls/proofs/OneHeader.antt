@@ -6,8 +6,7 @@ use Rattle.aegis_pages.specs.Headers.{header_plaintext}
 use Rattle.aegis_pages.specs.Layouts.{Layout, OpensAt, sealed_bytes}
 use Rattle.aegis_pages.specs.declared.header.FileHeader.{FileHeader}
 use Rattle.aegis_pages.specs.declared.layout.TheConstants.{HEADER_NUMBER}
-use Rattle.aegis_pages.proofs.SealedFacts.{opens_one}
-use Rattle.aegis_pages.proofs.HeaderFacts.{one_layout, one_contents}
+use Rattle.aegis_pages.proofs.SealedFacts.{one_contents, one_layout, opens_one}
 use Rattle.aegis_storage.specs.Bytes.{part_at}
 use Rattle.aegis_c_calls.specs.PageCalls.{HasHeader, file_of, header_of}
 

@@ -1,11 +1,13 @@
 -- Contents in a map.
-use Rattle.std.proofs.Common.{Equal, Greater, Less, Ordering, is_eq, nat_cmp, ◌≡◌, ◌≢◌, ℕ, ◌*◌, ◌<◌, ◌≤◌, Bool, true, false, cond, List, [], ◌∷◌, ◌++◌, None, Some, length, map, option_map, refl, sym, ap, ◌∙◌}
-use Rattle.std.proofs.lemmas.Cmp.{ranked}
+use Rattle.std.proofs.lemmas.Bool.Decides.{nat_tests}
+use Rattle.std.proofs.Common.{arith}
+use Rattle.std.proofs.Common.{Equal, Greater, Less, Ordering, nat_cmp, ◌≡◌, ◌≢◌, ℕ, ◌*◌, ◌≤◌, Bool, false, List, [], ◌∷◌, ◌++◌, None, Some, length, map, option_map, ap, ◌∙◌}
 use Rattle.std.specs.List.{All, AllByRecursion}
 use Rattle.std.proofs.lemmas.List.Elements.{All-head, All-tail}
+use Rattle.std.proofs.lemmas.Map.Made.{lookup-map_values}
 use Rattle.std.specs.BTreeMap.{BTreeMap, get, get_by, insert_entry, is_at}
 use Rattle.std.specs.Map.{lookup}
-use Rattle.std.specs.Ordering.{MatchOrdering, match_ordering}
+use Rattle.std.specs.Ordering.{match_ordering}
 use Rattle.aegis_pages.specs.declared.changes.PageContents.{PageContents}
 use Rattle.aegis_pages.specs.declared.layout.TheConstants.{MAX_CONTENTS_BYTES}
 use Rattle.aegis_pages.specs.Changed.{Plaintexts, contents_at, plaintexts_in}
@@ -16,22 +18,11 @@ abbrev pub plaintexts_of : {A : Type 0} → List (ℕ × PageContents A) → Pla
 plaintexts_of es = map (λ e. (e.0, e.1.bytes.items)) es
 
 pub lookup_map : {A : Type 0} (test : ℕ → Bool) (es : List (ℕ × PageContents A)) → lookup test (plaintexts_of es) ≡ option_map (λ t. t.bytes.items) (lookup test es)
-lookup_map test [] = refl
-lookup_map {A} test (e ∷ es) = cases (test e.0) (lookup_map test es)
-  where
-    cases : (b : Bool) → lookup test (plaintexts_of es) ≡ option_map (λ (t : PageContents A). t.bytes.items) (lookup test es)
-        → cond b (Some e.1.bytes.items) (lookup test (plaintexts_of es)) ≡ option_map (λ (t : PageContents A). t.bytes.items) (cond b (Some e.1) (lookup test es))
-    cases true rest = refl
-    cases false rest = rest
+lookup_map test es = lookup-map_values (λ t. t.bytes.items) test es
 
 -- a number that is another one
 pub not_at : (x y : ℕ) → y ≢ x → is_at (nat_cmp x) y ≡ false
-not_at x y apart = cases (nat_cmp x y) (ranked x y (nat_cmp x y) refl)
-  where
-    cases : (r : Ordering) → MatchOrdering r (x < y) (x ≡ y) (y < x) → is_eq r ≡ false
-    cases Less m = refl
-    cases Equal m = absurd (apart (sym m))
-    cases Greater m = refl
+not_at x y apart = grind (arith, nat_tests)
 
 pub fit_inserted : {A : Type 0} (size : ℕ) (es : List (ℕ × PageContents A)) (k : ℕ) (v : PageContents A) → length v.bytes.items ≡ size → k * size ≤ MAX_CONTENTS_BYTES
     → FitPages size (plaintexts_of es) → FitPages size (plaintexts_of (insert_entry nat_cmp es k v))
@@ -46,11 +37,7 @@ fit_inserted {A} size (e ∷ es) k v long within fit = cases (nat_cmp k e.0) (fi
 -- what is known of contents that are there
 pub fits_at : (size : ℕ) (plaintexts : Plaintexts) (test : ℕ → Bool) (contents : List ℕ) → FitPages size plaintexts → lookup test plaintexts ≡ Some contents → length contents ≡ size
 fits_at size [] test contents fit is = absurd (cc)
-fits_at size (e ∷ es) test contents fit is = cases (test e.0) (fits_at size es test contents fit.1) is
-  where
-    cases : (b : Bool) → (lookup test es ≡ Some contents → length contents ≡ size) → cond b (Some e.1) (lookup test es) ≡ Some contents → length contents ≡ size
-    cases true rest found = let same : e.1 ≡ contents = cc in ap length (sym same) ∙ fit.0.0
-    cases false rest found = rest found
+fits_at size (e ∷ es) test contents fit is = grind (arith, fits_at size es test contents fit.1)
 
 -- ---- what a map has
 
@@ -62,8 +49,7 @@ none_in {A} plaintexts k is = lookup_map (is_at (nat_cmp k)) plaintexts.entries 
 
 pub other_in : {A : Type 0} (old new : BTreeMap ℕ (PageContents A)) (number k : ℕ) → k ≢ number → ((q : ℕ) → is_at (nat_cmp number) q ≡ false → get nat_cmp new q ≡ get nat_cmp old q)
     → contents_at (plaintexts_in new) k ≡ contents_at (plaintexts_in old) k
-other_in {A} old new number k apart same =
-    lookup_map (is_at (nat_cmp k)) new.entries ∙ ap (option_map (λ (x : PageContents A). x.bytes.items)) (same k (not_at number k apart)) ∙ sym (lookup_map (is_at (nat_cmp k)) old.entries)
+other_in {A} old new number k apart same = grind (arith, lookup_map, not_at, same)
 
 -- one entry among others
 pub fit_item : (size : ℕ) (done rest : Plaintexts) (k : ℕ) (t : List ℕ) → FitPages size (done ++ (k, t) ∷ rest) → (length t ≡ size) × (k * size ≤ MAX_CONTENTS_BYTES)
@@ -78,3 +64,6 @@ have_one {A} m (e ∷ es) all = (
   found_in m e.0 e.1 (All-head (λ (x : ℕ × PageContents A). get nat_cmp m x.0 ≡ Some x.1) e es all),
   have_one m es (All-tail (λ (x : ℕ × PageContents A). get nat_cmp m x.0 ≡ Some x.1) e es all),
 )
+
+-- what a copy of the contents of a page uses
+pub ruleset copied_laws = (found_in, none_in, fits_at)

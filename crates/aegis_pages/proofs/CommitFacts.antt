@@ -1,43 +1,42 @@
--- The writes of a commit that a header began or ended, and the header that a file begins with.
-use Rattle.std.proofs.Common.{◌≡◌, ℕ, ◌+◌, ◌-◌, ◌<◌, ◌≤◌, ◌⊎◌, inl, inr, List, [], ◌∷◌, ◌++◌, drop, get_or, length, replicate, take, refl, sym, ap, ◌∙◌, arith}
+-- The writes of a commit: pages and headers, and the header that a file begins with.
+use Rattle.std.proofs.Common.{◌≡◌, ℕ, ◌+◌, ◌-◌, ◌<◌, ◌≤◌, ◌⊎◌, inl, inr, List, [], ◌∷◌, ◌++◌, drop, get_or, length, take, refl, sym, ap, ◌∙◌, arith, nat_cmp, Bool, true, false, cond, Option, None, Some, subst}
 use Rattle.std.proofs.lemmas.List.{get_or-append_right, get_or-map, length-append, length-map, length-take, take-append-drop, take-take, take_all}
-use Rattle.aegis_base.specs.Variant.{Family, Family128, Family256, Variant, key_length}
+use Rattle.aegis_base.specs.Variant.{Variant}
 use Rattle.aegis_storage.specs.Bytes.{overwritten, part_at}
 use Rattle.aegis_storage.specs.declared.pending.PendingWrite.{PendingWrite}
-use Rattle.aegis_storage.specs.Disk.{Writes}
+use Rattle.aegis_storage.specs.Disk.{Writes, after_writes}
 use Rattle.aegis_storage.specs.Pending.{writes_of}
 use Rattle.aegis_storage.proofs.Lists.{writes_taken}
 use Rattle.aegis_pages.specs.Commits.{IsOfCommit, head_bytes, head_of}
+use Rattle.std.proofs.lemmas.Bool.{cases_lt}
+use Rattle.std.proofs.lemmas.Bool.Decides.{nat_tests}
+use Rattle.std.specs.BTreeMap.{is_at}
+use Rattle.std.specs.List.{AllByRecursion}
+use Rattle.std.proofs.Math.Nat.{mul-le-mul_right}
+use Rattle.aegis_storage.proofs.Disks.{written_more}
+use Rattle.aegis_storage.proofs.Overwriting.{kept_part, length-overwritten, put_part}
+use Rattle.aegis_pages.specs.Changed.{Plaintexts, contents_at}
+use Rattle.aegis_pages.specs.Headers.{IsHeader, IsHeaderBlock}
+use Rattle.aegis_pages.specs.Layouts.{Layout, OpensAt, sealed_bytes, page_at, page_place}
+use Rattle.aegis_pages.specs.SealedPages.{ArePages, Changes, IsSealed, Shows, unchanged}
+use Rattle.aegis_pages.specs.Sealing.{HaveOnePlaintext, IsSealOf, Seals}
 
 pub begins_first : {A : Type 0} (writes : List (PendingWrite A)) (w : PendingWrite A) (head : List ℕ) → 0 < length writes → w ≡ get_or writes 0 w → w.place ≡ 0 → take (length head) w.bytes.items ≡ head
     → IsOfCommit head (writes_of writes)
 begins_first [] w head some is zero beginning = absurd (omega arith)
-begins_first {A} (v ∷ vs) w head some is zero beginning =
-    let first : (v.place, v.bytes.items) ≡ (0, w.bytes.items) =
-    ap (λ (x : PendingWrite A). (x.place, x.bytes.items)) (sym is) ∙ ap (λ (n : ℕ). (n, w.bytes.items)) zero in
-    inl (w.bytes.items, writes_of vs, ap (λ (x : ℕ × List ℕ). x ∷ writes_of vs) first, beginning)
+begins_first {A} (v ∷ vs) w head some is zero beginning = inl (w.bytes.items, writes_of vs, cc, beginning)
 
 pub begins_last : {A : Type 0} (writes : List (PendingWrite A)) (w : PendingWrite A) (head : List ℕ) (n : ℕ) → n + 1 ≡ length writes → w ≡ get_or writes n w → w.place ≡ 0 → take (length head) w.bytes.items ≡ head
     → IsOfCommit head (writes_of writes)
 begins_last writes w head n last is zero beginning =
-    let low : n < length writes = omega (arith, last) in
-    inr (
-      w.bytes.items,
-      writes_of (take n writes),
-      ap writes_of (sym (take_all (n + 1) writes (omega (arith, last)))) ∙ writes_taken writes n w w.bytes.items low is refl
-          ∙ ap (λ (k : ℕ). writes_of (take n writes) ++ (k, w.bytes.items) ∷ []) zero,
-      beginning,
-    )
+    inr (w.bytes.items, writes_of (take n writes), grind (arith, take_all (n + 1) writes, writes_taken writes n w w.bytes.items), beginning)
 
 -- ---- and the other way round
 
 first_is : {A : Type 0} (writes : List (PendingWrite A)) (w : PendingWrite A) (header_block : List ℕ) (rest : Writes) → w ≡ get_or writes 0 w → writes_of writes ≡ (0, header_block) ∷ rest
     → (w.place ≡ 0) × (w.bytes.items ≡ header_block)
 first_is [] w header_block rest is all = absurd (cc)
-first_is {A} (v ∷ vs) w header_block rest is all =
-    let same : (v.place, v.bytes.items) ≡ (0, header_block) = cc in
-    let here : (w.place, w.bytes.items) ≡ (0, header_block) = ap (λ (x : PendingWrite A). (x.place, x.bytes.items)) is ∙ same in
-    (ap (λ (x : ℕ × List ℕ). x.0) here, ap (λ (x : ℕ × List ℕ). x.1) here)
+first_is {A} (v ∷ vs) w header_block rest is all = (grind arith, grind arith)
 
 last_is : {A : Type 0} (writes : List (PendingWrite A)) (w : PendingWrite A) (n : ℕ) (header_block : List ℕ) (before : Writes) → n + 1 ≡ length writes → w ≡ get_or writes n w
     → writes_of writes ≡ before ++ (0, header_block) ∷ [] → (w.place ≡ 0) × (w.bytes.items ≡ header_block)
@@ -66,25 +65,176 @@ of_none [] head none (inl of) = absurd (let some = of.2 in cc)
 of_none [] head none (inr of) = absurd (let some = ap length of.2 in omega (arith, some, length-append of.1 ((0, of.0) ∷ [])))
 of_none (w ∷ ws) head none of = absurd (omega (arith, none))
 
+-- what the first and the last write tell
+pub ruleset first_or_last_laws = (begins_first, begins_last, of_first_or_last, of_none)
+
 -- ---- the header that a file begins with
 
 -- it is read in one header block
 pub head_read : (variant : Variant) (file header_block : List ℕ) → header_block ≡ part_at file 0 512 → take (head_bytes variant) header_block ≡ head_of variant file
-head_read variant file header_block is =
-    ap (take (head_bytes variant)) is ∙ take-take (head_bytes variant) 512 (drop 0 file) (let most = key_most variant.family in omega (arith, most))
-  where
-    key_most : (family : Family) → key_length family ≤ 32
-    key_most Family128 = omega arith
-    key_most Family256 = omega arith
+head_read variant file header_block is = ap (take (head_bytes variant)) is ∙ take-take (head_bytes variant) 512 (drop 0 file) (grind arith)
 
 pub take_own : (n : ℕ) (xs : List ℕ) → take (length (take n xs)) xs ≡ take n xs
-take_own n xs =
-    sym (take-take (length (take n xs)) n xs (omega (arith, length-take n xs))) ∙ take_all (length (take n xs)) (take n xs) (omega arith)
+take_own n xs = grind (arith, length-take, take-take, take_all)
 
 -- bytes that are written over themselves
 pub first_again : (xs : List ℕ) (n : ℕ) → overwritten xs 0 (part_at xs 0 n) ≡ xs
-first_again xs n =
-    let none : 0 - length xs ≡ 0 = omega arith in
-    let zero : 0 + length (take n xs) ≡ length (take n xs) = omega arith in
-    ap (λ (k : ℕ). replicate k 0 ++ (take n xs ++ drop (0 + length (take n xs)) xs)) none
-    ∙ ap (λ (k : ℕ). take n xs ++ drop k xs) zero ∙ ap (λ (l : List ℕ). l ++ drop (length (take n xs)) xs) (sym (take_own n xs)) ∙ take-append-drop (length (take n xs)) xs
+first_again xs n = grind (arith, take_own, take-append-drop)
+
+-- ---- pages that a commit writes
+
+-- ---- places
+
+-- two pages lie apart
+pub places_apart : (layout : Layout) (j k : ℕ) → j < k → page_place layout j + sealed_bytes layout layout.page_bytes ≤ page_place layout k
+places_apart layout j k below = grind (arith, mul-le-mul_right)
+
+-- a page is as it was after the write of another one
+other_page : (layout : Layout) (k number place : ℕ) (file sealed : List ℕ) → (k < number) ⊎ (number < k) → place ≡ page_place layout number → length sealed ≡ sealed_bytes layout layout.page_bytes
+    → length (page_at layout file k) ≡ sealed_bytes layout layout.page_bytes → page_at layout (overwritten file place sealed) k ≡ page_at layout file k
+other_page layout k number place file sealed apart is long whole =
+    grind (arith, is, long, whole, kept_part file place sealed (page_place layout k) (sealed_bytes layout layout.page_bytes), places_apart layout k number, places_apart layout number k)
+
+-- the page that was written
+this_page : (layout : Layout) (number place : ℕ) (file sealed : List ℕ) → place ≡ page_place layout number → length sealed ≡ sealed_bytes layout layout.page_bytes
+    → page_at layout (overwritten file place sealed) number ≡ sealed
+this_page layout number place file sealed is long = grind (arith, put_part)
+
+-- ---- pages after the writes
+
+-- the page that was written shows its contents
+written_here : (layout : Layout) (number : ℕ) (contents : List ℕ) (place : ℕ) (sealed file : List ℕ) (k : ℕ) (m : List ℕ) → IsSealOf layout number contents place sealed
+    → number ≡ k → contents ≡ m → Shows layout None (overwritten file place sealed) k m
+written_here layout number contents place sealed file k m seal here same =
+    let is = this_page layout number place file sealed seal.place_is seal.size in
+    subst (λ (j : ℕ). Shows layout None (overwritten file place sealed) j m) here
+    (subst (Shows layout None (overwritten file place sealed) number) same
+    (ap length is ∙ seal.size, subst (λ (l : List ℕ). OpensAt layout number l contents) (sym is) seal.opens))
+
+-- a page of the file that shows m shows it after a page was written, if that is another one, or the same and m
+shows_after : (layout : Layout) (number : ℕ) (contents : List ℕ) (place : ℕ) (sealed file : List ℕ) (k : ℕ) (m : List ℕ) → IsSealOf layout number contents place sealed
+    → (number ≡ k → contents ≡ m) → Shows layout None file k m → Shows layout None (overwritten file place sealed) k m
+shows_after layout number contents place sealed file k m seal same shows = elim (cases_lt k number) [ inl below ↦ kept (inl below) | inr from ↦ elim (cases_lt number k) [ inl above ↦ kept (inr above) | inr to ↦ (let here : number ≡ k = omega arith in written_here layout number contents place sealed file k m seal here (same here)) ] ]
+  where
+    kept : (k < number) ⊎ (number < k) → Shows layout None (overwritten file place sealed) k m
+    kept apart =
+        let is = other_page layout k number place file sealed apart seal.place_is seal.size shows.0 in
+        (ap length is ∙ shows.0, rw is shows.1)
+
+-- page k has no other contents than m among these
+abbrev OnlyShows : ℕ → List ℕ → Plaintexts → Type 0
+OnlyShows k m plaintexts = AllByRecursion (λ e. e.0 ≡ k → e.1 ≡ m) plaintexts
+
+shows_still : (layout : Layout) (plaintexts : Plaintexts) (writes : Writes) (file : List ℕ) (k : ℕ) (m : List ℕ) → Seals layout plaintexts writes → OnlyShows k m plaintexts
+    → Shows layout None file k m → Shows layout None (after_writes writes file) k m
+shows_still layout [] [] file k m seals only shows = shows
+shows_still layout [] (w ∷ ws) file k m seals only shows = absurd seals
+shows_still layout (e ∷ es) [] file k m seals only shows = absurd seals
+shows_still layout (e ∷ es) (w ∷ ws) file k m seals only shows =
+    shows_still layout es ws (overwritten file w.0 w.1) k m seals.1 only.1 (shows_after layout e.0 e.1 w.0 w.1 file k m seals.0 only.0 shows)
+
+found_at : (x y : ℕ) → is_at (nat_cmp x) y ≡ true → y ≡ x
+found_at x y is = grind (arith, nat_tests)
+
+shows_found : (layout : Layout) (plaintexts : Plaintexts) (writes : Writes) (file : List ℕ) (k : ℕ) (m : List ℕ) → Seals layout plaintexts writes → OnlyShows k m plaintexts
+    → contents_at plaintexts k ≡ Some m → Shows layout None (after_writes writes file) k m
+shows_found layout [] writes file k m seals only is = absurd (cc)
+shows_found layout (e ∷ es) [] file k m seals only is = absurd seals
+shows_found layout (e ∷ es) (w ∷ ws) file k m seals only is =
+    cases (is_at (nat_cmp k) e.0) refl (shows_found layout es ws (overwritten file w.0 w.1) k m seals.1 only.1) is
+  where
+    cases : (b : Bool) → is_at (nat_cmp k) e.0 ≡ b → (contents_at es k ≡ Some m → Shows layout None (after_writes ws (overwritten file w.0 w.1)) k m) → cond b (Some e.1) (contents_at es k) ≡ Some m → Shows layout None (after_writes ws (overwritten file w.0 w.1)) k m
+    cases true at rest found =
+        let here : e.0 ≡ k = found_at k e.0 at in
+        shows_still layout es ws (overwritten file w.0 w.1) k m seals.1 only.1 (written_here layout e.0 e.1 w.0 w.1 file k m seals.0 here (only.0 here))
+    cases false at rest found = rest found
+
+-- ---- one plaintext for each page
+
+only_one : (all plaintexts : Plaintexts) (k : ℕ) (m : List ℕ) → AllByRecursion (λ e. contents_at all e.0 ≡ Some e.1) plaintexts → contents_at all k ≡ Some m → OnlyShows k m plaintexts
+only_one all [] k m one is = tt
+only_one all (e ∷ es) k m one is = (λ here. grind (arith, one.0), only_one all es k m one.1 is)
+
+only_none : (all plaintexts : Plaintexts) (k : ℕ) (m : List ℕ) → AllByRecursion (λ e. contents_at all e.0 ≡ Some e.1) plaintexts → contents_at all k ≡ None → OnlyShows k m plaintexts
+only_none all [] k m one is = tt
+only_none all (e ∷ es) k m one is = (λ here. grind (arith, one.0), only_none all es k m one.1 is)
+
+pub shows_sealed : (layout : Layout) (plaintexts : Plaintexts) (writes : Writes) (file : List ℕ) (k : ℕ) (m : List ℕ) → Seals layout plaintexts writes → HaveOnePlaintext plaintexts
+    → Shows layout (contents_at plaintexts k) file k m → Shows layout None (after_writes writes file) k m
+shows_sealed layout plaintexts writes file k m seals one shows = cases (contents_at plaintexts k) refl shows
+  where
+    cases : (o : Option (List ℕ)) → contents_at plaintexts k ≡ o → Shows layout o file k m → Shows layout None (after_writes writes file) k m
+    cases None is s = shows_still layout plaintexts writes file k m seals (only_none plaintexts plaintexts k m one is) s
+    cases (Some t) is s = shows_found layout plaintexts writes file k m seals (only_one plaintexts plaintexts k m one (is ∙ ap Some (sym s))) (is ∙ ap Some (sym s))
+
+pub pages_sealed : (layout : Layout) (plaintexts : Plaintexts) (writes : Writes) (contents file : List ℕ) → Seals layout plaintexts writes → HaveOnePlaintext plaintexts
+    → ArePages layout (contents_at plaintexts) contents file → ArePages layout unchanged contents (after_writes writes file)
+pages_sealed layout plaintexts writes contents file seals one are = record {
+  page = λ k low.
+      let page = are.page k low in
+      record { message = page.message; shows = shows_sealed layout plaintexts writes file k page.message seals one page.shows; bytes = page.bytes };
+}
+
+-- one more page
+pub seals_more : (layout : Layout) (plaintexts : Plaintexts) (writes : Writes) (number : ℕ) (contents : List ℕ) (place : ℕ) (sealed : List ℕ) → Seals layout plaintexts writes
+    → IsSealOf layout number contents place sealed → Seals layout (plaintexts ++ (number, contents) ∷ []) (writes ++ (place, sealed) ∷ [])
+seals_more layout [] [] number contents place sealed seals seal = (seal, tt)
+seals_more layout [] (w ∷ ws) number contents place sealed seals seal = absurd seals
+seals_more layout (e ∷ es) [] number contents place sealed seals seal = absurd seals
+seals_more layout (e ∷ es) (w ∷ ws) number contents place sealed seals seal = (seals.0, seals_more layout es ws number contents place sealed seals.1 seal)
+
+-- ---- the header
+
+-- a page is as it was after the header was written
+header_shows : (layout : Layout) (header_block file : List ℕ) (k : ℕ) (m : List ℕ) → length header_block ≡ 512 → Shows layout None file k m → Shows layout None (overwritten file 0 header_block) k m
+header_shows layout header_block file k m long shows =
+    let is : page_at layout (overwritten file 0 header_block) k ≡ page_at layout file k =
+    kept_part file 0 header_block (page_place layout k) (sealed_bytes layout layout.page_bytes) (inr (omega (arith, long))) shows.0 in
+    (ap length is ∙ shows.0, subst (λ (l : List ℕ). OpensAt layout k l m) (sym is) shows.1)
+
+pub header_written : (layout : Layout) (counter len : ℕ) (header_block file : List ℕ) → length header_block ≡ 512 → IsHeaderBlock layout counter len header_block → IsHeader layout counter len (overwritten file 0 header_block)
+header_written layout counter len header_block file long is = record {
+  whole = omega (arith, long, length-overwritten file 0 header_block);
+  is = subst (IsHeaderBlock layout counter len) (sym (ap (part_at (overwritten file 0 header_block) 0) (sym long) ∙ put_part file 0 header_block)) is;
+}
+
+header_pages : (layout : Layout) (changes : Changes) (header_block contents file : List ℕ) → length header_block ≡ 512 → ArePages layout changes contents file → ArePages layout changes contents (overwritten file 0 header_block)
+header_pages layout changes header_block contents file long are = record {
+  page = λ k low.
+      let page = are.page k low in
+      record { message = page.message; shows = any (changes k) k page.message page.shows; bytes = page.bytes };
+}
+  where
+    any : (o : Option (List ℕ)) (k : ℕ) (m : List ℕ) → Shows layout o file k m → Shows layout o (overwritten file 0 header_block) k m
+    any None k m shows = header_shows layout header_block file k m long shows
+    any (Some t) k m shows = shows
+
+-- the header block of before, the pages, and the header
+pub commit_sealed : (layout : Layout) (counter len : ℕ) (plaintexts : Plaintexts) (first more made all : Writes) (start place : ℕ) (before header_block contents file : List ℕ) → Seals layout plaintexts more → HaveOnePlaintext plaintexts
+    → first ≡ (start, before) ∷ [] → start ≡ 0 → length before ≡ 512 → made ≡ first ++ more → all ≡ made ++ (place, header_block) ∷ [] → place ≡ 0 → length header_block ≡ 512
+    → IsHeaderBlock layout counter len header_block → length contents ≡ len → ArePages layout (contents_at plaintexts) contents file → IsSealed layout counter contents (after_writes all file)
+commit_sealed layout counter len plaintexts first more made all start place before header_block contents file seals one begins at long ends is zero size header len_is are =
+    let begun : List ℕ = overwritten file 0 before in
+    let all_is : after_writes all file ≡ overwritten (after_writes more begun) 0 header_block = rw (is, ends, begins, at, zero) (written_more ((0, before) ∷ more) 0 header_block file) in
+    let pages = pages_sealed layout plaintexts more contents begun seals one (header_pages layout (contents_at plaintexts) before contents file long are) in
+    subst (IsSealed layout counter contents) (sym all_is) (record {
+      header = subst (λ (n : ℕ). IsHeader layout counter n (overwritten (after_writes more begun) 0 header_block)) (sym len_is) (header_written layout counter len header_block (after_writes more begun) size header);
+      pages = header_pages layout unchanged header_block contents (after_writes more begun) size pages;
+    })
+
+-- ---- the headers of a commit
+
+pub starts_commit : (variant : Variant) (first more made all : Writes) (before : List ℕ) (place : ℕ) (header_block : List ℕ) → first ≡ (0, before) ∷ [] → made ≡ first ++ more → all ≡ made ++ (place, header_block) ∷ []
+    → IsOfCommit (take (head_bytes variant) before) all
+starts_commit variant first more made all before place header_block begins long ends = inl (before, more ++ (place, header_block) ∷ [], cc, take_own (head_bytes variant) before)
+
+pub ends_commit : (variant : Variant) (made all : Writes) (place : ℕ) (header_block file : List ℕ) → all ≡ made ++ (place, header_block) ∷ [] → place ≡ 0 → length header_block ≡ 512
+    → IsOfCommit (head_of variant (after_writes all file)) all
+ends_commit variant made all place header_block file ends zero long =
+    let last : all ≡ made ++ (0, header_block) ∷ [] = ends ∙ ap (λ (n : ℕ). made ++ (n, header_block) ∷ []) zero in
+    let there : header_block ≡ part_at (after_writes all file) 0 512 =
+    sym (
+    ap (λ (l : Writes). part_at (after_writes l file) 0 512) last ∙ ap (λ (l : List ℕ). part_at l 0 512) (written_more made 0 header_block file)
+    ∙ ap (part_at (overwritten (after_writes made file) 0 header_block) 0) (sym long) ∙ put_part (after_writes made file) 0 header_block
+    ) in
+    subst (λ (l : List ℕ). IsOfCommit l all) (head_read variant (after_writes all file) header_block there) (inr (header_block, made, last, take_own (head_bytes variant) header_block))

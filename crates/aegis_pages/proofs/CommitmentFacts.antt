@@ -1,5 +1,5 @@
 -- Commitments: the tag of a page as it is read, the input of the MAC as it grows, and the commitment of a file that was opened.
-use Rattle.std.proofs.Common.{◌≡◌, ℕ, ◌+◌, ◌-◌, List, [], ◌++◌, Option, None, Some, IfSome, drop, length, refl, replicate, take, sym, ap, subst, ◌∙◌, add-one, append_assoc, append-nil, arith}
+use Rattle.std.proofs.Common.{◌≡◌, ℕ, ◌+◌, ◌-◌, List, [], ◌++◌, Option, None, Some, IfSome, drop, length, replicate, take, sym, ap, subst, ◌∙◌, append_assoc, append-nil, arith}
 use Rattle.std.proofs.lemmas.List.{drop-drop, drop-take, length-append, length-drop, length-take}
 use Rattle.std.specs.Int.{to_le_bytes, w64}
 use Rattle.aegis_base.specs.Mac.{mac}
@@ -7,10 +7,10 @@ use Rattle.aegis_base.specs.Context.{Stands}
 use Rattle.aegis_base.specs.Variant.{Variant}
 use Rattle.aegis_engine.specs.Saved.{IsSaved}
 use Rattle.aegis_engine.specs.declared.saved.SavedContext.{SavedContext}
-use Rattle.aegis_pages.specs.Commitments.{HasOneCommitment, commitment, committed, page_count, page_tag, page_tags}
+use Rattle.aegis_pages.specs.Commitments.{HasOneCommitment, commitment, page_count, page_tag, page_tags}
 use Rattle.aegis_aes.specs.Lanes.{IsLaneCount}
 use Rattle.aegis_pages.specs.Headers.{IsHeader}
-use Rattle.aegis_pages.proofs.HeaderFacts.{one_in_file}
+use Rattle.aegis_pages.proofs.SealedFacts.{one_in_file}
 use Rattle.aegis_pages.specs.Layouts.{Layout, plaintext_header, nonce_bytes}
 
 -- the last 32 bytes of a sealed page of m + 32 bytes, if they are all there
@@ -38,27 +38,24 @@ pub saved_so : (v : Variant) (context : SavedContext) (key key' nonce nonce' x :
 saved_so v context key key' nonce nonce' x p q saved = subst (λ (n : List ℕ). IsSaved v context key' n [] x) q (subst (λ (k : List ℕ). IsSaved v context k nonce [] x) p saved)
 
 -- the length of what was taken in before the tags
-pub length-begun : (a b c : List ℕ) → length a ≡ 33 → length b ≡ 8 → length c ≡ 8 → length ((a ++ b) ++ c) ≡ 49
-length-begun a b c p q r = omega (arith, p, q, r, length-append (a ++ b) c, length-append a b)
+pub length_begun : (a b c : List ℕ) → length a ≡ 33 → length b ≡ 8 → length c ≡ 8 → length ((a ++ b) ++ c) ≡ 49
+length_begun a b c p q r = omega (arith, p, q, r, length-append (a ++ b) c, length-append a b)
+
+-- what taking in uses
+pub ruleset saved_laws = (saved_data, saved_message, length_begun)
 
 -- the MAC of all that was taken in
 pub committed_mac : (layout : Layout) (v : Variant) (counter len n : ℕ) (file x result : List ℕ) → layout.variant ≡ v → n ≡ page_count layout len
     → x ≡ plaintext_header layout ++ (to_le_bytes w64 counter ++ (to_le_bytes w64 len ++ page_tags layout file n))
     → result ≡ mac v 32 layout.key (replicate (nonce_bytes layout) 255) x → result ≡ commitment layout counter len file
-committed_mac layout v counter len n file x result variant all is tagged =
-    let input : x ≡ committed layout counter len file =
-    is ∙ ap (λ (k : ℕ). plaintext_header layout ++ (to_le_bytes w64 counter ++ (to_le_bytes w64 len ++ page_tags layout file k))) all in
-    tagged ∙ ap (λ (w : Variant). mac w 32 layout.key (replicate (nonce_bytes layout) 255) x) (sym variant)
-    ∙ ap (mac layout.variant 32 layout.key (replicate (nonce_bytes layout) 255)) input
+committed_mac layout v counter len n file x result variant all is tagged = grind arith
 
 pub begun : (a a' b b' c c' : List ℕ) → a ≡ a' → b ≡ b' → c ≡ c' → (a ++ b) ++ c ≡ a' ++ (b' ++ (c' ++ []))
 begun a a' b b' c c' p q r = rw (p, q, r) (append_assoc a' b' c' ∙ ap (λ (x : List ℕ). a' ++ (b' ++ x)) (sym (append-nil c')))
 
 pub one_more : (a b c : List ℕ) (layout : Layout) (file tag : List ℕ) (k : ℕ) → tag ≡ page_tag layout file k
     → (a ++ (b ++ (c ++ page_tags layout file k))) ++ tag ≡ a ++ (b ++ (c ++ page_tags layout file (k + 1)))
-one_more a b c layout file tag k is =
-    let more : page_tags layout file (k + 1) ≡ page_tags layout file k ++ page_tag layout file k = rw add-one refl in
-    rw (is, more) (simp append_assoc)
+one_more a b c layout file tag k is = grind (arith, append_assoc)
 
 -- ---- the commitment of a file that was opened
 

@@ -1,5 +1,5 @@
 -- Bytes that are known, or not, and errors.
-use Rattle.std.proofs.Common.{◌≡◌, ℕ, ◌≤◌, ◌≢◌, ◌∙◌, Bool, Err, Result, List, Option, None, Some, IfSome, refl, sym, arith, rules}
+use Rattle.std.proofs.Common.{◌≡◌, ℕ, ◌≤◌, ◌≢◌, ◌∙◌, Bool, Err, Result, List, Option, None, Some, IfNone, IfSome, option_map, refl, sym, arith, rules}
 use Rattle.aegis_pages.specs.declared.error.PagesError.{PagesError}
 use Rattle.aegis_pages.specs.declared.error.PagesError.TheVariants.{Read, Write, Nonce, Header, Damaged, OutOfMemory, Journal, OldJournal, Broken}
 use Rattle.aegis_pages.specs.Errors.{IsReadRefusal, IsBeginError, IsCreateRefusal, IsReadError}
@@ -22,6 +22,15 @@ pub if_both : {X : Type 0} (a b : Option X) (P : Type 0) → ((x y : X) → a �
 if_both None b P f = tt
 if_both (Some x) None P f = tt
 if_both (Some x) (Some y) P f = f x y refl refl
+
+-- the same of what a value is mapped to
+pub mapped_some : {W X : Type 0} (f : W → X) (P : X → Type 0) (o : Option W) → IfSome o (λ w. P (f w)) → IfSome (option_map f o) P
+mapped_some f P None p = tt
+mapped_some f P (Some w) p = p
+
+pub mapped_none : {W X : Type 0} (f : W → X) (P : Type 0) (o : Option W) → IfNone o P → IfNone (option_map f o) P
+mapped_none f P None p = p
+mapped_none f P (Some w) p = tt
 
 -- ---- errors
 

@@ -4,11 +4,7 @@ pub mod ChangedFacts
 pub mod CommitFacts
 pub mod CommitmentFacts
 pub mod ComposeFacts
-pub mod HeaderFacts
 pub mod KnownFacts
-pub mod LayFacts
 pub mod OpenFileFacts
 pub mod RangeFacts
 pub mod RecoveryFacts
-pub mod SealingFacts
-pub mod WriteFacts

@@ -1,23 +1,19 @@
 -- Files that have contents, from call to call.
-use Rattle.std.proofs.Common.{◌≡◌, ℕ, ◌+◌, ◌-◌, ◌*◌, ◌<◌, ◌≤◌, Bool, false, List, [], ◌∷◌, ◌++◌, Option, None, Some, IfSome, OnOk, Result, Ok, Err, get_or, length, max, min, take, refl, sym, ap, subst, ◌∙◌, arith}
-use Rattle.std.proofs.lemmas.List.{append-nil, drop_all, ext_get_or, nil_from_length, take_all}
+use Rattle.std.proofs.Common.{◌≡◌, ℕ, ◌+◌, ◌-◌, ◌<◌, ◌≤◌, Bool, false, List, [], ◌∷◌, ◌++◌, Option, None, Some, IfSome, drop, get_or, length, max, min, take, refl, sym, ap, subst, ◌∙◌, arith}
+use Rattle.std.proofs.lemmas.List.{append-nil, drop_all, ext_get_or, length-append, length-drop, length-take, nil_from_length, take_all}
 use Rattle.aegis_aes.specs.Lanes.{IsLaneCount}
 use Rattle.aegis_storage.specs.Bytes.{ResizesTo, WritesAt, overwritten, part_at, resized}
 use Rattle.aegis_storage.specs.Disk.{Adds, Disk, IsPossible, MakesCertain, Size, Write}
 use Rattle.aegis_storage.proofs.Disks.{left, readable}
 use Rattle.std.specs.Io.KnownBytes.{Keeps}
-use Rattle.aegis_storage.proofs.Overwriting.{length-overwritten, length-part, length-resized, part_byte, put_part, resized_byte}
+use Rattle.aegis_storage.proofs.Overwriting.{kept_part, length-overwritten, length-part, length-resized, part_byte, put_part, resized_byte}
 use Rattle.aegis_pages.specs.Changed.{Plaintexts, contents_at}
 use Rattle.aegis_pages.specs.Headers.{IsHeader, IsHeaderBlock}
 use Rattle.aegis_pages.specs.Layouts.{Layout}
 use Rattle.aegis_pages.specs.OpenFile.{Has, HasIn, IsCertain, IsKnown}
-use Rattle.aegis_pages.specs.SealedPages.{ArePages, IsFileOf, IsPage, IsSealed, WritesContents, unchanged}
-use Rattle.aegis_pages.proofs.HeaderFacts.{one_in_file}
-use Rattle.aegis_pages.proofs.SealingFacts.{header_written}
-
-pub ok_map : {T E P Q : Type 0} (r : Result T E) → (P → Q) → OnOk r P → OnOk r Q
-ok_map (Ok x) f p = f p
-ok_map (Err e) f p = p
+use Rattle.aegis_pages.specs.SealedPages.{ArePages, IsFileOf, IsSealed, WritesContents, unchanged}
+use Rattle.aegis_pages.proofs.SealedFacts.{one_in_file}
+use Rattle.aegis_pages.proofs.CommitFacts.{header_written}
 
 pub has_use : (layout : Layout) (counter stored len : ℕ) (changes : Plaintexts) (broken : Bool) (contents : List ℕ) (o : Option (List ℕ)) (P : List ℕ → Type 0) → IfSome o P
     → HasIn layout counter stored len changes broken contents o → (file : List ℕ) × P file × Has layout counter stored len changes broken contents file
@@ -29,6 +25,9 @@ has_len layout counter stored len changes broken contents None s = absurd s
 has_len layout counter stored len changes broken contents (Some file) s = s.size
 
 -- ---- a part that is written, and a new length
+
+-- what a part leaves as it was
+pub ruleset kept_laws = (kept_part, length-part)
 
 pub wrote : (layout : Layout) (counter stored len at : ℕ) (part : List ℕ) (old new : Plaintexts) (broken : Bool) (next : ℕ) (contents : List ℕ) (o : Option (List ℕ)) → next ≡ max len (at + length part)
     → IfSome o (WritesContents layout len at part (contents_at old) (contents_at new)) → HasIn layout counter stored len old broken contents o
@@ -51,45 +50,31 @@ cut layout counter stored len changes broken new contents (Some file) less s = r
   size = length-resized contents new;
   sound = s.sound;
   header = s.header;
-  pages = record { page = λ k low. page_kept k (subst (λ (n : ℕ). k * layout.page_bytes < n) (length-resized contents new) low) };
+  pages = record {
+    page = λ k low.
+        let page = s.pages.page k (grind (arith, less, s.size, low, length-resized)) in
+        record { message = page.message; shows = page.shows; bytes = λ i near fits. grind (arith, less, s.size, fits, page.bytes i near, length-resized, resized_byte) };
+  };
 }
-  where
-    page_kept : (k : ℕ) → k * layout.page_bytes < new → IsPage layout (contents_at changes k) file k (resized contents new)
-    page_kept k low =
-        let is = s.size in
-        let page = s.pages.page k (let h : k * layout.page_bytes < length contents = omega (arith, low, less, is) in h) in
-        record {
-          message = page.message;
-          shows = page.shows;
-          bytes = λ i near fits.
-              let below : k * layout.page_bytes + i < new = omega (arith, fits, length-resized contents new) in
-              page.bytes i near (omega (arith, below, less, is)) ∙ sym (resized_byte contents new (k * layout.page_bytes + i) below);
-        }
 
 -- ---- contents that are read
 
+-- bytes that were changed in place, and put back before those behind them
+pub put_back : (new items : List ℕ) (n : ℕ) → length new ≡ length items → n ≡ length items → length (take n (new ++ drop (length new) items)) ≡ length items
+put_back new items n same all = grind (arith, length-take, length-append, length-drop)
+
 pub read_so : (contents out : List ℕ) (at : ℕ) → at + length out ≤ length contents → ((i : ℕ) → i < length out → get_or out i 0 ≡ get_or contents (at + i) 0) → out ≡ part_at contents at (length out)
-read_so contents out at within same =
-    ext_get_or 0 out (part_at contents at (length out)) (omega (arith, length-part contents at (length out))) (λ i low. same i low ∙ sym (part_byte contents at (length out) i low))
+read_so contents out at within same = ext_get_or 0 out (part_at contents at (length out)) (grind (arith, length-part)) (λ i low. grind (arith, same i low, part_byte))
 
 -- what was written is read
 pub written_read : (contents part out : List ℕ) (at len n : ℕ) → length (overwritten contents at part) ≡ len → length part ≡ length out → n ≡ min (length out) (len - at)
     → take n out ≡ part_at (overwritten contents at part) at n → out ≡ part
-written_read contents part out at len n long same count is =
-    let all : n ≡ length part = omega (arith, count, same, long, length-overwritten contents at part) in
-    sym (take_all n out (omega (arith, all, same))) ∙ is ∙ ap (part_at (overwritten contents at part) at) all ∙ put_part contents at part
+written_read contents part out at len n long same count is = grind (arith, length-overwritten, take_all, put_part)
 
 pub written_none : (contents part out : List ℕ) (at len : ℕ) → length (overwritten contents at part) ≡ len → length part ≡ length out → len ≤ at → out ≡ part
-written_none contents part out at len long same past =
-    let none : length part ≡ 0 = omega (arith, long, past, length-overwritten contents at part) in
-    nil_from_length out (omega (arith, none, same)) ∙ sym (nil_from_length part none)
+written_none contents part out at len long same past = grind (arith, length-overwritten, nil_from_length)
 
 -- ---- a file with no changes
-
-pages_as : (layout : Layout) (changes : Plaintexts) (contents file : List ℕ) → ((k : ℕ) → contents_at changes k ≡ None) → ArePages layout unchanged contents file → ArePages layout (contents_at changes) contents file
-pages_as layout changes contents file none are = record {
-  page = λ k low. subst (λ (o : Option (List ℕ)). IsPage layout o file k contents) (sym (none k)) (are.page k low);
-}
 
 pub sealed_has : (layout : Layout) (counter len : ℕ) (changes : Plaintexts) (contents file : List ℕ) → ((k : ℕ) → contents_at changes k ≡ None) → length contents ≡ len → IsSealed layout counter contents file
     → Has layout counter len len changes false contents file
@@ -97,25 +82,14 @@ sealed_has layout counter len changes contents file none size is = record {
   size = size;
   sound = refl;
   header = subst (λ (n : ℕ). IsHeader layout counter n file) size is.header;
-  pages = pages_as layout changes contents file none is.pages;
+  pages = record { page = λ k low. rw (none k) (is.pages.page k low) };
 }
 
 -- empty contents
 pub sealed_empty : (layout : Layout) (file : List ℕ) → IsHeader layout 0 0 file → IsSealed layout 0 [] file
 sealed_empty layout file is = record { header = is; pages = record { page = λ k low. absurd (omega (arith, low)) } }
 
--- a file that holds contents, and whose header was read
-pub holds_has : (layout : Layout) (counter len : ℕ) (changes : Plaintexts) (contents file : List ℕ) → IsLaneCount layout.variant.lanes → ((k : ℕ) → contents_at changes k ≡ None) → IsHeader layout counter len file
-    → IsFileOf layout.variant layout.key contents file → Has layout counter len len changes false contents file
-holds_has layout counter len changes contents file count none is h =
-    let same = one_in_file layout h.layout counter h.counter len (length contents) file count h.variant_is h.key_is is h.is.header in record {
-      size = same.2;
-      sound = refl;
-      header = is;
-      pages = pages_as layout changes contents file none (subst (λ (l : Layout). ArePages l unchanged contents file) same.0 h.is.pages);
-    }
-
--- the same, as the file of that header
+-- a file that holds contents, as the file of the header that was read
 pub holds_sealed : (layout : Layout) (counter len : ℕ) (contents file : List ℕ) → IsLaneCount layout.variant.lanes → IsHeader layout counter len file
     → IsFileOf layout.variant layout.key contents file → IsSealed layout counter contents file
 holds_sealed layout counter len contents file count is h =
@@ -123,6 +97,13 @@ holds_sealed layout counter len contents file count is h =
       header = subst (λ (n : ℕ). IsHeader layout counter n file) (sym same.2) is;
       pages = subst (λ (l : Layout). ArePages l unchanged contents file) same.0 h.is.pages;
     }
+
+-- the same, open
+pub holds_has : (layout : Layout) (counter len : ℕ) (changes : Plaintexts) (contents file : List ℕ) → IsLaneCount layout.variant.lanes → ((k : ℕ) → contents_at changes k ≡ None) → IsHeader layout counter len file
+    → IsFileOf layout.variant layout.key contents file → Has layout counter len len changes false contents file
+holds_has layout counter len changes contents file count none is h =
+    let same = one_in_file layout h.layout counter h.counter len (length contents) file count h.variant_is h.key_is is h.is.header in
+    sealed_has layout counter len changes contents file none same.2 (holds_sealed layout counter len contents file count is h)
 
 -- ---- a file that is begun
 
@@ -136,8 +117,7 @@ begun_known layout header_block (Some xs) (Some ys) (Some zs) long is r w = subs
 pub known_kept : (P : List ℕ → Type 0) (a b c : Option (List ℕ)) → IfSome a (λ _. IsKnown P b) → Keeps b c → IfSome a (λ _. IsKnown P c)
 known_kept P None b c known keeps = tt
 known_kept P (Some xs) None c known keeps = absurd known
-known_kept P (Some xs) (Some ys) None known keeps = absurd keeps
-known_kept P (Some xs) (Some ys) (Some zs) known keeps = subst P (sym keeps) known
+known_kept P (Some xs) (Some ys) c known keeps = grind arith
 
 pub begun_certain : (P : List ℕ → Type 0) (a c : Option (List ℕ)) (old sized over new : Option Disk) (part : List ℕ) (disk : Disk) → IsPossible a old → IsPossible c over → IfSome a (λ _. IsKnown P c)
     → Adds old sized (Size 0 ∷ []) → Adds sized over (Write 0 part ∷ []) → MakesCertain c over new → old ≡ Some disk → IsCertain P new

@@ -1,24 +1,20 @@
 -- The contents of a file after a commit that was cut short.
-use Rattle.std.proofs.Common.{◌≡◌, ℕ, ◌⊎◌, inl, inr, Bool, false, List, [], ◌∷◌, Option, None, Some, IfNone, IfSome, IsSome, length, take, refl, sym, ap, subst, ◌∙◌, ◌≤◌}
+use Rattle.std.proofs.Common.{◌≡◌, ℕ, ◌⊎◌, inl, inr, Bool, false, List, [], ◌∷◌, Option, None, Some, IfSome, length, take, refl, sym, ap, subst, ◌∙◌, ◌≤◌}
 use Rattle.aegis_aes.specs.Lanes.{IsLaneCount}
 use Rattle.aegis_base.specs.Variant.{Variant}
 use Rattle.aegis_storage.specs.Bytes.{overwritten, part_at}
 use Rattle.aegis_storage.specs.Disk.{Crashed, Disk, IsPossible, Writes, WritesAll, certain, after_writes}
-use Rattle.aegis_storage.specs.Journal.{IsAtRest, IsJournal, IsNoForgery, IsOneOf, KeepsBeginning, RecoversUnlessForged, RecoversKnown, RestsAtEither}
+use Rattle.aegis_storage.specs.Journal.{IsAtRest, IsNoForgery, IsOneOf, KeepsBeginning, RecoversUnlessForged, RecoversKnown, RestsAtEither}
 use Rattle.aegis_storage.proofs.Disks.{readable_certain}
 use Rattle.aegis_storage.proofs.Beginnings.{crashed_beginning, empty_beginning}
-use Rattle.aegis_storage.proofs.Journals.{crashed_recovers, empty_is_none, one_journal, rest_recovers}
+use Rattle.aegis_storage.proofs.Journals.{crashed_recovers, empty_is_none, rest_recovers}
 use Rattle.aegis_pages.specs.Changed.{Plaintexts, contents_at}
-use Rattle.aegis_pages.specs.Commits.{Fits, IsHonest, IsOfCommit, KnownSame, IsOfAnother, RecoversContentsUnlessForged, RestsAtContents, head_bytes, head_of, journal_key}
-use Rattle.aegis_pages.specs.Errors.{HasNoHeader}
+use Rattle.aegis_pages.specs.Commits.{IsHonest, IsOfCommit, KnownSame, RecoversContentsUnlessForged, RestsAtContents, head_bytes, head_of, journal_key}
 use Rattle.aegis_pages.specs.Headers.{IsHeader}
 use Rattle.aegis_pages.specs.Layouts.{Layout, journal_beginning}
-use Rattle.aegis_pages.specs.Reading.{HasHeader, layout_of}
-use Rattle.aegis_pages.specs.declared.header.FileHeader.{FileHeader}
-use Rattle.aegis_pages.specs.OpenFile.{AreCommitted, Has, HasCommitted, HasIn, HasContents, IsCommitted, IsStoredAs, OpenFile, OpensAtOne}
+use Rattle.aegis_pages.specs.OpenFile.{AreCommitted, HasCommitted, HasIn, HasContents, IsCommitted, IsStoredAs, OpenFile, OpensAtOne}
 use Rattle.aegis_pages.specs.SealedPages.{ArePages, IsFileOf, IsFileUnder, IsSealed}
 use Rattle.aegis_pages.proofs.CommitFacts.{first_again, head_read, take_own}
-use Rattle.aegis_pages.proofs.HeaderFacts.{one_in_file}
 use Rattle.aegis_pages.proofs.OpenFileFacts.{holds_has, holds_sealed, sealed_has}
 
 -- ---- a commit
@@ -32,21 +28,12 @@ pub commit_has : (layout : Layout) (counter stored len next : ℕ) (changes none
 commit_has layout counter stored len next changes none broken writes contents None b commits empty w s = absurd s
 commit_has layout counter stored len next changes none broken writes contents (Some xs) None commits empty w s = absurd w
 commit_has layout counter stored len next changes none broken writes contents (Some xs) (Some ys) commits empty w s =
-    let has = sealed_has layout next len none contents ys empty s.size (subst (IsSealed layout next contents) (sym w) (commits contents xs s.size s.pages)) in record {
-      size = has.size;
-      sound = s.sound;
-      header = has.header;
-      pages = has.pages;
-    }
-
-has_known : (layout : Layout) (counter stored len : ℕ) (changes : Plaintexts) (broken : Bool) (contents file : List ℕ) (a : Option (List ℕ)) → a ≡ Some file → HasIn layout counter stored len changes broken contents a
-    → Has layout counter stored len changes broken contents file
-has_known layout counter stored len changes broken contents file a is s = subst (HasIn layout counter stored len changes broken contents) is s
+    rw s.sound (sealed_has layout next len none contents ys empty s.size (rw w (commits contents xs s.size s.pages)))
 
 pub commit_sealed_at : (layout : Layout) (counter stored len next : ℕ) (changes : Plaintexts) (broken : Bool) (writes : Writes) (now file : List ℕ) (a : Option (List ℕ)) (disk journal : Option Disk)
     → IsPossible a disk → Commits layout len next changes writes → IsAtRest disk journal file → HasIn layout counter stored len changes broken now a → IsSealed layout next now (after_writes writes file)
 commit_sealed_at layout counter stored len next changes broken writes now file a disk journal possible commits rests s =
-    let has = has_known layout counter stored len changes broken now file a (readable_certain a disk file possible rests.storage_is) s in
+    let has = subst (HasIn layout counter stored len changes broken now) (readable_certain a disk file possible rests.storage_is) s in
     commits now file has.size has.pages
 
 pub commit_recovers : (layout : Layout) (counter stored len next : ℕ) (changes : Plaintexts) (broken : Bool) (writes : Writes) (key beginning before now file header_block : List ℕ) (a : Option (List ℕ)) (disk journal disk' journal' : Option Disk)
@@ -73,51 +60,45 @@ commit_recovers layout counter stored len next changes broken writes key beginni
 
 -- ---- an opening
 
-pub recovers_again : (variant : Variant) (key before now k : List ℕ) (storage journal storage' journal' : Option Disk) → k ≡ journal_key variant key
-    → (batch : RecoversContentsUnlessForged variant key before now storage journal)
-    → (RecoversUnlessForged k [] batch.file batch.writes storage journal → RecoversUnlessForged k [] batch.file batch.writes storage' journal')
-    → (KeepsBeginning (journal_beginning batch.layout) journal → KeepsBeginning (journal_beginning batch.layout) journal') → RecoversContentsUnlessForged variant key before now storage' journal'
-recovers_again variant key before now k storage journal storage' journal' is batch next beginning = record {
+pub recovers_again : (variant : Variant) (key : List ℕ) (storage journal storage' journal' : Option Disk) (content : Option (List ℕ))
+    → ((file : List ℕ) (writes : Writes) → IfSome content (IsNoForgery (journal_key variant key) [] writes)
+    → RecoversUnlessForged (journal_key variant key) [] file writes storage journal → RecoversUnlessForged (journal_key variant key) [] file writes storage' journal')
+    → ((beginning : List ℕ) → KeepsBeginning beginning journal → KeepsBeginning beginning journal')
+    → (before now : List ℕ) (batch : RecoversContentsUnlessForged variant key before now storage journal) → IfSome content (IsHonest batch) → RecoversContentsUnlessForged variant key before now storage' journal'
+recovers_again variant key storage journal storage' journal' content next beginning before now batch honest = record {
   layout = batch.layout;
   file = batch.file;
   writes = batch.writes;
   variant_is = batch.variant_is;
   key_is = batch.key_is;
-  recovers = subst (λ (l : List ℕ). RecoversUnlessForged l [] batch.file batch.writes storage' journal') is
-      (next (subst (λ (l : List ℕ). RecoversUnlessForged l [] batch.file batch.writes storage journal) (sym is) batch.recovers));
+  recovers = next batch.file batch.writes honest batch.recovers;
   without = batch.without;
   with_writes = batch.with_writes;
   old_head = batch.old_head;
   new_head = batch.new_head;
-  beginning = beginning batch.beginning;
+  beginning = beginning _ batch.beginning;
 }
 
-pub honest_as : (variant : Variant) (key k : List ℕ) (writes : Writes) (o : Option (List ℕ)) → k ≡ journal_key variant key → IfSome o (IsNoForgery (journal_key variant key) [] writes)
-    → IfSome o (IsNoForgery k [] writes)
-honest_as variant key k writes o is h = subst (λ (l : List ℕ). IfSome o (IsNoForgery l [] writes)) (sym is) h
-
-pub rests_at_contents : (variant : Variant) (key before now : List ℕ) (storage journal storage' journal' : Option Disk)
-    → (batch : RecoversContentsUnlessForged variant key before now storage journal) → RestsAtEither storage' journal' batch.file batch.writes → RestsAtContents variant key before now storage' journal'
-rests_at_contents variant key before now storage journal storage' journal' batch rests = record { file = rests.bytes; rests = rests.rests; one = cases rests.one }
+pub rests_at_contents : (variant : Variant) (key : List ℕ) (storage journal storage' journal' : Option Disk) (content : Option (List ℕ))
+    → ((file : List ℕ) (writes : Writes) → IfSome content (IsNoForgery (journal_key variant key) [] writes)
+    → RecoversUnlessForged (journal_key variant key) [] file writes storage journal → RestsAtEither storage' journal' file writes)
+    → (before now : List ℕ) (batch : RecoversContentsUnlessForged variant key before now storage journal) → IfSome content (IsHonest batch) → RestsAtContents variant key before now storage' journal'
+rests_at_contents variant key storage journal storage' journal' content next before now batch honest = record { file = rests.bytes; rests = rests.rests; one = cases rests.one }
   where
+    rests : RestsAtEither storage' journal' batch.file batch.writes
+    rests = next batch.file batch.writes honest batch.recovers
+
     is_file : (contents bytes : List ℕ) → IsFileUnder batch.layout contents bytes → IsFileOf variant key contents bytes
     is_file contents bytes h = record { layout = batch.layout; counter = h.0; variant_is = batch.variant_is; key_is = batch.key_is; is = h.1 }
 
-    after : IsFileUnder batch.layout before rests.bytes ⊎ IsFileUnder batch.layout now rests.bytes → IsFileOf variant key before rests.bytes ⊎ IsFileOf variant key now rests.bytes
-    after (inl h) = inl (is_file before rests.bytes h)
-    after (inr h) = inr (is_file now rests.bytes h)
-
     cases : IsOneOf batch.file (after_writes batch.writes batch.file) rests.bytes → IsFileOf variant key before rests.bytes ⊎ IsFileOf variant key now rests.bytes
-    cases (inl same) = inl (is_file before rests.bytes (subst (IsFileUnder batch.layout before) (sym same) batch.without))
-    cases (inr same) = after (subst (λ (l : List ℕ). IsFileUnder batch.layout before l ⊎ IsFileUnder batch.layout now l) (sym same) batch.with_writes)
+    cases (inl same) = inl (is_file before rests.bytes (rw same batch.without))
+    cases (inr same) = elim batch.with_writes [ inl h ↦ inl (is_file before rests.bytes (rw same h)) | inr h ↦ inr (is_file now rests.bytes (rw same h)) ]
 
 pub kept_by_empty : (key context : List ℕ) (j a b : Option (List ℕ)) → RecoversKnown key context j a b → j ≡ Some [] → KnownSame a b
-kept_by_empty key context j a b recovers none = cases a b (subst (λ (o : Option (List ℕ)). RecoversKnown key context o a b) none recovers)
-  where
-    cases : (a b : Option (List ℕ)) → RecoversKnown key context (Some []) a b → KnownSame a b
-    cases None b r = tt
-    cases (Some xs) None r = absurd r
-    cases (Some xs) (Some ys) r = ap Some (r.other (λ writes is. empty_is_none key context writes is))
+kept_by_empty key context j None b recovers none = tt
+kept_by_empty key context j (Some xs) None recovers none = let r = rw none at recovers in absurd r
+kept_by_empty key context j (Some xs) (Some ys) recovers none = let r = rw none at recovers in ap Some (r.other (λ writes is. empty_is_none key context writes is))
 
 -- ---- contents that are committed
 
@@ -169,46 +150,9 @@ committed_batch variant key storage journal content contents possible has =
 pub crashed_contents : (variant : Variant) (key before now : List ℕ) (storage journal : Option Disk) (disk journal_disk : Disk) (ys js : List ℕ) → RecoversContentsUnlessForged variant key before now storage journal
     → storage ≡ Some disk → journal ≡ Some journal_disk → Crashed disk ys → Crashed journal_disk js → RecoversContentsUnlessForged variant key before now (Some (certain ys)) (Some (certain js))
 crashed_contents variant key before now storage journal disk journal_disk ys js batch is journal_is p q =
-    recovers_again variant key before now (journal_key variant key) storage journal (Some (certain ys)) (Some (certain js)) refl batch
-    (λ recovers. crashed_recovers (journal_key variant key) [] batch.file batch.writes disk journal_disk ys js
-    (subst (λ (o : Option Disk). RecoversUnlessForged (journal_key variant key) [] batch.file batch.writes o (Some journal_disk)) is
-    (subst (RecoversUnlessForged (journal_key variant key) [] batch.file batch.writes storage) journal_is recovers)) p q)
-    (λ keeps. crashed_beginning (journal_beginning batch.layout) journal_disk js (subst (KeepsBeginning (journal_beginning batch.layout)) journal_is keeps) q)
-
--- ---- a journal that fits
-
-pub fits_whole : (variant : Variant) (key file journal header_block : List ℕ) (writes : Writes) → header_block ≡ part_at file 0 512 → IsJournal (journal_key variant key) [] writes journal
-    → IsOfCommit (take (head_bytes variant) header_block) writes → Fits variant key file journal
-fits_whole variant key file journal header_block writes is whole of_commit = record {
-  whole = λ found found_is has. subst (IsOfCommit (head_of variant file)) (one_journal (journal_key variant key) [] writes found journal whole found_is)
-      (subst (λ (l : List ℕ). IsOfCommit l writes) (head_read variant file header_block is) of_commit);
-  other = λ not none. not writes whole;
-  own = λ not. absurd (not writes whole);
-}
-
-pub fits_lost : (variant : Variant) (key file journal : List ℕ) (writes : Writes) → HasNoHeader variant key file → IsJournal (journal_key variant key) [] writes journal → Fits variant key file journal
-fits_lost variant key file journal writes none whole = record {
-  whole = λ found found_is has. absurd (has none);
-  other = λ not no_header. not writes whole;
-  own = λ not. absurd (not writes whole);
-}
-
-pub fits_torn : (variant : Variant) (key file journal : List ℕ) (header : FileHeader) → IsLaneCount variant.lanes → IsHeader (layout_of variant key header) header.counter header.len file
-    → ((writes : Writes) → IsJournal (journal_key variant key) [] writes journal → ⊥) → (IsOfAnother (journal_beginning (layout_of variant key header)) journal → ⊥) → Fits variant key file journal
-fits_torn variant key file journal header count is torn own = record {
-  whole = λ found found_is has. absurd (torn found found_is);
-  other = λ not none. none (layout_of variant key header) header.counter header.len refl refl is;
-  own = λ not layout counter len v k other another.
-      let same = one_in_file (layout_of variant key header) layout header.counter counter header.len len file count v k is other in
-      own (subst (λ (l : Layout). IsOfAnother (journal_beginning l) journal) same.0 another);
-}
-
--- what is known of both
-pub fits_known : (variant : Variant) (key : List ℕ) (a b : Option (List ℕ)) (read : List ℕ) (P : List ℕ → Type 0) → IfSome a P → IfSome b (λ js. read ≡ js)
-    → ((file : List ℕ) → P file → Fits variant key file read) → IfSome a (λ file. IfSome b (Fits variant key file))
-fits_known variant key None b read P p q f = tt
-fits_known variant key (Some file) None read P p q f = tt
-fits_known variant key (Some file) (Some js) read P p q f = subst (Fits variant key file) q (f file p)
+    recovers_again variant key storage journal (Some (certain ys)) (Some (certain js)) None
+    (λ file writes _ recovers. crashed_recovers (journal_key variant key) [] file writes disk journal_disk ys js (rw (← is, ← journal_is) recovers) p q)
+    (λ beginning keeps. crashed_beginning beginning journal_disk js (rw (← journal_is) keeps) q) before now batch tt
 
 -- ---- a file that was opened
 
@@ -242,28 +186,3 @@ opens_held layout counter len changes None b count none header same = tt
 opens_held layout counter len changes (Some file) b count none header same = λ contents h.
     subst (HasIn layout counter len len changes false contents) (sym same)
     (holds_has layout counter len changes contents file count none (subst (λ (o : Option (List ℕ)). IfSome o (IsHeader layout counter len)) same header) h)
-
-pub recovers_as : (variant : Variant) (key k file : List ℕ) (writes : Writes) (storage journal : Option Disk) → k ≡ journal_key variant key → RecoversUnlessForged (journal_key variant key) [] file writes storage journal
-    → RecoversUnlessForged k [] file writes storage journal
-recovers_as variant key k file writes storage journal is r = subst (λ (l : List ℕ). RecoversUnlessForged l [] file writes storage journal) (sym is) r
-
--- what was checked of a journal before it was made again or emptied
-pub fits_all : {W : Type 0} (of : W → Writes) (variant : Variant) (key k : List ℕ) (a b : Option (List ℕ)) (read : List ℕ) (header_block : Option (List ℕ)) (header : Option FileHeader) (writes : Option W)
-    → IsLaneCount variant.lanes → k ≡ journal_key variant key → IfSome b (λ js. read ≡ js)
-    → IfSome header (λ h. HasHeader variant key h a) → IfNone header (IfSome a (HasNoHeader variant key))
-    → IfSome header_block (λ s. IfSome a (λ file. (512 ≤ length file) × (s ≡ part_at file 0 512)))
-    → IfSome writes (λ ws. IsJournal k [] (of ws) read) → IfNone writes ((ws : Writes) → IsJournal k [] ws read → ⊥)
-    → (IsSome header → IfSome writes (λ ws. IsSome header_block × IfSome header_block (λ s. IsOfCommit (take (head_bytes variant) s) (of ws)))) → IfNone header (IsSome writes)
-    → IfSome header (λ h. IfNone writes (IsOfAnother (journal_beginning (layout_of variant key h)) read → ⊥))
-    → IfSome a (λ file. IfSome b (Fits variant key file))
-fits_all of variant key k a b read header_block None None count is same found none first whole torn of_commit some another = absurd (cc)
-fits_all of variant key k a b read header_block None (Some ws) count is same found none first whole torn of_commit some another =
-    fits_known variant key a b read (HasNoHeader variant key) none same
-    (λ file no. fits_lost variant key file read (of ws) no (subst (λ (l : List ℕ). IsJournal l [] (of ws) read) is whole))
-fits_all of variant key k a b read header_block (Some h) None count is same found none first whole torn of_commit some another =
-    fits_known variant key a b read (IsHeader (layout_of variant key h) h.counter h.len) found.is same
-    (λ file header. fits_torn variant key file read h count header (λ ws journal. torn ws (subst (λ (l : List ℕ). IsJournal l [] ws read) (sym is) journal)) another)
-fits_all of variant key k a b read None (Some h) (Some ws) count is same found none first whole torn of_commit some another = let no = (of_commit refl).0 in absurd (cc)
-fits_all of variant key k a b read (Some s) (Some h) (Some ws) count is same found none first whole torn of_commit some another =
-    fits_known variant key a b read (λ file. (512 ≤ length file) × (s ≡ part_at file 0 512)) first same
-    (λ file at. fits_whole variant key file read s (of ws) at.1 (subst (λ (l : List ℕ). IsJournal l [] (of ws) read) is whole) (of_commit refl).1)

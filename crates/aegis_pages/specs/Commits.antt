@@ -5,10 +5,12 @@ use Rattle.aegis_base.specs.Variant.{Variant, key_length}
 use Rattle.aegis_storage.specs.Bytes.{part_at}
 use Rattle.aegis_storage.specs.Disk.{Disk, Writes, after_writes}
 use Rattle.aegis_storage.specs.Journal.{IsAtRest, IsJournal, IsNoForgery, IsOneOf, KeepsBeginning, RecoversUnlessForged}
+use Rattle.aegis_pages.specs.declared.header.FileHeader.{FileHeader}
 use Rattle.aegis_pages.specs.declared.layout.TheConstants.{JOURNAL_MAGIC, OLD_JOURNAL_MAGIC}
 use Rattle.aegis_pages.specs.Errors.{HasNoHeader}
 use Rattle.aegis_pages.specs.Headers.{IsHeader}
 use Rattle.aegis_pages.specs.Layouts.{Layout, journal_beginning}
+use Rattle.aegis_pages.specs.Reading.{layout_of}
 use Rattle.aegis_pages.specs.SealedPages.{IsFileOf, IsFileUnder}
 
 -- the key of the journals of files under a key: a MAC of 16 bytes of the journals' magic number, under the nonce of all
@@ -85,6 +87,16 @@ IsOfAnother beginning bytes = (33 < length bytes) × (take 33 bytes ≢ beginnin
 -- the bytes have more than a beginning, and begin like a journal of the first format
 abbrev pub IsOldJournal : (bytes : List ℕ) → Type 0
 IsOldJournal bytes = (33 < length bytes) × (take 4 bytes ≡ OLD_JOURNAL_MAGIC)
+
+-- What was read lets the journal be made again or emptied: a whole one, with its writes, if the file has no header or its
+-- commit began or ended with that of the header block, and one that is not whole if the file has a header and the journal
+-- is not that of another one.
+abbrev pub IsAccepted : Variant → (key : List ℕ) → (header_block : Option (List ℕ)) → Option FileHeader → Option Writes → (journal : List ℕ) → Type 0
+IsAccepted variant key header_block None None journal = ⊥
+IsAccepted variant key header_block None (Some writes) journal = ⊤
+IsAccepted variant key header_block (Some header) None journal = IsOfAnother (journal_beginning (layout_of variant key header)) journal → ⊥
+IsAccepted variant key None (Some header) (Some writes) journal = ⊥
+IsAccepted variant key (Some header_block) (Some header) (Some writes) journal = IsOfCommit (take (head_bytes variant) header_block) writes
 
 -- The journal may be made again, or emptied: if it is whole, and the file has a header, its commit began or ended with
 -- that one; and if it is not whole the file has a header, and it has no more than a beginning, or begins with that of the file.

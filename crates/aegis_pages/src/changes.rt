@@ -61,6 +61,7 @@ impl<A: Allocator + Copy> ChangedPages<A> {
     }
 
     /// Copies the contents of a page to `out`, and returns whether there is one.
+    #[tactic(auto, using(crate::proofs::ChangedFacts::copied_laws))]
     pub fn copy_to(&self, number: u64, out: &mut [u8]) -> bool
         requires { length out.old ≡ self.now.size }
         ensures copied { result ≡ true → contents_at self.now.entries number ≡ Some out.new }
@@ -76,6 +77,7 @@ impl<A: Allocator + Copy> ChangedPages<A> {
     }
 
     /// Keeps a copy of `contents` for a page.
+    #[tactic(auto, using(crate::proofs::ChangedFacts::found_in, crate::proofs::ChangedFacts::fit_inserted))]
     pub fn set(&mut self, alloc: A, number: u64, contents: &[u8]) -> Result<(), AllocError>
         requires size { length contents.now ≡ self.old.size }
         requires within { number * self.old.size ≤ MAX_CONTENTS_BYTES }

@@ -14,6 +14,7 @@ use aegis_engine::{ENDED, same_bytes};
 use aegis_storage::Storage;
 
 /// Reads the tag of a page, its last bytes. Returns [`PagesError::Read`].
+#[tactic(auto, using(crate::proofs::CommitmentFacts::tag_end))]
 pub fn read_tag<S: Storage, L: LaneState, const KEY_BYTES: usize>(
     storage: &S,
     layout: &FileLayout<L, KEY_BYTES>,
@@ -34,6 +35,7 @@ pub fn read_tag<S: Storage, L: LaneState, const KEY_BYTES: usize>(
 }
 
 /// Returns the commitment of a file. Returns [`PagesError::Read`].
+#[tactic(auto, using(crate::proofs::CommitmentFacts::saved_laws))]
 pub fn file_commitment<S: Storage, L: SavedLanes, const KEY_BYTES: usize>(
     storage: &S,
     layout: &FileLayout<L, KEY_BYTES>,

@@ -19,6 +19,7 @@ pub fn written_is_read()
 {}
 
 /// Bytes that a part does not touch are read as before.
+#[tactic(auto, using(crate::proofs::OpenFileFacts::kept_laws))]
 pub fn others_are_kept()
     ensures before { (contents : List ℕ) (at : ℕ) (part : List ℕ) (place count : ℕ)
         → place + count ≤ at → place + count ≤ length contents

@@ -1,12 +1,12 @@
 //! Opening a file: whether its journal is its own, and what recovery makes of both.
 
-ghost use Rattle.std.specs.Prelude.{◌≡◌, ◌≢◌, ◌+◌, ◌≤◌, ◌↔◌, [], Err, IfErr, IfNone, IfOk, IfSome, IsOk, IsSome, IsTrue, List, None, OnOk, Some, length, take, ℕ};
+ghost use Rattle.std.specs.Prelude.{◌≡◌, ◌≢◌, ◌+◌, ◌≤◌, ◌↔◌, [], Err, IfErr, IfNone, IfOk, IfSome, IsOk, IsTrue, List, None, OnOk, Some, length, option_map, take, ℕ};
 ghost use Rattle.aegis_base.specs.Variant.{key_length};
 ghost use Rattle.aegis_storage.specs.Pending.{writes_of};
-ghost use Rattle.aegis_pages.specs.Commits.{Fits, IsHonest, IsLeftByCommit, IsOfAnother, IsOfCommit, IsOldJournal, KnownSame, RecoversContentsUnlessForged, RestsAtContents, head_bytes, journal_key};
+ghost use Rattle.aegis_pages.specs.Commits.{Fits, IsAccepted, IsHonest, IsLeftByCommit, IsOfAnother, IsOfCommit, IsOldJournal, KnownSame, RecoversContentsUnlessForged, RestsAtContents, journal_key};
 ghost use Rattle.aegis_pages.specs.Errors.{IsLeftAlone, IsOpenRefusal};
-ghost use Rattle.aegis_pages.specs.Layouts.{IsPageSize, journal_beginning};
-ghost use Rattle.aegis_pages.specs.Reading.{HasHeader, layout_of};
+ghost use Rattle.aegis_pages.specs.Layouts.{IsPageSize};
+ghost use Rattle.aegis_pages.specs.Reading.{HasHeader};
 
 use crate::error::PagesError;
 use crate::header::{FileHeader, read_header, read_header_block};
@@ -43,6 +43,7 @@ fn begins_with<A: Allocator>(write: &PendingWrite<A>, head: &[u8]) -> bool
 
 /// Returns whether a file that begins with this header is that of before a commit, whose first write is of the header
 /// of before, or that of after it, whose last write is of the next header.
+#[tactic(auto, using(crate::proofs::CommitFacts::first_or_last_laws))]
 pub fn is_of_commit<A: Allocator>(head: &[u8], writes: &[PendingWrite<A>]) -> bool
     ensures { IsTrue result ↔ IsOfCommit head.now (writes_of writes.now) }
 {
@@ -90,20 +91,8 @@ pub fn check_journal<L: LaneState, const KEY_BYTES: usize, A: Allocator + Copy>(
 ) -> Result<(), PagesError>
     requires key_bytes { KEY_BYTES ≡ key_length L.VARIANT.family }
     requires size { IfSome header (λ header. IsPageSize header.page_bytes) }
-    ensures of_commit { OnOk result (IsSome header → IfSome writes.now (λ writes.
-        IsSome header_block × IfSome header_block (λ header_block.
-        IsOfCommit (take (head_bytes L.VARIANT) header_block)
-        (writes_of writes.items)))) }
-    ensures whole { OnOk result (IfNone header (IsSome writes.now)) }
-    ensures lost { IfNone header (IsSome writes.now → IsOk result) }
-    ensures another { OnOk result (IfSome header (λ header. IfNone writes.now
-        (IsOfAnother (journal_beginning (layout_of L.VARIANT key.now header)) journal.now → ⊥))) }
-    ensures torn { IfSome header (λ header. IfNone writes.now
-        ((IsOfAnother (journal_beginning (layout_of L.VARIANT key.now header)) journal.now → ⊥)
-        → IsOk result)) }
-    ensures own { IsSome header → IfSome writes.now (λ writes. IfSome header_block (λ header_block.
-        IsOfCommit (take (head_bytes L.VARIANT) header_block) (writes_of writes.items)
-        → IsOk result)) }
+    ensures accepted { IsOk result ↔ IsAccepted L.VARIANT key.now header_block header
+        (option_map (λ writes. writes_of writes.items) writes.now) journal.now }
     ensures alone { IfErr result IsLeftAlone }
     ensures none { result ≡ Err PagesError.Header → header ≡ None }
     ensures old { result ≡ Err PagesError.OldJournal → IsOldJournal journal.now }

@@ -97,6 +97,7 @@ pub fn read_page<S: Storage, L: LaneState, const KEY_BYTES: usize>(
 }
 
 /// Seals contents into a sealed page.
+#[tactic(auto, using(crate::proofs::ComposeFacts::inner_written))]
 pub fn seal_contents<L: LaneState, const KEY_BYTES: usize>(
     layout: &FileLayout<L, KEY_BYTES>,
     number: u64,

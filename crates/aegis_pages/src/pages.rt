@@ -456,6 +456,7 @@ impl<
     }
 
     /// Gives the storage and the journal back. Changes that were not committed are lost.
+    #[tactic(auto, unfolding(crate::specs::OpenFile::AreCommitted))]
     pub fn into_storages(self) -> (S, J)
         ensures bytes { S.bytes result.0 ≡ self.bytes }
         ensures disk { S.disk result.0 ≡ self.disk }

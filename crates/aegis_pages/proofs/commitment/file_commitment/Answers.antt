@@ -1,27 +1,11 @@
-use Rattle.std.proofs.Common.{◌≡◌, ◌+◌, ◌*◌, ◌++◌, [], List, ℕ, ap, arith, length, replicate, rules, ◌∙◌}
+use Rattle.std.proofs.Common.{◌≡◌, ◌+◌, ◌*◌, ◌++◌, [], List, ℕ, ap, arith, length, replicate, ◌∙◌}
 use Rattle.std.proofs.lemmas.List.{length-append}
 use Rattle.std.specs.Int.{to_le_bytes, w64}
 use Rattle.aegis_pages.specs.Commitments.{page_count}
 use Rattle.aegis_pages.specs.Layouts.{plaintext_header, nonce_bytes}
-use Rattle.aegis_pages.proofs.CommitmentFacts.{begun, committed_mac, length-begun, one_more, saved_data, saved_message, saved_so}
+use Rattle.aegis_pages.proofs.CommitmentFacts.{begun, committed_mac, length_begun, one_more, saved_message, saved_so}
 use Rattle.aegis_pages.proofs.KnownFacts.{known_all, known_map, known_map2}
 use Rattle.aegis_pages.proofs.commitment.file_commitment.Goals as goal
-
-pub absorb-requires-clause-associated_data_within : goal.absorb-requires-clause-associated_data_within
-absorb-requires-clause-associated_data_within g c = omega (arith, saved_data _ _ _ _ _ c.begin.ensures.stands)
-
-pub absorb-requires-clause-message_within : goal.absorb-requires-clause-message_within
-absorb-requires-clause-message_within g c = omega (arith, saved_message _ _ _ _ _ c.begin.ensures.stands)
-
-pub absorb-requires-2-clause-associated_data_within : goal.absorb-requires-2-clause-associated_data_within
-absorb-requires-2-clause-associated_data_within g c = omega (arith, saved_data _ _ _ _ _ (c.absorb.ensures _ _ [] [] c.begin.ensures.stands))
-
-pub absorb-requires-2-clause-message_within : goal.absorb-requires-2-clause-message_within
-absorb-requires-2-clause-message_within g c = omega (arith, saved_message _ _ _ _ _ (c.absorb.ensures _ _ [] [] c.begin.ensures.stands))
-
-pub absorb-requires-3-clause-associated_data_within : goal.absorb-requires-3-clause-associated_data_within
-absorb-requires-3-clause-associated_data_within g c =
-    omega (arith, saved_data _ _ _ _ _ (c.absorb-2.ensures _ _ [] _ (c.absorb.ensures _ _ [] [] c.begin.ensures.stands)))
 
 pub absorb-requires-3-clause-message_within : goal.absorb-requires-3-clause-message_within
 absorb-requires-3-clause-message_within g c =
@@ -36,18 +20,11 @@ loop-number-init g c =
         saved_so g.L.LaneState.VARIANT c.absorb-3.new.self c.key.result.now layout.key _ (replicate (nonce_bytes layout) 255) _
             c.key.ensures.key (ap (λ (n : ℕ). replicate n 255) c.key.ensures.long)
             (c.absorb-3.ensures _ _ [] _ (c.absorb-2.ensures _ _ [] _ (c.absorb.ensures _ _ [] [] c.begin.ensures.stands))),
-        length-begun c.plaintext_header.result c.to_le_bytes.result c.to_le_bytes-2.result (omega arith) (omega arith) (omega arith),
+        length_begun c.plaintext_header.result c.to_le_bytes.result c.to_le_bytes-2.result (omega arith) (omega arith) (omega arith),
         known_all (g.S.Storage.bytes c.args.storage.now) _ (λ file.
             begun _ (plaintext_header layout) _ (to_le_bytes w64 c.args.counter) _ (to_le_bytes w64 c.args.len) c.plaintext_header.ensures.plaintext c.to_le_bytes.ensures c.to_le_bytes-2.ensures),
       );
     }
-
-pub absorb-requires-in-loop-number-clause-associated_data_within : goal.absorb-requires-in-loop-number-clause-associated_data_within
-absorb-requires-in-loop-number-clause-associated_data_within g c = omega (arith, saved_data _ _ _ _ _ c.loop-number.invariant.saved.1)
-
-pub absorb-requires-in-loop-number-clause-message_within : goal.absorb-requires-in-loop-number-clause-message_within
-absorb-requires-in-loop-number-clause-message_within g c =
-    omega (arith, saved_message _ _ _ _ _ c.loop-number.invariant.saved.1, c.loop-number.invariant.saved.2, c.page_count-number-end.ensures.few, c.loop-number-test.true)
 
 pub loop-number-preserved : goal.loop-number-preserved
 loop-number-preserved g c =
@@ -65,18 +42,6 @@ loop-number-preserved g c =
             c.loop-number.invariant.saved.3 c.in-Ok.ensures.tag,
       );
     }
-
-pub mac-mac-requires : goal.mac-mac-requires
-mac-mac-requires g c = (
-  omega arith,
-  (
-    search rules,
-    (
-      saved_data _ _ _ _ _ c.loop-number.invariant.saved.1,
-      omega (arith, saved_message _ _ _ _ _ c.loop-number.invariant.saved.1, c.loop-number.invariant.saved.2, c.page_count-number-end.ensures.few, c.loop-number.auto.number-end),
-    ),
-  ),
-)
 
 pub returns-clause-is : goal.returns-clause-is
 returns-clause-is g c =

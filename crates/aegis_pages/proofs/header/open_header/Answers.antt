@@ -2,7 +2,7 @@ use Rattle.std.proofs.Common.{◌≡◌, ◌<◌, ◌^◌, ◌∙◌, ℕ, Optio
 use Rattle.aegis_pages.specs.declared.layout.TheConstants.{HEADER_NUMBER}
 use Rattle.aegis_pages.specs.Headers.{header_plaintext}
 use Rattle.aegis_pages.specs.Layouts.{OpensAt, inner}
-use Rattle.aegis_pages.proofs.HeaderFacts.{one_number, one_contents, read_contents}
+use Rattle.aegis_pages.proofs.SealedFacts.{one_number, one_contents, read_contents}
 use Rattle.aegis_pages.proofs.header.open_header.Goals as goal
 
 pub returns-then-len-gt-MAX_CONTENTS_BYTES-clause-found : goal.returns-then-len-gt-MAX_CONTENTS_BYTES-clause-found

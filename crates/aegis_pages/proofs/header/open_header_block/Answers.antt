@@ -1,5 +1,5 @@
 use Rattle.std.proofs.Common.{◌∙◌, ap, is_some, sym}
-use Rattle.aegis_pages.proofs.HeaderFacts.{header_block_opens}
+use Rattle.aegis_pages.proofs.SealedFacts.{header_block_opens}
 use Rattle.aegis_pages.proofs.header.open_header_block.Goals as goal
 
 pub returns-in_err-counter-clause-found : goal.returns-in_err-counter-clause-found

@@ -3,7 +3,7 @@ use Rattle.aegis_pages.specs.Changed.{contents_at}
 use Rattle.aegis_pages.specs.Layouts.{Layout, inner}
 use Rattle.aegis_pages.proofs.ComposeFacts.{slice_inner}
 use Rattle.aegis_pages.proofs.KnownFacts.{known_map, known_map2}
-use Rattle.aegis_pages.proofs.WriteFacts.{Spans, first_last, keeps_more, keeps_others, rewrites_all, rewrites_more}
+use Rattle.aegis_pages.proofs.RangeFacts.{Spans, first_last, keeps_more, keeps_others, rewrites_all, rewrites_more}
 use Rattle.aegis_pages.proofs.range.change_range.Goals as goal
 
 spans : (layout : Layout) (len at size first p : ℕ) → 256 ≤ p → first ≡ min at len → p ≡ layout.page_bytes

@@ -1,6 +1,6 @@
 use Rattle.std.proofs.Common.{◌≡◌, IfSome, length}
 use Rattle.aegis_pages.specs.Changed.{contents_at}
-use Rattle.aegis_pages.proofs.WriteFacts.{Keeps, Rewrites}
+use Rattle.aegis_pages.proofs.RangeFacts.{Keeps, Rewrites}
 use Rattle.aegis_pages.proofs.range.change_range.Given as goal
 
 abbrev pub invariant-loop-number : goal.invariant-loop-number

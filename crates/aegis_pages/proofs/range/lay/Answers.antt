@@ -1,5 +1,5 @@
 use Rattle.std.proofs.Common.{◌+◌, ◌-◌, ◌∙◌, ap, arith, drop, length, min, refl, take}
-use Rattle.aegis_pages.proofs.LayFacts.{Lays, cleared_byte, kept_byte, laid_byte}
+use Rattle.aegis_pages.proofs.ComposeFacts.{Lays, cleared_byte, kept_byte, laid_byte}
 use Rattle.aegis_pages.proofs.range.lay.Goals as goal
 
 lays : (c : goal.After-slice_known-then-from-to-1) → Lays c.args.contents.now c.clear_from.new.bytes c.args.part.now

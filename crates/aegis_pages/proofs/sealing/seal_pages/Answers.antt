@@ -5,7 +5,7 @@ use Rattle.aegis_storage.proofs.Lists.{writes_pushed}
 use Rattle.aegis_pages.specs.Changed.{Plaintexts, plaintexts_in}
 use Rattle.aegis_pages.specs.Layouts.{OpensAt}
 use Rattle.aegis_pages.specs.Sealing.{FitPages, Seals}
-use Rattle.aegis_pages.proofs.SealingFacts.{seals_more}
+use Rattle.aegis_pages.proofs.CommitFacts.{seals_more}
 use Rattle.aegis_pages.proofs.ChangedFacts.{fit_item, have_one, plaintexts_of}
 use Rattle.aegis_pages.proofs.sealing.seal_pages.Goals as goal
 

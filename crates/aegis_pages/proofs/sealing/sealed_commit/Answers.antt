@@ -2,7 +2,7 @@ use Rattle.std.proofs.Common.{◌≡◌, ◌++◌, ◌∷◌, [], ◌∙◌, ap,
 use Rattle.aegis_storage.specs.Pending.{writes_of}
 use Rattle.aegis_storage.proofs.Lists.{writes_pushed}
 use Rattle.aegis_pages.specs.Changed.{plaintexts_in}
-use Rattle.aegis_pages.proofs.SealingFacts.{commit_sealed, ends_commit, starts_commit}
+use Rattle.aegis_pages.proofs.CommitFacts.{commit_sealed, ends_commit, starts_commit}
 use Rattle.aegis_pages.proofs.sealing.sealed_commit.Goals as goal
 
 pub returns-clause-sealed : goal.returns-clause-sealed

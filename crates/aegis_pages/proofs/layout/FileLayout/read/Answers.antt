@@ -1,7 +1,7 @@
 use Rattle.std.proofs.Common.{◌≡◌, ◌∙◌, ap, subst, sym}
 use Rattle.std.proofs.lemmas.Slice.Eq.{bytes_eq-Decides}
 use Rattle.aegis_pages.specs.Layouts.{IsPageSize, Layout}
-use Rattle.aegis_pages.proofs.HeaderFacts.{plaintext_same, named_id_cut, read_size}
+use Rattle.aegis_pages.proofs.SealedFacts.{plaintext_same, named_id_cut, read_size}
 use Rattle.aegis_pages.proofs.layout.FileLayout.read.Goals as goal
 
 pub returns-then-not-is_page_size-clause-found : goal.returns-then-not-is_page_size-clause-found

@@ -5,7 +5,7 @@ use Rattle.aegis_pages.specs.Changed.{contents_at}
 use Rattle.aegis_pages.specs.OpenFile.{HasIn, HasContents}
 use Rattle.aegis_pages.specs.SealedPages.{IsByte}
 use Rattle.aegis_pages.proofs.KnownFacts.{known_all, known_map, read_within}
-use Rattle.aegis_pages.proofs.OpenFileFacts.{has_len, has_use, read_so, written_none, written_read}
+use Rattle.aegis_pages.proofs.OpenFileFacts.{has_len, has_use, put_back, read_so, written_none, written_read}
 use Rattle.aegis_pages.proofs.pages.Pages.read_at.Given.{Over}
 use Rattle.aegis_pages.proofs.pages.Pages.read_at.Goals as goal
 
@@ -16,13 +16,7 @@ returns-then-at-self-clause-written g c = rw (← c.self.view_is) (λ contents p
 
 pub invariant_of-self : goal.invariant_of-self
 invariant_of-self g c =
-    let new = c.read_range-read.new.page in
-    let items = c.self.inside.page.bytes.items in
-    let same : length c.read_range-read.new.page ≡ length c.self.inside.page.bytes.items = c.read_range-read.auto.page ∙ ap length c.deref_mut.ensures.value in
-    let all = c.self.inside.page.bytes.ok.0 in
-    let long : length (take c.self.inside.page.bytes.len (c.read_range-read.new.page ++ drop (length c.read_range-read.new.page) c.self.inside.page.bytes.items))
-    ≡ length c.self.inside.page.bytes.items =
-    omega (arith, same, all, length-take c.self.inside.page.bytes.len (new ++ drop (length new) items), length-append new (drop (length new) items), length-drop (length new) items) in
+    let long = put_back c.read_range-read.new.page c.self.inside.page.bytes.items c.self.inside.page.bytes.len (c.read_range-read.auto.page ∙ ap length c.deref_mut.ensures.value) c.self.inside.page.bytes.ok.0 in
     (long ∙ c.self.invariant.0, c.self.invariant.1, c.self.invariant.2, c.self.invariant.3, c.self.invariant.4)
 
 pub returns-in-Err-clause-unchanged : goal.returns-in-Err-clause-unchanged
@@ -39,13 +33,7 @@ returns-in-Err-clause-refused g c =
 
 pub invariant_of-self-2 : goal.invariant_of-self-2
 invariant_of-self-2 g c =
-    let new = c.read_range-read.new.page in
-    let items = c.self.inside.page.bytes.items in
-    let same : length c.read_range-read.new.page ≡ length c.self.inside.page.bytes.items = c.read_range-read.auto.page ∙ ap length c.deref_mut.ensures.value in
-    let all = c.self.inside.page.bytes.ok.0 in
-    let long : length (take c.self.inside.page.bytes.len (c.read_range-read.new.page ++ drop (length c.read_range-read.new.page) c.self.inside.page.bytes.items))
-    ≡ length c.self.inside.page.bytes.items =
-    omega (arith, same, all, length-take c.self.inside.page.bytes.len (new ++ drop (length new) items), length-append new (drop (length new) items), length-drop (length new) items) in
+    let long = put_back c.read_range-read.new.page c.self.inside.page.bytes.items c.self.inside.page.bytes.len (c.read_range-read.auto.page ∙ ap length c.deref_mut.ensures.value) c.self.inside.page.bytes.ok.0 in
     (long ∙ c.self.invariant.0, c.self.invariant.1, c.self.invariant.2, c.self.invariant.3, c.self.invariant.4)
 
 reads : (g : Over) (c : goal.In_default g) (contents : List ℕ) → HasIn c.self.inside.layout c.self.inside.counter c.self.inside.stored c.self.inside.len c.self.inside.changes.entries c.self.inside.is_broken contents (g.S.Storage.bytes c.self.inside.storage)

@@ -3,14 +3,15 @@ use Rattle.aegis_pages.specs.Changed.{contents_at}
 use Rattle.aegis_pages.specs.Errors.{IsWriteRefusal}
 use Rattle.aegis_pages.specs.SealedPages.{KeepsOthers}
 use Rattle.aegis_pages.specs.OpenFile.{HasContents, OpenFile}
-use Rattle.aegis_pages.proofs.OpenFileFacts.{cut, grown, has_len, ok_map}
+use Rattle.aegis_storage.proofs.Disks.{on_ok_map}
+use Rattle.aegis_pages.proofs.OpenFileFacts.{cut, grown, has_len}
 use Rattle.aegis_pages.proofs.pages.Pages.set_len.Goals as goal
 
 pub returns-then-len-self-clause-resized : goal.returns-then-len-self-clause-resized
 unfolding HasContents
 returns-then-len-self-clause-resized g c =
     let told : c.self.inside.len ≡ c.args.self.now.len = ap (λ (f : OpenFile). f.len) c.self.view_is in
-    ok_map c.write_at.result (λ written contents has.
+    on_ok_map c.write_at.result (λ written contents has.
     subst (HasContents c.write_at.new.self)
     (grown contents c.args.len (let h : length contents ≤ c.args.len = omega (arith, c.if-len-self.true, told, has_len _ _ _ _ _ _ _ _ has) in h)) (written contents has)) c.write_at.ensures.written
 

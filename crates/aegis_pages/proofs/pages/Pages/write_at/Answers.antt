@@ -1,19 +1,12 @@
-use Rattle.std.proofs.Common.{◌≡◌, ◌++◌, ◌∙◌, ap, arith, drop, length, take}
-use Rattle.std.proofs.lemmas.List.{length-append, length-drop, length-take}
+use Rattle.std.proofs.Common.{◌∙◌, ap, arith, length}
 use Rattle.std.proofs.lemmas.Result.{err_from_is_err_and}
 use Rattle.aegis_pages.specs.OpenFile.{HasContents}
-use Rattle.aegis_pages.proofs.OpenFileFacts.{wrote}
+use Rattle.aegis_pages.proofs.OpenFileFacts.{put_back, wrote}
 use Rattle.aegis_pages.proofs.pages.Pages.write_at.Goals as goal
 
 pub invariant_of-self : goal.invariant_of-self
 invariant_of-self g c =
-    let new = c.change_range.new.page in
-    let items = c.self.inside.page.bytes.items in
-    let same : length c.change_range.new.page ≡ length c.self.inside.page.bytes.items = c.change_range.auto.page ∙ ap length c.deref_mut.ensures.value in
-    let all = c.self.inside.page.bytes.ok.0 in
-    let long : length (take c.self.inside.page.bytes.len (c.change_range.new.page ++ drop (length c.change_range.new.page) c.self.inside.page.bytes.items))
-    ≡ length c.self.inside.page.bytes.items =
-    omega (arith, same, all, length-take c.self.inside.page.bytes.len (new ++ drop (length new) items), length-append new (drop (length new) items), length-drop (length new) items) in
+    let long = put_back c.change_range.new.page c.self.inside.page.bytes.items c.self.inside.page.bytes.len (c.change_range.auto.page ∙ ap length c.deref_mut.ensures.value) c.self.inside.page.bytes.ok.0 in
     (long ∙ c.self.invariant.0, c.change_range.ensures.size ∙ c.self.invariant.1, c.self.invariant.2, c.self.invariant.3, c.self.invariant.4)
 
 pub returns-in_err-change_range-clause-others : goal.returns-in_err-change_range-clause-others
@@ -26,13 +19,7 @@ returns-in_err-change_range-clause-refused g c =
 
 pub invariant_of-self-2 : goal.invariant_of-self-2
 invariant_of-self-2 g c =
-    let new = c.change_range.new.page in
-    let items = c.self.inside.page.bytes.items in
-    let same : length c.change_range.new.page ≡ length c.self.inside.page.bytes.items = c.change_range.auto.page ∙ ap length c.deref_mut.ensures.value in
-    let all = c.self.inside.page.bytes.ok.0 in
-    let long : length (take c.self.inside.page.bytes.len (c.change_range.new.page ++ drop (length c.change_range.new.page) c.self.inside.page.bytes.items))
-    ≡ length c.self.inside.page.bytes.items =
-    omega (arith, same, all, length-take c.self.inside.page.bytes.len (new ++ drop (length new) items), length-append new (drop (length new) items), length-drop (length new) items) in
+    let long = put_back c.change_range.new.page c.self.inside.page.bytes.items c.self.inside.page.bytes.len (c.change_range.auto.page ∙ ap length c.deref_mut.ensures.value) c.self.inside.page.bytes.ok.0 in
     let most = c.self.invariant.2 in
     let end = c.max-self-inside.ensures in
     (long ∙ c.self.invariant.0, c.change_range.ensures.size ∙ c.self.invariant.1, omega (arith, most, end), c.self.invariant.3, c.self.invariant.4)
