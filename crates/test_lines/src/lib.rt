@@ -1,4 +1,4 @@
-//! Tests of lines and their answers, and of the line program over readers and writers that fail.
+//! Tests of the line program: readers, writers and memory that fail, and long lines.
 #![tactic(auto)]
 
 #[cfg(test)]

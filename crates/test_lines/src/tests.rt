@@ -1,7 +1,114 @@
-//! Answers one by one, record streams, whole sessions, and no memory.
+//! The line program over readers and writers that fail, and over memory that does.
 
-mod answers;
-mod long_lines;
 mod memory;
-mod records;
-mod sessions;
+
+use aegis_session::run;
+use std::io::ErrorKind;
+use std::test::Fail;
+use test_tools::ends::{CutOff, Narrow};
+
+const ROUND: &str = "round 00000000000000000000000000000000 00000000000000000000000000000000";
+
+const ROUND_ANSWER: &str = "63636363636363636363636363636363\n";
+
+const STREAM: &str =
+    "stream aegis128l 59454c4c4f57205355424d4152494e45 00000000000000000000000000000000 0";
+
+const STREAM_ANSWER: &str = "-\n";
+
+#[test]
+fn answers_a_thousand_lines(rt: HostRuntime) -> Result<(), Fail> {
+    let mut input = String::new(rt.alloc());
+    let mut wanted = String::new(rt.alloc());
+    for _ in 0..1000u32 {
+        input.push_str(ROUND)?;
+        input.push_str("\n")?;
+        wanted.push_str(ROUND_ANSWER)?;
+    }
+    let mut output = Vec::new(rt.alloc());
+    let status = run(rt.alloc(), &mut input.as_bytes(), &mut output);
+    assert_eq!(rt; status, 0);
+    assert_eq!(rt; output.as_slice(), wanted.as_bytes());
+    Ok(())
+}
+
+// Three lines and their answers.
+fn three_lines<R: AllocGlobal>(rt: &R) -> Result<(String, String), Fail> {
+    let input = format!(in rt.alloc(); "{ROUND}\n{STREAM}\r\n{ROUND}\n")?;
+    let wanted = format!(in rt.alloc(); "{ROUND_ANSWER}{STREAM_ANSWER}{ROUND_ANSWER}")?;
+    Ok((input, wanted))
+}
+
+// The lines that were read are answered, and a line that is cut off is not. The last reader fails after all its bytes.
+#[test]
+fn stops_where_a_read_fails(rt: HostRuntime) -> Result<(), Fail> {
+    let (input, wanted) = three_lines(&rt)?;
+    let input = input.as_bytes();
+    for count in 0..=input.len() {
+        let read = &input[..count];
+        let ended = read.iter().filter(|byte| **byte == b'\n').count();
+        let answers = wanted.as_bytes().split(|byte| *byte == b'\n').take(ended);
+        let mut expected = Vec::new(rt.alloc());
+        for answer in answers {
+            expected.extend_from_slice(answer)?;
+            expected.push(b'\n')?;
+        }
+        for error in [ErrorKind::Other, ErrorKind::Interrupted] {
+            let mut reader = CutOff { left: read, error };
+            let mut output = Vec::new(rt.alloc());
+            let status = run(rt.alloc(), &mut reader, &mut output);
+            assert_eq!(rt; status, 2, "after {count} bytes");
+            assert_eq!(rt;
+                output.as_slice(),
+                expected.as_slice(),
+                "after {count} bytes"
+            );
+        }
+    }
+    Ok(())
+}
+
+// Runs the program into a writer that takes a byte at a time while it has room. Returns the status and the bytes.
+fn run_into<R: AllocGlobal>(
+    rt: &R,
+    input: &str,
+    room: usize,
+    error: Option<ErrorKind>,
+    flushes: bool,
+) -> (u8, Vec<u8>) {
+    let mut output = Narrow {
+        written: Vec::new(rt.alloc()),
+        room,
+        error,
+        flushes,
+    };
+    let status = run(rt.alloc(), &mut input.as_bytes(), &mut output);
+    (status, output.written)
+}
+
+// A writer that has room for some bytes, and then fails or takes none, has exactly these.
+#[test]
+fn stops_where_a_write_fails(rt: HostRuntime) -> Result<(), Fail> {
+    let (input, wanted) = three_lines(&rt)?;
+    for room in 0..wanted.len() {
+        for error in [None, Some(ErrorKind::Other), Some(ErrorKind::Interrupted)] {
+            let (status, written) = run_into(&rt, input.as_str(), room, error, true);
+            assert_eq!(rt; status, 2, "with room {room}");
+            assert_eq!(rt; written.len(), room, "with room {room}");
+            assert!(rt; wanted.as_bytes().starts_with(&written), "with room {room}");
+        }
+    }
+    Ok(())
+}
+
+// The whole output reaches a writer that takes it byte by byte, even if its flush then fails.
+#[test]
+fn writes_a_byte_at_a_time(rt: HostRuntime) -> Result<(), Fail> {
+    let (input, wanted) = three_lines(&rt)?;
+    for (flushes, expected) in [(true, 0), (false, 2)] {
+        let (status, written) = run_into(&rt, input.as_str(), wanted.len(), None, flushes);
+        assert_eq!(rt; status, expected);
+        assert_eq!(rt; written.as_slice(), wanted.as_bytes());
+    }
+    Ok(())
+}

@@ -1,4 +1,4 @@
-//! Keystreams of a cipher of any variant for either tag length, and a key and a nonce for each family.
+//! A key and a nonce for each family, a keystream of a cipher of any variant, and a worked example.
 
 ghost use Rattle.aegis_base.specs.Lane.{IsTagLength};
 
@@ -31,20 +31,6 @@ pub fn keyed(variant: AnyVariant) -> AnyCipher {
     AnyCipher::with_keys(variant, short, long)
 }
 
-/// Overwrites a buffer with the keystream.
-pub fn stream<const TAG_BYTES: usize>(cipher: &AnyCipher, out: &mut [u8])
-    requires { IsTagLength TAG_BYTES }
-{
-    with_cipher!(cipher, TAG_BYTES, cipher => cipher.stream(out))
-}
-
-/// Xors a message in place with the keystream.
-pub fn stream_xor_in_place<const TAG_BYTES: usize>(cipher: &AnyCipher, mc: &mut [u8])
-    requires { IsTagLength TAG_BYTES }
-{
-    with_cipher!(cipher, TAG_BYTES, cipher => cipher.stream_xor_in_place(mc))
-}
-
 /// Returns a message xored with the keystream, in a new vector.
 pub fn stream_xor<A: Allocator, const TAG_BYTES: usize>(
     cipher: &AnyCipher,
@@ -56,13 +42,17 @@ pub fn stream_xor<A: Allocator, const TAG_BYTES: usize>(
     with_cipher!(cipher, TAG_BYTES, cipher => cipher.stream_xor(alloc, m))
 }
 
-/// Returns bytes that count up from `first`, with 0 after 255.
-pub fn counting<const N: usize>(first: u8) -> [u8; N] {
-    let mut bytes = [0; N];
-    let mut next = first;
-    for byte in bytes.iter_mut() {
-        *byte = next;
-        next = next.wrapping_add(1);
-    }
-    bytes
-}
+/// The message of a worked example of AEGIS-256, under `LONG_KEY` and a nonce of zeros. The library did not make its
+/// ciphertext and tag.
+pub const MESSAGE: [u8; 114] =
+    *b"Ladies and Gentlemen of the class of '99: If I could offer you only one tip for the future, sunscreen would be it.";
+
+/// Its associated data.
+pub const ASSOCIATED_DATA: [u8; 17] = *b"Comment numero un";
+
+/// The digits of its ciphertext.
+pub const AEGIS256_CIPHERTEXT: &str =
+    "3e5a155af5b611d637667c0c8c054ee94f860a1d6769e9c5ee31dd6d2cf52a652bccfafb096f0406be6aeebe50640ccba81bfaf0de329bfaf74c1ae9e41211bb34e59f420c3e78ff2a5a0e32f394c56bc29fba5f45785563d4c18e434ac222c409879476d7272c4792f1f748323c10349ce2";
+
+/// The digits of its tag of 16 bytes.
+pub const AEGIS256_TAG: &str = "59c6e5d51fdf2bc7c147043fc97281b0";

@@ -58,10 +58,7 @@ fn seal_fails(alloc: Global, file: &mut Narrow) -> bool {
 // Whether opening a file into a writer gives the writer's error.
 fn open_fails(alloc: Global, file: &[u8], contents: &mut Narrow) -> bool {
     let mut input = file;
-    matches!(
-        open(alloc, &KEY, &mut input, contents),
-        Err(FileError::Write(_))
-    )
+    matches!(open(alloc, &mut input, contents), Err(FileError::Write(_)))
 }
 
 // Each length of input before a read fails: the error is the reader's, and what was written is a beginning of the
@@ -70,7 +67,7 @@ fn open_fails(alloc: Global, file: &[u8], contents: &mut Narrow) -> bool {
 fn opening_stops_where_a_read_fails(rt: HostRuntime) -> Result<(), Fail> {
     let file = three_records(rt.alloc(), &KEY, &PREFIX)?;
     for length in 0..=file.len() {
-        let (contents, result) = opened_with(rt.alloc(), &KEY, &mut cut_off(&file[..length]));
+        let (contents, result) = opened_with(rt.alloc(), &mut cut_off(&file[..length]));
         let is_read = matches!(result, Err(FileError::Read(_)));
         assert!(rt; is_read && TEXT.starts_with(&contents), "at {length}");
     }
@@ -167,7 +164,7 @@ fn opened_within(alloc: Global, file: &[u8], requests: u64) -> (Vec<u8>, Result<
     let heap = Rationed::new(alloc, requests);
     let mut contents = Vec::new(alloc);
     let mut input = file;
-    let result = open(&heap, &KEY, &mut input, &mut contents);
+    let result = open(&heap, &mut input, &mut contents);
     (contents, result)
 }
 
@@ -210,7 +207,7 @@ fn requests_left(alloc: Global, length: usize) -> Result<u64, FileError> {
     let heap = Rationed::new(alloc, REQUESTS);
     let mut found = Vec::new(alloc);
     let mut input = file.as_slice();
-    open(&heap, &KEY, &mut input, &mut found)?;
+    open(&heap, &mut input, &mut found)?;
     let mut anew = Vec::new(alloc);
     let mut input = file.as_slice();
     rekey(&heap, &[8; 32], &[10; 24], &mut input, &mut anew)?;

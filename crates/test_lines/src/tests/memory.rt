@@ -1,8 +1,12 @@
-//! No memory in the line program: each allocation refused in turn.
+//! No memory in the line program: each allocation refused in turn. Long lines: the memory that one takes, and many
+//! records.
 
 use aegis::Error;
+use aegis::aegis128l::Aegis128L;
 use aegis_lines::answer_line;
 use aegis_session::run;
+use linked_list_allocator::LocalHeap;
+use std::alloc::Global;
 use std::test::Fail;
 use test_tools::memory::Rationed;
 
@@ -70,5 +74,61 @@ fn all_lines_or_status_two(rt: HostRuntime) -> Result<(), Fail> {
     let heap = Rationed::new(rt.alloc(), REQUESTS);
     let mut output = Vec::new(rt.alloc());
     assert_eq!(rt; run(&heap, &mut &LINES[..], &mut output), 0);
+    Ok(())
+}
+
+const MESSAGE_BYTES: usize = 8_388_608;
+
+const BEFORE_THE_MESSAGE: &[u8] =
+    b"seal aegis128l 16 07070707070707070707070707070707 07070707070707070707070707070707 - ";
+
+// A line that seals a message of 8 MiB is read and answered by a heap that has four times its length.
+#[test]
+fn allocates_at_most_four_times_the_line(rt: HostRuntime) -> Result<(), Fail> {
+    let mut message = vec![in rt.alloc(); 0x5a; MESSAGE_BYTES]?;
+    let mut line = Vec::from_slice(rt.alloc(), BEFORE_THE_MESSAGE)?;
+    line.extend_from_slice(hex::encode(rt.alloc(), &message)?.as_bytes())?;
+    let heap = LocalHeap::new(rt.alloc(), line.len().saturating_mul(4))?;
+    let mut answer = Vec::with_capacity(rt.alloc(), line.len())?;
+    let status = run(&heap, &mut line.as_slice(), &mut answer);
+
+    let bytes = message.len().min(MESSAGE_BYTES);
+    let tag = Aegis128L::<16>::new(&[7; 16], &[7; 16]).encrypt_in_place(&mut message[..bytes], &[]);
+    let ciphertext = hex::encode(rt.alloc(), &message)?;
+    let tag = hex::encode(rt.alloc(), &tag)?;
+    let wanted = format!(in rt.alloc(); "{ciphertext} {tag}\n")?;
+    assert_eq!(rt; status, 0);
+    assert_eq!(rt; answer.len(), 2 * MESSAGE_BYTES + 34);
+    assert!(rt; answer.as_slice() == wanted.as_bytes());
+    Ok(())
+}
+
+// The number of records of a long stream.
+const MANY: usize = 10_000;
+
+// The answer to a line with a key and a prefix of zeros, and no context.
+fn answered(alloc: Global, command: &[u8], last_field: &[u8]) -> Result<Vec<u8>, Fail> {
+    let mut line = Vec::from_slice(alloc, command)?;
+    line.push(b' ')?;
+    line.extend_from_slice(&[b'0'; 64])?;
+    line.push(b' ')?;
+    line.extend_from_slice(&[b'0'; 48])?;
+    line.extend_from_slice(b" - ")?;
+    line.extend_from_slice(last_field)?;
+    Ok(answer_line(alloc, &line)?)
+}
+
+#[test]
+fn many_records(rt: HostRuntime) -> Result<(), Fail> {
+    let mut messages = Vec::from_slice(rt.alloc(), b"6d")?;
+    for _message in 1..MANY {
+        messages.extend_from_slice(b",6d")?;
+    }
+    let sealed = answered(rt.alloc(), b"sealrec", &messages)?;
+    assert_eq!(rt; sealed.len(), 2 * (4 + 38 * MANY));
+    let opened = answered(rt.alloc(), b"openrec", &sealed)?;
+    assert!(rt; opened.as_slice().starts_with(b"ok "));
+    assert!(rt; opened.as_slice().ends_with(&messages));
+    assert_eq!(rt; opened.len(), 3 + messages.len());
     Ok(())
 }

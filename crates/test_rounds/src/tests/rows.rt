@@ -111,9 +111,3 @@ fn pairs_work_row_by_row(rt: HostRuntime) {
     works_in_pairs::<_, Rows2<AesBlock2>>(&rt);
     works_in_pairs::<_, Rows2<AesBlock4>>(&rt);
 }
-
-#[test]
-fn rows_without_a_block_are_zeros(rt: HostRuntime) {
-    assert_bytes(&rt, &stored(AesBlock2::default()), &[0; 64], &"two blocks");
-    assert_bytes(&rt, &stored(AesBlock4::default()), &[0; 64], &"four blocks");
-}

@@ -1,6 +1,6 @@
 -- The prefixes differ in their first byte.
 use Rattle.std.proofs.Common.{◌≡◌, ℕ, List, ap, arith, get_or, refl}
-use Rattle.test_ciphers.proofs.tests.records.streams.migrated.Goals as goal
+use Rattle.test_ciphers.proofs.tests.records.migrated.Goals as goal
 
 differ : (n : ℕ) → n ≡ 0 → n ≡ 1 → ⊥
 differ n a b = absurd (omega arith)
