@@ -244,7 +244,6 @@ impl<A: Algorithm, I: RafIo, R: RafRng, J: RafIo> Raf<A, I, R, J> {
             return Ok(());
         }
         self.check_is_whole()?;
-        self.shown = 0..0;
         self.changes.cut(self.layout.page_count(size));
         self.size = size;
         Ok(())
@@ -378,13 +377,7 @@ impl<A: Algorithm, I: RafIo, R: RafRng, J: RafIo> Raf<A, I, R, J> {
             .min(unchanged)
             .min((self.pages.len() / page_bytes) as u64) as usize;
         let pages = &mut self.pages[..count * page_bytes];
-        match self.io.read_at(pages, self.layout.page_place(number)) {
-            // The first damaged page is named, also if the file ends after it.
-            Err(error) if error.kind() == ErrorKind::UnexpectedEof && count > 1 => {
-                return self.read_pages(number, 1);
-            }
-            read => read?,
-        }
+        self.io.read_at(pages, self.layout.page_place(number))?;
         for (page, number) in pages.chunks_exact_mut(page_bytes).zip(number..) {
             if !self.layout.open(number, page) {
                 return Err(Error::Damaged(number));
