@@ -11,7 +11,7 @@ import sys
 from typing import NamedTuple
 
 # The day of the manual page.
-DATE = "2026-11-27"
+DATE = "2026-11-28"
 
 DESCRIPTION = """\
 Encrypts files under a random key kept in a key file. No passwords, no public keys. Losing the key loses the data."""
