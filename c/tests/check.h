@@ -1,6 +1,5 @@
 /*
- * What the test programs of this folder share: the variants, the stored lines,
- * and random bytes.
+ * What the test programs of this folder share: results, bytes, the variants and the stored lines.
  */
 #ifndef CHECK_H
 #define CHECK_H
@@ -14,8 +13,10 @@
 #include <string.h>
 
 #define MOST_BYTES 8192
+#define MOST_CHUNKS 1024
 #define MOST_FIELDS 8
 #define TAG_BYTES 32
+#define COUNT(values) (sizeof(values) / sizeof(values)[0])
 
 /* ---- Ending the program at the first wrong result */
 
@@ -32,18 +33,58 @@ static inline void holds(int fact, const char *what, const char *file, int line)
 
 #define HOLDS(fact) holds(fact, #fact, __FILE__, __LINE__)
 
-static inline int all_are(const uint8_t *bytes, size_t length, uint8_t value)
+/* ---- Bytes */
+
+static inline int all_are(const void *bytes, size_t length, uint8_t value)
 {
+    const uint8_t *at = (const uint8_t *)bytes;
+
     for (size_t i = 0; i < length; i++) {
-        if (bytes[i] != value) {
+        if (at[i] != value) {
             return 0;
         }
     }
     return 1;
 }
 
-/* ---- Random bytes, the same in each run */
+/* Compares bytes. Unlike memcmp it takes null pointers for no bytes. */
+static inline int are_equal(const void *one, const void *other, size_t length)
+{
+    return length == 0 || memcmp(one, other, length) == 0;
+}
 
+/* Returns memory of just this length, so that a sanitizer reports each access beyond it. */
+static inline uint8_t *filled(size_t length, uint8_t value)
+{
+    uint8_t *bytes = (uint8_t *)malloc(length);
+
+    if (length != 0) {
+        HOLDS(bytes != NULL);
+        memset(bytes, value, length);
+    }
+    return bytes;
+}
+
+static inline uint8_t *copied(const void *bytes, size_t length)
+{
+    uint8_t *copy = filled(length, 0);
+
+    if (length != 0) {
+        memcpy(copy, bytes, length);
+    }
+    return copy;
+}
+
+/* Writes a number in this many bytes, the lowest first. Returns where they end. */
+static inline uint8_t *write_number(uint8_t *at, uint64_t number, size_t bytes)
+{
+    for (size_t i = 0; i < bytes; i++) {
+        *at++ = (uint8_t)(number >> 8 * i);
+    }
+    return at;
+}
+
+/* Random numbers, the same in each run. */
 static inline uint64_t next_number(void)
 {
     static uint64_t seed = UINT64_C(0x9e3779b97f4a7c15);
@@ -60,15 +101,9 @@ static inline void fill(uint8_t *bytes, size_t length)
     }
 }
 
-/* Copies bytes to memory of just their length, so that a sanitizer sees each access beyond them. */
-static inline uint8_t *copied(const uint8_t *bytes, size_t length)
+static inline void change_a_bit(uint8_t *bytes, size_t length)
 {
-    uint8_t *copy = (uint8_t *)malloc(length);
-    if (length != 0) {
-        HOLDS(copy != NULL);
-        memcpy(copy, bytes, length);
-    }
-    return copy;
+    bytes[next_number() % length] ^= (uint8_t)(1 << next_number() % 8);
 }
 
 /* ---- The variants */
@@ -85,21 +120,9 @@ static const struct variant VARIANTS[6] = {
     {"aegis256x2", HUNKRAVY_AEGIS256X2, 32}, {"aegis256x4", HUNKRAVY_AEGIS256X4, 32},
 };
 
-/* ---- The words of a state, and of a record stream, which no program but a test reads or writes */
+/* ---- The words of a record stream, which no program but a test reads or writes */
 
-enum {
-    MARK = 0,
-    DATA_BYTES = 81,
-    MESSAGE_BYTES = 82,
-    VARIANT_AND_ROLE = 83,
-    NUMBER = 1,
-    BEFORE = 2
-};
-
-static inline uint64_t variant_and_role(uint32_t variant, uint32_t role)
-{
-    return (uint64_t)role << 32 | variant;
-}
+enum { MARK = 0, NUMBER = 1, BEFORE = 2 };
 
 /* ---- The stored lines */
 
@@ -107,7 +130,7 @@ static inline uint64_t variant_and_role(uint32_t variant, uint32_t role)
 struct bytes {
     uint8_t at[MOST_BYTES];
     size_t length;
-    size_t chunks[64];
+    size_t chunks[MOST_CHUNKS];
     size_t chunk_count;
 };
 
@@ -118,6 +141,7 @@ struct line {
     size_t number; /* of the tag's bytes, or of the keystream's */
     struct bytes key, nonce, ad, text, tag;
     int is_refused;
+    const char *refusal; /* or a null pointer */
     struct bytes answer[2];
 };
 
@@ -133,7 +157,7 @@ static inline void read_bytes(struct bytes *bytes, const char *field)
     bytes->length = bytes->chunk_count = 0;
     for (;; field++) {
         if (*field == ',' || *field == '\0') {
-            HOLDS(bytes->chunk_count < 64);
+            HOLDS(bytes->chunk_count < MOST_CHUNKS);
             bytes->chunks[bytes->chunk_count++] = bytes->length - start;
             start = bytes->length;
             if (*field == '\0') {
@@ -169,6 +193,11 @@ static inline const struct variant *variant_of(const char *name)
     return NULL;
 }
 
+static inline int is_command(const struct line *line, const char *command)
+{
+    return strcmp(line->command, command) == 0;
+}
+
 static inline void read_line(struct line *line, char *text)
 {
     char none[] = "", *words[MOST_FIELDS] = {none}, **word = words;
@@ -201,6 +230,7 @@ static inline void read_answer(struct line *line, char *text)
     size_t first = strcmp(words[0], "ok") == 0;
 
     line->is_refused = strcmp(words[0], "invalid") == 0;
+    line->refusal = line->is_refused ? text : NULL;
     for (size_t i = first; i < count && !line->is_refused; i++) {
         read_bytes(&line->answer[i - first], words[i]);
     }

@@ -13,8 +13,6 @@
 
 static const uint32_t SIZES[] = {256, 257, 271, 272, 511, 512, 4096, 65535, 65536};
 
-#define COUNT(values) (sizeof(values) / sizeof(values)[0])
-
 /* What the boxes of a file are sealed under. The keys and nonces of the variant have n bytes. */
 struct layout {
     const struct variant *variant;
@@ -55,14 +53,6 @@ static int seal_header(const struct layout *layout, uint8_t *header_block, uint6
 {
     return hunkravy_page_header_seal(layout->variant->number, header_block, layout->size, layout->id,
                                      counter, contentslen, npub, layout->n, layout->k, layout->n);
-}
-
-static uint8_t *write_number(uint8_t *at, uint64_t number, size_t bytes)
-{
-    for (size_t i = 0; i < bytes; i++) {
-        *at++ = (uint8_t)(number >> 8 * i);
-    }
-    return at;
 }
 
 /* The byte that stands for each variant. */

@@ -227,14 +227,6 @@ static size_t check_pair_of_records(char *line, char *answer)
 
 /* ---- Random streams against the calls at once */
 
-static uint8_t *write_number(uint8_t *at, uint64_t number, size_t bytes)
-{
-    for (size_t i = 0; i < bytes; i++) {
-        *at++ = (uint8_t)(number >> 8 * i);
-    }
-    return at;
-}
-
 /* A record, as the format is defined: number `number`, after messages of `before` bytes. */
 static uint8_t *expected_record(const struct keys *keys, uint64_t number, uint64_t before,
                                 uint8_t flag, const uint8_t *m, size_t length)
