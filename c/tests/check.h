@@ -150,7 +150,6 @@ struct line {
     const struct variant *variant;
     size_t number; /* of the tag's bytes, or of the keystream's */
     struct bytes key, nonce, ad, text, tag;
-    int is_refused;
     const char *refusal; /* or a null pointer */
     struct bytes answer[2];
 };
@@ -227,10 +226,8 @@ static inline void read_answer(struct line *line, char *text)
     size_t count, first;
 
     line->refusal = NULL;
-    line->is_refused = 0;
     if (strncmp(text, "invalid", 7) == 0 || strncmp(text, "refused", 7) == 0) {
         line->refusal = text;
-        line->is_refused = 1;
         return;
     }
     count = split(text, words);
