@@ -53,12 +53,16 @@ static inline int are_equal(const void *one, const void *other, size_t length)
     return length == 0 || memcmp(one, other, length) == 0;
 }
 
-/* Returns memory of just this length, so that a sanitizer reports each access beyond it. */
+/*
+ * Returns memory of just this length, so that a sanitizer reports each access beyond it. For no
+ * bytes it returns a null pointer, which each call has to take.
+ */
 static inline uint8_t *filled(size_t length, uint8_t value)
 {
-    uint8_t *bytes = (uint8_t *)malloc(length);
+    uint8_t *bytes = NULL;
 
     if (length != 0) {
+        bytes = (uint8_t *)malloc(length);
         HOLDS(bytes != NULL);
         memset(bytes, value, length);
     }
