@@ -242,8 +242,8 @@ static inline void read_answer(struct line *line, char *text)
 }
 
 /*
- * Hands each line of FOLDER/NAME.in, with its answer of FOLDER/NAME.out, to `check`, but not what
- * the line program does not understand. Returns how many there are.
+ * Calls `check` with each line of FOLDER/NAME.in that the line program understands, and its answer
+ * of FOLDER/NAME.out. Returns how many there are.
  */
 static inline size_t for_each_line(const char *folder, const char *name,
                                    void (*check)(const struct line *))

@@ -171,8 +171,8 @@ static void check_line(const struct line *line)
 /* ---- Wrong lengths */
 
 /*
- * What each call returns for these lengths, of which a pointer to no bytes is null. After a wrong
- * one nothing is written. A keystream has no tag.
+ * Each call returns this code for this variant and these lengths, and writes nothing. Keystreams
+ * have no tag.
  */
 static void check_refused(uint32_t variant, size_t npublen, size_t klen, size_t maclen, int code)
 {

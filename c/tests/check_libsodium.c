@@ -207,7 +207,7 @@ static void check_too_long(const struct cipher *cipher, unsigned long long mlen,
 
 /* ---- Random bytes */
 
-/* Each byte is random: none is zero 20 times by chance, and no key is twice the same. */
+/* By chance no byte is zero 20 times, and no 8 bytes of two keys are the same. */
 static void check_random(void)
 {
     uint8_t bytes[64], drawn[64] = {0}, k[32], other[32];

@@ -106,7 +106,7 @@ static void check_is_damaged(const struct layout *layout, uint64_t number, const
     free(page);
 }
 
-/* A page that is changed, or of another number, file or key. */
+/* A changed bit, and the page at another number, of another file, and under another key. */
 static void check_others(const struct layout *layout, uint64_t number, const uint8_t *page,
                          size_t length)
 {
@@ -204,7 +204,10 @@ static void check_header(const struct variant *variant, uint32_t size, uint64_t 
 
 /* ---- What is refused */
 
-/* What each call returns for this variant and these lengths. No page has 10 bytes either. */
+/*
+ * Each call returns this code for this variant and these lengths, although 10 bytes are no page and
+ * 255 is no page size. Nothing is written.
+ */
 static void check_refused(uint32_t variant, size_t npublen, size_t klen, int code)
 {
     uint8_t page[10], block[BLOCK], id[HUNKRAVY_PAGE_ID_BYTES] = {0};

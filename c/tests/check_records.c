@@ -89,7 +89,7 @@ static void check_is_damaged(hunkravy_record_stream *st, const uint8_t *bytes, s
     free(record);
 }
 
-/* The next record has this message, and only as it is. */
+/* The bytes open to this message, but not with another bit. */
 static void check_opens(hunkravy_record_stream *st, const uint8_t *bytes, const uint8_t *message,
                         size_t length)
 {
@@ -109,8 +109,10 @@ static void check_opens(hunkravy_record_stream *st, const uint8_t *bytes, const 
     free(record);
 }
 
-/* The messages of the line become the stream of its answer, whose records open at their places
- * alone. */
+/*
+ * The messages of the line are sealed to the stream of its answer, which opens again. Each record
+ * also opens alone, at its position and at no other.
+ */
 static void check_sealrec(const struct line *line)
 {
     const struct keys keys = keys_of(line);
@@ -144,8 +146,9 @@ static void check_sealrec(const struct line *line)
 }
 
 /*
- * Opens the record at the start of `left` bytes. Adds its message to `found`, and returns its
- * length. After an error it writes what the line program says to `refusal`, and returns 0.
+ * Opens the record at the start of `left` bytes, adds its message to `found`, and returns how many
+ * bytes the record has. After an error writes the line program's answer to `refusal`, and returns
+ * 0.
  */
 static size_t open_next(hunkravy_record_stream *st, const uint8_t *bytes, size_t left,
                         struct bytes *found, int *is_last, char *refusal)

@@ -52,7 +52,9 @@ static void check_seal(const struct line *line)
     HOLDS(are_equal(mac, line->answer[1].at, line->number) && is_zeros(&st));
 }
 
-/* The ends of a message that was decrypted to `m`. After one that is refused nothing has changed.
+/*
+ * Ends a message that was decrypted to `m`, which has one byte more. After a wrong length nothing
+ * has changed.
  */
 static void check_final(const struct line *line, hunkravy_state st, uint8_t *m)
 {
@@ -106,7 +108,7 @@ static void check_open(const struct line *line)
     free(m);
 }
 
-/* More input may follow after a MAC was asked for. */
+/* More input may follow after hunkravy_mac_final. */
 static void check_mac(const struct line *line)
 {
     hunkravy_state st, old;
