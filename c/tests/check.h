@@ -1,6 +1,5 @@
 /*
- * What the test programs of this folder share: the variants, the stored lines,
- * and random bytes.
+ * What the test programs of this folder share: results, bytes, the variants and the stored lines.
  */
 #ifndef CHECK_H
 #define CHECK_H
@@ -14,8 +13,10 @@
 #include <string.h>
 
 #define MOST_BYTES 8192
+#define MOST_CHUNKS 1024
 #define MOST_FIELDS 8
 #define TAG_BYTES 32
+#define COUNT(values) (sizeof(values) / sizeof(values)[0])
 
 /* ---- Ending the program at the first wrong result */
 
@@ -32,18 +33,62 @@ static inline void holds(int fact, const char *what, const char *file, int line)
 
 #define HOLDS(fact) holds(fact, #fact, __FILE__, __LINE__)
 
-static inline int all_are(const uint8_t *bytes, size_t length, uint8_t value)
+/* ---- Bytes */
+
+static inline int all_are(const void *bytes, size_t length, uint8_t value)
 {
+    const uint8_t *at = (const uint8_t *)bytes;
+
     for (size_t i = 0; i < length; i++) {
-        if (bytes[i] != value) {
+        if (at[i] != value) {
             return 0;
         }
     }
     return 1;
 }
 
-/* ---- Random bytes, the same in each run */
+/* Compares bytes. Unlike memcmp it takes null pointers for no bytes. */
+static inline int are_equal(const void *one, const void *other, size_t length)
+{
+    return length == 0 || memcmp(one, other, length) == 0;
+}
 
+/*
+ * Returns memory of just this length, so that a sanitizer reports each access beyond it. For no
+ * bytes it returns a null pointer, which each call has to take.
+ */
+static inline uint8_t *filled(size_t length, uint8_t value)
+{
+    uint8_t *bytes = NULL;
+
+    if (length != 0) {
+        bytes = (uint8_t *)malloc(length);
+        HOLDS(bytes != NULL);
+        memset(bytes, value, length);
+    }
+    return bytes;
+}
+
+static inline uint8_t *copied(const void *bytes, size_t length)
+{
+    uint8_t *copy = filled(length, 0);
+
+    if (length != 0) {
+        memcpy(copy, bytes, length);
+    }
+    return copy;
+}
+
+/* Writes a number in this many bytes, the lowest first. Returns where they end. */
+static inline uint8_t *write_number(uint8_t *at, uint64_t number, size_t bytes)
+{
+    for (size_t i = 0; i < bytes; i++) {
+        *at++ = (uint8_t)(number >> 8 * i);
+    }
+    return at;
+}
+
+/* Random numbers, the same in each run. */
 static inline uint64_t next_number(void)
 {
     static uint64_t seed = UINT64_C(0x9e3779b97f4a7c15);
@@ -60,15 +105,9 @@ static inline void fill(uint8_t *bytes, size_t length)
     }
 }
 
-/* Copies bytes to memory of just their length, so that a sanitizer sees each access beyond them. */
-static inline uint8_t *copied(const uint8_t *bytes, size_t length)
+static inline void change_a_bit(uint8_t *bytes, size_t length)
 {
-    uint8_t *copy = (uint8_t *)malloc(length);
-    if (length != 0) {
-        HOLDS(copy != NULL);
-        memcpy(copy, bytes, length);
-    }
-    return copy;
+    bytes[next_number() % length] ^= (uint8_t)(1 << next_number() % 8);
 }
 
 /* ---- The variants */
@@ -85,20 +124,15 @@ static const struct variant VARIANTS[6] = {
     {"aegis256x2", HUNKRAVY_AEGIS256X2, 32}, {"aegis256x4", HUNKRAVY_AEGIS256X4, 32},
 };
 
-/* ---- The words of a state, and of a record stream, which no program but a test reads or writes */
-
-enum {
-    MARK = 0,
-    DATA_BYTES = 81,
-    MESSAGE_BYTES = 82,
-    VARIANT_AND_ROLE = 83,
-    NUMBER = 1,
-    BEFORE = 2
-};
-
-static inline uint64_t variant_and_role(uint32_t variant, uint32_t role)
+static inline const struct variant *variant_of(const char *name)
 {
-    return (uint64_t)role << 32 | variant;
+    for (size_t i = 0; i < COUNT(VARIANTS); i++) {
+        if (strcmp(VARIANTS[i].name, name) == 0) {
+            return &VARIANTS[i];
+        }
+    }
+    HOLDS(!"a variant's name");
+    return NULL;
 }
 
 /* ---- The stored lines */
@@ -107,24 +141,22 @@ static inline uint64_t variant_and_role(uint32_t variant, uint32_t role)
 struct bytes {
     uint8_t at[MOST_BYTES];
     size_t length;
-    size_t chunks[64];
+    size_t chunks[MOST_CHUNKS];
     size_t chunk_count;
 };
 
-/* A line of the line program, and its answer. */
+/*
+ * A line of the line program, and its answer. A record stream has no variant. Its prefix is in
+ * `nonce`, and its context in `ad`.
+ */
 struct line {
     char command[16];
     const struct variant *variant;
     size_t number; /* of the tag's bytes, or of the keystream's */
     struct bytes key, nonce, ad, text, tag;
-    int is_refused;
+    const char *refusal; /* or a null pointer */
     struct bytes answer[2];
 };
-
-static inline int digit(char c)
-{
-    return c <= '9' ? c - '0' : (c | 32) - 'a' + 10;
-}
 
 static inline void read_bytes(struct bytes *bytes, const char *field)
 {
@@ -133,15 +165,16 @@ static inline void read_bytes(struct bytes *bytes, const char *field)
     bytes->length = bytes->chunk_count = 0;
     for (;; field++) {
         if (*field == ',' || *field == '\0') {
-            HOLDS(bytes->chunk_count < 64);
+            HOLDS(bytes->chunk_count < MOST_CHUNKS);
             bytes->chunks[bytes->chunk_count++] = bytes->length - start;
             start = bytes->length;
             if (*field == '\0') {
                 return;
             }
         } else if (*field != '-') {
+            const char digits[3] = {field[0], field[1], '\0'};
             HOLDS(bytes->length < MOST_BYTES && field[1] != '\0');
-            bytes->at[bytes->length++] = (uint8_t)(digit(field[0]) << 4 | digit(field[1]));
+            bytes->at[bytes->length++] = (uint8_t)strtoul(digits, NULL, 16);
             field++;
         }
     }
@@ -158,15 +191,9 @@ static inline size_t split(char *text, char **words)
     return count;
 }
 
-static inline const struct variant *variant_of(const char *name)
+static inline int is_command(const struct line *line, const char *command)
 {
-    for (size_t i = 0; i < 6; i++) {
-        if (strcmp(VARIANTS[i].name, name) == 0) {
-            return &VARIANTS[i];
-        }
-    }
-    HOLDS(!"a variant's name");
-    return NULL;
+    return strcmp(line->command, command) == 0;
 }
 
 static inline void read_line(struct line *line, char *text)
@@ -174,22 +201,25 @@ static inline void read_line(struct line *line, char *text)
     char none[] = "", *words[MOST_FIELDS] = {none}, **word = words;
 
     split(text, words);
+    line->ad.length = line->text.length = 0;
     snprintf(line->command, sizeof line->command, "%s", *word++);
-    line->variant = variant_of(*word++);
-    if (line->command[0] != 'x' && strcmp(line->command, "stream") != 0) {
+    if (!is_command(line, "sealrec") && !is_command(line, "openrec")) {
+        line->variant = variant_of(*word++);
+    }
+    if (is_command(line, "seal") || is_command(line, "open") || is_command(line, "mac")) {
         line->number = (size_t)strtoul(*word++, NULL, 10);
     }
     read_bytes(&line->key, *word++);
     read_bytes(&line->nonce, *word++);
-    if (strcmp(line->command, "stream") == 0) {
+    if (is_command(line, "stream")) {
         line->number = (size_t)strtoul(*word, NULL, 10);
         return;
     }
-    if (strcmp(line->command, "seal") == 0 || strcmp(line->command, "open") == 0) {
+    if (!is_command(line, "xor") && !is_command(line, "mac")) {
         read_bytes(&line->ad, *word++);
     }
     read_bytes(&line->text, *word++);
-    if (strcmp(line->command, "open") == 0) {
+    if (is_command(line, "open")) {
         read_bytes(&line->tag, *word);
     }
 }
@@ -197,23 +227,29 @@ static inline void read_line(struct line *line, char *text)
 static inline void read_answer(struct line *line, char *text)
 {
     char none[] = "", *words[MOST_FIELDS] = {none};
-    size_t count = split(text, words);
-    size_t first = strcmp(words[0], "ok") == 0;
+    size_t count, first;
 
-    line->is_refused = strcmp(words[0], "invalid") == 0;
-    for (size_t i = first; i < count && !line->is_refused; i++) {
+    line->refusal = NULL;
+    if (strncmp(text, "invalid", 7) == 0 || strncmp(text, "refused", 7) == 0) {
+        line->refusal = text;
+        return;
+    }
+    count = split(text, words);
+    first = strcmp(words[0], "ok") == 0;
+    for (size_t i = first; i < count; i++) {
         read_bytes(&line->answer[i - first], words[i]);
     }
 }
 
 /*
- * Hands each line of FOLDER/NAME.in, and its answer in FOLDER/NAME.out, to `each`. Returns how often
- * that returned 1.
+ * Calls `check` with each line of FOLDER/NAME.in that the line program understands, and its answer
+ * of FOLDER/NAME.out. Returns how many there are.
  */
-static inline size_t for_each_pair(const char *folder, const char *name,
-                                   size_t (*each)(char *text, char *answer))
+static inline size_t for_each_line(const char *folder, const char *name,
+                                   void (*check)(const struct line *))
 {
     static char text[4 * MOST_BYTES], answer[4 * MOST_BYTES];
+    static struct line line;
     char path[2][1024];
     FILE *lines, *answers;
     size_t count = 0;
@@ -226,33 +262,17 @@ static inline size_t for_each_pair(const char *folder, const char *name,
     while (fgets(text, sizeof text, lines) != NULL) {
         HOLDS(fgets(answer, sizeof answer, answers) != NULL);
         answer[strcspn(answer, "\n")] = '\0';
-        count += each(text, answer);
+        if (strncmp(answer, "error", 5) != 0) {
+            read_line(&line, text);
+            read_answer(&line, answer);
+            check(&line);
+            count++;
+        }
     }
     fclose(lines);
     fclose(answers);
     HOLDS(count > 0);
     return count;
-}
-
-/* What a line is handed to. */
-static void (*check_of_line)(const struct line *);
-
-static inline size_t check_pair(char *text, char *answer)
-{
-    static struct line line;
-
-    read_line(&line, text);
-    read_answer(&line, answer);
-    check_of_line(&line);
-    return 1;
-}
-
-/* Hands each line, with its answer, to `check`. Returns how many there are. */
-static inline size_t for_each_line(const char *folder, const char *name,
-                                   void (*check)(const struct line *))
-{
-    check_of_line = check;
-    return for_each_pair(folder, name, check_pair);
 }
 
 #endif

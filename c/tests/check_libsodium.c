@@ -37,220 +37,230 @@ ssize_t getrandom(void *bytes, size_t length, unsigned int flags)
 #include <setjmp.h>
 #include <signal.h>
 
+/* The calls of one cipher. */
+struct cipher {
+    const char *name;
+    size_t key_bytes;
+    __typeof__(crypto_aead_aegis256_encrypt) *encrypt;
+    __typeof__(crypto_aead_aegis256_decrypt) *decrypt;
+    __typeof__(crypto_aead_aegis256_encrypt_detached) *encrypt_detached;
+    __typeof__(crypto_aead_aegis256_decrypt_detached) *decrypt_detached;
+    void (*keygen)(unsigned char *k);
+    size_t (*keybytes)(void);
+    size_t (*npubbytes)(void);
+    size_t (*nsecbytes)(void);
+    size_t (*abytes)(void);
+    size_t (*messagebytes_max)(void);
+};
+
+static const struct cipher CIPHERS[] = {
+    {"aegis128l", 16, crypto_aead_aegis128l_encrypt, crypto_aead_aegis128l_decrypt,
+     crypto_aead_aegis128l_encrypt_detached, crypto_aead_aegis128l_decrypt_detached,
+     crypto_aead_aegis128l_keygen, crypto_aead_aegis128l_keybytes, crypto_aead_aegis128l_npubbytes,
+     crypto_aead_aegis128l_nsecbytes, crypto_aead_aegis128l_abytes,
+     crypto_aead_aegis128l_messagebytes_max},
+    {"aegis256", 32, crypto_aead_aegis256_encrypt, crypto_aead_aegis256_decrypt,
+     crypto_aead_aegis256_encrypt_detached, crypto_aead_aegis256_decrypt_detached,
+     crypto_aead_aegis256_keygen, crypto_aead_aegis256_keybytes, crypto_aead_aegis256_npubbytes,
+     crypto_aead_aegis256_nsecbytes, crypto_aead_aegis256_abytes,
+     crypto_aead_aegis256_messagebytes_max},
+};
+
+/* ---- The stored lines */
+
 #define KEYS line->nonce.at, line->key.at
 #define AD line->ad.at, line->ad.length
 #define NO_LENGTH 12345
+
+static void check_seal(const struct cipher *cipher, const struct line *line)
+{
+    size_t length = line->text.length;
+    const uint8_t *m = line->text.at, *expected = line->answer[0].at, *tag = line->answer[1].at;
+    uint8_t *c = filled(length + TAG_BYTES, 0x55), mac[TAG_BYTES];
+    unsigned long long clen = NO_LENGTH, maclen = NO_LENGTH, mlen = NO_LENGTH;
+
+    HOLDS(cipher->encrypt_detached(c, mac, &maclen, m, length, AD, NULL, KEYS) == 0);
+    HOLDS(maclen == TAG_BYTES && memcmp(mac, tag, TAG_BYTES) == 0);
+    HOLDS(memcmp(c, expected, length) == 0 && all_are(c + length, TAG_BYTES, 0x55));
+    HOLDS(cipher->encrypt(c, &clen, m, length, AD, NULL, KEYS) == 0);
+    HOLDS(clen == length + TAG_BYTES && memcmp(c, expected, length) == 0);
+    HOLDS(memcmp(c + length, tag, TAG_BYTES) == 0);
+    /* From and to the same pointer. */
+    HOLDS(cipher->decrypt(c, &mlen, NULL, c, clen, AD, KEYS) == 0);
+    HOLDS(mlen == length && memcmp(c, m, length) == 0);
+    HOLDS(cipher->encrypt(c, NULL, c, length, AD, NULL, KEYS) == 0);
+    HOLDS(memcmp(c, expected, length) == 0 && memcmp(c + length, tag, TAG_BYTES) == 0);
+    memcpy(c, m, length);
+    memset(mac, 0, sizeof mac);
+    HOLDS(cipher->encrypt_detached(c, mac, NULL, c, length, AD, NULL, KEYS) == 0);
+    HOLDS(memcmp(c, expected, length) == 0 && memcmp(mac, tag, TAG_BYTES) == 0);
+    free(c);
+}
+
+static void check_open(const struct cipher *cipher, const struct line *line)
+{
+    size_t length = line->text.length, clen = length + TAG_BYTES;
+    uint8_t both[MOST_BYTES + TAG_BYTES], m[MOST_BYTES], expected[MOST_BYTES] = {0};
+    const uint8_t *mac = both + length;
+    int result = line->refusal != NULL ? -1 : 0;
+    unsigned long long mlen = NO_LENGTH, right = line->refusal != NULL ? 0 : length;
+
+    memcpy(both, line->text.at, length);
+    memcpy(both + length, line->tag.at, TAG_BYTES);
+    if (line->refusal == NULL) {
+        memcpy(expected, line->answer[0].at, length);
+    }
+    memset(m, 0x55, sizeof m);
+    HOLDS(cipher->decrypt(m, &mlen, NULL, both, clen, AD, KEYS) == result);
+    HOLDS(mlen == right && memcmp(m, expected, length) == 0 && m[length] == 0x55);
+    memset(m, 0x55, sizeof m);
+    HOLDS(cipher->decrypt_detached(m, NULL, both, length, mac, AD, KEYS) == result);
+    HOLDS(memcmp(m, expected, length) == 0 && m[length] == 0x55);
+    mlen = NO_LENGTH;
+    HOLDS(cipher->decrypt(NULL, &mlen, NULL, both, clen, AD, KEYS) == result && mlen == right);
+    HOLDS(cipher->decrypt(NULL, NULL, NULL, both, clen, AD, KEYS) == result);
+    HOLDS(cipher->decrypt_detached(NULL, NULL, both, length, mac, AD, KEYS) == result);
+    HOLDS(memcmp(both, line->text.at, length) == 0);
+    HOLDS(cipher->decrypt(both, NULL, NULL, both, clen, AD, KEYS) == result);
+    HOLDS(memcmp(both, expected, length) == 0 && memcmp(mac, line->tag.at, TAG_BYTES) == 0);
+    for (size_t less = 0; less < TAG_BYTES; less++) {
+        mlen = NO_LENGTH;
+        HOLDS(cipher->decrypt(m, &mlen, NULL, both, less, AD, KEYS) == -1);
+        HOLDS(mlen == 0 && memcmp(m, expected, length) == 0);
+    }
+}
+
+static void check_line(const struct line *line)
+{
+    for (size_t i = 0; i < COUNT(CIPHERS); i++) {
+        if (strcmp(line->variant->name, CIPHERS[i].name) != 0) {
+            continue;
+        }
+        if (is_command(line, "seal") && line->number == TAG_BYTES) {
+            check_seal(&CIPHERS[i], line);
+        } else if (is_command(line, "open") && line->number == TAG_BYTES) {
+            check_open(&CIPHERS[i], line);
+        }
+    }
+}
+
+/* ---- Constants, null pointers and lengths */
+
+static void check_constants(void)
+{
+    HOLDS(crypto_aead_aegis128l_KEYBYTES == 16U && crypto_aead_aegis256_KEYBYTES == 32U);
+    HOLDS(crypto_aead_aegis128l_NPUBBYTES == 16U && crypto_aead_aegis256_NPUBBYTES == 32U);
+    HOLDS(crypto_aead_aegis128l_NSECBYTES == 0U && crypto_aead_aegis256_NSECBYTES == 0U);
+    HOLDS(crypto_aead_aegis128l_ABYTES == 32U && crypto_aead_aegis256_ABYTES == 32U);
+    HOLDS(crypto_aead_aegis128l_MESSAGEBYTES_MAX == (1ULL << 61) - 1);
+    HOLDS(crypto_aead_aegis256_MESSAGEBYTES_MAX == (1ULL << 61) - 1);
+    for (size_t i = 0; i < COUNT(CIPHERS); i++) {
+        HOLDS(CIPHERS[i].keybytes() == CIPHERS[i].key_bytes);
+        HOLDS(CIPHERS[i].npubbytes() == CIPHERS[i].key_bytes);
+        HOLDS(CIPHERS[i].nsecbytes() == 0 && CIPHERS[i].abytes() == 32);
+        HOLDS(CIPHERS[i].messagebytes_max() == (1ULL << 61) - 1);
+    }
+}
+
+static void check_lengths(const struct cipher *cipher)
+{
+    uint8_t k[32] = {0}, npub[32] = {0}, c[TAG_BYTES], byte = 0x55;
+    unsigned long long length = NO_LENGTH;
+
+    HOLDS(cipher->encrypt(c, &length, NULL, 0, NULL, 0, NULL, npub, k) == 0);
+    HOLDS(length == TAG_BYTES);
+    HOLDS(cipher->decrypt(NULL, &length, NULL, c, TAG_BYTES, NULL, 0, npub, k) == 0);
+    HOLDS(length == 0);
+    HOLDS(cipher->decrypt(&byte, &length, NULL, c, TAG_BYTES, NULL, 0, npub, k) == 0);
+    HOLDS(length == 0 && byte == 0x55);
+    /* Too long, and so refused before a byte is read. */
+    length = NO_LENGTH;
+    HOLDS(cipher->decrypt(&byte, &length, NULL, c, ~0ULL, NULL, 0, npub, k) == -1 && length == 0);
+    HOLDS(cipher->decrypt_detached(&byte, NULL, c, 1, c, c, ~0ULL, npub, k) == -1);
+    HOLDS(cipher->decrypt_detached(&byte, NULL, c, ~0ULL, c, c, 1, npub, k) == -1);
+    HOLDS(byte == 0x55);
+}
 
 /* The program continues here after a call that would have ended it. */
 static jmp_buf end_of_program;
 
 static void on_abort(int number) { longjmp(end_of_program, number); }
 
-#define TESTS(NAME, NUMBER)                                                                        \
-    static void NAME##_seal(const struct line *line)                                               \
-    {                                                                                              \
-        size_t length = line->text.length;                                                         \
-        const uint8_t *m = line->text.at, *expected = line->answer[0].at;                          \
-        const uint8_t *tag = line->answer[1].at;                                                   \
-        uint8_t *c = copied(m, length + TAG_BYTES), mac[TAG_BYTES];                                \
-        unsigned long long clen = NO_LENGTH, maclen = NO_LENGTH, mlen = NO_LENGTH;                 \
-                                                                                                   \
-        memset(c, 0x55, length + TAG_BYTES);                                                       \
-        HOLDS(crypto_aead_##NAME##_encrypt_detached(c, mac, &maclen, m, length, AD, NULL, KEYS) == \
-              0);                                                                                  \
-        HOLDS(maclen == TAG_BYTES && memcmp(mac, tag, TAG_BYTES) == 0);                            \
-        HOLDS(memcmp(c, expected, length) == 0 && all_are(c + length, TAG_BYTES, 0x55));           \
-        HOLDS(crypto_aead_##NAME##_encrypt(c, &clen, m, length, AD, NULL, KEYS) == 0);             \
-        HOLDS(clen == length + TAG_BYTES && memcmp(c, expected, length) == 0);                     \
-        HOLDS(memcmp(c + length, tag, TAG_BYTES) == 0);                                            \
-        HOLDS(crypto_aead_##NAME##_decrypt(c, &mlen, NULL, c, clen, AD, KEYS) == 0);               \
-        HOLDS(mlen == length && memcmp(c, m, length) == 0);                                        \
-        HOLDS(crypto_aead_##NAME##_encrypt(c, NULL, c, length, AD, NULL, KEYS) == 0);              \
-        HOLDS(memcmp(c, expected, length) == 0 && memcmp(c + length, tag, TAG_BYTES) == 0);        \
-        memcpy(c, m, length);                                                                      \
-        HOLDS(crypto_aead_##NAME##_encrypt_detached(c, mac, NULL, c, length, AD, NULL, KEYS) ==    \
-              0);                                                                                  \
-        HOLDS(memcmp(c, expected, length) == 0 && memcmp(mac, tag, TAG_BYTES) == 0);               \
-        free(c);                                                                                   \
-    }                                                                                              \
-                                                                                                   \
-    static void NAME##_open(const struct line *line)                                               \
-    {                                                                                              \
-        size_t length = line->text.length, clen = length + TAG_BYTES;                              \
-        uint8_t both[MOST_BYTES + TAG_BYTES], m[MOST_BYTES], expected[MOST_BYTES];                 \
-        unsigned long long mlen = NO_LENGTH, right = line->is_refused ? 0 : length;                \
-        int result = line->is_refused ? -1 : 0;                                                    \
-                                                                                                   \
-        memcpy(both, line->text.at, length);                                                       \
-        memcpy(both + length, line->tag.at, TAG_BYTES);                                            \
-        memset(expected, 0, length);                                                               \
-        if (!line->is_refused) {                                                                   \
-            memcpy(expected, line->answer[0].at, length);                                          \
-        }                                                                                          \
-        memset(m, 0x55, sizeof m);                                                                 \
-        HOLDS(crypto_aead_##NAME##_decrypt(m, &mlen, NULL, both, clen, AD, KEYS) == result);       \
-        HOLDS(mlen == right && memcmp(m, expected, length) == 0 && m[length] == 0x55);             \
-        memset(m, 0x55, sizeof m);                                                                 \
-        HOLDS(crypto_aead_##NAME##_decrypt_detached(m, NULL, both, length, both + length, AD,      \
-                                                    KEYS) == result);                              \
-        HOLDS(memcmp(m, expected, length) == 0 && m[length] == 0x55);                              \
-        mlen = NO_LENGTH;                                                                          \
-        HOLDS(crypto_aead_##NAME##_decrypt(NULL, &mlen, NULL, both, clen, AD, KEYS) == result);    \
-        HOLDS(mlen == right);                                                                      \
-        HOLDS(crypto_aead_##NAME##_decrypt(NULL, NULL, NULL, both, clen, AD, KEYS) == result);     \
-        HOLDS(crypto_aead_##NAME##_decrypt_detached(NULL, NULL, both, length, both + length, AD,   \
-                                                    KEYS) == result);                              \
-        HOLDS(memcmp(both, line->text.at, length) == 0);                                           \
-        HOLDS(crypto_aead_##NAME##_decrypt(both, NULL, NULL, both, clen, AD, KEYS) == result);     \
-        HOLDS(memcmp(both, expected, length) == 0);                                                \
-        HOLDS(memcmp(both + length, line->tag.at, TAG_BYTES) == 0);                                \
-        for (size_t less = 0; less < TAG_BYTES; less++) {                                          \
-            mlen = NO_LENGTH;                                                                      \
-            HOLDS(crypto_aead_##NAME##_decrypt(m, &mlen, NULL, both, less, AD, KEYS) == -1);       \
-            HOLDS(mlen == 0 && memcmp(m, expected, length) == 0);                                  \
-        }                                                                                          \
-    }                                                                                              \
-                                                                                                   \
-    /* Random messages against the library's own calls. */                                         \
-    static void NAME##_random(size_t length)                                                       \
-    {                                                                                              \
-        uint8_t k[crypto_aead_##NAME##_KEYBYTES], npub[crypto_aead_##NAME##_NPUBBYTES];            \
-        uint8_t *ad, *m, *c, *expected, tag[TAG_BYTES], mac[TAG_BYTES];                            \
-        size_t adlen = next_number() % 100;                                                        \
-                                                                                                   \
-        ad = (uint8_t *)malloc(adlen);                                                             \
-        m = (uint8_t *)malloc(length);                                                             \
-        c = (uint8_t *)malloc(length);                                                             \
-        expected = (uint8_t *)malloc(length);                                                      \
-        crypto_aead_##NAME##_keygen(k);                                                            \
-        randombytes_buf(npub, sizeof npub);                                                        \
-        randombytes_buf(ad, adlen);                                                                \
-        randombytes_buf(m, length);                                                                \
-        HOLDS(hunkravy_encrypt(NUMBER, expected, m, length, ad, adlen, npub, sizeof npub, k,       \
-                               sizeof k, tag, sizeof tag) == HUNKRAVY_OK);                         \
-        HOLDS(crypto_aead_##NAME##_encrypt_detached(c, mac, NULL, m, length, ad, adlen, NULL,      \
-                                                    npub, k) == 0);                                \
-        HOLDS(memcmp(c, expected, length) == 0 && memcmp(mac, tag, TAG_BYTES) == 0);               \
-        HOLDS(crypto_aead_##NAME##_decrypt_detached(c, NULL, c, length, tag, ad, adlen, npub,      \
-                                                    k) == 0);                                      \
-        HOLDS(memcmp(c, m, length) == 0);                                                          \
-        tag[next_number() % TAG_BYTES] ^= (uint8_t)(1 << next_number() % 8);                       \
-        HOLDS(crypto_aead_##NAME##_decrypt_detached(c, NULL, expected, length, tag, ad, adlen,     \
-                                                    npub, k) == -1);                               \
-        HOLDS(all_are(c, length, 0));                                                              \
-        free(ad);                                                                                  \
-        free(m);                                                                                   \
-        free(c);                                                                                   \
-        free(expected);                                                                            \
-    }                                                                                              \
-                                                                                                   \
-    static void NAME##_rest(void)                                                                  \
-    {                                                                                              \
-        uint8_t k[crypto_aead_##NAME##_KEYBYTES] = {0}, other[sizeof k] = {0}, c[TAG_BYTES];       \
-        uint8_t npub[crypto_aead_##NAME##_NPUBBYTES] = {0}, byte = 0x55;                           \
-        unsigned long long length = NO_LENGTH;                                                     \
-                                                                                                   \
-        HOLDS(crypto_aead_##NAME##_keybytes() == sizeof k);                                        \
-        HOLDS(crypto_aead_##NAME##_npubbytes() == sizeof npub);                                    \
-        HOLDS(crypto_aead_##NAME##_nsecbytes() == crypto_aead_##NAME##_NSECBYTES);                 \
-        HOLDS(crypto_aead_##NAME##_NSECBYTES == 0U && crypto_aead_##NAME##_ABYTES == 32U);         \
-        HOLDS(crypto_aead_##NAME##_abytes() == TAG_BYTES);                                         \
-        HOLDS(crypto_aead_##NAME##_messagebytes_max() == crypto_aead_##NAME##_MESSAGEBYTES_MAX);   \
-        HOLDS(crypto_aead_##NAME##_MESSAGEBYTES_MAX == (1ULL << 61) - 1);                          \
-        crypto_aead_##NAME##_keygen(k);                                                            \
-        HOLDS(memcmp(k, other, sizeof k) != 0);                                                    \
-        crypto_aead_##NAME##_keygen(other);                                                        \
-        HOLDS(memcmp(k, other, sizeof k) != 0);                                                    \
-        HOLDS(crypto_aead_##NAME##_encrypt(c, &length, NULL, 0, NULL, 0, NULL, npub, k) == 0);     \
-        HOLDS(length == TAG_BYTES);                                                                \
-        HOLDS(crypto_aead_##NAME##_decrypt(NULL, &length, NULL, c, sizeof c, NULL, 0, npub, k) ==  \
-              0);                                                                                  \
-        HOLDS(length == 0);                                                                        \
-        HOLDS(crypto_aead_##NAME##_decrypt(&byte, &length, NULL, c, 32, NULL, 0, npub, k) == 0);   \
-        HOLDS(byte == 0x55);                                                                       \
-        /* Too long, and so refused before a byte is read. */                                      \
-        length = NO_LENGTH;                                                                        \
-        HOLDS(crypto_aead_##NAME##_decrypt(&byte, &length, NULL, c, ~0ULL, NULL, 0, npub, k) ==    \
-              -1);                                                                                 \
-        HOLDS(length == 0 && byte == 0x55);                                                        \
-        HOLDS(crypto_aead_##NAME##_decrypt_detached(&byte, NULL, c, 1, c, c, ~0ULL, npub, k) ==    \
-              -1);                                                                                 \
-        HOLDS(crypto_aead_##NAME##_decrypt_detached(&byte, NULL, c, ~0ULL, c, c, 1, npub, k) ==    \
-              -1);                                                                                 \
-        HOLDS(byte == 0x55);                                                                       \
-    }
-
 /* More than the most bytes end the program if they are to be encrypted. */
-#define TOO_LONG(NAME)                                                                             \
-    static void NAME##_too_long(unsigned long long mlen, unsigned long long adlen)                 \
-    {                                                                                              \
-        static uint8_t c[64], k[32];                                                               \
-        signal(SIGABRT, on_abort);                                                                 \
-        if (setjmp(end_of_program) == 0) {                                                         \
-            crypto_aead_##NAME##_encrypt_detached(c, c, NULL, c, mlen, c, adlen, NULL, k, k);      \
-            HOLDS(!"the program goes on");                                                         \
-        }                                                                                          \
-        signal(SIGABRT, on_abort);                                                                 \
-        if (setjmp(end_of_program) == 0) {                                                         \
-            crypto_aead_##NAME##_encrypt(c, NULL, c, mlen, c, adlen, NULL, k, k);                  \
-            HOLDS(!"the program goes on");                                                         \
-        }                                                                                          \
-        HOLDS(all_are(c, sizeof c, 0));                                                            \
-    }
-
-TESTS(aegis128l, HUNKRAVY_AEGIS128L)
-TESTS(aegis256, HUNKRAVY_AEGIS256)
-TOO_LONG(aegis128l)
-TOO_LONG(aegis256)
-
-static void check_line(const struct line *line)
+static void check_too_long(const struct cipher *cipher, unsigned long long mlen,
+                           unsigned long long adlen)
 {
-    int is_seal = line->command[0] == 's';
-    size_t tag_bytes = is_seal ? line->number : line->tag.length;
+    static uint8_t c[64], k[32];
 
-    if (tag_bytes != TAG_BYTES || line->command[0] == 'm') {
-        return;
+    signal(SIGABRT, on_abort);
+    if (setjmp(end_of_program) == 0) {
+        cipher->encrypt_detached(c, c, NULL, c, mlen, c, adlen, NULL, k, k);
+        HOLDS(!"the program goes on");
     }
-    if (strcmp(line->variant->name, "aegis128l") == 0) {
-        (is_seal ? aegis128l_seal : aegis128l_open)(line);
-    } else if (strcmp(line->variant->name, "aegis256") == 0) {
-        (is_seal ? aegis256_seal : aegis256_open)(line);
+    signal(SIGABRT, on_abort);
+    if (setjmp(end_of_program) == 0) {
+        cipher->encrypt(c, NULL, c, mlen, c, adlen, NULL, k, k);
+        HOLDS(!"the program goes on");
     }
+    HOLDS(all_are(c, sizeof c, 0));
+}
+
+/* ---- Random bytes */
+
+/* By chance no byte is zero 20 times, and no 8 bytes of two keys are the same. */
+static void check_random(void)
+{
+    uint8_t bytes[64], drawn[64] = {0}, k[32], other[32];
+
+    for (size_t turn = 0; turn < 20; turn++) {
+        memset(bytes, 0, sizeof bytes);
+        randombytes_buf(bytes, sizeof bytes);
+        for (size_t i = 0; i < sizeof bytes; i++) {
+            drawn[i] |= bytes[i];
+        }
+    }
+    HOLDS(memchr(drawn, 0, sizeof drawn) == NULL);
+    for (size_t i = 0; i < COUNT(CIPHERS); i++) {
+        memset(k, 0, sizeof k);
+        memset(other, 0, sizeof other);
+        CIPHERS[i].keygen(k);
+        CIPHERS[i].keygen(other);
+        for (size_t at = 0; at < CIPHERS[i].key_bytes; at += 8) {
+            HOLDS(memcmp(k + at, other + at, 8) != 0);
+        }
+        HOLDS(all_are(k + CIPHERS[i].key_bytes, sizeof k - CIPHERS[i].key_bytes, 0));
+    }
+}
+
+static void check_memzero(void)
+{
+    uint8_t bytes[64];
+
+    memset(bytes, 0x55, sizeof bytes);
+    sodium_memzero(bytes, sizeof bytes);
+    sodium_memzero(NULL, 0);
+    HOLDS(all_are(bytes, sizeof bytes, 0));
 }
 
 int main(int count, char **arguments)
 {
     static const char *const files[] = {"published", "wycheproof",     "seal",
                                         "open",      "seal-in-pieces", "open-in-pieces"};
-    uint8_t bytes[64], drawn[64] = {0};
 
     HOLDS(count == 2 && sodium_init() >= 0);
-    for (size_t i = 0; i < sizeof files / sizeof files[0]; i++) {
+    for (size_t i = 0; i < COUNT(files); i++) {
         for_each_line(arguments[1], files[i], check_line);
     }
-    for (size_t length = 0; length < 600; length++) {
-        aegis128l_random(length);
-        aegis256_random(length);
+    check_constants();
+    for (size_t i = 0; i < COUNT(CIPHERS); i++) {
+        check_lengths(&CIPHERS[i]);
+        check_too_long(&CIPHERS[i], 1ULL << 61, 0);
+        check_too_long(&CIPHERS[i], 0, 1ULL << 61);
+        check_too_long(&CIPHERS[i], ~0ULL, 0);
+        check_too_long(&CIPHERS[i], 0, ~0ULL);
     }
-    aegis128l_rest();
-    aegis256_rest();
-    aegis128l_too_long(1ULL << 61, 0);
-    aegis128l_too_long(0, 1ULL << 61);
-    aegis256_too_long(~0ULL, 0);
-    aegis256_too_long(0, ~0ULL);
-    /* Each byte is drawn: none is zero 20 times by chance. */
-    for (size_t i = 0; i < 20 * sizeof bytes; i++) {
-        if (i % sizeof bytes == 0) {
-            memset(bytes, 0, sizeof bytes);
-            randombytes_buf(bytes, sizeof bytes);
-        }
-        drawn[i % sizeof bytes] |= bytes[i % sizeof bytes];
-    }
-    HOLDS(memchr(drawn, 0, sizeof drawn) == NULL);
-    memset(bytes, 0x55, sizeof bytes);
-    sodium_memzero(bytes, sizeof bytes);
-    sodium_memzero(NULL, 0);
-    HOLDS(all_are(bytes, sizeof bytes, 0));
+    check_random();
+    check_memzero();
     printf("%s: %lu checks, all right\n", LIBRARY, checks);
     return EXIT_SUCCESS;
 }

@@ -19,8 +19,6 @@ static const size_t LENGTHS[] = {0,  1,  15, 16, 17,  31,  32,  33,
                                  63, 64, 65, 127, 128, 129, 300, LONGEST};
 static const size_t DATA_LENGTHS[] = {0, 13, LONGEST_DATA};
 
-#define COUNT(values) (sizeof(values) / sizeof(values)[0])
-
 /* ---- What is secret, and what is public */
 
 struct secret {
