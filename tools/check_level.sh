@@ -15,16 +15,15 @@ fail() {
     exit 1
 }
 
-# The archive is one object. The sections of each build's functions have its level in their names. The names of AVX's
-# instructions begin with v; verr and verw are older.
+# The archive is one object. The sections of each build's functions have its level in their names, and begin at a multiple of
+# 64 bytes. The names of AVX's instructions begin with v; verr and verw are older.
 ar x "$archive"
-has_avx() {
-    objdump -d --no-show-raw-insn hunkravy.o | awk -F '\t' -v level=".text.$1." '/^Disassembly/ { inside = index($0, level) }
-        inside && $2 ~ /^v/ && $2 !~ /^ver[rw]/ { found = 1 } END { exit !found }'
-}
-if has_avx v2; then fail 'the build for x86-64-v2 has instructions of AVX'; fi
-has_avx v3 || fail 'the build for x86-64-v3 has no instruction of AVX'
 for level in v2 v3; do
+    found=$(objdump -d --no-show-raw-insn hunkravy.o | awk -F '\t' -v level=".text.$level." '
+        /^Disassembly/ { inside = index($0, level) }
+        inside && $2 ~ /^v/ && $2 !~ /^ver[rw]/ { has_avx = 1 }
+        END { print has_avx ? "v3" : "v2" }')
+    [ "$found" = "$level" ] || fail "the build for x86-64-$level has the instructions of x86-64-$found"
     objdump -h hunkravy.o | awk -v level=".text.$level." 'index($2, level) == 1 {
             sections++; if ($NF != "2**6" || $3 == "00000000") bad = $2 }
         END { if (sections < 40 || bad) { print "a function begins at no multiple of 64 bytes: " bad; exit 1 } }'
@@ -38,7 +37,6 @@ cat > level.c << 'END'
 #include <signal.h>
 #include <stdint.h>
 #include <stdio.h>
-#include <stdlib.h>
 #include <string.h>
 #include <unistd.h>
 extern char __executable_start;
@@ -48,9 +46,6 @@ static char **pointer_of(void (*name)(void))
 {
     const unsigned char *code = (const unsigned char *)name;
     int32_t offset;
-    if (code[0] != 0xff || code[1] != 0x25) {
-        exit(100);
-    }
     memcpy(&offset, code + 2, sizeof offset);
     return (char **)(code + 6 + offset);
 }

@@ -17,11 +17,8 @@ fail() {
 # run_tests FOLDER: runs the tests with the package of a folder. Some versions of unittest pass with no tests, and one
 # test counts them.
 run_tests() {
-    if ! (cd tests && PYTHONPATH=$1 python3 -W error -m unittest -v) > "$work/log" 2>&1; then
-        cat "$work/log"
-        fail 'a test failed'
-    fi
-    grep -E '^Ran [1-9][0-9]* tests' "$work/log"
+    (cd tests && PYTHONPATH=$1 python3 -W error -m unittest -v) > "$work/log" 2>&1 || { cat "$work/log"; fail 'a test failed'; }
+    grep '^Ran ' "$work/log"
     grep -qE '^test_all_tests .* ok$' "$work/log" || fail 'the tests were not counted'
 }
 

@@ -1,7 +1,6 @@
 """Sealed files: writing and reading, damaged files that the tests of the tool and of Rust read too, and the tool."""
 
 import concurrent.futures
-import csv
 import io
 import itertools
 import os
@@ -15,12 +14,12 @@ import time
 import tracemalloc
 import unittest
 import warnings
-from typing import Any, BinaryIO, Iterator, Optional, cast
+from typing import Any, BinaryIO, Optional, cast
 from unittest import mock
 
+from damaged import DATA, damaged_files
 from hunkravy import SealedFileError, SealedReader, SealedWriter, _native, read_key
 
-DATA = pathlib.Path(__file__).parents[2] / "crates" / "hunkravy" / "data"
 KEY = read_key(DATA / "key")
 PREFIX = bytes(range(24))
 PIECE = 65_536
@@ -97,37 +96,6 @@ class Slow(io.RawIOBase):
 
 def slow(data: bytes = b"", most: int = 7, fails: Optional[dict[int, Any]] = None) -> BinaryIO:
     return cast(BinaryIO, Slow(data, most, fails))
-
-
-def damaged_files() -> Iterator[tuple[str, bytes, bytes, str, int]]:
-    """The names, the bytes and the keys of the damaged files, their causes, and how many bytes are verified before."""
-    whole = (DATA / "records.sealed").read_bytes()
-    with open(DATA / "damaged.csv", newline="") as file:
-        for row in csv.DictReader(file):
-            data, key = whole, KEY
-            for operation in filter(None, row["operations"].split(";")):
-                name, *words = operation.split(" ")
-                if name == "wrongkey":
-                    key = bytes(32)
-                elif name == "append":
-                    data += bytes.fromhex(words[0])
-                elif name == "cut":
-                    data = data[: int(words[0])]
-                else:
-                    data = changed(data, name, int(words[0]), words[1])
-            yield row["name"], data, key, row["cause"], int(row["verified"])
-
-
-def changed(data: bytes, name: str, offset: int, argument: str) -> bytes:
-    """What an operation at an offset makes of data."""
-    new, end = b"", offset
-    if name == "remove":
-        end += int(argument)
-    else:
-        assert name in ("set", "insert"), name
-        new = bytes.fromhex(argument)
-        end += len(new) if name == "set" else 0
-    return data[:offset] + new + data[end:]
 
 
 class Damaged(unittest.TestCase):
