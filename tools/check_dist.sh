@@ -131,9 +131,8 @@ best=x86-64-v3
 for feature in avx2 bmi2 fma; do
     grep -m 1 -q -w $feature /proc/cpuinfo || best=x86-64-v2
 done
-sh -c 'echo "$1" $$; exec "$0" "a word" ""' "$work/by-link" "$best" > "$work/started"
-[ "$(sed -n 1p "$work/started")" = "$(sed -n 2p "$work/started")" ] || fail 'the tool is not started for the level of this processor'
-[ "$(sed -n 3p "$work/started")" = '<a word><>' ] || fail 'the tool gets other words'
+(cd "$work" && sh -c 'printf "%s %s\n<a word><>" "$1" $$ > expected; exec "$0" "a word" "" > started' ./by-link "$best")
+cmp "$work/expected" "$work/started" || fail 'the tool is not started for the level of this processor, with its words'
 mkdir "$start/none" && printf '#!/bin/sh\nexit 1\n' > "$start/none/grep" && chmod +x "$start/none/grep"
 has <(PATH=$start/none:$PATH "$start/bin/hunkravy") '^x86-64-v2 '
 

@@ -131,7 +131,8 @@ def contracts(crate, name):
     own = [function.contract for function in functions_of(crate) if function.name == name]
     if any(map(CLAUSE.search, own)):
         return own
-    return [function.contract for other in sorted(CRATES.iterdir()) for function in functions_of(other) if function.name == name]
+    every = [function for other in sorted(CRATES.iterdir()) for function in functions_of(other)]
+    return [function.contract for function in every if function.name == name]
 
 
 @functools.cache
@@ -148,14 +149,14 @@ def clauses_of(text):
     return {name for _, name in CLAUSE.findall(text)}
 
 
-def has_clause(crate, function, clause):
-    """Whether a function has a clause of this name, or one that says a definition of this name, or with such a field."""
+def names_of(crate, function):
+    """Returns the names that a function's clauses have: their own, and those of the definitions and fields that they say."""
+    found = set()
     for contract in contracts(crate, function):
         words = words_of(contract)
-        is_definition = clause in words and clause[0].isupper()
-        if is_definition or clause in clauses_of(contract) or any(clause in fields().get(word, ()) for word in words):
-            return True
-    return False
+        found |= clauses_of(contract) | {word for word in words if word[0].isupper()}
+        found = found.union(*(fields().get(word, ()) for word in words))
+    return found
 
 
 def part_fault(edit, part):
@@ -170,8 +171,9 @@ def part_fault(edit, part):
         return f"it does not say of which function: {part}"
     crate, inside, named = edit.crate, changed(edit), WORD.findall(clauses)
     if clauses.startswith("the condition "):
-        calls = any(function in other.body for other in functions_of(crate) if other.name in inside)
-        return None if calls and has_clause(crate, function, named[0]) else f"what it changes calls no {function} with such a condition"
+        is_called = any(function in other.body for other in functions_of(crate) if other.name in inside)
+        has_it = is_called and named[0] in names_of(crate, function)
+        return None if has_it else f"what it changes calls no {function} with such a condition"
     if function not in inside | callers(crate, inside):
         return f"{function} is not changed, and calls nothing that is: {', '.join(sorted(inside))}"
     if clauses == "a loop's invariant":
@@ -183,7 +185,7 @@ def part_fault(edit, part):
         return f"its clauses are not names alone: {clauses}"
     # A function that the mutant adds may have clauses of its own.
     added = {name for _, _, new in edit.replacements if f"fn {function}(" in new for name in clauses_of(new)}
-    missing = [name for name in named if name not in added and not has_clause(crate, function, name)]
+    missing = [name for name in named if name not in added | names_of(crate, function)]
     return f"{function} has no clause {missing[0]}" if missing else None
 
 

@@ -15,9 +15,7 @@ mkdir -p "$work"
 
 # Installs with `make` into a folder.
 install_to() {
-    local folder=$1
-    shift
-    "${MAKE:-make}" --no-print-directory -s "$@" DESTDIR="$PWD/$folder" OUT="$out" > /dev/null
+    "${MAKE:-make}" --no-print-directory -s "${@:2}" DESTDIR="$PWD/$1" OUT="$out" > /dev/null
 }
 
 # What was proved, by what: the run of the gate that made these builds, if the sources are still those that it proved.
@@ -56,7 +54,8 @@ archive() {
     cp dist/VERIFY.md "$folder"
     cp bench/x86-64-v3/peers.svg "$folder/speed.svg"
     settle "$folder"
-    tar -C "$work" --sort=name --owner=0 --group=0 --numeric-owner --format=gnu -cf - "$name" | gzip -9n > "$out/dist/$name.tar.gz"
+    tar -C "$work" --sort=name --owner=0 --group=0 --numeric-owner --format=gnu -cf - "$name" |
+        gzip -9n > "$out/dist/$name.tar.gz"
     cp "$wheel" "$out/dist"
 }
 

@@ -19,9 +19,10 @@ import shutil
 import subprocess
 import sys
 
-CRATES = pathlib.Path("crates")
-OUT = pathlib.Path("out")
+CRATES, OUT = pathlib.Path("crates"), pathlib.Path("out")
 PROVED, WORK, LINE = OUT / "proved", OUT / "proved-work", OUT / "proved-line"
+RT = shutil.which("rt") or ""
+KIT = os.path.dirname(os.path.dirname(os.path.realpath(RT)))
 
 
 # ---- The crates
@@ -45,18 +46,18 @@ def below(rows, name):
     return found.union(*(below(rows, library) for library in found))
 
 
-def sources_of(name):
-    """Yields the files that a crate and those below it are built from."""
+def print_sources(name):
+    """Prints the files that a crate and those below it are built from."""
     rows, _ = listed()
     for crate in sorted(below(rows, name) | {name}):
         for part in ("src", "specs", "proofs"):
-            yield from sorted(path for path in (CRATES / crate / part).glob("**/*") if path.is_file())
+            print(*sorted(path for path in (CRATES / crate / part).glob("**/*") if path.is_file()))
 
 
 # ---- What is proved
 
 
-def read_files():
+def sources():
     """Yields the files that `rt ci` reads."""
     yield from (path for path in CRATES.glob("**/*") if path.is_file() and "out" not in path.parts[2:3])
     yield from (pathlib.Path("crates.txt"), pathlib.Path("HANDLES"))
@@ -72,12 +73,6 @@ def sums(paths):
     return "".join(f"{hashlib.sha256(path.read_bytes()).hexdigest()}  {path}\n" for path in sorted(paths))
 
 
-def kit():
-    """Returns the program rt, and the folder of the kit that it is of."""
-    rt = shutil.which("rt") or sys.exit("rt is not installed")
-    return rt, os.path.dirname(os.path.dirname(os.path.realpath(rt)))
-
-
 def run():
     """Runs `rt ci`, writes what it proved, and returns its status."""
     OUT.mkdir(exist_ok=True)
@@ -86,13 +81,13 @@ def run():
     shutil.rmtree(WORK, ignore_errors=True)
     # Libraries where rt writes its own, or where rt puts back some.
     others = [*CRATES.glob("*/out/rlib"), *pathlib.Path(".git").glob("rt-aside/*/rlib")]
-    before, line = sums(read_files()), ""
-    with subprocess.Popen([kit()[0], "ci"], stdout=subprocess.PIPE, stderr=subprocess.STDOUT, text=True) as process:
+    before, line = sums(sources()), ""
+    with subprocess.Popen([RT, "ci"], stdout=subprocess.PIPE, stderr=subprocess.STDOUT, text=True) as process:
         for line in process.stdout:
             print(line, end="", flush=True)
     if process.returncode:
         return process.returncode
-    if others or sums(read_files()) != before:
+    if others or sums(sources()) != before:
         print("note: a library stood in crates/*/out, or a source was changed: what is built is proved once more", file=sys.stderr)
         return 0
     LINE.write_text(line, "utf-8")
@@ -104,21 +99,21 @@ def check():
     """Ends with a message unless the sources and the libraries are those that `run` has proved."""
     if not PROVED.is_file():
         sys.exit(f"{PROVED} is not there: nothing was proved")
-    if sums(read_files()) + sums(libraries()) != PROVED.read_text("utf-8"):
+    if sums(sources()) + sums(libraries()) != PROVED.read_text("utf-8"):
         sys.exit(f"a source or a library is not that of {PROVED}")
 
 
 # ---- What is built
 
 
-def words(folder, rows, name, is_static):
-    """Returns rattle's words for a crate, as rt passes them, with the kit in this folder."""
-    own = CRATES.absolute()
-    found = ["--crate-name", name, "src/lib.rt" if is_static else "src/main.rt", "-L", f"dependency={folder}/rlibs"]
-    found += ["--links", f"{name}=", "--antt-project", f"{folder}/rattle/logic/antt-project.json"]
-    found += ["--logic-built", f"{folder}/logic_built"]
+def words(name, is_static):
+    """Returns rattle's words for a crate, as rt passes them."""
+    rows, own = listed()[0], CRATES.absolute()
+    found = ["--crate-name", name, "src/lib.rt" if is_static else "src/main.rt", "-L", f"dependency={KIT}/rlibs"]
+    found += ["--links", f"{name}=", "--antt-project", f"{KIT}/rattle/logic/antt-project.json"]
+    found += ["--logic-built", f"{KIT}/logic_built"]
     for library in ["std", *rows[name]]:
-        place = own / library / "out/rlib" if library in rows else f"{folder}/rlibs"
+        place = own / library / "out/rlib" if library in rows else f"{KIT}/rlibs"
         found += ["--extern", f"{library}={place}/{library}.rlib"]
     for library in sorted(below(rows, name)):
         found += ["-L", f"dependency={own / library / 'out/rlib'}"]
@@ -128,29 +123,23 @@ def words(folder, rows, name, is_static):
 def build(name, file, *flags):
     """Proves a crate over what was proved, and builds it."""
     check()
-    rows, static = listed()
-    _, folder = kit()
-    is_static, file = name in static, os.path.abspath(file)
+    is_static, file = name in listed()[1], os.path.abspath(file)
     built, how = file if is_static else f"{file}.o", {"check": True, "stdin": subprocess.DEVNULL, "cwd": CRATES / name}
-    toolchain = ["--toolchain", f"{folder}/toolchain"]
-    found = [*words(folder, rows, name, is_static), *flags, "--incremental", os.path.abspath(WORK / name), *toolchain]
-    subprocess.run([f"{folder}/bin/rattle", "build", *found, "--backend", "llvm", "-o", built], **how)
+    toolchain = ["--toolchain", f"{KIT}/toolchain"]
+    found = [*words(name, is_static), *flags, "--incremental", os.path.abspath(WORK / name), *toolchain, "--backend", "llvm"]
+    subprocess.run([f"{KIT}/bin/rattle", "build", *found, "-o", built], **how)
     if not is_static:
         found = ["--target", "x86_64-unknown-linux-gnu", *toolchain, "-o", file, built]
-        subprocess.run([f"{folder}/bin/rattle-link", *found, f"{folder}/c/libos_c.a", f"{folder}/c/liblibc_c.a"], **how)
+        subprocess.run([f"{KIT}/bin/rattle-link", *found, f"{KIT}/c/libos_c.a", f"{KIT}/c/liblibc_c.a"], **how)
         os.remove(built)
 
 
 if __name__ == "__main__":
     command, *rest = sys.argv[1:]
-    if command == "sources":
-        print("\n".join(map(str, sources_of(*rest))))
-    elif command == "run":
-        sys.exit(run())
-    elif command == "check":
-        check()
-    else:
-        try:
-            build(*rest)
-        except subprocess.CalledProcessError as error:
-            sys.exit(error.returncode if error.returncode > 0 else 1)
+    if command in ("run", "build") and not RT:
+        sys.exit("rt is not installed")
+    try:
+        result = {"sources": print_sources, "check": check, "run": run, "build": build}[command](*rest)
+    except subprocess.CalledProcessError as error:
+        result = error.returncode if error.returncode > 0 else 1
+    sys.exit(result)

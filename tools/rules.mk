@@ -61,8 +61,6 @@ check-batches: $(BATCHES)
 $(BATCHES): $(call sources,example_batches)
 	cd crates/example_batches && rt run > /dev/null
 
-# ---- The gate
-
 # That nothing is built over what the gate has not proved.
 check-proved:
 	tools/check_proved.sh

@@ -63,7 +63,7 @@ def commands(help_of):
         if name != "help":
             text = help_of("help", name)
             options = [Option(*found) for found in parts(text, "Options", OPTION)]
-            yield name, about, [option for option in options if option.long != "help"], [*parts(text, "Arguments", OPERAND)]
+            yield name, about, [it for it in options if it.long != "help"], list(parts(text, "Arguments", OPERAND))
 
 
 def man(found, text, version):

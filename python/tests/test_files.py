@@ -1,6 +1,7 @@
 """Sealed files: writing and reading, damaged files that the tests of the tool and of Rust read too, and the tool."""
 
 import concurrent.futures
+import csv
 import io
 import itertools
 import os
@@ -14,12 +15,12 @@ import time
 import tracemalloc
 import unittest
 import warnings
-from typing import Any, BinaryIO, Optional, cast
+from typing import Any, BinaryIO, Iterator, Optional, cast
 from unittest import mock
 
-from damaged import DATA, damaged_files
 from hunkravy import SealedFileError, SealedReader, SealedWriter, _native, read_key
 
+DATA = pathlib.Path(__file__).parents[2] / "crates" / "hunkravy" / "data"
 KEY = read_key(DATA / "key")
 PREFIX = bytes(range(24))
 PIECE = 65_536
@@ -96,6 +97,37 @@ class Slow(io.RawIOBase):
 
 def slow(data: bytes = b"", most: int = 7, fails: Optional[dict[int, Any]] = None) -> BinaryIO:
     return cast(BinaryIO, Slow(data, most, fails))
+
+
+def damaged_files() -> Iterator[tuple[str, bytes, bytes, str, int]]:
+    """The names, the bytes and the keys of the damaged files, their causes, and how many bytes are verified before."""
+    whole = (DATA / "records.sealed").read_bytes()
+    with open(DATA / "damaged.csv", newline="") as file:
+        for row in csv.DictReader(file):
+            data, key = whole, KEY
+            for operation in filter(None, row["operations"].split(";")):
+                name, *words = operation.split(" ")
+                if name == "wrongkey":
+                    key = bytes(32)
+                elif name == "append":
+                    data += bytes.fromhex(words[0])
+                elif name == "cut":
+                    data = data[: int(words[0])]
+                else:
+                    data = changed(data, name, int(words[0]), words[1])
+            yield row["name"], data, key, row["cause"], int(row["verified"])
+
+
+def changed(data: bytes, name: str, offset: int, argument: str) -> bytes:
+    """What an operation at an offset makes of data."""
+    new, end = b"", offset
+    if name == "remove":
+        end += int(argument)
+    else:
+        assert name in ("set", "insert"), name
+        new = bytes.fromhex(argument)
+        end += len(new) if name == "set" else 0
+    return data[:offset] + new + data[end:]
 
 
 class Damaged(unittest.TestCase):
@@ -628,6 +660,15 @@ class Tool(unittest.TestCase):
     """The files of the tool that HUNKRAVY_TOOL is the path of, and these."""
 
     tool = os.environ.get("HUNKRAVY_TOOL", "")
+    # What its message says of each cause.
+    says = {
+        "header": "is not a sealed file",
+        "truncated": "is cut off",
+        "flag": "where a record should begin is none",
+        "too_long": "where a record should begin is none",
+        "trailing": "goes on after the end",
+        "damaged 0": "the key is not the one",
+    }
 
     def setUp(self) -> None:
         if "HUNKRAVY_TOOL" not in os.environ:
@@ -638,7 +679,8 @@ class Tool(unittest.TestCase):
         self.folder = pathlib.Path(folder.name)
 
     def run_tool(self, *arguments: object) -> "subprocess.CompletedProcess[bytes]":
-        return subprocess.run([self.tool, *map(str, arguments)], cwd=self.folder, capture_output=True)
+        # Without the variables by which these tests may run with a sanitizer.
+        return subprocess.run([self.tool, *map(str, arguments)], cwd=self.folder, capture_output=True, env={})
 
     def test_exchange(self) -> None:
         self.assertEqual(self.run_tool("keygen", "key").returncode, 0)
@@ -657,13 +699,35 @@ class Tool(unittest.TestCase):
             self.assertEqual(names[3].read_bytes(), contents)
 
     def test_damaged_files(self) -> None:
-        (self.folder / "zeros").write_text("00" * 32 + "\n")
+        (self.folder / "other").write_text("ab" * 32)
         for name, data, key, cause, verified in damaged_files():
             with self.subTest(name):
                 (self.folder / "sealed").write_bytes(data)
-                key_file = DATA / "key" if key == KEY else self.folder / "zeros"
-                opened = self.run_tool("open", "-k", key_file, "sealed", "-")
-                self.assertEqual((opened.returncode, len(opened.stdout)), (0 if cause == "none" else 1, verified))
+                (self.folder / "key").write_text(key.hex())
+                contents = b"xyz" if "with-contents" in name else Damaged.contents
+                opened = self.run_tool("open", "-k", "key", "sealed")
+                self.assertEqual((opened.returncode, opened.stdout), (cause != "none", contents[:verified]))
+                if cause != "none":
+                    says = self.says.get(cause, f"is damaged.* record {cause[-1]} ")
+                    self.assert_rejected("AGR1" if name == "header-version-1" else says, cause == "header")
+                    self.assert_parts(contents, verified)
+
+    def assert_rejected(self, says: str, is_header: bool) -> None:
+        """Each command says why, and leaves no output. Without the key the header is read, and the lengths."""
+        commands = ["open -k key sealed out", "check -k key sealed", "rekey -k key -n other sealed out"]
+        for words in commands + ["info sealed", "open -k key --from 0 sealed out"] * is_header:
+            rejected = self.run_tool(*words.split())
+            self.assertEqual(rejected.returncode, 1, words)
+            self.assertRegex(rejected.stderr.decode(), says)
+        self.assertEqual(sorted(os.listdir(self.folder)), ["key", "other", "sealed"])
+
+    def assert_parts(self, contents: bytes, verified: int) -> None:
+        """Each part is right or is rejected after a beginning of it, and one of what was verified is right."""
+        for first, length in itertools.product((0, 9, 10, 17, 22), (2, 300)):
+            part = self.run_tool("open", "-k", "key", "--from", first, "--length", length, "sealed")
+            right = contents[first : first + length]
+            self.assertIn(part.returncode, (0,) if first + length <= verified else (0, 1))
+            self.assertEqual(part.stdout, right[: len(part.stdout)] if part.returncode else right)
 
     def test_key_files(self) -> None:
         ends = [b"", b"\n", b"\r\n", b"\t\v", b"\f", b"\xc2\x85", b"\xc2\xa0", b"\x1c", b"\0", b"0", b"\n\n\n", b"\xa0"]

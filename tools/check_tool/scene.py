@@ -14,10 +14,6 @@ import unittest
 
 TOOL = os.environ["TOOL"]
 ROOT = pathlib.Path(__file__).resolve().parents[2]
-PIECE = 65_536
-
-# damaged.py, for the damaged files that the package's tests read too.
-sys.path.append(str(ROOT / "python/tests"))
 
 
 def write(name, contents):
@@ -31,16 +27,9 @@ def read(name):
     return pathlib.Path(name).read_bytes()
 
 
-def flipped(name, place):
-    """Writes a copy of a file with one bit of this byte changed."""
-    contents = bytearray(read(name))
-    contents[place] ^= 1
-    return write("flipped", bytes(contents))
-
-
-def parts(folder="."):
-    """The files that runs have left there."""
-    return [name for name in os.listdir(folder) if re.match(r"\..*\.hunkravy-", name)]
+def parts():
+    """The files that runs have left."""
+    return [name for name in os.listdir() if re.match(r"\..*\.hunkravy-", name)]
 
 
 class Scene(unittest.TestCase):

@@ -1,7 +1,6 @@
 """The calls of the system that a run makes, each failing or killed in turn, and what happens between two of them, by the
 library of calls.c."""
 
-import contextlib
 import os
 import pathlib
 import re
@@ -42,7 +41,7 @@ class Calls(Scene):
         calls that it notes."""
         with open("noted", "w+", encoding="ascii") as noted:
             number = noted.fileno()
-            run = f"ulimit -s {STACK}; exec env LD_PRELOAD=$CALLS_LIBRARY CALLS={number} {settings} $TOOL {words}"
+            run = f"ulimit -s {STACK}; exec env {settings} LD_PRELOAD=$CALLS_LIBRARY CALLS={number} $TOOL {words}"
             self.tool(status, ["bash", "-c", run], says, lacks, pass_fds=(number,))
             noted.seek(0)
             return noted.read().split()
@@ -124,8 +123,7 @@ class Calls(Scene):
     # An output without a folder is in the one that the run began in.
     def test_an_output_without_a_folder(self):
         os.mkdir("place")
-        with contextlib.chdir("place"):
-            self.with_calls(0, "BEFORE=fsync_file RUNS='mv ../place ../aside'", "seal -k ../key ../small out")
+        self.with_calls(0, "-C place BEFORE=fsync_file RUNS='mv ../place ../aside'", "seal -k ../key ../small out")
         self.opens("aside/out", read("small"))
 
     # A link is turned to the key while the input is opened, which may take long.
@@ -187,10 +185,8 @@ class Calls(Scene):
 
     def is_complete(self, command):
         """Whether there is a new output, which is then complete; or it is as it was."""
-        if not os.path.exists("out"):
-            self.assertNotIn("--force", command, "the output of before is gone")
-            return False
-        if read("out") == b"old":
+        before = b"old" if "--force" in command else None
+        if before == (read("out") if os.path.exists("out") else None):
             return False
         if command.startswith("open"):
             self.is_same("out", "text")

@@ -17,7 +17,6 @@ class Words(Scene):
         self.tool(0, "--version", [f"^hunkravy {re.escape(VERSION)}$", "proved by rattle-kit"])
         if shutil.which("rt"):
             self.assertIn("proved by " + subprocess.check_output(["rt", "version"], text=True), self.said)
-        self.tool(0, "-V")
         os.symlink(TOOL, "\033[31m")
         self.tool(0, ["./\033[31m", "--help"], "Exit status", "\033")
 
@@ -43,6 +42,9 @@ class Words(Scene):
         for words in "seal -k key no-such-file out", "seal -k nowhere small out":
             self.tool(3, words)
         self.tool(3, "seal -k key . out", r"^hunkravy: \. is a folder: pack it with tar first")
+        # The tests of the packages have the forms of a key.
+        for wrong in "small", "/dev/null", "/dev/zero":
+            self.tool(3, f"seal -k {wrong} small out", f"key file {wrong} has no key", "chmod")
         self.nothing_left("out")
 
     def test_keygen(self):
@@ -50,17 +52,12 @@ class Words(Scene):
         self.assertEqual([os.stat(name).st_mode & 0o777 for name in ("drawn", "masked")], [0o600, 0o400])
         before = read("drawn")
         self.assertRegex(before, rb"\A[0-9a-f]{64}\n\Z")
+        self.shell(0, "$TOOL check -q -k <(cat key) sealed && $TOOL check -q -k - sealed < key")
         self.tool(3, "keygen drawn", "drawn exists, and keygen replaces no file")
         self.is_same("drawn", before)
         # A file system that is full takes a part of what is written.
         self.shell(3, "trap '' XFSZ; exec prlimit --fsize=32 $TOOL keygen full 2> /dev/null")
         self.nothing_left("full")
-
-    # The tests of the packages have the forms of a key.
-    def test_key_files(self):
-        for wrong in "small", "/dev/null", "/dev/zero":
-            self.tool(3, f"seal -k {wrong} small out", f"key file {wrong} has no key", "chmod")
-        self.shell(0, "$TOOL check -q -k <(cat key) sealed && $TOOL check -q -k - sealed < key")
 
     def test_warning_on_the_mode_of_a_key(self):
         os.chmod("key", 0o644)
@@ -108,7 +105,6 @@ class Words(Scene):
                     "open -k key --from 3 sealed", "rekey -k key -n other sealed", "check -k key sealed":
                 self.shell(3, f"$TOOL {words} >{output}", "hunkravy: standard output cannot be written")
         self.shell(3, "$TOOL seal -k key - closed <&-")
-        self.shell(3, "$TOOL seal -k key text > /dev/full", "o space left")
         self.shell(3, "$TOOL seal -k key /dev/zero 2> said | head -c 1000 > started; exit ${PIPESTATUS[0]}")
         self.nothing_left("closed")
 
