@@ -21,7 +21,7 @@ RUNNABLE = $(if $(shell grep -m1 -w avx2 /proc/cpuinfo),$(LEVELS),x86-64-v2)
 CHECKS = $(shell awk -v most=$$(nproc) '/^MemAvailable/ { n = int($$2 / 2621440); print n < 1 ? 1 : n < most ? n : most }' /proc/meminfo)
 
 # What a crate and those below it are built from.
-sources = $(shell python3 tools/crates.py sources $(1))
+sources = $(shell python3 tools/proved.py sources $(1))
 
 # $(call build,CRATE,FLAGS,COMMAND,FILE): proves a crate and builds it as the rule's target, by rt's command, which writes
 # FILE. In the gate PROVED is set: the crate is then built over the libraries that `rt ci` has just proved.
@@ -63,17 +63,29 @@ $(OUT)/line-program: $(call sources,aegis_vectors) crates.txt | $(OUT)
 test:
 	@RT_JOBS=$(CHECKS) .ci/checks
 
-# What runs in minutes, with no proof: the tests of C, Rust and Python over the last library that was proved, and some before
-# any proof.
-quick: | $(OUT)
-	tools/quick.sh
+# What a change most often breaks, in five minutes on two processors, with no proof: the pages; the tests of C, Rust and Python
+# over the last library that was proved, also if its sources are newer; the line program on the published vectors, and the
+# tests of the round.
+LAST_PROVED = $(OUT)/x86-64-v2/aegis_c.a $(OUT)/x86-64-v3/aegis_c.a
 
-# Tries the wrong bodies that the gate leaves out: the prover has to refuse each.
+quick: check-pages
+	if ls $(LAST_PROVED) > /dev/null 2>&1; then \
+		echo "the C library was proved at revision $$(cat $(OUT)/x86-64-v2/revision)"; \
+		$(MAKE) $(LAST_PROVED:%=-o %) check-header check-c-both check-rust-both python-package; \
+		(cd python/tests && PYTHONPATH="$(CURDIR)/$(OUT)/python" python3 -B -m unittest); \
+	else \
+		echo 'left out: C, Rust and Python, since no library is built: make c-library proves and builds it'; \
+	fi
+	diff <(cd crates/aegis_vectors && rt try < ../test_agreement/data/published.in) crates/test_agreement/data/published.out
+	(cd crates/test_rounds && rt try --test 2>&1) | \
+		awk '{ print } /^test result: ok\. [1-9]/ { passed = 1 } END { exit !passed }'
+
+# Tries the mutants that the gate leaves out: the prover has to refuse each, and to prove each control.
 check-edits:
-	tools/check_edits.sh
+	python3 tools/edits.py try
 
 # Each sample and each quoted contract of the pages stands in a proved crate, no line is too long, each definition that a public
-# contract reaches is listed, each wrong body can be applied, and no link leads nowhere.
+# contract reaches is listed, each mutant can be applied, and no link leads nowhere.
 check-pages:
 	python3 tools/check_pages.py
 	python3 tools/check_habits.py

@@ -37,4 +37,4 @@ check-raf: $(BATCHES) $(LIBRARY)
 	cd rust && export HUNKRAVY_LIB_DIR="$(CURDIR)/$(dir $(LIBRARY))" CARGO_TARGET_DIR="$(CURDIR)/$(RAF)/cargo" && \
 		cargo build --offline --example batches && \
 		HUNKRAVY_BATCHES="$(CURDIR)/$(RAF)/left" cargo test --offline --test raf each_call_of_two_batches
-	tools/check_raf.sh $(BATCHES) $(RAF)/cargo/debug/examples/batches $(RAF)/left
+	tools/check_batches.sh $(BATCHES) $(RAF)/cargo/debug/examples/batches $(RAF)/left

@@ -8,21 +8,21 @@ import sys
 CRATES = pathlib.Path("crates")
 PAGE = pathlib.Path("docs/ARCHITECTURE.md")
 
-# The sources whose public functions and types users name.
-PUBLIC = [
-    *(f"aegis_aes/src/{name}.rt" for name in ("block", "block2", "block4")),
-    *(f"aegis_base/src/{name}.rt" for name in ("chunks", "laws")),
-    *(f"aegis_engine/src/{name}.rt" for name in ("cipher", "encryptor", "decryptor", "mac")),
-    *(f"aegis/src/record/{name}.rt" for name in ("laws", "length", "migration", "open", "position", "seal", "version")),
-    *(f"aegis/src/record/record_{name}.rt" for name in ("opener", "opener/in_place", "sealer", "sealer/in_place")),
-    *(f"aegis_files/src/{name}.rt" for name in ("open", "range", "reading", "rekey", "seal")),
-    *(f"aegis_storage/src/{name}.rt" for name in ("atomic", "laws", "recovery", "store")),
-    *(f"aegis_pages/src/{name}.rt" for name in ("draws", "header", "laws", "layout", "opening", "page", "pages")),
-    *(f"aegis_variants/src/{name}.rt" for name in ("cipher", "variant")),
-    "aegis_lines/src/answer.rt",
-    "aegis_session/src/session.rt",
-    *(f"aegis_c/src/{name}.rt" for name in ("message", "page", "record", "state")),
-]
+# The sources whose public functions and types users name, by their folders.
+PUBLIC = {
+    "aegis/src/record": "laws length migration open position seal version record_opener record_opener/in_place record_sealer "
+    "record_sealer/in_place",
+    "aegis_aes/src": "block block2 block4",
+    "aegis_base/src": "chunks laws",
+    "aegis_c/src": "message page record state",
+    "aegis_engine/src": "cipher encryptor decryptor mac",
+    "aegis_files/src": "open range reading rekey seal",
+    "aegis_lines/src": "answer",
+    "aegis_pages/src": "draws header laws layout opening page pages",
+    "aegis_session/src": "session",
+    "aegis_storage/src": "atomic laws recovery store",
+    "aegis_variants/src": "cipher variant",
+}
 
 # The contracts of a public function, and the views and laws of a type.
 CONTRACT = re.compile(
@@ -42,8 +42,7 @@ def imports(text):
 def cited(path):
     """Returns the files that the public contracts of a source cite."""
     text = path.read_text("utf-8")
-    contracts = "\n".join(found[0] for found in CONTRACT.finditer(text))
-    words = set(re.split(r"[\s(){}\[\],;.]+", contracts))
+    words = {word for contract in CONTRACT.findall(text) for word in re.split(r"[\s(){}\[\],;.]+", contract)}
     return {file for file, names in imports(text) if names & words}
 
 
@@ -52,9 +51,10 @@ def used(path):
     return {file for file, _ in imports(path.read_text("utf-8"))}
 
 
-def reached(files):
-    """Returns these files, and all that they import."""
-    found, left = set(), list(files)
+def reached():
+    """Returns the files that the public contracts cite, and all that these import."""
+    sources = [CRATES / folder / f"{name}.rt" for folder, names in PUBLIC.items() for name in names.split()]
+    found, left = set(), [file for source in sources for file in cited(source)]
     while left:
         if (file := left.pop()) not in found:
             found.add(file)
@@ -64,20 +64,18 @@ def reached(files):
 
 def faults():
     """Yields what is wrong with the list."""
-    wanted = reached(file for source in PUBLIC for file in cited(CRATES / source))
-    listed = {}
+    wanted, listed = reached(), set()
     for crate, module, lines in ROW.findall(PAGE.read_text("utf-8")):
         path = CRATES / crate / "specs" / f"{module}.antt"
         if path not in wanted:
             yield f"no public contract reaches {path}"
             continue
-        if later := used(path) & wanted - listed.keys() - {path}:
+        if later := used(path) & wanted - listed - {path}:
             yield f"{path} stands before {', '.join(map(str, sorted(later)))}, which it uses"
         if int(lines) != (found := path.read_text("utf-8").count("\n")):
             yield f"{path} has {found} lines, not {lines}"
-        listed[path] = lines
-    for path in sorted(wanted - listed.keys()):
-        yield f"{path} is missing"
+        listed.add(path)
+    yield from (f"{path} is missing" for path in sorted(wanted - listed))
 
 
 found = [f"{PAGE}: {fault}" for fault in faults()]

@@ -4,7 +4,7 @@
 set -euo pipefail
 version=$1 out=$2
 . tools/revision.sh
-dist=$PWD/$out/dist
+root=$PWD dist=$PWD/$out/dist
 work=$(mktemp -d)
 trap 'rm -rf "$work"' EXIT
 
@@ -16,24 +16,44 @@ fail() {
 # The same bytes, from a copy in a folder of another name.
 copy=$work/another-name
 mkdir "$copy"
-revision_files | tar --null -T - -cf - | tar -C "$copy" -xf -
-(cd "$out" && find . -path ./dist -prune -o -type f -print0 | tar --null -T - -cf -) | (mkdir "$copy/$out" && tar -C "$copy/$out" -xf -)
+tar --exclude=./.git --exclude="./$out/dist" --exclude='./crates/*/out' -cf - . | tar -C "$copy" -xf -
 epoch=$(revision_time)
 commit=$(revision)
 line=$(if python3 tools/proved.py check 2> /dev/null; then cat out/proved-line; fi)
 (cd "$copy" && touch -c "$out"/*/* && SOURCE_DATE_EPOCH=$epoch COMMIT=$commit GATE_LINE=$line tools/pack.sh "$version" "$out") |
     diff "$dist/SHA256SUMS" -
 
-# What is in them. Without the tools for ARM its archive is left out.
-tools/list_dist.sh "$version" "$dist" | sed "s/$version/VERSION/g" > "$work/contents"
-if ls "$dist"/*aarch64* > /dev/null 2>&1; then
-    diff dist/contents.txt "$work/contents" || fail 'what is packed is not what dist/contents.txt lists'
-else
+# The mode, the owner and the name of each entry of what was packed.
+entries() {
+    awk '{ print $1, $2, $6 ($7 ? " " $7 " " $8 : "") }'
+}
+contents() {
+    for archive in *.tar.gz; do
+        echo "== $archive"
+        tar --numeric-owner -tvzf "$archive" | entries
+    done
+    for package in *.deb; do
+        echo "== $package"
+        dpkg-deb -c "$package" | entries
+        dpkg-deb -f "$package" Package Version Architecture Multi-Arch Depends Section | sed 's/^/   /'
+    done
+    for wheel in *.whl; do
+        echo "== $wheel"
+        python3 -c 'import sys, zipfile
+for entry in zipfile.ZipFile(sys.argv[1]).infolist(): print(oct(entry.external_attr >> 16), entry.filename)' "$wheel"
+    done
+}
+(cd "$dist" && contents) | sed "s/$version/VERSION/g" > "$out/contents.txt"
+missing=none
+if ! ls "$dist"/*aarch64* > /dev/null 2>&1; then
     echo 'left out: the archive for ARM, since aarch64-linux-gnu-gcc is not installed'
-    awk '/^== / { arm = /aarch64|arm64/ } !arm' dist/contents.txt | diff - "$work/contents" || fail 'what is packed is not what dist/contents.txt lists'
+    missing='aarch64|arm64'
 fi
+awk -v missing="$missing" '/^== / { is_missing = $0 ~ missing } !is_missing' dist/contents.txt | diff - "$out/contents.txt" ||
+    fail "dist/contents.txt does not list what is packed, as $out/contents.txt does"
 
 # Everything, unpacked: the archives, the packages as a system of their own, and the wheel.
+install_to=(python3 -m pip install --quiet --no-index --no-deps --disable-pip-version-check --root-user-action=ignore --target)
 mkdir "$work/empty" "$work/site"
 for archive in "$dist"/*.tar.gz; do
     tar -C "$work/empty" -xf "$archive"
@@ -41,47 +61,40 @@ done
 for package in "$dist"/*_amd64.deb; do
     dpkg-deb -x "$package" "$work/system"
 done
-python3 -m pip install --quiet --no-index --no-deps --disable-pip-version-check --root-user-action=ignore --target "$work/site" "$dist"/*_x86_64.whl
+"${install_to[@]}" "$work/site" "$dist"/*_x86_64.whl
+folder=$work/empty/hunkravy-$version-x86_64-linux
 
-# One version, licence and holder. What is proved is of this revision, or of none.
-name=hunkravy-$version-x86_64-linux
-for folder in "$work"/empty/*; do
-    grep -q "^Version: $version\$" "$folder/lib/pkgconfig/hunkravy.pc" || fail "another version in hunkravy.pc"
-    grep -q "^version = \"$version\"" "$folder/rust/Cargo.toml" || fail "another version in Cargo.toml"
-    grep -q "^#define HUNKRAVY_VERSION \"$version\"" "$folder/include/hunkravy.h" || fail "another version in hunkravy.h"
-    grep -q "^- Commit: $commit\$" "$folder/PROVED.md" || fail "PROVED.md is of another revision"
-    grep -q "^- Proofs, mutants, tests and programs of this revision: ${line:-not run here}\$" "$folder/PROVED.md" ||
-        fail "PROVED.md names another run"
+# has FILE EXPRESSION: whether a line of a file is matched.
+has() {
+    grep -q "$2" "$1" || fail "$1 does not have $2"
+}
+
+# One version, licence and holder. What is proved is of this revision, or of none. No link of a page leads nowhere.
+for unpacked in "$work"/empty/*; do
+    has "$unpacked/lib/pkgconfig/hunkravy.pc" "^Version: $version\$"
+    has "$unpacked/rust/Cargo.toml" "^version = \"$version\""
+    has "$unpacked/include/hunkravy.h" "^#define HUNKRAVY_VERSION \"$version\""
+    has "$unpacked/PROVED.md" "^- Commit: $commit\$"
+    has "$unpacked/PROVED.md" "^- Proofs, mutants, tests and programs of this revision: ${line:-not run here}\$"
+    (cd "$unpacked" && python3 "$root/tools/check_pages.py" links) || fail 'a page has a dead link'
 done
-[ "$(PYTHONPATH=$work/site python3 -c 'import hunkravy._version as v; print(v.VERSION)')" = "$version" ] || fail 'another version in the wheel'
-"$work/empty/$name/bin/hunkravy" --version | grep -qw "$version" || fail 'another version of the tool'
-grep -q "\"hunkravy $version\"" "$work/empty/$name/share/man/man1/hunkravy.1" || fail 'another version in the manual page'
+has "$work/site/hunkravy/_version.py" "^VERSION = \"$version\"\$"
+has <("$folder/bin/hunkravy" --version) "^hunkravy $version\$"
+has "$folder/share/man/man1/hunkravy.1" "\"hunkravy $version\""
 for licence in "$work"/empty/*/LICENSE "$work"/system/usr/share/doc/*/copyright "$work"/site/hunkravy-*/LICENSE; do
-    grep -q 'Permission is hereby granted' "$licence" || fail "$licence has no licence"
+    has "$licence" 'Permission is hereby granted'
     [ "$(grep -ihoE 'copyright:? (\(c\) )?2026 .*' "$licence" | sed 's/.*2026 //')" = 'The Hunkravy authors' ] || fail "$licence has another holder"
 done
 
-# The library and the Python module run on glibc 2.17, and the tool on 2.34.
-newest() {
-    objdump -T "$1" | grep -o 'GLIBC_[0-9.]*' | sed 's/GLIBC_//' | sort -V | tail -n 1
+# glibc VERSION FILE..: whether files need no newer version of glibc.
+glibc() {
+    for file in "${@:2}"; do
+        newest=$( (echo "GLIBC_$1" && objdump -T "$file" | grep -o 'GLIBC_[0-9.]*') | sort -V | tail -n 1)
+        [ "$newest" = "GLIBC_$1" ] || fail "$file needs $newest"
+    done
 }
-for file in "$work/empty/$name/lib/libhunkravy.so.0" "$work/site/hunkravy/_native.abi3.so"; do
-    [ "$(printf '%s\n' 2.17 "$(newest "$file")" | sort -V | tail -n 1)" = 2.17 ] || fail "$file needs a glibc newer than 2.17"
-done
-[ "$(printf '%s\n' 2.34 "$(newest "$work/empty/$name/lib/hunkravy/x86-64-v2/hunkravy")" | sort -V | tail -n 1)" = 2.34 ] ||
-    fail 'the tool needs a glibc newer than 2.34'
-
-# No link of a page that is shipped leads nowhere.
-for folder in "$work"/empty/*; do
-    (cd "$folder" && python3 - << 'END') || fail 'a page has a dead link'
-import pathlib, re, sys
-dead = [f"{page}: {link}" for page in pathlib.Path(".").glob("**/*.md")
-        for link in re.findall(r"\]\(([^)\s#]+)", page.read_text("utf-8"))
-        if not re.match(r"[a-z]+:", link) and not (page.parent / link).exists()]
-print("\n".join(dead))
-sys.exit(bool(dead))
-END
-done
+glibc 2.17 "$folder/lib/libhunkravy.so.0" "$work/site/hunkravy/_native.abi3.so"
+glibc 2.34 "$folder/lib/hunkravy/x86-64-v2/hunkravy"
 
 # The sums in each package and in the wheel are those of all of its files, and programs that are built over the shared library
 # depend on this version of it.
@@ -112,26 +125,38 @@ for level in x86-64-v2 x86-64-v3; do
     printf '#!/bin/sh\necho %s $$; printf "<%%s>" "$@"\n' $level > "$start/lib/hunkravy/$level/hunkravy"
     chmod +x "$start/lib/hunkravy/$level/hunkravy"
 done
-install -D "$work/empty/$name/bin/hunkravy" "$start/bin/hunkravy"
+install -D "$folder/bin/hunkravy" "$start/bin/hunkravy"
+ln -s "$start/bin/hunkravy" "$work/by-link"
 best=x86-64-v3
 for feature in avx2 bmi2 fma; do
     grep -m 1 -q -w $feature /proc/cpuinfo || best=x86-64-v2
 done
-ln -s "$start/bin/hunkravy" "$work/by-link"
-sh -c 'echo "$1" $$; exec "$0" "a word" ""' "$work/by-link" "$best" > "$work/started"
-[ "$(sed -n 1p "$work/started")" = "$(sed -n 2p "$work/started")" ] || fail 'the tool is not started for the level of this processor'
-[ "$(sed -n 3p "$work/started")" = '<a word><>' ] || fail 'the tool gets other words'
+(cd "$work" && sh -c 'printf "%s %s\n<a word><>" "$1" $$ > expected; exec "$0" "a word" "" > started' ./by-link "$best")
+cmp "$work/expected" "$work/started" || fail 'the tool is not started for the level of this processor, with its words'
 mkdir "$start/none" && printf '#!/bin/sh\nexit 1\n' > "$start/none/grep" && chmod +x "$start/none/grep"
-PATH=$start/none:$PATH "$start/bin/hunkravy" | grep -q '^x86-64-v2 ' || fail 'the tool is not started on an older processor'
+has <(PATH=$start/none:$PATH "$start/bin/hunkravy") '^x86-64-v2 '
 
-# Used with no kit and nothing of the repository in PATH.
-tests=$PWD/tools/use_dist.sh
+# Used with no kit and nothing of the repository in PATH: from C over the shared library and over the static one, from Rust and
+# Python over what is in the archive, and the tool.
 programs=$(for program in cargo python3; do dirname "$(command -v "$program" || echo "/usr/bin/$program")"; done | paste -sd :)
 use() {
-    (cd "$work" && env -i HOME="$HOME" PATH="$programs:/usr/bin:/bin" "$tests" "$@")
+    (cd "$work" && env -i HOME="$HOME" PATH="$programs:/usr/bin:/bin" "$@")
 }
-use "$work/empty/$name"
-use "$work/system/usr" lib/x86_64-linux-gnu
+system=$work/system/usr
+use make --no-print-directory -C "$root" check-install "OUT=$out" "PREFIX=$folder"
+use make --no-print-directory -C "$root" check-install "OUT=$out" "PREFIX=$system" "LIBRARIES=$system/lib/x86_64-linux-gnu"
+if command -v cargo > /dev/null; then
+    use CARGO_TARGET_DIR=target cargo run -q --offline --manifest-path "$folder/rust/Cargo.toml" --example seal
+fi
+for source in "$folder"/python/*.whl "$folder/python"; do
+    rm -rf "$work/packages"
+    use "${install_to[@]}" packages "$source"
+    use PYTHONPATH=packages python3 "$folder/python/examples/session_token.py"
+done
+for prefix in "$folder" "$system"; do
+    use bash -ec 'rm -f key sealed opened; "$0" keygen key; seq 100000 > text; "$0" seal -k key text sealed
+        "$0" check -k key sealed; "$0" open -k key sealed opened; cmp text opened' "$prefix/bin/hunkravy"
+done
 
 # What Debian wants of packages, where its program is installed.
 if command -v lintian > /dev/null; then

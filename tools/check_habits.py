@@ -1,6 +1,5 @@
 """Habits of writing that make a reader stop, in the pages, headers and doc comments: it prints each, and fails if there are more
-than MOST. A habit is a hint, and some places need one. When there are fewer, lower MOST.
-"""
+than MOST. A habit is a hint, and some places need one. When there are fewer, lower MOST."""
 
 import pathlib
 import re
@@ -49,13 +48,9 @@ def habits_of(sentence):
     yield from (name for name, pattern in HABITS.items() if re.search(pattern, sentence))
 
 
-def main():
-    paths = sorted({path for pattern in PAGES for path in pathlib.Path(".").glob(pattern)})
-    found = [f"{path}: {habit}: {sentence[:120]}" for path in paths for sentence in sentences(path) for habit in habits_of(sentence)]
-    if len(found) > MOST:
-        print("\n".join(found), file=sys.stderr)
-    print(f"{len(found)} habits of writing, at most {MOST}")
-    sys.exit(len(found) > MOST or len(paths) < 100)
-
-
-main()
+paths = sorted({path for pattern in PAGES for path in pathlib.Path(".").glob(pattern)})
+found = [f"{path}: {habit}: {sentence[:120]}" for path in paths for sentence in sentences(path) for habit in habits_of(sentence)]
+if len(found) > MOST:
+    print("\n".join(found), file=sys.stderr)
+print(f"{len(found)} habits of writing, at most {MOST}")
+sys.exit(len(found) > MOST or len(paths) < 100)

@@ -6,6 +6,8 @@
 - A source in Rattle or Rust is named by a `mod` item of the one above it, so no module of tests is left out.
 - A line of a contract has at most 100 columns, one of a source or a page at most 120, but for imports, attributes, tables
   and links; a decision has at most five lines, and some pages have a length of their own.
+
+check_pages.py links: only the links, of the pages of a release.
 """
 
 import pathlib
@@ -22,46 +24,23 @@ MOST_LINES = {"README.md": 125, "docs/CALLING.md": 150, "docs/PROOFS.md": 250, "
 SHOWN = {"README.md": "rust rs c python", "docs/CALLING.md": "rust", "python/README.md": "python"}
 
 CLAUSE = re.compile(r"\s*(requires|ensures)\b")
-FENCE = re.compile(r"^```(\w*)$")
+SAMPLE = re.compile(r"^```(\w*)\n(.*?)^```$", re.M | re.S)
 LINK = re.compile(r"\[[^\]]*\]\(([^)\s]+)\)")
+MAY_BE_LONG = re.compile(r'\s*(ghost use|use |#!?\[|\||[b*]*")|.*\]\(')
 
 
 def read(path):
     return path.read_text("utf-8")
 
 
-def in_one_line(text):
-    return " ".join(text.split())
-
-
-def samples(text):
-    """Yields the language and the text of each sample of a page."""
-    language, lines = None, []
-    for line in text.splitlines():
-        fence = FENCE.match(line)
-        if fence and language is None:
-            language, lines = fence[1], []
-        elif fence:
-            yield language, "\n".join(lines)
-            language = None
-        else:
-            lines.append(line)
+def joined(paths):
+    """Returns the texts of files in one line."""
+    return " ".join(word for path in paths for word in read(path).split())
 
 
 def module_docs(path):
-    """Returns the module docs of a source, whose samples are in Rattle."""
-    lines = [line[3:].removeprefix(" ") for line in read(path).splitlines() if line.startswith("//!")]
-    text, is_open = [], False
-    for line in lines:
-        if line == "```":
-            is_open = not is_open
-            line = "```rust" if is_open else line
-        text.append(line)
-    return "\n".join(text)
-
-
-def joined(paths):
-    return in_one_line("\n".join(read(path) for path in paths))
+    """Returns the module docs of a source, whose samples are in Rattle, although no word says so."""
+    return "".join(re.findall(r"^//! ?(.*\n)", read(path), re.M))
 
 
 def strange_samples():
@@ -72,15 +51,15 @@ def strange_samples():
         "c": joined(sorted(ROOT.glob("c/examples/*.c"))),
     }
     crate_aegis = [path for path in SOURCES if path.parts[1] == "aegis"]
-    outside = joined([path for path in SOURCES if path.parts[1] != "aegis"])
+    outside = {"": joined([path for path in SOURCES if path.parts[1] != "aegis"])}
     pages = [(page, read(page), known) for page in PAGES if page.parts[0] not in ("rust", "python", "bench")]
-    pages += [(path, module_docs(path), {"rust": outside}) for path in crate_aegis]
+    pages += [(path, module_docs(path), outside) for path in crate_aegis]
     for page, text, where in pages:
-        for number, (language, sample) in enumerate(samples(text), 1):
-            if language in where and in_one_line(sample) not in where[language]:
+        for number, (language, sample) in enumerate(SAMPLE.findall(text), 1):
+            if language in where and " ".join(sample.split()) not in where[language]:
                 yield f"{page}: its sample number {number} stands in no source"
     for page, languages in SHOWN.items():
-        shown = {language for language, _ in samples(read(ROOT / page))}
+        shown = {language for language, _ in SAMPLE.findall(read(ROOT / page))}
         yield from (f"{page}: no sample in {language}" for language in languages.split() if language not in shown)
 
 
@@ -121,7 +100,7 @@ def long_lines(path):
     for number, line in enumerate(read(path).splitlines(), 1):
         inside = path.suffix == ".rt" and (inside or CLAUSE.match(line) is not None)
         most = 100 if inside else 120
-        if len(line) > most and not line.lstrip().startswith(("ghost use", "use ", "#[", "#![", "|", '"', 'b"', '*b"')) and "](" not in line:
+        if len(line) > most and not MAY_BE_LONG.match(line):
             yield f"{path}:{number}: {len(line)} columns"
         if line.rstrip().endswith(("}", "};", "{")):
             inside = False
@@ -139,7 +118,9 @@ def long_texts():
             yield f"{page}: {count} lines, and at most {most} are allowed"
 
 
-found = [*strange_samples(), *dead_links(), *long_texts(), *unnamed_modules()]
-found += [place for path in [*SOURCES, *PAGES] for place in long_lines(path)]
+found = list(dead_links())
+if sys.argv[1:] != ["links"]:
+    found += [*strange_samples(), *long_texts(), *unnamed_modules()]
+    found += [place for path in [*SOURCES, *PAGES] for place in long_lines(path)]
 print("\n".join(found), end="\n" if found else "")
 sys.exit(bool(found))

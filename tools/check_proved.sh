@@ -21,7 +21,6 @@ while [ "$1" != -o ]; do shift; done
 echo built > "$2"
 END
 cp "$work/kit/bin/rattle" "$work/kit/bin/rattle-link"
-sed -i 's/while .*/while [ "$1" != -o ]; do shift; done/' "$work/kit/bin/rattle-link"
 chmod +x "$work"/kit/bin/*
 export PATH=$work/kit/bin:$PATH
 cd "$work/repository"

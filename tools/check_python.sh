@@ -17,11 +17,8 @@ fail() {
 # run_tests FOLDER: runs the tests with the package of a folder. Some versions of unittest pass with no tests, and one
 # test counts them.
 run_tests() {
-    if ! (cd tests && PYTHONPATH=$1 python3 -W error -m unittest -v) > "$work/log" 2>&1; then
-        cat "$work/log"
-        fail 'a test failed'
-    fi
-    grep -E '^Ran [1-9][0-9]* tests' "$work/log"
+    (cd tests && PYTHONPATH=$1 python3 -W error -m unittest -v) > "$work/log" 2>&1 || { cat "$work/log"; fail 'a test failed'; }
+    grep '^Ran ' "$work/log"
     grep -qE '^test_all_tests .* ok$' "$work/log" || fail 'the tests were not counted'
 }
 
@@ -34,12 +31,9 @@ names=$(nm -D --defined-only "$module" | awk '{ print $3 }')
 [ "$names" = PyInit__native ] || fail "the native module exports $names"
 if nm -D --undefined-only "$module" | grep hunkravy; then fail 'the native module needs a library'; fi
 
-# Two builds give the same bytes.
-for run in first second; do
-    mkdir "$work/$run"
-    TMPDIR=$work/$run python3 build_wheel.py "$work/$run" "$library" "$(uname -m)" > /dev/null
-done
-cmp "$work"/first/*.whl "$work"/second/*.whl || fail 'two builds of the wheel differ'
+# Another build gives the same bytes as that of `make`.
+again=$(CC=gcc python3 build_wheel.py "$work" "$library" "$(uname -m)")
+cmp "$again" "$(dirname "$folder")/$(basename "$again")" || fail 'two builds of the wheel differ'
 
 # With the sanitizers. Python itself leaks.
 sanitizer=$(gcc -print-file-name=libasan.so)

@@ -1,18 +1,21 @@
-"""The wrong bodies of the crates: those of the gate, in must-fail/, the others, which wrong_bodies.txt lists, and the controls.
+"""The mutants of the crates: those of the gate, in must-fail/, the others, which wrong_bodies.txt lists, and the controls.
 
-A control has the shape of a wrong body and the right meaning, so the prover has to prove it: controls.txt lists them, each
-with the name of the wrong body that it stands beside.
+A control has the shape of a mutant and the right meaning, so the prover has to prove it: controls.txt lists them, each with
+the name of the mutant that it stands beside.
 
 edits.py check: each can be applied, since every text that it replaces stands in its file once, has a name of its own in its
 crate, and names the clauses that refuse it. The function that it changes, or one that calls that, has a clause of each name.
-edits.py split FOLDER [CRATE..]: writes those that are listed to FOLDER/crates/CRATE/must-fail, a file each.
-edits.py controls FOLDER [CRATE..]: the same for the controls, after the wrong bodies that they stand beside.
+edits.py try [CRATE..]: the prover refuses each mutant that is listed, and proves each control.
 """
 
 import functools
 import pathlib
 import re
+import shutil
+import subprocess
 import sys
+import tempfile
+from typing import NamedTuple
 
 CRATES = pathlib.Path("crates")
 FUNCTION = re.compile(r'^( *)(?:pub(?:\(crate\))? |final |const |unsafe |extern "C" )*fn (\w+)', re.M)
@@ -21,68 +24,69 @@ CLAUSE = re.compile(r"\b(requires|ensures)\*?(?: (\w+))? \{")
 WORD = re.compile(r"`([^`]+)`")
 
 
-def listed(path):
-    """Yields the name and the lines of each wrong body or control of a list."""
-    for block in path.read_text("utf-8").split("\n\n")[1:]:
-        name, *lines = block.strip().splitlines()
-        if not name.startswith("name: "):
-            sys.exit(f"{path}: a wrong body begins with its name, and not with {name}")
-        yield name.removeprefix("name: "), lines
+class Edit(NamedTuple):
+    """A mutant or a control: its crate, its name, its lines, what they say, by their first words, and what it replaces: the
+    path below the crate, the old text and the new one."""
+
+    crate: pathlib.Path
+    name: str
+    lines: list
+    said: dict
+    replacements: list
 
 
-def all_edits():
-    """Yields the crate, the name and the lines of each wrong body."""
-    for path in sorted(CRATES.glob("*/must-fail/*.edit")):
-        yield path.parent.parent, path.stem, path.read_text("utf-8").splitlines()
-    for path in sorted(CRATES.glob("*/wrong_bodies.txt")):
-        for name, lines in listed(path):
-            yield path.parent, name, lines
-
-
-def all_controls():
-    """Yields the crate, the name and the lines of each control."""
-    for path in sorted(CRATES.glob("*/controls.txt")):
-        for name, lines in listed(path):
-            yield path.parent, name, lines
-
-
-def replacements(lines):
-    """Yields the path below the crate, the old and the new text of each replacement."""
-    path = old = None
+def edit_of(crate, name, lines):
+    """Returns the edit of these lines."""
+    said, replacements = {"clause:": [], "beside:": [], "file:": [], "old:": [], "new:": []}, []
     for line in lines:
         word, _, rest = line.partition(" ")
-        if word == "file:":
-            path = rest
-        elif word == "old:":
-            old = rest
-        elif word == "new:":
-            yield path, old, rest
-        elif word not in ("clause:", "beside:"):
-            raise ValueError(f"unknown line: {line}")
+        if word not in said:
+            sys.exit(f"{crate.name}: {name}: unknown line: {line}")
+        said[word].append(rest)
+        if word == "new:":
+            replacements.append((said["file:"][-1], said["old:"][-1], rest))
+    return Edit(crate, name, lines, said, replacements)
 
 
-def fault(crate, lines):
-    """Returns why the lines of a wrong body or a control cannot be applied, or None."""
+def listed(file):
+    """Yields each mutant or control of the lists in files of this name."""
+    for path in sorted(CRATES.glob(f"*/{file}")):
+        for block in path.read_text("utf-8").split("\n\n")[1:]:
+            first, *lines = block.strip().splitlines()
+            if not first.startswith("name: "):
+                sys.exit(f"{path}: a mutant begins with its name, and not with {first}")
+            yield edit_of(path.parent, first.removeprefix("name: "), lines)
+
+
+def fault(edit):
+    """Returns why an edit cannot be applied, or None."""
     texts = {}
-    try:
-        for path, old, new in replacements(lines):
-            if not (crate / path).is_file():
-                return f"there is no file {path}"
-            text = texts.get(path) or (crate / path).read_text("utf-8")
-            if text.count(old) != 1:
-                return f"{path} has {text.count(old)} times: {old}"
-            texts[path] = text.replace(old, new)
-    except ValueError as error:
-        return str(error)
+    for path, old, new in edit.replacements:
+        if not (edit.crate / path).is_file():
+            return f"there is no file {path}"
+        text = texts.get(path) or (edit.crate / path).read_text("utf-8")
+        if text.count(old) != 1:
+            return f"{path} has {text.count(old)} times: {old}"
+        texts[path] = text.replace(old, new)
     return None if texts else "it replaces nothing"
 
 
 # ---- The clauses that they name
 
 
+class Function(NamedTuple):
+    """A function of a source: its name, where its text begins and ends, its contract, and its body."""
+
+    name: str
+    start: int
+    stop: int
+    contract: str
+    body: str
+
+
 @functools.cache
 def functions(path):
-    """Returns the functions of a source, in order: the name, where the text begins and ends, the contract, and the body."""
+    """Returns the functions of a source, in order."""
     text, found = path.read_text("utf-8"), []
     for match in FUNCTION.finditer(text):
         indent, name = match.groups()
@@ -92,43 +96,43 @@ def functions(path):
         end = re.compile(rf"^{indent}\}}$", re.M).search(text, start)
         is_declared = text[start - 1] == ";"
         stop = start if is_declared or end is None else end.end()
-        found.append((name, match.start(), stop, text[match.end() : start], text[start:stop]))
+        found.append(Function(name, match.start(), stop, text[match.end() : start], text[start:stop]))
     return found
 
 
-def sources(crate):
-    return sorted(crate.glob("src/**/*.rt"))
+def functions_of(crate):
+    return [function for path in sorted(crate.glob("src/**/*.rt")) for function in functions(path)]
 
 
-def changed(crate, lines):
-    """Returns the names of the functions that a wrong body changes or adds; of another item, those that name it."""
+def words_of(text):
+    return set(re.findall(r"\w+", text))
+
+
+def changed(edit):
+    """Returns the names of the functions that an edit changes or adds; of another item, those that name it."""
     names = set()
-    for path, old, new in replacements(lines):
-        text = (crate / path).read_text("utf-8")
-        end = text.find(old) + len(old)
-        inside = {name for name, start, stop, *_ in functions(crate / path) if start < end and text.find(old) < stop}
+    for path, old, new in edit.replacements:
+        text = (edit.crate / path).read_text("utf-8")
+        start = text.find(old)
+        end = start + len(old)
+        inside = {function.name for function in functions(edit.crate / path) if function.start < end and start < function.stop}
         items = {constant or macro for constant, macro in ITEM.findall(text[:end])[-1:]}
-        names |= (inside or callers(crate, items)) | set(re.findall(r"\bfn (\w+)", new))
+        names |= (inside or callers(edit.crate, items)) | set(re.findall(r"\bfn (\w+)", new))
     return names
 
 
 def callers(crate, names):
-    """Returns the functions of a crate whose bodies name one of these."""
-    return {name for path in sources(crate) for name, _, _, _, body in functions(path) if names & set(re.findall(r"\w+", body))}
+    """Returns the names of the functions of a crate whose bodies name one of these."""
+    return {function.name for function in functions_of(crate) if names & words_of(function.body)}
 
 
-def calls(crate, names, function):
-    """Whether a function of these names has the name of this one in its body."""
-    return any(function in body for path in sources(crate) for name, _, _, _, body in functions(path) if name in names)
-
-
-def contracts(crate, function):
+def contracts(crate, name):
     """Returns the contracts of the functions of this name: of the crate, or of a trait of another crate."""
-    own = [contract for path in sources(crate) for name, _, _, contract, _ in functions(path) if name == function]
-    if any(CLAUSE.search(contract) for contract in own):
+    own = [function.contract for function in functions_of(crate) if function.name == name]
+    if any(map(CLAUSE.search, own)):
         return own
-    every = [path for other in sorted(CRATES.iterdir()) for path in sources(other)]
-    return [contract for path in every for name, _, _, contract, _ in functions(path) if name == function]
+    every = [function for other in sorted(CRATES.iterdir()) for function in functions_of(other)]
+    return [function.contract for function in every if function.name == name]
 
 
 @functools.cache
@@ -141,97 +145,115 @@ def fields():
     return found
 
 
-def has_clause(crate, function, clause):
-    """Whether a function has a clause of this name, or one that says a definition of this name, or with such a field."""
+def clauses_of(text):
+    return {name for _, name in CLAUSE.findall(text)}
+
+
+def names_of(crate, function):
+    """Returns the names that a function's clauses have: their own, and those of the definitions and fields that they say."""
+    found = set()
     for contract in contracts(crate, function):
-        words = set(re.findall(r"\w+", contract))
-        if clause in {name for _, name in CLAUSE.findall(contract)} or (clause in words and clause[0].isupper()):
-            return True
-        if any(clause in fields().get(word, ()) for word in words):
-            return True
-    return False
+        words = words_of(contract)
+        found |= clauses_of(contract) | {word for word in words if word[0].isupper()}
+        found = found.union(*(fields().get(word, ()) for word in words))
+    return found
 
 
-def adds_clause(lines, function, clause):
-    """Whether a wrong body adds a function with a clause of this name."""
-    return any(f"fn {function}(" in new and clause in {name for _, name in CLAUSE.findall(new)} for _, _, new in replacements(lines))
+def part_fault(edit, part):
+    """Returns why a part of the clauses that a mutant names is not so, or None.
 
-
-def has_invariant(crate, function):
-    return any(path.parent.name == function for path in crate.glob("proofs/**/Invariants.antt"))
-
-
-def clause_fault(crate, lines):
-    """Returns why the clauses that a wrong body names are not those of a function that it changes, or None.
-
-    The line has parts between semicolons: names, "the clause" or "a loop's invariant", and of which function; or "the condition",
-    a name, and of which function that the changed one calls.
+    It has names, "the clause" or "a loop's invariant", and of which function; or "the condition", a name, and of which
+    function that the changed one calls.
     """
-    said = [line.removeprefix("clause: ") for line in lines if line.startswith("clause: ")]
-    if len(said) != 1:
+    clauses, of, function = part.rpartition(" of ")
+    function = WORD.fullmatch(function)[1].rpartition("::")[2] if WORD.fullmatch(function) else ""
+    if not of or not function:
+        return f"it does not say of which function: {part}"
+    crate, inside, named = edit.crate, changed(edit), WORD.findall(clauses)
+    if clauses.startswith("the condition "):
+        is_called = any(function in other.body for other in functions_of(crate) if other.name in inside)
+        has_it = is_called and named[0] in names_of(crate, function)
+        return None if has_it else f"what it changes calls no {function} with such a condition"
+    if function not in inside | callers(crate, inside):
+        return f"{function} is not changed, and calls nothing that is: {', '.join(sorted(inside))}"
+    if clauses == "a loop's invariant":
+        has_invariant = any(path.parent.name == function for path in crate.glob("proofs/**/Invariants.antt"))
+        return None if has_invariant else f"{function} has no invariant"
+    if clauses == "the clause":
+        return None if any(map(CLAUSE.search, contracts(crate, function))) else f"{function} has no clause"
+    if not named or WORD.sub("", clauses).strip(", "):
+        return f"its clauses are not names alone: {clauses}"
+    # A function that the mutant adds may have clauses of its own.
+    added = {name for _, _, new in edit.replacements if f"fn {function}(" in new for name in clauses_of(new)}
+    missing = [name for name in named if name not in added | names_of(crate, function)]
+    return f"{function} has no clause {missing[0]}" if missing else None
+
+
+def clause_fault(edit):
+    """Returns why the clauses that a mutant names, in parts between semicolons, are not those of what it changes, or None."""
+    if len(edit.said["clause:"]) != 1:
         return "it names no clause, or has two lines of them"
-    inside = changed(crate, lines)
-    near = inside | callers(crate, inside)
-    for part in said[0].split("; "):
-        clauses, of, function = part.rpartition(" of ")
-        function = WORD.fullmatch(function)[1].rpartition("::")[2] if WORD.fullmatch(function) else ""
-        if not of or not function:
-            return f"it does not say of which function: {part}"
-        if clauses.startswith("the condition "):
-            if not calls(crate, inside, function) or not has_clause(crate, function, WORD.findall(clauses)[0]):
-                return f"what it changes calls no {function} with such a condition"
-            continue
-        if function not in near:
-            return f"{function} is not changed, and calls nothing that is: {', '.join(sorted(inside))}"
-        if clauses == "a loop's invariant":
-            if not has_invariant(crate, function):
-                return f"{function} has no invariant"
-        elif clauses == "the clause":
-            if not any(CLAUSE.search(contract) for contract in contracts(crate, function)):
-                return f"{function} has no clause"
-        else:
-            named = WORD.findall(clauses)
-            if not named or WORD.sub("", clauses).strip(", "):
-                return f"its clauses are not names alone: {clauses}"
-            for clause in named:
-                if not has_clause(crate, function, clause) and not adds_clause(lines, function, clause):
-                    return f"{function} has no clause {clause}"
-    return None
-
-
-def control_fault(crate, lines, names):
-    """Returns why a control stands beside no wrong body, or None."""
-    beside = [line.removeprefix("beside: ") for line in lines if line.startswith("beside: ")]
-    return None if len(beside) == 1 and (crate, beside[0]) in names else "it stands beside no wrong body"
+    return next(filter(None, (part_fault(edit, part) for part in edit.said["clause:"][0].split("; "))), None)
 
 
 def check():
-    """Returns what is wrong with the wrong bodies and the controls."""
-    found, names = [], set()
-    for crate, name, lines in all_edits():
-        twice = "its name stands twice" if (crate, name) in names else None
-        why = twice or fault(crate, lines) or clause_fault(crate, lines)
-        names.add((crate, name))
-        found += [f"{crate.name}: {name}: {why}"] if why else []
-    for crate, name, lines in all_controls():
-        why = fault(crate, lines) or control_fault(crate, lines, names)
-        found += [f"{crate.name}: control {name}: {why}"] if why else []
-    return found or ([] if names else ["there are no wrong bodies"])
+    """Yields what is wrong with the mutants and the controls."""
+    gate = sorted(CRATES.glob("*/must-fail/*.edit"))
+    mutants = [edit_of(path.parent.parent, path.stem, path.read_text("utf-8").splitlines()) for path in gate]
+    names = set()
+    for edit in [*mutants, *listed("wrong_bodies.txt")]:
+        twice = "its name stands twice" if (edit.crate, edit.name) in names else None
+        names.add((edit.crate, edit.name))
+        if why := twice or fault(edit) or clause_fault(edit):
+            yield f"{edit.crate.name}: {edit.name}: {why}"
+    for edit in listed("controls.txt"):
+        beside = [(edit.crate, name) for name in edit.said["beside:"]]
+        alone = None if len(beside) == 1 and beside[0] in names else "it stands beside no mutant"
+        if why := fault(edit) or alone:
+            yield f"{edit.crate.name}: control {edit.name}: {why}"
+    if not names:
+        yield "there are no mutants"
 
 
-def split(folder, kind, crates):
-    """Writes the listed wrong bodies or controls of these crates, or of all, as files."""
-    for path in sorted(CRATES.glob(f"*/{kind}")):
-        if not crates or path.parent.name in crates:
-            target = pathlib.Path(folder) / path.parent / "must-fail"
-            target.mkdir(parents=True, exist_ok=True)
-            for name, lines in listed(path):
-                (target / f"{name}.edit").write_text("\n".join(lines) + "\n", "utf-8")
+# ---- The prover
+
+
+def tried(folder, file, crates):
+    """Tries what the lists in files of this name have for these crates, or for all, as the mutants of a copy of the crates.
+    Returns rt's status, and the edits of which it does not say that they are not refused."""
+    for path in folder.glob("crates/*/must-fail"):
+        shutil.rmtree(path)
+    edits = [edit for edit in listed(file) if not crates or edit.crate.name in crates]
+    if not edits:
+        return 0, []
+    for edit in edits:
+        path = folder / edit.crate / "must-fail" / f"{edit.name}.edit"
+        path.parent.mkdir(exist_ok=True)
+        path.write_text("\n".join(edit.lines) + "\n", "utf-8")
+    command = ["rt", "must-fail", *sorted({edit.crate.name for edit in edits})]
+    with subprocess.Popen(command, cwd=folder, stdout=subprocess.PIPE, stderr=subprocess.STDOUT, text=True) as process:
+        for line in process.stdout:
+            print(line, end="", flush=True)
+            edits = [edit for edit in edits if f"{edit.crate.name}/{edit.name}.edit: NOT REFUSED" not in line]
+    return process.returncode, edits
+
+
+def try_listed(crates):
+    """Returns whether the prover fails to refuse a mutant that is listed, or to prove a control: not to refuse it."""
+    if unknown := [crate for crate in crates if not (CRATES / crate).is_dir()]:
+        sys.exit(f"there is no crate {unknown[0]}")
+    with tempfile.TemporaryDirectory() as folder:
+        copy = pathlib.Path(folder)
+        shutil.copytree(CRATES, copy / CRATES, ignore=shutil.ignore_patterns("out", "must-fail"))
+        shutil.copy("crates.txt", copy)
+        shutil.copy("HANDLES", copy)
+        status, _ = tried(copy, "wrong_bodies.txt", crates)
+        return bool(status or tried(copy, "controls.txt", crates)[1])
 
 
 if __name__ == "__main__":
-    if sys.argv[1] == "check":
-        faults = check()
-        print("\n".join(faults), end="\n" if faults else "")
-        sys.exit(bool(faults))
-    split(sys.argv[2], "controls.txt" if sys.argv[1] == "controls" else "wrong_bodies.txt", sys.argv[3:])
+    if sys.argv[1] == "try":
+        sys.exit(try_listed(sys.argv[2:]))
+    faults = list(check())
+    print("\n".join(faults), end="\n" if faults else "")
+    sys.exit(bool(faults))

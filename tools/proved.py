@@ -1,6 +1,7 @@
 #!/usr/bin/env python3
-"""What `rt ci` has proved, and what is built over it.
+"""What crates.txt has of the crates, what `rt ci` has proved, and what is built over it.
 
+proved.py sources CRATE: prints the files that a crate and those below it are built from.
 proved.py check: passes if the sources and the libraries are still those of OUT/proved.
 proved.py run: runs `rt ci`. If it passed, OUT/proved has the sums of the sources and of the libraries that it made.
 proved.py build CRATE FILE [FLAG..]: proves a program or a static library, and builds it as FILE.
@@ -18,25 +19,53 @@ import shutil
 import subprocess
 import sys
 
-import crates
-
-OUT = pathlib.Path("out")
+CRATES, OUT = pathlib.Path("crates"), pathlib.Path("out")
 PROVED, WORK, LINE = OUT / "proved", OUT / "proved-work", OUT / "proved-line"
-RT = shutil.which("rt") or sys.exit("rt is not installed")
+RT = shutil.which("rt") or ""
 KIT = os.path.dirname(os.path.dirname(os.path.realpath(RT)))
+
+
+# ---- The crates
+
+
+def listed():
+    """Returns the libraries that each crate names, and the crates that are static libraries."""
+    rows, static = {}, set()
+    for line in pathlib.Path("crates.txt").read_text("utf-8").splitlines():
+        head, colon, libraries = line.partition("#")[0].partition(":")
+        if colon:
+            name, *kind = head.split()
+            rows[name] = libraries.split()
+            static |= {name} if "staticlib" in kind else set()
+    return rows, static
+
+
+def below(rows, name):
+    """Returns the crates below a crate."""
+    found = {library for library in rows[name] if library in rows}
+    return found.union(*(below(rows, library) for library in found))
+
+
+def print_sources(name):
+    """Prints the files that a crate and those below it are built from."""
+    rows, _ = listed()
+    for crate in sorted(below(rows, name) | {name}):
+        for part in ("src", "specs", "proofs"):
+            print(*sorted(path for path in (CRATES / crate / part).glob("**/*") if path.is_file()))
+
+
+# ---- What is proved
 
 
 def sources():
     """Yields the files that `rt ci` reads."""
-    for path in pathlib.Path("crates").glob("**/*"):
-        if path.is_file() and "out" not in path.parts[2:3]:
-            yield path
+    yield from (path for path in CRATES.glob("**/*") if path.is_file() and "out" not in path.parts[2:3])
     yield from (pathlib.Path("crates.txt"), pathlib.Path("HANDLES"))
 
 
 def libraries():
     """Returns the libraries that `rt ci` leaves."""
-    return pathlib.Path("crates").glob("*/out/rlib/*.rlib/format")
+    return CRATES.glob("*/out/rlib/*.rlib/format")
 
 
 def sums(paths):
@@ -44,23 +73,15 @@ def sums(paths):
     return "".join(f"{hashlib.sha256(path.read_bytes()).hexdigest()}  {path}\n" for path in sorted(paths))
 
 
-def clear():
-    """Removes what an earlier run has left, but for the libraries."""
-    PROVED.unlink(missing_ok=True)
-    LINE.unlink(missing_ok=True)
-    shutil.rmtree(WORK, ignore_errors=True)
-
-
-def has_libraries():
-    """Returns whether libraries stand where rt writes its own, or where rt puts back some."""
-    return any(pathlib.Path("crates").glob("*/out/rlib")) or any(pathlib.Path(".git").glob("rt-aside/*/rlib"))
-
-
 def run():
     """Runs `rt ci`, writes what it proved, and returns its status."""
     OUT.mkdir(exist_ok=True)
-    clear()
-    others, before, line = has_libraries(), sums(sources()), ""
+    PROVED.unlink(missing_ok=True)
+    LINE.unlink(missing_ok=True)
+    shutil.rmtree(WORK, ignore_errors=True)
+    # Libraries where rt writes its own, or where rt puts back some.
+    others = [*CRATES.glob("*/out/rlib"), *pathlib.Path(".git").glob("rt-aside/*/rlib")]
+    before, line = sums(sources()), ""
     with subprocess.Popen([RT, "ci"], stdout=subprocess.PIPE, stderr=subprocess.STDOUT, text=True) as process:
         for line in process.stdout:
             print(line, end="", flush=True)
@@ -82,28 +103,30 @@ def check():
         sys.exit(f"a source or a library is not that of {PROVED}")
 
 
-def words(rows, name, root, is_static):
+# ---- What is built
+
+
+def words(name, is_static):
     """Returns rattle's words for a crate, as rt passes them."""
-    folder = os.path.abspath("crates")
-    found = ["--crate-name", name, root, "-L", f"dependency={KIT}/rlibs", "--links", f"{name}="]
-    found += ["--antt-project", f"{KIT}/rattle/logic/antt-project.json", "--logic-built", f"{KIT}/logic_built"]
+    rows, own = listed()[0], CRATES.absolute()
+    found = ["--crate-name", name, "src/lib.rt" if is_static else "src/main.rt", "-L", f"dependency={KIT}/rlibs"]
+    found += ["--links", f"{name}=", "--antt-project", f"{KIT}/rattle/logic/antt-project.json"]
+    found += ["--logic-built", f"{KIT}/logic_built"]
     for library in ["std", *rows[name]]:
-        place = f"{folder}/{library}/out/rlib" if library in rows else f"{KIT}/rlibs"
+        place = own / library / "out/rlib" if library in rows else f"{KIT}/rlibs"
         found += ["--extern", f"{library}={place}/{library}.rlib"]
-    for library in sorted(crates.below(rows, name)):
-        found += ["-L", f"dependency={folder}/{library}/out/rlib"]
+    for library in sorted(below(rows, name)):
+        found += ["-L", f"dependency={own / library / 'out/rlib'}"]
     return found + ["--crate-type", "staticlib"] * is_static
 
 
 def build(name, file, *flags):
     """Proves a crate over what was proved, and builds it."""
     check()
-    rows, static = crates.listed()
-    is_static, file = name in static, os.path.abspath(file)
-    built, how = file if is_static else f"{file}.o", {"check": True, "stdin": subprocess.DEVNULL, "cwd": f"crates/{name}"}
+    is_static, file = name in listed()[1], os.path.abspath(file)
+    built, how = file if is_static else f"{file}.o", {"check": True, "stdin": subprocess.DEVNULL, "cwd": CRATES / name}
     toolchain = ["--toolchain", f"{KIT}/toolchain"]
-    found = words(rows, name, "src/lib.rt" if is_static else "src/main.rt", is_static)
-    found += [*flags, "--incremental", os.path.abspath(WORK / name), *toolchain, "--backend", "llvm"]
+    found = [*words(name, is_static), *flags, "--incremental", os.path.abspath(WORK / name), *toolchain, "--backend", "llvm"]
     subprocess.run([f"{KIT}/bin/rattle", "build", *found, "-o", built], **how)
     if not is_static:
         found = ["--target", "x86_64-unknown-linux-gnu", *toolchain, "-o", file, built]
@@ -112,11 +135,11 @@ def build(name, file, *flags):
 
 
 if __name__ == "__main__":
-    if sys.argv[1] == "run":
-        sys.exit(run())
-    if sys.argv[1] == "check":
-        sys.exit(check())
+    command, *rest = sys.argv[1:]
+    if command in ("run", "build") and not RT:
+        sys.exit("rt is not installed")
     try:
-        build(*sys.argv[2:])
+        result = {"sources": print_sources, "check": check, "run": run, "build": build}[command](*rest)
     except subprocess.CalledProcessError as error:
-        sys.exit(error.returncode if error.returncode > 0 else 1)
+        result = error.returncode if error.returncode > 0 else 1
+    sys.exit(result)

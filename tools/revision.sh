@@ -10,12 +10,3 @@ revision() {
 revision_time() {
     if [ -e .git ]; then git log -1 --format=%ct; else stat -c %Y CHANGELOG.md; fi
 }
-
-# Prints the names of the files of the revision, each ended by a zero byte.
-revision_files() {
-    if [ -e .git ]; then
-        git ls-files -z
-    else
-        find . -name out -prune -o -type f -printf '%P\0'
-    fi
-}

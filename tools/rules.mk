@@ -33,12 +33,21 @@ install-tool: $(TOOL_LEVELS:%=$(OUT)/%/hunkravy)
 	install -D -m 644 $(TOOL_PAGES)/zsh "$(DESTDIR)$(ZSH_COMPLETIONS)/_hunkravy"
 	install -D -m 644 $(TOOL_PAGES)/fish "$(DESTDIR)$(PREFIX)/share/fish/vendor_completions.d/hunkravy.fish"
 
-# The tests of the program that need files, pipes and kills: a minute or two, and 300 MB of disk.
-check-tool: $(OUT)/$(lastword $(TOOL_LEVELS))/hunkravy
-	tools/check_tool.sh $< $(VERSION)
+# The tests of the program that need files, links, pipes, terminals, full devices, calls that fail and kills, which no proof
+# covers: a minute or two, and 300 MB of disk. Each file of them is a scene, and several run side by side.
+TOOL = $(OUT)/$(lastword $(TOOL_LEVELS))/hunkravy
+SCENES = $(notdir $(basename $(wildcard tools/check_tool/test_*.py)))
+
+check-tool: $(TOOL)
+	$(CC) -shared -fPIC -O1 tools/check_tool/calls.c -o $(OUT)/calls.so
+	$(MAKE) --no-print-directory --output-sync --jobs=$(or $(RT_JOBS),$(CHECKS)) $(SCENES:%=check-tool-%)
+
+check-tool-%:
+	cd tools/check_tool && TOOL="$(CURDIR)/$(TOOL)" CALLS_LIBRARY="$(CURDIR)/$(OUT)/calls.so" VERSION=$(VERSION) SHELL=/bin/sh \
+		python3 -B scene.py $*
 
 # Writes the manual page and the completions by what the program's help says. check-tool compares them with it.
-tool-pages: $(OUT)/$(lastword $(TOOL_LEVELS))/hunkravy
+tool-pages: $(TOOL)
 	tools/tool_pages.py $< $(VERSION) $(TOOL_PAGES)
 
 # ---- Batches of writes
@@ -51,8 +60,6 @@ check-batches: $(BATCHES)
 
 $(BATCHES): $(call sources,example_batches)
 	cd crates/example_batches && rt run > /dev/null
-
-# ---- The gate
 
 # That nothing is built over what the gate has not proved.
 check-proved:

@@ -9,31 +9,21 @@ import re
 import sys
 
 LINK = re.compile(r"(!?)\[([^\]]*)\]\(([^)\s]+)\)")
+FOLDER, *PAGES = map(pathlib.Path, sys.argv[1:])
 
 
-def shipped(page, folder, pages):
-    """Returns the text of a page as it is shipped."""
-
-    def link(match):
-        picture, text, target = match.groups()
-        path = target.partition("#")[0]
-        if re.match(r"[a-z]+:", target) or not path:
-            return match[0]
-        found = (page.parent / path).resolve().relative_to(pathlib.Path.cwd())
-        if found in pages or (folder / found).exists():
-            return match[0]
-        return "" if picture else text
-
-    return LINK.sub(link, page.read_text("utf-8"))
+def shipped(page, link):
+    """Returns a link of a page as it is shipped."""
+    picture, text, target = link.groups()
+    path = target.partition("#")[0]
+    if re.match(r"[a-z]+:", target) or not path:
+        return link[0]
+    found = (page.parent / path).resolve().relative_to(pathlib.Path.cwd())
+    if found in PAGES or (FOLDER / found).exists():
+        return link[0]
+    return "" if picture else text
 
 
-def main(folder, *names):
-    folder, pages = pathlib.Path(folder), [pathlib.Path(name) for name in names]
-    for page in pages:
-        target = folder / page
-        target.parent.mkdir(parents=True, exist_ok=True)
-        target.write_text(shipped(page, folder, pages), "utf-8")
-
-
-if __name__ == "__main__":
-    main(*sys.argv[1:])
+for page in PAGES:
+    (FOLDER / page).parent.mkdir(parents=True, exist_ok=True)
+    (FOLDER / page).write_text(LINK.sub(lambda link: shipped(page, link), page.read_text("utf-8")), "utf-8")

@@ -11,11 +11,14 @@ import sys
 from typing import NamedTuple
 
 # The day of the manual page.
+<<<<<<< HEAD
 DATE = "2026-11-28"
 
+=======
+DATE = "2026-11-27"
+>>>>>>> a9b0b05dc7cccd6ce656d04c572272ac38c58dec
 DESCRIPTION = """\
 Encrypts files under a random key kept in a key file. No passwords, no public keys. Losing the key loses the data."""
-
 # What stands over an example, by its command.
 TITLES = {
     "hunkravy keygen backup.key": "A new key",
@@ -24,7 +27,6 @@ TITLES = {
     "hunkravy open -k backup.key --from 1000000 --length 512 docs.sealed part": "A part of a file",
     "hunkravy rekey -k backup.key -n new.key docs.sealed docs.new": "Another key",
 }
-
 OPTION = re.compile(r"(?:-(\w), |    )--([a-z-]+)(?: <(\S+)>)? {2,}(.+)")
 OPERAND = re.compile(r"\[(\w+)\] {2,}(.+)")
 
@@ -37,18 +39,17 @@ class Option(NamedTuple):
     value: str
     help: str
 
+    def typed(self):
+        """Returns its letter, if it has one, and its name, as they are typed."""
+        return [f"-{self.short}"] * bool(self.short) + [f"--{self.long}"]
 
-class Command(NamedTuple):
-    """A command: its name, what it does, its options, and its operands with their help."""
-
-    name: str
-    about: str
-    options: list[Option]
-    operands: list[tuple[str, str]]
+    def takes_file(self):
+        """Whether its value is the name of a file. The others are numbers."""
+        return self.value in ("KEY", "NEW")
 
 
 def section(text, title):
-    """The lines of a part of the help, which ends at an empty line."""
+    """Returns the lines of a part of the help, which ends at an empty line."""
     found = re.search(rf"^{title}:\n((?:  .*\n?)*)", text, re.M) or sys.exit(f"the help has no part {title}")
     return [line[2:] for line in found[1].splitlines()]
 
@@ -61,25 +62,13 @@ def parts(text, title, pattern):
 
 
 def commands(help_of):
-    """Yields what the help says of each command."""
+    """Yields what the help says of each command: its name, what it does, its options, and its operands with their help."""
     for line in section(help_of("--help"), "Commands"):
         name, about = re.split(" {2,}", line, maxsplit=1)
         if name != "help":
             text = help_of("help", name)
             options = [Option(*found) for found in parts(text, "Options", OPTION)]
-            operands = list(parts(text, "Arguments", OPERAND))
-            yield Command(name, about, [it for it in options if it.long != "help"], operands)
-
-
-def man_command(command):
-    """The part of the manual page on a command."""
-    yield f".SS hunkravy {command.name}\n{command.about}"
-    for option in command.options:
-        words = [rf"\fB-{option.short}\fR,"] * bool(option.short) + [rf"\fB--{option.long}\fR"]
-        words += [rf"\fI{option.value}\fR"] * bool(option.value)
-        yield f".TP\n{' '.join(words)}\n{option.help}"
-    for name, text in command.operands:
-        yield f".TP\n\\fI{name}\\fR\n{text}"
+            yield name, about, [it for it in options if it.long != "help"], list(parts(text, "Arguments", OPERAND))
 
 
 def man(found, text, version):
@@ -88,8 +77,12 @@ def man(found, text, version):
     yield f".SH NAME\nhunkravy \\- {text.splitlines()[0]}"
     yield ".SH SYNOPSIS\n\\fBhunkravy\\fR \\fICOMMAND\\fR [\\fIOPTIONS\\fR] [\\fIIN\\fR] [\\fIOUT\\fR]"
     yield f".SH DESCRIPTION\n{DESCRIPTION}\n.SH COMMANDS"
-    for command in found:
-        yield from man_command(command)
+    for name, about, options, operands in found:
+        yield f".SS hunkravy {name}\n{about}"
+        for option in options:
+            words = ", ".join(rf"\fB{word}\fR" for word in option.typed())
+            yield f".TP\n{words}" + rf" \fI{option.value}\fR" * bool(option.value) + f"\n{option.help}"
+        yield from (f".TP\n\\fI{operand}\\fR\n{meaning}" for operand, meaning in operands)
     yield ".SH EXIT STATUS"
     for line in section(text, "Exit status"):
         status, meaning = line.split("  ", 1)
@@ -101,32 +94,16 @@ def man(found, text, version):
     yield ".SH SEE ALSO\n\\fBage\\fR(1), \\fBgpg\\fR(1), \\fBopenssl-enc\\fR(1)"
 
 
-def typed(option):
-    """An option's letter, if it has one, and its name, as they are typed."""
-    return [f"-{option.short}"] * bool(option.short) + [f"--{option.long}"]
-
-
-def takes_file(option):
-    """Whether an option's value is the name of a file. The others are numbers."""
-    return option.value in ("KEY", "NEW")
-
-
-def numbers(found):
-    """The options whose values are numbers, as they are typed."""
-    options = [option for command in found for option in command.options if option.value and not takes_file(option)]
-    return sorted({word for option in options for word in typed(option)})
-
-
 def bash(found):
     """The completions for bash: commands, options where a dash is typed, no files for a number, and files elsewhere."""
+    numbers = {option for _, _, options, _ in found for option in options if option.value and not option.takes_file()}
     yield "_hunkravy() {\n    local word=${COMP_WORDS[COMP_CWORD]} words=''\n    COMPREPLY=()"
-    yield f"    case ${{COMP_WORDS[COMP_CWORD - 1]}} in\n    {' | '.join(numbers(found))})"
+    yield f"    case ${{COMP_WORDS[COMP_CWORD - 1]}} in\n    {' | '.join(sorted(word for it in numbers for word in it.typed()))})"
     yield "        compopt +o default\n        return\n        ;;\n    esac"
-    yield f"    if [ \"$COMP_CWORD\" = 1 ]; then\n        words='{' '.join(command.name for command in found)}'"
+    yield f"    if [ \"$COMP_CWORD\" = 1 ]; then\n        words='{' '.join(name for name, *_ in found)}'"
     yield "    elif [[ $word == -* ]]; then\n        case ${COMP_WORDS[1]} in"
-    for command in found:
-        words = [word for option in command.options for word in typed(option)]
-        yield f"        {command.name}) words='{' '.join(words)}' ;;"
+    for name, _, options, _ in found:
+        yield f"        {name}) words='{' '.join(word for option in options for word in option.typed())}' ;;"
     yield "        esac\n    fi"
     yield "    COMPREPLY=($(compgen -W \"$words\" -- \"$word\"))\n}"
     yield "complete -o default -F _hunkravy hunkravy"
@@ -134,31 +111,26 @@ def bash(found):
 
 def zsh(found):
     """The completions for zsh."""
-    names = " ".join(command.name for command in found)
+    names = " ".join(name for name, *_ in found)
     yield f"#compdef hunkravy\nif (( CURRENT == 2 )); then\n    compadd {names}\n    return\nfi"
     yield "shift words\n(( CURRENT-- ))\ncase $words[1] in"
-    for command in found:
-        words = [
-            f"'{word}[{option.help}]{(':file:_files' if takes_file(option) else ':number: ') if option.value else ''}'"
-            for option in command.options
-            for word in typed(option)
-        ]
-        yield f"{command.name}) _arguments {' '.join([*words, repr('*:file:_files')])} ;;"
+    for name, _, options, _ in found:
+        specifications = []
+        for option in options:
+            value = (":file:_files" if option.takes_file() else ":number: ") if option.value else ""
+            specifications += [f"'{word}[{option.help}]{value}' " for word in option.typed()]
+        yield f"{name}) _arguments {''.join(specifications)}'*:file:_files' ;;"
     yield "esac"
 
 
 def fish(found):
     """The completions for fish."""
-    for command in found:
-        yield f"complete -c hunkravy -n __fish_use_subcommand -f -a {command.name} -d '{command.about}'"
-        for option in command.options:
-            words = [f"-s {option.short}"] * bool(option.short)
-            words += ["-r" if takes_file(option) else "-x"] * bool(option.value)
-            yield " ".join([
-                f"complete -c hunkravy -n '__fish_seen_subcommand_from {command.name}' -l {option.long}",
-                *words,
-                f"-d '{option.help}'",
-            ])
+    for name, about, options, _ in found:
+        yield f"complete -c hunkravy -n __fish_use_subcommand -f -a {name} -d '{about}'"
+        for option in options:
+            words = [f"-l {option.long}"] + [f"-s {option.short}"] * bool(option.short)
+            words += ["-r" if option.takes_file() else "-x"] * bool(option.value)
+            yield f"complete -c hunkravy -n '__fish_seen_subcommand_from {name}' {' '.join(words)} -d '{option.help}'"
 
 
 def main(tool, version, folder):

@@ -660,6 +660,15 @@ class Tool(unittest.TestCase):
     """The files of the tool that HUNKRAVY_TOOL is the path of, and these."""
 
     tool = os.environ.get("HUNKRAVY_TOOL", "")
+    # What its message says of each cause.
+    says = {
+        "header": "is not a sealed file",
+        "truncated": "is cut off",
+        "flag": "where a record should begin is none",
+        "too_long": "where a record should begin is none",
+        "trailing": "goes on after the end",
+        "damaged 0": "the key is not the one",
+    }
 
     def setUp(self) -> None:
         if "HUNKRAVY_TOOL" not in os.environ:
@@ -670,7 +679,8 @@ class Tool(unittest.TestCase):
         self.folder = pathlib.Path(folder.name)
 
     def run_tool(self, *arguments: object) -> "subprocess.CompletedProcess[bytes]":
-        return subprocess.run([self.tool, *map(str, arguments)], cwd=self.folder, capture_output=True)
+        # Without the variables by which these tests may run with a sanitizer.
+        return subprocess.run([self.tool, *map(str, arguments)], cwd=self.folder, capture_output=True, env={"LC_ALL": "C"})
 
     def test_exchange(self) -> None:
         self.assertEqual(self.run_tool("keygen", "key").returncode, 0)
@@ -689,13 +699,35 @@ class Tool(unittest.TestCase):
             self.assertEqual(names[3].read_bytes(), contents)
 
     def test_damaged_files(self) -> None:
-        (self.folder / "zeros").write_text("00" * 32 + "\n")
+        (self.folder / "other").write_text("ab" * 32)
         for name, data, key, cause, verified in damaged_files():
             with self.subTest(name):
                 (self.folder / "sealed").write_bytes(data)
-                key_file = DATA / "key" if key == KEY else self.folder / "zeros"
-                opened = self.run_tool("open", "-k", key_file, "sealed", "-")
-                self.assertEqual((opened.returncode, len(opened.stdout)), (0 if cause == "none" else 1, verified))
+                (self.folder / "key").write_text(key.hex())
+                contents = b"xyz" if "with-contents" in name else Damaged.contents
+                opened = self.run_tool("open", "-k", "key", "sealed")
+                self.assertEqual((opened.returncode, opened.stdout), (cause != "none", contents[:verified]))
+                if cause != "none":
+                    says = self.says.get(cause, f"is damaged.* record {cause[-1]} ")
+                    self.assert_rejected("AGR1" if name == "header-version-1" else says, cause == "header")
+                    self.assert_parts(contents, verified)
+
+    def assert_rejected(self, says: str, is_header: bool) -> None:
+        """Each command says why, and leaves no output. Without the key the header is read, and the lengths."""
+        commands = ["open -k key sealed out", "check -k key sealed", "rekey -k key -n other sealed out"]
+        for words in commands + ["info sealed", "open -k key --from 0 sealed out"] * is_header:
+            rejected = self.run_tool(*words.split())
+            self.assertEqual(rejected.returncode, 1, words)
+            self.assertRegex(rejected.stderr.decode(), says)
+        self.assertEqual(sorted(os.listdir(self.folder)), ["key", "other", "sealed"])
+
+    def assert_parts(self, contents: bytes, verified: int) -> None:
+        """Each part is right or is rejected after a beginning of it, and one of what was verified is right."""
+        for first, length in itertools.product((0, 9, 10, 17, 22), (2, 300)):
+            part = self.run_tool("open", "-k", "key", "--from", first, "--length", length, "sealed")
+            right = contents[first : first + length]
+            self.assertIn(part.returncode, (0,) if first + length <= verified else (0, 1))
+            self.assertEqual(part.stdout, right[: len(part.stdout)] if part.returncode else right)
 
     def test_key_files(self) -> None:
         ends = [b"", b"\n", b"\r\n", b"\t\v", b"\f", b"\xc2\x85", b"\xc2\xa0", b"\x1c", b"\0", b"0", b"\n\n\n", b"\xa0"]

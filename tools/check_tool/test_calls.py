@@ -1,147 +1,192 @@
-"""The calls of the system that a run makes, each failing or killed in turn, by the library of calls.c."""
+"""The calls of the system that a run makes, each failing or killed in turn, and what happens between two of them, by the
+library of calls.c."""
 
 import os
+import pathlib
 import re
-import resource
 
-from scene import CALLS, Scene, limit, parts, read, write
+from scene import Scene, parts, read, write
 
-# The least stack that a run may have: 128 KB, and what the environment and the command line take of it.
-STACK = 132 * 1024 + sum(len(name) + len(value) + 2 for name, value in os.environ.items())
+# The least stack that a run may have in KB: 128, and what the environment and the command line take of it.
+STACK = 132 + sum(len(name) + len(value) + 2 for name, value in os.environ.items()) // 1024
+MOVED = "was renamed, removed or mounted over meanwhile"
 STAYS = "is not removed, and may hold plaintext or a key"
+EXISTS = "place/out exists; --force replaces a file"
+# What happens in the folder `place` before an output in it gets its name: the command, what is said of it and what is not,
+# and how many files are in the folder at the end.
+CHANGES = (
+    ("mv place aside", (MOVED, STAYS), None, 0),
+    ("part=$(ls -A place); mv place aside; mkdir place; cp key place/$part", (MOVED, STAYS), None, 1),
+    ("part=$(ls -A place); mv place/$part aside; cp key place/$part", (MOVED, STAYS), None, 1),
+    ("rm place/.out*", MOVED, STAYS, 0),
+    ("mkdir place/out", "^hunkravy: place/out ", STAYS, 1),
+    ("cp key place/out", EXISTS, STAYS, 1),
+    ("ln -s nowhere place/out", EXISTS, STAYS, 1),
+    ("mkfifo place/out", EXISTS, STAYS, 1),
+)
+# The commands whose calls fail or are killed, in turn. With --force there is an output before.
+COMMANDS = (
+    "seal -k key text out",
+    "seal --force -k key text out",
+    "open -k key sealed out",
+    "open --force -k key sealed out",
+    "open --force -k key --from 0 sealed out",
+    "rekey -k key -n other sealed out",
+)
 
 
 class Calls(Scene):
-    def with_calls(self, status, words, says=(), lacks=(), **settings):
-        """Runs the program over the library with these settings, and returns the names of the calls that it notes."""
-        if os.path.exists("noted"):
-            os.remove("noted")
-        noted = {"LD_PRELOAD": CALLS, "CALLS": os.path.abspath("noted"), **settings}
-        self.tool(status, words, says, lacks, env={**os.environ, **noted}, preexec_fn=limit(resource.RLIMIT_STACK, STACK))
-        return read("noted").decode().split() if os.path.exists("noted") else []
+    def with_calls(self, status, settings, words, says=(), lacks=None):
+        """Runs the program with these words of bash over the library with these settings of its, and returns the names of the
+        calls that it notes."""
+        with open("noted", "w+", encoding="ascii") as noted:
+            number = noted.fileno()
+            run = f"ulimit -s {STACK}; exec env {settings} LD_PRELOAD=$CALLS_LIBRARY CALLS={number} $TOOL {words}"
+            self.tool(status, ["bash", "-c", run], says, lacks, pass_fds=(number,))
+            noted.seek(0)
+            return noted.read().split()
 
-    def each(self, status, words, setting, **settings):
-        """Runs the program with its first call failing, then its second, and so on, until it makes no more calls. Gives the
-        number of the call, and the calls that each run notes."""
+    def each(self, status, settings, words, least=15):
+        """Runs the program with the first call failing, then the second, and so on, until it makes no more calls, which have to
+        be more than `least`. Gives the calls that each run makes until one fails, and those after it."""
         for number in range(1, 1000):
-            noted = self.with_calls(status, words, **{setting: str(number)}, **settings)
+            noted = self.with_calls(status, f"{settings}={number}", words)
             if "here" not in noted:
+                self.assertGreater(number, least + 1, words)
                 return
-            yield number, noted
-
-    # ---- Their order, and file systems that lack some
+            place = noted.index("here")
+            yield noted[:place], noted[place + 1 :]
 
     def test_order(self):
-        named = ["fsync-file", "link", "unlink", "fsync-folder"]
-        self.assertEqual(self.with_calls(0, "keygen new"), named)
-        self.assertEqual(self.with_calls(0, "seal -k key small out"), named)
-        self.assertEqual(self.with_calls(0, "seal --force -k key small out"), ["fsync-file", "rename", "fsync-folder"])
-        self.with_calls(0, "seal --force -k key small out", SYNCLESS="1")
-
-    def test_no_links(self):
-        renamed = ["fsync-file", "link", "rename", "fsync-folder"]
-        found = self.with_calls(0, "seal -k key small out", "out was renamed to, and not linked", LINK_FAILS="1")
-        self.assertEqual(found, renamed)
-        self.opens("out", read("small"))
-        os.remove("out")
-        self.with_calls(0, "seal --quiet -k key small out", lacks=".", LINK_FAILS="1")
-        # A file that is created just before, also if a look at it fails, is not replaced.
-        os.remove("out")
-        for look in "", "1", "2", "3":
-            settings = {"LINK_FAILS": "1", "RACES": "out", **({"HIDES": look} if look else {})}
-            self.with_calls(3, "seal -k key small out", "out cannot be written" if look == "3" else "out", "renamed", **settings)
-            self.is_same("out", b"")
-            self.no_parts()
+        for settings, words, order in (
+            ("", "keygen out", "fsync_file link unlink fsync_folder"),
+            ("", "seal -k key small out", "fsync_file link unlink fsync_folder"),
+            ("link=fails", "seal --quiet -k key small out", "fsync_file link rename fsync_folder"),
+            ("", "seal --force -k key small out", "fsync_file rename fsync_folder"),
+            ("fsync_folder=fails", "seal --force -k key small out", "fsync_file rename fsync_folder"),
+        ):
+            noted = self.with_calls(0, settings, words, lacks=".")
+            self.assertEqual([call for call in noted if re.match("link|rename|unlink|fsync", call)], order.split(), words)
             os.remove("out")
 
-    # A call that did its work and returns an error.
+    # A call that did its work and returns an error, as on a network's file system.
     def test_names_that_were_given_with_an_error(self):
-        self.with_calls(0, "seal -k key small out", lacks=".", LIES="1")
-        self.with_calls(0, "seal --force -k key small out", LIES="1")
-        self.opens("out", read("small"))
-        self.no_parts()
+        for settings, words in (
+            ("BEFORE=link RUNS='ln .out* out' link=fails", "seal -k key small out"),
+            ("BEFORE=unlink RUNS='rm .out*'", "seal -k key small out"),
+            ("BEFORE=rename RUNS='mv .out* out' rename=fails", "seal --force -k key small out"),
+        ):
+            self.with_calls(0, settings, words, lacks=".")
+            self.opens("out", read("small"))
+            os.remove("out")
+            self.nothing_left()
 
-    # A folder that is renamed just before a name in it is removed: it is said that the file stays.
+    # As in a folder that was made read-only meanwhile.
+    def test_names_that_cannot_be_given(self):
+        self.with_calls(3, "link=fails rename=fails unlink=fails", "seal -k key small out", ("out cannot be written", STAYS))
+        self.assertEqual([os.path.exists("out"), len(parts())], [False, 1])
+
+    # ---- What happens between two calls
+
+    # A file that is created just before the link is not replaced, also if a look at it fails.
+    def test_an_output_that_is_created_just_before(self):
+        created = "BEFORE=link RUNS=': >> out'"
+        self.with_calls(3, created, "keygen out", "out exists, and keygen replaces no file")
+        os.remove("out")
+        for _ in self.each(3, f"link=fails {created} AT", "seal -k key small out"):
+            if os.path.exists("out"):
+                self.is_same("out", b"")
+                os.remove("out")
+
+    # Just before a name is removed its folder is renamed.
     def test_a_folder_that_moves_at_the_end(self):
-        for status, command in (1, f"open -k key {write('cut', read('sealed')[:-1])} moving/out"), (3, "seal -k key small moving/out"):
+        write("cut", read("sealed")[:-1])
+        for status, words in (1, "open -k key cut moving/out"), (3, "seal -k key small moving/out"):
             os.mkdir("moving")
-            self.with_calls(status, command, STAYS, MOVES="moving")
-            os.rename("moving.moved", f"moved-{status}")
+            self.with_calls(status, f"BEFORE=unlink RUNS='mv moving moved-{status}'", words, STAYS)
         self.opens("moved-3/out", read("small"))
 
-    def test_short_reads_and_writes(self):
-        self.with_calls(0, "keygen new", SHORT="1")
-        self.with_calls(0, "seal -k new text out", SHORT="1")
-        self.opens("out", read("text"), key="new")
-        self.with_calls(0, "rekey --force -k key -n new sealed out", SHORT="1")
-        self.with_calls(0, "open -k new --from 65530 --length 70000 out part", SHORT="1")
-        self.is_same("part", read("text")[65_530:135_530])
+    # Just before the output is synced its folder or its file is renamed, removed, or exchanged for another that has a key of
+    # the file's name, or a file of the output's name appears. What is in the folder then stays.
+    def test_names_that_change(self):
+        for runs, says, lacks, count in CHANGES:
+            forced = ["seal --force -k key small place/out"] * (says != EXISTS)
+            for words in "seal -k key small place/out", "open -k key sealed place/out", *forced:
+                with self.subTest(words, runs=runs):
+                    self.shell(0, "rm -rf place aside; mkdir place")
+                    self.with_calls(3, f"BEFORE=fsync_file RUNS='{runs}'", words, says, lacks)
+                    left = list(pathlib.Path(".").glob("place/*"))
+                    self.assertEqual((len(left), os.path.exists("aside/out")), (count, False))
+                    for path in left:
+                        self.assertTrue(not path.is_file() or path.read_bytes() == read("key"))
+
+    # An output without a folder is in the one that the run began in.
+    def test_an_output_without_a_folder(self):
+        os.mkdir("place")
+        self.with_calls(0, "-C place BEFORE=fsync_file RUNS='mv ../place ../aside'", "seal -k ../key ../small out")
+        self.opens("aside/out", read("small"))
+
+    # A link is turned to the key while the input is opened, which may take long.
+    def test_a_link_that_is_turned_to_the_key(self):
+        os.symlink(write("aside", ""), "turned")
+        turns = "BEFORE=open RUNS='[ ! -e key-is-open ] || ln -sfn key turned; touch key-is-open'"
+        self.with_calls(3, turns, "seal --force -k key small turned", "it would be lost")
 
     def test_an_input_that_goes_on_after_its_end(self):
-        self.with_calls(0, "seal -k key small out", GOES_ON="1")
+        self.with_calls(0, "GOES_ON=1", "seal -k key small out")
         self.opens("out", read("small"))
-        self.with_calls(1, f"info {write('cut', read('sealed')[:140_000])}", "at least 56747 bytes are missing$", GOES_ON="1")
+        write("cut", read("sealed")[:140_000])
+        self.with_calls(1, "GOES_ON=1", "info cut", "at least 56747 bytes are missing$")
 
     # If the caller has closed standard error, the next file that is opened could get its descriptor, and a message.
     def test_no_message_in_an_output(self):
         for closed in "sealed out 2>&-", "sealed out >&- 2>&-", "sealed out <sealed >&- 2>&-", "- out <sealed 2>&-":
-            self.shell(0, f"exec env LD_PRELOAD={CALLS} LINK_FAILS=1 $tool open -k key {closed}")
+            self.with_calls(0, "link=fails", f"open -k key {closed}")
             self.is_same("out", "text")
             os.remove("out")
 
     # ---- Each call fails, or is killed
 
     def test_each_allocation_fails(self):
-        count = 0
-        for count, _ in self.each((0, 3), "open -k key sealed out", "NO_MEMORY"):
+        for _ in self.each((0, 3), "NO_MEMORY", "open -k key sealed out", least=50):
             if os.path.exists("out"):
                 self.is_same("out", "text")
                 os.remove("out")
             else:
                 self.assertRegex(self.said, "memory")
-            self.no_parts()
-        self.assertGreater(count, 50)
-
-    COMMANDS = {
-        "seal -k key text out": None,
-        "seal --force -k key text out": b"old",
-        "open -k key sealed out": None,
-        "open --force -k key sealed out": b"old",
-        "open --force -k key --from 0 sealed out": b"old",
-        "rekey -k key -n other sealed out": None,
-    }
+            self.nothing_left()
 
     def test_each_call_fails(self):
-        self.check_each_call(self.check_failed, (0, 3))
+        for command, before, after in self.each_of_commands((0, 3), "AT"):
+            with self.subTest(command, call=len(before)):
+                self.check_failed(before, after, self.is_complete(command))
 
     def test_killed_at_each_call(self):
-        self.check_each_call(self.check_killed, (0, -9), KILLS="1")
+        for command, before, _ in self.each_of_commands((0, -9), "KILLS=1 AT"):
+            with self.subTest(command, call=len(before)):
+                self.is_complete(command)
+                self.assertIn([os.stat(part).st_mode & 0o777 for part in parts()], ([], [0o600]))
 
-    def check_each_call(self, check, status, **settings):
+    def each_of_commands(self, status, settings):
+        """Runs each command with each call failing. Gives the command, and the calls until that and after it."""
         key, sealed = read("key"), read("sealed")
-        for command, old in self.COMMANDS.items():
-            self.prepare(old)
-            count = 0
-            for count, noted in self.each(status, command, "AT", **settings):
-                with self.subTest(f"{command}, call {count}"):
-                    check(noted, self.is_complete(command, old))
-                self.prepare(old)
-            self.assertGreater(count, 15, command)
+        for command in COMMANDS:
+            self.prepare(command)
+            for before, after in self.each(status, settings, command):
+                yield command, before, after
+                self.prepare(command)
             self.assertTrue(read("key") == key and read("sealed") == sealed)
 
-    def prepare(self, old):
-        """Puts the output of before in its place, if there is one, and removes what a run has left."""
-        for name in parts() + (["out"] if os.path.exists("out") else []):
-            os.remove(name)
-        if old:
-            write("out", old)
+    def prepare(self, command):
+        for name in *parts(), "out":
+            pathlib.Path(name).unlink(missing_ok=True)
+        if "--force" in command:
+            write("out", "old")
 
-    def is_complete(self, command, old):
+    def is_complete(self, command):
         """Whether there is a new output, which is then complete; or it is as it was."""
-        if not os.path.exists("out"):
-            self.assertIsNone(old, "the output of before is gone")
-            return False
-        if read("out") == old:
+        before = b"old" if "--force" in command else None
+        if before == (read("out") if os.path.exists("out") else None):
             return False
         if command.startswith("open"):
             self.is_same("out", "text")
@@ -149,49 +194,28 @@ class Calls(Scene):
             self.opens("out", read("text"), key="other" if command.startswith("rekey") else "key")
         return True
 
-    def check_killed(self, _noted, _is_complete):
-        self.assertLessEqual(len(parts()), 1)
-        for part in parts():
-            self.assertEqual(os.stat(part).st_mode & 0o777, 0o600)
-
-    # A name that cannot be removed stays, and is said to.
-    def check_failed(self, noted, is_complete):
-        if stays := re.search("^hunkravy: (.*) is not removed", self.said, re.M):
-            self.assertTrue(os.path.exists(stays[1]))
-            if is_complete:
-                self.assertRegex(self.said, "out is complete, but has a second name")
-                self.assertIn("fsync-folder", noted)
-        else:
-            self.no_parts()
-        if self.status == 0:
-            self.assertTrue(is_complete)
-            # A look that fails may leave out progress or a warning.
-            if "look" not in noted:
-                self.assertIn("link here", " ".join(noted))
-                self.assertRegex(self.said, "out was renamed to, and not linked")
-        elif is_complete:
-            self.assertRegex(self.said, "out is complete, but")
+    # A name that cannot be removed stays, and is said to. A look that fails may leave out progress or a warning.
+    def check_failed(self, before, after, is_complete):
+        stays = re.findall("^hunkravy: (.*) is not removed", self.said, re.M)
+        self.assertEqual([os.path.normpath(name) for name in stays], parts())
+        if stays and is_complete:
+            self.assertRegex(self.said, "out is complete, but has a second name")
+            self.assertIn("fsync_folder", after)
+        self.assertEqual(is_complete, self.status == 0 or "out is complete, but" in self.said)
+        if self.status == 0 and before[-1] != "statx":
+            self.assertEqual(before[-1], "link")
+            self.assertRegex(self.said, "out was renamed to, and not linked")
 
     def test_each_call_fails_beside_the_key_and_the_input(self):
         for name in "key", "sealed":
             before = read(name)
-            count = 0
-            for count, _ in self.each(3, f"open --force -k key sealed {name}", "AT"):
+            for _ in self.each(3, "AT", f"open --force -k key sealed {name}", least=4):
                 self.is_same(name, before)
-            self.assertGreater(count, 4)
 
     def test_each_call_fails_on_standard_output(self):
-        for command in "seal -k key text", "open -k key sealed":
-            for number in range(1, 1000):
-                write("noted", "")
-                self.shell((0, 3), f"exec env LD_PRELOAD={CALLS} CALLS=$PWD/noted AT={number} $tool {command} > printed")
-                if b"here" not in read("noted"):
-                    break
-                printed = read("printed")
-                if command.startswith("open"):
-                    self.assertTrue(read("text").startswith(printed))
-                    self.assertTrue(self.status == 3 or printed == read("text"))
-                    self.assertTrue(self.status == 0 or not printed or "incomplete: discard it" in self.said)
-                else:
-                    self.tool(0 if self.status == 0 else 1, "check -k key printed")
-            self.assertGreater(number, 8)
+        for _ in self.each((0, 3), "AT", "open -k key sealed > printed", least=8):
+            self.assertTrue(read("text").startswith(read("printed")))
+            self.assertTrue(self.status == 3 or read("printed") == read("text"))
+            self.assertTrue(self.status == 0 or not read("printed") or "incomplete: discard it" in self.said)
+        for _ in self.each((0, 3), "AT", "seal -k key text > printed", least=8):
+            self.tool(0 if self.status == 0 else 1, "check -k key printed")

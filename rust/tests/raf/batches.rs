@@ -1,7 +1,7 @@
 //! Batches of rows that a crash cuts short, as `crates/example_batches` and the example `batches` write them.
 //!
 //! If `HUNKRAVY_BATCHES` names a folder, each file and journal that a crash has left is written there too, beside a list of the
-//! numbers that its rows may hold: `tools/check_raf.sh` has the proved program open them.
+//! numbers that its rows may hold: `tools/check_batches.sh` has the proved program open them.
 
 use crate::support::{Bytes, Disk, KEY, Part, Random, crashed, disks};
 use hunkravy::raf::{Aegis256, Raf, RafBuilder};
