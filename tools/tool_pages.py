@@ -11,12 +11,7 @@ import sys
 from typing import NamedTuple
 
 # The day of the manual page.
-<<<<<<< HEAD
 DATE = "2026-11-28"
-
-=======
-DATE = "2026-11-27"
->>>>>>> a9b0b05dc7cccd6ce656d04c572272ac38c58dec
 DESCRIPTION = """\
 Encrypts files under a random key kept in a key file. No passwords, no public keys. Losing the key loses the data."""
 # What stands over an example, by its command.
