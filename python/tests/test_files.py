@@ -663,11 +663,11 @@ class Tool(unittest.TestCase):
     # What its message says of each cause.
     says = {
         "header": "is not a sealed file",
-        "truncated": "is cut off",
-        "flag": "where a record should begin is none",
-        "too_long": "where a record should begin is none",
-        "trailing": "goes on after the end",
-        "damaged 0": "the key is not the one",
+        "truncated": "is truncated",
+        "flag": "the head of a record is invalid",
+        "too_long": "the head of a record is invalid",
+        "trailing": "bytes follow its last record",
+        "damaged 0": "the key is wrong",
     }
 
     def setUp(self) -> None:

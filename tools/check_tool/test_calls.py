@@ -9,9 +9,9 @@ from scene import Scene, parts, read, write
 
 # The least stack that a run may have in KB: 128, and what the environment and the command line take of it.
 STACK = 132 + sum(len(name) + len(value) + 2 for name, value in os.environ.items()) // 1024
-MOVED = "was renamed, removed or mounted over meanwhile"
-STAYS = "is not removed, and may hold plaintext or a key"
-EXISTS = "place/out exists; --force replaces a file"
+MOVED = "was renamed, removed or mounted over"
+STAYS = "was not removed: delete it, since it may hold plaintext or a key"
+EXISTS = "place/out exists: use --force to replace it"
 # What happens in the folder `place` before an output in it gets its name: the command, what is said of it and what is not,
 # and how many files are in the folder at the end.
 CHANGES = (
@@ -91,7 +91,7 @@ class Calls(Scene):
     # A file that is created just before the link is not replaced, also if a look at it fails.
     def test_an_output_that_is_created_just_before(self):
         created = "BEFORE=link RUNS=': >> out'"
-        self.with_calls(3, created, "keygen out", "out exists, and keygen replaces no file")
+        self.with_calls(3, created, "keygen out", "out exists: keygen never replaces a file")
         os.remove("out")
         for _ in self.each(3, f"link=fails {created} AT", "seal -k key small out"):
             if os.path.exists("out"):
@@ -130,7 +130,7 @@ class Calls(Scene):
     def test_a_link_that_is_turned_to_the_key(self):
         os.symlink(write("aside", ""), "turned")
         turns = "BEFORE=open RUNS='[ ! -e key-is-open ] || ln -sfn key turned; touch key-is-open'"
-        self.with_calls(3, turns, "seal --force -k key small turned", "it would be lost")
+        self.with_calls(3, turns, "seal --force -k key small turned", "would destroy the key")
 
     def test_an_input_that_goes_on_after_its_end(self):
         self.with_calls(0, "GOES_ON=1", "seal -k key small out")
@@ -196,15 +196,15 @@ class Calls(Scene):
 
     # A name that cannot be removed stays, and is said to. A look that fails may leave out progress or a warning.
     def check_failed(self, before, after, is_complete):
-        stays = re.findall("^hunkravy: (.*) is not removed", self.said, re.M)
+        stays = re.findall("^hunkravy: (.*) was not removed", self.said, re.M)
         self.assertEqual([os.path.normpath(name) for name in stays], parts())
         if stays and is_complete:
-            self.assertRegex(self.said, "out is complete, but has a second name")
+            self.assertRegex(self.said, "out is complete, but \.OUT\.hunkravy-\* beside it remains")
             self.assertIn("fsync_folder", after)
         self.assertEqual(is_complete, self.status == 0 or "out is complete, but" in self.said)
         if self.status == 0 and before[-1] != "statx":
             self.assertEqual(before[-1], "link")
-            self.assertRegex(self.said, "out was renamed to, and not linked")
+            self.assertRegex(self.said, "out was renamed into place")
 
     def test_each_call_fails_beside_the_key_and_the_input(self):
         for name in "key", "sealed":

@@ -28,8 +28,9 @@ class Contents(Scene):
         for at, record in (40, 0), (70_000, 1), (140_000, 2), (199_000, 3):
             write("flipped", sealed[:at] + bytes([sealed[at] ^ 1]) + sealed[at + 1 :])
             first, end = PIECE * record, min(PIECE * record + PIECE, 200_000)
-            fault = f"is damaged; the first {first} bytes of .* record {record} does not open" if record else "the key is not the one"
-            says = f"{fault}.* bytes {first} to {end - 1} .*--from {end} "
+            lost = rf"\(bytes {first} to {end - 1} of .*--from {end}\)"
+            damaged = f"is damaged: record {record} does not open {lost}; the first {first} bytes of"
+            says = damaged if record else f"the key is wrong.*{lost}"
             self.tool(1, "check -k key flipped", says)
             self.shell(1, "$TOOL open -k key flipped > started", (says, "incomplete: discard it\n\\Z" if record else says))
             self.is_same("started", text[:first])
@@ -37,7 +38,7 @@ class Contents(Scene):
             self.assertTrue(self.printed == text[end:])
 
     def test_truncated_pipes(self):
-        self.shell(1, "timeout 20 $TOOL open -k key <(head -c 200175 sealed) out", "is cut off; the first 196608 bytes of")
+        self.shell(1, "timeout 20 $TOOL open -k key <(head -c 200175 sealed) out", "is truncated; the first 196608 bytes of")
         self.shell(1, "head -c 200175 sealed | $TOOL info", "at least 1 bytes are missing$")
         self.nothing_left("out")
 
@@ -52,7 +53,8 @@ class Contents(Scene):
         past = [f"key --from {first}{length}" for first in (200_001, 300_000, 2**64 - 1) for length in ("", " --length 0")]
         others = [f"other --from {first}" for first in ("0 --length 0", "10", "199999", "200000", "300000")]
         for part, output in itertools.product(past + others, ("out", "-")):
-            says = "sealed has only 200000 bytes of contents" if part in past else "sealed: the key is not the one .*"
+            too_far = "sealed has only 200000 bytes of contents: --from is past their end"
+            says = too_far if part in past else "sealed: the key is wrong.*"
             self.tool(1, f"open -k {part} sealed {output}", rf"\Ahunkravy: {says}\n\Z")
             self.nothing_left("out")
 

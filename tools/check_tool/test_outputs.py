@@ -10,7 +10,7 @@ from scene import Scene, read, write
 
 # The commands of bash that are rejected, by the reason. `same` is another name of `sealed`, `name` and `link` are of `key`.
 REJECTED = {
-    "is the input too": (
+    "is also the input": (
         "seal --force -k key sealed same",
         "seal -k key pipe pipe",
         "seal -k key small >> small",
@@ -21,7 +21,7 @@ REJECTED = {
         "open -k key --force sealed /dev/fd/3 3>&-",
         "rekey -k key -n other --force sealed /dev/fd/3 3>&-",
     ),
-    "it would be lost": (
+    "would destroy the key": (
         "seal --force -k key small key",
         "open --force -k key sealed name",
         "open --force -k key --from 5 sealed link",
@@ -30,12 +30,12 @@ REJECTED = {
         "seal -k key small >> key",
         "check -k key sealed >> key",
     ),
-    "exists; --force replaces a file": ("seal -k key small sealed", "open -k other sealed link"),
-    "dangling is a link to a file that does not exist": ("seal --force -k key small dangling",),
+    "exists: use --force to replace it": ("seal -k key small sealed", "open -k other sealed link"),
+    "dangling is a link to a missing file": ("seal --force -k key small dangling",),
     "is a folder or a block device": ("seal --force -k key small folder",),
     "socket cannot be written": ("seal --force -k key small socket",),
     # Descriptors that the program opens itself.
-    "was not there when the run began": ("seal -k key /dev/null /dev/fd/3 3>&-", "seal -k key /dev/null /dev/stdout >&-"),
+    "became a device or a pipe during the run": ("seal -k key /dev/null /dev/fd/3 3>&-", "seal -k key /dev/null /dev/stdout >&-"),
     "/dev/stdout": ("open --force -k key --from 5 sealed /dev/stdout >&-",),
 }
 
@@ -77,7 +77,7 @@ class Outputs(Scene):
         os.mknod("node", 0o600 | stat.S_IFBLK, os.stat(device).st_rdev)
         for command in f"check -k key {device} > {device}", f"info {device} > {device}", f"seal -k key < {device} > {device}", \
                 f"open -k key --length 1 {device} > node":
-            self.shell(3, f"$TOOL {command}", "is the input too")
+            self.shell(3, f"$TOOL {command}", "is also the input")
         # What is on it after the file's end is not of the file.
         self.tool(1, f"check -k key {device}")
         os.truncate("disk", 410 + 37 + 65)
@@ -94,7 +94,7 @@ class Outputs(Scene):
         # A link of /proc to a file that is gone, whose name there is that of another file.
         shutil.copy("key", "gone (deleted)")
         for output in "/proc/self/fd/8", "/dev/fd/8":
-            self.shell(3, f"exec 8<> gone; rm gone; exec $TOOL seal --force -k other small {output}", "not found by its name")
+            self.shell(3, f"exec 8<> gone; rm gone; exec $TOOL seal --force -k other small {output}", "a link to a file that has no path here")
         self.is_same("gone (deleted)", "key")
 
     # A fault of the tool must not reach the system's own devices, so these are others. No driver has the block device.

@@ -37,14 +37,14 @@ class Words(Scene):
         for words in "seal small", "frobnicate", "open -k key --from x sealed out", "open -k key --from 1 - out", \
                 "open -k key --records 1..2 sealed out", "seal -k - - out":
             self.tool(2, words)
-        self.shell(2, r"$TOOL seal -k key $'small\377' out", "a word of the command line")
+        self.shell(2, r"$TOOL seal -k key $'small\377' out", "an argument, or")
         self.shell(2, r"exec -a $'\377' $TOOL info sealed", "or the program's own name, is not UTF-8")
         for words in "seal -k key no-such-file out", "seal -k nowhere small out":
             self.tool(3, words)
-        self.tool(3, "seal -k key . out", r"^hunkravy: \. is a folder: pack it with tar first")
+        self.tool(3, "seal -k key . out", r"^hunkravy: \. is a folder: to seal it, run tar -c \. ")
         # The tests of the packages have the forms of a key.
         for wrong in "small", "/dev/null", "/dev/zero":
-            self.tool(3, f"seal -k {wrong} small out", f"key file {wrong} has no key", "chmod")
+            self.tool(3, f"seal -k {wrong} small out", f"{wrong} holds no key", "chmod")
         self.nothing_left("out")
 
     def test_keygen(self):
@@ -53,7 +53,7 @@ class Words(Scene):
         before = read("drawn")
         self.assertRegex(before, rb"\A[0-9a-f]{64}\n\Z")
         self.shell(0, "$TOOL check -q -k <(cat key) sealed && $TOOL check -q -k - sealed < key")
-        self.tool(3, "keygen drawn", "drawn exists, and keygen replaces no file")
+        self.tool(3, "keygen drawn", "drawn exists: keygen never replaces a file")
         self.is_same("drawn", before)
         # A file system that is full takes a part of what is written.
         self.shell(3, "trap '' XFSZ; exec prlimit --fsize=32 $TOOL keygen full 2> /dev/null")
@@ -79,7 +79,7 @@ class Words(Scene):
     # Names that a terminal acts on are escaped in messages.
     def test_names(self):
         for name in "", "nothing/", "no/such/folder", ".", "n" * 256:
-            self.tool(3, [TOOL, "seal", "-k", "key", "small", name], lacks="renamed to|--force")
+            self.tool(3, [TOOL, "seal", "-k", "key", "small", name], lacks="renamed into|--force")
         odd = "./line\nfeed", "./\ttab", "./-", "./--force", "./ ", "./*", "./\033[2J", "./\u009b2J", "./\r"
         for name in *odd, "n" * 255, "n" * 250, "\u00fc" * 120:
             self.tool(0, [TOOL, "seal", "-k", "key", "small", name])
