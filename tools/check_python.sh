@@ -19,7 +19,7 @@ fail() {
 run_tests() {
     (cd tests && PYTHONPATH=$1 python3 -W error -m unittest -v) > "$work/log" 2>&1 || { cat "$work/log"; fail 'a test failed'; }
     grep '^Ran ' "$work/log"
-    grep -qE '^test_all_tests .* ok$' "$work/log" || fail 'the tests were not counted'
+    grep -qE '^test_no_test_is_left_out .* ok$' "$work/log" || fail 'the tests were not counted'
 }
 
 run_tests "$folder"
