@@ -93,6 +93,8 @@ pub const MAX_SIZE: u64 = 1 << 60;
 /// Changes are kept in memory until a commit: [`commit`](Raf::commit), [`sync`](Raf::sync), dropping, and any
 /// [`write`](Raf::write) or extending [`truncate`](Raf::truncate) that leaves them past the [limit](RafBuilder::buffer_limit).
 ///
+/// The pages that were read last are kept in memory, up to 64 KiB of them.
+///
 /// **Dropping ignores the error of its commit**, so call `commit` first. After a change or a commit that has failed or panicked,
 /// dropping does not commit, until a `commit` succeeds or [`discard`](Raf::discard) is called. Dropping does not commit while its
 /// thread panics. If threads share the file through a mutex and one of them has panicked, call `discard` in the others.
