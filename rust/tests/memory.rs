@@ -169,6 +169,28 @@ fn longer_records() {
     assert_eq!(FREED.load(SeqCst) - freed, GROWN.len() + 1);
 }
 
+/// A reader of bytes that then returns counts of bytes which it does not write.
+struct Lies<'a>(&'a [u8]);
+
+impl Read for Lies<'_> {
+    fn read(&mut self, buf: &mut [u8]) -> std::io::Result<usize> {
+        let count = self.0.read(buf)?;
+        Ok(if count > 0 { count } else { buf.len() })
+    }
+}
+
+/// Reads a record and the head of a longer one, whose other bytes are not written.
+fn record_of_lies() {
+    let mut sealer = Sealer::new(&[7; 32], &[1; 24], b"hunkravy v1").unwrap();
+    let mut file = [&[1; 24][..], &sealer.header()].concat();
+    sealer.seal_next(&[MARK; 1100], &mut file).unwrap();
+    file.push(0);
+    file.extend(200_000_u32.to_le_bytes());
+    let mut reader = SealedReader::new(Lies(&file), &[7; 32]);
+    let error = std::io::copy(&mut reader, &mut std::io::sink()).unwrap_err();
+    assert_eq!(error.kind(), ErrorKind::InvalidData);
+}
+
 /// A sealed file takes a record and what is constant. A record that is announced takes no more than twice what is there of
 /// it.
 fn of_a_sealed_file(path: &Path) {
@@ -182,6 +204,7 @@ fn of_a_sealed_file(path: &Path) {
         assert!(most < RECORD_BYTES + 3 * count + 5_000, "{most} of {count}");
     }
     longer_records();
+    record_of_lies();
     fs::remove_file(path).unwrap();
 }
 

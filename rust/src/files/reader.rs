@@ -216,14 +216,17 @@ impl<R: Read> SealedReader<R> {
         Ok(())
     }
 
-    /// Makes the buffer for a record of `end` bytes longer: to twice its length, or to that of a whole piece. The memory of the
-    /// old buffer is freed without overwriting it, since each of its bytes is ciphertext by now.
+    /// Makes the buffer for a record of `end` bytes longer: to twice its length, or to that of a whole piece. The old buffer is
+    /// overwritten: an inner reader may have returned a count of bytes that it did not write.
     fn grow(&mut self, end: usize) -> io::Result<()> {
-        let bytes = &mut self.record.0;
-        let more = end.min(FIRST_BYTES.max(2 * bytes.len())) - bytes.len();
-        let taken = bytes.try_reserve_exact(more);
+        let old = &self.record.0;
+        let length = end.min(FIRST_BYTES.max(2 * old.len()));
+        let mut new = Vec::new();
+        let taken = new.try_reserve_exact(length);
         taken.map_err(|_| ErrorKind::OutOfMemory)?;
-        bytes.resize(bytes.len() + more, 0);
+        new.extend_from_slice(old);
+        new.resize(length, 0);
+        self.record = Wiped(new);
         Ok(())
     }
 }

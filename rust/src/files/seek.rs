@@ -24,37 +24,60 @@ fn in_whole_pieces(file_bytes: u64, place: Option<u64>) -> Option<Position> {
 }
 
 impl<R: Read + Seek> SealedReader<R> {
-    /// Moves to a place of the contents, so that the record is open that has it, or the last one.
-    fn locate(&mut self, place: u64) -> io::Result<()> {
-        let end = self.start + self.length as u64;
-        let is_here = place == self.position || (self.start..end).contains(&place);
-        if self.is_lost || !is_here {
-            self.open_record_of(Some(place))?;
-        }
-        self.position = place;
-        Ok(())
-    }
-
-    /// Moves to a place that is given from the start, from the position or from the end, and returns it.
-    fn locate_from(&mut self, to: SeekFrom) -> io::Result<u64> {
-        let before = self.position;
+    /// Opens the record that has a place, and returns the place. The position is set by the caller, after all of this.
+    fn locate(&mut self, to: SeekFrom) -> io::Result<u64> {
         let place = match to {
             SeekFrom::Start(place) => Some(place),
-            SeekFrom::Current(by) => before.checked_add_signed(by),
-            SeekFrom::End(by) => self.locate_end()?.checked_add_signed(by),
+            SeekFrom::Current(by) => self.position.checked_add_signed(by),
+            SeekFrom::End(by) => return self.locate_from_end(by),
         };
-        self.locate(place.unwrap_or(before))?;
-        place.ok_or_else(|| ErrorKind::InvalidInput.into())
+        let place = place.ok_or(ErrorKind::InvalidInput)?;
+        if self.is_lost || place != self.position {
+            self.open_for(place)?;
+        }
+        Ok(place)
     }
 
-    /// Moves to the end of the contents, and returns their length.
-    fn locate_end(&mut self) -> io::Result<u64> {
+    /// Opens the last record and then that of a place from the end. If the place is before the start, goes back to the record
+    /// that was open, for the next read to open it again.
+    fn locate_from_end(&mut self, by: i64) -> io::Result<u64> {
+        let (here, was_lost) = (self.here(), self.is_lost);
         self.open_record_of(None)?;
         self.is_lost = true;
         self.check_end()?;
         self.is_lost = false;
-        self.position = self.start + self.length as u64;
-        Ok(self.position)
+        let end = self.start + self.length as u64;
+        if let Some(place) = end.checked_add_signed(by) {
+            self.open_for(place)?;
+            return Ok(place);
+        }
+        self.is_lost = true;
+        if !was_lost {
+            let opener = self.move_to(here)?.map_err(|fault| self.fail(fault))?;
+            self.opener = Some(opener);
+            self.is_lost = false;
+        }
+        Err(ErrorKind::InvalidInput.into())
+    }
+
+    /// Returns the position of the record that is open, or of the next one if that is none or empty.
+    fn here(&self) -> Position {
+        let Some(opener) = &self.opener else {
+            return Position::default();
+        };
+        let is_open = self.length > 0 || opener.has_ended();
+        Position {
+            number: opener.position().number - u64::from(is_open),
+            before: self.start,
+        }
+    }
+
+    /// Opens the record that has a place, or the last one, unless it is open.
+    fn open_for(&mut self, place: u64) -> io::Result<()> {
+        if self.is_lost || place < self.start || !self.is_open_at(Some(place)) {
+            self.open_record_of(Some(place))?;
+        }
+        Ok(())
     }
 
     /// Opens the record that has a place of the contents, or the last one if none has it. It is tried first where it would be
@@ -98,8 +121,8 @@ impl<R: Read + Seek> SealedReader<R> {
         Ok(())
     }
 
-    /// Returns the position of the record that has a place, or of the last one, by the lengths of those before it, which are not
-    /// verified.
+    /// Returns the position of the record that has a place, or of the last one, by the lengths of those before it. Only a length
+    /// of 0 is verified: a hole of zeros, which takes no disk, would be any number of empty records.
     fn find(&mut self, place: Option<u64>) -> io::Result<Position> {
         let mut position = Position::default();
         loop {
@@ -108,6 +131,9 @@ impl<R: Read + Seek> SealedReader<R> {
             let end = position.before + length;
             if is_last || place.is_some_and(|place| place < end) {
                 return Ok(position);
+            }
+            if length == 0 {
+                self.open_at(position)?.map_err(|fault| self.fail(fault))?;
             }
             position.number += 1;
             position.before = end;
@@ -163,12 +189,8 @@ impl<R: Read + Seek> Seek for SealedReader<R> {
     /// [`SeekFrom::End`] verifies the last record too, and that nothing follows it.
     fn seek(&mut self, to: SeekFrom) -> io::Result<u64> {
         self.check()?;
-        let before = self.position;
-        let sought = self.locate_from(to);
-        if sought.is_err() {
-            self.position = before;
-        }
-        sought
+        self.position = self.locate(to)?;
+        Ok(self.position)
     }
 
     /// Returns the place of the next byte. Nothing is moved.

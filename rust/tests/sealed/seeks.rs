@@ -1,9 +1,11 @@
 //! Reading at any place.
 
 use crate::random::Random;
-use crate::support::{Failing, PIECE_BYTES, WHOLE_BYTES, key, sealed, sealed_in_pieces};
+use crate::support::{Failing, PIECE_BYTES, WHOLE_BYTES, fault_of, key, sealed, sealed_in_pieces};
 use hunkravy::files::SealedReader;
+use hunkravy::records::Error;
 use std::io::{BufRead, Cursor, ErrorKind, Read, Result, Seek, SeekFrom};
+use std::panic::{AssertUnwindSafe, catch_unwind};
 
 const PREFIX: [u8; 24] = [9; 24];
 
@@ -132,6 +134,78 @@ fn places_out_of_bounds() {
     assert_eq!(error.kind(), ErrorKind::InvalidInput);
     reader.rewind().unwrap();
     assert_eq!(reader.fill_buf().unwrap(), [1; 100]);
+}
+
+/// A seek to before the start changes nothing, even where the record is damaged or there is none.
+#[test]
+fn before_the_start() {
+    let mut file = sealed(&key(), &PREFIX, &[b"first", b"damaged", b"third", b""]);
+    file[28 + 42 + 10] ^= 1;
+    for place in [0, 3, 5, 12, 14, 17, 100] {
+        let mut reader = SealedReader::new(Cursor::new(&file), &key());
+        if place < 5 || place > 11 {
+            reader.seek(SeekFrom::Start(place)).unwrap();
+        } else {
+            reader.read_exact(&mut [0; 5]).unwrap();
+        }
+        for _ in 0..2 {
+            let error = reader.seek(SeekFrom::End(-18)).unwrap_err();
+            assert_eq!(error.kind(), ErrorKind::InvalidInput);
+            assert_eq!(reader.stream_position().unwrap(), place);
+        }
+        let found = reader.fill_buf().map_err(|error| fault_of(&error));
+        match place {
+            0 | 3 => assert_eq!(found.unwrap(), &b"first"[place as usize..]),
+            5 => assert_eq!(found, Err(Error::Damaged(1))),
+            12 | 14 => assert_eq!(found.unwrap(), &b"third"[place as usize - 12..]),
+            _ => assert_eq!(found.unwrap(), []),
+        }
+    }
+}
+
+/// A reader that panics in a call of this number, and counts on.
+struct Panics(Cursor<Vec<u8>>, usize);
+
+impl Panics {
+    fn call(&mut self) {
+        self.1 = self.1.wrapping_sub(1);
+        assert_ne!(self.1, 0, "the inner reader panics");
+    }
+}
+
+impl Read for Panics {
+    fn read(&mut self, buf: &mut [u8]) -> Result<usize> {
+        self.call();
+        self.0.read(buf)
+    }
+}
+
+impl Seek for Panics {
+    fn seek(&mut self, to: SeekFrom) -> Result<u64> {
+        self.call();
+        self.0.seek(to)
+    }
+}
+
+/// After a panic of the inner reader in a seek the place is as it was.
+#[test]
+fn panics_of_seeks() {
+    let file = sealed(&key(), &PREFIX, &[b"first", b"second", b"third", b""]);
+    let (mut panics, mut calls) = (0, 1);
+    loop {
+        let mut reader = SealedReader::new(Panics(Cursor::new(file.clone()), calls), &key());
+        let sought = catch_unwind(AssertUnwindSafe(|| reader.seek(SeekFrom::End(-7))));
+        if let Ok(sought) = sought {
+            assert_eq!(sought.unwrap(), 9);
+            break;
+        }
+        assert_eq!(reader.stream_position().unwrap(), 0);
+        assert_eq!(reader.seek(SeekFrom::Start(9)).unwrap(), 9);
+        assert_eq!(reader.fill_buf().unwrap(), b"nd");
+        panics += 1;
+        calls += 1;
+    }
+    assert!(panics > 20, "{panics}");
 }
 
 /// After an error of the inner reader in a seek the place is as it was, and reading needs another seek.
@@ -274,6 +348,21 @@ fn only_what_is_needed_is_read() {
         reader.seek(SeekFrom::Current(count.min(3) as i64)).unwrap();
         reader.seek(SeekFrom::Start(place as u64)).unwrap();
         assert_eq!(reader.get_ref().1, read);
+    }
+}
+
+/// In a file of zeros each 37 bytes look like an empty record. A seek stops at the first of them, as reading does.
+#[test]
+fn zeros() {
+    let mut file = sealed(&key(), &PREFIX, &[b"first", b""]);
+    file.truncate(28 + 42);
+    file.resize(1 << 20, 0);
+    for to in [SeekFrom::End(0), SeekFrom::Start(5)] {
+        let mut reader = SealedReader::new(Counted(Cursor::new(&file), 0), &key());
+        let fault = fault_of(&reader.seek(to).unwrap_err());
+        assert_eq!(fault, Error::Damaged(1));
+        let read = reader.get_ref().1;
+        assert!(read < 2 * WHOLE_BYTES, "{to:?} {read}");
     }
 }
 
