@@ -9,6 +9,8 @@ use core::fmt;
 /// [`Cipher::encryptor`](crate::Cipher::encryptor) returns one. If it is dropped before [`finalize`](Self::finalize), there is
 /// no tag, and the ciphertext cannot be decrypted.
 ///
+/// **After a fork only one of the two processes may go on with an encryptor**: both have its nonce.
+///
 /// ```
 /// use hunkravy::aegis128l::Aegis128L;
 ///

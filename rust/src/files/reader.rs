@@ -16,14 +16,17 @@ const FIRST_BYTES: usize = RECORD_BYTES + PIECE_BYTES;
 /// follows it. Earlier bytes are a verified prefix of the contents. Nothing is read from the inner reader before the first
 /// read or seek.
 ///
-/// If the inner reader is [`Seek`](io::Seek), so is this reader. A seek verifies only the record at the new place. Seeking past
-/// the end is allowed, and reading there returns no bytes.
+/// If the inner reader is [`Seek`](io::Seek), so is this reader. A seek verifies the record at the new place, and not all of
+/// those before it. Seeking past the end is allowed, and reading there returns no bytes.
 ///
 /// # Errors
 ///
 /// A fault of the file is an error of kind [`ErrorKind::InvalidData`]. It holds the first fault, a
 /// [`records::Error`](crate::records::Error), which [`io::Error::get_ref`] and [`io::Error::downcast`] return. Reading returns
-/// all bytes before the fault first. After a fault every read and every seek returns it again.
+/// all bytes before the fault first. After a fault every read of bytes and every seek returns it again. **So stop an iterator,
+/// such as that of [`lines`](BufRead::lines), at its first error**: it does not end.
+///
+/// [`ErrorKind::InvalidInput`] if a seek is to before the start or past `u64::MAX`. Nothing has changed then.
 ///
 /// [`ErrorKind::OutOfMemory`] and errors of the inner reader, such as [`ErrorKind::WouldBlock`], are returned, and the next
 /// read continues. After [`ErrorKind::Interrupted`] the inner reader is read again. If the inner reader fails in a seek, the
@@ -35,8 +38,8 @@ const FIRST_BYTES: usize = RECORD_BYTES + PIECE_BYTES;
 ///
 /// # Memory
 ///
-/// Memory is allocated for one record as its bytes arrive, and is overwritten when the reader is dropped. Records have up to 64
-/// KiB in files of `hunkravy` and [`SealedWriter`](super::SealedWriter), and up to 16 MiB in those of other programs.
+/// Memory is allocated for one record as its bytes arrive, or for two while it grows, and is overwritten when it is freed.
+/// Records have up to 64 KiB in files of [`SealedWriter`](super::SealedWriter) and `hunkravy seal`, and up to 16 MiB in others.
 ///
 /// ```
 /// use hunkravy::files::{SealedReader, SealedWriter};
@@ -53,7 +56,8 @@ const FIRST_BYTES: usize = RECORD_BYTES + PIECE_BYTES;
 /// assert_eq!(end, "last line\n");
 ///
 /// reader.rewind()?;
-/// assert_eq!(reader.lines().count(), 2);
+/// let lines = reader.lines().collect::<std::io::Result<Vec<_>>>()?;
+/// assert_eq!(lines, ["the first line", "the last line"]);
 /// # Ok::<(), std::io::Error>(())
 /// ```
 #[must_use]
@@ -104,7 +108,7 @@ impl<R> SealedReader<R> {
         }
     }
 
-    /// Returns the inner reader.
+    /// Returns the inner reader. Do not read from it or move it: later reads may then fail.
     #[must_use]
     pub fn get_ref(&self) -> &R {
         &self.inner

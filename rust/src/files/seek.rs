@@ -121,8 +121,8 @@ impl<R: Read + Seek> SealedReader<R> {
         Ok(())
     }
 
-    /// Returns the position of the record that has a place, or of the last one, by the lengths of those before it. Only a length
-    /// of 0 is verified: a hole of zeros, which takes no disk, would be any number of empty records.
+    /// Returns the position of the record that has a place, or of the last one, by the lengths of those before it. Only lengths
+    /// of 0 are verified, since zeros look like empty records, and a hole of zeros takes no disk.
     fn find(&mut self, place: Option<u64>) -> io::Result<Position> {
         let mut position = Position::default();
         loop {
@@ -187,6 +187,9 @@ impl<R: Read + Seek> SealedReader<R> {
 impl<R: Read + Seek> Seek for SealedReader<R> {
     /// Moves to a place of the contents, and verifies the record that has it, unless it is the current place.
     /// [`SeekFrom::End`] verifies the last record too, and that nothing follows it.
+    ///
+    /// Unless the record is where [`SealedWriter`](super::SealedWriter) would have put it, the length of each earlier record is
+    /// read. Only lengths of 0 are verified.
     fn seek(&mut self, to: SeekFrom) -> io::Result<u64> {
         self.check()?;
         self.position = self.locate(to)?;

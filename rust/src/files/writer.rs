@@ -18,6 +18,8 @@ use std::io::{self, Write};
 /// incomplete piece in memory. After an error of the inner writer in `write` or `finish`, every function returns an error.
 /// The buffer for one piece is overwritten when the writer is dropped.
 ///
+/// **After a fork only one of the two processes may go on with a writer**: both have its nonces.
+///
 /// ```
 /// use hunkravy::files::SealedWriter;
 /// use std::io::Write;
@@ -72,8 +74,8 @@ impl<W: Write> SealedWriter<W> {
     ///
     /// # Errors
     ///
-    /// An error of the inner writer, now or earlier. Then the file does not open, unless flushing failed, or the inner writer
-    /// keeps bytes after an error and writes them later.
+    /// An error of the inner writer, now or in an earlier write. Then the file does not open, unless flushing failed, or the
+    /// inner writer keeps bytes after an error and writes them later.
     pub fn finish(mut self) -> io::Result<W> {
         self.check()?;
         if self.filled > 0 {
@@ -88,7 +90,9 @@ impl<W: Write> SealedWriter<W> {
 
     fn check(&self) -> io::Result<()> {
         if self.has_failed {
-            return Err(io::Error::other("an earlier write of this sealed file failed"));
+            return Err(io::Error::other(
+                "an earlier write of this sealed file failed",
+            ));
         }
         Ok(())
     }

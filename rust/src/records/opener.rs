@@ -73,7 +73,7 @@ impl<'c> Opener<'c> {
     ///
     /// # Errors
     ///
-    /// [`Error::ContextTooLong`], or [`Error::StreamTooLong`] if no stream has a record at this position.
+    /// [`Error::ContextTooLong`], or [`Error::StreamTooLong`] if the record would begin after the limit of a stream.
     ///
     /// ```
     /// use hunkravy::records::{Error, Opener, Position, Sealer};

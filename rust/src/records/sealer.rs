@@ -12,6 +12,8 @@ use core::fmt;
 /// End each stream with [`seal_last`](Self::seal_last) or [`seal_last_in_place`](Self::seal_last_in_place): without it the
 /// stream is truncated.
 ///
+/// **After a fork only one of the two processes may go on with a sealer**: both have its nonces.
+///
 /// ```
 /// use hunkravy::records::{Error, Sealer};
 ///

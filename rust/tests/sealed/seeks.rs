@@ -143,10 +143,10 @@ fn before_the_start() {
     file[28 + 42 + 10] ^= 1;
     for place in [0, 3, 5, 12, 14, 17, 100] {
         let mut reader = SealedReader::new(Cursor::new(&file), &key());
-        if place < 5 || place > 11 {
-            reader.seek(SeekFrom::Start(place)).unwrap();
-        } else {
+        if place == 5 {
             reader.read_exact(&mut [0; 5]).unwrap();
+        } else {
+            reader.seek(SeekFrom::Start(place)).unwrap();
         }
         for _ in 0..2 {
             let error = reader.seek(SeekFrom::End(-18)).unwrap_err();
