@@ -90,7 +90,8 @@ class Cipher(variants.Variant, variants.Secret):
         """Decrypts a ciphertext that has its tag after it into a buffer of the message's length. Returns that length.
 
         The other arguments may lie in the buffer. Raises `InvalidTag` if the tag is wrong: each byte of the buffer is
-        then 0xaa. If the data are shorter than a tag, `InvalidTag` is raised and nothing is written.
+        then 0xaa. If the data are shorter than a tag, `InvalidTag` is raised and nothing is written. Until the method
+        returns the buffer may hold bytes that are not verified.
         """
         return self._cipher.decrypt(nonce, data, NO_DATA if associated_data is None else associated_data, buf)
 
@@ -115,7 +116,7 @@ class Cipher(variants.Variant, variants.Secret):
 
 
 class Chunks(variants.Secret):
-    """A message in chunks. Each method raises `RuntimeError` once the message has ended.
+    """A message in chunks. With right arguments each method raises `RuntimeError` once the message has ended.
 
     A method that raises `TypeError`, `ValueError` or `MemoryError` has had no effect.
     """

@@ -2,13 +2,14 @@
 
 from __future__ import annotations
 
+import contextlib
 import io
 import operator
 import os
 import re
 import threading
 import warnings
-from typing import TYPE_CHECKING, Any, BinaryIO, Optional, Union
+from typing import TYPE_CHECKING, Any, BinaryIO, ContextManager, Optional, Union
 
 from . import _native, _variants as variants
 
@@ -79,15 +80,25 @@ def read_key(path: Union[str, os.PathLike[str]]) -> bytes:
     return bytes.fromhex(found[1].decode())
 
 
+class NoBytesYet(BlockingIOError):
+    """The file beneath does not block, and has no bytes yet."""
+
+
 class Sealed(variants.Secret, RawFile):  # type: ignore[misc]
     """What readers and writers share: the file beneath, and a lock, so that threads take turns."""
 
-    # For the `close` of an object whose `__init__` has raised.
-    _lock = threading.Lock()
-
     def __init__(self, file: BinaryIO) -> None:
         self._file = file
-        self._lock = threading.Lock()
+        self._lock = threading.RLock()
+
+    def _turn(self) -> ContextManager[Any]:
+        """Returns the lock. There is none if `__init__` has raised, and this thread may hold it in a method beneath."""
+        lock: Any = vars(self).get("_lock")
+        if lock is None:
+            return contextlib.nullcontext()
+        if lock._is_owned():
+            raise RuntimeError("reentrant call")
+        return lock  # type: ignore[no-any-return]
 
     def _check_open(self) -> None:
         if self.closed:
@@ -132,20 +143,22 @@ class SealedWriter(Sealed):
 
     def write(self, data: ReadableBuffer) -> int:
         """Writes all of the data, and returns their length. After an exception the file cannot be completed."""
-        with self._lock, memoryview(data) as view, view.cast("B") as contents:
+        with self._turn():
             self._check_open()
             self._check_may_finish()
             self._may_finish = False
-            self._take_in(contents)
+            with memoryview(data) as view, view.cast("B") as contents:
+                self._take_in(contents)
+                count = len(contents)
             self._may_finish = True
-            return len(contents)
+            return count
 
     def close(self) -> None:
         """Completes the file, or raises `OSError` if an earlier write failed.
 
         In a `with` block of the writer the file is completed at its end.
         """
-        with self._lock:
+        with self._turn():
             if self.closed:
                 return
             try:
@@ -167,7 +180,7 @@ class SealedWriter(Sealed):
         error: Optional[BaseException],
         traceback: Optional[TracebackType],
     ) -> None:
-        with self._lock:
+        with self._turn():
             try:
                 if kind is None:
                     self._finish()
@@ -225,7 +238,8 @@ class SealedReader(Sealed):
 
     `key` has 32 bytes. Each byte that is returned was verified, with its place in the contents. The end of the contents
     is returned only after the last record was verified and `file` has ended. A fault raises `SealedFileError`, and each
-    later call raises it again. The first one may come when the reader is made. `file` is not closed.
+    later read or seek raises it again. After any other exception of a read or of a seek in `file`, each later one raises
+    `OSError`: make a new reader. The first 28 bytes are read when the reader is made. `file` is not closed.
 
     If `file` can seek, the reader can: the place is found with the lengths of the records before it, whose contents are
     not verified. To read line by line, wrap the reader in an `io.BufferedReader`.
@@ -268,26 +282,16 @@ class SealedReader(Sealed):
 
     def readinto(self, buffer: WriteableBuffer) -> Optional[int]:
         """Fills the buffer with the next bytes of the contents, and returns how many. If they are fewer than the buffer
-        has, the contents end there, or the next call raises an exception.
+        has, the contents end there, the next call raises an exception, or `file` does not block and has no bytes yet.
 
-        Returns None if `file` does not block and has no bytes yet.
+        Returns None if there are no bytes yet at all.
         """
-        with self._lock, memoryview(buffer) as view, view.cast("B") as out:
+        with self._turn(), memoryview(buffer) as view, view.cast("B") as out:
             if out.readonly:
                 raise TypeError("buffer must be writable")
             self._begin_call()
-            filled = 0
-            try:
-                while filled < len(out) and self._has_more():
-                    filled += self._copy(out[filled:])
-            except (SealedFileError, OSError) as error:
-                # After an error of `file` the next call goes on.
-                self._error = SealedFileError(*error.args) if isinstance(error, SealedFileError) else None
-                if filled == 0 and isinstance(error, BlockingIOError):
-                    return None
-                if filled == 0:
-                    raise
-            else:
+            filled = self._fill(out)
+            if not isinstance(self._error, SealedFileError):
                 self._error = None
             return filled
 
@@ -305,7 +309,7 @@ class SealedReader(Sealed):
         Verifies the record that has the position, and with `os.SEEK_END` the last one.
         """
         offset = operator.index(offset)
-        with self._lock:
+        with self._turn():
             if not self.seekable():
                 raise io.UnsupportedOperation("the underlying file is not seekable")
             if whence not in (os.SEEK_SET, os.SEEK_CUR, os.SEEK_END):
@@ -326,7 +330,7 @@ class SealedReader(Sealed):
 
     def close(self) -> None:
         """Drops the key and what was read."""
-        with self._lock:
+        with self._turn():
             self._piece = memoryview(b"")
             self._record = bytearray()
             # Its key and its state are overwritten.
@@ -339,7 +343,7 @@ class SealedReader(Sealed):
         if self._error is not None:
             # Another one each time, since a raised one keeps the frames, and what they hold.
             raise type(self._error)(*self._error.args)
-        self._error = OSError("an earlier call was interrupted: open the file again")
+        self._error = OSError("an earlier call failed or was interrupted: open the file again")
 
     def _fault(self, cause: str) -> SealedFileError:
         return SealedFileError(cause, self._number)
@@ -353,6 +357,20 @@ class SealedReader(Sealed):
             self._check_end()
             return self._start + len(self._piece) + offset
         return offset
+
+    def _fill(self, out: memoryview) -> Optional[int]:
+        """Fills the buffer until a fault, which the next call raises, or until there are no bytes yet."""
+        filled = 0
+        try:
+            while filled < len(out) and self._has_more():
+                filled += self._copy(out[filled:])
+        except NoBytesYet:
+            return filled or None
+        except SealedFileError as error:
+            self._error = SealedFileError(*error.args)
+            if filled == 0:
+                raise
+        return filled
 
     def _has_more(self) -> bool:
         """Opens records until one has bytes at the position. Returns false at the end of the contents."""
@@ -373,13 +391,13 @@ class SealedReader(Sealed):
     def _read_record(self, length: int) -> None:
         """Reads until the record has this many bytes, or the file ends. Memory is taken as bytes come.
 
-        After an exception of the file it can be called again.
+        After `NoBytesYet` it can be called again.
         """
         while len(self._record) < length:
             most = min(length - len(self._record), max(len(self._record), PIECE_BYTES + RECORD_BYTES))
             data = self._file.read(most)
             if data is None:
-                raise BlockingIOError("no bytes are available yet")
+                raise NoBytesYet("no bytes are available yet")
             if not data:
                 return
             self._record += data
@@ -442,7 +460,14 @@ class SealedReader(Sealed):
             length = self._read_head()
             if self._record[0] == 1 or (position is not None and position < before + length):
                 break
+            if length == 0:
+                # It is verified, since zeros look like records of no bytes, and a file may have many of them.
+                self._open_at(number, before)
             number, before = number + 1, before + length
+        self._open_at(number, before)
+
+    def _open_at(self, number: int, before: int) -> None:
+        """Opens a record, whose head is read."""
         head = self._record
         self._begin_at(number, before)
         self._record = head

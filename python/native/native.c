@@ -48,12 +48,12 @@ static void *result_of(void *object, int code, void *result)
         return result;
     }
     Py_XDECREF(result);
-    PyObject *error = code == HUNKRAVY_INVALID_TAG ? of_module(object, "InvalidTag")
-        : Py_NewRef(code == HUNKRAVY_WRONG_STATE ? PyExc_RuntimeError : PyExc_ValueError);
+    if (code == HUNKRAVY_WRONG_STATE) {
+        return PyErr_SetString(PyExc_RuntimeError, "this message has already ended"), NULL;
+    }
+    PyObject *error = code == HUNKRAVY_INVALID_TAG ? of_module(object, "InvalidTag") : Py_NewRef(PyExc_ValueError);
     if (error != NULL) {
-        /* The package's classes call a state only in its own role, and so get this code only after its message. */
-        PyErr_SetString(error,
-            code == HUNKRAVY_WRONG_STATE ? "this message has already ended" : hunkravy_error_text(code));
+        PyErr_SetString(error, hunkravy_error_text(code));
         Py_DECREF(error);
     }
     return NULL;
@@ -665,16 +665,16 @@ static PyMethodDef records_methods[] = {
 
 static PyType_Slot cipher_slots[] = {
     {Py_tp_new, SLOT(cipher_new)}, {Py_tp_dealloc, SLOT(cipher_free)}, {Py_tp_methods, cipher_methods}, {0, NULL}};
-static PyType_Slot state_slots[] = {
-    {Py_tp_dealloc, SLOT(state_free)}, {Py_tp_methods, state_methods}, {0, NULL}};
+static PyType_Slot state_slots[] = {{Py_tp_dealloc, SLOT(state_free)}, {Py_tp_methods, state_methods}, {0, NULL}};
 static PyType_Slot records_slots[] = {
     {Py_tp_new, SLOT(records_new)}, {Py_tp_dealloc, SLOT(records_free)}, {Py_tp_methods, records_methods}, {0, NULL}};
 
-/* Only `Cipher.begin` makes states. */
+/* Only `Cipher.begin` makes states. Python code cannot change the types: the bit is that of Py_TPFLAGS_IMMUTABLETYPE. */
+enum { TYPE_FLAGS = Py_TPFLAGS_DEFAULT | 1 << 8 };
 static PyType_Spec specs[] = {
-    {"hunkravy._native.Cipher", sizeof(Cipher), 0, Py_TPFLAGS_DEFAULT, cipher_slots},
-    {"hunkravy._native.State", sizeof(State), 0, Py_TPFLAGS_DEFAULT | Py_TPFLAGS_DISALLOW_INSTANTIATION, state_slots},
-    {"hunkravy._native.Records", sizeof(Records), 0, Py_TPFLAGS_DEFAULT, records_slots},
+    {"hunkravy._native.Cipher", sizeof(Cipher), 0, TYPE_FLAGS, cipher_slots},
+    {"hunkravy._native.State", sizeof(State), 0, TYPE_FLAGS | Py_TPFLAGS_DISALLOW_INSTANTIATION, state_slots},
+    {"hunkravy._native.Records", sizeof(Records), 0, TYPE_FLAGS, records_slots},
 };
 
 static int execute(PyObject *module)

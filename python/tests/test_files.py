@@ -551,29 +551,38 @@ class Reading(unittest.TestCase):
                 call()
 
     def test_files_that_fail(self) -> None:
-        """After an error of the file beneath, reading goes on where it was. After another exception it does not."""
-        contents = os.urandom(100_000)
-        data = sealed(contents)
+        """After an exception of the file beneath, or of a signal handler, nothing is read any more."""
+        data = sealed(os.urandom(100_000))
         for number in (3, 4, 5, 6, 20):
-            reader = SealedReader(slow(data, 5000, {number: OSError("broken")}), KEY)
-            found, errors = b"", 0
-            while True:
-                try:
-                    part = reader.read(999)
-                except OSError:
-                    errors += 1
-                    continue
-                found += part
-                if not part:
-                    break
-            self.assertEqual(found, contents)
-            self.assertLessEqual(errors, 1)
-            reader = SealedReader(slow(data, 5000, {number: KeyboardInterrupt()}), KEY)
-            with self.assertRaises(KeyboardInterrupt):
-                reader.readall()
-            for _ in range(2):
-                with self.assertRaisesRegex(OSError, "interrupted"):
-                    reader.read(1)
+            for error in (OSError("broken"), TimeoutError("broken"), KeyboardInterrupt()):
+                reader = SealedReader(slow(data, 5000, {number: error}), KEY)
+                with self.assertRaises(type(error)):
+                    reader.readinto(bytearray(100_000))
+                for call in (lambda: reader.read(1), lambda: reader.seek(0), reader.readall):
+                    with self.assertRaises((OSError, io.UnsupportedOperation)):
+                        call()
+
+    def test_a_file_that_calls_its_reader(self) -> None:
+        class Calling(io.BytesIO):
+            reader: Optional[SealedReader] = None
+
+            def read(self, size: Optional[int] = -1, /) -> bytes:
+                if self.reader is not None:
+                    self.reader.read(1)
+                return super().read(size)
+
+        file = Calling(sealed(b"contents"))
+        file.reader = SealedReader(file, KEY)
+        with self.assertRaisesRegex(RuntimeError, "^reentrant call$"):
+            file.reader.read(1)
+        file.reader = None
+
+    def test_zeros_are_not_skipped(self) -> None:
+        """A hole in a file looks like records of no bytes, which are verified."""
+        data = sealed(bytes(PIECE + 1))[: 28 + 37 + PIECE] + bytes(1 << 20)
+        reader = SealedReader(io.BytesIO(data), KEY)
+        with self.assertRaisesRegex(SealedFileError, "^record 1 is damaged"):
+            reader.seek(0, os.SEEK_END)
 
     def test_files_that_do_not_block(self) -> None:
         contents = os.urandom(100_000)

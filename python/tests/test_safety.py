@@ -111,6 +111,7 @@ class Begun(unittest.TestCase):
             state, lambda: state.__new__(state), lambda: object.__new__(state), type(CIPHER._cipher),
             lambda: object.__new__(type(CIPHER._cipher)), lambda: Aegis256.__new__(Aegis256).tag_length,
             lambda: Aegis256Mac.__new__(Aegis256Mac).digest(), lambda: type("Sub", (state,), {}),
+            lambda: setattr(state, "__new__", lambda *_: None),
         ]
         for make in makers:
             with self.assertRaises((TypeError, AttributeError)):
