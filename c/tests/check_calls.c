@@ -222,8 +222,8 @@ static void check_long_and_short(uint32_t variant, size_t n)
 
     HOLDS(hunkravy_encrypt(variant, bytes, bytes, SIZE_MAX, NULL, 0, k, n, k, n, mac, 16) ==
           HUNKRAVY_MESSAGE_TOO_LONG);
-    HOLDS(hunkravy_encrypt_combined(variant, bytes, bytes, SIZE_MAX, bytes, SIZE_MAX, k, n, k, n,
-                                    16) == HUNKRAVY_MESSAGE_TOO_LONG);
+    HOLDS(hunkravy_encrypt_combined(variant, bytes, bytes, SIZE_MAX, NULL, 0, k, n, k, n, 16) ==
+          HUNKRAVY_MESSAGE_TOO_LONG);
     HOLDS(hunkravy_decrypt(variant, bytes, bytes, 64, bytes, most + 1, k, n, k, n, mac, 32) ==
           HUNKRAVY_DATA_TOO_LONG);
     HOLDS(hunkravy_decrypt_combined(variant, bytes, bytes, 15, bytes, most + 1, k, n, k, n, 16) ==

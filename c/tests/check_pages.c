@@ -177,18 +177,28 @@ static void check_has_header(const struct layout *layout, const uint8_t *block, 
     HOLDS(count == counter && length == contentslen);
 }
 
+/* A header that no call writes: of another length of the contents, page size or variant. */
+static void check_wrong_header(const struct layout *layout, const uint8_t *clear,
+                               uint64_t contentslen)
+{
+    uint8_t block[BLOCK];
+
+    write_header_block(layout, block, clear, 4, contentslen, layout->k);
+    check_no_header(layout, layout->k, block);
+}
+
 static void check_header(const struct variant *variant, uint32_t size, uint64_t counter,
                          uint64_t contentslen)
 {
     const struct layout layout = layout_of(variant, size);
     size_t length = header_bytes(&layout);
-    uint8_t *block = filled(BLOCK, 0x55), expected[BLOCK], clear[CLEAR], npub[32], k[32];
+    uint8_t *block = filled(BLOCK + 1, 0x55), expected[BLOCK], clear[CLEAR], npub[32], k[32];
 
     fill(npub, sizeof npub);
     write_clear(clear, &layout);
     write_header_block(&layout, expected, clear, counter, contentslen, npub);
     HOLDS(seal_header(&layout, block, counter, contentslen, npub) == HUNKRAVY_OK);
-    HOLDS(memcmp(block, expected, BLOCK) == 0);
+    HOLDS(memcmp(block, expected, BLOCK) == 0 && block[BLOCK] == 0x55);
     memcpy(k, layout.k, sizeof k);
     change_a_bit(k, layout.n);
     check_no_header(&layout, k, block);
@@ -269,8 +279,16 @@ static void check_sizes(const struct variant *variant)
     static const uint32_t wrong[] = {0, 1, 255, 65537, UINT32_MAX};
     const struct layout layout = layout_of(variant, 256);
     size_t more = layout.n + TAG;
+    uint8_t clear[CLEAR];
 
+    write_clear(clear, &layout);
+    check_wrong_header(&layout, clear, MOST_CONTENTS + 1);
+    clear[4]++;
+    check_wrong_header(&layout, clear, 0);
+    write_clear(clear, &layout);
     for (size_t i = 0; i < COUNT(wrong); i++) {
+        write_number(clear + 5, wrong[i], 4);
+        check_wrong_header(&layout, clear, 0);
         check_header_refused(variant, wrong[i], UINT64_MAX, HUNKRAVY_WRONG_PAGE_SIZE);
         HOLDS(hunkravy_page_place(layout.variant, wrong[i], 0) == UINT64_MAX);
     }

@@ -186,15 +186,18 @@ static void check_openrec(const struct line *line)
     hunkravy_record_stream st;
     char refusal[32] = "";
     size_t at = HEADER, length;
-    int is_last = 0;
+    int is_last = 0, code;
 
-    /* The line program opens version 1 too. */
-    if (stream->length < HEADER || memcmp(stream->at, AGR2, HEADER) != 0) {
-        HOLDS(stream->length < HEADER ||
-              (begin_open(&st, &keys, stream->at) == HUNKRAVY_UNKNOWN_HEADER && is_zeros(&st)));
+    if (stream->length < HEADER) {
         return;
     }
-    st = begun_to_open(&keys);
+    code = begin_open(&st, &keys, stream->at);
+    /* The line program opens version 1 too. */
+    if (memcmp(stream->at, AGR2, HEADER) != 0) {
+        HOLDS(code == HUNKRAVY_UNKNOWN_HEADER && is_zeros(&st));
+        return;
+    }
+    HOLDS(code == HUNKRAVY_OK);
     found.length = found.chunk_count = 0;
     do {
         length = open_next(&st, stream->at + at, stream->length - at, &found, &is_last, refusal);
@@ -223,6 +226,9 @@ static void check_line(const struct line *line)
 }
 
 /* ---- Streams that are refused, and limits */
+
+/* The words of a position, which no program but a test reads or writes. */
+enum { NUMBER = 1, BEFORE = 2 };
 
 static void check_is_not_sealing(hunkravy_record_stream st)
 {
@@ -255,9 +261,10 @@ static void check_states(const struct keys *keys)
 {
     static const uint8_t context[HUNKRAVY_RECORD_MAX_CONTEXT_BYTES + 1] = {0};
     const struct keys too_long = {keys->k, keys->prefix, context, sizeof context};
-    uint8_t header[HEADER] = {'A', 'G', 'R', '3'};
+    uint8_t header[HEADER] = {'A', 'G', 'R', '3'}, record[MORE + 1];
     hunkravy_record_stream st;
 
+    memset(record, 0x55, sizeof record);
     HOLDS(begin_open(&st, keys, header) == HUNKRAVY_UNKNOWN_HEADER && is_zeros(&st));
     HOLDS(begin(&st, &too_long, header) == HUNKRAVY_CONTEXT_TOO_LONG && is_zeros(&st));
     HOLDS(memcmp(header, "AGR3", HEADER) == 0);
@@ -270,14 +277,28 @@ static void check_states(const struct keys *keys)
     check_is_not_opening(st);
     check_is_not_opening(begun(keys));
     check_is_not_sealing(begun_to_open(keys));
+    st = begun(keys);
+    st.opaque[BEFORE] = UINT64_MAX;
+    check_is_not_sealing(st);
+    st = begun_to_open(keys);
+    st.opaque[NUMBER] = UINT64_MAX;
+    check_is_not_opening(st);
+    st = begun(keys);
+    st.context = context;
+    st.contextlen = sizeof context;
+    HOLDS(hunkravy_record_seal(&st, record, 1) == HUNKRAVY_CONTEXT_TOO_LONG);
+    HOLDS(all_are(record, sizeof record, 0x55));
 }
 
-/* A record starts at byte 4 + 37 * number + before of its stream. */
+/*
+ * A record starts at byte 4 + 37 * number + before of its stream, which has at most
+ * HUNKRAVY_MAX_BYTES. A message of 7 bytes fits here, and one of 8 bytes does not.
+ */
 static void check_places(const struct keys *keys)
 {
-    const uint64_t most = HUNKRAVY_MAX_BYTES - 4;
+    const uint64_t most = HUNKRAVY_MAX_BYTES - 4, before = most - 2 * MORE - 7;
     hunkravy_record_stream st;
-    uint8_t bytes[MORE] = {0};
+    uint8_t bytes[MORE + 8], message[8];
     size_t length = 7;
     int is_last = 7;
 
@@ -285,10 +306,20 @@ static void check_places(const struct keys *keys)
     HOLDS(begin_open_at(&st, keys, UINT64_MAX, UINT64_MAX) == HUNKRAVY_MESSAGE_TOO_LONG);
     HOLDS(begin_open_at(&st, keys, 0, most + 1) == HUNKRAVY_MESSAGE_TOO_LONG && is_zeros(&st));
     HOLDS(begin_open_at(&st, keys, 0, most) == HUNKRAVY_OK);
-    HOLDS(hunkravy_record_open(&st, bytes, MORE, &length, &is_last) == HUNKRAVY_MESSAGE_TOO_LONG);
-    HOLDS(begin_open_at(&st, keys, 0, most - MORE) == HUNKRAVY_OK);
-    check_is_damaged(&st, bytes, MORE);
-    HOLDS(all_are(bytes, MORE, 0) && length == 7 && is_last == 7);
+    memset(bytes, 0x55, sizeof bytes);
+    memset(message, 0x55, sizeof message);
+    st = begun(keys);
+    st.opaque[NUMBER] = 1;
+    st.opaque[BEFORE] = before;
+    HOLDS(hunkravy_record_seal(&st, bytes, 8) == HUNKRAVY_MESSAGE_TOO_LONG);
+    HOLDS(all_are(bytes, sizeof bytes, 0x55));
+    HOLDS(hunkravy_record_seal(&st, bytes, 7) == HUNKRAVY_OK);
+    HOLDS(hunkravy_record_seal(&st, bytes, 0) == HUNKRAVY_MESSAGE_TOO_LONG);
+    HOLDS(begin_open_at(&st, keys, 1, before) == HUNKRAVY_OK);
+    HOLDS(hunkravy_record_open(&st, bytes, MORE + 8, &length, &is_last) ==
+          HUNKRAVY_MESSAGE_TOO_LONG);
+    HOLDS(length == 7 && is_last == 7);
+    check_opens(&st, bytes, message, 7);
 }
 
 /* Lengths that a record does not have. Nothing is written. */

@@ -278,11 +278,42 @@ static void check_roles(uint32_t variant, size_t n)
     check_refused(st, ENCRYPT | DECRYPT);
 }
 
-/* A message that is as long as it may be takes no byte more. A word of the state counts its bytes.
- */
+/* The words of a state after its lanes, which no program but a test reads or writes. */
+enum { DATA_BYTES = 81, MESSAGE_BYTES = 82, VARIANT_AND_ROLE = 83 };
+
+/* Counts past the limit, variants and roles that do not exist, and a MAC of associated data. */
+static void check_words(uint32_t variant, size_t n)
+{
+    const struct {
+        size_t place;
+        uint64_t word;
+    } wrong[] = {
+        {DATA_BYTES, HUNKRAVY_MAX_BYTES + 1},
+        {MESSAGE_BYTES, UINT64_MAX},
+        {VARIANT_AND_ROLE, UINT64_C(1) << 32 | 6},
+        {VARIANT_AND_ROLE, UINT64_C(1) << 32 | UINT32_MAX},
+        {VARIANT_AND_ROLE, variant},
+        {VARIANT_AND_ROLE, UINT64_C(5) << 32 | variant},
+    };
+    hunkravy_state fresh, st;
+    uint8_t k[32] = {0};
+
+    HOLDS(hunkravy_state_init(variant, &fresh, NULL, 0, k, n, k, n) == HUNKRAVY_OK);
+    for (size_t i = 0; i < COUNT(wrong); i++) {
+        st = fresh;
+        st.opaque[wrong[i].place] = wrong[i].word;
+        check_refused(st, ANY);
+    }
+    HOLDS(hunkravy_mac_init(variant, &st, k, n, k, n) == HUNKRAVY_OK);
+    st.opaque[DATA_BYTES] = 1;
+    HOLDS(hunkravy_mac_final(&st, k, 16) == HUNKRAVY_WRONG_STATE);
+    HOLDS(hunkravy_mac_final_verify(&st, k, 16) == HUNKRAVY_WRONG_STATE);
+    HOLDS(all_are(k, sizeof k, 0));
+}
+
+/* A message that is as long as it may be takes no byte more. */
 static void check_limit(uint32_t variant, size_t n)
 {
-    enum { MESSAGE_BYTES = 82 };
     uint8_t bytes[8] = {0}, out[8] = {0}, k[32] = {0};
     hunkravy_state st;
 
@@ -313,6 +344,7 @@ int main(int count, char **arguments)
     for (size_t i = 0; i < COUNT(VARIANTS); i++) {
         check_inits(VARIANTS[i].number, VARIANTS[i].key_bytes);
         check_roles(VARIANTS[i].number, VARIANTS[i].key_bytes);
+        check_words(VARIANTS[i].number, VARIANTS[i].key_bytes);
         check_limit(VARIANTS[i].number, VARIANTS[i].key_bytes);
     }
     printf("hunkravy.h on a state: %lu stored lines, %lu checks, all right\n", (unsigned long)lines,
