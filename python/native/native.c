@@ -4,8 +4,7 @@
  *
  * It is written for the stable interface of Python 3.11, so one extension file serves that version and all later ones.
  * Each function is called with the interpreter's lock, and releases it while the library works on much. An object that
- * changes has a lock of its own, which is held meanwhile. Buffers are held until a function returns, so they keep their
- * place and their length.
+ * changes has a lock of its own, which is held meanwhile. Buffers keep their place and length until a function returns.
  */
 #define PY_SSIZE_T_CLEAN
 #define Py_LIMITED_API 0x030B0000
@@ -669,7 +668,7 @@ static PyType_Slot state_slots[] = {{Py_tp_dealloc, SLOT(state_free)}, {Py_tp_me
 static PyType_Slot records_slots[] = {
     {Py_tp_new, SLOT(records_new)}, {Py_tp_dealloc, SLOT(records_free)}, {Py_tp_methods, records_methods}, {0, NULL}};
 
-/* Only `Cipher.begin` makes states. Python code cannot change the types: the bit is that of Py_TPFLAGS_IMMUTABLETYPE. */
+/* Only `Cipher.begin` makes states. The bit of Py_TPFLAGS_IMMUTABLETYPE keeps Python code from changing the types. */
 enum { TYPE_FLAGS = Py_TPFLAGS_DEFAULT | 1 << 8 };
 static PyType_Spec specs[] = {
     {"hunkravy._native.Cipher", sizeof(Cipher), 0, TYPE_FLAGS, cipher_slots},
@@ -693,8 +692,7 @@ static int execute(PyObject *module)
 }
 
 static PyModuleDef_Slot slots[] = {{Py_mod_exec, SLOT(execute)}, {0, NULL}};
-static struct PyModuleDef definition = {
-    .m_base = PyModuleDef_HEAD_INIT, .m_name = "hunkravy._native", .m_slots = slots};
+static PyModuleDef definition = {.m_base = PyModuleDef_HEAD_INIT, .m_name = "hunkravy._native", .m_slots = slots};
 
 PyMODINIT_FUNC PyInit__native(void)
 {
