@@ -21,11 +21,14 @@
 #include <sys/syscall.h>
 #include <unistd.h>
 
+// Writes a line, without memory.
 static void note(const char *line)
 {
     const char *file = getenv("CALLS");
-    if (file)
-        dprintf(atoi(file), "%s\n", line);
+    char text[32];
+    int length = snprintf(text, sizeof text, "%s\n", line);
+    if (file && syscall(SYS_write, atoi(file), text, length) != length)
+        abort();
 }
 
 // Counts a call, and returns whether its number is that of the variable.
