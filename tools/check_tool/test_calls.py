@@ -84,7 +84,8 @@ class Calls(Scene):
     # As in a folder that was made read-only meanwhile.
     def test_names_that_cannot_be_given(self):
         self.with_calls(3, "link=fails rename=fails unlink=fails", "seal -k key small out", ("out cannot be written", STAYS))
-        self.assertEqual([os.path.exists("out"), len(parts())], [False, 1])
+        self.assertFalse(os.path.exists("out"))
+        self.assertRegex(*parts(), r"\A\.out\.hunkravy-[0-9a-f]{16}\Z")
 
     # ---- What happens between two calls
 
@@ -131,12 +132,6 @@ class Calls(Scene):
         os.symlink(write("aside", ""), "turned")
         turns = "BEFORE=open RUNS='[ ! -e key-is-open ] || ln -sfn key turned; touch key-is-open'"
         self.with_calls(3, turns, "seal --force -k key small turned", "would destroy the key")
-
-    def test_an_input_that_goes_on_after_its_end(self):
-        self.with_calls(0, "GOES_ON=1", "seal -k key small out")
-        self.opens("out", read("small"))
-        write("cut", read("sealed")[:140_000])
-        self.with_calls(1, "GOES_ON=1", "info cut", "at least 56747 bytes are missing$")
 
     # If the caller has closed standard error, the next file that is opened could get its descriptor, and a message.
     def test_no_message_in_an_output(self):

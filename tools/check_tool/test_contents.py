@@ -1,4 +1,4 @@
-"""Contents, whole and in parts, of files that are right, damaged and cut. The tests of the Python package have more of these."""
+"""Contents, whole and in parts. The tests of the Python package have each damaged file."""
 
 import itertools
 import os
