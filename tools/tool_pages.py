@@ -91,9 +91,10 @@ def man(found, text, version):
 
 def bash(found):
     """The completions for bash: commands, options where a dash is typed, no files for a number, and files elsewhere."""
-    numbers = {option for _, _, options, _ in found for option in options if option.value and not option.takes_file()}
+    valued = [option for _, _, options, _ in found for option in options if option.value and not option.takes_file()]
+    numbers = sorted({word for option in valued for word in option.typed()})
     yield "_hunkravy() {\n    local word=${COMP_WORDS[COMP_CWORD]} words=''\n    COMPREPLY=()"
-    yield f"    case ${{COMP_WORDS[COMP_CWORD - 1]}} in\n    {' | '.join(sorted(word for it in numbers for word in it.typed()))})"
+    yield f"    case ${{COMP_WORDS[COMP_CWORD - 1]}} in\n    {' | '.join(numbers)})"
     yield "        compopt +o default\n        return\n        ;;\n    esac"
     yield f"    if [ \"$COMP_CWORD\" = 1 ]; then\n        words='{' '.join(name for name, *_ in found)}'"
     yield "    elif [[ $word == -* ]]; then\n        case ${COMP_WORDS[1]} in"

@@ -728,6 +728,7 @@ class Tool(unittest.TestCase):
             rejected = self.run_tool(*words.split())
             self.assertEqual(rejected.returncode, 1, words)
             self.assertRegex(rejected.stderr.decode(), says)
+        self.assertIn(self.run_tool("info", "sealed").returncode, (0, 1))
         self.assertEqual(sorted(os.listdir(self.folder)), ["key", "other", "sealed"])
 
     def assert_parts(self, contents: bytes, verified: int) -> None:

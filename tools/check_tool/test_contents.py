@@ -1,4 +1,4 @@
-"""Contents, whole and in parts, of files that are right, damaged and cut. The tests of the Python package have more of these."""
+"""Contents, whole and in parts. The tests of the Python package have each damaged file."""
 
 import itertools
 import os
@@ -13,6 +13,7 @@ class Contents(Scene):
         for length, records in (200_000, 5), (PIECE, 2), (0, 1):
             os.truncate("text", length)
             self.tool(0, "seal --force -k key text sealed")
+            self.assertEqual(os.stat("sealed").st_mode & 0o777, 0o600)
             self.tool(0, "info sealed", rf"\A{records} records, {length} bytes of contents, not verified\n\Z")
             self.tool(0, "check -k key sealed", rf"\A{length} bytes of contents, all verified\n\Z")
             self.shell(0, "$TOOL seal -k key - - < text | $TOOL open -k key | cmp - text")

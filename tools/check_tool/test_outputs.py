@@ -4,7 +4,6 @@ import os
 import shutil
 import socket
 import stat
-import subprocess
 
 from scene import Scene, read, write
 
@@ -35,7 +34,7 @@ REJECTED = {
     "is a folder or a block device": ("seal --force -k key small folder",),
     "socket cannot be written": ("seal --force -k key small socket",),
     # Descriptors that the program opens itself.
-    "became a device or a pipe during the run": ("seal -k key /dev/null /dev/fd/3 3>&-", "seal -k key /dev/null /dev/stdout >&-"),
+    "became a device or a pipe": ("seal -k key /dev/null /dev/fd/3 3>&-", "seal -k key /dev/null /dev/stdout >&-"),
     "/dev/stdout": ("open --force -k key --from 5 sealed /dev/stdout >&-",),
 }
 
@@ -69,11 +68,11 @@ class Outputs(Scene):
     # A block device keeps what is written to it, as a file does.
     def test_a_block_device_as_input_and_output(self):
         self.shell(0, "head -c 410 small | $TOOL seal -k key - disk; truncate -s 1024 disk")
-        found = subprocess.run(["losetup", "-f", "--show", "disk"], capture_output=True, text=True, check=False)
-        if found.returncode:
+        self.tool((0, 1), ["losetup", "-f", "--show", "disk"])
+        if self.status:
             self.left_out("a block device as input and output, since there is no right to losetup")
-        device = found.stdout.strip()
-        self.addCleanup(subprocess.run, ["losetup", "-d", device], check=True)
+        device = self.said.strip()
+        self.addCleanup(self.tool, 0, ["losetup", "-d", device])
         os.mknod("node", 0o600 | stat.S_IFBLK, os.stat(device).st_rdev)
         for command in f"check -k key {device} > {device}", f"info {device} > {device}", f"seal -k key < {device} > {device}", \
                 f"open -k key --length 1 {device} > node":
@@ -94,16 +93,14 @@ class Outputs(Scene):
         # A link of /proc to a file that is gone, whose name there is that of another file.
         shutil.copy("key", "gone (deleted)")
         for output in "/proc/self/fd/8", "/dev/fd/8":
-            self.shell(3, f"exec 8<> gone; rm gone; exec $TOOL seal --force -k other small {output}", "a link to a file that has no path here")
+            command = f"exec 8<> gone; rm gone; exec $TOOL seal --force -k other small {output}"
+            self.shell(3, command, "a link to a file that has no path here")
         self.is_same("gone (deleted)", "key")
 
     # A fault of the tool must not reach the system's own devices, so these are others. No driver has the block device.
     def test_devices_and_pipes(self):
-        try:
-            for name, kind, *number in ("full", stat.S_IFCHR, 1, 7), ("empty", stat.S_IFCHR, 1, 3), ("block", stat.S_IFBLK, 240, 77):
-                os.mknod(name, 0o600 | kind, os.makedev(*number))
-            write("empty", "")
-        except PermissionError:
+        self.shell((0, 1), "mknod full c 1 7 && mknod empty c 1 3 && mknod block b 240 77 && echo > empty")
+        if self.status:
             self.left_out("devices as outputs, since only root can make some, and not everywhere")
         os.mkfifo("pipe")
         before = snapshot()

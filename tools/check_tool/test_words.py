@@ -3,10 +3,8 @@
 import os
 import re
 import shutil
-import signal
-import subprocess
 
-from scene import ROOT, TOOL, Scene, parts, read, write
+from scene import ROOT, TOOL, Scene, read, write
 
 VERSION = os.environ["VERSION"]
 MANUAL = ROOT / "crates/hunkravy/manual"
@@ -16,7 +14,7 @@ class Words(Scene):
     def test_help_and_version(self):
         self.tool(0, "--version", [f"^hunkravy {re.escape(VERSION)}$", "proved by rattle-kit"])
         if shutil.which("rt"):
-            self.assertIn("proved by " + subprocess.check_output(["rt", "version"], text=True), self.said)
+            self.shell(0, '$TOOL --version | grep -xF "proved by $(rt version)"')
         os.symlink(TOOL, "\033[31m")
         self.tool(0, ["./\033[31m", "--help"], "Exit status", "\033")
 
@@ -39,8 +37,6 @@ class Words(Scene):
             self.tool(2, words)
         self.shell(2, r"$TOOL seal -k key $'small\377' out", "an argument, or")
         self.shell(2, r"exec -a $'\377' $TOOL info sealed", "or the program's own name, is not UTF-8")
-        for words in "seal -k key no-such-file out", "seal -k nowhere small out":
-            self.tool(3, words)
         self.tool(3, "seal -k key . out", r"^hunkravy: \. is a folder: to seal it, run tar -c \. ")
         # The tests of the packages have the forms of a key.
         for wrong in "small", "/dev/null", "/dev/zero":
@@ -69,12 +65,6 @@ class Words(Scene):
             self.opens("out", read("small"))
         os.chmod("key", 0o711)
         self.tool(0, "seal --force -k key small out", lacks="lets others")
-
-    # A limit on the size of files ends a run, which leaves its part: of a long name it has the first 200 bytes.
-    def test_limit_on_the_size_of_files(self):
-        self.shell(-signal.SIGXFSZ, f"ulimit -f 0; exec $TOOL seal -k key small {'n' * 255}")
-        self.assertRegex(*parts(), r"\A\.n{200}\.hunkravy-[0-9a-f]{16}\Z")
-        self.assertFalse(os.path.exists("n" * 255))
 
     # Names that a terminal acts on are escaped in messages.
     def test_names(self):
@@ -128,6 +118,11 @@ class Words(Scene):
         self.terminal(0, "$TOOL check -k key < vast", [r"\d+ MiB, \d+ MiB/s", "^190 MiB in"])
         self.terminal(0, "$TOOL check --quiet -k key vast", lacks=".")
 
+    # A terminal has more after the end of an input.
+    def test_an_input_that_is_typed(self):
+        self.shell(0, r"printf 'typed\n\004more\n\004' | script -qec '$TOOL seal -k key - out' /dev/null")
+        self.opens("out", b"typed\n")
+
     # Seals a letter, and opens it on a terminal.
     def opens_letter(self, status, letter, says=()):
         write("letter", letter)
@@ -147,7 +142,7 @@ class Words(Scene):
     def test_bytes_that_a_terminal_acts_on(self):
         for bad in b"\033[2J", b"\0", b"\x7f", b"\xc2\x9b2J", b"\xc2\x80", b"\x9b2J", b"\xff", b"\xc2", b"\xe2\x98", \
                 b"\xed\xa0\x80", b"\xc0\xaf", b"\xf5\x80\x80\x80":
-            self.opens_letter(3, b"x" + bad, "that a terminal can show")
+            self.opens_letter(3, b"x" + bad, "are not printable text")
             self.assertFalse(set(self.printed) & {0x1B, *range(0x7F, 0x100)}, self.printed)
             for output in "-", '"$(tty)"':
                 self.terminal(0, f"$TOOL open -k key letter.sealed {output}")
