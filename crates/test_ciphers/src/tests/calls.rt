@@ -41,14 +41,24 @@ fn check_sealed<R: Abort>(rt: &R, sealed: &[u8], tag: &[u8; 16], call: &str) -> 
 }
 
 #[test]
-fn the_example_is_sealed_in_chunks(rt: HostRuntime) -> Result<(), Fail> {
+fn the_example_is_sealed_in_place(rt: HostRuntime) -> Result<(), Fail> {
     let mut sealed = MESSAGE;
     let mut encryptor = aegis256().encryptor(&ASSOCIATED_DATA);
-    encryptor.update_in_place(&mut sealed[..31]);
-    encryptor.update(&MESSAGE[31..], &mut sealed[31..]);
+    encryptor.update_in_place(&mut sealed);
     assert_eq!(rt; encryptor.remaining(), MAX_AEAD_BYTES - 114);
-    check_sealed(&rt, &sealed, &encryptor.finalize(), "an encryptor")?;
+    check_sealed(&rt, &sealed, &encryptor.finalize(), "in place")
+}
 
+#[test]
+fn the_example_is_sealed_elsewhere(rt: HostRuntime) -> Result<(), Fail> {
+    let mut sealed = [0; 114];
+    let mut encryptor = aegis256().encryptor(&ASSOCIATED_DATA);
+    encryptor.update(&MESSAGE, &mut sealed);
+    check_sealed(&rt, &sealed, &encryptor.finalize(), "elsewhere")
+}
+
+#[test]
+fn the_example_is_sealed_in_chunks(rt: HostRuntime) -> Result<(), Fail> {
     let chunks = [&MESSAGE[..31], [].as_slice(), &MESSAGE[31..]];
     assert_eq!(rt; chunks_len(&chunks), Some(114));
     let mut sealed = [0; 114];

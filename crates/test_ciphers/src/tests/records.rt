@@ -218,8 +218,8 @@ fn a_record_is_sealed_and_opened_in_its_buffer(rt: HostRuntime) -> Result<(), Fa
     seal_in_place(&mut sealer, &mut record)?;
     let found = open_in_place(&mut opener, &mut record)?;
     assert!(rt; found.message_len == 255 && !found.is_last);
-    let message = &record[RECORD_HEAD_BYTES..][..255];
-    assert_bytes(&rt, message, &[0x5a; 255], &"the message");
+    let message = record.get(RECORD_HEAD_BYTES..RECORD_HEAD_BYTES + 255);
+    assert_bytes(&rt, message.unwrap_or(&[]), &[0x5a; 255], &"the message");
     Ok(())
 }
 
