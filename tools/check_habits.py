@@ -5,7 +5,7 @@ import pathlib
 import re
 import sys
 
-MOST = 4
+MOST = 3
 LONGEST = 35  # words of a sentence
 PAGES = ["*.md", "docs/**/*.md", "crates/*/README.md", "c/include/*.h", "rust/*.md", "rust/src/**/*.rs", "python/*.md",
          "python/hunkravy/*.py", "crates/aegis_tool/src/*.rt"]
