@@ -29,8 +29,9 @@ class Cipher(variants.Variant, variants.Secret):
     __slots__ = ("_cipher", "_tag_length")
 
     def __init__(self, key: ReadableBuffer, tag_length: int = 32) -> None:
-        self._tag_length = operator.index(tag_length)
-        self._cipher = _native.Cipher(self._VARIANT, key, self._tag_length)
+        tag_length = operator.index(tag_length)
+        self._cipher = _native.Cipher(self._VARIANT, key, tag_length)
+        self._tag_length = tag_length
 
     @classmethod
     def generate_key(cls) -> bytes:

@@ -38,9 +38,10 @@ class Mac(variants.Variant, variants.Secret):
         nonce: Optional[ReadableBuffer] = None,
         tag_length: int = 32,
     ) -> None:
-        self._digest_size = operator.index(tag_length)
-        cipher = _native.Cipher(self._VARIANT, key, self._digest_size)
+        tag_length = operator.index(tag_length)
+        cipher = _native.Cipher(self._VARIANT, key, tag_length)
         self._state = cipher.begin(bytes(self.NONCE_BYTES) if nonce is None else nonce)
+        self._digest_size = tag_length
         if message is not None:
             self._state.mac_update(message)
 
