@@ -132,7 +132,8 @@ impl<A: Algorithm> Drop for SealedChanges<'_, A> {
     fn drop(&mut self) {
         for (number, page) in self.changes.iter_mut().take(self.count) {
             let is_opened = self.layout.open(number, page);
-            debug_assert!(is_opened, "nobody else has the page");
+            // Otherwise a later commit would write an erased page.
+            assert!(is_opened, "nobody else has the page");
         }
     }
 }
