@@ -135,10 +135,10 @@ int main(void)
         {"libsodium AEGIS-256, AES instructions", sodium_aegis256, {0}},
     };
 
-    printf("libsodium %s, hunkravy at level %d, C compiler %s\n\n", sodium_version_string(), hunkravy_level(), __VERSION__);
     printf("| Encryption, MB/s | 64 | 1 KiB | 16 KiB | 1 MiB |\n|---|---:|---:|---:|---:|\n");
     measure(software, sizeof software / sizeof software[0]);
     expect(sodium_init() >= 0 && crypto_aead_aes256gcm_is_available());
     measure(all, sizeof all / sizeof all[0]);
+    printf("\nlibsodium %s, hunkravy at level %d, C compiler %s.\n", sodium_version_string(), hunkravy_level(), __VERSION__);
     return 0;
 }

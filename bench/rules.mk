@@ -22,6 +22,9 @@ bench: $(OUT)/$(BENCH_CPU)/driver bench-peers bench-states bench-tool bench-call
 	mkdir -p $(BENCH_FOLDER)
 	$< $(BENCH_FOLDER)
 
+# write_page PAGE FILE: writes a page with these tables. The text in front of them stays that of the page in bench/.
+write_page = { sed '/^|/,$$d' bench/$(notdir $(1)); cat $(2); } > $(OUT)/page.md && cp $(OUT)/page.md $(1)
+
 # The programs of bench/package, which measure the Cargo package over the library of a level.
 $(OUT)/%/bench/calls $(OUT)/%/bench/pages: $(wildcard bench/package/* rust/src/*.rs rust/src/*/*.rs) $(OUT)/%/libhunkravy.a
 	cd bench/package && HUNKRAVY_LIB_DIR="$(CURDIR)/$(OUT)/$*" \
@@ -32,12 +35,12 @@ $(OUT)/%/bench/calls $(OUT)/%/bench/pages: $(wildcard bench/package/* rust/src/*
 bench-calls: $(OUT)/$(BENCH_CPU)/bench/calls
 	mkdir -p $(BENCH_FOLDER)
 	$< > $(OUT)/calls.md
-	cat bench/calls.md.in $(OUT)/calls.md > $(BENCH_FOLDER)/CALLS.md
+	$(call write_page,$(BENCH_FOLDER)/CALLS.md,$(OUT)/calls.md)
 
 bench-pages: $(OUT)/$(BENCH_CPU)/bench/pages
 	mkdir -p $(BENCH_FOLDER)
 	$< /dev/shm/hunkravy-bench > $(OUT)/pages.md
-	cat bench/pages.md.in $(OUT)/pages.md > $(BENCH_FOLDER)/PAGES.md
+	$(call write_page,$(BENCH_FOLDER)/PAGES.md,$(OUT)/pages.md)
 
 # Whether the programs that measure run, on little, and what they measure agrees.
 check-bench: $(OUT)/both/check-driver $(OUT)/both/bench/calls $(OUT)/both/bench/pages
@@ -48,15 +51,16 @@ check-bench: $(OUT)/both/check-driver $(OUT)/both/bench/calls $(OUT)/both/bench/
 bench-states: $(OUT)/$(BENCH_CPU)/libhunkravy.a
 	mkdir -p $(BENCH_FOLDER)
 	$(CC) -std=c11 -O2 $(C_FLAGS) bench/states.c $< -o $(OUT)/$(BENCH_CPU)/states
-	($(OUT)/$(BENCH_CPU)/states > $(OUT)/$(BENCH_CPU)/states.md) && \
-		cat bench/states.md.in $(OUT)/$(BENCH_CPU)/states.md > $(BENCH_FOLDER)/STATES.md
+	$(OUT)/$(BENCH_CPU)/states > $(OUT)/states.md
+	$(call write_page,$(BENCH_FOLDER)/STATES.md,$(OUT)/states.md)
 
 # Measures the file tool, at each level that this machine has.
 bench-tool: $(RUNNABLE:%=$(OUT)/%/pieces) $(RUNNABLE:%=$(OUT)/%/hunkravy)
-	(cat bench/tool.md.in; for level in $(RUNNABLE); do \
-		tools/measure_tool.sh $$level $(OUT)/$$level/hunkravy $(OUT)/$$level/pieces || exit 1; \
-	done) > $(OUT)/tool.md
-	cp $(OUT)/tool.md bench/TOOL.md
+	printf '%s\n' '| Level | Command | User | System | Elapsed | User, beside in memory |' '|---|---|---:|---:|---:|---:|' > $(OUT)/tool.md
+	for level in $(RUNNABLE); do \
+		tools/measure_tool.sh $$level $(OUT)/$$level/hunkravy $(OUT)/$$level/pieces >> $(OUT)/tool.md || exit 1; \
+	done
+	$(call write_page,bench/TOOL.md,$(OUT)/tool.md)
 
 $(OUT)/%/pieces: bench/pieces.c $(OUT)/%/libhunkravy.a
 	$(CC) -std=c11 -O2 $(C_FLAGS) $^ -o $@
@@ -64,8 +68,8 @@ $(OUT)/%/pieces: bench/pieces.c $(OUT)/%/libhunkravy.a
 bench-peers: $(OUT)/$(BENCH_CPU)/libhunkravy.a
 	if pkg-config --exists libsodium; then \
 		$(CC) -std=c11 -O2 $(C_FLAGS) bench/peers.c $< $$(pkg-config --cflags --libs libsodium) -o $(OUT)/$(BENCH_CPU)/peers && \
-		$(OUT)/$(BENCH_CPU)/peers > $(OUT)/$(BENCH_CPU)/peers.md && \
-		cat bench/peers.md.in $(OUT)/$(BENCH_CPU)/peers.md > $(BENCH_FOLDER)/PEERS.md && \
+		$(OUT)/$(BENCH_CPU)/peers > $(OUT)/peers.md && \
+		$(call write_page,$(BENCH_FOLDER)/PEERS.md,$(OUT)/peers.md) && \
 		$(RUSTC) bench/peers_picture.rs -o $(OUT)/peers-picture && \
 		$(OUT)/peers-picture $(BENCH_CPU) < $(BENCH_FOLDER)/PEERS.md > $(BENCH_FOLDER)/peers.svg; \
 	else \
@@ -74,6 +78,5 @@ bench-peers: $(OUT)/$(BENCH_CPU)/libhunkravy.a
 
 bench-python: $(WHEEL) $(OUT)/both/$(SONAME)
 	rm -rf $(OUT)/python && mkdir $(OUT)/python && python3 -m zipfile -e $(WHEEL) $(OUT)/python
-	(cat bench/python.md.in; PYTHONPATH=$(OUT)/python \
-		python3 bench/python.py "$(CURDIR)/$(OUT)/both/$(SONAME)") > $(OUT)/python.md
-	cp $(OUT)/python.md bench/PYTHON.md
+	PYTHONPATH=$(OUT)/python python3 bench/python.py "$(CURDIR)/$(OUT)/both/$(SONAME)" > $(OUT)/python.md
+	$(call write_page,bench/PYTHON.md,$(OUT)/python.md)

@@ -96,7 +96,6 @@ static void line(const char *name, uint32_t variant)
 
 int main(void)
 {
-    printf("Hunkravy at level %d\n\n", hunkravy_level());
     printf("| Variant | In one call, MB/s | 64 | 256 | 1,000 | 1 KiB | 4 KiB | 16 KiB | 64 KiB |\n");
     printf("|---|---:|---:|---:|---:|---:|---:|---:|---:|\n");
     line("AEGIS-128L", HUNKRAVY_AEGIS128L);
@@ -105,5 +104,6 @@ int main(void)
     line("AEGIS-256", HUNKRAVY_AEGIS256);
     line("AEGIS-256X2", HUNKRAVY_AEGIS256X2);
     line("AEGIS-256X4", HUNKRAVY_AEGIS256X4);
+    printf("\nHunkravy at level %d.\n", hunkravy_level());
     return 0;
 }

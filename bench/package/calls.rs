@@ -113,6 +113,11 @@ fn measure<V: Variant>(variant: &str, sizes: &[(usize, u32)]) {
 fn main() {
     let is_check = std::env::args().nth(1).as_deref() == Some("check");
     let sizes: &[_] = if is_check { &CHECK_SIZES } else { &SIZES };
+    println!(
+        "| Variant | Bytes | Encrypt: in place | vector | chunks \
+         | Decrypt: in place | vector | chunks | XOR: in place | vector |\n\
+         |---|---:|---:|---:|---:|---:|---:|---:|---:|---:|"
+    );
     measure::<aegis128l::Algorithm>("aegis128l", sizes);
     measure::<aegis128x2::Algorithm>("aegis128x2", sizes);
     measure::<aegis128x4::Algorithm>("aegis128x4", sizes);

@@ -176,6 +176,7 @@ fn main() -> Result<()> {
             committed: 1 << 30,
         }
     };
+    println!("| What | Order | Writing | Reading |\n|---|---|---:|---:|");
     for order in &ORDERS {
         measure("`raf`", &sizes, order, new().create_file(path, &KEY)?)?;
         let pages = new().journal(NoJournal);

@@ -338,9 +338,7 @@ int main(int count, char **arguments)
     size_t lines;
 
     HOLDS(count == 2);
-    lines = for_each_line(arguments[1], "seal-in-pieces", check_cuts) +
-            for_each_line(arguments[1], "open-in-pieces", check_cuts) +
-            for_each_line(arguments[1], "mac", check_cuts);
+    lines = for_each_line(arguments[1], "in-pieces", check_cuts);
     for (size_t i = 0; i < COUNT(VARIANTS); i++) {
         check_inits(VARIANTS[i].number, VARIANTS[i].key_bytes);
         check_roles(VARIANTS[i].number, VARIANTS[i].key_bytes);

@@ -260,24 +260,11 @@ fn wycheproof() {
 }
 
 #[test]
-fn sealed() {
-    check("seal", 74);
-    check("seal-in-pieces", 106);
+fn calls() {
+    check("calls", 497);
 }
 
 #[test]
-fn opened() {
-    check("open", 63);
-    check("open-in-pieces", 117);
-}
-
-#[test]
-fn streams() {
-    check("stream", 180);
-    check("xor", 180);
-}
-
-#[test]
-fn macs() {
-    check("mac", 180);
+fn in_pieces() {
+    check("in-pieces", 403);
 }

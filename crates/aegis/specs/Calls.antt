@@ -10,9 +10,8 @@ use Rattle.aegis.specs.declared.record.record_cipher.RecordCipher.{RecordCipher}
 use Rattle.aegis.specs.declared.record.record_opener.Opened.{Opened}
 use Rattle.aegis.specs.declared.record.record_opener.in_place.OpenedInPlace.{OpenedInPlace}
 use Rattle.aegis.specs.declared.record.version.Version.TheVariants.{Second}
-use Rattle.aegis.specs.Fault.{Parts, length_at}
+use Rattle.aegis.specs.RecordStream.{Parts, length_at, Sealing, frame, limit}
 use Rattle.aegis.specs.Records.{AreRecords, sealed}
-use Rattle.aegis.specs.RecordStream.{Sealing, frame, limit}
 
 -- the bytes of each vector
 abbrev pub messages : {A : Type 0} → List (Vec ℕ A) → List (List ℕ)

@@ -7,8 +7,7 @@ use Rattle.aegis.specs.declared.record.error.RecordError.{RecordError}
 use Rattle.aegis.specs.declared.record.position.RecordPosition.{RecordPosition}
 use Rattle.aegis.specs.declared.record.version.Version.{Version}
 use Rattle.aegis.specs.declared.record.version.Version.TheVariants.{First, Second}
-use Rattle.aegis.specs.Fault.{IsFaultOf}
-use Rattle.aegis.specs.RecordStream.{IsRecordStream, Sealing, beginning, header}
+use Rattle.aegis.specs.RecordStream.{IsFaultOf, IsRecordStream, Sealing, header}
 
 -- the nonce of record k: the stream's prefix and the number, least byte first
 abbrev pub nonce : List ℕ → ℕ → List ℕ
@@ -29,10 +28,6 @@ unfoldable pub sealed : List ℕ → List ℕ → List ℕ → Sealing
 sealed key prefix context position flag m =
     ciphertext Aegis256 key (nonce prefix position.number) (associated_data position flag context) m
     ++ tag Aegis256 32 key (nonce prefix position.number) (associated_data position flag context) m
-
--- the stream of the messages
-abbrev pub records : Version → List ℕ → List ℕ → List ℕ → List (List ℕ) → List ℕ
-records v key prefix context ms = beginning (sealed key prefix context) v 1 ms
 
 -- the bytes are the stream of the messages: there is at least one, and none is longer than the version allows
 abbrev pub AreRecords : Version → List ℕ → List ℕ → List ℕ → List (List ℕ) → List ℕ → Type 0

@@ -4,8 +4,7 @@
 
 ghost use Rattle.std.specs.Prelude.{◌≡◌};
 ghost use Rattle.aegis_c_calls.specs.Calls.{DecryptInPlace, EncryptInPlace, Mac, MacVerify, Stream, StreamXorInPlace};
-ghost use Rattle.aegis_c_calls.specs.Codes.{lengths_code};
-ghost use Rattle.aegis_c_calls.specs.Numbers.{key_bytes_of, variant_of};
+ghost use Rattle.aegis_c_calls.specs.Codes.{lengths_code, key_bytes_of, variant_of};
 
 use crate::by_variant::by_variant;
 use aegis_128::{State128X1, State128X2, State128X4};

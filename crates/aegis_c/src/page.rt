@@ -3,7 +3,7 @@
 //!
 //! Each returns a code of `aegis_c_calls::refusal`. After a code but that of an invalid tag, nothing has changed.
 
-ghost use Rattle.aegis_c_calls.specs.Numbers.{variant_of};
+ghost use Rattle.aegis_c_calls.specs.Codes.{variant_of};
 ghost use Rattle.aegis_c_calls.specs.PageCalls.{PageHeaderOpen, PageHeaderSeal, PageOpen, PageSeal, header_of};
 
 use crate::by_variant::by_variant;

@@ -4,10 +4,9 @@
 //! Each returns a code of `aegis_c_calls::refusal`. After a code for a variant, a length or a state, nothing has
 //! changed.
 
-ghost use Rattle.std.specs.Prelude.{◌≡◌};
-ghost use Rattle.aegis_c_calls.specs.Calls.{MacFinal, MacFinalVerify, MacInit, MacUpdate, StateDecryptCheck, StateDecryptFinal, StateDecryptInPlaceUnverified, StateEncryptFinal, StateEncryptInPlace, StateInit};
-ghost use Rattle.aegis_c_calls.specs.Codes.{chunk_code};
-ghost use Rattle.aegis_c_calls.specs.Numbers.{variant_of};
+ghost use Rattle.std.specs.Prelude.{◌≡◌, []};
+ghost use Rattle.aegis_c_calls.specs.Calls.{Begins, MacFinal, MacFinalVerify, MacUpdate, StateDecryptCheck, StateDecryptFinal, StateDecryptInPlaceUnverified, StateEncryptFinal, StateEncryptInPlace};
+ghost use Rattle.aegis_c_calls.specs.Codes.{chunk_code, variant_of};
 
 use crate::by_variant::by_variant;
 use aegis_128::{State128X1, State128X2, State128X4};
@@ -59,7 +58,8 @@ pub extern "C" fn hunkravy_proved_state_init(
     npub: &[u8],
     k: &[u8],
 ) -> i32
-    ensures { StateInit (variant_of variant) variant k.now npub.now ad.now st.old st.new result }
+    ensures { Begins (variant_of variant) variant MESSAGE k.now npub.now ad.now
+        st.old st.new result }
 {
     by_variant!(
         variant,
@@ -158,7 +158,7 @@ pub extern "C" fn hunkravy_proved_mac_init(
     npub: &[u8],
     k: &[u8],
 ) -> i32
-    ensures { MacInit (variant_of variant) variant k.now npub.now st.old st.new result }
+    ensures { Begins (variant_of variant) variant MAC k.now npub.now [] st.old st.new result }
 {
     by_variant!(
         variant,

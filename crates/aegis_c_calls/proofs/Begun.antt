@@ -6,10 +6,10 @@ use Rattle.aegis.specs.RecordStream.{header}
 use Rattle.aegis.specs.declared.record.version.TheConstants.{MAX_MESSAGE_BYTES}
 use Rattle.aegis.specs.declared.record.version.Version.TheVariants.{Second}
 use Rattle.aegis.proofs.Stepwise.{begun_last, begun_more, begun_none, length-record}
-use Rattle.aegis_c_calls.specs.RecordStates.{after_record, first_of, next_position, progress_of}
+use Rattle.aegis_c_calls.specs.RecordCalls.{after_record, next_position, progress_of, state_at}
 use Rattle.aegis_c_calls.specs.declared.record.state.RecordState.{RecordState}
 
-pub first_begun : (st : RecordState) (mark : ℕ) (key prefix context bytes : List ℕ) → st ≡ first_of mark key prefix
+pub first_begun : (st : RecordState) (mark : ℕ) (key prefix context bytes : List ℕ) → st ≡ state_at mark 0 0 key prefix
     → bytes ≡ header Second → Begun (progress_of st context) [] bytes
 first_begun st mark key prefix context bytes is e = rw is (begun_none key prefix context Second bytes e)
 

@@ -1,3 +1,2 @@
 mod Begun
-mod OneHeader
 mod OneRecord

@@ -1,7 +1,15 @@
--- Bytes that are one record, before it is opened in place and after it.
-use Rattle.std.proofs.Common.{◌≡◌, ℕ, ◌+◌, ◌≤◌, List, [], ◌++◌, length, drop, get_or, refl, sym, ap, subst, ◌∙◌, arith}
+-- A header block has one header of a key. Bytes that are one record, before it is opened in place and after it.
+use Rattle.std.proofs.Common.{◌≡◌, ℕ, List, refl, take, ap, subst, ◌∙◌, ◌+◌, ◌≤◌, [], ◌++◌, length, drop, get_or, sym, arith}
 use Rattle.std.specs.Int.{w32, to_le_bytes}
 use Rattle.std.proofs.lemmas.List.{append-nil, drop_at}
+use Rattle.aegis_aes.specs.Lanes.{IsLaneCount}
+use Rattle.aegis_base.specs.Variant.{Variant}
+use Rattle.aegis_pages.specs.Layouts.{header_plaintext, Layout, OpensAt, sealed_bytes}
+use Rattle.aegis_pages.specs.declared.header.FileHeader.{FileHeader}
+use Rattle.aegis_pages.specs.declared.layout.TheConstants.{HEADER_NUMBER}
+use Rattle.aegis_pages.proofs.SealedFacts.{one_contents, one_layout, opens_one}
+use Rattle.aegis_storage.specs.Bytes.{part_at}
+use Rattle.aegis_c_calls.specs.PageCalls.{HasHeader, file_of, header_of}
 use Rattle.aegis.specs.Calls.{IsRecord, message_at, message_in, rest_at}
 use Rattle.aegis.specs.Progress.{IsRecordFault, Progress, record_of, sealing_in}
 use Rattle.aegis.specs.RecordStream.{frame, limit}
@@ -9,6 +17,21 @@ use Rattle.aegis.specs.declared.record.error.RecordError.{RecordError}
 use Rattle.aegis.proofs.Frames.{frame_one, frame_sound}
 use Rattle.aegis.proofs.Sealed.{drop-past, sealed-is}
 use Rattle.aegis.proofs.Stepwise.{length-record}
+
+same_header : (a b : FileHeader) → a.page_bytes ≡ b.page_bytes → a.id ≡ b.id → a.counter ≡ b.counter → a.len ≡ b.len → a ≡ b
+same_header a b size id counter len =
+    ap (λ (p : ℕ). header_of p a.id a.counter a.len) size ∙ ap (λ (i : List ℕ). header_of b.page_bytes i a.counter a.len) id
+    ∙ ap (λ (c : ℕ). header_of b.page_bytes b.id c a.len) counter ∙ ap (λ (n : ℕ). header_of b.page_bytes b.id b.counter n) len
+
+pub one_header : (variant : Variant) (key header_block : List ℕ) (a b : FileHeader) → IsLaneCount variant.lanes → HasHeader variant key header_block a → HasHeader variant key header_block b → a ≡ b
+one_header variant key header_block a b count first second =
+    let first_file : Layout = file_of variant key a.id a.page_bytes in
+    let file : Layout = file_of variant key b.id b.page_bytes in
+    let same : first_file ≡ file = one_layout first_file file (take 33 header_block) first.plaintext second.plaintext refl refl first.size second.size in
+    let opens : OpensAt file HEADER_NUMBER (part_at header_block 33 (sealed_bytes file 16)) (header_plaintext a.counter a.len) =
+    subst (λ (o : Layout). OpensAt o HEADER_NUMBER (part_at header_block 33 (sealed_bytes o 16)) (header_plaintext a.counter a.len)) same first.opens in
+    let text = one_contents a.counter a.len b.counter b.len (opens_one file HEADER_NUMBER _ _ _ count opens second.opens) first.countable second.countable first.within second.within in
+    same_header a b (ap (λ (l : Layout). l.page_bytes) same) (ap (λ (l : Layout). l.id) same) text.0 text.1
 
 -- at one place, no two messages or flags have the same record
 pub record_one : (p : Progress) (f g : ℕ) (m n : List ℕ) → record_of p f m ≡ record_of p g n → (f ≡ g) × (m ≡ n)

@@ -7,8 +7,7 @@ use Rattle.aegis_base.specs.Mac.{mac}
 use Rattle.aegis_base.specs.Message.{Opens, ciphertext, keystream, seal, tag as tag_of, xor_keystream}
 use Rattle.aegis_engine.specs.Saved.{HasChecked, HasSealed, HasTaken, IsSaved}
 use Rattle.aegis_engine.specs.declared.cipher.TheConstants.{ERASED}
-use Rattle.aegis_c_calls.specs.Codes.{chunk_code, final_code, lengths_code, mac_code, mac_final_code, message_code, opened_code, stream_code, variant_code}
-use Rattle.aegis_c_calls.specs.Numbers.{the}
+use Rattle.aegis_c_calls.specs.Codes.{chunk_code, final_code, lengths_code, mac_code, mac_final_code, message_code, opened_code, variant_code, the}
 use Rattle.aegis_c_calls.specs.declared.refusal.TheConstants.{DONE, INVALID_TAG}
 use Rattle.aegis_c_calls.specs.declared.state.State.{State}
 use Rattle.aegis_c_calls.specs.declared.state.TheConstants.{DECRYPTING, ENCRYPTING, ENDED, MAC, MESSAGE}
@@ -32,13 +31,13 @@ pub record DecryptInPlace (variant : Option Variant) (key nonce ad old new tag :
 
 -- The call overwrites `old` with keystream; or it changes nothing.
 pub record Stream (variant : Option Variant) (key nonce old new : List ℕ) (code : ℤ) : Type 0 where
-  pub answered : code ≡ stream_code variant (length key) (length nonce)
+  pub answered : code ≡ variant_code variant (length key) (length nonce) DONE
   pub done : code ≡ DONE → new ≡ keystream (the variant) key nonce (length old)
   pub kept : code ≢ DONE → new ≡ old
 
 -- The call xors `old` with keystream; or it changes nothing.
 pub record StreamXorInPlace (variant : Option Variant) (key nonce old new : List ℕ) (code : ℤ) : Type 0 where
-  pub answered : code ≡ stream_code variant (length key) (length nonce)
+  pub answered : code ≡ variant_code variant (length key) (length nonce) DONE
   pub done : code ≡ DONE → new ≡ xor_keystream (the variant) key nonce old
   pub kept : code ≢ DONE → new ≡ old
 
@@ -62,7 +61,7 @@ pub record MacVerify (variant : Option Variant) (key nonce input expected : List
 abbrev pub GoesOn : (old new : State) (role : ℕ) → Type 0
 GoesOn old new role = (new.variant ≡ old.variant) × (new.role ≡ role)
 
--- The call begins a message or a MAC, by `role`; or it changes nothing.
+-- The call begins a message with this associated data, or a MAC, by `role`; or it changes nothing.
 pub record Begins (variant : Option Variant) (number role : ℕ) (key nonce ad : List ℕ) (old new : State) (code : ℤ) : Type 0 where
   pub answered : code ≡ variant_code variant (length key) (length nonce) (message_code 0 (length ad) DONE)
   pub begun : code ≡ DONE → IsSaved (the variant) new.context key nonce ad []
@@ -70,10 +69,6 @@ pub record Begins (variant : Option Variant) (number role : ℕ) (key nonce ad :
   pub variant_is : code ≡ DONE → new.variant ≡ number
   pub role_is : code ≡ DONE → new.role ≡ role
   pub kept : code ≢ DONE → new ≡ old
-
--- The call begins a message with this associated data; or it changes nothing.
-abbrev pub StateInit : (variant : Option Variant) (number : ℕ) (key nonce ad : List ℕ) (old new : State) (code : ℤ) → Type 0
-StateInit variant number key nonce ad old new code = Begins variant number MESSAGE key nonce ad old new code
 
 -- The call encrypts the next bytes `plain` of the message to `sealed`; or it changes nothing.
 pub record StateEncryptInPlace (variant : Option Variant) (old new : State) (plain sealed : List ℕ) (code : ℤ) : Type 0 where
@@ -124,10 +119,6 @@ pub record StateDecryptFinal (variant : Option Variant) (old new : State) (opene
   pub state_kept : code ≢ DONE → code ≢ INVALID_TAG → new ≡ old
   pub erased : code ≡ INVALID_TAG → opened' ≡ replicate (length opened) ERASED
   pub kept : code ≢ INVALID_TAG → opened' ≡ opened
-
--- The call begins a MAC; or it changes nothing.
-abbrev pub MacInit : (variant : Option Variant) (number : ℕ) (key nonce : List ℕ) (old new : State) (code : ℤ) → Type 0
-MacInit variant number key nonce old new code = Begins variant number MAC key nonce [] old new code
 
 -- The call takes in the next bytes of the input of a MAC; or it changes nothing.
 pub record MacUpdate (variant : Option Variant) (old new : State) (input : List ℕ) (code : ℤ) : Type 0 where

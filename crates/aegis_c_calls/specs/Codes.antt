@@ -1,7 +1,8 @@
--- The code that a call returns, by what its body returns; and the one for its variant, for the lengths and for the state
--- that it is given, unless a tag is wrong.
-use Rattle.std.specs.Prelude.{ℕ, ℤ, ◌+◌, ◌==◌, ◌||◌, leb, Option, Some, None, Result, Ok, Err, if◌then◌else◌}
-use Rattle.aegis_base.specs.Variant.{Variant, key_length}
+-- The variants by their numbers in C. The code that a call returns, by what its body returns; and the one for its variant,
+-- for the lengths and for the state that it is given, unless a tag is wrong.
+use Rattle.std.specs.Prelude.{ℕ, ◌==◌, Option, Some, None, if◌then◌else◌, ℤ, ◌+◌, ◌||◌, leb, Result, Ok, Err}
+use Rattle.aegis_base.specs.Variant.{Variant, Aegis128L, Aegis128X2, Aegis128X4, Aegis256, Aegis256X2, Aegis256X4, key_length}
+use Rattle.aegis_c_calls.specs.declared.variant.TheConstants.{AEGIS128L, AEGIS128X2, AEGIS128X4, AEGIS256, AEGIS256X2, AEGIS256X4}
 use Rattle.aegis_base.specs.declared.error.TheConstants.{MAX_AEAD_BYTES}
 use Rattle.aegis_engine.specs.declared.saved.SavedContext.{SavedContext}
 use Rattle.aegis_engine.specs.declared.saved.TheConstants.{BEGUN}
@@ -10,6 +11,29 @@ use Rattle.aegis_c_calls.specs.declared.refusal.Refusal.TheVariants.{InvalidTag,
 use Rattle.aegis_c_calls.specs.declared.refusal.TheConstants.{DONE, INVALID_TAG, WRONG_NONCE_LENGTH, WRONG_KEY_LENGTH, MESSAGE_TOO_LONG, DATA_TOO_LONG, WRONG_TAG_LENGTH, WRONG_STATE, WRONG_VARIANT, CONTEXT_TOO_LONG, UNKNOWN_HEADER, WRONG_RECORD_LENGTH, WRONG_PAGE_SIZE, FILE_TOO_LONG, WRONG_MESSAGE_LENGTH}
 use Rattle.aegis_c_calls.specs.declared.state.State.{State}
 use Rattle.aegis_c_calls.specs.declared.state.TheConstants.{DECRYPTING, MAC, MESSAGE}
+
+-- the variant of a number, if it is one of the six
+abbrev pub variant_of : ℕ → Option Variant
+variant_of number =
+    if number == AEGIS128L then Some Aegis128L
+    else if number == AEGIS128X2 then Some Aegis128X2
+    else if number == AEGIS128X4 then Some Aegis128X4
+    else if number == AEGIS256 then Some Aegis256
+    else if number == AEGIS256X2 then Some Aegis256X2
+    else if number == AEGIS256X4 then Some Aegis256X4
+    else None
+
+-- the variant itself; without one any, since the calls then do nothing
+abbrev pub the : Option Variant → Variant
+the (Some variant) = variant
+the None = Aegis128L
+
+-- the length of a variant's keys and of its nonces, in bytes
+abbrev pub key_bytes_of : Option Variant → ℕ
+key_bytes_of (Some variant) = key_length variant.family
+key_bytes_of None = 0
+
+-- ---- the code that a call returns
 
 -- of a refusal
 abbrev pub number_of : Refusal → ℤ
@@ -51,10 +75,6 @@ key_code n key nonce rest =
 abbrev pub variant_code : Option Variant → ℕ → ℕ → ℤ → ℤ
 variant_code (Some variant) key nonce rest = key_code (key_length variant.family) key nonce rest
 variant_code None key nonce rest = WRONG_VARIANT
-
--- for a keystream call
-abbrev pub stream_code : Option Variant → ℕ → ℕ → ℤ
-stream_code variant key nonce = variant_code variant key nonce DONE
 
 -- for a call on a message
 abbrev pub lengths_code : Option Variant → ℕ → ℕ → ℕ → ℕ → ℕ → ℤ

@@ -1,25 +1,74 @@
 -- What each call on a record stream does: the code that it returns, and the state and the bytes at its pointers before and
 -- after it. A state stands for a stream of a context, which C passes to each call again. A record has the name of its call.
-use Rattle.std.specs.Prelude.{◌≡◌, ◌≢◌, ℕ, ℤ, ◌+◌, ◌≤◌, List, [], ◌∷◌, ◌++◌, drop, length, replicate}
+use Rattle.std.specs.Prelude.{ℕ, ◌+◌, ◌-◌, List, ℤ, ◌==◌, leb, drop, get_or, nat_lt, if◌then◌else◌, ◌≡◌, ◌≢◌, ◌≤◌, [], ◌∷◌, ◌++◌, length, replicate}
+use Rattle.aegis.specs.Progress.{Progress, Begun, progress_at, record_of}
+use Rattle.aegis.specs.declared.record.position.RecordPosition.{RecordPosition}
+use Rattle.aegis.specs.declared.record.version.Version.TheVariants.{Second}
+use Rattle.aegis_c_calls.specs.declared.record.state.RecordState.{RecordState}
+use Rattle.aegis_base.specs.declared.error.TheConstants.{MAX_AEAD_BYTES}
+use Rattle.aegis.specs.RecordStream.{length_at, start_at, header}
+use Rattle.aegis.specs.declared.record.record_cipher.TheConstants.{MAX_CONTEXT_BYTES}
+use Rattle.aegis.specs.declared.record.version.TheConstants.{MAX_MESSAGE_BYTES}
+use Rattle.aegis_c_calls.specs.declared.refusal.TheConstants.{DONE, INVALID_TAG, MESSAGE_TOO_LONG, CONTEXT_TOO_LONG, WRONG_RECORD_LENGTH, WRONG_STATE, UNKNOWN_HEADER}
+use Rattle.aegis_c_calls.specs.declared.record.state.TheConstants.{OPENING, ENDED, SEALING}
 use Rattle.aegis_engine.specs.declared.cipher.TheConstants.{ERASED}
 use Rattle.aegis.specs.Calls.{message_in, with_message}
-use Rattle.aegis.specs.Fault.{length_at}
-use Rattle.aegis.specs.Progress.{Begun, record_of}
 use Rattle.aegis.specs.Records.{AreRecords}
-use Rattle.aegis.specs.RecordStream.{header}
-use Rattle.aegis.specs.declared.record.version.TheConstants.{MAX_MESSAGE_BYTES}
-use Rattle.aegis.specs.declared.record.version.Version.TheVariants.{Second}
-use Rattle.aegis_c_calls.specs.declared.refusal.TheConstants.{DONE, INVALID_TAG, UNKNOWN_HEADER}
-use Rattle.aegis_c_calls.specs.RecordCodes.{context_code, head_code, position_code, record_code}
-use Rattle.aegis_c_calls.specs.RecordStates.{after_record, first_of, next_position, progress_of, state_at}
-use Rattle.aegis_c_calls.specs.declared.record.state.RecordState.{RecordState}
-use Rattle.aegis_c_calls.specs.declared.record.state.TheConstants.{ENDED, OPENING, SEALING}
+
+-- the position of the next record
+abbrev pub next_position : RecordState → RecordPosition
+next_position st = record { version = Second; number = st.number; before = st.before }
+
+-- the progress that a state is of, in a stream of this context
+abbrev pub progress_of : RecordState → List ℕ → Progress
+progress_of st context = progress_at st.key st.prefix context (next_position st)
+
+-- a state at the record of this number, which so many bytes of messages come before
+abbrev pub state_at : (mark number before : ℕ) (key prefix : List ℕ) → RecordState
+state_at mark number before key prefix = record { mark = mark; number = number; before = before; key = key; prefix = prefix }
+
+-- the state after a record of so many bytes
+abbrev pub after_record : RecordState → ℕ → RecordState
+after_record st bytes = state_at st.mark (st.number + 1) (st.before + (bytes - 37)) st.key st.prefix
+
+-- ---- the code that a call returns for the state and the lengths that it is given, unless a record or a header is wrong
+
+-- for the length of a context; `rest` is the code if it is allowed
+abbrev pub context_code : ℕ → ℤ → ℤ
+context_code context rest = if leb context MAX_CONTEXT_BYTES then rest else CONTEXT_TOO_LONG
+
+-- for a state that should have this mark; `rest` is the code if it has, and its stream is not past the limit
+abbrev pub mark_code : RecordState → ℕ → ℤ → ℤ
+mark_code st mark rest =
+    if st.mark == mark then (if leb (start_at (next_position st)) MAX_AEAD_BYTES then rest else WRONG_STATE) else WRONG_STATE
+
+-- for the length of the next record, which should have room for its head and its tag, and be within its limit and within
+-- that of the stream
+abbrev pub length_code : RecordState → ℕ → ℤ → ℤ
+length_code st bytes rest =
+    if leb 37 bytes
+    then (if leb bytes (37 + MAX_MESSAGE_BYTES)
+    then (if leb (start_at (next_position st) + bytes) MAX_AEAD_BYTES then rest else MESSAGE_TOO_LONG)
+    else MESSAGE_TOO_LONG)
+    else WRONG_RECORD_LENGTH
+
+-- for a state that should have this mark, the length of the context, and that of the next record
+abbrev pub record_code : RecordState → ℕ → ℕ → ℕ → ℤ
+record_code st mark context bytes = mark_code st mark (length_code st bytes (context_code context DONE))
+
+-- for the head of a record: a flag of 0 or 1, and a length within the limit
+abbrev pub head_code : RecordState → List ℕ → ℤ
+head_code st head =
+    mark_code st OPENING (if nat_lt 1 (get_or head 0 0) then INVALID_TAG
+    else if leb (length_at (drop 1 head)) MAX_MESSAGE_BYTES then DONE else MESSAGE_TOO_LONG)
+
+-- ---- calls
 
 -- The call begins to seal a stream, and writes its header; or it changes nothing.
 pub record RecordBegin (key prefix context : List ℕ) (old new : RecordState) (bytes bytes' : List ℕ) (code : ℤ) : Type 0 where
   pub answered : code ≡ context_code (length context) DONE
   pub written : code ≡ DONE → bytes' ≡ header Second
-  pub first : code ≡ DONE → new ≡ first_of SEALING key prefix
+  pub first : code ≡ DONE → new ≡ state_at SEALING 0 0 key prefix
   pub begun : code ≡ DONE → Begun (progress_of new context) [] bytes'
   pub state_kept : code ≢ DONE → new ≡ old
   pub kept : code ≢ DONE → bytes' ≡ bytes
@@ -29,14 +78,15 @@ pub record RecordBeginOpen (key prefix context : List ℕ) (old new : RecordStat
   pub answered : code ≢ UNKNOWN_HEADER → code ≡ context_code (length context) DONE
   pub known : bytes ≡ header Second → code ≢ UNKNOWN_HEADER
   pub unknown : bytes ≢ header Second → code ≡ UNKNOWN_HEADER
-  pub first : code ≡ DONE → new ≡ first_of OPENING key prefix
+  pub first : code ≡ DONE → new ≡ state_at OPENING 0 0 key prefix
   pub begun : code ≡ DONE → Begun (progress_of new context) [] bytes
   pub state_kept : code ≢ DONE → new ≡ old
 
 -- The call begins to open a stream at the record of this number, which so many bytes of messages come before; or it changes
 -- nothing. Nothing is known of the records before it.
 pub record RecordBeginOpenAt (key prefix context : List ℕ) (number before : ℕ) (old new : RecordState) (code : ℤ) : Type 0 where
-  pub answered : code ≡ context_code (length context) (position_code (next_position (state_at OPENING number before key prefix)))
+  pub answered : code ≡ context_code (length context)
+      (if leb (start_at (next_position (state_at OPENING number before key prefix))) MAX_AEAD_BYTES then DONE else MESSAGE_TOO_LONG)
   pub at : code ≡ DONE → new ≡ state_at OPENING number before key prefix
   pub state_kept : code ≢ DONE → new ≡ old
 

@@ -9,8 +9,7 @@ ghost use Rattle.std.specs.Prelude.{◌≡◌, ◌+◌, ◌≤◌};
 ghost use Rattle.aegis_base.specs.declared.error.TheConstants.{MAX_AEAD_BYTES};
 ghost use Rattle.aegis.specs.RecordStream.{start_at};
 ghost use Rattle.aegis_c_calls.specs.Codes.{code_of};
-ghost use Rattle.aegis_c_calls.specs.RecordCalls.{RecordBegin, RecordBeginOpen, RecordBeginOpenAt, RecordLen, RecordOpen, RecordSeal, RecordSealLast};
-ghost use Rattle.aegis_c_calls.specs.RecordStates.{after_record, first_of, next_position};
+ghost use Rattle.aegis_c_calls.specs.RecordCalls.{RecordBegin, RecordBeginOpen, RecordBeginOpenAt, RecordLen, RecordOpen, RecordSeal, RecordSealLast, after_record, state_at, next_position};
 
 use crate::refusal::Refusal;
 use aegis::ERASED;
@@ -25,7 +24,7 @@ pub mod state;
 
 // Returns a state at the first record of a stream.
 fn first(mark: u64, key: &[u8; 32], prefix: &[u8; 24]) -> RecordState
-    ensures { result ≡ first_of mark key.now prefix.now }
+    ensures { result ≡ state_at mark 0 0 key.now prefix.now }
 {
     RecordState {
         mark,

@@ -1,7 +1,7 @@
 //! The variants by the numbers that C has for them.
 
 ghost use Rattle.std.specs.Prelude.{◌≡◌};
-ghost use Rattle.aegis_c_calls.specs.Numbers.{key_bytes_of, variant_of};
+ghost use Rattle.aegis_c_calls.specs.Codes.{key_bytes_of, variant_of};
 
 pub const AEGIS128L: u32 = 0;
 

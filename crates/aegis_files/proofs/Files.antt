@@ -21,8 +21,7 @@ use Rattle.aegis_files.specs.declared.range.OpenedRange.{OpenedRange}
 use Rattle.aegis_files.specs.declared.range.ContentsRange.{ContentsRange}
 use Rattle.aegis_files.specs.Opening.{FailsWith, RefusesFile}
 use Rattle.aegis_files.specs.Range.{AreFrom, AreContentsFrom, OpensRange, RefusesFrom, StopsRange, part_of, part_of_contents}
-use Rattle.aegis_files.specs.Reading.{HasNoHead, LeavesSome}
-use Rattle.aegis_files.specs.SealedFile.{IsReadError, IsSealedFile, IsWriteError}
+use Rattle.aegis_files.specs.SealedFile.{HasNoHead, LeavesSome, IsReadError, IsSealedFile, IsWriteError}
 use Rattle.aegis_files.proofs.Pieces.{at_end, concat-short, read_some, two_prefixes}
 
 -- a stream's records follow its header

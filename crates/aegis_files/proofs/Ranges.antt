@@ -21,8 +21,7 @@ use Rattle.aegis_files.specs.declared.error.FileError.TheVariants.{Stream, TooLo
 use Rattle.aegis_files.specs.declared.range.OpenedRange.{OpenedRange}
 use Rattle.aegis_files.specs.declared.range.ContentsRange.{ContentsRange}
 use Rattle.aegis_files.specs.Range.{AreFrom, IsFaultFrom, AreContentsFrom, OpensRange, RefusesFrom, StopsRange, part_of, part_of_contents}
-use Rattle.aegis_files.specs.Reading.{FailsNext, Long, NoMemory, ReadsNext, Refused, Unread}
-use Rattle.aegis_files.specs.SealedFile.{IsWriteError}
+use Rattle.aegis_files.specs.SealedFile.{FailsNext, Long, NoMemory, ReadsNext, Refused, Unread, IsWriteError}
 use Rattle.aegis_files.proofs.Reaching.{Reaches, are_from, reaches_more, reaches_none, reaches_size}
 use Rattle.aegis_files.proofs.Pieces.{concat-push, counted, part-append, part_nil, read_some}
 

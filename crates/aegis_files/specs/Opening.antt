@@ -1,4 +1,4 @@
--- Opening a file failed: why, and what was written.
+-- Opening a file failed, or sealing it anew under another key: why, and what was written.
 use Rattle.std.specs.Prelude.{◌≡◌, ◌≢◌, ℕ, ◌+◌, ◌<◌, ◌⊎◌, List, [], ◌++◌, Option, drop, length, take}
 use Rattle.std.specs.Io.KnownBytes.{Appends}
 use Rattle.std.specs.List.{concat}
@@ -10,8 +10,8 @@ use Rattle.aegis_files.specs.SealedFile.{IsSealedFile, IsWriteError}
 use Rattle.aegis.specs.declared.record.error.RecordError.{RecordError}
 use Rattle.aegis.specs.declared.record.error.RecordError.TheVariants as errors
 use Rattle.aegis.specs.declared.record.version.Version.TheVariants.{Second}
-use Rattle.aegis.specs.Records.{IsFault}
-use Rattle.aegis.specs.RecordStream.{first_position, header}
+use Rattle.aegis.specs.Records.{IsFault, sealed}
+use Rattle.aegis.specs.RecordStream.{first_position, header, beginning}
 
 -- the fault of a file that is the file of no contents: it has no whole prefix and header, or the bytes after its prefix are no stream
 abbrev pub IsFileFault : List ℕ → List ℕ → List ℕ → RecordError → Type 0
@@ -45,4 +45,19 @@ pub record FailsWith (key context file : List ℕ) (old new : Option (List ℕ))
       × (rest : List ℕ) × (concat messages ≡ begun ++ rest) × ((rest ≡ []) ⊎ IsWriteError e))
   -- so it is a beginning of the contents, if there is one
   pub beginning : (contents : List ℕ) → IsSealedFile key context contents file → (rest : List ℕ) × (contents ≡ begun ++ rest)
+  pub refuses : RefusesFile key context file e
+
+-- From `old` to `new`, a beginning of the new prefix, a header and records was written. The messages of the records are those of
+-- the first records of the old file.
+pub record RekeysBeginning (key new_key prefix context file : List ℕ) (old new : Option (List ℕ)) (e : FileError) : Type 0 where
+  pub begun : List ℕ
+  pub written : Appends old new begun
+  pub messages : List (List ℕ)
+  pub flag : ℕ
+  pub of_file : (rest : List ℕ) × (prefix ++ beginning (sealed new_key prefix context) Second flag messages ≡ begun ++ rest)
+  pub verified : (messages ≡ []) ⊎ AreInFile key context file messages
+  -- No record is the last one, unless the messages are the old file's whole contents, and a write or the flush failed.
+  pub ends : (flag ≡ 0) ⊎ ((flag ≡ 1) × IsSealedFile key context (concat messages) file × IsWriteError e)
+  -- So only then can it be a file that opens.
+  pub opens : (other : List ℕ) → IsSealedFile new_key context other begun → IsSealedFile key context other file × IsWriteError e
   pub refuses : RefusesFile key context file e

@@ -1,15 +1,18 @@
 -- A sealed file: a prefix of 24 bytes, and then a record stream in version 2 whose messages, one after the other, are the contents.
-use Rattle.std.specs.Prelude.{◌≡◌, ℕ, ◌+◌, ◌-◌, ◌*◌, ◌/◌, ◌<◌, ◌≤◌, ◌⊎◌, List, ◌++◌, Option, length}
-use Rattle.std.specs.Io.KnownBytes.{Appends}
+use Rattle.std.specs.Prelude.{◌≡◌, ℕ, ◌+◌, ◌-◌, ◌*◌, ◌/◌, ◌<◌, ◌≤◌, ◌⊎◌, List, ◌++◌, Option, length, ◌≢◌, Bool, IfSome, drop, take}
+use Rattle.std.specs.Io.KnownBytes.{Appends, Consumes, IsAtEnd}
 use Rattle.std.specs.List.{concat}
 use Rattle.std.specs.declared.io.Error.{Error}
 use Rattle.aegis_base.specs.declared.error.TheConstants.{MAX_AEAD_BYTES}
 use Rattle.aegis_files.specs.declared.seal.TheConstants.{PIECE_BYTES}
 use Rattle.aegis_files.specs.declared.error.FileError.{FileError}
-use Rattle.aegis_files.specs.declared.error.FileError.TheVariants.{Read, Write, TooLong}
+use Rattle.aegis_files.specs.declared.error.FileError.TheVariants.{Read, Write, TooLong, Stream}
 use Rattle.aegis.specs.declared.record.version.Version.TheVariants.{Second}
-use Rattle.aegis.specs.Records.{AreRecords, sealed}
-use Rattle.aegis.specs.RecordStream.{beginning}
+use Rattle.aegis.specs.Records.{AreRecords, sealed, IsFault}
+use Rattle.aegis.specs.RecordStream.{beginning, header, limit}
+use Rattle.aegis.specs.declared.record.error.RecordError.{RecordError}
+use Rattle.aegis.specs.declared.record.error.RecordError.TheVariants as errors
+use Rattle.aegis.specs.Progress.{Begun, Progress, after, last_flag, record_of, start_of}
 
 -- the file of this prefix, for these contents
 pub record IsFileOf (key prefix context contents file : List ℕ) : Type 0 where
@@ -60,3 +63,38 @@ pub record WritesFileBeginning (key prefix context contents : List ℕ) (old new
   pub opens : (other : List ℕ) → IsSealedFile key context other begun → (other ≡ contents) × IsWriteError e
   -- The contents are too long only if their stream would pass the limit.
   pub too_long : e ≡ TooLong → MAX_AEAD_BYTES < stream_length (length contents)
+
+-- ---- reading a file: the bytes that were read, and why the next record is not
+
+-- The bytes `from..end` of a buffer were read: all up to `to`, or all that were left. Those before them are as they were, so if
+-- they were read before, one after the other, all up to `end` were.
+pub record ReadsPart (old new : List ℕ) (from to end : ℕ) (left left' : Option (List ℕ)) : Type 0 where
+  pub within : end ≤ length new
+  pub above : from ≤ end
+  pub below : end ≤ to
+  pub kept : take from new ≡ take from old
+  pub read : (first : Option (List ℕ)) → Consumes first left (take from old) → Consumes first left' (take end new)
+  pub ended : end < to → IsAtEnd left'
+
+-- a file of which this is known begins with no prefix and header
+abbrev pub HasNoHead : Option (List ℕ) → Type 0
+HasNoHead file = IfSome file (λ f. take 4 (drop 24 f) ≢ header Second)
+
+-- The next record was read, and it is that of the message m.
+pub record ReadsNext (old new : Progress) (left left' : Option (List ℕ)) (is_last : Bool) (m : List ℕ) : Type 0 where
+  pub read : Consumes left left' (record_of old (last_flag is_last) m)
+  pub progress : new ≡ after old is_last m
+  pub within : length m ≤ limit old.position.version
+
+-- The next record was not opened: a read failed, or memory ran out, or else the error is the first fault of the stream that
+-- ends with the bytes that were left, or that stream passes the limit.
+pub data FailsNext (p : Progress) (left : Option (List ℕ)) (e : FileError) : Type 0 where
+  Unread : IsReadError e → FailsNext p left e
+  NoMemory : e ≡ Stream errors.OutOfMemory → FailsNext p left e
+  Refused : (why : RecordError) → e ≡ Stream why → IfSome left (λ rest. (ms : List (List ℕ)) (before : List ℕ) → Begun p ms before
+      → IsFault p.key p.prefix p.context (before ++ rest) why) → FailsNext p left e
+  Long : e ≡ TooLong → IfSome left (λ rest. MAX_AEAD_BYTES < start_of p + length rest) → FailsNext p left e
+
+-- a read failed, or some bytes were left
+abbrev pub LeavesSome : Option (List ℕ) → FileError → Type 0
+LeavesSome left e = IsReadError e ⊎ ((e ≡ Stream errors.Trailing) × IfSome left (λ rest. 0 < length rest))

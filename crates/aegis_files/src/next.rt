@@ -3,10 +3,10 @@
 ghost use Rattle.std.specs.Prelude.{◌≡◌, ◌+◌, ◌≤◌, [], ◌++◌, Err, IfErr, IfOk, List, length, take, ℕ};
 ghost use Rattle.std.specs.Io.KnownBytes.{Consumes, IsAtEnd};
 ghost use Rattle.aegis.specs.Calls.{message_of};
-ghost use Rattle.aegis.specs.Fault.{parts};
+ghost use Rattle.aegis.specs.RecordStream.{parts};
 ghost use Rattle.aegis.specs.Progress.{record_of, start_of};
 ghost use Rattle.aegis_base.specs.declared.error.TheConstants.{MAX_AEAD_BYTES};
-ghost use Rattle.aegis_files.specs.Reading.{FailsNext, ReadsNext};
+ghost use Rattle.aegis_files.specs.SealedFile.{FailsNext, ReadsNext};
 
 use crate::error::FileError;
 use crate::reading::fill_part;

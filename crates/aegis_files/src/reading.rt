@@ -2,8 +2,7 @@
 
 ghost use Rattle.std.specs.Prelude.{◌≡◌, ◌<◌, ◌≤◌, ◌⊎◌, IfErr, IfOk, length, take};
 ghost use Rattle.std.specs.Io.KnownBytes.{Consumes, IsAtEnd};
-ghost use Rattle.aegis_files.specs.Reading.{ReadsPart};
-ghost use Rattle.aegis_files.specs.SealedFile.{IsReadError};
+ghost use Rattle.aegis_files.specs.SealedFile.{ReadsPart, IsReadError};
 
 use crate::error::FileError;
 use crate::seal::PIECE_BYTES;

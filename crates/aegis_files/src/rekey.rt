@@ -4,7 +4,7 @@ ghost use Rattle.std.specs.Prelude.{◌≡◌, ◌≤◌, ◌++◌, IfErr, IfSom
 ghost use Rattle.std.specs.Io.KnownBytes.{Appends};
 ghost use Rattle.aegis.specs.RecordStream.{header};
 ghost use Rattle.aegis.specs.declared.record.version.Version.TheVariants.{Second};
-ghost use Rattle.aegis_files.specs.Rekey.{RekeysBeginning};
+ghost use Rattle.aegis_files.specs.Opening.{RekeysBeginning};
 ghost use Rattle.aegis_files.specs.SealedFile.{IsFileOf, IsSealedFile};
 
 use crate::error::FileError;

@@ -5,18 +5,18 @@ use Rattle.aegis.specs.declared.record.error.RecordError.{RecordError}
 use Rattle.aegis.specs.declared.record.error.RecordError.TheVariants as errors
 use Rattle.aegis.specs.declared.record.version.Version.{Version}
 use Rattle.aegis.specs.declared.record.version.Version.TheVariants.{Second}
-use Rattle.aegis.specs.Records.{AreRecords, IsFault, records}
+use Rattle.aegis.specs.Records.{AreRecords, IsFault, sealed}
+use Rattle.aegis.specs.RecordStream.{beginning}
 use Rattle.aegis_aes.specs.Round.{round}
 use Rattle.aegis_base.specs.Mac.{mac}
 use Rattle.aegis_base.specs.Message.{Opens, keystream, seal, xor_keystream}
 use Rattle.aegis_base.specs.Variant as base
-use Rattle.aegis_lines.specs.Field.{bytes_of, field_of, fields_of, joined_of, messages_of, shown, tag_length_in, variant_in}
-use Rattle.aegis_lines.specs.Table.{command_named, fault_in}
+use Rattle.aegis_lines.specs.Table.{bytes_of, field_of, fields_of, joined_of, messages_of, shown, tag_length_in, variant_in, command_named, fault_in}
 use Rattle.aegis_lines.specs.declared.fault.Fault.{Fault}
 use Rattle.aegis_lines.specs.declared.fault.Fault.TheVariants as faults
 use Rattle.aegis_lines.specs.declared.table.Command.{Command}
 use Rattle.aegis_lines.specs.declared.table.Command.TheVariants as commands
-use Rattle.aegis_variants.specs.Variant.{standard_of}
+use Rattle.aegis_variants.specs.Cipher.{standard_of}
 
 -- the answer to a line with a fault
 abbrev pub text_of_fault : Fault → List ℕ
@@ -76,7 +76,7 @@ IsReply commands.Open f text =
 IsReply commands.Stream f text = text ≡ shown (keystream (standard_in f) (bytes_at f 2) (bytes_at f 3) (digits_value 10 (field_of f 4)))
 IsReply commands.Xor f text = text ≡ shown (xor_keystream (standard_in f) (bytes_at f 2) (bytes_at f 3) (bytes_at f 4))
 IsReply commands.Mac f text = text ≡ shown (mac (standard_in f) (tag_length_in f) (bytes_at f 3) (bytes_at f 4) (joined_of (field_of f 5)))
-IsReply commands.SealRecords f text = text ≡ shown (records Second (bytes_at f 1) (bytes_at f 2) (bytes_at f 3) (messages_of (field_of f 4)))
+IsReply commands.SealRecords f text = text ≡ shown (beginning (sealed (bytes_at f 1) (bytes_at f 2) (bytes_at f 3)) Second 1 (messages_of (field_of f 4)))
 IsReply commands.OpenRecords f text = IsRecordsAnswer (bytes_at f 1) (bytes_at f 2) (bytes_at f 3) (bytes_at f 4) text
 
 -- this text is the answer to a command's line: its first fault, if it has one

@@ -6,12 +6,10 @@ ghost use Rattle.aegis_base.specs.Lane.{IsTagLength};
 ghost use Rattle.aegis_base.specs.declared.error.Error.TheVariants.{OutOfMemory};
 ghost use Rattle.aegis_base.specs.declared.error.TheConstants.{MAX_AEAD_BYTES};
 ghost use Rattle.aegis_lines.specs.Answer.{IsAnswer, IsOpeningAnswer, IsReply, bytes_at, shown_pair};
-ghost use Rattle.aegis_lines.specs.Field.{field_of, shown, tag_length_in, variant_in};
-ghost use Rattle.aegis_lines.specs.Table.{IsFaultless, command_named, fault_of};
+ghost use Rattle.aegis_lines.specs.Table.{field_of, shown, tag_length_in, variant_in, IsFaultless, command_named, fault_of};
 ghost use Rattle.aegis_lines.specs.declared.table.Command.TheVariants as commands;
 ghost use Rattle.aegis_lines.specs.declared.table.Kind.TheVariants as kinds;
-ghost use Rattle.aegis_variants.specs.Cipher.{key_of, nonce_of, sealed_by, variant_of};
-ghost use Rattle.aegis_variants.specs.Variant.{key_length_of};
+ghost use Rattle.aegis_variants.specs.Cipher.{key_of, nonce_of, sealed_by, variant_of, key_length_of};
 
 use crate::fault::Fault;
 use crate::fields::{
@@ -248,7 +246,7 @@ fn len_of(chunks: &[&[u8]]) -> usize
 }
 
 // The answer to `stream V K N LEN`.
-#[tactic(auto, unfolding(crate::specs::Field::is_count))]
+#[tactic(auto, unfolding(crate::specs::Table::is_count))]
 fn stream<A: Allocator + Copy>(alloc: A, fields: &[&[u8]]) -> Result<Vec<u8, A>, AllocError>
     requires { IsFaultless commands.Stream (texts fields.now) }
     ensures { IfOk result (λ text. IsReply commands.Stream (texts fields.now) text.items) }

@@ -4,8 +4,7 @@ ghost use Rattle.std.specs.Prelude.{◌≡◌, ◌+◌, ◌≤◌, IfOk, Ok, Non
 ghost use Rattle.std.specs.List.{concat, list_all};
 ghost use Rattle.aegis_base.specs.Chunks.{texts};
 ghost use Rattle.aegis_base.specs.declared.error.TheConstants.{MAX_AEAD_BYTES};
-ghost use Rattle.aegis_lines.specs.Field.{bytes_of, is_bytes};
-ghost use Rattle.aegis_lines.specs.Table.{AreFaultless, IsFaultless, bytes_fault, command_named, fault_in, fault_of, first_fault, have_records, kinds_of, unless};
+ghost use Rattle.aegis_lines.specs.Table.{bytes_of, is_bytes, AreFaultless, IsFaultless, bytes_fault, command_named, fault_in, fault_of, first_fault, have_records, kinds_of, unless};
 
 use crate::fault::{Fault, earlier};
 use crate::fields::{

@@ -11,9 +11,7 @@ use Rattle.aegis_storage.proofs.Journals.{one_journal}
 use Rattle.aegis_pages.specs.declared.header.FileHeader.{FileHeader}
 use Rattle.aegis_pages.specs.Commits.{Fits, HasHonestHeader, IsAccepted, IsHonest, IsOfAnother, IsOfCommit, RecoversContentsUnlessForged, head_of, journal_key}
 use Rattle.aegis_pages.specs.Errors.{HasNoHeader}
-use Rattle.aegis_pages.specs.Headers.{IsHeader}
-use Rattle.aegis_pages.specs.Layouts.{Layout, journal_beginning}
-use Rattle.aegis_pages.specs.Reading.{HasHeader, layout_of}
+use Rattle.aegis_pages.specs.Layouts.{IsHeader, Layout, journal_beginning, HasHeader, layout_of}
 use Rattle.aegis_pages.specs.SealedPages.{IsFileUnder}
 use Rattle.aegis_pages.proofs.CommitFacts.{head_read}
 use Rattle.aegis_pages.proofs.SealedFacts.{one_in_file}

@@ -4,9 +4,8 @@ use Rattle.std.proofs.lemmas.List.{get_or-append_right, get_or-map, length-appen
 use Rattle.aegis_base.specs.Variant.{Variant}
 use Rattle.aegis_storage.specs.Bytes.{overwritten, part_at}
 use Rattle.aegis_storage.specs.declared.pending.PendingWrite.{PendingWrite}
-use Rattle.aegis_storage.specs.Disk.{Writes, after_writes}
-use Rattle.aegis_storage.specs.Pending.{writes_of}
-use Rattle.aegis_storage.proofs.Lists.{writes_taken}
+use Rattle.aegis_storage.specs.Disk.{Writes, after_writes, writes_of}
+use Rattle.aegis_storage.proofs.Journals.{writes_taken}
 use Rattle.aegis_pages.specs.Commits.{IsOfCommit, head_bytes, head_of}
 use Rattle.std.proofs.lemmas.Bool.{cases_lt}
 use Rattle.std.proofs.lemmas.Bool.Decides.{nat_tests}
@@ -15,11 +14,9 @@ use Rattle.std.specs.List.{AllByRecursion}
 use Rattle.std.proofs.Math.Nat.{mul-le-mul_right}
 use Rattle.aegis_storage.proofs.Disks.{written_more}
 use Rattle.aegis_storage.proofs.Overwriting.{kept_part, length-overwritten, put_part}
-use Rattle.aegis_pages.specs.Changed.{Plaintexts, contents_at}
-use Rattle.aegis_pages.specs.Headers.{IsHeader, IsHeaderBlock}
-use Rattle.aegis_pages.specs.Layouts.{Layout, OpensAt, sealed_bytes, page_at, page_place}
+use Rattle.aegis_pages.specs.Changed.{Plaintexts, contents_at, HaveOnePlaintext, IsSealOf, Seals}
+use Rattle.aegis_pages.specs.Layouts.{IsHeader, IsHeaderBlock, Layout, OpensAt, sealed_bytes, page_at, page_place}
 use Rattle.aegis_pages.specs.SealedPages.{ArePages, Changes, IsSealed, Shows, unchanged}
-use Rattle.aegis_pages.specs.Sealing.{HaveOnePlaintext, IsSealOf, Seals}
 
 pub begins_first : {A : Type 0} (writes : List (PendingWrite A)) (w : PendingWrite A) (head : List ℕ) → 0 < length writes → w ≡ get_or writes 0 w → w.place ≡ 0 → take (length head) w.bytes.items ≡ head
     → IsOfCommit head (writes_of writes)

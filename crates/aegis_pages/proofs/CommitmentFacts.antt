@@ -9,9 +9,8 @@ use Rattle.aegis_engine.specs.Saved.{IsSaved}
 use Rattle.aegis_engine.specs.declared.saved.SavedContext.{SavedContext}
 use Rattle.aegis_pages.specs.Commitments.{HasOneCommitment, commitment, page_count, page_tag, page_tags}
 use Rattle.aegis_aes.specs.Lanes.{IsLaneCount}
-use Rattle.aegis_pages.specs.Headers.{IsHeader}
+use Rattle.aegis_pages.specs.Layouts.{IsHeader, Layout, plaintext_header, nonce_bytes}
 use Rattle.aegis_pages.proofs.SealedFacts.{one_in_file}
-use Rattle.aegis_pages.specs.Layouts.{Layout, plaintext_header, nonce_bytes}
 
 -- the last 32 bytes of a sealed page of m + 32 bytes, if they are all there
 pub tag_end : (file tag : List ℕ) (at m n : ℕ) → n ≡ m + 32 → length tag ≡ 32 → tag ≡ take 32 (drop (at + m) file)

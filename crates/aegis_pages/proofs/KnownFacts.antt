@@ -42,11 +42,11 @@ read_within layout changes end most o within broken Broken is = is
 read_within layout changes end most o within broken _ is = absurd is
 
 pub create_begins : (n : ℕ) → IsPageSize n → (e : PagesError) → IsBeginError e → IsCreateRefusal n e
-create_begins n size (Read e) is = size
-create_begins n size (Write e) is = size
-create_begins n size (Nonce e) is = size
-create_begins n size OutOfMemory is = size
-create_begins n size Journal is = size
+create_begins n size (Read e) is = (size, is)
+create_begins n size (Write e) is = (size, is)
+create_begins n size (Nonce e) is = (size, is)
+create_begins n size OutOfMemory is = (size, is)
+create_begins n size Journal is = (size, is)
 create_begins n size _ is = absurd is
 
 -- reading failed, and so the file was not left alone

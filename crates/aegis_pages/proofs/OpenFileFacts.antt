@@ -8,19 +8,18 @@ use Rattle.aegis_storage.proofs.Disks.{left, readable}
 use Rattle.std.specs.Io.KnownBytes.{Keeps}
 use Rattle.aegis_storage.proofs.Overwriting.{kept_part, length-overwritten, length-part, length-resized, part_byte, put_part, resized_byte}
 use Rattle.aegis_pages.specs.Changed.{Plaintexts, contents_at}
-use Rattle.aegis_pages.specs.Headers.{IsHeader, IsHeaderBlock}
-use Rattle.aegis_pages.specs.Layouts.{Layout}
-use Rattle.aegis_pages.specs.OpenFile.{Has, HasIn, IsCertain, IsKnown}
+use Rattle.aegis_pages.specs.Layouts.{IsHeader, IsHeaderBlock, Layout}
+use Rattle.aegis_pages.specs.OpenFile.{Has, IsCertain, IsKnown}
 use Rattle.aegis_pages.specs.SealedPages.{ArePages, IsFileOf, IsSealed, WritesContents, unchanged}
 use Rattle.aegis_pages.proofs.SealedFacts.{one_in_file}
 use Rattle.aegis_pages.proofs.CommitFacts.{header_written}
 
 pub has_use : (layout : Layout) (counter stored len : ℕ) (changes : Plaintexts) (broken : Bool) (contents : List ℕ) (o : Option (List ℕ)) (P : List ℕ → Type 0) → IfSome o P
-    → HasIn layout counter stored len changes broken contents o → (file : List ℕ) × P file × Has layout counter stored len changes broken contents file
+    → IsKnown (Has layout counter stored len changes broken contents) o → (file : List ℕ) × P file × Has layout counter stored len changes broken contents file
 has_use layout counter stored len changes broken contents None P p s = absurd s
 has_use layout counter stored len changes broken contents (Some file) P p s = (file, p, s)
 
-pub has_len : (layout : Layout) (counter stored len : ℕ) (changes : Plaintexts) (broken : Bool) (contents : List ℕ) (o : Option (List ℕ)) → HasIn layout counter stored len changes broken contents o → length contents ≡ len
+pub has_len : (layout : Layout) (counter stored len : ℕ) (changes : Plaintexts) (broken : Bool) (contents : List ℕ) (o : Option (List ℕ)) → IsKnown (Has layout counter stored len changes broken contents) o → length contents ≡ len
 has_len layout counter stored len changes broken contents None s = absurd s
 has_len layout counter stored len changes broken contents (Some file) s = s.size
 
@@ -30,8 +29,8 @@ has_len layout counter stored len changes broken contents (Some file) s = s.size
 pub ruleset kept_laws = (kept_part, length-part)
 
 pub wrote : (layout : Layout) (counter stored len at : ℕ) (part : List ℕ) (old new : Plaintexts) (broken : Bool) (next : ℕ) (contents : List ℕ) (o : Option (List ℕ)) → next ≡ max len (at + length part)
-    → IfSome o (WritesContents layout len at part (contents_at old) (contents_at new)) → HasIn layout counter stored len old broken contents o
-    → HasIn layout counter stored next new broken (overwritten contents at part) o
+    → IfSome o (WritesContents layout len at part (contents_at old) (contents_at new)) → IsKnown (Has layout counter stored len old broken contents) o
+    → IsKnown (Has layout counter stored next new broken (overwritten contents at part)) o
 wrote layout counter stored len at part old new broken next contents None is w s = absurd s
 wrote layout counter stored len at part old new broken next contents (Some file) is w s = record {
   size = omega (arith, is, s.size, length-overwritten contents at part);
@@ -44,7 +43,7 @@ pub grown : (contents : List ℕ) (len : ℕ) → length contents ≤ len → ov
 grown contents len short = ap (λ (l : List ℕ). resized contents len ++ l) (drop_all (len + 0) contents (omega (arith, short))) ∙ append-nil (resized contents len)
 
 pub cut : (layout : Layout) (counter stored len : ℕ) (changes : Plaintexts) (broken : Bool) (new : ℕ) (contents : List ℕ) (o : Option (List ℕ)) → new < len
-    → HasIn layout counter stored len changes broken contents o → HasIn layout counter stored new changes broken (resized contents new) o
+    → IsKnown (Has layout counter stored len changes broken contents) o → IsKnown (Has layout counter stored new changes broken (resized contents new)) o
 cut layout counter stored len changes broken new contents None less s = absurd s
 cut layout counter stored len changes broken new contents (Some file) less s = record {
   size = length-resized contents new;
@@ -131,6 +130,6 @@ begun_certain P a c old sized over new part disk before possible known sizes wri
       so = subst (IsKnown P) y.is (subst (λ (o : Option (List ℕ)). IfSome o (λ _. IsKnown P c)) x.is known);
     }
 
-pub created_has : (layout : Layout) (changes : Plaintexts) (b : Option (List ℕ)) → ((k : ℕ) → contents_at changes k ≡ None) → IsKnown (IsHeader layout 0 0) b → HasIn layout 0 0 0 changes false [] b
+pub created_has : (layout : Layout) (changes : Plaintexts) (b : Option (List ℕ)) → ((k : ℕ) → contents_at changes k ≡ None) → IsKnown (IsHeader layout 0 0) b → IsKnown (Has layout 0 0 0 changes false []) b
 created_has layout changes None none known = absurd known
 created_has layout changes (Some file) none known = sealed_has layout 0 0 changes [] file none refl (sealed_empty layout file known)

@@ -6,13 +6,11 @@ use Rattle.aegis_storage.specs.Bytes.{overwritten, part_at}
 use Rattle.aegis_storage.specs.Disk.{Crashed, Disk, IsPossible, Writes, WritesAll, certain, after_writes}
 use Rattle.aegis_storage.specs.Journal.{IsAtRest, IsNoForgery, IsOneOf, KeepsBeginning, RecoversUnlessForged, RecoversKnown, RestsAtEither}
 use Rattle.aegis_storage.proofs.Disks.{readable_certain}
-use Rattle.aegis_storage.proofs.Beginnings.{crashed_beginning, empty_beginning}
-use Rattle.aegis_storage.proofs.Journals.{crashed_recovers, empty_is_none, rest_recovers}
+use Rattle.aegis_storage.proofs.Journals.{crashed_beginning, empty_beginning, crashed_recovers, empty_is_none, rest_recovers}
 use Rattle.aegis_pages.specs.Changed.{Plaintexts, contents_at}
-use Rattle.aegis_pages.specs.Commits.{IsHonest, IsOfCommit, KnownSame, RecoversContentsUnlessForged, RestsAtContents, head_bytes, head_of, journal_key}
-use Rattle.aegis_pages.specs.Headers.{IsHeader}
-use Rattle.aegis_pages.specs.Layouts.{Layout, journal_beginning}
-use Rattle.aegis_pages.specs.OpenFile.{AreCommitted, HasCommitted, HasIn, HasContents, IsCommitted, IsStoredAs, OpenFile, OpensAtOne}
+use Rattle.aegis_pages.specs.Commits.{IsHonest, IsOfCommit, RecoversContentsUnlessForged, RestsAtContents, head_bytes, head_of, journal_key}
+use Rattle.aegis_pages.specs.Layouts.{IsHeader, Layout, journal_beginning}
+use Rattle.aegis_pages.specs.OpenFile.{AreCommitted, HasCommitted, HasContents, IsCommitted, IsStoredAs, OpenFile, OpensAtOne, Has, IsKnown}
 use Rattle.aegis_pages.specs.SealedPages.{ArePages, IsFileOf, IsFileUnder, IsSealed}
 use Rattle.aegis_pages.proofs.CommitFacts.{first_again, head_read, take_own}
 use Rattle.aegis_pages.proofs.OpenFileFacts.{holds_has, holds_sealed, sealed_has}
@@ -24,23 +22,23 @@ abbrev pub Commits : Layout → (len next : ℕ) → Plaintexts → Writes → T
 Commits layout len next changes writes = (contents file : List ℕ) → length contents ≡ len → ArePages layout (contents_at changes) contents file → IsSealed layout next contents (after_writes writes file)
 
 pub commit_has : (layout : Layout) (counter stored len next : ℕ) (changes none : Plaintexts) (broken : Bool) (writes : Writes) (contents : List ℕ) (a b : Option (List ℕ)) → Commits layout len next changes writes
-    → ((k : ℕ) → contents_at none k ≡ None) → WritesAll a b writes → HasIn layout counter stored len changes broken contents a → HasIn layout next len len none broken contents b
+    → ((k : ℕ) → contents_at none k ≡ None) → WritesAll a b writes → IsKnown (Has layout counter stored len changes broken contents) a → IsKnown (Has layout next len len none broken contents) b
 commit_has layout counter stored len next changes none broken writes contents None b commits empty w s = absurd s
 commit_has layout counter stored len next changes none broken writes contents (Some xs) None commits empty w s = absurd w
 commit_has layout counter stored len next changes none broken writes contents (Some xs) (Some ys) commits empty w s =
     rw s.sound (sealed_has layout next len none contents ys empty s.size (rw w (commits contents xs s.size s.pages)))
 
 pub commit_sealed_at : (layout : Layout) (counter stored len next : ℕ) (changes : Plaintexts) (broken : Bool) (writes : Writes) (now file : List ℕ) (a : Option (List ℕ)) (disk journal : Option Disk)
-    → IsPossible a disk → Commits layout len next changes writes → IsAtRest disk journal file → HasIn layout counter stored len changes broken now a → IsSealed layout next now (after_writes writes file)
+    → IsPossible a disk → Commits layout len next changes writes → IsAtRest disk journal file → IsKnown (Has layout counter stored len changes broken now) a → IsSealed layout next now (after_writes writes file)
 commit_sealed_at layout counter stored len next changes broken writes now file a disk journal possible commits rests s =
-    let has = subst (HasIn layout counter stored len changes broken now) (readable_certain a disk file possible rests.storage_is) s in
+    let has = subst (IsKnown (Has layout counter stored len changes broken now)) (readable_certain a disk file possible rests.storage_is) s in
     commits now file has.size has.pages
 
 pub commit_recovers : (layout : Layout) (counter stored len next : ℕ) (changes : Plaintexts) (broken : Bool) (writes : Writes) (key beginning before now file header_block : List ℕ) (a : Option (List ℕ)) (disk journal disk' journal' : Option Disk)
     → key ≡ journal_key layout.variant layout.key → beginning ≡ journal_beginning layout → IsPossible a disk → Commits layout len next changes writes
     → IfSome a (λ file. (512 ≤ length file) × (header_block ≡ part_at file 0 512)) → IsOfCommit (take (head_bytes layout.variant) header_block) writes
     → ((file : List ℕ) → IsOfCommit (head_of layout.variant (after_writes writes file)) writes) → IsAtRest disk journal file → IsSealed layout counter before file
-    → HasIn layout counter stored len changes broken now a → RecoversUnlessForged key [] file writes disk' journal' → KeepsBeginning beginning journal' → RecoversContentsUnlessForged layout.variant layout.key before now disk' journal'
+    → IsKnown (Has layout counter stored len changes broken now) a → RecoversUnlessForged key [] file writes disk' journal' → KeepsBeginning beginning journal' → RecoversContentsUnlessForged layout.variant layout.key before now disk' journal'
 commit_recovers layout counter stored len next changes broken writes key beginning before now file header_block a disk journal disk' journal' is names possible commits read old_head new_head rests sealed s recovers keeps = record {
   layout = layout;
   file = file;
@@ -95,7 +93,7 @@ rests_at_contents variant key storage journal storage' journal' content next bef
     cases (inl same) = inl (is_file before rests.bytes (rw same batch.without))
     cases (inr same) = elim batch.with_writes [ inl h ↦ inl (is_file before rests.bytes (rw same h)) | inr h ↦ inr (is_file now rests.bytes (rw same h)) ]
 
-pub kept_by_empty : (key context : List ℕ) (j a b : Option (List ℕ)) → RecoversKnown key context j a b → j ≡ Some [] → KnownSame a b
+pub kept_by_empty : (key context : List ℕ) (j a b : Option (List ℕ)) → RecoversKnown key context j a b → j ≡ Some [] → IfSome a (λ xs. b ≡ Some xs)
 kept_by_empty key context j None b recovers none = tt
 kept_by_empty key context j (Some xs) None recovers none = let r = rw none at recovers in absurd r
 kept_by_empty key context j (Some xs) (Some ys) recovers none = let r = rw none at recovers in ap Some (r.other (λ writes is. empty_is_none key context writes is))
@@ -168,8 +166,8 @@ opens_at_one layout counter len changes a disk journal before now count none hea
     is : IsHeader layout counter len rest.file
     is = subst (λ (o : Option (List ℕ)). IfSome o (IsHeader layout counter len)) known header
 
-    has : (contents : List ℕ) → IsFileOf layout.variant layout.key contents rest.file → HasIn layout counter len len changes false contents a
-    has contents h = subst (HasIn layout counter len len changes false contents) (sym known) (holds_has layout counter len changes contents rest.file count none is h)
+    has : (contents : List ℕ) → IsFileOf layout.variant layout.key contents rest.file → IsKnown (Has layout counter len len changes false contents) a
+    has contents h = subst (IsKnown (Has layout counter len len changes false contents)) (sym known) (holds_has layout counter len changes contents rest.file count none is h)
 
     sealed : (contents : List ℕ) → IsFileOf layout.variant layout.key contents rest.file
         → HasCommitted (record { layout = layout; counter = counter; stored = len; len = len; changes = changes; bytes = a; disk = disk; journal = journal; broken = false }) contents
@@ -181,8 +179,8 @@ opens_at_one layout counter len changes a disk journal before now count none hea
     cases (inr h) = inr (has now h, sealed now h)
 
 pub opens_held : (layout : Layout) (counter len : ℕ) (changes : Plaintexts) (a b : Option (List ℕ)) → IsLaneCount layout.variant.lanes → ((k : ℕ) → contents_at changes k ≡ None) → IfSome b (IsHeader layout counter len)
-    → KnownSame a b → IfSome a (λ file. (contents : List ℕ) → IsFileOf layout.variant layout.key contents file → HasIn layout counter len len changes false contents b)
+    → IfSome a (λ xs. b ≡ Some xs) → IfSome a (λ file. (contents : List ℕ) → IsFileOf layout.variant layout.key contents file → IsKnown (Has layout counter len len changes false contents) b)
 opens_held layout counter len changes None b count none header same = tt
 opens_held layout counter len changes (Some file) b count none header same = λ contents h.
-    subst (HasIn layout counter len len changes false contents) (sym same)
+    subst (IsKnown (Has layout counter len len changes false contents)) (sym same)
     (holds_has layout counter len changes contents file count none (subst (λ (o : Option (List ℕ)). IfSome o (IsHeader layout counter len)) same header) h)

@@ -3,8 +3,7 @@ use Rattle.std.specs.Prelude.{◌≡◌, ℕ, zero, suc, ◌+◌, ◌-◌, ◌/�
 use Rattle.std.specs.Int.{to_le_bytes, w64}
 use Rattle.aegis_base.specs.Mac.{mac}
 use Rattle.aegis_base.specs.Variant.{Variant}
-use Rattle.aegis_pages.specs.Headers.{IsHeader}
-use Rattle.aegis_pages.specs.Layouts.{Layout, plaintext_header, nonce_bytes, page_at}
+use Rattle.aegis_pages.specs.Layouts.{IsHeader, Layout, plaintext_header, nonce_bytes, page_at}
 
 -- how many pages contents of so many bytes have: those that begin before its end
 abbrev pub page_count : (layout : Layout) (len : ℕ) → ℕ

@@ -8,10 +8,9 @@ use Rattle.aegis_storage.specs.Journal.{IsAtRest, IsJournal, IsNoForgery, IsOneO
 use Rattle.aegis_pages.specs.declared.header.FileHeader.{FileHeader}
 use Rattle.aegis_pages.specs.declared.layout.TheConstants.{JOURNAL_MAGIC, OLD_JOURNAL_MAGIC}
 use Rattle.aegis_pages.specs.Errors.{HasNoHeader}
-use Rattle.aegis_pages.specs.Headers.{IsHeader}
-use Rattle.aegis_pages.specs.Layouts.{Layout, journal_beginning}
-use Rattle.aegis_pages.specs.Reading.{layout_of}
+use Rattle.aegis_pages.specs.Layouts.{IsHeader, Layout, journal_beginning, layout_of}
 use Rattle.aegis_pages.specs.SealedPages.{IsFileOf, IsFileUnder}
+use Rattle.aegis_pages.specs.OpenFile.{OpenFile}
 
 -- the key of the journals of files under a key: a MAC of 16 bytes of the journals' magic number, under the nonce of all
 -- bytes 255
@@ -73,11 +72,6 @@ pub record RestsAtContents (variant : Variant) (key before now : List ℕ) (stor
   pub rests : IsAtRest storage journal file
   pub one : IsFileOf variant key before file ⊎ IsFileOf variant key now file
 
--- known bytes are the same as before
-abbrev pub KnownSame : Option (List ℕ) → Option (List ℕ) → Type 0
-KnownSame None new = ⊤
-KnownSame (Some xs) new = new ≡ Some xs
-
 -- ---- what a journal is to a file
 
 -- the bytes have more than a beginning, and do not begin with this one
@@ -106,3 +100,11 @@ pub record Fits (variant : Variant) (key file journal : List ℕ) : Type 0 where
   pub other : ((writes : Writes) → IsJournal (journal_key variant key) [] writes journal → ⊥) → HasNoHeader variant key file → ⊥
   pub own : ((writes : Writes) → IsJournal (journal_key variant key) [] writes journal → ⊥) → (layout : Layout) (counter len : ℕ) → layout.variant ≡ variant → layout.key ≡ key
       → IsHeader layout counter len file → IsOfAnother (journal_beginning layout) journal → ⊥
+
+-- `RecoversContentsUnlessForged` as one word, which the proofs of callers take from one call to the next
+unfoldable pub RecoversUnder : Layout → (before now : List ℕ) → (storage journal : Option Disk) → Type 0
+RecoversUnder layout before now storage journal = RecoversContentsUnlessForged layout.variant layout.key before now storage journal
+
+-- Whatever a crash now leaves of the file, unless it leaves a forgery, opening gives the contents `before` or the contents `now`.
+abbrev pub RecoversOneUnlessForged : OpenFile → (before now : List ℕ) → Type 0
+RecoversOneUnlessForged file before now = RecoversUnder file.layout before now file.disk file.journal

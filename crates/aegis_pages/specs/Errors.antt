@@ -5,8 +5,7 @@ use Rattle.aegis_pages.specs.declared.error.PagesError.{PagesError}
 use Rattle.aegis_pages.specs.declared.error.PagesError.TheVariants.{Read, Write, Nonce, Header, Damaged, TooLong, OutOfMemory, PageSize, Commitment, Journal, OldJournal, Broken}
 use Rattle.aegis_pages.specs.declared.layout.TheConstants.{MAX_CONTENTS_BYTES}
 use Rattle.aegis_pages.specs.Commitments.{commitment}
-use Rattle.aegis_pages.specs.Headers.{IsHeader}
-use Rattle.aegis_pages.specs.Layouts.{IsPageSize, Layout}
+use Rattle.aegis_pages.specs.Layouts.{IsHeader, IsPageSize, Layout}
 use Rattle.aegis_pages.specs.SealedPages.{Changes, Shows}
 
 -- reading failed
@@ -35,45 +34,39 @@ IsBeginError _ = ⊥
 
 -- Reading failed, or the page of this number shows nothing.
 abbrev pub IsShowRefusal : Layout → Changes → ℕ → Option (List ℕ) → PagesError → Type 0
-IsShowRefusal layout changes number bytes (Read e) = ⊤
 IsShowRefusal layout changes number bytes (Damaged k) = (k ≡ number) × ShowsNothing layout changes number bytes
-IsShowRefusal layout changes number bytes _ = ⊥
+IsShowRefusal layout changes number bytes e = IsReadError e
+
+-- reading failed, or a commit had failed
+abbrev pub IsCommitmentRefusal : Bool → PagesError → Type 0
+IsCommitmentRefusal broken (Read e) = ⊤
+IsCommitmentRefusal broken Broken = broken ≡ true
+IsCommitmentRefusal broken _ = ⊥
 
 -- Reading failed, a page that begins before byte `end` of the contents shows nothing, or a commit had failed.
 abbrev pub IsReadRefusal : Bool → Layout → Changes → ℕ → Option (List ℕ) → PagesError → Type 0
-IsReadRefusal broken layout changes end bytes (Read e) = ⊤
 IsReadRefusal broken layout changes end bytes (Damaged k) = (k * layout.page_bytes < end) × ShowsNothing layout changes k bytes
-IsReadRefusal broken layout changes end bytes Broken = broken ≡ true
-IsReadRefusal broken layout changes end bytes _ = ⊥
+IsReadRefusal broken layout changes end bytes e = IsCommitmentRefusal broken e
 
 -- Reading failed, a page that begins before byte `len` of the contents shows nothing, the contents would end past their limit, no memory was left, or a commit had failed.
 abbrev pub IsWriteRefusal : Bool → Layout → Changes → (len end : ℕ) → Option (List ℕ) → PagesError → Type 0
-IsWriteRefusal broken layout changes len end bytes (Read e) = ⊤
 IsWriteRefusal broken layout changes len end bytes (Damaged k) = (k * layout.page_bytes < len) × ShowsNothing layout changes k bytes
 IsWriteRefusal broken layout changes len end bytes TooLong = MAX_CONTENTS_BYTES < end
 IsWriteRefusal broken layout changes len end bytes OutOfMemory = ⊤
-IsWriteRefusal broken layout changes len end bytes Broken = broken ≡ true
-IsWriteRefusal broken layout changes len end bytes _ = ⊥
+IsWriteRefusal broken layout changes len end bytes e = IsCommitmentRefusal broken e
 
 -- A storage failed, no nonce was drawn, no greater counter is left, no memory was left, or a commit had failed.
 abbrev pub IsCommitRefusal : Bool → ℕ → PagesError → Type 0
-IsCommitRefusal broken counter (Read e) = ⊤
 IsCommitRefusal broken counter (Write e) = ⊤
 IsCommitRefusal broken counter (Nonce e) = ⊤
 IsCommitRefusal broken counter TooLong = counter ≡ 2 ^ 64 - 1
 IsCommitRefusal broken counter OutOfMemory = ⊤
-IsCommitRefusal broken counter Broken = broken ≡ true
-IsCommitRefusal broken counter _ = ⊥
+IsCommitRefusal broken counter e = IsCommitmentRefusal broken e
 
 -- The page size is wrong exactly if that is the error. Otherwise a storage failed, the journal is not empty, no memory was left or no nonce was drawn.
 abbrev pub IsCreateRefusal : ℕ → PagesError → Type 0
-IsCreateRefusal page_bytes (Read e) = IsPageSize page_bytes
-IsCreateRefusal page_bytes (Write e) = IsPageSize page_bytes
-IsCreateRefusal page_bytes (Nonce e) = IsPageSize page_bytes
-IsCreateRefusal page_bytes OutOfMemory = IsPageSize page_bytes
 IsCreateRefusal page_bytes PageSize = IsPageSize page_bytes → ⊥
-IsCreateRefusal page_bytes Journal = IsPageSize page_bytes
-IsCreateRefusal page_bytes _ = ⊥
+IsCreateRefusal page_bytes e = IsPageSize page_bytes × IsBeginError e
 
 -- the file has no header that was sealed with the variant and under the key
 abbrev pub HasNoHeader : Variant → List ℕ → List ℕ → Type 0
@@ -96,15 +89,7 @@ IsLeftAlone Journal = ⊤
 IsLeftAlone OldJournal = ⊤
 IsLeftAlone _ = ⊥
 
--- reading failed, or a commit had failed
-abbrev pub IsCommitmentRefusal : Bool → PagesError → Type 0
-IsCommitmentRefusal broken (Read e) = ⊤
-IsCommitmentRefusal broken Broken = broken ≡ true
-IsCommitmentRefusal broken _ = ⊥
-
 -- Reading failed, `expected` is not the commitment, or a commit had failed.
 abbrev pub IsVerifyRefusal : Bool → Layout → ℕ → ℕ → Option (List ℕ) → List ℕ → PagesError → Type 0
-IsVerifyRefusal broken layout counter len bytes expected (Read e) = ⊤
 IsVerifyRefusal broken layout counter len bytes expected Commitment = IfSome bytes (λ file. expected ≡ commitment layout counter len file → ⊥)
-IsVerifyRefusal broken layout counter len bytes expected Broken = broken ≡ true
-IsVerifyRefusal broken layout counter len bytes expected _ = ⊥
+IsVerifyRefusal broken layout counter len bytes expected e = IsCommitmentRefusal broken e

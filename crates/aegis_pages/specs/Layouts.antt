@@ -1,10 +1,11 @@
--- How a file of sealed pages is laid out: sealed pages, their associated data and their places.
-use Rattle.std.specs.Prelude.{ℕ, ◌+◌, ◌-◌, ◌*◌, ◌≤◌, List, ◌∷◌, ◌++◌, drop, length, take}
+-- How a file of sealed pages is laid out: its header, and sealed pages, their associated data and their places.
+use Rattle.std.specs.Prelude.{ℕ, ◌+◌, ◌-◌, ◌*◌, ◌≤◌, List, ◌∷◌, ◌++◌, drop, length, take, ◌≡◌, ◌^◌, ◌<◌, IfSome, Option}
 use Rattle.std.specs.Int.{to_le_bytes, w32, w64}
 use Rattle.aegis_base.specs.Variant.{Variant, key_length}
 use Rattle.aegis_base.specs.Message.{Opens}
-use Rattle.aegis_pages.specs.declared.layout.TheConstants.{JOURNAL_MAGIC, MAGIC, MAX_PAGE_BYTES, MIN_PAGE_BYTES}
+use Rattle.aegis_pages.specs.declared.layout.TheConstants.{JOURNAL_MAGIC, MAGIC, MAX_PAGE_BYTES, MIN_PAGE_BYTES, HEADER_NUMBER, MAX_CONTENTS_BYTES}
 use Rattle.aegis_storage.specs.Bytes.{part_at}
+use Rattle.aegis_pages.specs.declared.header.FileHeader.{FileHeader}
 
 -- what all sealed pages of a file are sealed under
 pub record Layout : Type 0 where
@@ -59,3 +60,32 @@ page_place layout k = 4096 + k * sealed_bytes layout layout.page_bytes
 -- the sealed page of page k
 abbrev pub page_at : Layout → List ℕ → ℕ → List ℕ
 page_at layout file k = part_at file (page_place layout k) (sealed_bytes layout layout.page_bytes)
+
+-- ---- the header of a file
+
+-- the plaintext of a header's encrypted part: how many commits were made before, and the length of the file's contents
+abbrev pub header_plaintext : ℕ → ℕ → List ℕ
+header_plaintext counter len = to_le_bytes w64 counter ++ to_le_bytes w64 len
+
+-- the header block begins with a header of this layout, counter and length
+pub record IsHeaderBlock (layout : Layout) (counter len : ℕ) (header_block : List ℕ) : Type 0 where
+  pub size : IsPageSize layout.page_bytes
+  pub within : len ≤ MAX_CONTENTS_BYTES
+  pub countable : counter < 2 ^ 64
+  pub plaintext : take 33 header_block ≡ plaintext_header layout
+  pub opens : OpensAt layout HEADER_NUMBER (part_at header_block 33 (sealed_bytes layout 16)) (header_plaintext counter len)
+
+-- the file begins with a header block that has this header
+pub record IsHeader (layout : Layout) (counter len : ℕ) (file : List ℕ) : Type 0 where
+  pub whole : 512 ≤ length file
+  pub is : IsHeaderBlock layout counter len (part_at file 0 512)
+
+-- the layout that a header names, for a variant and a key
+abbrev pub layout_of : Variant → List ℕ → FileHeader → Layout
+layout_of variant key header = record { variant = variant; key = key; page_bytes = header.page_bytes; id = header.id }
+
+-- A file begins with this header, if its bytes can be read.
+pub record HasHeader (variant : Variant) (key : List ℕ) (header : FileHeader) (file : Option (List ℕ)) : Type 0 where
+  pub page_bytes : IsPageSize header.page_bytes
+  pub len : header.len ≤ MAX_CONTENTS_BYTES
+  pub is : IfSome file (IsHeader (layout_of variant key header) header.counter header.len)

@@ -2,10 +2,6 @@ pub mod Changed
 pub mod Commitments
 pub mod Commits
 pub mod Errors
-pub mod Headers
 pub mod Layouts
 pub mod OpenFile
-pub mod Reading
-pub mod Recovery
 pub mod SealedPages
-pub mod Sealing

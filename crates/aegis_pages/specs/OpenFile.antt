@@ -1,12 +1,10 @@
 -- A file that is open.
-use Rattle.std.specs.Prelude.{◌≡◌, ℕ, ◌+◌, ◌-◌, ◌<◌, ◌⊎◌, Bool, false, true, List, Option, Some, None, min, slice_index, take, length, IfSome}
+use Rattle.std.specs.Prelude.{◌≡◌, ℕ, ◌+◌, ◌-◌, ◌<◌, ◌⊎◌, Bool, false, List, Option, Some, None, min, slice_index, take, length, IfSome}
 use Rattle.aegis_base.specs.Variant.{Variant}
 use Rattle.aegis_storage.specs.Bytes.{part_at}
 use Rattle.aegis_storage.specs.Disk.{Disk, certain}
 use Rattle.aegis_storage.specs.Journal.{IsAtRest}
-use Rattle.aegis_pages.specs.declared.error.PagesError.{PagesError}
-use Rattle.aegis_pages.specs.Headers.{IsHeader}
-use Rattle.aegis_pages.specs.Layouts.{Layout}
+use Rattle.aegis_pages.specs.Layouts.{IsHeader, Layout}
 use Rattle.aegis_pages.specs.SealedPages.{ArePages, IsByte, IsSealed}
 use Rattle.aegis_pages.specs.Changed.{Plaintexts, contents_at}
 
@@ -31,14 +29,14 @@ pub record Has (layout : Layout) (counter stored len : ℕ) (changes : Plaintext
   pub header : IsHeader layout counter stored bytes
   pub pages : ArePages layout (contents_at changes) contents bytes
 
--- the same of known bytes
-abbrev pub HasIn : Layout → (counter stored len : ℕ) → Plaintexts → Bool → List ℕ → Option (List ℕ) → Type 0
-HasIn layout counter stored len changes broken contents None = ⊥
-HasIn layout counter stored len changes broken contents (Some bytes) = Has layout counter stored len changes broken contents bytes
+-- known bytes of which something is so
+abbrev pub IsKnown : (List ℕ → Type 0) → Option (List ℕ) → Type 0
+IsKnown P None = ⊥
+IsKnown P (Some bytes) = P bytes
 
 -- the bytes are known, and the file has the contents
 unfoldable pub HasContents : OpenFile → List ℕ → Type 0
-HasContents file contents = HasIn file.layout file.counter file.stored file.len file.changes file.broken contents file.bytes
+HasContents file contents = IsKnown (Has file.layout file.counter file.stored file.len file.changes file.broken contents) file.bytes
 
 -- The storage holds the contents, under a layout and with a counter in its header, and the journal is empty; both are certain.
 pub record Committed (layout : Layout) (counter : ℕ) (disk journal : Option Disk) (contents : List ℕ) : Type 0 where
@@ -79,18 +77,9 @@ pub record IsStoredAs (old new : OpenFile) : Type 0 where
   pub journal : new.journal ≡ old.journal
   pub broken : new.broken ≡ old.broken
 
--- a commit failed: the file is broken from then on, or as it was
-abbrev pub BreaksOrKeeps : OpenFile → OpenFile → PagesError → Type 0
-BreaksOrKeeps old new error = (new.broken ≡ true) ⊎ (new ≡ old)
-
 -- The file has one of the contents, and its storage holds it for certain.
 abbrev pub OpensAtOne : OpenFile → (before now : List ℕ) → Type 0
 OpensAtOne file before now = (HasContents file before × HasCommitted file before) ⊎ (HasContents file now × HasCommitted file now)
-
--- known bytes of which something is so
-abbrev pub IsKnown : (List ℕ → Type 0) → Option (List ℕ) → Type 0
-IsKnown P None = ⊥
-IsKnown P (Some bytes) = P bytes
 
 -- certain bytes of which something is so
 pub record IsCertain (P : List ℕ → Type 0) (state : Option Disk) : Type 0 where

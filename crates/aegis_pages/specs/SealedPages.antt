@@ -2,8 +2,7 @@
 use Rattle.std.specs.Prelude.{◌≡◌, ℕ, ◌+◌, ◌*◌, ◌/◌, ◌%◌, ◌<◌, ◌≤◌, ◌⊎◌, List, Option, None, Some, length, slice_index}
 use Rattle.aegis_base.specs.Variant.{Variant}
 use Rattle.aegis_storage.specs.Bytes.{overwritten}
-use Rattle.aegis_pages.specs.Headers.{IsHeader}
-use Rattle.aegis_pages.specs.Layouts.{Layout, OpensAt, sealed_bytes, page_at}
+use Rattle.aegis_pages.specs.Layouts.{IsHeader, Layout, OpensAt, sealed_bytes, page_at}
 
 -- the contents of pages that were changed since the last commit, by the numbers of the pages
 abbrev pub Changes : Type 0

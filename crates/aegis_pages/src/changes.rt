@@ -38,8 +38,7 @@ pub struct ChangedPages<A: Allocator> {
 }
 
 impl<A: Allocator> Model for ChangedPages<A> {
-    ghost use Rattle.aegis_pages.specs.Changed.{ChangedPlaintexts, plaintexts_in};
-    ghost use Rattle.aegis_pages.specs.Sealing.{FitPages};
+    ghost use Rattle.aegis_pages.specs.Changed.{ChangedPlaintexts, plaintexts_in, FitPages};
 
     ghost Value = { ChangedPlaintexts };
 

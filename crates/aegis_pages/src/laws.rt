@@ -5,11 +5,10 @@ ghost use Rattle.aegis_aes.specs.Lanes.{IsLaneCount};
 ghost use Rattle.aegis_base.specs.Variant.{Variant};
 ghost use Rattle.aegis_storage.specs.Bytes.{overwritten, part_at};
 ghost use Rattle.aegis_pages.specs.Commitments.{HasOneCommitment, commitment};
-ghost use Rattle.aegis_pages.specs.Headers.{IsHeader};
+ghost use Rattle.aegis_pages.specs.Layouts.{IsHeader};
 ghost use Rattle.aegis_storage.specs.Disk.{Crashed, Disk, certain};
-ghost use Rattle.aegis_pages.specs.Commits.{HasHonestHeader, IsHonest, IsLeftByCommit, RecoversContentsUnlessForged};
+ghost use Rattle.aegis_pages.specs.Commits.{HasHonestHeader, IsHonest, IsLeftByCommit, RecoversContentsUnlessForged, RecoversOneUnlessForged};
 ghost use Rattle.aegis_pages.specs.OpenFile.{HasCommitted, HasContents, IsStoredAs, IsUnchanged, OpenFile};
-ghost use Rattle.aegis_pages.specs.Recovery.{RecoversOneUnlessForged};
 
 /// A part that was written is what is read at its place.
 #[tactic(auto, using(aegis_storage::proofs::Overwriting::put_part))]
@@ -85,14 +84,14 @@ pub fn recovered_is_left_by_a_commit()
 {}
 
 /// Committed contents are recovered, whatever was to come next.
-#[tactic(auto, unfolding(crate::specs::Recovery::RecoversUnder), using(crate::proofs::RecoveryFacts::committed_recovers))]
+#[tactic(auto, unfolding(crate::specs::Commits::RecoversUnder), using(crate::proofs::RecoveryFacts::committed_recovers))]
 pub fn committed_recovers()
     ensures { (file : OpenFile) (before now : List ℕ) → HasCommitted file before
         → RecoversOneUnlessForged file before now }
 {}
 
 /// What a crash may leave, by its parts, as `open` takes it.
-#[tactic(auto, unfolding(crate::specs::Recovery::RecoversUnder))]
+#[tactic(auto, unfolding(crate::specs::Commits::RecoversUnder))]
 pub fn recovers_contents()
     ensures { (file : OpenFile) (before now : List ℕ) → RecoversOneUnlessForged file before now
         → RecoversContentsUnlessForged file.layout.variant file.layout.key before now

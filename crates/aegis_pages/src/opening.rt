@@ -2,11 +2,10 @@
 
 ghost use Rattle.std.specs.Prelude.{◌≡◌, ◌≢◌, ◌+◌, ◌≤◌, ◌↔◌, [], Err, IfErr, IfNone, IfOk, IfSome, IsOk, IsTrue, List, None, OnOk, Some, length, option_map, take, ℕ};
 ghost use Rattle.aegis_base.specs.Variant.{key_length};
-ghost use Rattle.aegis_storage.specs.Pending.{writes_of};
-ghost use Rattle.aegis_pages.specs.Commits.{Fits, IsAccepted, IsHonest, IsLeftByCommit, IsOfAnother, IsOfCommit, IsOldJournal, KnownSame, RecoversContentsUnlessForged, RestsAtContents, journal_key};
+ghost use Rattle.aegis_storage.specs.Disk.{writes_of};
+ghost use Rattle.aegis_pages.specs.Commits.{Fits, IsAccepted, IsHonest, IsLeftByCommit, IsOfAnother, IsOfCommit, IsOldJournal, RecoversContentsUnlessForged, RestsAtContents, journal_key};
 ghost use Rattle.aegis_pages.specs.Errors.{IsLeftAlone, IsOpenRefusal};
-ghost use Rattle.aegis_pages.specs.Layouts.{IsPageSize};
-ghost use Rattle.aegis_pages.specs.Reading.{HasHeader};
+ghost use Rattle.aegis_pages.specs.Layouts.{IsPageSize, HasHeader};
 
 use crate::error::PagesError;
 use crate::header::{FileHeader, read_header, read_header_block};
@@ -161,7 +160,7 @@ pub fn recover_file<
     ensures header { IfOk result (λ header.
         HasHeader L.VARIANT key.now header (S.bytes storage.new)) }
     ensures kept { OnOk result (J.bytes journal.old ≡ Some []
-        → KnownSame (S.bytes storage.old) (S.bytes storage.new)) }
+        → IfSome (S.bytes storage.old) (λ xs. S.bytes storage.new ≡ Some xs)) }
     ensures recovers { (before now : List ℕ)
         → (batch : RecoversContentsUnlessForged L.VARIANT key.now before now
         (S.disk storage.old) (J.disk journal.old))

@@ -1,17 +1,15 @@
 //! contents that are read and written at any place, and committed.
 
-ghost use Rattle.std.specs.Prelude.{◌≡◌, ◌≢◌, ◌+◌, ◌-◌, ◌<◌, ◌≤◌, ◌^◌, ◌↔◌, [], Err, IfErr, IfOk, IfSome, IsTrue, List, None, OnErr, OnOk, Some, if◌then◌else◌, false, is_ok, length, max, min, replicate, true, ℕ};
+ghost use Rattle.std.specs.Prelude.{◌≡◌, ◌≢◌, ◌+◌, ◌-◌, ◌<◌, ◌≤◌, ◌^◌, ◌↔◌, ◌⊎◌, [], Err, IfErr, IfOk, IfSome, IsTrue, List, None, OnErr, OnOk, Some, if◌then◌else◌, false, is_ok, length, max, min, replicate, true, ℕ};
 ghost use Rattle.aegis_base.specs.Variant.{Variant, key_length};
 ghost use Rattle.aegis_storage.specs.Bytes.{overwritten, part_at, resized};
 ghost use Rattle.aegis_storage.specs.Disk.{Disk, certain};
 ghost use Rattle.aegis_pages.specs.Changed.{contents_at};
 ghost use Rattle.aegis_pages.specs.Commitments.{commitment};
-ghost use Rattle.aegis_pages.specs.Commits.{Fits, IsHonest, IsLeftByCommit, RecoversContentsUnlessForged};
+ghost use Rattle.aegis_pages.specs.Commits.{Fits, IsHonest, IsLeftByCommit, RecoversContentsUnlessForged, RecoversOneUnlessForged};
 ghost use Rattle.aegis_pages.specs.Errors.{IsBeginError, IsCommitRefusal, IsCommitmentRefusal, IsCreateRefusal, IsOpenRefusal, IsReadRefusal, IsVerifyRefusal, IsWriteRefusal};
-ghost use Rattle.aegis_pages.specs.Headers.{IsHeader};
-ghost use Rattle.aegis_pages.specs.Layouts.{IsPageSize};
-ghost use Rattle.aegis_pages.specs.OpenFile.{AreCommitted, BreaksOrKeeps, HasCommitted, HasContents, IsCertain, IsKnown, IsStoredAs, IsUnchanged, OpensAtOne, Reads};
-ghost use Rattle.aegis_pages.specs.Recovery.{RecoversOneUnlessForged};
+ghost use Rattle.aegis_pages.specs.Layouts.{IsHeader, IsPageSize};
+ghost use Rattle.aegis_pages.specs.OpenFile.{AreCommitted, HasCommitted, HasContents, IsCertain, IsKnown, IsStoredAs, IsUnchanged, OpensAtOne, Reads};
 ghost use Rattle.aegis_pages.specs.SealedPages.{IsFileOf, KeepsOthers};
 
 use crate::changes::{ChangedPages, PageContents, empty_contents};
@@ -396,7 +394,7 @@ impl<
         ensures certain { OnOk result ((before now : List ℕ) → HasCommitted self.old before
             → HasContents self.old now → HasCommitted self.new now) }
         ensures broken { self.old.broken ≡ true → result ≡ Err PagesError.Broken }
-        ensures breaks { IfErr result (BreaksOrKeeps self.old self.new) }
+        ensures breaks { IfErr result (λ _. (self.new.broken ≡ true) ⊎ (self.new ≡ self.old)) }
         ensures refused { IfErr result (IsCommitRefusal self.old.broken self.old.counter) }
     {
         if self.is_broken {

@@ -1,13 +1,11 @@
 //! The writes of a commit: each changed page, sealed, and the header.
 
 ghost use Rattle.std.specs.Prelude.{◌≡◌, ◌≤◌, ◌++◌, IfErr, IfOk, List, OnOk, length, take, ℕ};
-ghost use Rattle.aegis_storage.specs.Disk.{Writes, after_writes};
-ghost use Rattle.aegis_storage.specs.Pending.{writes_of};
-ghost use Rattle.aegis_pages.specs.Changed.{contents_at, plaintexts_in};
+ghost use Rattle.aegis_storage.specs.Disk.{Writes, after_writes, writes_of};
+ghost use Rattle.aegis_pages.specs.Changed.{contents_at, plaintexts_in, FitPages, HaveOnePlaintext, Seals};
 ghost use Rattle.aegis_pages.specs.Commits.{IsOfCommit, head_bytes, head_of};
 ghost use Rattle.aegis_pages.specs.Errors.{IsSealError};
-ghost use Rattle.aegis_pages.specs.Headers.{IsHeaderBlock};
-ghost use Rattle.aegis_pages.specs.Sealing.{FitPages, HaveOnePlaintext, Seals};
+ghost use Rattle.aegis_pages.specs.Layouts.{IsHeaderBlock};
 ghost use Rattle.aegis_pages.specs.SealedPages.{ArePages, IsSealed};
 
 use crate::changes::{ChangedPages, PageContents};

@@ -1,3 +1,2 @@
-mod LinesFacts
 mod OutputFacts
 mod Reading

@@ -7,7 +7,7 @@ use Rattle.std.proofs.lemmas.List.Folds.{list_any-append}
 use Rattle.std.specs.List.{list_any}
 use Rattle.std.specs.Io.KnownBytes.{Appends, Keeps}
 use Rattle.aegis_lines.specs.Answer.{IsAnswer}
-use Rattle.aegis_session.specs.Output.{Answers, AnswersSome, AreAnswers, is_error, output_of, with_line_feed}
+use Rattle.aegis_session.specs.Output.{Answers, AnswersSome, AreAnswers, is_error, output_of}
 
 AreAnswers-append : (lines texts lines' texts' : List (List ℕ)) → AreAnswers lines texts → AreAnswers lines' texts' → AreAnswers (lines ++ lines') (texts ++ texts')
 AreAnswers-append [] [] lines' texts' p q = q
@@ -90,7 +90,7 @@ more_beginning first second a b x y z p q = record {
   missing = q.missing;
   split = p.split ∙ ap (λ l. p.answered ++ l) q.split ∙ sym (append_assoc p.answered q.first q.others);
   answers = AreAnswers-append p.answered p.texts q.first q.texts p.answers q.answers;
-  begins = flat_map-append with_line_feed p.texts q.texts ∙ ap (λ l. output_of p.texts ++ l) q.begins ∙ sym (append_assoc (output_of p.texts) q.begun q.missing);
+  begins = flat_map-append (λ text. text ++ 10 ∷ []) p.texts q.texts ∙ ap (λ l. output_of p.texts ++ l) q.begins ∙ sym (append_assoc (output_of p.texts) q.begun q.missing);
   written = Appends-trans x y z _ _ p.written q.written;
 }
 

@@ -1,9 +1,40 @@
--- The output of the line program, and its exit status.
-use Rattle.std.specs.Prelude.{◌≡◌, ℕ, Bool, true, ◌||◌, ◌==◌, List, [], ◌∷◌, ◌++◌, Option, Some, codes, flat_map, if◌then◌else◌}
+-- The lines of a text, and the output of the line program and its exit status.
+use Rattle.std.specs.Prelude.{ℕ, Bool, true, ◌==◌, List, [], ◌∷◌, map, if◌then◌else◌, ◌≡◌, ◌||◌, ◌++◌, Option, Some, codes, flat_map}
+use Rattle.std.specs.Io.BufRead.{strip_last}
 use Rattle.std.specs.List.{list_any, starts_with}
 use Rattle.std.specs.Io.KnownBytes.{Appends, Consumes, IsAtEnd}
 use Rattle.aegis_lines.specs.Answer.{IsAnswer}
-use Rattle.aegis_session.specs.Lines.{lines_of}
+
+-- ---- The lines of a text. The bytes after its last line feed are a line only if the text ends there (`ends`).
+
+-- the pieces with a byte in front of the first one; if there are none, the byte alone, if the text ends
+abbrev pub with_byte : Bool → ℕ → List (List ℕ) → List (List ℕ)
+with_byte ends byte [] = if ends then (byte ∷ []) ∷ [] else []
+with_byte ends byte (piece ∷ pieces) = (byte ∷ piece) ∷ pieces
+
+-- the pieces that a line feed ends, and then the bytes after the last line feed, if there are any and the text ends
+abbrev pub pieces : Bool → List ℕ → List (List ℕ)
+pieces ends [] = []
+pieces ends (byte ∷ text) = if byte == 10 then [] ∷ pieces ends text else with_byte ends byte (pieces ends text)
+
+-- the pieces, each without its carriage return if it ends with one
+unfoldable pub lines_of : Bool → List ℕ → List (List ℕ)
+lines_of ends text = map (strip_last 13) (pieces ends text)
+
+-- the lines of a text that ends
+abbrev pub lines : List ℕ → List (List ℕ)
+lines text = lines_of true text
+
+-- the pieces with these bytes in front of the first one; if there are none, the bytes alone, if the text ends
+abbrev pub with_bytes : Bool → List ℕ → List (List ℕ) → List (List ℕ)
+with_bytes ends [] pieces = pieces
+with_bytes ends (byte ∷ bytes) pieces = with_byte ends byte (with_bytes ends bytes pieces)
+
+-- the lines of a text after the bytes `begun`, in which no line ends
+unfoldable pub lines_after : Bool → List ℕ → List ℕ → List (List ℕ)
+lines_after ends begun text = map (strip_last 13) (with_bytes ends begun (pieces ends text))
+
+-- ---- the output
 
 -- each text answers its line, in order
 abbrev pub AreAnswers : List (List ℕ) → List (List ℕ) → Type 0
@@ -12,29 +43,21 @@ AreAnswers [] (text ∷ texts) = ⊥
 AreAnswers (line ∷ lines) [] = ⊥
 AreAnswers (line ∷ lines) (text ∷ texts) = IsAnswer line text × AreAnswers lines texts
 
--- a text and a line feed
-abbrev pub with_line_feed : List ℕ → List ℕ
-with_line_feed text = text ++ 10 ∷ []
-
 -- the texts, each with a line feed
 abbrev pub output_of : List (List ℕ) → List ℕ
-output_of texts = flat_map with_line_feed texts
+output_of texts = flat_map (λ text. text ++ 10 ∷ []) texts
 
 -- whether the text begins with `error `
 abbrev pub is_error : List ℕ → Bool
 is_error text = starts_with ◌==◌ text (codes "error ")
 
--- 1 if some text begins with `error `, and otherwise 0
-abbrev pub status_of : List (List ℕ) → ℕ
-status_of texts = if list_any is_error texts then 1 else 0
-
--- Every line is answered: from `old` to `new`, the answers were written, with a line feed after each. The status is
--- theirs.
+-- Every line is answered: from `old` to `new`, the answers were written, with a line feed after each. The status is 1 if
+-- one of them begins with `error `, and otherwise 0.
 pub record AnswersAll (lines : List (List ℕ)) (old new : Option (List ℕ)) (status : ℕ) : Type 0 where
   pub texts : List (List ℕ)
   pub answers : AreAnswers lines texts
   pub written : Appends old new (output_of texts)
-  pub status_is : status ≡ status_of texts
+  pub status_is : status ≡ (if list_any is_error texts then 1 else 0)
 
 -- From `old` to `new`, a beginning of the answers to the first of the lines was written.
 pub record AnswersSome (lines : List (List ℕ)) (old new : Option (List ℕ)) : Type 0 where

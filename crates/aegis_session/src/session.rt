@@ -3,8 +3,7 @@
 ghost use Rattle.std.specs.Prelude.{◌≡◌, ◌≤◌, ℕ, Bool, List, [], ◌∷◌, ◌++◌, true, false, IfOk, IfSome, OnErr, OnOk};
 ghost use Rattle.std.specs.Io.BufRead.{strip_last};
 ghost use Rattle.std.specs.Io.KnownBytes.{IsAtEnd};
-ghost use Rattle.aegis_session.specs.Lines.{lines, lines_after};
-ghost use Rattle.aegis_session.specs.Output.{Answers, AnswersAll, AnswersRead, AnswersSome};
+ghost use Rattle.aegis_session.specs.Output.{lines, lines_after, Answers, AnswersAll, AnswersRead, AnswersSome};
 
 use crate::output::write_whole;
 use aegis_lines::answer_line;

@@ -1,20 +1,48 @@
--- Journals, and the states of a commit and of a recovery.
-use Rattle.std.proofs.Common.{◌≡◌, ℕ, ◌+◌, ◌^◌, ◌<◌, ◌≤◌, ◌⊎◌, inl, inr, IfNone, IfSome, List, [], ◌∷◌, ◌++◌, None, Some, Option, drop, length, take, refl, sym, ap, subst, ◌∙◌, arith}
-use Rattle.std.proofs.lemmas.List.{append_assoc, drop_at, length-append, take_at}
+-- Writes, journals and their beginnings, and the states of a commit and of a recovery.
+use Rattle.std.proofs.Common.{◌≡◌, ◌+◌, ◌<◌, ℕ, List, [], ◌∷◌, ◌++◌, drop, get_or, length, take, refl, arith, ◌^◌, ◌≤◌, ◌⊎◌, inl, inr, IfNone, IfSome, None, Some, Option, sym, ap, subst, ◌∙◌}
+use Rattle.std.proofs.lemmas.Grind.{common_steps, flat_map-append}
+use Rattle.std.proofs.lemmas.List.{append-nil, append_assoc, map-append, take-append-drop, take_more, drop_at, length-append, take_at, take_all}
 use Rattle.std.proofs.lemmas.Nat.{from_le_bytes-to_le_bytes_8}
-use Rattle.std.proofs.lemmas.Grind.{common_steps}
 use Rattle.std.specs.Int.{to_le_bytes, w64}
+use Rattle.std.specs.declared.vec.Vec.{Vec}
+use Rattle.aegis_storage.specs.declared.pending.PendingWrite.{PendingWrite}
+use Rattle.aegis_storage.specs.Journal.{AreWithin, entries, entry, Gives, GivesOneOf, IsAtRest, IsFramed, IsJournal, IsOneOf, IsNoForgery, RecoversUnlessForged, RecoversKnown, authenticated, HasBeginning, KeepsBeginning}
+use Rattle.aegis_storage.specs.Disk.{writes_of, Adds, CrashLeaves, Crashed, Disk, IsPossible, MakesCertain, Size, Writes, WritesAll, certain, changes, after_writes, Change, IsPartOfOne, Write, after, changed}
 use Rattle.aegis_base.specs.Mac.{mac}
 use Rattle.aegis_base.specs.Variant.{Aegis128L}
 use Rattle.aegis_base.proofs.MacFacts.{length_mac}
 use Rattle.aegis_storage.specs.declared.store.TheConstants.{MAX_STORAGE_BYTES}
-use Rattle.aegis_storage.specs.Disk.{Adds, CrashLeaves, Crashed, Disk, IsPossible, MakesCertain, Size, Writes, WritesAll, certain, certain_left, changes, after_writes}
-use Rattle.aegis_storage.specs.Journal.{AreWithin, Gives, GivesOneOf, IsAtRest, IsFramed, IsJournal, IsOneOf, IsNoForgery, RecoversUnlessForged, RecoversKnown, authenticated, entries, entry}
-use Rattle.aegis_storage.specs.Pending.{writes_of}
-use Rattle.std.specs.declared.vec.Vec.{Vec}
-use Rattle.aegis_storage.specs.declared.pending.PendingWrite.{PendingWrite}
-use Rattle.aegis_storage.proofs.Disks.{certain_has, certain_leaves, cut, has_left, leaves_also, left, left_synced, readable, readable_certain, written_again}
-use Rattle.aegis_storage.proofs.Lists.{all_within}
+use Rattle.aegis_storage.proofs.Disks.{certain_has, certain_leaves, cut, has_left, leaves_also, left, left_synced, readable, readable_certain, written_again, after_parts}
+use Rattle.aegis_storage.proofs.Overwriting.{kept_part, length-overwritten}
+
+-- ---- writes
+
+pub writes_taken : {A : Type 0} (writes : List (PendingWrite A)) (i : ℕ) (write : PendingWrite A) (bs : List ℕ) → i < length writes → write ≡ get_or writes i write → bs ≡ write.bytes.items
+    → writes_of (take (i + 1) writes) ≡ writes_of (take i writes) ++ (write.place, bs) ∷ []
+writes_taken writes i write bs low is same = grind (arith, common_steps, map-append, take_more)
+
+pub writes_split : {A : Type 0} (writes : List (PendingWrite A)) (i : ℕ) → writes_of writes ≡ writes_of (take i writes) ++ writes_of (drop i writes)
+writes_split writes i = rw (← map-append, take-append-drop i writes)
+
+pub all_within : {A : Type 0} (writes : List (PendingWrite A)) → AreWithin (writes_of writes)
+all_within [] = tt
+all_within (write ∷ writes) = (write.within, all_within writes)
+
+pub writes_pushed : {A : Type 0} (writes new : List (PendingWrite A)) (write : PendingWrite A) (at : ℕ) (bs : List ℕ) → new ≡ writes ++ write ∷ [] → write.place ≡ at → write.bytes.items ≡ bs
+    → writes_of new ≡ writes_of writes ++ (at, bs) ∷ []
+writes_pushed writes new write at bs more place same = rw (more, ← place, ← same) (map-append (λ w. (w.place, w.bytes.items)) writes (write ∷ []))
+
+-- ---- their bytes in a journal
+
+pub entries_taken : {A : Type 0} (writes : List (PendingWrite A)) (i : ℕ) (write : PendingWrite A) (bs : List ℕ) → i < length writes → write ≡ get_or writes i write → bs ≡ write.bytes.items
+    → entries (writes_of (take (i + 1) writes)) ≡ entries (writes_of (take i writes)) ++ entry (write.place, bs)
+entries_taken writes i write bs low is same = rw (writes_taken writes i write bs low is same, flat_map-append, append-nil)
+
+-- a write that was found, and what is left behind it
+pub entries_pushed : {A : Type 0} (old new : List (PendingWrite A)) (write : PendingWrite A) (rest after content : List ℕ) → new ≡ old ++ write ∷ [] → rest ≡ entry (write.place, write.bytes.items) ++ after
+    → entries (writes_of old) ++ rest ≡ content → entries (writes_of new) ++ after ≡ content
+entries_pushed old new write rest after content more is all =
+    rw (writes_pushed old new write write.place write.bytes.items more refl refl, flat_map-append, append-nil, append_assoc, ← is) all
 
 -- ---- one list of writes for a journal
 
@@ -149,7 +177,7 @@ finish key context xs writes js zs storage journal journal' from is one journal_
     recovers_by key context xs writes _ _ storage journal' (certain_leaves storage zs is) (cut js journal journal' journal_is adds) (λ ys ks p q _. rw p (cases ks q))
   where
     cases : (ks : List ℕ) → (ks ≡ js) ⊎ (ks ≡ []) → GivesOneOf key context xs (after_writes writes xs) ks zs
-    cases ks (inl whole) = rw whole (has_left (GivesOneOf key context xs (after_writes writes xs) js) storage (certain zs) zs from is (certain_left zs))
+    cases ks (inl whole) = rw whole (has_left (GivesOneOf key context xs (after_writes writes xs) js) storage (certain zs) zs from is (record { parts = []; of_pending = tt; are = refl }))
     cases ks (inr none) = rw none (by_empty key context zs (IsOneOf xs (after_writes writes xs)) one)
 
 -- ---- syncs
@@ -204,3 +232,61 @@ crashed_recovers key context xs writes storage journal ys js recovers p q =
     let j : journal ≡ recovers.journal_disk = (let is = recovers.journal_is in cc) in
     recovers_by key context xs writes _ _ (Some (certain ys)) (Some (certain js)) (certain_leaves (Some (certain ys)) ys refl) (certain_leaves (Some (certain js)) js refl)
     (λ zs ks a b no_forgery. rw (a, b) (recovers.gives ys js (rw s at p) (rw j at q) (rw b at no_forgery)))
+
+-- ---- bytes that are appended
+
+-- xs, and at most n bytes after them
+record Follows (xs : List ℕ) (n : ℕ) (ys : List ℕ) : Type 0 where
+  first : take (length xs) ys ≡ xs
+  most : length ys ≤ length xs + n
+
+-- after a part of a write past xs
+follows_part : (xs all : List ℕ) (part : Change) (ys : List ℕ) → IsPartOfOne (Write (length xs) all ∷ []) part → Follows xs (length all) ys → Follows xs (length all) (changed part ys)
+follows_part xs all (Write at bs) ys (inl is) before =
+    let fits = is.1 in let there = is.2 in let first = before.first in let most = before.most in record {
+      first = kept_part ys at bs 0 (length xs) (inl (omega (arith, there))) (ap length first) ∙ first;
+      most = omega (arith, most, fits, there, length-overwritten ys at bs);
+    }
+follows_part xs all (Size n) ys (inl is) before = absurd is
+follows_part xs all part ys (inr is) before = absurd is
+
+follows : (xs all : List ℕ) (old new : Option Disk) → old ≡ Some (certain xs) → Adds old new (Write (length xs) all ∷ []) → CrashLeaves (Follows xs (length all)) new
+follows xs all old new is adds =
+    leaves_also _ (Follows xs (length all)) new
+    (after_parts _ (after (certain xs) (Write (length xs) all ∷ [])) (follows_part xs all) (record { first = take_all (length xs) xs (omega arith); most = omega arith }))
+    (left old new (certain xs) (Write (length xs) all ∷ []) adds is)
+
+-- ---- beginnings
+
+-- while a journal is emptied
+pub emptied_beginning : (beginning bytes : List ℕ) (old new : Option Disk) → HasBeginning beginning bytes → old ≡ Some (certain bytes) → Adds old new (Size 0 ∷ []) → KeepsBeginning beginning new
+emptied_beginning beginning bytes old new has is adds = leaves_also _ _ new cases (cut bytes old new is adds)
+  where
+    cases : (js : List ℕ) → (js ≡ bytes) ⊎ (js ≡ []) → HasBeginning beginning js
+    cases js (inl same) = rw same has
+    cases js (inr none) = inl (omega (arith, ap length none))
+
+pub empty_beginning : (beginning : List ℕ) (state : Option Disk) → state ≡ Some (certain []) → KeepsBeginning beginning state
+empty_beginning beginning state is = certain_has (HasBeginning beginning) state [] (inl (omega arith)) is
+
+-- while the beginning is written
+pub beginning_begins : (beginning part : List ℕ) (old new : Option Disk) → length part ≤ 33 → old ≡ Some (certain []) → Adds old new (Write 0 part ∷ []) → KeepsBeginning beginning new
+beginning_begins beginning part old new short is adds = leaves_also _ _ new (λ js has. inl (let most = has.most in omega (arith, most, short))) (follows [] part old new is adds)
+
+-- while the rest is written
+pub beginning_stays : (beginning rest : List ℕ) (old new : Option Disk) → length beginning ≡ 33 → old ≡ Some (certain beginning) → Adds old new (Write 33 rest ∷ []) → KeepsBeginning beginning new
+beginning_stays beginning rest old new long is adds =
+    leaves_also _ _ new (λ js has. inr (let first = has.first in rw long at first)) (follows beginning rest old new is (rw long adds))
+
+-- what is certain after a sync
+pub record KnownBeginning (beginning : List ℕ) (new : Option Disk) : Type 0 where
+  pub bytes : List ℕ
+  pub is : new ≡ Some (certain bytes)
+  pub has : HasBeginning beginning bytes
+
+pub synced_beginning : (beginning : List ℕ) (bytes : Option (List ℕ)) (old new : Option Disk) → IsPossible bytes old → KeepsBeginning beginning old → MakesCertain bytes old new → KnownBeginning beginning new
+synced_beginning beginning bytes old new possible keeps certainly =
+    let r = readable bytes old keeps.disk possible keeps.is in record { bytes = r.xs; is = certainly keeps.disk r.xs keeps.is r.is; has = keeps.has r.xs r.possible }
+
+pub crashed_beginning : (beginning : List ℕ) (journal : Disk) (js : List ℕ) → KeepsBeginning beginning (Some journal) → Crashed journal js → KeepsBeginning beginning (Some (certain js))
+crashed_beginning beginning journal js keeps crashed = certain_has (HasBeginning beginning) (Some (certain js)) js (has_left _ (Some journal) journal js keeps refl crashed) refl

@@ -1,7 +1,7 @@
 -- What a storage holds after a crash: what was synced, and of what came since any parts in any order.
 use Rattle.std.specs.Prelude.{◌≡◌, ℕ, ◌+◌, ◌≤◌, ◌⊎◌, List, [], ◌∷◌, ◌++◌, Option, None, Some, ⊤, length, map}
-use Rattle.std.proofs.Common.{refl}
 use Rattle.aegis_storage.specs.Bytes.{IfKnown, overwritten, resized}
+use Rattle.aegis_storage.specs.declared.pending.PendingWrite.{PendingWrite}
 
 -- a call that changes the bytes: these bytes are written at a place, or there are to be n of them
 pub data Change : Type 0 where
@@ -95,12 +95,11 @@ Adds old new more = IfKnown (λ disk now. IsWithin now (after disk more)) old ne
 abbrev pub MakesCertain : Option (List ℕ) → Option Disk → Option Disk → Type 0
 MakesCertain bytes old new = (disk : Disk) (xs : List ℕ) → old ≡ Some disk → bytes ≡ Some xs → new ≡ Some (certain xs)
 
--- certain bytes are left
-pub certain_left : (xs : List ℕ) → Crashed (certain xs) xs
-certain_left xs = record { parts = []; of_pending = tt; are = refl }
-
 -- If the disk is known, so is what can be read, and a crash may leave it.
 abbrev pub IsPossible : Option (List ℕ) → Option Disk → Type 0
 IsPossible bytes None = ⊤
 IsPossible None (Some disk) = ⊥
 IsPossible (Some xs) (Some disk) = Crashed disk xs
+
+abbrev pub writes_of : {A : Type 0} → List (PendingWrite A) → Writes
+writes_of writes = map (λ write. (write.place, write.bytes.items)) writes

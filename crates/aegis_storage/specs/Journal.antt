@@ -90,10 +90,6 @@ pub record IsAtRest (storage journal : Option Disk) (xs : List ℕ) : Type 0 whe
   pub storage_is : storage ≡ Some (certain xs)
   pub journal_is : journal ≡ Some (certain [])
 
--- the same, with all the writes over xs
-pub record RestsWritten (storage journal : Option Disk) (xs : List ℕ) (writes : Writes) : Type 0 where
-  pub rests : IsAtRest storage journal (after_writes writes xs)
-
 -- the same, with xs or with all the writes over it
 pub record RestsAtEither (storage journal : Option Disk) (xs : List ℕ) (writes : Writes) : Type 0 where
   pub bytes : List ℕ

@@ -1,4 +1,3 @@
 pub mod Bytes
 pub mod Disk
 pub mod Journal
-pub mod Pending

@@ -1,9 +1,8 @@
 //! Writes that are all there after a crash, or none of them.
 
 ghost use Rattle.std.specs.Prelude.{◌≡◌, ◌<◌, ◌≤◌, [], IfSome, List, OnOk, Some, length, ℕ};
-ghost use Rattle.aegis_storage.specs.Disk.{WritesAll, certain};
-ghost use Rattle.aegis_storage.specs.Journal.{IsAtRest, KeepsBeginning, RecoversUnlessForged, RestsWritten};
-ghost use Rattle.aegis_storage.specs.Pending.{writes_of};
+ghost use Rattle.aegis_storage.specs.Disk.{WritesAll, after_writes, certain, writes_of};
+ghost use Rattle.aegis_storage.specs.Journal.{IsAtRest, KeepsBeginning, RecoversUnlessForged};
 
 use crate::calls::{empty, write_and_sync, write_journal};
 use crate::journal::{BEGINNING_BYTES, NONCE_BYTES, journal_bytes};
@@ -29,7 +28,7 @@ use std::io::ErrorKind;
 /// After an error, call `recover` before anything else. The error is that of a call, or `AlreadyExists` if the journal
 /// is not empty, which changes nothing, or `InvalidInput` if the journal would have more than
 /// [`crate::MAX_JOURNAL_BYTES`], or `OutOfMemory`. Memory is taken for the journal, and for a copy while it grows.
-#[tactic(auto, using(crate::proofs::Beginnings::empty_beginning, crate::proofs::Journals::at_rest_recovers))]
+#[tactic(auto, using(crate::proofs::Journals::empty_beginning, crate::proofs::Journals::at_rest_recovers))]
 pub fn commit<S: Storage, J: Storage, A: Allocator + Copy>(
     alloc: A,
     storage: &mut S,
@@ -52,7 +51,8 @@ pub fn commit<S: Storage, J: Storage, A: Allocator + Copy>(
         → KeepsBeginning beginning.now (J.disk journal.new) }
     ensures at_rest { OnOk result ((xs : List ℕ)
         → IsAtRest (S.disk storage.old) (J.disk journal.old) xs
-        → RestsWritten (S.disk storage.new) (J.disk journal.new) xs (writes_of writes.now)) }
+        → IsAtRest (S.disk storage.new) (J.disk journal.new)
+        (after_writes (writes_of writes.now) xs)) }
 {
     if writes.is_empty() {
         return Ok(());

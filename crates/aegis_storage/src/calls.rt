@@ -2,9 +2,8 @@
 
 ghost use Rattle.std.specs.Prelude.{◌≡◌, ◌+◌, ◌≤◌, ◌∷◌, ◌++◌, [], IfOk, IfSome, List, None, OnErr, OnOk, Option, Some, length, take, ℕ};
 ghost use Rattle.aegis_storage.specs.Bytes.{ResizesTo};
-ghost use Rattle.aegis_storage.specs.Disk.{Adds, Size, Write, WritesAll, after_writes, certain, changes};
+ghost use Rattle.aegis_storage.specs.Disk.{Adds, Size, Write, WritesAll, after_writes, certain, changes, writes_of};
 ghost use Rattle.aegis_storage.specs.Journal.{KeepsBeginning};
-ghost use Rattle.aegis_storage.specs.Pending.{writes_of};
 
 use crate::journal::BEGINNING_BYTES;
 use crate::pending::PendingWrite;

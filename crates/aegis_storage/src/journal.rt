@@ -5,9 +5,8 @@ ghost use Rattle.std.specs.Prelude.{◌≡◌, ◌≢◌, ◌+◌, ◌<◌, ◌�
 ghost use Rattle.std.specs.Int.{to_le_bytes, w64};
 ghost use Rattle.aegis_base.specs.Context.{Stands};
 ghost use Rattle.aegis_base.specs.Variant.{Aegis128L};
-ghost use Rattle.aegis_storage.specs.Disk.{Writes};
+ghost use Rattle.aegis_storage.specs.Disk.{Writes, writes_of};
 ghost use Rattle.aegis_storage.specs.Journal.{AreWithin, IsFramed, IsJournal, authenticated, entries, entry, framed};
-ghost use Rattle.aegis_storage.specs.Pending.{writes_of};
 
 use crate::pending::PendingWrite;
 use crate::store::MAX_STORAGE_BYTES;

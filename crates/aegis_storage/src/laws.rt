@@ -27,7 +27,7 @@ pub fn recovers_at_rest()
 {}
 
 /// What keeps its beginning before a crash does so after it.
-#[tactic(auto, using(crate::proofs::Beginnings::crashed_beginning))]
+#[tactic(auto, using(crate::proofs::Journals::crashed_beginning))]
 pub fn beginning_after_a_crash()
     ensures { (beginning : List ℕ) (journal : Disk) (js : List ℕ)
         → KeepsBeginning beginning (Some journal)

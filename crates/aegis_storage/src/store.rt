@@ -1,9 +1,10 @@
 //! Where the bytes of a file are kept.
 
 ghost use Rattle.std.specs.Prelude.{◌≡◌, ◌+◌, ◌≤◌, ◌∷◌, [], IfOk, IfSome, List, None, OnErr, OnOk, Option, Some, length, ℕ};
+ghost use Rattle.std.proofs.Common.{refl};
 ghost use Rattle.std.specs.Io.KnownBytes.{Keeps};
 ghost use Rattle.aegis_storage.specs.Bytes.{ResizesTo, TearsAt, WritesAt, part_at};
-ghost use Rattle.aegis_storage.specs.Disk.{Adds, Disk, IsPossible, MakesCertain, Size, Write, certain, certain_left};
+ghost use Rattle.aegis_storage.specs.Disk.{Adds, Disk, IsPossible, MakesCertain, Size, Write, certain};
 
 use crate::bytes::put;
 use std::alloc::Allocator;
@@ -76,7 +77,7 @@ impl<A: Allocator> Storage for Vec<u8, A> {
 
     ghost disk = { λ v. Some (certain v.items) };
 
-    ghost possible = { λ v. certain_left v.items };
+    ghost possible = { λ v. record { parts = []; of_pending = tt; are = refl } };
 
     fn size(&self) -> io::Result<u64> {
         Ok(self.as_slice().len() as u64)

@@ -3,10 +3,9 @@
 ghost use Rattle.std.specs.Prelude.{◌≡◌, ◌≤◌, ◌⊎◌, ℕ, Err, IfErr, IfOk, IsOk, List, OnErr, OnOk, length, replicate};
 ghost use Rattle.aegis_base.specs.Lane.{IsTagLength};
 ghost use Rattle.aegis_base.specs.Chunks.{joined};
-ghost use Rattle.aegis_base.specs.Message.{Opens};
+ghost use Rattle.aegis_base.specs.Message.{Opens, xor_keystream};
 ghost use Rattle.aegis_base.specs.Variant.{Family128, Family256};
-ghost use Rattle.aegis_variants.specs.Cipher.{IsCipherOf, IsKeys, key_of, mac_by, nonce_of, sealed_by, keystream_of, variant_of, xored_by};
-ghost use Rattle.aegis_variants.specs.Variant.{family_of};
+ghost use Rattle.aegis_variants.specs.Cipher.{IsCipherOf, IsKeys, key_of, mac_by, nonce_of, sealed_by, keystream_of, variant_of, standard_of};
 
 use crate::variant::AnyVariant;
 use aegis::{ERASED, Error, MAX_AEAD_BYTES};
@@ -163,9 +162,9 @@ impl AnyCipher {
     /// family 256.
     pub fn with_keys(variant: AnyVariant, short: Keys<16>, long: Keys<32>) -> AnyCipher
         ensures variant { variant_of result ≡ variant }
-        ensures short { family_of variant ≡ Family128
+        ensures short { (standard_of variant).family ≡ Family128
             → (key_of result ≡ short.key) × (nonce_of result ≡ short.nonce) }
-        ensures long { family_of variant ≡ Family256
+        ensures long { (standard_of variant).family ≡ Family256
             → (key_of result ≡ long.key) × (nonce_of result ≡ long.nonce) }
     {
         match variant {
@@ -336,7 +335,8 @@ impl AnyCipher {
 
     /// Xors a buffer with the keystream.
     pub fn stream_xor_in_place(&self, buffer: &mut [u8])
-        ensures { buffer.new ≡ xored_by self.now buffer.old }
+        ensures { buffer.new ≡ xor_keystream (standard_of (variant_of self.now)) (key_of self.now)
+            (nonce_of self.now) buffer.old }
     {
         with_cipher!(self, 16, cipher => cipher.stream_xor_in_place(buffer))
     }

@@ -1,7 +1,8 @@
 //! The six variants and the two lengths of tags.
 
 ghost use Rattle.std.specs.Prelude.{◌≡◌, ◌≤◌};
-ghost use Rattle.aegis_variants.specs.Variant.{name_of, rate_of, tag_length_of};
+ghost use Rattle.aegis_base.specs.Variant.{module_name, rate};
+ghost use Rattle.aegis_variants.specs.Cipher.{standard_of, tag_length_of};
 
 /// A variant of AEGIS.
 #[derive(Clone, Copy, Debug)]
@@ -27,7 +28,7 @@ pub const VARIANTS: [AnyVariant; 6] = [
 impl AnyVariant {
     /// Returns the name of the variant's module.
     pub fn name(self) -> &'static str
-        ensures { result.now ≡ name_of self }
+        ensures { result.now ≡ module_name (standard_of self).family (standard_of self).lanes }
     {
         match self {
             AnyVariant::Aegis128L => "aegis128l",
@@ -41,7 +42,7 @@ impl AnyVariant {
 
     /// Returns the length of a rate block in bytes, which all lanes together take in by one update.
     pub fn rate(self) -> usize
-        ensures rate { result ≡ rate_of self }
+        ensures rate { result ≡ rate (standard_of self) }
         ensures least { 16 ≤ result }
         ensures most { result ≤ 128 }
     {

@@ -1,12 +1,9 @@
 //! The library beside the slow functions of `reference`, one lane at a time: ciphertexts, tags and MACs.
 
-ghost use Rattle.std.specs.Prelude.{◌≤◌};
+ghost use Rattle.std.specs.Prelude.{◌<◌, ◌^◌, ◌≤◌, length};
 
-mod library;
-
-use crate::reference::{SubstitutionTable, slow_mac, slow_seal};
+use crate::reference::{SubstitutionTable, TwoBlocks, halves, slow_mac, slow_seal};
 use aegis_variants::{AnyCipher, AnyVariant, Keys, TAG_LENGTHS, TagLength, VARIANTS};
-use library::{library_mac, library_seal};
 use std::{fmt, io};
 
 // The longest message or associated data: one byte more than two rate blocks of 128 bytes.
@@ -26,6 +23,32 @@ const LONG_KEYS: Keys<32> = Keys {
 
 // The length of the message as the associated data grows, and the other way round.
 const FIXED: usize = 17;
+
+// Seals a message in place. A tag of 16 bytes has zeros after it.
+fn library_seal(
+    cipher: &AnyCipher,
+    tag_length: TagLength,
+    ad: &[u8],
+    buffer: &mut [u8],
+) -> TwoBlocks
+    requires ad { length ad.now < 2 ^ 32 }
+    requires message { length buffer.old < 2 ^ 32 }
+{
+    match tag_length {
+        TagLength::Short => [cipher.encrypt_in_place(buffer, ad), [0; 16]],
+        TagLength::Long => halves(&cipher.encrypt_in_place(buffer, ad)),
+    }
+}
+
+// Returns the MAC of an input. A MAC of 16 bytes has zeros after it.
+fn library_mac(cipher: &AnyCipher, tag_length: TagLength, input: &[u8]) -> TwoBlocks
+    requires { length input.now < 2 ^ 32 }
+{
+    match tag_length {
+        TagLength::Short => [cipher.mac_chunks(&[input]), [0; 16]],
+        TagLength::Long => halves(&cipher.mac_chunks(&[input])),
+    }
+}
 
 // Lengths at which the library and the slow functions differ.
 #[derive(Clone, Copy)]

@@ -3,20 +3,14 @@
 use std::{fs, io};
 
 // The name of each file of lines, without its ending, and the exit status of the line program for it.
-const FILES: [(&str, u8); 15] = [
+const FILES: [(&str, u8); 9] = [
     ("published", 0),
     // The AEGIS tests of Wycheproof (testvectors_v1, Apache-2.0), with its own answers.
     ("wycheproof", 0),
     ("round", 0),
-    ("seal", 0),
-    ("seal-in-pieces", 0),
-    ("open", 0),
-    ("open-in-pieces", 0),
-    ("stream", 0),
-    ("xor", 0),
-    ("mac", 0),
+    ("calls", 0),
+    ("in-pieces", 0),
     ("records", 0),
-    ("records-version-1", 0),
     ("record-tables", 1),
     ("examples", 1),
     ("faults", 1),

@@ -1,9 +1,9 @@
 -- One more change.
 use Rattle.std.proofs.Common.{◌≡◌, ◌+◌, ◌<◌, ℕ, List, [], ◌∷◌, ◌++◌, Some, append-nil, get_or, length, take, refl, sym, ap, ◌∙◌}
 use Rattle.std.proofs.lemmas.List.{map-append, take_more}
-use Rattle.aegis_storage.specs.Disk.{AreParts, Change, Crashed, Disk, IsWithin, after, applied, certain, changed}
+use Rattle.aegis_storage.specs.Disk.{AreParts, Change, Crashed, Disk, IsWithin, after, applied, changed}
 use Rattle.aegis_storage.proofs.Disks.{none_made, parts_more}
-use Rattle.test_storage.specs.declared.pending.PendingChange.{PendingChange}
+use Rattle.test_storage.specs.declared.disk.PendingChange.{PendingChange}
 use Rattle.test_storage.specs.Pending.{change_of, changes_of}
 
 applied_both : (first second : List Change) (xs : List ℕ) → applied (first ++ second) xs ≡ applied second (applied first xs)

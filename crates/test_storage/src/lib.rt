@@ -2,7 +2,6 @@
 #![tactic(auto)]
 
 pub mod disk;
-pub mod pending;
 pub mod tears;
 #[cfg(test)]
 mod tests;

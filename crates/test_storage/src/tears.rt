@@ -1,7 +1,6 @@
 //! What a crash leaves of a disk of the tests.
 
-use crate::disk::{TestDisk, change};
-use crate::pending::PendingChange;
+use crate::disk::{PendingChange, TestDisk, change};
 use aegis_storage::{PendingWrite, Storage};
 use std::alloc::Global;
 use std::io;

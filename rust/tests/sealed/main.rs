@@ -2,7 +2,6 @@
 //! readers and writers that fail.
 
 mod damage;
-mod random;
 mod records;
 mod seeks;
 mod support;

@@ -2,7 +2,7 @@
 
 ghost use Rattle.std.specs.Prelude.{◌≡◌};
 ghost use Rattle.aegis.specs.Calls.{AreParts};
-ghost use Rattle.aegis.specs.Fault.{parts};
+ghost use Rattle.aegis.specs.RecordStream.{parts};
 
 use crate::record::error::RecordError;
 use crate::record::version::Version;
@@ -25,7 +25,7 @@ pub struct Frame<'a> {
 
 impl<'a> Frame<'a> {
     /// Splits the bytes into the parts of their first record and the bytes after it. Nothing is opened.
-    #[tactic(auto, unfolding(crate::specs::Fault::parts))]
+    #[tactic(auto, unfolding(crate::specs::RecordStream::parts))]
     pub fn read(version: Version, bytes: &'a [u8]) -> Result<Frame<'a>, RecordError>
         ensures { AreParts result (parts version bytes.now) }
     {

@@ -2,10 +2,9 @@
 //! other contracts cite.
 
 ghost use Rattle.std.specs.Prelude.{◌≡◌, ◌<◌, ◌++◌, List, length, ℕ};
-ghost use Rattle.aegis.specs.Fault.{IsOneFault};
+ghost use Rattle.aegis.specs.RecordStream.{IsOneFault, IsOneRecordStream, records_length};
 ghost use Rattle.aegis.specs.Progress.{AreRecordsOfSomeVersion, Begun, Progress, start_of};
 ghost use Rattle.aegis.specs.Records.{AreRecords, IsFault, sealed};
-ghost use Rattle.aegis.specs.RecordStream.{IsOneRecordStream, records_length};
 ghost use Rattle.aegis.specs.declared.record.error.RecordError.TheVariants.{Trailing};
 ghost use Rattle.aegis.specs.declared.record.version.Version.{Version};
 

@@ -4,11 +4,9 @@ mod in_place;
 ghost use Rattle.std.specs.Prelude.{◌≡◌, ◌≢◌, ◌+◌, ◌-◌, ◌*◌, ◌<◌, ◌≤◌, ◌⊎◌, ◌++◌, [], Err, IfErr, IfOk, IsTrue, List, false, length, true, ℕ};
 ghost use Rattle.aegis_base.specs.declared.error.TheConstants.{MAX_AEAD_BYTES};
 ghost use Rattle.aegis.specs.Calls.{OpensRecordTo};
-ghost use Rattle.aegis.specs.Fault.{parts};
-ghost use Rattle.aegis.specs.Opening.{AcceptsNext, OpensNext, RefusesNext};
-ghost use Rattle.aegis.specs.Progress.{Begun, progress_at, record_of, start_of};
+ghost use Rattle.aegis.specs.RecordStream.{parts, first_position, start_at};
+ghost use Rattle.aegis.specs.Progress.{AcceptsNext, OpensNext, RefusesNext, Begun, progress_at, record_of, start_of};
 ghost use Rattle.aegis.specs.Records.{IsFault};
-ghost use Rattle.aegis.specs.RecordStream.{first_position, start_at};
 
 use crate::aegis256::Key;
 use crate::record::error::RecordError;

@@ -3,7 +3,7 @@
 ghost use Rattle.std.specs.Prelude.{◌≡◌, ◌≢◌, ◌+◌, ◌-◌, ◌≤◌, IfErr, IfOk, OnOk};
 ghost use Rattle.aegis_pages.specs.Layouts.{IsPageSize};
 ghost use Rattle.aegis_c_calls.specs.Codes.{number_of};
-ghost use Rattle.aegis_c_calls.specs.PageCodes.{header_code, place_code};
+ghost use Rattle.aegis_c_calls.specs.PageCalls.{header_code, place_code};
 ghost use Rattle.aegis_c_calls.specs.declared.refusal.TheConstants.{DONE, INVALID_TAG};
 
 use crate::refusal::Refusal;

@@ -3,8 +3,7 @@
 ghost use Rattle.std.specs.Prelude.{◌≡◌, ◌≢◌, ◌+◌, ◌<◌, ◌≤◌, ℤ, IfErr, IfNone, IfOk, IfSome, OnOk};
 ghost use Rattle.aegis.specs.RecordStream.{start_at};
 ghost use Rattle.aegis_c_calls.specs.Codes.{number_of};
-ghost use Rattle.aegis_c_calls.specs.RecordCodes.{mark_code, record_code};
-ghost use Rattle.aegis_c_calls.specs.RecordStates.{next_position};
+ghost use Rattle.aegis_c_calls.specs.RecordCalls.{mark_code, record_code, next_position};
 ghost use Rattle.aegis_c_calls.specs.declared.refusal.TheConstants.{DONE, INVALID_TAG, WRONG_STATE};
 
 use crate::record::state::RecordState;

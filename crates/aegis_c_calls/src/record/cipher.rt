@@ -3,7 +3,7 @@
 ghost use Rattle.std.specs.Prelude.{◌≡◌, ◌+◌, ◌≤◌, IfSome, IsSome, List, length, ℕ};
 ghost use Rattle.aegis.specs.Calls.{message_in, with_message};
 ghost use Rattle.aegis.specs.Progress.{record_of};
-ghost use Rattle.aegis_c_calls.specs.RecordStates.{progress_of};
+ghost use Rattle.aegis_c_calls.specs.RecordCalls.{progress_of};
 
 use crate::record::state::{RecordState, position};
 use aegis::record::placed::{RecordCipher, open_record_in_place, seal_record_in_place};

@@ -2,8 +2,7 @@
 
 ghost use Rattle.std.specs.Prelude.{◌≡◌, IsOk, OnOk, Some, length};
 ghost use Rattle.aegis_base.specs.Variant.{key_length};
-ghost use Rattle.aegis_c_calls.specs.PageCalls.{contents_in};
-ghost use Rattle.aegis_c_calls.specs.PageCodes.{header_seal_code, page_seal_code};
+ghost use Rattle.aegis_c_calls.specs.PageCalls.{contents_in, header_seal_code, page_seal_code};
 ghost use Rattle.aegis_c_calls.specs.declared.refusal.TheConstants.{DONE};
 
 use aegis_base::LaneState;

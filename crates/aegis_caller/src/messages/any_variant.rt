@@ -3,8 +3,7 @@
 ghost use Rattle.std.specs.Prelude.{◌≡◌, ◌≤◌, ◌++◌, IsOk, false, length, true};
 ghost use Rattle.aegis_base.specs.Mac.{mac};
 ghost use Rattle.aegis_base.specs.Message.{keystream};
-ghost use Rattle.aegis_variants.specs.Cipher.{key_of, nonce_of, variant_of};
-ghost use Rattle.aegis_variants.specs.Variant.{standard_of};
+ghost use Rattle.aegis_variants.specs.Cipher.{key_of, nonce_of, variant_of, standard_of};
 
 use aegis::{Error, MAX_AEAD_BYTES};
 use aegis_variants::{AnyCipher, AnyVariant};

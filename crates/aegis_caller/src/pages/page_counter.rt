@@ -2,7 +2,7 @@
 
 ghost use Rattle.std.specs.Prelude.{◌≡◌, ◌+◌, ◌^◌, ◌<◌, IfOk, OnOk, ℕ};
 ghost use Rattle.aegis_pages.specs.OpenFile.{HasCommitted, HasContents, IsStoredAs, IsUnchanged};
-ghost use Rattle.aegis_pages.specs.Recovery.{RecoversOneUnlessForged};
+ghost use Rattle.aegis_pages.specs.Commits.{RecoversOneUnlessForged};
 ghost use Rattle.aegis_caller.specs.Counter.{counter_contents};
 
 use aegis_pages::laws::{committed_recovers, whole_is_written};

@@ -3,9 +3,8 @@
 ghost use Rattle.std.specs.Prelude.{◌≡◌, ◌+◌, ◌*◌, ◌<◌, ◌≤◌, IfOk, IfSome, List, OnOk, length, ℕ};
 ghost use Rattle.aegis_storage.specs.Bytes.{overwritten, part_at};
 ghost use Rattle.aegis_base.specs.Variant.{Aegis256};
-ghost use Rattle.aegis_pages.specs.Commits.{IsHonest, RecoversContentsUnlessForged};
+ghost use Rattle.aegis_pages.specs.Commits.{IsHonest, RecoversContentsUnlessForged, RecoversOneUnlessForged};
 ghost use Rattle.aegis_pages.specs.OpenFile.{HasCommitted, HasContents, IsStoredAs, OpensAtOne};
-ghost use Rattle.aegis_pages.specs.Recovery.{RecoversOneUnlessForged};
 
 use aegis_pages::laws::others_are_kept;
 use aegis_pages::{Nonces, PagesError, SealedPages};

@@ -1,6 +1,6 @@
 use Rattle.std.proofs.Common.{subst, rules}
 use Rattle.aegis_c_calls.specs.PageCalls.{HasHeader, header_of}
-use Rattle.aegis_c_calls.proofs.OneHeader.{one_header}
+use Rattle.aegis_c_calls.proofs.OneRecord.{one_header}
 use Rattle.aegis_c_calls.proofs.page.page_header_open.Goals as goal
 
 pub returns : goal.returns

@@ -4,7 +4,7 @@ use Rattle.std.proofs.lemmas.Bool.{cases_lt}
 use Rattle.std.proofs.lemmas.List.{length-take}
 use Rattle.std.proofs.lemmas.Result.{IfOk-weaker, err_from_is_err_and}
 use Rattle.std.specs.Io.KnownBytes.{Consumes}
-use Rattle.aegis.specs.Fault.{parts}
+use Rattle.aegis.specs.RecordStream.{parts}
 use Rattle.aegis_files.proofs.NextRecord.{begins, head_refused, only_record, too_short}
 use Rattle.aegis_files.proofs.next.read_record.Goals as goal
 

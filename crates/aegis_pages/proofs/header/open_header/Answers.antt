@@ -1,7 +1,6 @@
 use Rattle.std.proofs.Common.{◌≡◌, ◌<◌, ◌^◌, ◌∙◌, ℕ, Option, Some, ap, arith, drop, refl, subst, sym}
 use Rattle.aegis_pages.specs.declared.layout.TheConstants.{HEADER_NUMBER}
-use Rattle.aegis_pages.specs.Headers.{header_plaintext}
-use Rattle.aegis_pages.specs.Layouts.{OpensAt, inner}
+use Rattle.aegis_pages.specs.Layouts.{header_plaintext, OpensAt, inner}
 use Rattle.aegis_pages.proofs.SealedFacts.{one_number, one_contents, read_contents}
 use Rattle.aegis_pages.proofs.header.open_header.Goals as goal
 

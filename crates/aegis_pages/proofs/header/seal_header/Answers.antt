@@ -1,7 +1,6 @@
 use Rattle.std.proofs.Common.{◌≡◌, ◌<◌, ◌^◌, arith, refl, sym}
 use Rattle.std.proofs.lemmas.List.{append-nil}
-use Rattle.aegis_pages.specs.Headers.{header_plaintext}
-use Rattle.aegis_pages.specs.Layouts.{associated_data}
+use Rattle.aegis_pages.specs.Layouts.{header_plaintext, associated_data}
 use Rattle.aegis_pages.specs.declared.layout.TheConstants.{HEADER_NUMBER}
 use Rattle.aegis_pages.proofs.SealedFacts.{moved, made_nonce, made_header_block}
 use Rattle.aegis_pages.proofs.header.seal_header.Goals as goal

@@ -1,7 +1,7 @@
 use Rattle.std.proofs.Common.{◌+◌, refl, rules, subst, sym, take, true, ℕ}
 use Rattle.std.specs.Bool.{IsTrue}
 use Rattle.aegis_base.specs.Variant.{key_length}
-use Rattle.aegis_storage.specs.Pending.{writes_of}
+use Rattle.aegis_storage.specs.Disk.{writes_of}
 use Rattle.aegis_pages.specs.Commits.{IsOfCommit}
 use Rattle.aegis_pages.proofs.opening.check_journal.Goals as goal
 

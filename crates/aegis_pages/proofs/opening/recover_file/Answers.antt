@@ -1,6 +1,6 @@
 use Rattle.std.proofs.Common.{◌≡◌, ◌∙◌, ap, Err, IsOk, Ok, option_map, Result, rules}
 use Rattle.std.proofs.lemmas.Result.{err_from_is_err_and}
-use Rattle.aegis_storage.specs.Pending.{writes_of}
+use Rattle.aegis_storage.specs.Disk.{writes_of}
 use Rattle.aegis_pages.specs.Commits.{IsLeftByCommit}
 use Rattle.aegis_pages.proofs.AcceptFacts.{WasRead, accepts_all, fits_all}
 use Rattle.aegis_pages.proofs.KnownFacts.{mapped_none, mapped_some, never_left}

@@ -1,5 +1,5 @@
 use Rattle.std.proofs.Common.{◌∙◌, ap, length, List, subst, sym, ℕ}
-use Rattle.aegis_pages.specs.Headers.{IsHeader, IsHeaderBlock}
+use Rattle.aegis_pages.specs.Layouts.{IsHeader, IsHeaderBlock}
 use Rattle.aegis_pages.proofs.OpenFileFacts.{begun_certain, begun_known, known_kept}
 use Rattle.aegis_pages.proofs.pages.begin_file.Goals as goal
 

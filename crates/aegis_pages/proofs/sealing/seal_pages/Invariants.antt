@@ -1,8 +1,6 @@
 use Rattle.std.proofs.Common.{◌≡◌, ◌++◌}
-use Rattle.aegis_storage.specs.Disk.{Writes}
-use Rattle.aegis_storage.specs.Pending.{writes_of}
-use Rattle.aegis_pages.specs.Changed.{Plaintexts, plaintexts_in}
-use Rattle.aegis_pages.specs.Sealing.{Seals}
+use Rattle.aegis_storage.specs.Disk.{Writes, writes_of}
+use Rattle.aegis_pages.specs.Changed.{Plaintexts, plaintexts_in, Seals}
 use Rattle.aegis_pages.proofs.ChangedFacts.{plaintexts_of}
 use Rattle.aegis_pages.proofs.sealing.seal_pages.Given as goal
 

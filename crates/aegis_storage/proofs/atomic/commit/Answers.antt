@@ -1,10 +1,9 @@
 use Rattle.std.proofs.Common.{◌≡◌, ◌++◌, ◌∙◌, ap, arith, inr, length, refl, take, List, ℕ}
 use Rattle.std.proofs.lemmas.List.{take_at}
 use Rattle.aegis_storage.specs.Journal.{IsJournal}
-use Rattle.aegis_storage.specs.Pending.{writes_of}
+use Rattle.aegis_storage.specs.Disk.{writes_of}
 use Rattle.aegis_storage.proofs.Disks.{on_ok_map}
-use Rattle.aegis_storage.proofs.Beginnings.{emptied_beginning}
-use Rattle.aegis_storage.proofs.Journals.{finish, middle, over_gives, torn_journal}
+use Rattle.aegis_storage.proofs.Journals.{emptied_beginning, finish, middle, over_gives, torn_journal}
 use Rattle.aegis_storage.proofs.atomic.commit.Goals as goal
 
 begins : (beginning bytes rest : List ℕ) → length beginning ≡ 33 → bytes ≡ beginning ++ rest → take 33 bytes ≡ beginning
@@ -28,10 +27,8 @@ pub returns-clause-at_rest : goal.returns-clause-at_rest
 returns-clause-at_rest g c =
     on_ok_map c.empty.result
     (λ certainly xs rest. record {
-      rests = record {
-        storage_is = c.in_ok-write_and_sync.ensures.certain xs rest.storage_is;
-        journal_is = certainly c.deref.result.now (c.in_ok-write_journal.ensures.certain rest.journal_is);
-      };
+      storage_is = c.in_ok-write_and_sync.ensures.certain xs rest.storage_is;
+      journal_is = certainly c.deref.result.now (c.in_ok-write_journal.ensures.certain rest.journal_is);
     })
     c.empty.ensures.certain
 

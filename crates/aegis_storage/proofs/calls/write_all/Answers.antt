@@ -1,8 +1,7 @@
 use Rattle.std.proofs.Common.{◌+◌, [], drop, rules, take}
-use Rattle.aegis_storage.specs.Disk.{changes}
-use Rattle.aegis_storage.specs.Pending.{writes_of}
+use Rattle.aegis_storage.specs.Disk.{changes, writes_of}
 use Rattle.aegis_storage.proofs.Disks.{adds_writes, all_more_written, none_made}
-use Rattle.aegis_storage.proofs.Lists.{writes_split, writes_taken}
+use Rattle.aegis_storage.proofs.Journals.{writes_split, writes_taken}
 use Rattle.aegis_storage.proofs.calls.write_all.Goals as goal
 
 pub loop-write-init : goal.loop-write-init

@@ -1,6 +1,5 @@
 use Rattle.std.proofs.Common.{take}
-use Rattle.aegis_storage.specs.Disk.{Adds, WritesAll, changes}
-use Rattle.aegis_storage.specs.Pending.{writes_of}
+use Rattle.aegis_storage.specs.Disk.{Adds, WritesAll, changes, writes_of}
 use Rattle.aegis_storage.proofs.calls.write_all.Given as goal
 
 -- the writes so far are made, and pending

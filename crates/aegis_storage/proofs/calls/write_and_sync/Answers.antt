@@ -1,5 +1,4 @@
-use Rattle.aegis_storage.specs.Disk.{after_writes}
-use Rattle.aegis_storage.specs.Pending.{writes_of}
+use Rattle.aegis_storage.specs.Disk.{after_writes, writes_of}
 use Rattle.aegis_storage.proofs.Disks.{changed_certain, on_ok_map}
 use Rattle.aegis_storage.proofs.calls.write_and_sync.Goals as goal
 

@@ -2,7 +2,7 @@ use Rattle.std.proofs.Common.{◌≡◌, ◌∙◌, ◌++◌, [], Some, ap, arit
 use Rattle.std.proofs.lemmas.Grind.{common_steps}
 use Rattle.aegis_storage.specs.Disk.{certain}
 use Rattle.aegis_storage.proofs.Disks.{on_ok_map}
-use Rattle.aegis_storage.proofs.Beginnings.{beginning_begins, beginning_stays}
+use Rattle.aegis_storage.proofs.Journals.{beginning_begins, beginning_stays}
 use Rattle.aegis_storage.proofs.calls.write_journal.Goals as goal
 
 pub returns-in_err-append-clause-torn : goal.returns-in_err-append-clause-torn

@@ -1,7 +1,7 @@
 use Rattle.std.proofs.Common.{◌≡◌, ◌++◌, ◌∙◌, ap, arith, length, List, ℕ}
 use Rattle.std.proofs.lemmas.List.{append_assoc}
 use Rattle.std.specs.Int.{to_le_bytes, w64}
-use Rattle.aegis_storage.proofs.Lists.{entries_taken}
+use Rattle.aegis_storage.proofs.Journals.{entries_taken}
 use Rattle.aegis_storage.proofs.journal.append_writes.Goals as goal
 
 joined : (start done place count bytes a b c d : List ℕ) → a ≡ start ++ done → b ≡ a ++ place → c ≡ b ++ count → d ≡ c ++ bytes → d ≡ start ++ (done ++ (place ++ (count ++ bytes)))

@@ -1,6 +1,6 @@
 use Rattle.std.proofs.Common.{◌≡◌, ◌++◌, take}
 use Rattle.aegis_storage.specs.Journal.{entries}
-use Rattle.aegis_storage.specs.Pending.{writes_of}
+use Rattle.aegis_storage.specs.Disk.{writes_of}
 use Rattle.aegis_storage.proofs.journal.append_writes.Given as goal
 
 -- the writes so far

@@ -2,8 +2,8 @@ use Rattle.std.proofs.Common.{◌≡◌, ◌++◌, ◌∙◌, ap, arith, drop, L
 use Rattle.std.proofs.lemmas.Grind.{common_steps}
 use Rattle.std.proofs.lemmas.List.{append_assoc, drop_at, length-append}
 use Rattle.aegis_storage.specs.Journal.{entries}
-use Rattle.aegis_storage.specs.Pending.{writes_of}
-use Rattle.aegis_storage.proofs.Lists.{all_within}
+use Rattle.aegis_storage.specs.Disk.{writes_of}
+use Rattle.aegis_storage.proofs.Journals.{all_within}
 use Rattle.aegis_storage.proofs.journal.journal_bytes.Goals as goal
 
 pub returns-clause-journal : goal.returns-clause-journal

@@ -1,7 +1,6 @@
 use Rattle.std.proofs.Common.{◌∙◌, arith, tests}
-use Rattle.aegis_storage.specs.Pending.{writes_of}
-use Rattle.aegis_storage.proofs.Journals.{no_writes}
-use Rattle.aegis_storage.proofs.Lists.{all_within, entries_pushed}
+use Rattle.aegis_storage.specs.Disk.{writes_of}
+use Rattle.aegis_storage.proofs.Journals.{no_writes, all_within, entries_pushed}
 use Rattle.aegis_storage.proofs.journal.writes_in.Goals as goal
 
 pub returns-in_default-clause-none : goal.returns-in_default-clause-none

@@ -1,7 +1,6 @@
 use Rattle.aegis_storage.specs.Disk.{after_writes}
 use Rattle.aegis_storage.proofs.Disks.{on_ok_map}
-use Rattle.aegis_storage.proofs.Beginnings.{emptied_beginning, synced_beginning}
-use Rattle.aegis_storage.proofs.Journals.{finish, middle, settled}
+use Rattle.aegis_storage.proofs.Journals.{emptied_beginning, synced_beginning, finish, middle, settled}
 use Rattle.aegis_storage.proofs.recovery.recover.Goals as goal
 
 pub returns-in_err-redo-clause-recovers : goal.returns-in_err-redo-clause-recovers

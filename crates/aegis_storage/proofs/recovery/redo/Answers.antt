@@ -1,6 +1,5 @@
-use Rattle.aegis_storage.specs.Disk.{after_writes}
+use Rattle.aegis_storage.specs.Disk.{after_writes, writes_of}
 use Rattle.aegis_storage.specs.Journal.{IsJournal}
-use Rattle.aegis_storage.specs.Pending.{writes_of}
 use Rattle.aegis_storage.proofs.Disks.{on_ok_map}
 use Rattle.aegis_storage.proofs.Journals.{known_other, known_whole, over_gives}
 use Rattle.aegis_storage.proofs.recovery.redo.Goals as goal

@@ -1,10 +1,8 @@
 use Rattle.std.proofs.Common.{◌≡◌, ◌∙◌, ap, sym}
 use Rattle.aegis_base.specs.Variant.{Variant}
-use Rattle.aegis_storage.specs.Disk.{after_writes}
-use Rattle.aegis_storage.specs.Pending.{writes_of}
-use Rattle.aegis_pages.specs.Commits.{journal_key}
+use Rattle.aegis_storage.specs.Disk.{after_writes, writes_of}
+use Rattle.aegis_pages.specs.Commits.{journal_key, RecoversUnder}
 use Rattle.aegis_pages.specs.OpenFile.{HasContents, IsCommitted}
-use Rattle.aegis_pages.specs.Recovery.{RecoversUnder}
 use Rattle.aegis_pages.proofs.RecoveryFacts.{Commits, commit_has, commit_recovers, commit_sealed_at, committed_recovers}
 use Rattle.aegis_pages.proofs.pages.Pages.commit.Goals as goal
 
@@ -78,7 +76,7 @@ returns-in-Ok-committed-clause-certain g c =
     rw c.deref.ensures.value c.in_ok-writes.ensures.sealed in
     rw (← c.self.view_is) (λ before now has contents. record {
       bytes = after_writes (writes_of c.deref.result.now) has.bytes;
-      rests = (c.in-Ok-committed.ensures.at_rest has.bytes has.rests).rests;
+      rests = c.in-Ok-committed.ensures.at_rest has.bytes has.rests;
       is = commit_sealed_at inside.layout inside.counter inside.stored inside.len c.in_ok-counter.counter inside.changes.entries inside.is_broken (writes_of c.deref.result.now) now has.bytes _ _ _
           (g.met.S.Storage.possible inside.storage) commits has.rests contents;
     })

@@ -1,8 +1,7 @@
 use Rattle.std.proofs.Common.{◌+◌, ◌∙◌, ◌⊎◌, Err, false, IfSome, List, ap, inl, inr, subst, sym, ℕ}
 use Rattle.std.proofs.lemmas.Result.{err_from_is_err_and}
-use Rattle.aegis_pages.specs.Layouts.{Layout}
-use Rattle.aegis_pages.specs.OpenFile.{HasIn, HasContents, OpensAtOne}
-use Rattle.aegis_pages.specs.Reading.{layout_of}
+use Rattle.aegis_pages.specs.Layouts.{Layout, layout_of}
+use Rattle.aegis_pages.specs.OpenFile.{HasContents, OpensAtOne, Has, IsKnown}
 use Rattle.aegis_pages.specs.SealedPages.{IsFileOf}
 use Rattle.aegis_pages.proofs.KnownFacts.{only_error}
 use Rattle.aegis_pages.proofs.RecoveryFacts.{committed_batch, opens_at_one, opens_held}
@@ -22,7 +21,7 @@ unfolding HasContents
 returns-clause-contents g c empty =
     let header = c.in_ok-header.header in
     subst (λ (l : Layout). IfSome (g.S.Storage.bytes c.args.storage) (λ file. (contents : List ℕ) → IsFileOf g.L.LaneState.VARIANT c.args.key.now contents file
-    → HasIn l c.in_ok-header.header.counter c.in_ok-header.header.len c.in_ok-header.header.len c.new.result.entries false contents (g.S.Storage.bytes c.recover_file.new.storage))) (sym c.new-layout.ensures)
+    → IsKnown (Has l c.in_ok-header.header.counter c.in_ok-header.header.len c.in_ok-header.header.len c.new.result.entries false contents) (g.S.Storage.bytes c.recover_file.new.storage))) (sym c.new-layout.ensures)
     (opens_held (layout_of g.L.LaneState.VARIANT c.args.key.now header) header.counter header.len c.new.result.entries _ _ g.met.L.LaneState.one_two_or_four c.new.ensures.none
     c.in_ok-header.ensures.header.is (c.in_ok-header.ensures.kept empty))
 

@@ -2,7 +2,7 @@ use Rattle.std.proofs.Common.{◌≡◌, ◌+◌, ◌<◌, ◌≤◌, ◌∙◌,
 use Rattle.std.proofs.lemmas.List.{get_or_append_left, length-append, length-drop, length-take, take_all, take_at}
 use Rattle.aegis_storage.specs.Bytes.{overwritten, part_at}
 use Rattle.aegis_pages.specs.Changed.{contents_at}
-use Rattle.aegis_pages.specs.OpenFile.{HasIn, HasContents}
+use Rattle.aegis_pages.specs.OpenFile.{HasContents, Has, IsKnown}
 use Rattle.aegis_pages.specs.SealedPages.{IsByte}
 use Rattle.aegis_pages.proofs.KnownFacts.{known_all, known_map, read_within}
 use Rattle.aegis_pages.proofs.OpenFileFacts.{has_len, has_use, put_back, read_so, written_none, written_read}
@@ -36,7 +36,7 @@ invariant_of-self-2 g c =
     let long = put_back c.read_range-read.new.page c.self.inside.page.bytes.items c.self.inside.page.bytes.len (c.read_range-read.auto.page ∙ ap length c.deref_mut.ensures.value) c.self.inside.page.bytes.ok.0 in
     (long ∙ c.self.invariant.0, c.self.invariant.1, c.self.invariant.2, c.self.invariant.3, c.self.invariant.4)
 
-reads : (g : Over) (c : goal.In_default g) (contents : List ℕ) → HasIn c.self.inside.layout c.self.inside.counter c.self.inside.stored c.self.inside.len c.self.inside.changes.entries c.self.inside.is_broken contents (g.S.Storage.bytes c.self.inside.storage)
+reads : (g : Over) (c : goal.In_default g) (contents : List ℕ) → IsKnown (Has c.self.inside.layout c.self.inside.counter c.self.inside.stored c.self.inside.len c.self.inside.changes.entries c.self.inside.is_broken contents) (g.S.Storage.bytes c.self.inside.storage)
     → take c.min-count.result (c.read_range-read.new.out ++ drop c.min-count.result c.args.out.now) ≡ part_at contents c.args.at c.min-count.result
 reads g c contents stands =
     let count = c.min-count.result in

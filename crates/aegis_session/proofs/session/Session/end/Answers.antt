@@ -2,7 +2,7 @@ use Rattle.std.proofs.Common.{◌≡◌, ◌<◌, [], arith, length}
 use Rattle.std.proofs.KnownBytes.{Appends-nil}
 use Rattle.std.proofs.lemmas.Bool.Decides.{nat_tests}
 use Rattle.std.proofs.lemmas.Result.{on_ok_weaker, on_err_weaker}
-use Rattle.aegis_session.proofs.LinesFacts.{no_last_line, last_line}
+use Rattle.aegis_session.proofs.Reading.{no_last_line, last_line}
 use Rattle.aegis_session.proofs.OutputFacts.{no_answers}
 use Rattle.aegis_session.proofs.session.Session.end.Goals as goal
 

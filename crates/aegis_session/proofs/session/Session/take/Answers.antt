@@ -1,6 +1,6 @@
 use Rattle.std.proofs.KnownBytes.{Appends-nil}
 use Rattle.std.proofs.lemmas.Result.{err_from_is_err_and}
-use Rattle.aegis_session.proofs.LinesFacts.{next_byte}
+use Rattle.aegis_session.proofs.Reading.{next_byte}
 use Rattle.aegis_session.proofs.OutputFacts.{more_answers, more_beginning, no_answers}
 use Rattle.aegis_session.proofs.session.Session.take.Goals as goal
 
