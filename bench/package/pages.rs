@@ -54,20 +54,20 @@ impl Target for File {
     }
 }
 
-/// Pages that are sealed and refused in place.
+/// Pages that are sealed and refused in place, with associated data as long as that of a file.
 struct InMemory;
 
 impl Target for InMemory {
     fn write(&mut self, _: u64, piece: &mut [u8]) -> Result<()> {
         for page in piece.chunks_mut(PAGE_BYTES) {
-            let _ = Cipher::<32>::new(&KEY, &KEY).encrypt_in_place(page, &[9; 24]);
+            let _ = Cipher::<32>::new(&KEY, &KEY).encrypt_in_place(page, &[9; 41]);
         }
         Ok(())
     }
 
     fn read(&mut self, _: u64, piece: &mut [u8]) -> Result<()> {
         for page in piece.chunks_mut(PAGE_BYTES) {
-            let _ = Cipher::<32>::new(&KEY, &KEY).decrypt_in_place(page, &[0; 32], &[9; 24]);
+            let _ = Cipher::<32>::new(&KEY, &KEY).decrypt_in_place(page, &[0; 32], &[9; 41]);
         }
         Ok(())
     }

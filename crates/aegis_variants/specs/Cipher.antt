@@ -44,10 +44,10 @@ abbrev pub variant_of : AnyCipher → AnyVariant
 variant_of cipher = (parts_of cipher).0
 
 abbrev pub key_of : AnyCipher → List ℕ
-key_of cipher = (parts_of cipher).1.0
+key_of cipher = (parts_of cipher).1
 
 abbrev pub nonce_of : AnyCipher → List ℕ
-nonce_of cipher = (parts_of cipher).1.1
+nonce_of cipher = (parts_of cipher).2
 
 -- the result has this key and nonce if both have n bytes, and otherwise it is `None`
 abbrev pub IsKeys : (n : ℕ) → List ℕ → List ℕ → Option (Keys n) → Type 0

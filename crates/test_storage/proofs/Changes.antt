@@ -3,7 +3,7 @@ use Rattle.std.proofs.Common.{◌≡◌, ◌+◌, ◌<◌, ℕ, List, [], ◌∷
 use Rattle.std.proofs.lemmas.List.{map-append, take_more}
 use Rattle.aegis_storage.specs.Disk.{AreParts, Change, Crashed, Disk, IsWithin, after, applied, changed}
 use Rattle.aegis_storage.proofs.Disks.{none_made, parts_more}
-use Rattle.test_storage.specs.declared.disk.PendingChange.{PendingChange}
+use Rattle.test_storage.specs.declared.pending.PendingChange.{PendingChange}
 use Rattle.test_storage.specs.Pending.{change_of, changes_of}
 
 applied_both : (first second : List Change) (xs : List ℕ) → applied (first ++ second) xs ≡ applied second (applied first xs)

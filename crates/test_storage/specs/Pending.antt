@@ -3,8 +3,8 @@ use Rattle.std.specs.Prelude.{ℕ, List, [], ◌∷◌, map}
 use Rattle.std.proofs.Common.{arith, inl, inr, refl}
 use Rattle.aegis_storage.specs.Disk.{AreParts, Change, Crashed, Disk, applied}
 use Rattle.aegis_storage.specs.Disk as disk
-use Rattle.test_storage.specs.declared.disk.PendingChange.{PendingChange}
-use Rattle.test_storage.specs.declared.disk.PendingChange.TheVariants.{Size, Write}
+use Rattle.test_storage.specs.declared.pending.PendingChange.{PendingChange}
+use Rattle.test_storage.specs.declared.pending.PendingChange.TheVariants.{Size, Write}
 use Rattle.test_storage.specs.declared.disk.TestDisk.{TestDisk}
 
 abbrev pub change_of : PendingChange → Change

@@ -1,29 +1,15 @@
 //! A disk that keeps what was written apart until it is synced, and whose calls fail from some call on.
 
-ghost use Rattle.std.specs.Prelude.{◌≡◌, ◌≤◌, ◌∷◌, [], IfOk, OnOk, Some};
+ghost use Rattle.std.specs.Prelude.{◌≡◌, ◌∷◌, [], IfOk, OnOk, Some};
 ghost use Rattle.aegis_storage.specs.Disk.{applied};
-ghost use Rattle.aegis_storage.specs.declared.store.TheConstants.{MAX_STORAGE_BYTES};
 ghost use Rattle.test_storage.specs.Pending.{all_there, bytes_of, changes_of, disk_of};
 
+use crate::pending::{NewSize, PendingChange};
 use aegis_storage::{PendingWrite, Storage};
 use std::alloc::Global;
 use std::cell::Cell;
 use std::io;
 use std::io::ErrorKind;
-
-/// A size that a storage may be set to.
-#[derive(Drop)]
-pub struct NewSize {
-    pub size: u64,
-    ghost within: { size ≤ MAX_STORAGE_BYTES },
-}
-
-/// A change that is not synced yet.
-#[derive(Drop)]
-pub enum PendingChange {
-    Write(PendingWrite<Global>),
-    Size(NewSize),
-}
 
 /// A disk: the synced bytes, and the changes since, the first of them first.
 #[derive(Drop)]

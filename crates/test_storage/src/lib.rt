@@ -2,6 +2,7 @@
 #![tactic(auto)]
 
 pub mod disk;
+pub mod pending;
 pub mod tears;
 #[cfg(test)]
 mod tests;

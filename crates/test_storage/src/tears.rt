@@ -1,6 +1,7 @@
 //! What a crash leaves of a disk of the tests.
 
-use crate::disk::{PendingChange, TestDisk, change};
+use crate::disk::{TestDisk, change};
+use crate::pending::PendingChange;
 use aegis_storage::{PendingWrite, Storage};
 use std::alloc::Global;
 use std::io;
