@@ -1,7 +1,6 @@
 //! The check that comes before the measurement: the contenders agree with one another.
 
 use crate::contender::{Calls, Variant};
-use crate::sample::sample;
 
 /// Lengths at which a rate block of some variant ends, and those beside them.
 const ODD_SIZES: [usize; 14] = [0, 1, 15, 16, 17, 31, 32, 33, 63, 65, 127, 128, 129, 300];
@@ -83,4 +82,16 @@ pub fn check(variants: &[Variant], sizes: &[usize]) {
             check_outcomes(variant, *size);
         }
     }
+}
+
+/// `length` bytes with no pattern, the same at each run (xorshift).
+pub fn sample(seed: u64, length: usize) -> Vec<u8> {
+    let mut state = seed.wrapping_mul(0x9e37_79b9_7f4a_7c15);
+    let mut next = || {
+        state ^= state << 13;
+        state ^= state >> 7;
+        state ^= state << 17;
+        (state >> 32) as u8
+    };
+    (0..length).map(|_place| next()).collect()
 }

@@ -13,7 +13,6 @@ mod library;
 mod measure;
 mod picture;
 mod report;
-mod sample;
 
 use std::path::Path;
 

@@ -1,7 +1,7 @@
 //! The measurement: the contenders take turns, over and over, and the best turn of each counts.
 
 use crate::contender::{Calls, Variant};
-use crate::sample::sample;
+use crate::agreement::sample;
 use std::hint::black_box;
 use std::time::{Duration, Instant};
 

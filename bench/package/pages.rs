@@ -10,7 +10,7 @@ use std::time::{Duration, Instant};
 
 const KEY: [u8; 32] = [7; 32];
 const PAGE_BYTES: usize = 4032;
-const TURNS: usize = 7;
+const TURNS: usize = 41;
 
 /// The order in which pieces are written and read, and their bytes.
 const ORDERS: [(&str, usize, bool); 2] = [
@@ -108,30 +108,50 @@ fn megabytes_a_second(bytes: u64, time: Duration) -> u64 {
     (bytes as f64 / 1e6 / time.as_secs_f64()) as u64
 }
 
-/// Writes and reads the text in some turns, and prints the best speeds.
+/// Writes and reads the text with each target in turns. Prints the best speeds, and the median of the turns' ratios to the last
+/// target.
 fn measure(
-    name: &str,
+    targets: &mut [(&str, Box<dyn Target>)],
     sizes: &Sizes,
-    order: &(&str, usize, bool),
-    mut target: impl Target,
+    &(words, piece_bytes, is_random): &(&str, usize, bool),
 ) -> Result<()> {
-    let &(words, piece_bytes, is_random) = order;
     let text_bytes = sizes.pages * PAGE_BYTES as u64;
     let places = || places(text_bytes, piece_bytes as u64, is_random);
     let mut piece = vec![0x5a; piece_bytes];
-    let (mut writing, mut reading) = (Duration::MAX, Duration::MAX);
+    let mut times = vec![[Vec::new(), Vec::new()]; targets.len()];
     for _ in 0..TURNS {
-        writing = writing.min(timed(|| {
-            places().try_for_each(|at| target.write(at, &mut piece))?;
-            target.finish()
-        })?);
-        reading = reading.min(timed(|| {
-            places().try_for_each(|at| target.read(at, &mut piece))
-        })?);
+        for ((_, target), [writing, reading]) in targets.iter_mut().zip(&mut times) {
+            writing.push(timed(|| {
+                places().try_for_each(|at| target.write(at, &mut piece))?;
+                target.finish()
+            })?);
+            reading.push(timed(|| {
+                places().try_for_each(|at| target.read(at, &mut piece))
+            })?);
+        }
     }
-    let [writing, reading] = [writing, reading].map(|time| megabytes_a_second(text_bytes, time));
-    println!("| {name} | {words} | {writing} | {reading} |");
+    let [writing_base, reading_base] = &times[targets.len() - 1];
+    for ((name, _), [writing, reading]) in targets.iter().zip(&times) {
+        let [writing, reading] = [(writing, writing_base), (reading, reading_base)]
+            .map(|(times, base)| columns(text_bytes, times, base));
+        println!("| {name} | {words} | {writing} | {reading} |");
+    }
     Ok(())
+}
+
+/// Returns the best speed of some turns, and the median of their ratios to other turns.
+fn columns(text_bytes: u64, times: &[Duration], base: &[Duration]) -> String {
+    let best = times
+        .iter()
+        .min()
+        .map_or(0, |time| megabytes_a_second(text_bytes, *time));
+    let mut ratios: Vec<_> = base
+        .iter()
+        .zip(times)
+        .map(|(base, time)| base.as_secs_f64() / time.as_secs_f64())
+        .collect();
+    ratios.sort_by(f64::total_cmp);
+    format!("{best} | {:.2}", ratios[ratios.len() / 2])
 }
 
 /// A file with no text, in place of one that is there.
@@ -154,7 +174,7 @@ fn measure_commitment(path: &str, sizes: &Sizes) -> Result<()> {
     pages.verify(&commitment)?;
     let reading = megabytes_a_second(sizes.committed, time);
     println!(
-        "| the commitment | of {} MiB | | {reading} |",
+        "| the commitment | of {} MiB | | | {reading} | |",
         sizes.committed >> 20
     );
     Ok(())
@@ -172,19 +192,29 @@ fn main() -> Result<()> {
         }
     } else {
         Sizes {
-            pages: 1 << 14,
+            pages: 1 << 13,
             committed: 1 << 30,
         }
     };
-    println!("| What | Order | Writing | Reading |\n|---|---|---:|---:|");
+    println!(
+        "| What | Order | Writing | Of memory | Reading | Of memory |\n|---|---|---:|---:|---:|---:|"
+    );
+    let paths = ["no-journal", "plain"].map(|name| format!("{path}-{name}"));
     for order in &ORDERS {
-        measure("`raf`", &sizes, order, new().create_file(path, &KEY)?)?;
-        let pages = new().journal(NoJournal);
-        let pages = pages.create(FileIo::create(path)?, &KEY)?;
-        measure("`raf` with no journal", &sizes, order, pages)?;
-        let file = File::options().read(true).write(true).open(path)?;
-        measure("a plain file", &sizes, order, file)?;
-        measure("AEGIS-256 in memory", &sizes, order, InMemory)?;
+        let pages = new().create_file(path, &KEY)?;
+        let without = new().journal(NoJournal);
+        let without = without.create(FileIo::create(&paths[0])?, &KEY)?;
+        let mut plain = File::options();
+        plain.read(true).write(true).create(true).truncate(true);
+        let mut targets: [(&str, Box<dyn Target>); 4] = [
+            ("`raf`", Box::new(pages)),
+            ("`raf` with no journal", Box::new(without)),
+            ("a plain file", Box::new(plain.open(&paths[1])?)),
+            ("AEGIS-256 in memory", Box::new(InMemory)),
+        ];
+        measure(&mut targets, &sizes, order)?;
+        drop(targets);
+        paths.iter().try_for_each(fs::remove_file)?;
     }
     measure_commitment(path, &sizes)?;
     Ok(fs::remove_file(path)?)

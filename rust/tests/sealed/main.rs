@@ -2,6 +2,7 @@
 //! readers and writers that fail.
 
 mod damage;
+mod random;
 mod records;
 mod seeks;
 mod support;

@@ -1,8 +1,7 @@
 //! Reading at any place.
 
-use crate::support::{
-    Failing, PIECE_BYTES, Random, WHOLE_BYTES, fault_of, key, sealed, sealed_in_pieces,
-};
+use crate::random::Random;
+use crate::support::{Failing, PIECE_BYTES, WHOLE_BYTES, fault_of, key, sealed, sealed_in_pieces};
 use hunkravy::files::SealedReader;
 use hunkravy::records::Error;
 use std::io::{BufRead, Cursor, ErrorKind, Read, Result, Seek, SeekFrom};

@@ -1,7 +1,8 @@
 //! Sealed files that are written.
 
+use crate::random::Random;
 use crate::support::{
-    Failing, PIECE_BYTES, Random, Slow, WHOLE_BYTES, fault_of, key, sealed, sealed_in_pieces,
+    Failing, PIECE_BYTES, Slow, WHOLE_BYTES, fault_of, key, sealed, sealed_in_pieces,
 };
 use hunkravy::files::{SealedReader, SealedWriter};
 use hunkravy::records::{Error, MAX_MESSAGE_BYTES};
