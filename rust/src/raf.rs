@@ -70,10 +70,9 @@ pub use rng::OsRng;
 pub use rng::{DefaultRng, RafRng};
 
 use crate::wipe::wipe;
-use alloc::collections::BTreeMap;
 use alloc::vec;
 use alloc::vec::Vec;
-use changes::{ChangedPage, Changes, SealedChanges};
+use changes::{Changes, SealedChanges};
 use core::fmt;
 use core::iter::once;
 use core::ops::Range;
@@ -94,8 +93,7 @@ pub const MAX_SIZE: u64 = 1 << 60;
 /// Changes are kept in memory until a commit: [`commit`](Raf::commit), [`sync`](Raf::sync), dropping, and any
 /// [`write`](Raf::write) or extending [`truncate`](Raf::truncate) that leaves them past the [limit](RafBuilder::buffer_limit).
 ///
-/// The pages that were read last are kept in memory: as many as 64 KiB of contents may lie in. So is the memory of pages that
-/// were written, up to 16 MiB, for the next changes.
+/// The pages that were read last are kept in memory, up to 64 KiB of them.
 ///
 /// **Dropping ignores the error of its commit**, so call `commit` first. After a change or a commit that has failed or panicked,
 /// dropping does not commit, until a `commit` succeeds or [`discard`](Raf::discard) is called. Dropping does not commit while its
@@ -229,14 +227,13 @@ impl<A: Algorithm, I: RafIo, R: RafRng, J: RafIo> Raf<A, I, R, J> {
         }
         let chunk_size = u64::from(self.layout.chunk_size);
         let pages = offset.min(self.size) / chunk_size..end.div_ceil(chunk_size);
-        self.changes
-            .check_room(pages.end - pages.start, chunk_size)?;
-        let mut changed = BTreeMap::new();
+        Changes::check_room(pages.end - pages.start, chunk_size)?;
+        let mut changes = Changes::default();
         for number in pages {
-            changed.insert(number, self.changed_page(number, data, offset)?);
+            self.change_page(number, data, offset)?;
+            changes.set(number, &self.pages[..self.layout.page_bytes()])?;
         }
-        self.shown = 0..0;
-        self.changes.append(changed);
+        self.changes.append(changes);
         self.size = self.size.max(end);
         Ok(())
     }
@@ -391,30 +388,28 @@ impl<A: Algorithm, I: RafIo, R: RafRng, J: RafIo> Raf<A, I, R, J> {
         Ok(count)
     }
 
-    /// Returns a page as it is after `data` was written over the contents from `offset` on. The page is read only if some of its
-    /// bytes are kept.
-    fn changed_page(&mut self, number: u64, data: &[u8], offset: u64) -> Result<ChangedPage> {
+    /// Puts the contents of a page into the first place as it is after `data` was written over the contents from `offset` on. The page is
+    /// read only if some of its bytes are kept.
+    fn change_page(&mut self, number: u64, data: &[u8], offset: u64) -> Result<()> {
+        self.shown = 0..0;
         let chunk_size = u64::from(self.layout.chunk_size);
         let first = number * chunk_size;
-        let in_page = |place: u64| place.saturating_sub(first).min(chunk_size) as usize;
-        let (from, to) = (in_page(offset), in_page(offset + data.len() as u64));
-        let mut live = in_page(self.size);
-        if from == 0 && live <= to {
+        let end = offset + data.len() as u64;
+        let mut live = self.size.saturating_sub(first).min(chunk_size);
+        if offset <= first && first + live <= end {
             live = 0;
         }
-        let page_bytes = self.layout.page_bytes();
-        let mut page = self.changes.new_page(page_bytes)?;
         if live > 0 {
-            let shown = self.show_pages(number, 1)?;
-            let all = &self.pages[shown.start * page_bytes..];
-            page.0.copy_from_slice(&all[..page_bytes]);
+            self.read_pages(number, 1)?;
         }
-        let contents = self.layout.contents(&mut page.0);
-        contents[live.min(from)..from].fill(0);
-        let skipped = first.saturating_sub(offset) as usize;
-        contents[from..to].copy_from_slice(&data[skipped..][..to - from]);
-        contents[live.max(to)..].fill(0);
-        Ok(page)
+        let contents = self.layout.contents(&mut self.pages);
+        contents[live as usize..].fill(0);
+        let (from, to) = (offset.max(first), end.min(first + chunk_size));
+        if from < to {
+            let part = &data[(from - offset) as usize..(to - offset) as usize];
+            contents[(from - first) as usize..(to - first) as usize].copy_from_slice(part);
+        }
+        Ok(())
     }
 
     /// Returns nonces that are generated in one call.

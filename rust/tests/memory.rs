@@ -27,7 +27,7 @@ fn is_of_text(layout: Layout) -> bool {
 }
 const LIMIT: usize = 1 << 20;
 /// What is read in one call, in whole pages, and what a commit gathers for one.
-const READ_BYTES: usize = (64_usize * 1024).div_ceil(CHUNK_BYTES) * PAGE_BYTES + PAGE_BYTES;
+const READ_BYTES: usize = 64 * 1024 / PAGE_BYTES * PAGE_BYTES;
 const GATHERED: usize = 256 * 1024;
 /// A text is of this byte, in which a freed page is recognized.
 const MARK: u8 = 0xc7;
@@ -222,6 +222,6 @@ fn memory_of_files_is_limited_and_wiped() {
     assert!(read > PAGE_BYTES && read < READ_BYTES + 20_000, "{read}");
     fs::remove_file(&path).unwrap();
     of_a_sealed_file(&path);
-    assert!(FREED.load(SeqCst) > 1000, "{FREED:?}");
+    assert!(FREED.load(SeqCst) > 10_000, "{FREED:?}");
     assert_eq!(UNWIPED.load(SeqCst), 0);
 }

@@ -22,80 +22,67 @@ fn with_room(bytes: usize) -> io::Result<Vec<u8>> {
     Ok(vector)
 }
 
-/// The most bytes of written pages whose memory is kept for the next changes: new memory costs more than to encrypt it.
-const KEPT_BYTES: usize = 16 * 1024 * 1024;
-
-/// A changed page, with room for its nonce and its tag. It is overwritten when it is dropped.
-pub type ChangedPage = Wiped<Box<[u8]>>;
-
-/// Changed pages by their numbers.
+/// Changed pages by their numbers, each with room for its nonce and its tag. They are overwritten when they are dropped.
 #[derive(Default)]
-pub struct Changes {
-    pages: BTreeMap<u64, ChangedPage>,
-    /// Memory of pages that were written. The bytes are encrypted.
-    spare: Vec<Box<[u8]>>,
-}
+pub struct Changes(BTreeMap<u64, Wiped<Box<[u8]>>>);
 
 impl Changes {
     /// Returns whether no page was changed.
     pub fn is_empty(&self) -> bool {
-        self.pages.is_empty()
+        self.0.is_empty()
     }
 
     /// Returns how many pages were changed.
     pub fn len(&self) -> usize {
-        self.pages.len()
+        self.0.len()
     }
 
     /// Returns a page that was changed.
     pub fn get(&self, number: u64) -> Option<&[u8]> {
-        self.pages.get(&number).map(|page| &*page.0)
+        self.0.get(&number).map(|page| &*page.0)
     }
 
     /// Returns the number of the first changed page from this number on, or the greatest number if there is none.
     pub fn first_from(&self, number: u64) -> u64 {
-        let next = self.pages.range(number..).next();
+        let next = self.0.range(number..).next();
         next.map_or(u64::MAX, |(number, _)| *number)
     }
 
-    /// Returns an error if there is no memory for this number of new pages of contents of this length.
-    pub fn check_room(&self, pages: u64, contents_bytes: u64) -> io::Result<()> {
-        let pages = pages.saturating_sub(self.spare.len() as u64);
+    /// Returns an error if there is no memory for this number of pages of contents of this length.
+    pub fn check_room(pages: u64, contents_bytes: u64) -> io::Result<()> {
         let bytes = pages.saturating_mul(contents_bytes + ADDED_BYTES);
         let bytes = usize::try_from(bytes).map_err(|_| ErrorKind::OutOfMemory)?;
         black_box(with_room(bytes)?);
         Ok(())
     }
 
-    /// Returns a page of this many bytes, which are any bytes, or an error if memory runs out.
-    pub fn new_page(&mut self, bytes: usize) -> io::Result<ChangedPage> {
-        if let Some(page) = self.spare.pop() {
-            return Ok(Wiped(page));
-        }
-        let mut page = with_room(bytes)?;
-        page.resize(bytes, 0);
-        Ok(Wiped(page.into_boxed_slice()))
+    /// Keeps a copy of a page. Returns an error if memory runs out.
+    pub fn set(&mut self, number: u64, page: &[u8]) -> io::Result<()> {
+        let mut copy = with_room(page.len())?;
+        copy.extend_from_slice(page);
+        self.0.insert(number, Wiped(copy.into_boxed_slice()));
+        Ok(())
     }
 
-    /// Takes over changed pages, in place of those of the same numbers.
-    pub fn append(&mut self, pages: BTreeMap<u64, ChangedPage>) {
+    /// Takes over other changes, in place of those of the same pages.
+    pub fn append(&mut self, other: Changes) {
         // `BTreeMap::append` would go through all pages.
-        self.pages.extend(pages);
+        self.0.extend(other.0);
     }
 
     /// Forgets the pages from this number on.
     pub fn cut(&mut self, number: u64) {
-        self.pages.split_off(&number);
+        self.0.split_off(&number);
     }
 
     /// Forgets all pages.
     pub fn clear(&mut self) {
-        self.pages.clear();
+        self.0.clear();
     }
 
     /// Returns the pages and their numbers, the lowest first.
     fn iter_mut(&mut self) -> impl Iterator<Item = (u64, &mut [u8])> {
-        self.pages
+        self.0
             .iter_mut()
             .map(|(number, page)| (*number, &mut *page.0))
     }
@@ -126,26 +113,18 @@ impl<'c, A: Algorithm> SealedChanges<'c, A> {
 
     /// Returns the writes of the pages, the lowest first.
     pub fn writes(&self) -> impl Iterator<Item = PendingWrite<'_>> {
-        self.changes
-            .pages
-            .iter()
-            .map(|(number, page)| PendingWrite {
-                place: self.layout.page_place(*number),
-                bytes: &page.0,
-            })
+        self.changes.0.iter().map(|(number, page)| PendingWrite {
+            place: self.layout.page_place(*number),
+            bytes: &page.0,
+        })
     }
 
-    /// Forgets the pages, which were written, and keeps their memory. They are not overwritten, since they are encrypted.
+    /// Forgets the pages, which were written. They are not overwritten, since they are encrypted.
     pub fn forget(self) {
-        let most = KEPT_BYTES / self.layout.page_bytes();
-        let Changes { pages, spare } = self.changes;
-        for page in pages.values_mut() {
-            let page = mem::take(&mut page.0);
-            if spare.len() < most && spare.try_reserve(1).is_ok() {
-                spare.push(page);
-            }
+        for page in self.changes.0.values_mut() {
+            drop(mem::take(&mut page.0));
         }
-        pages.clear();
+        self.changes.clear();
     }
 }
 

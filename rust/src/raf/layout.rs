@@ -5,7 +5,7 @@ use super::journal::JOURNAL_KEY_BYTES;
 use crate::exports::PageHeader;
 use crate::wipe::wipe;
 
-/// How many bytes of contents are read in one call, at most, and the pages that they lie in.
+/// How many bytes are read in one call, at most, unless a page has more.
 const READ_BYTES: usize = 64 * 1024;
 /// The length of a tag, at the end of a page.
 pub const TAG_BYTES: usize = 32;
@@ -49,7 +49,7 @@ impl<A: Algorithm> Layout<A> {
 
     /// How many pages are read in one call, at most.
     pub fn pages_in_a_read(&self) -> usize {
-        READ_BYTES.div_ceil(self.chunk_size as usize) + 1
+        (READ_BYTES / self.page_bytes()).max(1)
     }
 
     /// Where a page begins.

@@ -447,7 +447,7 @@ fn each_read_that_fails() {
             assert_eq!(*begun.0.bytes.borrow(), bytes);
         }
     }
-    assert!(failed > 4, "{failed}");
+    assert!(failed > 6, "{failed}");
 }
 
 /// This test runs itself once more as another user, who may not write to the folder, or not read it: the file is read, and a
