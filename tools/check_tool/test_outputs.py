@@ -33,6 +33,10 @@ REJECTED = {
     "dangling is a link to a missing file": ("seal --force -k key small dangling",),
     "is a folder or a block device": ("seal --force -k key small folder",),
     "socket cannot be written": ("seal --force -k key small socket",),
+    "is the pipe of standard input": (
+        "seal --force -k key small /dev/stdin <> pipe",
+        "open -k key sealed --force pipe <> pipe",
+    ),
     # Descriptors that the program opens itself.
     "became a device or a pipe": ("seal -k key /dev/null /dev/fd/3 3>&-", "seal -k key /dev/null /dev/stdout >&-"),
     "/dev/stdout": ("open --force -k key --from 5 sealed /dev/stdout >&-",),

@@ -74,7 +74,17 @@ fn name_or<'a>(place: Place<'a>, standard: &'a str) -> &'a str {
     }
 }
 
-/// Returns an error if the output is the input or one of the key files, under any of their names.
+// Whether an output is named that is the pipe of standard input: only this run could read what is written there.
+fn is_own_pipe(rt: &HostRuntime, output: Place<'_>) -> bool {
+    match (output, fs::metadata(rt, "/dev/stdin")) {
+        (Place::File(name), Ok(own)) => own.file_type().is_fifo()
+            && are_one(rt, name, "/dev/stdin"),
+        _ => false,
+    }
+}
+
+/// Returns an error if the output is the input, one of the key files or the pipe of standard input, under any of their
+/// names.
 pub fn refuse_inputs<'a>(
     rt: &HostRuntime,
     paths: Transfer<'a>,
@@ -99,6 +109,9 @@ pub fn refuse_inputs<'a>(
     ))?;
     if read == written {
         return Err(Failure::SameFile(output.output_name()));
+    }
+    if is_own_pipe(rt, output) {
+        return Err(Failure::OwnPipe(output.output_name()));
     }
     Ok(())
 }
