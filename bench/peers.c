@@ -16,7 +16,7 @@
 #include <time.h>
 
 /* The turns, a quarter of them at each of four places of the stack, which are 16 bytes apart. */
-#define TURNS 120
+#define TURNS 240
 #define PLACES 4
 #define TURN_BYTES (64 * 1024)
 #define LONGEST (1024 * 1024)
@@ -97,8 +97,9 @@ static double turn(const struct contender *contender, size_t length, size_t plac
 
 static void measure(struct contender *contenders, size_t count)
 {
-    for (size_t size = 0; size < SIZE_COUNT; size++) {
-        for (size_t i = 0; i < TURNS; i++) {
+    /* So each length has turns in all of the time that the measurement takes. */
+    for (size_t i = 0; i < TURNS; i++) {
+        for (size_t size = 0; size < SIZE_COUNT; size++) {
             for (size_t c = 0; c < count; c++) {
                 double speed = turn(&contenders[c], SIZES[size], i % PLACES);
                 if (speed > contenders[c].best[size]) {
