@@ -7,6 +7,7 @@
 //   NO_MEMORY=N     the Nth allocation fails, and "here" is written
 //   NAME=fails      each call of this name fails, as on a file system that does not have it
 //   BEFORE=NAME     each call of this name comes after the command RUNS
+//   BLIND=1         looks fail from then on
 
 #define _GNU_SOURCE
 #include <errno.h>
@@ -40,6 +41,8 @@ static int is_turn(const char *variable, int *count)
     return 1;
 }
 
+static int is_blind;
+
 // Returns whether a call has to fail, with this error unless the file system does not have it.
 static int fails(const char *call, int error)
 {
@@ -50,9 +53,10 @@ static int fails(const char *call, int error)
         unsetenv("LD_PRELOAD");
         if (system(getenv("RUNS")))
             abort();
+        is_blind = getenv("BLIND") != NULL;
     }
     errno = EINVAL;
-    if (getenv(call))
+    if (getenv(call) || (is_blind && strcmp(call, "statx") == 0))
         return 1;
     if (!is_turn("AT", &count))
         return 0;

@@ -10,7 +10,7 @@ from scene import Scene, parts, read, write
 # The least stack that a run may have in KB: 128, and what the environment and the command line take of it.
 STACK = 132 + sum(len(name) + len(value) + 2 for name, value in os.environ.items()) // 1024
 MOVED = "was renamed, removed or mounted over"
-STAYS = "was not removed: delete it, since it may hold plaintext or a key"
+STAYS = "was not removed: delete it if it is there, since it may hold plaintext or a key"
 EXISTS = "place/out exists: use --force to replace it"
 # What happens in the folder `place` before an output in it gets its name: the command, what is said of it and what is not,
 # and how many files are in the folder at the end.
@@ -80,6 +80,19 @@ class Calls(Scene):
             self.opens("out", read("small"))
             os.remove("out")
             self.nothing_left()
+
+    # The same, and no look at a file works after it. The output is complete, and its other name is found if it has one.
+    def test_names_that_cannot_be_seen_again(self):
+        for call, runs, words, count in (
+            ("link", "ln .out* out", "seal -k key small out", 1),
+            ("rename", "mv .out* out", "seal --force -k key small out", 0),
+        ):
+            settings = f"BLIND=1 BEFORE={call} RUNS='{runs}' {call}=fails"
+            self.with_calls(3, settings, words, ("cannot tell whether out was written, so check it", STAYS), MOVED)
+            self.opens("out", read("small"))
+            self.assertEqual(len(parts()), count)
+            for name in *parts(), "out":
+                os.remove(name)
 
     # As in a folder that was made read-only meanwhile.
     def test_names_that_cannot_be_given(self):

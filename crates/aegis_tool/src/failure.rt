@@ -46,6 +46,8 @@ pub enum Failure<'a> {
     Folder(Name<'a>),
     #[error("{0} cannot be written: {1}")]
     Output(Name<'a>, io::Error),
+    #[error("cannot tell whether {0} was written, so check it: {1}")]
+    Unseen(Name<'a>, io::Error),
     #[error("{0} is complete, but a power loss may undo it, since its folder cannot be synced: {1}")]
     Unsynced(Name<'a>, io::Error),
     #[error("{0} is complete, but .OUT.hunkravy-* beside it remains: delete that name")]

@@ -364,7 +364,7 @@ impl<'a> Part<'a> {
 
     fn say_it_stays(&self, rt: &HostRuntime) {
         let _ = eprintln!(rt;
-            "hunkravy: {} was not removed: delete it, since it may hold plaintext or a key",
+            "hunkravy: {} was not removed: delete it if it is there, since it may hold plaintext or a key",
             Name(self.name.as_str())
         );
     }
@@ -405,23 +405,21 @@ impl<'a> Part<'a> {
         }
     }
 
-    // Whether the file has the name of the output now. A network's file system may give a name and return an error.
-    fn is_placed(&self, rt: &HostRuntime) -> bool {
-        matches!(self.is_at(rt, self.target.as_str()), Ok(true))
-    }
-
-    // Gives the file the name of the output too, if no file has it. Returns whether it has two names then.
+    // Gives the file the name of the output too, if no file has it. Returns whether it has two names then. A network's
+    // file system may give a name and return an error.
     fn link(&self, rt: &HostRuntime) -> Result<bool, Failure<'a>> {
-        match fs::hard_link(rt, self.name.as_str(), self.target.as_str()) {
-            Err(error) if !self.is_placed(rt) => {
-                if error.kind() == ErrorKind::AlreadyExists {
-                    return Err(self.failed(error));
-                }
+        let Err(error) = fs::hard_link(rt, self.name.as_str(), self.target.as_str()) else {
+            return Ok(true);
+        };
+        match self.is_at(rt, self.target.as_str()) {
+            Ok(true) => Ok(true),
+            Ok(false) if error.kind() == ErrorKind::AlreadyExists => Err(self.failed(error)),
+            Ok(false) => {
                 self.rename_unless_there(rt)?;
                 self.say_renamed(rt, &error);
                 Ok(false)
             }
-            _ => Ok(true),
+            Err(_) => Err(Failure::Unseen(self.output, error)),
         }
     }
 
@@ -434,11 +432,15 @@ impl<'a> Part<'a> {
         }
     }
 
-    // Renames the file to the output, and replaces a file of that name.
+    // Renames the file to the output, and replaces a file of that name. It may have the name also after an error.
     fn rename(&self, rt: &HostRuntime) -> Result<(), Failure<'a>> {
-        match fs::rename(rt, self.name.as_str(), self.target.as_str()) {
-            Err(error) if !self.is_placed(rt) => Err(self.failed(error)),
-            _ => Ok(()),
+        let Err(error) = fs::rename(rt, self.name.as_str(), self.target.as_str()) else {
+            return Ok(());
+        };
+        match self.is_at(rt, self.target.as_str()) {
+            Ok(true) => Ok(()),
+            Ok(false) => Err(self.failed(error)),
+            Err(_) => Err(Failure::Unseen(self.output, error)),
         }
     }
 
