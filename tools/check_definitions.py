@@ -1,5 +1,5 @@
 """docs/ARCHITECTURE.md lists every file of definitions that a public contract reaches, and no other, each after those that
-it uses, with its number of lines."""
+it uses, with its number of lines. README.md has their sums."""
 
 import pathlib
 import re
@@ -64,8 +64,12 @@ def reached():
 
 def faults():
     """Yields what is wrong with the list."""
-    wanted, listed = reached(), set()
-    for crate, module, lines in ROW.findall(PAGE.read_text("utf-8")):
+    wanted, listed, page = reached(), set(), PAGE.read_text("utf-8")
+    for part, words in (page, "have {:,} lines"), (page.partition("**Chunks")[0], "in {:,} lines"):
+        words = words.format(sum(int(lines) for _, _, lines in ROW.findall(part)))
+        if words not in " ".join(pathlib.Path("README.md").read_text("utf-8").split()):
+            yield f"README.md lacks: {words}"
+    for crate, module, lines in ROW.findall(page):
         path = CRATES / crate / "specs" / f"{module}.antt"
         if path not in wanted:
             yield f"no public contract reaches {path}"

@@ -67,6 +67,8 @@ last_flag is_last = if is_last then 1 else 0
 abbrev pub IsRecordFault : Progress → List ℕ → RecordError → Type 0
 IsRecordFault p bytes e = IsFaultAt (sealing_in p) p.position bytes e
 
+-- ---- calls that open a record: `old` is the progress before the call, `new` the one after it, and `bytes` what the call is given
+
 -- The call opens the record of message m, with which the bytes begin, and `rest` follows it.
 pub record OpensNext (old new : Progress) (bytes : List ℕ) (is_last : Bool) (m rest : List ℕ) : Type 0 where
   -- the bytes begin with the record

@@ -6,7 +6,7 @@ use Rattle.aegis_aes.specs.Block.{xor}
 use Rattle.aegis_aes.specs.Lanes.{IsLaneCount}
 use Rattle.aegis_base.specs.Variant.{Variant}
 use Rattle.aegis_base.specs.Lane.{init}
-use Rattle.aegis_base.specs.Message.{block_count, keystream, xor_keystream}
+use Rattle.aegis_base.specs.Message.{keystream, xor_keystream}
 use Rattle.aegis_base.specs.Context.{Stands, held_by}
 use Rattle.aegis_base.proofs.Bijection.{bit_xor-twice}
 use Rattle.aegis_base.proofs.HeldFacts.{stands-begun}

@@ -1,6 +1,6 @@
 -- What a pass takes in, and its ciphertext, byte by byte and in pieces; and how a piece is cut into the part that fills
 -- the open block, whole rate blocks and a rest.
-use Rattle.std.proofs.Common.{◌≡◌, ◌∙◌, sym, ap, subst, refl, ℕ, zero, suc, ◌+◌, ◌-◌, ◌*◌, ◌/◌, ◌%◌, ◌<◌, ◌≤◌, ⊎_elim, List, [], ◌∷◌, ◌++◌, length, bit_xor, replicate, slice_index, arith}
+use Rattle.std.proofs.Common.{◌≡◌, ◌∙◌, sym, ap, refl, ℕ, zero, suc, ◌+◌, ◌-◌, ◌*◌, ◌/◌, ◌%◌, ◌<◌, ◌≤◌, List, [], ◌∷◌, ◌++◌, length, bit_xor, replicate, slice_index, arith}
 use Rattle.std.proofs.Math.Nat.{div-mul-le_self, zero-div}
 use Rattle.std.proofs.lemmas.Bool.{cases_lt}
 use Rattle.std.proofs.lemmas.List.{length-append, length-replicate, replicate-append-replicate}

@@ -2,7 +2,6 @@
 use Rattle.std.proofs.Common.{◌≡◌, ◌∙◌, sym, ap, ℕ, ◌+◌, ◌-◌, List, ◌++◌, drop, length, slice_range, take, append_assoc, arith}
 use Rattle.std.proofs.lemmas.List.{drop-drop, length-append, take-append-drop}
 use Rattle.aegis_base.specs.Variant.{Variant}
-use Rattle.aegis_base.specs.Message.{ciphertext}
 use Rattle.aegis_base.specs.Context.{Encrypts, Held, Takes}
 use Rattle.aegis_engine.specs.Pass.{absorbed, sealed}
 use Rattle.aegis_engine.specs.declared.pass.Pass.{Pass}

@@ -1,7 +1,7 @@
 -- The beginning of a checked destination is returned if the message is accepted. By hand, since no proof is generated
 -- for a function that lends a slice of a struct: the walk takes the struct apart, and each arm ends by one lemma of
 -- `Prefix` and one of `Results`. Assumes `Logic`.
-use mathlib.Core.Path.{◌≡◌, refl, sym, subst, ◌∙◌}
+use mathlib.Core.Path.{◌≡◌, refl, sym, subst}
 use mathlib.Core.Bool.{Bool, true, false, not}
 use Prim.Native.Nat.{ℕ, ◌≤◌, ◌<◌, ◌^◌, ◌*◌}
 use native.Mathlib.Omega.{arith}
