@@ -6,9 +6,11 @@ use hunkravy::{Cipher, Tag, Variant};
 use hunkravy::{aegis128l, aegis128x2, aegis128x4, aegis256, aegis256x2, aegis256x4};
 use std::time::{Duration, Instant};
 
-/// The lengths of messages in bytes, and the number of turns for each.
-const SIZES: [(usize, u32); 4] = [(1 << 10, 2000), (1 << 14, 400), (1 << 20, 20), (1 << 24, 3)];
+/// The lengths of messages in bytes, and the number of turns for each in a round.
+const SIZES: [(usize, u32); 4] = [(1 << 10, 200), (1 << 14, 40), (1 << 20, 4), (1 << 24, 1)];
 const CHECK_SIZES: [(usize, u32); 1] = [(20_000, 1)];
+/// Each row has turns in every round, so that noise does not fall on single rows.
+const ROUNDS: u32 = 10;
 const CHUNK_BYTES: usize = 16384;
 
 /// How a message is sealed, opened or xored. Each call reads the slice and leaves its answer in the vector, which has a copy
@@ -90,38 +92,74 @@ fn turn<V: Variant>(way: &Way<V>, message: &[u8], buffer: &mut Vec<u8>) -> Times
     [seal, open, xor]
 }
 
-/// Prints the shortest times of some turns in each way, in nanoseconds. The xor in chunks is the one in place.
-fn measure<V: Variant>(variant: &str, sizes: &[(usize, u32)]) {
-    for &(size, turns) in sizes {
-        let (message, mut buffer) = (vec![0x5a; size], vec![0; size]);
-        let [in_place, vector, chunks] = ways::<V>().map(|way| {
-            let turns = (0..turns).map(|_| turn(&way, &message, &mut buffer));
-            let best = turns.reduce(|best, times| [0, 1, 2].map(|i| best[i].min(times[i])));
-            best.unwrap_or_default()
-                .map(|time| time.as_nanos().to_string())
-        });
-        let times = [0, 1].map(|i| [&*in_place[i], &*vector[i], &*chunks[i]].join(" | "));
-        println!(
-            "| {variant} | {size} | {} | {} | {} |",
-            times.join(" | "),
-            in_place[2],
-            vector[2]
-        );
+fn all_ways<V: Variant>(message: &[u8], buffer: &mut Vec<u8>) -> [Times; 3] {
+    ways::<V>().map(|way| turn(&way, message, buffer))
+}
+
+/// A row of the table: the shortest times in each way.
+struct Row {
+    variant: &'static str,
+    size: usize,
+    turns: u32,
+    all_ways: fn(&[u8], &mut Vec<u8>) -> [Times; 3],
+    best: [Times; 3],
+}
+
+impl Row {
+    /// Takes the turns of a round.
+    fn measure(&mut self) {
+        let (message, mut buffer) = (vec![0x5a; self.size], vec![0; self.size]);
+        for _ in 0..self.turns {
+            let times = (self.all_ways)(&message, &mut buffer);
+            for (best, time) in self.best.iter_mut().flatten().zip(times.iter().flatten()) {
+                *best = *time.min(best);
+            }
+        }
     }
+
+    /// Prints the times in nanoseconds. The xor in chunks is the one in place.
+    fn print(&self) {
+        print!("| {} | {} |", self.variant, self.size);
+        for (operation, ways) in [3, 3, 2].into_iter().enumerate() {
+            for times in &self.best[..ways] {
+                print!(" {} |", times[operation].as_nanos());
+            }
+        }
+        println!();
+    }
+}
+
+fn rows<V: Variant>(variant: &'static str, sizes: &[(usize, u32)]) -> impl Iterator<Item = Row> {
+    sizes.iter().map(move |&(size, turns)| Row {
+        variant,
+        size,
+        turns,
+        all_ways: all_ways::<V>,
+        best: [[Duration::MAX; 3]; 3],
+    })
 }
 
 fn main() {
     let is_check = std::env::args().nth(1).as_deref() == Some("check");
-    let sizes: &[_] = if is_check { &CHECK_SIZES } else { &SIZES };
+    let (sizes, rounds): (&[_], _) = if is_check {
+        (&CHECK_SIZES, 1)
+    } else {
+        (&SIZES, ROUNDS)
+    };
+    let mut all: Vec<Row> = rows::<aegis128l::Algorithm>("aegis128l", sizes)
+        .chain(rows::<aegis128x2::Algorithm>("aegis128x2", sizes))
+        .chain(rows::<aegis128x4::Algorithm>("aegis128x4", sizes))
+        .chain(rows::<aegis256::Algorithm>("aegis256", sizes))
+        .chain(rows::<aegis256x2::Algorithm>("aegis256x2", sizes))
+        .chain(rows::<aegis256x4::Algorithm>("aegis256x4", sizes))
+        .collect();
+    for _ in 0..rounds {
+        all.iter_mut().for_each(Row::measure);
+    }
     println!(
         "| Variant | Bytes | Encrypt: in place | vector | chunks \
          | Decrypt: in place | vector | chunks | XOR: in place | vector |\n\
          |---|---:|---:|---:|---:|---:|---:|---:|---:|---:|"
     );
-    measure::<aegis128l::Algorithm>("aegis128l", sizes);
-    measure::<aegis128x2::Algorithm>("aegis128x2", sizes);
-    measure::<aegis128x4::Algorithm>("aegis128x4", sizes);
-    measure::<aegis256::Algorithm>("aegis256", sizes);
-    measure::<aegis256x2::Algorithm>("aegis256x2", sizes);
-    measure::<aegis256x4::Algorithm>("aegis256x4", sizes);
+    all.iter().for_each(Row::print);
 }
