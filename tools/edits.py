@@ -67,6 +67,9 @@ def fault(edit):
         text = texts.get(path) or (edit.crate / path).read_text("utf-8")
         if text.count(old) != 1:
             return f"{path} has {text.count(old)} times: {old}"
+        for crate, module in re.findall(r"Rattle\.(aegis\w*)\.specs\.([A-Z]\w*)", new):
+            if not (CRATES / crate / "specs" / f"{module}.antt").is_file():
+                return f"{crate} has no definitions {module}"
         texts[path] = text.replace(old, new)
     return None if texts else "it replaces nothing"
 

@@ -7,7 +7,7 @@
 //   NO_MEMORY=N     the Nth allocation fails, and "here" is written
 //   NAME=fails      each call of this name fails, as on a file system that does not have it
 //   BEFORE=NAME     each call of this name comes after the command RUNS
-//   BLIND=1         looks fail from then on
+//   BLIND=1         after RUNS each look at a file fails
 
 #define _GNU_SOURCE
 #include <errno.h>
