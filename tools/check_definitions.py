@@ -14,7 +14,7 @@ PUBLIC = {
     "record_sealer/in_place",
     "aegis_aes/src": "block block2 block4",
     "aegis_base/src": "chunks laws",
-    "aegis_c/src": "message page record state",
+    "aegis_c/src": "journal message page record state",
     "aegis_engine/src": "cipher encryptor decryptor mac",
     "aegis_files/src": "open range reading rekey seal",
     "aegis_lines/src": "answer",

@@ -100,7 +100,9 @@ enum hunkravy_code {
     /* The contents of a file have more than HUNKRAVY_PAGE_MAX_CONTENTS_BYTES, or a page would begin after that many. */
     HUNKRAVY_FILE_TOO_LONG = -13,
     /* The length is neither 0 nor that of the message that was decrypted. */
-    HUNKRAVY_WRONG_MESSAGE_LENGTH = -14
+    HUNKRAVY_WRONG_MESSAGE_LENGTH = -14,
+    /* A journal is that of another file, or of another state of this one. */
+    HUNKRAVY_WRONG_JOURNAL = -15
 };
 
 /* Returns an error message for a code, in English. */

@@ -1,9 +1,9 @@
 /*
  * Files that are written in place: their contents are encrypted page by page. These functions encrypt and decrypt a
- * page or a header. Your program reads and writes the file.
+ * page or a header, and make and read the journal of a commit. Your program reads and writes the file and the journal.
  *
- * A crash while you write MAY LOSE THE FILE, unless you write through a journal. `raf` of the Cargo package and the
- * Rattle crate `aegis_pages` have a journal. Use one of these for files that must survive a crash.
+ * A crash while you write MAY LOSE THE FILE, unless you write through a journal, as under "The journal" below. The
+ * example file.c does so, and so do `raf` of the Cargo package and the Rattle crate `aegis_pages`.
  *
  * The contents are split into pages of one size. Each page is encrypted separately, with any variant and a tag of 32
  * bytes. A page decrypts only under its number and the id of its file. An older page of the same number decrypts too.
@@ -13,9 +13,8 @@
  * counter, and the length of the contents. The pages begin at byte HUNKRAVY_PAGE_FIRST. All pages have the full
  * length, even the last: a nonce of hunkravy_key_bytes(variant) bytes, the ciphertext, and the tag.
  *
- * A crash may tear writes that were not synced, and a file with a torn header is lost. The example pages.c has no
- * journal. docs/PAGES.md defines the journal, and hunkravy_mac of hunkravy.h authenticates it. If a file has a journal
- * that is not empty, let `aegis_pages` or `raf` complete it before you open the file.
+ * A crash may tear writes that were not synced, and a file with a torn header is lost. If a file has a journal that is
+ * not empty, complete it before you open the file.
  *
  * To change bytes of a page: read the page, decrypt it, change its contents, encrypt it with a fresh nonce, and write
  * it. To change the length: write the new pages, and then the header with the next counter. After the end of the
@@ -101,6 +100,92 @@ HUNKRAVY_MUST_USE int hunkravy_page_header_seal(uint32_t variant, uint8_t *heade
  */
 HUNKRAVY_MUST_USE int hunkravy_page_header_open(uint32_t variant, const uint8_t *header_block, const uint8_t *k,
     size_t klen, uint32_t *page_size, uint8_t *id, uint64_t *counter, uint64_t *contentslen);
+
+/* ---- The journal
+ *
+ * After a crash all writes of a commit are there, or none, if you follow these steps. docs/PAGES.md has the model of a
+ * crash that this is proved for.
+ *
+ * To commit, with a journal that is empty, and a file and a journal that are synced:
+ *
+ * 1. Encrypt the changed pages and the next header. Read the header block of the file.
+ * 2. hunkravy_journal_init. Write the first HUNKRAVY_JOURNAL_BEGINNING_BYTES of `start` to the journal, and sync it.
+ * 3. Write the rest of `start`. Call hunkravy_journal_entry for each write, in this order: the header block of the file
+ *    as it is, at place 0; each changed page, at its position; the next header block, at place 0. After each write
+ *    `head` and then its bytes to the journal. At the end write the MAC of hunkravy_journal_final. Sync the journal.
+ * 4. Make the writes in the file, in the same order, and sync it.
+ * 5. Empty the journal, and sync it.
+ *
+ * To open a file, or after an error of a commit:
+ *
+ * 1. Read the journal, and the first HUNKRAVY_PAGE_HEADER_BLOCK_BYTES of the file.
+ * 2. hunkravy_journal_check. After an error leave both as they are.
+ * 3. Sync both. Make the writes that hunkravy_journal_next finds, in their order, and sync the file.
+ * 4. Empty the journal, and sync it. Then read the header of the file.
+ */
+
+#define HUNKRAVY_JOURNAL_NONCE_BYTES 16
+/* What a journal begins with: the bytes that name its file, and a nonce. The first of them are synced first. */
+#define HUNKRAVY_JOURNAL_START_BYTES 49
+#define HUNKRAVY_JOURNAL_BEGINNING_BYTES 33
+/* The position and the length of a write, in front of its bytes in a journal. */
+#define HUNKRAVY_JOURNAL_HEAD_BYTES 16
+/* The MAC, at the end of a journal. */
+#define HUNKRAVY_JOURNAL_MAC_BYTES 32
+
+/*
+ * Begins the journal of a commit at `st`, and writes the HUNKRAVY_JOURNAL_START_BYTES at `start`. `page_size` and `id`
+ * are those of the file, and `npub` is HUNKRAVY_JOURNAL_NONCE_BYTES that are fresh and random. The functions on
+ * messages and MACs return HUNKRAVY_WRONG_STATE for the state.
+ *
+ * Returns HUNKRAVY_OK, a code for a wrong variant or a wrong length of `k`, or HUNKRAVY_WRONG_PAGE_SIZE. After an error
+ * the state is zeroed, and nothing else is written.
+ */
+HUNKRAVY_MUST_USE int hunkravy_journal_init(uint32_t variant, hunkravy_state *st, uint32_t page_size,
+    const uint8_t *id, const uint8_t *npub, const uint8_t *k, size_t klen, uint8_t *start);
+
+/*
+ * Takes in the write of `byteslen` bytes at position `place` of the file. Writes the HUNKRAVY_JOURNAL_HEAD_BYTES at
+ * `head`, which come in front of the bytes in the journal.
+ *
+ * Returns HUNKRAVY_OK, HUNKRAVY_WRONG_STATE, or HUNKRAVY_FILE_TOO_LONG if the write would end past 2^63 - 1, or the
+ * journal past 2^60. After an error nothing is written.
+ */
+HUNKRAVY_MUST_USE int hunkravy_journal_entry(hunkravy_state *st, uint64_t place, const uint8_t *bytes, size_t byteslen,
+    uint8_t *head);
+
+/*
+ * Writes the HUNKRAVY_JOURNAL_MAC_BYTES at `mac`, with which the journal ends, and zeros the state.
+ *
+ * Returns HUNKRAVY_OK, or HUNKRAVY_WRONG_STATE, after which nothing is written.
+ */
+HUNKRAVY_MUST_USE int hunkravy_journal_final(hunkravy_state *st, uint8_t *mac);
+
+/*
+ * Decides what is to be made of the journal of a file. `file` is what the file begins with: at least
+ * HUNKRAVY_PAGE_HEADER_BLOCK_BYTES, or the whole file if it is shorter. `writeslen` becomes the length of the writes in
+ * the journal, which begin at `journal + HUNKRAVY_JOURNAL_START_BYTES` and are to be made again. If it is 0, none are.
+ *
+ * A whole journal under this key is accepted if its commit began or ended with the header of the file, or if the file
+ * has no header of this variant and key. A torn or empty journal is accepted if the file has a header, and the journal
+ * has at most HUNKRAVY_JOURNAL_BEGINNING_BYTES or begins as those of this file do.
+ *
+ * Returns HUNKRAVY_OK, or a code for a wrong variant or a wrong length of `k`. Returns HUNKRAVY_INVALID_TAG if the file
+ * has no header and the journal is not whole, and HUNKRAVY_WRONG_JOURNAL if the journal is that of another file or of
+ * another state of this one. After an error nothing is written.
+ */
+HUNKRAVY_MUST_USE int hunkravy_journal_check(uint32_t variant, const uint8_t *file, size_t filelen, const uint8_t *k,
+    size_t klen, const uint8_t *journal, size_t journallen, size_t *writeslen);
+
+/*
+ * Finds the first of the writes in the `writeslen` bytes at `writes`: its position in the file, and the length of its
+ * bytes. These begin at `writes + HUNKRAVY_JOURNAL_HEAD_BYTES`, and after them the next write begins.
+ *
+ * Returns HUNKRAVY_OK, or HUNKRAVY_WRONG_RECORD_LENGTH if there is no write. It finds each write that
+ * hunkravy_journal_check has accepted. After an error nothing is written.
+ */
+HUNKRAVY_MUST_USE int hunkravy_journal_next(const uint8_t *writes, size_t writeslen, uint64_t *place,
+    size_t *byteslen);
 
 #ifdef __cplusplus
 }

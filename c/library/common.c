@@ -41,6 +41,8 @@ const char *hunkravy_error_text(int code)
         return "the contents or the page number are too large";
     case HUNKRAVY_WRONG_MESSAGE_LENGTH:
         return "the length is neither 0 nor that of the decrypted message";
+    case HUNKRAVY_WRONG_JOURNAL:
+        return "the journal is of another file, or of another state of this one";
     default:
         return "unknown error code";
     }

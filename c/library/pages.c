@@ -48,3 +48,45 @@ int hunkravy_page_header_open(uint32_t variant, const uint8_t *header_block, con
     }
     return code;
 }
+
+/* ---- The journal */
+
+int hunkravy_journal_init(uint32_t variant, hunkravy_state *st, uint32_t page_size, const uint8_t *id,
+    const uint8_t *npub, const uint8_t *k, size_t klen, uint8_t *start)
+{
+    memset(st, 0, sizeof *st);
+    return hunkravy_proved_journal_init(variant, st->opaque, page_size, id, npub, IN(k, klen), start);
+}
+
+int hunkravy_journal_entry(hunkravy_state *st, uint64_t place, const uint8_t *bytes, size_t byteslen, uint8_t *head)
+{
+    return hunkravy_proved_journal_entry(st->opaque, place, IN(bytes, byteslen), head);
+}
+
+int hunkravy_journal_final(hunkravy_state *st, uint8_t *mac)
+{
+    return hunkravy_proved_journal_final(st->opaque, mac);
+}
+
+int hunkravy_journal_check(uint32_t variant, const uint8_t *file, size_t filelen, const uint8_t *k, size_t klen,
+    const uint8_t *journal, size_t journallen, size_t *writeslen)
+{
+    size_t found = 0;
+    int code = hunkravy_proved_journal_check(variant, IN(file, filelen), IN(k, klen), IN(journal, journallen), &found);
+    if (code == HUNKRAVY_OK) {
+        *writeslen = found;
+    }
+    return code;
+}
+
+int hunkravy_journal_next(const uint8_t *writes, size_t writeslen, uint64_t *place, size_t *byteslen)
+{
+    uint64_t found = 0;
+    size_t length = 0;
+    int code = hunkravy_proved_journal_next(IN(writes, writeslen), &found, &length);
+    if (code == HUNKRAVY_OK) {
+        *place = found;
+        *byteslen = length;
+    }
+    return code;
+}

@@ -89,6 +89,14 @@ int hunkravy_proved_page_header_seal(uint32_t variant, uint8_t *header_block, ui
 int hunkravy_proved_page_header_open(uint32_t variant, const uint8_t *header_block, const uint8_t *k, size_t klen,
     uint32_t *page_size, uint8_t *id, uint64_t *counter, uint64_t *contentslen);
 
+int hunkravy_proved_journal_init(uint32_t variant, uint64_t *st, uint32_t page_size, const uint8_t *id,
+    const uint8_t *npub, const uint8_t *k, size_t klen, uint8_t *start);
+int hunkravy_proved_journal_entry(uint64_t *st, uint64_t place, const uint8_t *bytes, size_t byteslen, uint8_t *head);
+int hunkravy_proved_journal_final(uint64_t *st, uint8_t *mac);
+int hunkravy_proved_journal_check(uint32_t variant, const uint8_t *file, size_t filelen, const uint8_t *k, size_t klen,
+    const uint8_t *journal, size_t journallen, size_t *writeslen);
+int hunkravy_proved_journal_next(const uint8_t *writes, size_t writeslen, uint64_t *place, size_t *byteslen);
+
 #pragma GCC visibility pop
 
 #endif

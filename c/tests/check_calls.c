@@ -299,7 +299,8 @@ static void check_texts(void)
         {HUNKRAVY_FILE_TOO_LONG, "the contents or the page number are too large"},
         {HUNKRAVY_WRONG_MESSAGE_LENGTH,
          "the length is neither 0 nor that of the decrypted message"},
-        {-15, "unknown error code"},
+        {HUNKRAVY_WRONG_JOURNAL, "the journal is of another file, or of another state of this one"},
+        {-16, "unknown error code"},
     };
 
     for (int i = 0; i < (int)COUNT(TEXTS); i++) {

@@ -40,6 +40,8 @@ pub enum Refusal {
     FileTooLong,
     /// The message that is to be erased has neither 0 bytes nor as many as were decrypted.
     WrongMessageLength,
+    /// The journal is that of another file, or of another state of this one.
+    WrongJournal,
 }
 
 /// The result of a function.
@@ -61,6 +63,7 @@ fn read(code: i32) -> Answer {
         -12 => Err(Refusal::WrongPageSize),
         -13 => Err(Refusal::FileTooLong),
         -14 => Err(Refusal::WrongMessageLength),
+        -15 => Err(Refusal::WrongJournal),
         other => unreachable!("the library does not return {other}"),
     }
 }
@@ -264,6 +267,40 @@ unsafe extern "C" {
         id: &mut [u8; 24],
         counter: &mut u64,
         contentslen: &mut u64,
+    ) -> i32;
+    fn hunkravy_journal_init(
+        variant: u32,
+        st: &mut State,
+        page_size: u32,
+        id: &[u8; 24],
+        npub: &[u8; JOURNAL_NONCE_BYTES],
+        k: In,
+        klen: usize,
+        start: &mut [u8; JOURNAL_START_BYTES],
+    ) -> i32;
+    fn hunkravy_journal_entry(
+        st: &mut State,
+        place: u64,
+        bytes: In,
+        byteslen: usize,
+        head: &mut [u8; JOURNAL_HEAD_BYTES],
+    ) -> i32;
+    fn hunkravy_journal_final(st: &mut State, mac: &mut [u8; JOURNAL_MAC_BYTES]) -> i32;
+    fn hunkravy_journal_check(
+        variant: u32,
+        file: In,
+        filelen: usize,
+        k: In,
+        klen: usize,
+        journal: In,
+        journallen: usize,
+        writeslen: &mut usize,
+    ) -> i32;
+    fn hunkravy_journal_next(
+        writes: In,
+        writeslen: usize,
+        place: &mut u64,
+        byteslen: &mut usize,
     ) -> i32;
     fn hunkravy_record_begin(
         st: &mut Records<'_>,
@@ -562,6 +599,99 @@ impl Variant {
         })?;
         Ok(header)
     }
+}
+
+/// The length of a journal's nonce.
+pub const JOURNAL_NONCE_BYTES: usize = 16;
+/// How many bytes a journal has in front of its writes.
+pub const JOURNAL_START_BYTES: usize = 49;
+/// How many bytes a write in a journal has in front of its own.
+pub const JOURNAL_HEAD_BYTES: usize = 16;
+/// How many bytes a journal has after its writes.
+pub const JOURNAL_MAC_BYTES: usize = 32;
+
+impl Variant {
+    /// Begins the journal of a commit to a file. Writes the journal's first bytes to `start`.
+    pub fn journal_init(
+        &self,
+        st: &mut State,
+        page_size: u32,
+        id: &[u8; 24],
+        npub: &[u8; JOURNAL_NONCE_BYTES],
+        k: &[u8],
+        start: &mut [u8; JOURNAL_START_BYTES],
+    ) -> Answer {
+        let (bytes, length) = (k.as_ptr(), k.len());
+        call!(hunkravy_journal_init(
+            self.number,
+            st,
+            page_size,
+            id,
+            npub,
+            bytes,
+            length,
+            start
+        ))
+    }
+
+    /// Returns the part of a journal that has writes which are to be made again, or no bytes. After them the journal is to
+    /// be emptied. `file` is what its file begins with: at least 512 bytes, or all.
+    ///
+    /// [`Refusal::InvalidTag`]: the file has no header of this variant and key, and the journal is not whole.
+    /// [`Refusal::WrongJournal`]: the journal is that of another file, or of another state of this one.
+    pub fn journal_check<'j>(
+        &self,
+        file: &[u8],
+        k: &[u8],
+        journal: &'j [u8],
+    ) -> Result<&'j [u8], Refusal> {
+        let mut writes_len = 0;
+        // SAFETY: each pointer is that of a borrowed slice of the length after it.
+        read(unsafe {
+            hunkravy_journal_check(
+                self.number,
+                file.as_ptr(),
+                file.len(),
+                k.as_ptr(),
+                k.len(),
+                journal.as_ptr(),
+                journal.len(),
+                &mut writes_len,
+            )
+        })?;
+        let writes = journal.get(JOURNAL_START_BYTES..);
+        Ok(writes.map_or(&[], |writes| &writes[..writes_len]))
+    }
+}
+
+impl State {
+    /// Takes the next write into the MAC of a journal. Returns what it has in front of its bytes there.
+    pub fn journal_entry(
+        &mut self,
+        place: u64,
+        bytes: &[u8],
+    ) -> Result<[u8; JOURNAL_HEAD_BYTES], Refusal> {
+        let mut head = [0; JOURNAL_HEAD_BYTES];
+        let (pointer, length) = (bytes.as_ptr(), bytes.len());
+        call!(hunkravy_journal_entry(
+            self, place, pointer, length, &mut head
+        ))?;
+        Ok(head)
+    }
+
+    /// Writes the MAC with which the journal ends to `mac`, and ends the state.
+    pub fn journal_final(&mut self, mac: &mut [u8; JOURNAL_MAC_BYTES]) -> Answer {
+        call!(hunkravy_journal_final(self, mac))
+    }
+}
+
+/// Returns the place of the first of the writes in a journal, and how many bytes it has. They come after
+/// [`JOURNAL_HEAD_BYTES`], and the next write comes after them.
+pub fn journal_next(writes: &[u8]) -> Result<(u64, usize), Refusal> {
+    let (mut place, mut length) = (0, 0);
+    // SAFETY: the pointer is that of a borrowed slice of the length after it.
+    read(unsafe { hunkravy_journal_next(writes.as_ptr(), writes.len(), &mut place, &mut length) })?;
+    Ok((place, length))
 }
 
 /// How many bytes a record has in front of its message.

@@ -69,6 +69,7 @@ pub use rng::NoRng;
 pub use rng::OsRng;
 pub use rng::{DefaultRng, RafRng};
 
+use crate::exports::JOURNAL_NONCE_BYTES;
 use crate::wipe::wipe;
 use alloc::vec;
 use alloc::vec::Vec;
@@ -76,8 +77,8 @@ use changes::{Changes, SealedChanges};
 use core::fmt;
 use core::iter::once;
 use core::ops::Range;
-use journal::{JOURNAL_KEY_BYTES, JournalSeal, PendingWrite};
-use layout::{Layout, journal_key};
+use journal::{JournalSeal, PendingWrite};
+use layout::Layout;
 use std::io::ErrorKind;
 #[cfg(feature = "raf")]
 use std::path::Path;
@@ -301,7 +302,7 @@ impl<A: Algorithm, I: RafIo, R: RafRng, J: RafIo> Raf<A, I, R, J> {
             return Err(Error::Journal);
         }
         self.is_broken = true;
-        journal::commit(&mut self.io, &mut self.journal, &seal, &writes)?;
+        journal::commit(&mut self.io, &mut self.journal, seal, &writes)?;
         self.is_broken = false;
         self.counter = counter;
         self.stored = self.size;
@@ -310,15 +311,11 @@ impl<A: Algorithm, I: RafIo, R: RafRng, J: RafIo> Raf<A, I, R, J> {
         Ok(())
     }
 
-    /// Returns what the next journal is made with.
+    /// Begins the next journal.
     fn journal_seal(&mut self) -> Result<JournalSeal> {
-        let mut seal = JournalSeal {
-            key: journal_key::<A>(&self.layout.key),
-            start: self.layout.journal_start(),
-            nonce: [0; JOURNAL_KEY_BYTES],
-        };
-        self.rng.fill(&mut seal.nonce)?;
-        Ok(seal)
+        let mut nonce = [0; JOURNAL_NONCE_BYTES];
+        self.rng.fill(&mut nonce)?;
+        Ok(self.layout.journal(&nonce))
     }
 
     /// Commits the changes: the same as [`commit`](Raf::commit).

@@ -7,8 +7,8 @@ use Rattle.aegis_base.specs.declared.error.TheConstants.{MAX_AEAD_BYTES}
 use Rattle.aegis_engine.specs.declared.saved.SavedContext.{SavedContext}
 use Rattle.aegis_engine.specs.declared.saved.TheConstants.{BEGUN}
 use Rattle.aegis_c_calls.specs.declared.refusal.Refusal.{Refusal}
-use Rattle.aegis_c_calls.specs.declared.refusal.Refusal.TheVariants.{InvalidTag, WrongNonceLength, WrongKeyLength, MessageTooLong, DataTooLong, WrongTagLength, WrongState, WrongVariant, ContextTooLong, UnknownHeader, WrongRecordLength, WrongPageSize, FileTooLong, WrongMessageLength}
-use Rattle.aegis_c_calls.specs.declared.refusal.TheConstants.{DONE, INVALID_TAG, WRONG_NONCE_LENGTH, WRONG_KEY_LENGTH, MESSAGE_TOO_LONG, DATA_TOO_LONG, WRONG_TAG_LENGTH, WRONG_STATE, WRONG_VARIANT, CONTEXT_TOO_LONG, UNKNOWN_HEADER, WRONG_RECORD_LENGTH, WRONG_PAGE_SIZE, FILE_TOO_LONG, WRONG_MESSAGE_LENGTH}
+use Rattle.aegis_c_calls.specs.declared.refusal.Refusal.TheVariants.{InvalidTag, WrongNonceLength, WrongKeyLength, MessageTooLong, DataTooLong, WrongTagLength, WrongState, WrongVariant, ContextTooLong, UnknownHeader, WrongRecordLength, WrongPageSize, FileTooLong, WrongMessageLength, WrongJournal}
+use Rattle.aegis_c_calls.specs.declared.refusal.TheConstants.{DONE, INVALID_TAG, WRONG_NONCE_LENGTH, WRONG_KEY_LENGTH, MESSAGE_TOO_LONG, DATA_TOO_LONG, WRONG_TAG_LENGTH, WRONG_STATE, WRONG_VARIANT, CONTEXT_TOO_LONG, UNKNOWN_HEADER, WRONG_RECORD_LENGTH, WRONG_PAGE_SIZE, FILE_TOO_LONG, WRONG_MESSAGE_LENGTH, WRONG_JOURNAL}
 use Rattle.aegis_c_calls.specs.declared.state.State.{State}
 use Rattle.aegis_c_calls.specs.declared.state.TheConstants.{DECRYPTING, MAC, MESSAGE}
 
@@ -51,6 +51,7 @@ number_of WrongRecordLength = WRONG_RECORD_LENGTH
 number_of WrongPageSize = WRONG_PAGE_SIZE
 number_of FileTooLong = FILE_TOO_LONG
 number_of WrongMessageLength = WRONG_MESSAGE_LENGTH
+number_of WrongJournal = WRONG_JOURNAL
 
 -- of what a body returns
 abbrev pub code_of : {Y : Type 0} → Result Y Refusal → ℤ

@@ -1,4 +1,5 @@
 pub mod Calls
 pub mod Codes
+pub mod JournalCalls
 pub mod PageCalls
 pub mod RecordCalls

@@ -15,7 +15,7 @@ use aegis_pages::{
 };
 use check::{check_header, check_page};
 
-mod check;
+pub mod check;
 
 /// Seals a page where it lies: `page` has `N` bytes for the nonce, the contents, and 32 bytes for the tag.
 #[inline(never)]

@@ -35,6 +35,8 @@ pub enum Refusal {
     FileTooLong,
     /// A message has not as many bytes as were decrypted.
     WrongMessageLength,
+    /// A journal is that of another file, or of another state of this one.
+    WrongJournal,
 }
 
 /// The code of a call that has succeeded.
@@ -68,6 +70,8 @@ pub const FILE_TOO_LONG: i32 = -13;
 
 pub const WRONG_MESSAGE_LENGTH: i32 = -14;
 
+pub const WRONG_JOURNAL: i32 = -15;
+
 // Returns the code of a refusal.
 fn number(refusal: Refusal) -> i32
     ensures { result ≡ number_of refusal }
@@ -87,6 +91,7 @@ fn number(refusal: Refusal) -> i32
         Refusal::WrongPageSize => WRONG_PAGE_SIZE,
         Refusal::FileTooLong => FILE_TOO_LONG,
         Refusal::WrongMessageLength => WRONG_MESSAGE_LENGTH,
+        Refusal::WrongJournal => WRONG_JOURNAL,
     }
 }
 

@@ -43,9 +43,9 @@ pub const ENDED: State = State {
 // The size of a state in the header.
 const _: () = prove!(size_of::<State>() == 672);
 
-// Refuses a state that lacks the mark, was begun as neither `begun` nor has gone on as `role`, or has a number past the
-// limit.
-fn check_state(st: &State, begun: u32, role: u32) -> Result<(), Refusal>
+/// Refuses a state that lacks the mark, was begun as neither `begun` nor has gone on as `role`, or has a number past
+/// the limit.
+pub fn check_state(st: &State, begun: u32, role: u32) -> Result<(), Refusal>
     ensures associated_data { OnOk result (st.now.context.ad_bytes ≤ MAX_AEAD_BYTES) }
     ensures message { OnOk result (st.now.context.message_bytes ≤ MAX_AEAD_BYTES) }
     ensures right { OnOk result ((rest : ℤ) → role_code st.now begun role rest ≡ rest) }

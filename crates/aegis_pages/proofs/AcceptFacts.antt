@@ -1,15 +1,15 @@
 -- What is read before a journal is made again or emptied: a journal that is accepted fits, and what a commit and a crash
 -- left is accepted.
-use Rattle.std.proofs.Common.{◌≡◌, ℕ, ◌<◌, ◌≤◌, ◌⊎◌, inl, inr, List, [], Option, None, Some, IfNone, IfSome, length, refl, sym, subst, arith}
+use Rattle.std.proofs.Common.{◌≡◌, ℕ, ◌<◌, ◌≤◌, ◌⊎◌, inl, inr, List, [], Option, None, Some, IfNone, IfSome, length, option_map, refl, sym, subst, arith}
 use Rattle.aegis_aes.specs.Lanes.{IsLaneCount}
 use Rattle.aegis_base.specs.Variant.{Variant}
 use Rattle.aegis_storage.specs.Bytes.{part_at}
 use Rattle.aegis_storage.specs.Disk.{Disk, IsPossible, Writes, after_writes}
-use Rattle.aegis_storage.specs.Journal.{HasBeginning, IsJournal, IsOneOf}
+use Rattle.aegis_storage.specs.Journal.{HasBeginning, IsContent, IsJournal, IsOneOf}
 use Rattle.aegis_storage.proofs.Disks.{readable}
 use Rattle.aegis_storage.proofs.Journals.{one_journal}
 use Rattle.aegis_pages.specs.declared.header.FileHeader.{FileHeader}
-use Rattle.aegis_pages.specs.Commits.{Fits, HasHonestHeader, IsAccepted, IsHonest, IsOfAnother, IsOfCommit, RecoversContentsUnlessForged, head_of, journal_key}
+use Rattle.aegis_pages.specs.Commits.{AreWritesOf, Fits, HasHonestHeader, IsAccepted, IsHonest, IsOfAnother, IsOfCommit, RecoversContentsUnlessForged, head_of, journal_key}
 use Rattle.aegis_pages.specs.Errors.{HasNoHeader}
 use Rattle.aegis_pages.specs.Layouts.{IsHeader, Layout, journal_beginning, HasHeader, layout_of}
 use Rattle.aegis_pages.specs.SealedPages.{IsFileUnder}
@@ -27,6 +27,14 @@ pub record WasRead (variant : Variant) (key : List ℕ) (a b : Option (List ℕ)
   pub short : IfNone header_block (IfSome a (λ file. length file < 512))
   pub whole : IfSome writes (λ ws. IsJournal (journal_key variant key) [] ws read)
   pub torn : IfNone writes ((ws : Writes) → IsJournal (journal_key variant key) [] ws read → ⊥)
+
+-- ---- the writes of a journal, and its content
+
+-- as they were read
+pub writes_read : {R : Type 0} (now : R → List ℕ) (key read : List ℕ) (content : Option R) → IfSome content (λ l. IsContent key [] read (now l)) → IfNone content ((ws : Writes) → IsJournal key [] ws read → ⊥)
+    → (writes : Option Writes) × IfSome writes (λ ws. IsJournal key [] ws read) × IfNone writes ((ws : Writes) → IsJournal key [] ws read → ⊥) × AreWritesOf writes (option_map now content)
+writes_read now key read None some none = (None, tt, none, tt)
+writes_read now key read (Some l) some none = (Some some.0, some.1, tt, (some.1.within, some.2))
 
 -- ---- what is accepted fits
 

@@ -1,12 +1,13 @@
 -- The writes of a commit: pages and headers, and the header that a file begins with.
-use Rattle.std.proofs.Common.{◌≡◌, ℕ, ◌+◌, ◌-◌, ◌<◌, ◌≤◌, ◌⊎◌, inl, inr, List, [], ◌∷◌, ◌++◌, drop, get_or, length, take, refl, sym, ap, ◌∙◌, arith, nat_cmp, Bool, true, false, cond, Option, None, Some, subst}
-use Rattle.std.proofs.lemmas.List.{get_or-append_right, get_or-map, length-append, length-map, length-take, take-append-drop, take-take, take_all}
+use Rattle.std.proofs.Common.{◌≡◌, ◌↔◌, IsTrue, ℕ, ◌+◌, ◌<◌, ◌≤◌, ◌⊎◌, inl, inr, List, [], ◌∷◌, ◌++◌, drop, length, take, refl, sym, ap, ◌∙◌, arith, nat_cmp, Bool, true, false, cond, Option, None, Some, subst, rules}
+use Rattle.std.proofs.lemmas.List.{length-append, length-take, take-append-drop, take-take, take_all}
 use Rattle.aegis_base.specs.Variant.{Variant}
 use Rattle.aegis_storage.specs.Bytes.{overwritten, part_at}
-use Rattle.aegis_storage.specs.declared.pending.PendingWrite.{PendingWrite}
-use Rattle.aegis_storage.specs.Disk.{Writes, after_writes, writes_of}
-use Rattle.aegis_storage.proofs.Journals.{writes_taken}
-use Rattle.aegis_pages.specs.Commits.{IsOfCommit, head_bytes, head_of}
+use Rattle.aegis_storage.specs.Disk.{Writes, after_writes}
+use Rattle.aegis_storage.specs.Journal.{AreWithin, entries, entry}
+use Rattle.aegis_storage.specs.declared.store.TheConstants.{MAX_STORAGE_BYTES}
+use Rattle.aegis_storage.proofs.Journals.{same_entry}
+use Rattle.aegis_pages.specs.Commits.{BeginsWith, EndsWith, IsOfCommit, head_bytes, head_of}
 use Rattle.std.proofs.lemmas.Bool.{cases_lt}
 use Rattle.std.proofs.lemmas.Bool.Decides.{nat_tests}
 use Rattle.std.specs.BTreeMap.{is_at}
@@ -18,52 +19,52 @@ use Rattle.aegis_pages.specs.Changed.{Plaintexts, contents_at, HaveOnePlaintext,
 use Rattle.aegis_pages.specs.Layouts.{IsHeader, IsHeaderBlock, Layout, OpensAt, sealed_bytes, page_at, page_place}
 use Rattle.aegis_pages.specs.SealedPages.{ArePages, Changes, IsSealed, Shows, unchanged}
 
-pub begins_first : {A : Type 0} (writes : List (PendingWrite A)) (w : PendingWrite A) (head : List ℕ) → 0 < length writes → w ≡ get_or writes 0 w → w.place ≡ 0 → take (length head) w.bytes.items ≡ head
-    → IsOfCommit head (writes_of writes)
-begins_first [] w head some is zero beginning = absurd (omega arith)
-begins_first {A} (v ∷ vs) w head some is zero beginning = inl (w.bytes.items, writes_of vs, cc, beginning)
+-- ---- the first and the last write in the content of a journal
 
-pub begins_last : {A : Type 0} (writes : List (PendingWrite A)) (w : PendingWrite A) (head : List ℕ) (n : ℕ) → n + 1 ≡ length writes → w ≡ get_or writes n w → w.place ≡ 0 → take (length head) w.bytes.items ≡ head
-    → IsOfCommit head (writes_of writes)
-begins_last writes w head n last is zero beginning =
-    inr (w.bytes.items, writes_of (take n writes), grind (arith, take_all (n + 1) writes, writes_taken writes n w w.bytes.items), beginning)
+-- the write that was found is the first one
+pub first_known : (place : ℕ) (bytes rest content : List ℕ) (writes : Writes) → place + length bytes ≤ MAX_STORAGE_BYTES → content ≡ entry (place, bytes) ++ rest → AreWithin writes → content ≡ entries writes
+    → (left : Writes) × (writes ≡ (place, bytes) ∷ left)
+first_known place bytes rest content [] low is p same = absurd (let sizes : length (entry (place, bytes) ++ rest) ≡ 0 = ap length (sym is ∙ same) in omega (arith, sizes))
+first_known place bytes rest content (w ∷ ws) low is p same =
+    let first = same_entry (place, bytes) w rest (entries ws) low p.0 (sym is ∙ same) in (ws, ap (λ (x : ℕ × List ℕ). x ∷ ws) (sym first.0))
 
--- ---- and the other way round
+heads_same : (x y : ℕ × List ℕ) (xs ys : Writes) → x ∷ xs ≡ y ∷ ys → x ≡ y
+heads_same x y xs ys same = cc
 
-first_is : {A : Type 0} (writes : List (PendingWrite A)) (w : PendingWrite A) (header_block : List ℕ) (rest : Writes) → w ≡ get_or writes 0 w → writes_of writes ≡ (0, header_block) ∷ rest
-    → (w.place ≡ 0) × (w.bytes.items ≡ header_block)
-first_is [] w header_block rest is all = absurd (cc)
-first_is {A} (v ∷ vs) w header_block rest is all = (grind arith, grind arith)
+pub false_is_not : IsTrue false → ⊥
+false_is_not is = search rules
 
-last_is : {A : Type 0} (writes : List (PendingWrite A)) (w : PendingWrite A) (n : ℕ) (header_block : List ℕ) (before : Writes) → n + 1 ≡ length writes → w ≡ get_or writes n w
-    → writes_of writes ≡ before ++ (0, header_block) ∷ [] → (w.place ≡ 0) × (w.bytes.items ≡ header_block)
-last_is {A} writes w n header_block before last is all =
-    let f : PendingWrite A → ℕ × List ℕ = λ x. (x.place, x.bytes.items) in
-    let long : length before ≡ n = omega (arith, last, ap length all, length-map writes f, length-append before ((0, header_block) ∷ [])) in
-    let zero : n - n ≡ 0 = omega arith in
-    let here : (w.place, w.bytes.items) ≡ (0, header_block) =
-    ap f is ∙ sym (get_or-map f writes n w (f w) (omega (arith, last))) ∙ ap (λ (l : Writes). get_or l n (f w)) all
-    ∙ get_or-append_right before ((0, header_block) ∷ []) n n (f w) long (omega arith) ∙ ap (λ (k : ℕ). get_or ((0, header_block) ∷ []) k (f w)) zero in
-    (ap (λ (x : ℕ × List ℕ). x.0) here, ap (λ (x : ℕ × List ℕ). x.1) here)
+pub begins_first : (head : List ℕ) (place : ℕ) (bytes rest content : List ℕ) (writes : Writes) (b : Bool) → IsTrue b ↔ (place ≡ 0) × (take (length head) bytes ≡ head)
+    → place + length bytes ≤ MAX_STORAGE_BYTES → content ≡ entry (place, bytes) ++ rest → AreWithin writes → content ≡ entries writes → IsTrue b ↔ BeginsWith head writes
+begins_first head place bytes rest content writes b tested low is p same =
+    let first = first_known place bytes rest content writes low is p same in (
+      λ yes. (let both = tested.0 yes in (bytes, first.0, first.1 ∙ ap (λ (n : ℕ). (n, bytes) ∷ first.0) both.0, both.1)),
+      λ begins. tested.1 (
+          let one = heads_same (place, bytes) (0, begins.0) first.0 begins.1 (sym first.1 ∙ begins.2) in
+          (ap (λ (x : ℕ × List ℕ). x.0) one, ap (λ (x : ℕ × List ℕ). take (length head) x.1) one ∙ begins.3)
+          ),
+    )
 
--- the write makes a file begin with these bytes
-abbrev pub Begins : {A : Type 0} → PendingWrite A → List ℕ → Type 0
-Begins w head = (w.place ≡ 0) × (take (length head) w.bytes.items ≡ head)
+pub begins_none : (head content : List ℕ) (writes : Writes) → ((write : ℕ × List ℕ) (rest : List ℕ) → write.0 + length write.1 ≤ MAX_STORAGE_BYTES → content ≡ entry write ++ rest → ⊥)
+    → AreWithin writes → content ≡ entries writes → BeginsWith head writes → ⊥
+begins_none head content [] none p same begins = absurd (let is = begins.2 in cc)
+begins_none head content (w ∷ ws) none p same begins = none w (entries ws) p.0 same
 
-pub of_first_or_last : {A : Type 0} (writes : List (PendingWrite A)) (v w : PendingWrite A) (head : List ℕ) (n : ℕ) → n + 1 ≡ length writes → v ≡ get_or writes 0 v → w ≡ get_or writes n w
-    → IsOfCommit head (writes_of writes) → Begins v head ⊎ Begins w head
-of_first_or_last writes v w head n last first_at last_at (inl of) =
-    let is = first_is writes v of.0 of.1 first_at of.2 in inl (is.0, ap (take (length head)) is.1 ∙ of.3)
-of_first_or_last writes v w head n last first_at last_at (inr of) =
-    let is = last_is writes w n of.0 of.1 last last_at of.2 in inr (is.0, ap (take (length head)) is.1 ∙ of.3)
+last_same : (vs ws : Writes) (x y : ℕ × List ℕ) → vs ++ x ∷ [] ≡ ws ++ y ∷ [] → x ≡ y
+last_same [] [] x y same = cc
+last_same [] (w ∷ ws) x y same = absurd (let sizes : 1 ≡ length (w ∷ (ws ++ y ∷ [])) = ap length same in omega (arith, sizes, length-append ws (y ∷ [])))
+last_same (v ∷ vs) [] x y same = absurd (let sizes : length (v ∷ (vs ++ x ∷ [])) ≡ 1 = ap length same in omega (arith, sizes, length-append vs (x ∷ [])))
+last_same (v ∷ vs) (w ∷ ws) x y same = last_same vs ws x y (cc)
 
-pub of_none : {A : Type 0} (writes : List (PendingWrite A)) (head : List ℕ) → length writes ≡ 0 → IsOfCommit head (writes_of writes) → ⊥
-of_none [] head none (inl of) = absurd (let some = of.2 in cc)
-of_none [] head none (inr of) = absurd (let some = ap length of.2 in omega (arith, some, length-append of.1 ((0, of.0) ∷ [])))
-of_none (w ∷ ws) head none of = absurd (omega (arith, none))
+-- the last one so far
+pub ends_more : (head : List ℕ) (done : Writes) (place : ℕ) (bytes : List ℕ) (b : Bool) → IsTrue b ↔ (place ≡ 0) × (take (length head) bytes ≡ head) → IsTrue b ↔ EndsWith head (done ++ (place, bytes) ∷ [])
+ends_more head done place bytes b tested = (
+  λ yes. (let both = tested.0 yes in (bytes, done, ap (λ (n : ℕ). done ++ (n, bytes) ∷ []) both.0, both.1)),
+  λ ends. tested.1 (let one = last_same done ends.1 (place, bytes) (0, ends.0) ends.2 in (ap (λ (x : ℕ × List ℕ). x.0) one, ap (λ (x : ℕ × List ℕ). take (length head) x.1) one ∙ ends.3)),
+)
 
--- what the first and the last write tell
-pub ruleset first_or_last_laws = (begins_first, begins_last, of_first_or_last, of_none)
+pub ends_none : (head : List ℕ) → EndsWith head [] → ⊥
+ends_none head ends = let sizes : 0 ≡ length (ends.1 ++ (0, ends.0) ∷ []) = ap length ends.2 in omega (arith, sizes, length-append ends.1 ((0, ends.0) ∷ []))
 
 -- ---- the header that a file begins with
 

@@ -1,7 +1,7 @@
 -- Bytes that are known, or not, and errors.
-use Rattle.std.proofs.Common.{◌≡◌, ℕ, ◌≤◌, ◌≢◌, ◌∙◌, Bool, Err, Result, List, Option, None, Some, IfNone, IfSome, option_map, refl, sym, arith, rules}
+use Rattle.std.proofs.Common.{◌≡◌, ℕ, ◌≤◌, ◌≢◌, ◌∙◌, Bool, Err, Result, List, Option, None, Some, IfSome, refl, sym, arith, rules}
 use Rattle.aegis_pages.specs.declared.error.PagesError.{PagesError}
-use Rattle.aegis_pages.specs.declared.error.PagesError.TheVariants.{Read, Write, Nonce, Header, Damaged, OutOfMemory, Journal, OldJournal, Broken}
+use Rattle.aegis_pages.specs.declared.error.PagesError.TheVariants.{Read, Write, Nonce, Header, Damaged, OutOfMemory, Journal, Broken}
 use Rattle.aegis_pages.specs.Errors.{IsReadRefusal, IsBeginError, IsCreateRefusal, IsReadError}
 use Rattle.aegis_pages.specs.Layouts.{IsPageSize, Layout}
 use Rattle.aegis_pages.specs.SealedPages.{Changes}
@@ -23,15 +23,6 @@ if_both None b P f = tt
 if_both (Some x) None P f = tt
 if_both (Some x) (Some y) P f = f x y refl refl
 
--- the same of what a value is mapped to
-pub mapped_some : {W X : Type 0} (f : W → X) (P : X → Type 0) (o : Option W) → IfSome o (λ w. P (f w)) → IfSome (option_map f o) P
-mapped_some f P None p = tt
-mapped_some f P (Some w) p = p
-
-pub mapped_none : {W X : Type 0} (f : W → X) (P : Type 0) (o : Option W) → IfNone o P → IfNone (option_map f o) P
-mapped_none f P None p = p
-mapped_none f P (Some w) p = tt
-
 -- ---- errors
 
 -- the same error, for a range that ends later
@@ -50,13 +41,13 @@ create_begins n size Journal is = (size, is)
 create_begins n size _ is = absurd is
 
 -- reading failed, and so the file was not left alone
-reads_only : (e : PagesError) → IsReadError e → (e ≢ Journal) × (e ≢ Header) × (e ≢ OldJournal)
-reads_only (Read e) is = (search rules, search rules, search rules)
+reads_only : (e : PagesError) → IsReadError e → (e ≢ Journal) × (e ≢ Header)
+reads_only (Read e) is = (search rules, search rules)
 reads_only _ is = absurd is
 
 -- a result that is this error, and no other one
 pub only_error : {T : Type 0} (r : Result T PagesError) (e k : PagesError) → r ≡ Err e → e ≢ k → r ≢ Err k
 only_error r e k is other same = other (let both : Err e ≡ Err k = sym is ∙ same in cc)
 
-pub never_left : {T : Type 0} (r : Result T PagesError) (e : PagesError) → r ≡ Err e → IsReadError e → (r ≢ Err Journal) × (r ≢ Err Header) × (r ≢ Err OldJournal)
-never_left r e is reads = let other = reads_only e reads in (only_error r e Journal is other.0, only_error r e Header is other.1, only_error r e OldJournal is other.2)
+pub never_left : {T : Type 0} (r : Result T PagesError) (e : PagesError) → r ≡ Err e → IsReadError e → (r ≢ Err Journal) × (r ≢ Err Header)
+never_left r e is reads = let other = reads_only e reads in (only_error r e Journal is other.0, only_error r e Header is other.1)

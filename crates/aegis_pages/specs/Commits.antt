@@ -4,9 +4,9 @@ use Rattle.aegis_base.specs.Mac.{mac}
 use Rattle.aegis_base.specs.Variant.{Variant, key_length}
 use Rattle.aegis_storage.specs.Bytes.{part_at}
 use Rattle.aegis_storage.specs.Disk.{Disk, Writes, after_writes}
-use Rattle.aegis_storage.specs.Journal.{IsAtRest, IsJournal, IsNoForgery, IsOneOf, KeepsBeginning, RecoversUnlessForged}
+use Rattle.aegis_storage.specs.Journal.{AreWithin, IsAtRest, IsJournal, IsNoForgery, IsOneOf, KeepsBeginning, RecoversUnlessForged, entries}
 use Rattle.aegis_pages.specs.declared.header.FileHeader.{FileHeader}
-use Rattle.aegis_pages.specs.declared.layout.TheConstants.{JOURNAL_MAGIC, OLD_JOURNAL_MAGIC}
+use Rattle.aegis_pages.specs.declared.layout.TheConstants.{JOURNAL_MAGIC}
 use Rattle.aegis_pages.specs.Errors.{HasNoHeader}
 use Rattle.aegis_pages.specs.Layouts.{IsHeader, Layout, journal_beginning, layout_of}
 use Rattle.aegis_pages.specs.SealedPages.{IsFileOf, IsFileUnder}
@@ -25,11 +25,17 @@ head_bytes variant = 33 + (16 + (key_length variant.family + 32))
 abbrev pub head_of : Variant → (file : List ℕ) → List ℕ
 head_of variant file = part_at file 0 (head_bytes variant)
 
+-- the first of the writes makes a file begin with these bytes of a header
+abbrev pub BeginsWith : (head : List ℕ) → Writes → Type 0
+BeginsWith head writes = (header_block : List ℕ) × (rest : Writes) × (writes ≡ (0, header_block) ∷ rest) × (take (length head) header_block ≡ head)
+
+-- the last of the writes does
+abbrev pub EndsWith : (head : List ℕ) → Writes → Type 0
+EndsWith head writes = (header_block : List ℕ) × (before : Writes) × (writes ≡ before ++ (0, header_block) ∷ []) × (take (length head) header_block ≡ head)
+
 -- the first of the writes, or the last, makes a file begin with these bytes of a header
 abbrev pub IsOfCommit : (head : List ℕ) → Writes → Type 0
-IsOfCommit head writes =
-    ((header_block : List ℕ) × (rest : Writes) × (writes ≡ (0, header_block) ∷ rest) × (take (length head) header_block ≡ head))
-    ⊎ ((header_block : List ℕ) × (before : Writes) × (writes ≡ before ++ (0, header_block) ∷ []) × (take (length head) header_block ≡ head))
+IsOfCommit head writes = BeginsWith head writes ⊎ EndsWith head writes
 
 -- ---- crashes
 
@@ -78,9 +84,12 @@ pub record RestsAtContents (variant : Variant) (key before now : List ℕ) (stor
 abbrev pub IsOfAnother : (beginning bytes : List ℕ) → Type 0
 IsOfAnother beginning bytes = (33 < length bytes) × (take 33 bytes ≢ beginning)
 
--- the bytes have more than a beginning, and begin like a journal of the first format
-abbrev pub IsOldJournal : (bytes : List ℕ) → Type 0
-IsOldJournal bytes = (33 < length bytes) × (take 4 bytes ≡ OLD_JOURNAL_MAGIC)
+-- the writes in the content of a whole journal, or none if there is no such content
+abbrev pub AreWritesOf : Option Writes → (content : Option (List ℕ)) → Type 0
+AreWritesOf None None = ⊤
+AreWritesOf None (Some content) = ⊥
+AreWritesOf (Some writes) None = ⊥
+AreWritesOf (Some writes) (Some content) = AreWithin writes × (content ≡ entries writes)
 
 -- What was read lets the journal be made again or emptied: a whole one, with its writes, if the file has no header or its
 -- commit began or ended with that of the header block, and one that is not whole if the file has a header and the journal

@@ -2,7 +2,7 @@
 use Rattle.std.specs.Prelude.{◌≡◌, ℕ, ◌-◌, ◌*◌, ◌^◌, ◌<◌, Bool, IfSome, List, Option, ⊤, true}
 use Rattle.aegis_base.specs.Variant.{Variant}
 use Rattle.aegis_pages.specs.declared.error.PagesError.{PagesError}
-use Rattle.aegis_pages.specs.declared.error.PagesError.TheVariants.{Read, Write, Nonce, Header, Damaged, TooLong, OutOfMemory, PageSize, Commitment, Journal, OldJournal, Broken}
+use Rattle.aegis_pages.specs.declared.error.PagesError.TheVariants.{Read, Write, Nonce, Header, Damaged, TooLong, OutOfMemory, PageSize, Commitment, Journal, Broken}
 use Rattle.aegis_pages.specs.declared.layout.TheConstants.{MAX_CONTENTS_BYTES}
 use Rattle.aegis_pages.specs.Commitments.{commitment}
 use Rattle.aegis_pages.specs.Layouts.{IsHeader, IsPageSize, Layout}
@@ -72,21 +72,19 @@ IsCreateRefusal page_bytes e = IsPageSize page_bytes × IsBeginError e
 abbrev pub HasNoHeader : Variant → List ℕ → List ℕ → Type 0
 HasNoHeader variant key file = (layout : Layout) (counter len : ℕ) → layout.variant ≡ variant → layout.key ≡ key → IsHeader layout counter len file → ⊥
 
--- A storage failed, no memory was left, there is no header, or the journal is another one or of the first format.
+-- A storage failed, no memory was left, there is no header, or the journal is another one.
 abbrev pub IsOpenRefusal : Variant → List ℕ → Option (List ℕ) → PagesError → Type 0
 IsOpenRefusal variant key bytes (Read e) = ⊤
 IsOpenRefusal variant key bytes (Write e) = ⊤
 IsOpenRefusal variant key bytes Header = IfSome bytes (HasNoHeader variant key)
 IsOpenRefusal variant key bytes OutOfMemory = ⊤
 IsOpenRefusal variant key bytes Journal = ⊤
-IsOpenRefusal variant key bytes OldJournal = ⊤
 IsOpenRefusal variant key bytes _ = ⊥
 
 -- The error says that the file was not opened, and nothing was written.
 abbrev pub IsLeftAlone : PagesError → Type 0
 IsLeftAlone Header = ⊤
 IsLeftAlone Journal = ⊤
-IsLeftAlone OldJournal = ⊤
 IsLeftAlone _ = ⊥
 
 -- Reading failed, `expected` is not the commitment, or a commit had failed.

@@ -36,9 +36,6 @@ pub enum PagesError {
     /// The journal is that of another file, or of another state of this one.
     #[error("the journal does not belong to this file")]
     Journal,
-    /// The journal is of the first format. Open the file with the version that wrote it.
-    #[error("the journal has an older format: open the file with the version that wrote it")]
-    OldJournal,
     /// A commit failed. Open the file again.
     #[error("a commit failed: open the file again")]
     Broken,

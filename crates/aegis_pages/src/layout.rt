@@ -47,9 +47,6 @@ pub const MAGIC: [u8; 4] = [65, 71, 80, 49];
 /// The first bytes of a journal.
 pub const JOURNAL_MAGIC: [u8; 4] = [65, 71, 74, 50];
 
-/// The first bytes of a journal of the first format, which was an encrypted record stream.
-pub const OLD_JOURNAL_MAGIC: [u8; 4] = [65, 71, 80, 74];
-
 /// What all sealed pages of a file are sealed under. The key is overwritten when it is dropped.
 pub struct FileLayout<L: LaneState, const KEY_BYTES: usize> {
     key: [u8; KEY_BYTES],

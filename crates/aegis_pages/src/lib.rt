@@ -36,7 +36,7 @@ pub use layout::{
     DEFAULT_PAGE_BYTES, FileLayout, HEADER_BLOCK_BYTES, MAX_CONTENTS_BYTES, MAX_PAGE_BYTES,
     MIN_PAGE_BYTES,
 };
-pub use opening::recover_file;
+pub use opening::{is_accepted, journal_key, recover_file};
 pub use page::{open_page_at, seal_page_at};
 pub use pages::Pages;
 pub use variants::{

@@ -199,9 +199,8 @@ impl<
     }
 
     /// Opens the file that the storage holds, and completes a commit that was cut short, or leaves out all of it, as
-    /// [`crate::recover_file`] does, whose errors it returns. So it returns none of [`PagesError::Journal`],
-    /// [`PagesError::OldJournal`] and [`PagesError::Header`] for what a commit and a crash left, unless that is a
-    /// forgery.
+    /// [`crate::recover_file`] does, whose errors it returns. So it returns neither [`PagesError::Journal`] nor
+    /// [`PagesError::Header`] for what a commit and a crash left, unless that is a forgery.
     pub fn open(
         alloc: A,
         mut storage: S,
@@ -227,8 +226,7 @@ impl<
             → HasContents pages contents × HasCommitted pages contents) }
         ensures accepts { IsLeftByCommit L.VARIANT key.now (S.bytes storage) (J.bytes journal)
             (S.disk storage) (J.disk journal)
-            → (result ≢ Err PagesError.Journal) × (result ≢ Err PagesError.Header)
-            × (result ≢ Err PagesError.OldJournal) }
+            → (result ≢ Err PagesError.Journal) × (result ≢ Err PagesError.Header) }
         ensures fits { OnOk result (IfSome (S.bytes storage) (λ file.
             IfSome (J.bytes journal) (Fits L.VARIANT key.now file))) }
         ensures refused { IfErr result (IsOpenRefusal L.VARIANT key.now (S.bytes storage)) }

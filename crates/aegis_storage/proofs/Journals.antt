@@ -1,10 +1,9 @@
 -- Writes, journals and their beginnings, and the states of a commit and of a recovery.
-use Rattle.std.proofs.Common.{◌≡◌, ◌+◌, ◌<◌, ℕ, List, [], ◌∷◌, ◌++◌, drop, get_or, length, take, refl, arith, ◌^◌, ◌≤◌, ◌⊎◌, inl, inr, IfNone, IfSome, None, Some, Option, sym, ap, subst, ◌∙◌}
+use Rattle.std.proofs.Common.{◌≡◌, ◌+◌, ◌<◌, ℕ, List, [], ◌∷◌, ◌++◌, drop, get_or, length, take, refl, arith, ◌^◌, ◌≤◌, ◌⊎◌, inl, inr, IfSome, None, Some, Option, sym, ap, ◌∙◌}
 use Rattle.std.proofs.lemmas.Grind.{common_steps, flat_map-append}
 use Rattle.std.proofs.lemmas.List.{append-nil, append_assoc, map-append, take-append-drop, take_more, drop_at, length-append, take_at, take_all}
 use Rattle.std.proofs.lemmas.Nat.{from_le_bytes-to_le_bytes_8}
 use Rattle.std.specs.Int.{to_le_bytes, w64}
-use Rattle.std.specs.declared.vec.Vec.{Vec}
 use Rattle.aegis_storage.specs.declared.pending.PendingWrite.{PendingWrite}
 use Rattle.aegis_storage.specs.Journal.{AreWithin, entries, entry, Gives, GivesOneOf, IsAtRest, IsFramed, IsJournal, IsOneOf, IsNoForgery, RecoversUnlessForged, RecoversKnown, authenticated, HasBeginning, KeepsBeginning}
 use Rattle.aegis_storage.specs.Disk.{writes_of, Adds, CrashLeaves, Crashed, Disk, IsPossible, MakesCertain, Size, Writes, WritesAll, certain, changes, after_writes, Change, IsPartOfOne, Write, after, changed}
@@ -53,14 +52,14 @@ same_parts n ps qs xs ys p q same = (sym (take_at ps xs n p) ∙ ap (take n) sam
 same_number : (m n : ℕ) (xs ys : List ℕ) → m < 2 ^ 64 → n < 2 ^ 64 → to_le_bytes w64 m ++ xs ≡ to_le_bytes w64 n ++ ys → (m ≡ n) × (xs ≡ ys)
 same_number m n xs ys low high same = grind (arith, same_parts 8 (to_le_bytes w64 m) (to_le_bytes w64 n) xs ys refl refl same, from_le_bytes-to_le_bytes_8)
 
-same_entry : (v w : ℕ × List ℕ) (xs ys : List ℕ) → v.0 + length v.1 ≤ MAX_STORAGE_BYTES → w.0 + length w.1 ≤ MAX_STORAGE_BYTES → entry v ++ xs ≡ entry w ++ ys → (v ≡ w) × (xs ≡ ys)
+pub same_entry : (v w : ℕ × List ℕ) (xs ys : List ℕ) → v.0 + length v.1 ≤ MAX_STORAGE_BYTES → w.0 + length w.1 ≤ MAX_STORAGE_BYTES → entry v ++ xs ≡ entry w ++ ys → (v ≡ w) × (xs ≡ ys)
 same_entry v w xs ys low high same =
     let place = same_number v.0 w.0 _ _ (omega (arith, low)) (omega (arith, high)) (simp append_assoc at same) in
     let count = same_number (length v.1) (length w.1) _ _ (omega (arith, low)) (omega (arith, high)) place.1 in
     let bytes = same_parts (length v.1) v.1 w.1 xs ys refl (sym count.0) count.1 in
     (ap (λ (n : ℕ). (n, v.1)) place.0 ∙ ap (λ (l : List ℕ). (w.0, l)) bytes.0, bytes.1)
 
-same_writes : (vs ws : Writes) → AreWithin vs → AreWithin ws → entries vs ≡ entries ws → vs ≡ ws
+pub same_writes : (vs ws : Writes) → AreWithin vs → AreWithin ws → entries vs ≡ entries ws → vs ≡ ws
 same_writes [] [] p q same = refl
 same_writes [] (w ∷ ws) p q same = absurd (let sizes : 0 ≡ length (entries (w ∷ ws)) = ap length same in omega (arith, sizes))
 same_writes (v ∷ vs) [] p q same = absurd (let sizes : length (entries (v ∷ vs)) ≡ 0 = ap length same in omega (arith, sizes))
@@ -92,7 +91,7 @@ framed_parts key context xs journal is beginning nonce content end p q r are =
 pub length-framed : (key context content journal : List ℕ) → IsFramed key context content journal → 81 ≤ length journal
 length-framed key context content journal is = grind (arith, common_steps, long-mac key is.nonce (authenticated context content))
 
-one_content : (key context xs ys journal : List ℕ) → IsFramed key context xs journal → IsFramed key context ys journal → xs ≡ ys
+pub one_content : (key context xs ys journal : List ℕ) → IsFramed key context xs journal → IsFramed key context ys journal → xs ≡ ys
 one_content key context xs ys journal p q =
     (framed_parts key context ys journal q p.beginning p.nonce xs _ p.beginning_size p.nonce_size (long-mac key p.nonce (authenticated context xs)) p.are).0
 
@@ -104,15 +103,36 @@ empty_is_none key context writes is = let long : 81 ≤ 0 = length-framed key co
 
 -- ---- the writes in the content of a journal
 
-pub if_found : {A : Type 0} (key context content journal : List ℕ) → IsFramed key context content journal → (found : Option (Vec (PendingWrite A) A))
-    → IfSome found (λ writes. content ≡ entries (writes_of writes.items)) → IfSome found (λ writes. IsJournal key context (writes_of writes.items) journal)
-if_found key context content journal framed None is = tt
-if_found key context content journal framed (Some writes) is = record { within = all_within writes.items; framed = subst (λ (l : List ℕ). IsFramed key context l journal) is framed }
+pub within_more : (writes : Writes) (write : ℕ × List ℕ) → AreWithin writes → write.0 + length write.1 ≤ MAX_STORAGE_BYTES → AreWithin (writes ++ write ∷ [])
+within_more [] write p low = (low, tt)
+within_more (w ∷ ws) write p low = (p.0, within_more ws write p.1 low)
 
-pub if_not_found : {X : Type 0} (key context content journal : List ℕ) → IsFramed key context content journal → (found : Option X)
-    → IfNone found ((writes : Writes) → AreWithin writes → content ≡ entries writes → ⊥) → IfNone found ((writes : Writes) → IsJournal key context writes journal → ⊥)
-if_not_found key context content journal framed None none = λ writes is. none writes is.within (one_content key context content (entries writes) journal framed is.framed)
-if_not_found key context content journal framed (Some x) none = tt
+pub entries_more : (writes : Writes) (write : ℕ × List ℕ) → entries (writes ++ write ∷ []) ≡ entries writes ++ entry write
+entries_more writes write = rw (flat_map-append, append-nil)
+
+-- a write that was found, and what is left behind it
+pub entries_found : (done : Writes) (write : ℕ × List ℕ) (rest after content : List ℕ) → rest ≡ entry write ++ after → entries done ++ rest ≡ content → entries (done ++ write ∷ []) ++ after ≡ content
+entries_found done write rest after content is all = rw (entries_more done write, append_assoc, ← is) all
+
+-- the writes that are left behind some of them
+pub left_writes : (done writes : Writes) (rest : List ℕ) → AreWithin done → AreWithin writes → entries done ++ rest ≡ entries writes
+    → (left : Writes) × (writes ≡ done ++ left) × AreWithin left × (rest ≡ entries left)
+left_writes [] writes rest p q same = (writes, refl, q, same)
+left_writes (v ∷ vs) [] rest p q same = absurd (let sizes : length (entries (v ∷ vs) ++ rest) ≡ 0 = ap length same in omega (arith, sizes))
+left_writes (v ∷ vs) (w ∷ ws) rest p q same =
+    let first = same_entry v w (entries vs ++ rest) (entries ws) p.0 q.0 (sym (append_assoc (entry v) (entries vs) rest) ∙ same) in
+    let more = left_writes vs ws rest p.1 q.1 first.1 in
+    (more.0, ap (λ (x : ℕ × List ℕ). x ∷ ws) (sym first.0) ∙ ap (λ (l : Writes). v ∷ l) more.1, more.2, more.3)
+
+-- nothing is left
+pub all_done : (done : Writes) (rest content : List ℕ) → length rest ≡ 0 → entries done ++ rest ≡ content → content ≡ entries done
+all_done done [] content none all = sym all ∙ append-nil (entries done)
+all_done done (x ∷ xs) content some all = absurd (omega (arith, some))
+
+-- no writes are left behind nothing
+pub all_writes : (done writes : Writes) (rest : List ℕ) → length rest ≡ 0 → AreWithin done → AreWithin writes → entries done ++ rest ≡ entries writes → writes ≡ done
+all_writes done writes [] none p q same = same_writes writes done q p (sym same ∙ append-nil (entries done))
+all_writes done writes (x ∷ xs) some p q same = absurd (omega (arith, some))
 
 -- ---- recovery
 

@@ -43,6 +43,10 @@ pub record IsJournal (key context : List ℕ) (writes : Writes) (bytes : List �
   pub within : AreWithin writes
   pub framed : IsFramed key context (entries writes) bytes
 
+-- The bytes are a journal of the writes that this content is of.
+abbrev pub IsContent : (key context bytes content : List ℕ) → Type 0
+IsContent key context bytes content = (writes : Writes) × IsJournal key context writes bytes × (content ≡ entries writes)
+
 -- Recovery of a storage that holds `old`, by what the journal holds, gives bytes of which P holds.
 pub record Gives (key context journal old : List ℕ) (P : List ℕ → Type 0) : Type 0 where
   -- the writes of a whole journal are made again

@@ -2,10 +2,10 @@
 
 ghost use Rattle.std.specs.Prelude.{◌≡◌, ◌+◌, ◌≤◌, ◌∷◌, ◌++◌, [], IfOk, IfSome, List, None, OnErr, OnOk, Option, Some, length, take, ℕ};
 ghost use Rattle.aegis_storage.specs.Bytes.{ResizesTo};
-ghost use Rattle.aegis_storage.specs.Disk.{Adds, Size, Write, WritesAll, after_writes, certain, changes, writes_of};
-ghost use Rattle.aegis_storage.specs.Journal.{KeepsBeginning};
+ghost use Rattle.aegis_storage.specs.Disk.{Adds, Size, Write, Writes, WritesAll, after_writes, certain, changes, writes_of};
+ghost use Rattle.aegis_storage.specs.Journal.{AreWithin, KeepsBeginning, entries};
 
-use crate::journal::BEGINNING_BYTES;
+use crate::journal::{BEGINNING_BYTES, first_write};
 use crate::pending::PendingWrite;
 use crate::store::{MAX_STORAGE_BYTES, Storage};
 use std::alloc::Allocator;
@@ -55,6 +55,40 @@ pub fn write_and_sync<S: Storage, A: Allocator>(
         → S.disk storage.new ≡ Some (certain (after_writes (writes_of writes.now) xs))) }
 {
     write_all(storage, writes)?;
+    storage.sync()
+}
+
+// Makes the writes of the content of a journal, the first of them first.
+fn write_content<S: Storage>(storage: &mut S, content: &[u8]) -> io::Result<()>
+    ensures written { OnOk result ((writes : Writes) → AreWithin writes
+        → content.now ≡ entries writes
+        → WritesAll (S.bytes storage.old) (S.bytes storage.new) writes) }
+    ensures pending { (writes : Writes) → AreWithin writes → content.now ≡ entries writes
+        → Adds (S.disk storage.old) (S.disk storage.new) (changes writes) }
+{
+    let mut rest = content;
+    'writes: while !rest.is_empty() {
+        let Some((place, bytes, after)) = first_write(rest) else {
+            return Ok(());
+        };
+        storage.write_at(place, bytes)?;
+        rest = after;
+    }
+    Ok(())
+}
+
+/// Makes the writes of the content of a journal, and syncs them.
+pub fn write_content_and_sync<S: Storage>(storage: &mut S, content: &[u8]) -> io::Result<()>
+    ensures written { OnOk result ((writes : Writes) → AreWithin writes
+        → content.now ≡ entries writes
+        → WritesAll (S.bytes storage.old) (S.bytes storage.new) writes) }
+    ensures pending { (writes : Writes) → AreWithin writes → content.now ≡ entries writes
+        → Adds (S.disk storage.old) (S.disk storage.new) (changes writes) }
+    ensures certain { OnOk result ((writes : Writes) → AreWithin writes
+        → content.now ≡ entries writes → (xs : List ℕ) → S.disk storage.old ≡ Some (certain xs)
+        → S.disk storage.new ≡ Some (certain (after_writes writes xs))) }
+{
+    write_content(storage, content)?;
     storage.sync()
 }
 

@@ -1,12 +1,12 @@
 //! The bytes of a journal: a beginning of the caller's, a nonce, the writes, each as its place, its length and its
 //! bytes, and their MAC. Nothing is encrypted.
 
-ghost use Rattle.std.specs.Prelude.{◌≡◌, ◌≢◌, ◌+◌, ◌<◌, ◌≤◌, ◌^◌, ◌++◌, [], IfNone, IfOk, IfSome, List, OnOk, length, ℕ};
+ghost use Rattle.std.specs.Prelude.{◌≡◌, ◌≢◌, ◌+◌, ◌<◌, ◌≤◌, ◌^◌, ◌++◌, [], IfNone, IfOk, IfSome, IsTrue, List, OnOk, length, ℕ};
 ghost use Rattle.std.specs.Int.{to_le_bytes, w64};
 ghost use Rattle.aegis_base.specs.Context.{Stands};
 ghost use Rattle.aegis_base.specs.Variant.{Aegis128L};
 ghost use Rattle.aegis_storage.specs.Disk.{Writes, writes_of};
-ghost use Rattle.aegis_storage.specs.Journal.{AreWithin, IsFramed, IsJournal, authenticated, entries, entry, framed};
+ghost use Rattle.aegis_storage.specs.Journal.{AreWithin, IsContent, IsFramed, IsJournal, authenticated, entries, entry, framed};
 
 use crate::pending::PendingWrite;
 use crate::store::MAX_STORAGE_BYTES;
@@ -132,67 +132,61 @@ fn number_and_rest(bytes: &[u8]) -> Option<(u64, &[u8])>
     Some((u64::from_le_bytes(number), rest))
 }
 
-// Returns the write with which the content of a journal begins, and the bytes after it, or `None` if there is none.
-fn write_and_rest<'a, A: Allocator>(
-    alloc: A,
-    content: &'a [u8],
-) -> Result<Option<(PendingWrite<A>, &'a [u8])>, AllocError>
-    ensures some { IfOk result (λ found. IfSome found (λ first. content.now
-        ≡ entry (first.0.place, first.0.bytes.items) ++ first.1.now)) }
-    ensures none { IfOk result (λ found. IfNone found ((write : ℕ × List ℕ) (rest : List ℕ)
-        → write.0 + length write.1 ≤ MAX_STORAGE_BYTES → content.now ≢ entry write ++ rest)) }
+/// Returns the place and the bytes of the write with which the content of a journal begins, and what comes after it, or
+/// `None` if it begins with none.
+pub fn first_write(content: &[u8]) -> Option<(u64, &[u8], &[u8])>
+    ensures within { IfSome result (λ first.
+        first.0 + length first.1.now ≤ MAX_STORAGE_BYTES) }
+    ensures some { IfSome result (λ first.
+        content.now ≡ entry (first.0, first.1.now) ++ first.2.now) }
+    ensures none { IfNone result ((write : ℕ × List ℕ) (rest : List ℕ)
+        → write.0 + length write.1 ≤ MAX_STORAGE_BYTES → content.now ≢ entry write ++ rest) }
 {
     let Some((place, rest)) = number_and_rest(content) else {
-        return Ok(None);
+        return None;
     };
     let Some((count, rest)) = number_and_rest(rest) else {
-        return Ok(None);
+        return None;
     };
     if count > rest.len() as u64 || place > MAX_STORAGE_BYTES - count {
-        return Ok(None);
+        return None;
     }
     let (bytes, rest) = rest.split_at(count as usize);
-    Ok(Some((PendingWrite::new(alloc, place, bytes)?, rest)))
+    Some((place, bytes, rest))
 }
 
-// Returns the writes of the content of a journal, or `None` if it is that of no writes.
-fn writes_in<A: Allocator + Copy>(
-    alloc: A,
-    content: &[u8],
-) -> Result<Option<Vec<PendingWrite<A>, A>>, AllocError>
-    ensures some { IfOk result (λ found. IfSome found
-        (λ writes. content.now ≡ entries (writes_of writes.items))) }
-    ensures none { IfOk result (λ found. IfNone found ((writes : Writes)
-        → AreWithin writes → content.now ≢ entries writes)) }
+// Returns whether the content of a journal is that of some writes.
+fn are_writes(content: &[u8]) -> bool
+    ensures some { IsTrue result
+        → (writes : Writes) × AreWithin writes × (content.now ≡ entries writes) }
+    ensures none { (writes : Writes) → AreWithin writes → content.now ≡ entries writes
+        → IsTrue result }
 {
-    let mut writes = Vec::new(alloc);
     let mut rest = content;
     'writes: while !rest.is_empty() {
-        let Some((write, after)) = write_and_rest(alloc, rest)? else {
-            return Ok(None);
+        let Some((_place, _bytes, after)) = first_write(rest) else {
+            return false;
         };
-        writes.push(write)?;
         rest = after;
     }
-    Ok(Some(writes))
+    true
 }
 
-/// Returns the writes of a journal, or `None` if the bytes are no whole journal under this key and context. The only
-/// error is want of memory.
-pub fn journaled_writes<A: Allocator + Copy>(
-    alloc: A,
-    key: &Key,
-    context: &[u8],
-    journal: &[u8],
-) -> io::Result<Option<Vec<PendingWrite<A>, A>>>
+/// Returns the content of a journal, which is that of its writes, or `None` if the bytes are no whole journal under
+/// this key and context. [`first_write`] returns the writes in it.
+pub fn journaled_content<'a>(key: &Key, context: &[u8], journal: &'a [u8]) -> Option<&'a [u8]>
     requires { length context.now ≤ MAX_CONTEXT_BYTES }
-    ensures some { IfOk result (λ found. IfSome found
-        (λ writes. IsJournal key.now context.now (writes_of writes.items) journal.now)) }
-    ensures none { IfOk result (λ found. IfNone found ((writes : Writes)
-        → IsJournal key.now context.now writes journal.now → ⊥)) }
+    ensures some { IfSome result
+        (λ content. IsContent key.now context.now journal.now content.now) }
+    ensures none { IfNone result ((writes : Writes)
+        → IsJournal key.now context.now writes journal.now → ⊥) }
 {
-    match content_of(key, context, journal) {
-        Some(content) => Ok(writes_in(alloc, content)?),
-        None => Ok(None),
+    let Some(content) = content_of(key, context, journal) else {
+        return None;
+    };
+    if are_writes(content) {
+        Some(content)
+    } else {
+        None
     }
 }

@@ -27,7 +27,9 @@ mod store;
 
 pub use atomic::commit;
 pub use calls::read_all;
-pub use journal::{BEGINNING_BYTES, MAX_JOURNAL_BYTES, NONCE_BYTES, journaled_writes};
+pub use journal::{
+    BEGINNING_BYTES, MAX_JOURNAL_BYTES, NONCE_BYTES, first_write, journaled_content,
+};
 pub use pending::PendingWrite;
 pub use recovery::recover;
 pub use store::{MAX_STORAGE_BYTES, NoJournal, Storage};

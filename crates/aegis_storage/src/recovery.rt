@@ -4,8 +4,8 @@ ghost use Rattle.std.specs.Prelude.{◌≡◌, ◌≤◌, IfSome, List, OnOk, So
 ghost use Rattle.aegis_storage.specs.Disk.{CrashLeaves, Writes, certain};
 ghost use Rattle.aegis_storage.specs.Journal.{GivesOneOf, IsNoForgery, IsOneOf, KeepsBeginning, RecoversUnlessForged, RecoversKnown, RestsAtEither};
 
-use crate::calls::{empty, read_all, write_and_sync};
-use crate::journal::journaled_writes;
+use crate::calls::{empty, read_all, write_content_and_sync};
+use crate::journal::journaled_content;
 use crate::store::Storage;
 use aegis::aegis128l::Key;
 use aegis::record::MAX_CONTEXT_BYTES;
@@ -14,13 +14,7 @@ use std::io;
 
 // Makes the writes of a whole journal again, and syncs them. For any other journal it does nothing.
 #[tactic(auto, using(crate::proofs::Journals::certain_gives))]
-fn redo<S: Storage, A: Allocator + Copy>(
-    alloc: A,
-    storage: &mut S,
-    key: &Key,
-    context: &[u8],
-    journal: &[u8],
-) -> io::Result<()>
+fn redo<S: Storage>(storage: &mut S, key: &Key, context: &[u8], journal: &[u8]) -> io::Result<()>
     requires { length context.now ≤ MAX_CONTEXT_BYTES }
     ensures recovered { OnOk result (RecoversKnown key.now context.now (Some journal.now)
         (S.bytes storage.old) (S.bytes storage.new)) }
@@ -32,8 +26,8 @@ fn redo<S: Storage, A: Allocator + Copy>(
         × ((a b : List ℕ) → GivesOneOf key.now context.now a b journal.now xs
         → IsOneOf a b bytes)) }
 {
-    match journaled_writes(alloc, key, context, journal)? {
-        Some(writes) => write_and_sync(storage, &writes),
+    match journaled_content(key, context, journal) {
+        Some(content) => write_content_and_sync(storage, content),
         None => Ok(()),
     }
 }
@@ -45,7 +39,7 @@ fn redo<S: Storage, A: Allocator + Copy>(
 /// torn or of another storage, changes nothing. Then the journal is emptied and synced.
 ///
 /// With `Ok` both are at rest. After an error, which is that of a call or `OutOfMemory`, nothing is lost: call it
-/// again. Memory is taken for the journal, whatever it holds, and for its writes.
+/// again. Memory is taken for the journal, whatever it holds.
 #[tactic(auto, using(crate::proofs::Disks::synced_leaves, crate::proofs::Journals::synced_recovers, crate::proofs::Disks::none_made))]
 pub fn recover<S: Storage, J: Storage, A: Allocator + Copy>(
     alloc: A,
@@ -75,6 +69,6 @@ pub fn recover<S: Storage, J: Storage, A: Allocator + Copy>(
     storage.sync()?;
     journal.sync()?;
     let content = read_all(alloc, journal)?;
-    redo(alloc, storage, key, context, &content)?;
+    redo(storage, key, context, &content)?;
     empty(journal)
 }

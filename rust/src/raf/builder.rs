@@ -126,7 +126,6 @@ impl<A: Algorithm, R: RafRng, J: JournalChoice> RafBuilder<A, R, J> {
     /// - [`Error::Locked`] and [`Error::Moved`];
     /// - [`Error::Header`]: there is no header of this algorithm and key;
     /// - [`Error::Journal`]: the journal belongs to another file or to another state of this one, or is not a journal.
-    /// - [`Error::OldJournal`]: the journal is of an older format.
     ///
     /// After [`Error::Io`] nothing is lost: open the file again.
     pub fn open<I: RafIo>(self, mut io: I, key: &A::Key) -> Result<Raf<A, I, R, J::Journal>> {

@@ -13,8 +13,6 @@ pub enum Error {
     Header,
     /// The journal belongs to another file, or to another state of this one, or the file of that name is not a journal.
     Journal,
-    /// The journal is of the first format, which this version does not apply. Open the file with the version that wrote it.
-    OldJournal,
     /// Authentication of the page of this number fails.
     Damaged(u64),
     /// The contents would have more than [`MAX_SIZE`](super::MAX_SIZE) bytes, or 2^64 - 1 commits were made.
@@ -46,9 +44,6 @@ impl fmt::Display for Error {
                 "cannot open the header: wrong key or algorithm, damaged file, or not a raf file"
             }
             Error::Journal => "the journal does not belong to this file",
-            Error::OldJournal => {
-                "the journal has an older format: open the file with the version that wrote it"
-            }
             Error::TooLong => "the contents are too long, or no more commits are possible",
             Error::ChunkSize => "the chunk size must be 256 to 65,536 bytes",
             Error::ContextTooLong => {

@@ -1,40 +1,41 @@
 //! Writes that are all there after a crash, or none of them, by way of a journal.
 //!
-//! A journal has the writes, which are encrypted pages and headers, and their MAC. The proved crate `aegis_storage` writes the
-//! same bytes between the same syncs. Here neighbouring writes are one call.
+//! A journal has the writes, which are encrypted pages and headers, and their MAC. Its bytes come from proved functions of the
+//! library. The proved crate `aegis_storage` writes the same bytes between the same syncs. Here neighbouring writes are one call.
 
 use super::io::RafIo;
 use super::layout::PLAINTEXT_HEADER_BYTES;
-use crate::aegis128l::Aegis128LMac;
-use crate::wipe::wipe;
+use crate::exports::{
+    JOURNAL_HEAD_BYTES, JOURNAL_MAC_BYTES, JOURNAL_START_BYTES, Refusal, State, journal_next,
+};
 use alloc::vec::Vec;
 use std::io;
 
-/// The length of the key and of the nonce of a journal's MAC.
-pub const JOURNAL_KEY_BYTES: usize = 16;
-/// The length of the MAC, with which a journal ends.
-const MAC_BYTES: usize = 32;
-/// The length of a place or of a length.
-const NUMBER_BYTES: usize = 8;
-/// The last byte of a file lies below this place.
-const MAX_BYTES: u64 = i64::MAX as u64;
-
 /// A write that is to be made.
+#[derive(Clone, Copy)]
 pub struct PendingWrite<'b> {
     pub place: u64,
     pub bytes: &'b [u8],
 }
 
-/// The key, the first bytes and the nonce of a journal.
+/// A journal that was begun: its MAC so far, which is overwritten when it is dropped, and its first bytes.
 pub struct JournalSeal {
-    pub key: [u8; JOURNAL_KEY_BYTES],
-    pub start: [u8; PLAINTEXT_HEADER_BYTES],
-    pub nonce: [u8; JOURNAL_KEY_BYTES],
+    pub state: State,
+    pub start: [u8; JOURNAL_START_BYTES],
+}
+
+impl Default for JournalSeal {
+    fn default() -> Self {
+        JournalSeal {
+            state: State::ENDED,
+            start: [0; JOURNAL_START_BYTES],
+        }
+    }
 }
 
 impl Drop for JournalSeal {
     fn drop(&mut self) {
-        wipe(&mut self.key);
+        self.state.wipe();
     }
 }
 
@@ -42,24 +43,24 @@ impl Drop for JournalSeal {
 pub fn commit(
     io: &mut impl RafIo,
     journal: &mut impl RafIo,
-    seal: &JournalSeal,
+    seal: JournalSeal,
     writes: &[PendingWrite<'_>],
 ) -> io::Result<()> {
     if !journal.keeps_bytes() {
-        return write_and_sync(io, writes);
+        return write_and_sync(io, writes.iter().copied());
     }
     write_journal(journal, seal, writes)?;
-    write_and_sync(io, writes)?;
+    write_and_sync(io, writes.iter().copied())?;
     empty(journal)
 }
 
 /// Writes a journal, and syncs it: the first bytes first, so that a longer journal begins with them after any crash.
 fn write_journal(
     journal: &mut impl RafIo,
-    seal: &JournalSeal,
+    seal: JournalSeal,
     writes: &[PendingWrite<'_>],
 ) -> io::Result<()> {
-    journal.write_at(&seal.start, 0)?;
+    journal.write_at(&seal.start[..PLAINTEXT_HEADER_BYTES], 0)?;
     journal.sync()?;
     let mut neighbours = Neighbours::new(journal);
     let mut place = PLAINTEXT_HEADER_BYTES as u64;
@@ -71,29 +72,33 @@ fn write_journal(
     neighbours.finish()
 }
 
-/// Passes on the bytes of a journal after its first ones: the nonce, each write as its place, its length and its bytes, and the
-/// MAC.
+/// Passes on the bytes of a journal after its first ones.
 fn pass_content(
-    seal: &JournalSeal,
+    mut seal: JournalSeal,
     writes: &[PendingWrite<'_>],
     mut pass: impl FnMut(&[u8]) -> io::Result<()>,
 ) -> io::Result<()> {
-    let mut mac = new_mac(&seal.key, &seal.nonce);
-    pass(&seal.nonce)?;
+    pass(&seal.start[PLAINTEXT_HEADER_BYTES..])?;
     for write in writes {
-        let mut head = [0; 2 * NUMBER_BYTES];
-        head[..NUMBER_BYTES].copy_from_slice(&write.place.to_le_bytes());
-        head[NUMBER_BYTES..].copy_from_slice(&(write.bytes.len() as u64).to_le_bytes());
-        for bytes in [&head, write.bytes] {
-            mac.update(bytes);
-            pass(bytes)?;
-        }
+        let head = seal.state.journal_entry(write.place, write.bytes);
+        pass(&head.map_err(too_long)?)?;
+        pass(write.bytes)?;
     }
-    pass(&mac.finalize())
+    let mut mac = [0; JOURNAL_MAC_BYTES];
+    seal.state.journal_final(&mut mac).map_err(too_long)?;
+    pass(&mac)
+}
+
+/// No journal is so long, and no write is so far behind, that a file could have both.
+fn too_long(_refusal: Refusal) -> io::Error {
+    io::ErrorKind::InvalidInput.into()
 }
 
 /// Makes the writes, and syncs them.
-pub fn write_and_sync(io: &mut impl RafIo, writes: &[PendingWrite<'_>]) -> io::Result<()> {
+pub fn write_and_sync<'b>(
+    io: &mut impl RafIo,
+    writes: impl IntoIterator<Item = PendingWrite<'b>>,
+) -> io::Result<()> {
     let mut neighbours = Neighbours::new(io);
     for write in writes {
         neighbours.write(write.bytes, write.place)?;
@@ -152,76 +157,43 @@ pub fn empty(journal: &mut impl RafIo) -> io::Result<()> {
     journal.sync()
 }
 
-/// Returns the MAC of a journal after the length of its context, which is empty.
-fn new_mac(
-    key: &[u8; JOURNAL_KEY_BYTES],
-    nonce: &[u8; JOURNAL_KEY_BYTES],
-) -> Aegis128LMac<MAC_BYTES> {
-    let mut mac = Aegis128LMac::new_with_nonce(key, nonce);
-    mac.update(&[0; NUMBER_BYTES]);
-    mac
-}
-
-/// Returns the writes of a journal, or `None` if the bytes are no whole journal under this key. Its MAC is verified first.
-pub fn journaled_writes<'b>(
-    key: &[u8; JOURNAL_KEY_BYTES],
-    journal: &'b [u8],
-) -> Option<Vec<PendingWrite<'b>>> {
-    let (_start, rest) = journal.split_first_chunk::<PLAINTEXT_HEADER_BYTES>()?;
-    let (nonce, rest) = rest.split_first_chunk::<JOURNAL_KEY_BYTES>()?;
-    let (mut content, mac) = rest.split_last_chunk::<MAC_BYTES>()?;
-    let mut computed = new_mac(key, nonce);
-    computed.update(content);
-    computed.verify(mac).ok()?;
-    let mut writes = Vec::new();
-    while !content.is_empty() {
-        let (write, rest) = first_write(content)?;
-        writes.push(write);
-        content = rest;
-    }
-    Some(writes)
-}
-
-/// Returns the write with which the content of a journal begins, and the bytes after it, or `None` if there is none.
-fn first_write(content: &[u8]) -> Option<(PendingWrite<'_>, &[u8])> {
-    let (place, rest) = content.split_first_chunk::<NUMBER_BYTES>()?;
-    let (length, rest) = rest.split_first_chunk::<NUMBER_BYTES>()?;
-    let (place, length) = (u64::from_le_bytes(*place), u64::from_le_bytes(*length));
-    let end = place.checked_add(length)?;
-    if end > MAX_BYTES || length > rest.len() as u64 {
-        return None;
-    }
-    let (bytes, rest) = rest.split_at(length as usize);
-    Some((PendingWrite { place, bytes }, rest))
+/// The writes in the part of a journal that has them.
+pub fn journaled_writes(mut part: &[u8]) -> impl Iterator<Item = PendingWrite<'_>> {
+    core::iter::from_fn(move || {
+        let (place, length) = journal_next(part).ok()?;
+        let (bytes, rest) = part[JOURNAL_HEAD_BYTES..].split_at(length);
+        part = rest;
+        Some(PendingWrite { place, bytes })
+    })
 }
 
 #[cfg(test)]
 mod tests {
-    use super::{
-        JOURNAL_KEY_BYTES, JournalSeal, PLAINTEXT_HEADER_BYTES, PendingWrite, journaled_writes,
-        pass_content,
-    };
+    use super::{JournalSeal, PendingWrite, journaled_writes, pass_content};
+    use crate::exports::{AEGIS256, State};
+    use crate::raf::layout::HEADER_BLOCK_BYTES;
     use crate::wipe::tests::left_of;
+    use alloc::vec::Vec;
 
-    /// Nothing of the key is left.
-    #[test]
-    fn a_seal_that_was_dropped() {
-        let seal = JournalSeal {
-            key: [1; JOURNAL_KEY_BYTES],
-            start: [2; PLAINTEXT_HEADER_BYTES],
-            nonce: [3; JOURNAL_KEY_BYTES],
-        };
-        assert_eq!(left_of(seal, |seal| &seal.key), [0; JOURNAL_KEY_BYTES]);
+    fn begun() -> JournalSeal {
+        let mut seal = JournalSeal::default();
+        let (state, start) = (&mut seal.state, &mut seal.start);
+        let answer = AEGIS256.journal_init(state, 4032, &[1; 24], &[2; 16], &[3; 32], start);
+        assert_eq!(answer, Ok(()));
+        seal
     }
 
-    /// A journal opens if its writes are within the longest file.
+    /// Nothing of the MAC is left.
     #[test]
-    fn journal_opens_only_within_the_longest_file() {
-        let seal = JournalSeal {
-            key: [1; JOURNAL_KEY_BYTES],
-            start: [2; PLAINTEXT_HEADER_BYTES],
-            nonce: [3; JOURNAL_KEY_BYTES],
-        };
+    fn a_seal_that_was_dropped() {
+        assert!(!begun().state.is_zero());
+        let state: State = left_of(begun(), |seal| &seal.state);
+        assert!(state.is_zero());
+    }
+
+    /// A journal has only writes within the longest file.
+    #[test]
+    fn writes_within_the_longest_file() {
         for (place, is_within) in [
             (0, true),
             ((1 << 63) - 4, true),
@@ -230,15 +202,21 @@ mod tests {
             (u64::MAX, false),
         ] {
             let bytes = &[4; 3];
-            let mut journal = seal.start.to_vec();
-            let passed = pass_content(&seal, &[PendingWrite { place, bytes }], |bytes| {
+            let mut journal = begun().start[..33].to_vec();
+            let passed = pass_content(begun(), &[PendingWrite { place, bytes }], |bytes| {
                 journal.extend_from_slice(bytes);
                 Ok(())
             });
-            assert!(passed.is_ok());
-            let writes = journaled_writes(&seal.key, &journal);
-            let found = writes.map(|writes| (writes.len(), writes[0].place));
-            assert_eq!(found, is_within.then_some((1, place)));
+            assert_eq!(passed.is_ok(), is_within);
+            if is_within {
+                // The file has no header, so any whole journal is accepted.
+                let file = [0; HEADER_BLOCK_BYTES];
+                let part = AEGIS256.journal_check(&file, &[3; 32], &journal).unwrap();
+                let found: Vec<_> = journaled_writes(part)
+                    .map(|write| (write.place, write.bytes))
+                    .collect();
+                assert_eq!(found, [(place, bytes.as_slice())]);
+            }
         }
     }
 }

@@ -1,8 +1,8 @@
 //! How a file is laid out: its header and its pages, which the library seals and opens.
 
 use super::Algorithm;
-use super::journal::JOURNAL_KEY_BYTES;
-use crate::exports::PageHeader;
+use super::journal::JournalSeal;
+use crate::exports::{JOURNAL_NONCE_BYTES, PageHeader};
 use crate::wipe::wipe;
 
 /// How many bytes are read in one call, at most, unless a page has more.
@@ -17,13 +17,8 @@ pub const FIRST_PAGE: u64 = 4096;
 pub const ID_BYTES: usize = 24;
 /// The length of the plaintext part of a header: the magic number, the algorithm, the chunk size and the id.
 pub const PLAINTEXT_HEADER_BYTES: usize = 33;
-/// The length of the counter and the size, which are encrypted in a header.
-const HEADER_PLAINTEXT_BYTES: usize = 16;
 
 const MAGIC: [u8; 4] = *b"AGP1";
-const JOURNAL_MAGIC: [u8; 4] = *b"AGJ2";
-/// What a journal of the first format begins with, which was an encrypted record stream.
-const OLD_JOURNAL_MAGIC: [u8; 4] = *b"AGPJ";
 
 /// The key, the page size and the id of a file. The key is overwritten when it is dropped.
 pub struct Layout<A: Algorithm> {
@@ -95,19 +90,20 @@ impl<A: Algorithm> Layout<A> {
         header_block
     }
 
+    /// Begins the journal of a commit. A nonce is for one journal only.
+    pub fn journal(&self, nonce: &[u8; JOURNAL_NONCE_BYTES]) -> JournalSeal {
+        let mut seal = JournalSeal::default();
+        let (size, id, key) = (self.chunk_size, &self.id, self.key.as_ref());
+        let answer =
+            A::EXPORTS.journal_init(&mut seal.state, size, id, nonce, key, &mut seal.start);
+        assert_eq!(answer, Ok(()), "the chunk size and the lengths are right");
+        seal
+    }
+
     /// The first bytes of a header.
     pub fn plaintext_header(&self) -> [u8; PLAINTEXT_HEADER_BYTES] {
-        self.named(MAGIC)
-    }
-
-    /// The first bytes of the file's journals.
-    pub fn journal_start(&self) -> [u8; PLAINTEXT_HEADER_BYTES] {
-        self.named(JOURNAL_MAGIC)
-    }
-
-    fn named(&self, magic: [u8; 4]) -> [u8; PLAINTEXT_HEADER_BYTES] {
         let mut plaintext = [0; PLAINTEXT_HEADER_BYTES];
-        plaintext[..4].copy_from_slice(&magic);
+        plaintext[..4].copy_from_slice(&MAGIC);
         plaintext[4] = A::EXPORTS.key_bytes as u8 + A::EXPORTS.lanes;
         plaintext[5..9].copy_from_slice(&self.chunk_size.to_le_bytes());
         plaintext[9..].copy_from_slice(&self.id);
@@ -141,38 +137,11 @@ pub fn open_header<A: Algorithm>(
     A::EXPORTS.page_header_open(header_block, key.as_ref()).ok()
 }
 
-/// Returns the bytes of the header in a sector, without the zeros after it.
-pub fn header_bytes<A: Algorithm>(header_block: &[u8; HEADER_BLOCK_BYTES]) -> &[u8] {
-    &header_block
-        [..PLAINTEXT_HEADER_BYTES + A::EXPORTS.key_bytes + HEADER_PLAINTEXT_BYTES + TAG_BYTES]
-}
-
-/// Returns the MAC, under the key and the nonce whose bytes are all 255, of the first bytes of a journal: the key of the
-/// journals of all files under that key.
-pub fn journal_key<A: Algorithm>(key: &A::Key) -> [u8; JOURNAL_KEY_BYTES] {
-    let mut mac = [0; JOURNAL_KEY_BYTES];
-    let nonce = commitment_nonce::<A>();
-    let answer = A::EXPORTS.mac(&JOURNAL_MAGIC, nonce.as_ref(), key.as_ref(), &mut mac);
-    assert_eq!(answer, Ok(()), "the lengths are right");
-    mac
-}
-
 /// Returns the nonce that no page and no header has.
 pub fn commitment_nonce<A: Algorithm>() -> A::Nonce {
     let mut nonce = A::Nonce::default();
     nonce.as_mut().fill(255);
     nonce
-}
-
-/// Returns whether a journal is of another file than the one whose journals begin with `start`. A commit syncs these bytes
-/// before it writes any after them, so a longer journal begins with them after a crash.
-pub fn is_of_another(start: &[u8; PLAINTEXT_HEADER_BYTES], journal: &[u8]) -> bool {
-    journal.len() > PLAINTEXT_HEADER_BYTES && !journal.starts_with(start)
-}
-
-/// Returns whether a journal is of the first format, and has more than its first bytes.
-pub fn is_old(journal: &[u8]) -> bool {
-    journal.len() > PLAINTEXT_HEADER_BYTES && journal.starts_with(&OLD_JOURNAL_MAGIC)
 }
 
 #[cfg(test)]

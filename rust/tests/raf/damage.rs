@@ -217,19 +217,6 @@ fn bytes_that_are_no_journal() {
     }
 }
 
-/// A torn journal of the first format changes nothing, also if the file has no header, and the error names the format.
-#[test]
-fn a_journal_of_the_first_format() {
-    let (bytes, _) = file(1);
-    let (mut cut, _) = cut_short(&bytes, JOURNAL_CALLS);
-    cut.1[..4].copy_from_slice(b"AGPJ");
-    cut.1.pop();
-    let is_old: fn(&Error) -> bool = |error| matches!(error, Error::OldJournal);
-    check_refused(&cut, &KEY, is_old);
-    cut.0[..512].fill(0);
-    check_refused(&cut, &KEY, is_old);
-}
-
 /// A journal of this file that is older than its last commit, or newer, changes nothing.
 #[test]
 fn an_older_journal() {

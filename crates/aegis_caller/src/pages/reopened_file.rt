@@ -20,8 +20,7 @@ pub fn reopened<S: Storage + Drop, J: Storage + Drop, N: Nonces + Drop, A: Alloc
 ) -> Result<SealedPages<S, J, N, A>, PagesError>
     ensures { IsLeftByCommit Aegis256 key.now (S.bytes storage) (J.bytes journal)
         (S.disk storage) (J.disk journal)
-        → (result ≢ Err PagesError.Journal) × (result ≢ Err PagesError.Header)
-        × (result ≢ Err PagesError.OldJournal) }
+        → (result ≢ Err PagesError.Journal) × (result ≢ Err PagesError.Header) }
 {
     SealedPages::open(alloc, storage, journal, nonces, key)
 }

@@ -295,21 +295,6 @@ fn journals_of_other_states(rt: HostRuntime) -> Result<(), Fail> {
     Ok(())
 }
 
-// A journal of the first format is left as it is, and named.
-#[test]
-fn journals_of_the_first_format(rt: HostRuntime) -> Result<(), Fail> {
-    let alloc = rt.alloc();
-    let (mut file, journal) = committing(alloc)?;
-    let mut old = first(&journal, 200).to_vec(alloc)?;
-    copy(part_mut(&mut old, 0, 4), b"AGPJ");
-    let refused = refusal(alloc, &file, &old, &KEY)?;
-    assert!(rt; matches!(refused, Some(PagesError::OldJournal)));
-    part_mut(&mut file, 0, 512).fill(0);
-    let refused = refusal(alloc, &file, &old, &KEY)?;
-    assert!(rt; matches!(refused, Some(PagesError::OldJournal)));
-    Ok(())
-}
-
 // A whole journal gives a file its header back, and one that is torn is left as it is.
 #[test]
 fn journals_of_a_file_with_no_header(rt: HostRuntime) -> Result<(), Fail> {

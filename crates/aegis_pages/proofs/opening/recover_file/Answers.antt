@@ -1,17 +1,10 @@
-use Rattle.std.proofs.Common.{◌≡◌, ◌∙◌, ap, Err, IsOk, Ok, option_map, Result, rules}
+use Rattle.std.proofs.Common.{◌∙◌, ap, Err, IsTrue, rules}
 use Rattle.std.proofs.lemmas.Result.{err_from_is_err_and}
-use Rattle.aegis_storage.specs.Disk.{writes_of}
-use Rattle.aegis_pages.specs.Commits.{IsLeftByCommit}
-use Rattle.aegis_pages.proofs.AcceptFacts.{WasRead, accepts_all, fits_all}
-use Rattle.aegis_pages.proofs.KnownFacts.{mapped_none, mapped_some, never_left}
+use Rattle.aegis_pages.specs.Commits.{IsLeftByCommit, journal_key}
+use Rattle.aegis_pages.proofs.AcceptFacts.{WasRead, accepts_all, fits_all, writes_read}
+use Rattle.aegis_pages.proofs.KnownFacts.{never_left}
 use Rattle.aegis_pages.proofs.RecoveryFacts.{kept_by_empty, recovers_again, rests_at_contents}
 use Rattle.aegis_pages.proofs.opening.recover_file.Goals as goal
-
-refused : {T E : Type 0} (r : Result T E) (e : E) → r ≡ Err e → IsOk r → ⊥
-refused r e is ok = absurd (search rules)
-
-ok_is : {T E : Type 0} (r : Result T E) (x : T) → r ≡ Ok x → IsOk r
-ok_is r x is = search rules
 
 pub returns-in-Err-recover-clause-recovers : goal.returns-in-Err-recover-clause-recovers
 returns-in-Err-recover-clause-recovers g c =
@@ -38,8 +31,10 @@ returns-in-Some-clause-rests g c =
 
 pub returns-in-Some-clause-fits : goal.returns-in-Some-clause-fits
 returns-in-Some-clause-fits g c =
+    let writes = writes_read (λ l. l.now) (journal_key g.L.LaneState.VARIANT c.args.key.now) c.in-Ok.content.items c.journaled_content-writes.result
+    (rw (c.deref.ensures.value, c.journal_key-journal_key.ensures) at c.journaled_content-writes.ensures.some) (rw (c.deref.ensures.value, c.journal_key-journal_key.ensures) at c.journaled_content-writes.ensures.none) in
     let read : WasRead g.L.LaneState.VARIANT c.args.key.now (g.S.Storage.bytes c.args.storage.now) (g.J.Storage.bytes c.args.journal.now) c.in-Ok.content.items
-    c.in_ok-header_block.header_block c.in_ok-header.header (option_map (λ w. writes_of w.items) c.in-Ok-journaled_writes.writes) =
+    c.in_ok-header_block.header_block c.in_ok-header.header writes.0 =
     record {
       count = g.met.L.LaneState.one_two_or_four;
       content = c.in-Ok.ensures;
@@ -47,10 +42,11 @@ returns-in-Some-clause-fits g c =
       none = c.in_ok-header.ensures.none;
       first = c.in_ok-header_block.ensures.read;
       short = c.in_ok-header_block.ensures.short;
-      whole = mapped_some _ _ c.in-Ok-journaled_writes.writes (rw (c.deref.ensures.value, c.journal_key-journal_key.ensures) at c.in-Ok-journaled_writes.ensures.some);
-      torn = mapped_none _ _ c.in-Ok-journaled_writes.writes (rw (c.deref.ensures.value, c.journal_key-journal_key.ensures) at c.in-Ok-journaled_writes.ensures.none);
+      whole = writes.1;
+      torn = writes.2;
     } in
-    fits_all _ _ _ _ _ _ _ _ read (rw c.deref-2.ensures.value at (c.check_journal.ensures.accepted.0 (ok_is _ _ c.in_ok-check_journal.was)))
+    let yes : IsTrue c.is_accepted.result = search rules in
+    fits_all _ _ _ _ _ _ _ _ read (rw c.deref-2.ensures.value at ((c.is_accepted.ensures writes.0 writes.3).0 yes))
 
 pub returns-in_err-header_block-clause-accepts : goal.returns-in_err-header_block-clause-accepts
 returns-in_err-header_block-clause-accepts g c _ =
@@ -67,11 +63,13 @@ returns-in_err-header-2-clause-accepts g c _ =
     let p = err_from_is_err_and c.from_residual-in_err-header-2.result c.from_residual-in_err-header-2.ensures.1 in
     never_left _ _ (p.1 ∙ ap Err p.2) c.in_err-header-2.ensures.refused
 
-pub returns-in_err-check_journal-clause-accepts : goal.returns-in_err-check_journal-clause-accepts
+pub returns-then-not-is_accepted-clause-accepts : goal.returns-then-not-is_accepted-clause-accepts
 unfolding IsLeftByCommit
-returns-in_err-check_journal-clause-accepts g c is =
+returns-then-not-is_accepted-clause-accepts g c is =
+    let writes = writes_read (λ l. l.now) (journal_key g.L.LaneState.VARIANT c.args.key.now) c.in-Ok.content.items c.journaled_content-writes.result
+    (rw (c.deref.ensures.value, c.journal_key-journal_key.ensures) at c.journaled_content-writes.ensures.some) (rw (c.deref.ensures.value, c.journal_key-journal_key.ensures) at c.journaled_content-writes.ensures.none) in
     let read : WasRead g.L.LaneState.VARIANT c.args.key.now (g.S.Storage.bytes c.args.storage.now) (g.J.Storage.bytes c.args.journal.now) c.in-Ok.content.items
-    c.in_ok-header_block.header_block c.in_ok-header.header (option_map (λ w. writes_of w.items) c.in-Ok-journaled_writes.writes) =
+    c.in_ok-header_block.header_block c.in_ok-header.header writes.0 =
     record {
       count = g.met.L.LaneState.one_two_or_four;
       content = c.in-Ok.ensures;
@@ -79,8 +77,8 @@ returns-in_err-check_journal-clause-accepts g c is =
       none = c.in_ok-header.ensures.none;
       first = c.in_ok-header_block.ensures.read;
       short = c.in_ok-header_block.ensures.short;
-      whole = mapped_some _ _ c.in-Ok-journaled_writes.writes (rw (c.deref.ensures.value, c.journal_key-journal_key.ensures) at c.in-Ok-journaled_writes.ensures.some);
-      torn = mapped_none _ _ c.in-Ok-journaled_writes.writes (rw (c.deref.ensures.value, c.journal_key-journal_key.ensures) at c.in-Ok-journaled_writes.ensures.none);
+      whole = writes.1;
+      torn = writes.2;
     } in
     let accepted = accepts_all _ _ _ _ _ _ is.2 _ _ _ _ _ _ read (g.met.S.Storage.possible c.args.storage.now) (g.met.J.Storage.possible c.args.journal.now) is.3 is.4 in
-    absurd (refused _ _ c.in_err-check_journal.was (c.check_journal.ensures.accepted.1 (rw c.deref-2.ensures.value accepted)))
+    let yes : IsTrue c.is_accepted.result = (c.is_accepted.ensures writes.0 writes.3).1 (rw c.deref-2.ensures.value accepted) in absurd (search rules)

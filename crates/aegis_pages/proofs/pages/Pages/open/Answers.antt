@@ -51,4 +51,4 @@ pub returns-in_err-header-clause-accepts : goal.returns-in_err-header-clause-acc
 returns-in_err-header-clause-accepts g c left =
     let p = err_from_is_err_and c.from_residual.result c.from_residual.ensures.1 in
     let other = c.in_err-header.ensures.accepts left in
-    (only_error _ _ _ (p.1 ∙ ap Err p.2) (λ is. other.0 (ap Err is)), only_error _ _ _ (p.1 ∙ ap Err p.2) (λ is. other.1 (ap Err is)), only_error _ _ _ (p.1 ∙ ap Err p.2) (λ is. other.2 (ap Err is)))
+    (only_error _ _ _ (p.1 ∙ ap Err p.2) (λ is. other.0 (ap Err is)), only_error _ _ _ (p.1 ∙ ap Err p.2) (λ is. other.1 (ap Err is)))

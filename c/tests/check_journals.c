@@ -1,0 +1,230 @@
+/*
+ * The calls on journals: a journal against the bytes of the format, which hunkravy_mac makes, and
+ * what is made of whole, torn, changed and other journals, of a file with a header and without one.
+ * It ends with status 0 only if every result is right.
+ */
+#include "check.h"
+
+#define BLOCK HUNKRAVY_PAGE_HEADER_BLOCK_BYTES
+#define FIRST HUNKRAVY_JOURNAL_BEGINNING_BYTES
+#define START HUNKRAVY_JOURNAL_START_BYTES
+#define HEAD HUNKRAVY_JOURNAL_HEAD_BYTES
+#define MAC HUNKRAVY_JOURNAL_MAC_BYTES
+#define SIZE 300
+#define WRITES 4
+
+/* A file, and the journal of a commit to it: the header block, two writes, and the next header block. */
+struct commit {
+    uint32_t variant;
+    size_t n, length;
+    uint8_t k[32], id[HUNKRAVY_PAGE_ID_BYTES], nonce[HUNKRAVY_JOURNAL_NONCE_BYTES];
+    uint8_t before[BLOCK], after[BLOCK], text[345];
+    uint64_t places[WRITES];
+    const uint8_t *writes[WRITES];
+    size_t lengths[WRITES];
+    uint8_t journal[MOST_BYTES];
+};
+
+static void seal_header(const struct commit *this, uint8_t *block, uint64_t counter)
+{
+    uint8_t npub[32];
+
+    fill(npub, sizeof npub);
+    HOLDS(hunkravy_page_header_seal(this->variant, block, SIZE, this->id, counter, 7, npub, this->n,
+                                    this->k, this->n) == HUNKRAVY_OK);
+}
+
+/* ---- The format, as docs/PAGES.md defines it */
+
+/* Writes the first bytes of a journal or a header. */
+static uint8_t *write_clear(const struct commit *this, const char *magic, uint8_t *at)
+{
+    static const uint8_t BYTES[] = {17, 18, 20, 33, 34, 36};
+
+    memcpy(at, magic, 4);
+    at[4] = BYTES[this->variant];
+    memcpy(write_number(at + 5, SIZE, 4), this->id, sizeof this->id);
+    return at + FIRST;
+}
+
+/* Writes the journal. Its MAC is of 8 zeros and the writes. */
+static size_t write_journal(const struct commit *this, uint8_t *journal)
+{
+    uint8_t input[MOST_BYTES] = {0}, nonce[32], key[16];
+    uint8_t *at = write_clear(this, "AGJ2", journal);
+
+    memcpy(at, this->nonce, sizeof this->nonce);
+    at += sizeof this->nonce;
+    for (size_t i = 0; i < WRITES; i++) {
+        at = write_number(write_number(at, this->places[i], 8), this->lengths[i], 8);
+        memcpy(at, this->writes[i], this->lengths[i]);
+        at += this->lengths[i];
+    }
+    memset(nonce, 255, sizeof nonce);
+    HOLDS(hunkravy_mac(this->variant, (const uint8_t *)"AGJ2", 4, nonce, this->n, this->k, this->n,
+                       key, sizeof key) == HUNKRAVY_OK);
+    memcpy(input + 8, journal + START, (size_t)(at - journal) - START);
+    HOLDS(hunkravy_mac(HUNKRAVY_AEGIS128L, input, 8 + (size_t)(at - journal) - START, this->nonce,
+                       sizeof this->nonce, key, sizeof key, at, MAC) == HUNKRAVY_OK);
+    return (size_t)(at - journal) + MAC;
+}
+
+/* ---- Writing */
+
+static void check_written(const struct commit *this)
+{
+    hunkravy_state st, kept;
+    uint8_t journal[MOST_BYTES], *at = journal + START;
+    uint8_t head[HEAD], other[MAC];
+
+    HOLDS(hunkravy_journal_init(this->variant, &st, SIZE, this->id, this->nonce, this->k, this->n,
+                                journal) == HUNKRAVY_OK);
+    kept = st;
+    memset(head, 0x55, sizeof head);
+    HOLDS(hunkravy_journal_entry(&st, (UINT64_C(1) << 63) - 3, this->text, 3, head) ==
+          HUNKRAVY_FILE_TOO_LONG);
+    HOLDS(hunkravy_journal_entry(&st, UINT64_MAX, this->text, 3, head) == HUNKRAVY_FILE_TOO_LONG);
+    HOLDS(hunkravy_mac_update(&st, this->text, 3) == HUNKRAVY_WRONG_STATE);
+    HOLDS(hunkravy_mac_final(&st, other, MAC) == HUNKRAVY_WRONG_STATE);
+    HOLDS(memcmp(&st, &kept, sizeof st) == 0 && all_are(head, sizeof head, 0x55));
+    for (size_t i = 0; i < WRITES; i++) {
+        HOLDS(hunkravy_journal_entry(&st, this->places[i], this->writes[i], this->lengths[i], at) ==
+              HUNKRAVY_OK);
+        memcpy(at + HEAD, this->writes[i], this->lengths[i]);
+        at += HEAD + this->lengths[i];
+    }
+    HOLDS(hunkravy_journal_final(&st, at) == HUNKRAVY_OK);
+    HOLDS((size_t)(at - journal) + MAC == this->length);
+    HOLDS(memcmp(journal, this->journal, this->length) == 0);
+    HOLDS(all_are((const uint8_t *)&st, sizeof st, 0));
+    memset(other, 0x55, sizeof other);
+    HOLDS(hunkravy_journal_final(&st, other) == HUNKRAVY_WRONG_STATE);
+    HOLDS(hunkravy_journal_entry(&st, 0, NULL, 0, head) == HUNKRAVY_WRONG_STATE);
+    HOLDS(hunkravy_mac_init(HUNKRAVY_AEGIS128L, &st, this->k, 16, this->k, 16) == HUNKRAVY_OK);
+    HOLDS(hunkravy_journal_entry(&st, 0, NULL, 0, head) == HUNKRAVY_WRONG_STATE);
+    HOLDS(hunkravy_journal_final(&st, other) == HUNKRAVY_WRONG_STATE);
+    HOLDS(all_are(other, sizeof other, 0x55) && all_are(head, sizeof head, 0x55));
+}
+
+/* ---- Reading */
+
+/* The writes in these bytes are those of the commit. */
+static void check_writes(const struct commit *this, const uint8_t *writes, size_t left)
+{
+    uint64_t place = 7;
+    size_t length = 8;
+
+    for (size_t i = 0; i < WRITES; i++) {
+        HOLDS(hunkravy_journal_next(writes, left, &place, &length) == HUNKRAVY_OK);
+        HOLDS(place == this->places[i] && length == this->lengths[i]);
+        HOLDS(memcmp(writes + HEAD, this->writes[i], length) == 0);
+        writes += HEAD + length;
+        left -= HEAD + length;
+    }
+    HOLDS(left == 0);
+    place = 7;
+    length = 8;
+    HOLDS(hunkravy_journal_next(writes, 0, &place, &length) == HUNKRAVY_WRONG_RECORD_LENGTH);
+    HOLDS(hunkravy_journal_next(writes - 3, 3, &place, &length) == HUNKRAVY_WRONG_RECORD_LENGTH);
+    HOLDS(place == 7 && length == 8);
+}
+
+/* A file that begins with these bytes gets this answer, and so much of the journal is made again. */
+static void check_answer(const struct commit *this, const uint8_t *file, size_t filelen,
+                         const uint8_t *journal, size_t journallen, int code, size_t expected)
+{
+    uint8_t *copy = copied(journal, journallen);
+    size_t writeslen = 9999;
+
+    HOLDS(hunkravy_journal_check(this->variant, file, filelen, this->k, this->n, copy, journallen,
+                                 &writeslen) == code);
+    HOLDS(writeslen == (code == HUNKRAVY_OK ? expected : 9999));
+    HOLDS(are_equal(copy, journal, journallen));
+    if (code == HUNKRAVY_OK && expected > 0) {
+        check_writes(this, copy + START, writeslen);
+    }
+    free(copy);
+}
+
+static void check_read(const struct commit *this)
+{
+    static const uint8_t none[BLOCK];
+    size_t whole = this->length - START - MAC;
+    uint8_t torn[MOST_BYTES], later[BLOCK];
+
+    check_answer(this, this->before, BLOCK, this->journal, this->length, HUNKRAVY_OK, whole);
+    check_answer(this, this->after, BLOCK, this->journal, this->length, HUNKRAVY_OK, whole);
+    check_answer(this, none, BLOCK, this->journal, this->length, HUNKRAVY_OK, whole);
+    check_answer(this, none, 0, this->journal, this->length, HUNKRAVY_OK, whole);
+    check_answer(this, this->after, BLOCK - 1, this->journal, this->length, HUNKRAVY_OK, whole);
+    seal_header(this, later, 6);
+    check_answer(this, later, BLOCK, this->journal, this->length, HUNKRAVY_WRONG_JOURNAL, 0);
+    for (size_t length = 0; length < this->length; length += 1 + length / 30) {
+        check_answer(this, this->before, BLOCK, this->journal, length, HUNKRAVY_OK, 0);
+        check_answer(this, none, BLOCK, this->journal, length, HUNKRAVY_INVALID_TAG, 0);
+    }
+    memcpy(torn, this->journal, this->length);
+    change_a_bit(torn + FIRST, this->length - FIRST);
+    check_answer(this, this->before, BLOCK, torn, this->length, HUNKRAVY_OK, 0);
+    check_answer(this, none, BLOCK, torn, this->length, HUNKRAVY_INVALID_TAG, 0);
+    change_a_bit(torn, FIRST);
+    check_answer(this, this->before, BLOCK, torn, this->length, HUNKRAVY_WRONG_JOURNAL, 0);
+    check_answer(this, this->before, BLOCK, torn, FIRST, HUNKRAVY_OK, 0);
+    check_answer(this, this->before, BLOCK, torn, FIRST + 1, HUNKRAVY_WRONG_JOURNAL, 0);
+}
+
+/* ---- What is refused */
+
+static void check_refused(const struct commit *this, uint32_t variant, uint32_t size, size_t klen,
+                          int code)
+{
+    hunkravy_state st;
+    uint8_t start[START], *k = filled(klen, 0);
+    size_t writeslen = 9;
+
+    memset(start, 0x55, sizeof start);
+    HOLDS(hunkravy_journal_init(variant, &st, size, this->id, this->nonce, k, klen, start) == code);
+    HOLDS(all_are(start, sizeof start, 0x55) && all_are((const uint8_t *)&st, sizeof st, 0));
+    if (code != HUNKRAVY_WRONG_PAGE_SIZE) {
+        HOLDS(hunkravy_journal_check(variant, NULL, 0, k, klen, NULL, 0, &writeslen) == code);
+        HOLDS(writeslen == 9);
+    }
+    free(k);
+}
+
+static void check_variant(const struct variant *variant)
+{
+    static struct commit this;
+    const uint64_t places[WRITES] = {0, 4096, (UINT64_C(1) << 63) - 346, 0};
+    const uint8_t *const writes[WRITES] = {this.before, this.after, this.text, this.after};
+    const size_t lengths[WRITES] = {BLOCK, 0, sizeof this.text, BLOCK};
+
+    this.variant = variant->number;
+    this.n = variant->key_bytes;
+    fill(this.k, sizeof this.k);
+    fill(this.id, sizeof this.id);
+    fill(this.nonce, sizeof this.nonce);
+    fill(this.text, sizeof this.text);
+    seal_header(&this, this.before, 4);
+    seal_header(&this, this.after, 5);
+    memcpy(this.places, places, sizeof places);
+    memcpy(this.writes, writes, sizeof writes);
+    memcpy(this.lengths, lengths, sizeof lengths);
+    this.length = write_journal(&this, this.journal);
+    check_written(&this);
+    check_read(&this);
+    check_refused(&this, this.variant, SIZE, this.n - 1, HUNKRAVY_WRONG_KEY_LENGTH);
+    check_refused(&this, this.variant, 255, 48 - this.n, HUNKRAVY_WRONG_KEY_LENGTH);
+    check_refused(&this, this.variant, 255, this.n, HUNKRAVY_WRONG_PAGE_SIZE);
+    check_refused(&this, this.variant, 65537, this.n, HUNKRAVY_WRONG_PAGE_SIZE);
+    check_refused(&this, 6, SIZE, this.n, HUNKRAVY_WRONG_VARIANT);
+}
+
+int main(void)
+{
+    for (size_t i = 0; i < COUNT(VARIANTS); i++) {
+        check_variant(&VARIANTS[i]);
+    }
+    printf("hunkravy.h on journals: %lu checks, all right\n", checks);
+    return EXIT_SUCCESS;
+}

@@ -1,0 +1,84 @@
+use Rattle.std.proofs.Common.{◌≡◌, ◌∙◌, List, ap, refl, rules, ℕ}
+use Rattle.aegis_pages.specs.Commits.{journal_key}
+use Rattle.aegis_c_calls.proofs.JournalFacts.{may_be, may_not_be, was_read, whole_found}
+use Rattle.aegis_c_calls.proofs.journal.check.Goals as goal
+
+pub returns-in-Some : goal.returns-in-Some
+returns-in-Some g c =
+    let variant = g.S.LaneState.VARIANT in
+    let key : List ℕ = c.args.k.now in
+    let read = was_read (λ l. l.now) variant _ key _ c.args.file.now c.args.journal.now _ c.header_in-header.result c.journaled_content-content.result c.is_accepted.result g.met.S.LaneState.one_two_or_four
+    c.in_ok-key.ensures.key c.journal_key-journal_key.ensures c.header_block.ensures c.header_in-header.ensures c.journaled_content-content.ensures.some c.journaled_content-content.ensures.none c.is_accepted.ensures in
+    record {
+      answered = search rules;
+      lengths = search rules;
+      other = search rules;
+      accepted = search rules;
+      complete = λ may _. absurd (may_not_be variant key _ _ _ read.0 _ read.1 c.if-not-is_accepted.true may);
+      none = search rules;
+      named = λ _. (c.in-Some.field-0, rw c.in-Some.is at read.1.is);
+      whole = search rules;
+      torn = search rules;
+      kept = search rules;
+    }
+
+pub returns-in-None : goal.returns-in-None
+returns-in-None g c =
+    let variant = g.S.LaneState.VARIANT in
+    let key : List ℕ = c.args.k.now in
+    let read = was_read (λ l. l.now) variant _ key _ c.args.file.now c.args.journal.now _ c.header_in-header.result c.journaled_content-content.result c.is_accepted.result g.met.S.LaneState.one_two_or_four
+    c.in_ok-key.ensures.key c.journal_key-journal_key.ensures c.header_block.ensures c.header_in-header.ensures c.journaled_content-content.ensures.some c.journaled_content-content.ensures.none c.is_accepted.ensures in
+    record {
+      answered = search rules;
+      lengths = search rules;
+      other = search rules;
+      accepted = search rules;
+      complete = λ may _. absurd (may_not_be variant key _ _ _ read.0 _ read.1 c.if-not-is_accepted.true may);
+      none = λ _. rw c.in-None.is at read.1.is;
+      named = search rules;
+      whole = search rules;
+      torn = search rules;
+      kept = search rules;
+    }
+
+pub returns-in_default : goal.returns-in_default
+returns-in_default g c =
+    let variant = g.S.LaneState.VARIANT in
+    let key : List ℕ = c.args.k.now in
+    let read = was_read (λ l. l.now) variant _ key _ c.args.file.now c.args.journal.now _ c.header_in-header.result c.journaled_content-content.result c.is_accepted.result g.met.S.LaneState.one_two_or_four
+    c.in_ok-key.ensures.key c.journal_key-journal_key.ensures c.header_block.ensures c.header_in-header.ensures c.journaled_content-content.ensures.some c.journaled_content-content.ensures.none c.is_accepted.ensures in
+    let made : c.journal_key-journal_key.result ≡ journal_key variant key =
+    c.journal_key-journal_key.ensures ∙ ap (journal_key variant) c.in_ok-key.ensures.key in
+    record {
+      answered = search rules;
+      lengths = search rules;
+      other = search rules;
+      accepted = λ _. may_be variant key _ _ _ read.0 _ read.1 c.if-not-is_accepted.false;
+      complete = λ _ _. refl;
+      none = search rules;
+      named = search rules;
+      whole = λ writes _ is. absurd ((rw made at c.in_default.ensures.none) writes is);
+      torn = λ _ _. refl;
+      kept = search rules;
+    }
+
+pub returns : goal.returns
+returns g c =
+    let variant = g.S.LaneState.VARIANT in
+    let key : List ℕ = c.args.k.now in
+    let read = was_read (λ l. l.now) variant _ key _ c.args.file.now c.args.journal.now _ c.header_in-header.result c.journaled_content-content.result c.is_accepted.result g.met.S.LaneState.one_two_or_four
+    c.in_ok-key.ensures.key c.journal_key-journal_key.ensures c.header_block.ensures c.header_in-header.ensures c.journaled_content-content.ensures.some c.journaled_content-content.ensures.none c.is_accepted.ensures in
+    let made : c.journal_key-journal_key.result ≡ journal_key variant key =
+    c.journal_key-journal_key.ensures ∙ ap (journal_key variant) c.in_ok-key.ensures.key in
+    record {
+      answered = search rules;
+      lengths = search rules;
+      other = search rules;
+      accepted = λ _. may_be variant key _ _ _ read.0 _ read.1 c.if-not-is_accepted.false;
+      complete = λ _ _. refl;
+      none = search rules;
+      named = search rules;
+      whole = λ writes _ is. whole_found _ _ _ _ writes made c.in-Some-content.ensures.some is;
+      torn = λ _ torn. absurd (torn _ (rw made at c.in-Some-content.ensures.some.1));
+      kept = search rules;
+    }

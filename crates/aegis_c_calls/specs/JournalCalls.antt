@@ -1,0 +1,112 @@
+-- What each call on the journal of a file of sealed pages does: the code that it returns, and the bytes at its pointers
+-- before and after it. Journals are those of `aegis_storage`, under the key and the beginning that `aegis_pages` has for a
+-- file. A record has the name of its call.
+use Rattle.std.specs.Prelude.{ℕ, ℤ, ◌+◌, ◌==◌, leb, Option, Some, None, if◌then◌else◌, ◌≡◌, ◌≢◌, ◌≤◌, List, [], ◌∷◌, ◌++◌, drop, length, take}
+use Rattle.aegis_base.specs.Variant.{Aegis128L, Variant}
+use Rattle.aegis_engine.specs.Saved.{IsSaved}
+use Rattle.aegis_c_calls.specs.Codes.{role_code, the}
+use Rattle.aegis_c_calls.specs.PageCalls.{HasHeader, file_of, header_code, keyed_code}
+use Rattle.aegis_c_calls.specs.declared.journal.TheConstants.{ADDED_BYTES, JOURNAL}
+use Rattle.aegis_c_calls.specs.declared.refusal.TheConstants.{DONE, FILE_TOO_LONG, INVALID_TAG, WRONG_JOURNAL, WRONG_RECORD_LENGTH, WRONG_STATE}
+use Rattle.aegis_c_calls.specs.declared.state.State.{State}
+use Rattle.aegis_c_calls.specs.declared.state.TheConstants.{ENDED}
+use Rattle.aegis_pages.specs.Commits.{IsAccepted, journal_key}
+use Rattle.aegis_pages.specs.Layouts.{journal_beginning}
+use Rattle.aegis_pages.specs.declared.header.FileHeader.{FileHeader}
+use Rattle.aegis_storage.specs.Bytes.{part_at}
+use Rattle.aegis_storage.specs.Disk.{Writes}
+use Rattle.aegis_storage.specs.Journal.{AreWithin, IsJournal, authenticated, entries, entry}
+use Rattle.aegis_storage.specs.declared.journal.TheConstants.{MAX_JOURNAL_BYTES}
+use Rattle.aegis_storage.specs.declared.store.TheConstants.{MAX_STORAGE_BYTES}
+
+-- ---- the code that a call returns
+
+-- for a state that should be a journal; `rest` is the code if it is one
+abbrev pub journal_code : State → ℤ → ℤ
+journal_code st rest = if st.context.ad_bytes == 0 then role_code st JOURNAL JOURNAL rest else WRONG_STATE
+
+-- for the next write, of so many bytes: it ends within a storage, and the journal within its limit
+abbrev pub entry_code : State → (place bytes : ℕ) → ℤ
+entry_code st place bytes = journal_code st (if leb (place + bytes) MAX_STORAGE_BYTES then (if leb (st.context.message_bytes + (bytes + ADDED_BYTES)) MAX_JOURNAL_BYTES then DONE else FILE_TOO_LONG) else FILE_TOO_LONG)
+
+-- ---- writing
+
+-- the state is that of a journal under this key and nonce, which has these writes so far
+pub record IsJournaling (key nonce : List ℕ) (writes : Writes) (st : State) : Type 0 where
+  pub within : AreWithin writes
+  pub fits : length (entries writes) + 81 ≤ MAX_JOURNAL_BYTES
+  pub saved : IsSaved Aegis128L st.context key nonce [] (authenticated [] (entries writes))
+
+-- The call begins a journal of no writes, and overwrites `start` with what it begins with; or it changes nothing.
+pub record JournalBegin (variant : Option Variant) (key id nonce : List ℕ) (page_bytes : ℕ) (old new : State) (start start' : List ℕ) (code : ℤ) : Type 0 where
+  pub answered : code ≡ keyed_code variant (length key) (header_code page_bytes 0)
+  pub begun : code ≡ DONE → IsJournaling (journal_key (the variant) key) nonce [] new
+  pub written : code ≡ DONE → start' ≡ journal_beginning (file_of (the variant) key id page_bytes) ++ nonce
+  pub state_kept : code ≢ DONE → new ≡ old
+  pub kept : code ≢ DONE → start' ≡ start
+
+-- The call takes in a write, and overwrites `head` with what it has in front of its bytes; or it changes nothing.
+pub record JournalEntry (place : ℕ) (bytes : List ℕ) (old new : State) (head head' : List ℕ) (code : ℤ) : Type 0 where
+  pub answered : code ≡ entry_code old place (length bytes)
+  pub taken : (key nonce : List ℕ) (writes : Writes) → code ≡ DONE → IsJournaling key nonce writes old → IsJournaling key nonce (writes ++ (place, bytes) ∷ []) new
+  pub written : code ≡ DONE → head' ++ bytes ≡ entry (place, bytes)
+  pub state_kept : code ≢ DONE → new ≡ old
+  pub kept : code ≢ DONE → head' ≡ head
+
+-- The call overwrites `mac` with the MAC with which the journal ends, and ends the state; or it changes nothing. What was
+-- written is then a journal of the writes.
+pub record JournalFinal (old new : State) (mac mac' : List ℕ) (code : ℤ) : Type 0 where
+  pub answered : code ≡ journal_code old DONE
+  pub whole : (key beginning nonce : List ℕ) (writes : Writes) → code ≡ DONE → IsJournaling key nonce writes old → length beginning ≡ 33 → length nonce ≡ 16
+      → IsJournal key [] writes (beginning ++ (nonce ++ (entries writes ++ mac')))
+  pub ended : code ≡ DONE → new ≡ ENDED
+  pub state_kept : code ≢ DONE → new ≡ old
+  pub kept : code ≢ DONE → mac' ≡ mac
+
+-- ---- reading
+
+-- the block of the header of a file that begins with these bytes, if they are as many
+abbrev pub header_block_of : List ℕ → Option (List ℕ)
+header_block_of file = if leb 512 (length file) then Some (take 512 file) else None
+
+-- what a file that begins with these bytes has as its header
+abbrev pub IsHeaderIn : (variant : Variant) (key file : List ℕ) → Option FileHeader → Type 0
+IsHeaderIn variant key file (Some header) = (512 ≤ length file) × HasHeader variant key (take 512 file) header
+IsHeaderIn variant key file None = (header : FileHeader) → 512 ≤ length file → HasHeader variant key (take 512 file) header → ⊥
+
+-- the writes of a whole journal under the file's key, or none for other bytes
+abbrev pub AreJournaled : (variant : Variant) (key journal : List ℕ) → Option Writes → Type 0
+AreJournaled variant key journal (Some writes) = IsJournal (journal_key variant key) [] writes journal
+AreJournaled variant key journal None = (writes : Writes) → IsJournal (journal_key variant key) [] writes journal → ⊥
+
+-- the journal may be made again, or emptied
+abbrev pub MayBeEmptied : (variant : Variant) (key file journal : List ℕ) → Type 0
+MayBeEmptied variant key file journal =
+    (header : Option FileHeader) × (writes : Option Writes) × IsHeaderIn variant key file header × AreJournaled variant key journal writes
+    × IsAccepted variant key (header_block_of file) header writes journal
+
+-- The call returns `DONE` exactly if the journal may be made again, or emptied, unless the variant or the length of the key
+-- is wrong. Then `bytes` becomes the length of its writes if it is whole, and 0 if it is not.
+pub record JournalCheck (variant : Option Variant) (key file journal : List ℕ) (bytes bytes' : ℕ) (code : ℤ) : Type 0 where
+  pub answered : code ≢ INVALID_TAG → code ≢ WRONG_JOURNAL → code ≡ keyed_code variant (length key) DONE
+  pub lengths : code ≡ INVALID_TAG → keyed_code variant (length key) DONE ≡ DONE
+  pub other : code ≡ WRONG_JOURNAL → keyed_code variant (length key) DONE ≡ DONE
+  pub accepted : code ≡ DONE → MayBeEmptied (the variant) key file journal
+  pub complete : MayBeEmptied (the variant) key file journal → keyed_code variant (length key) DONE ≡ DONE → code ≡ DONE
+  -- without a header, and with one
+  pub none : code ≡ INVALID_TAG → IsHeaderIn (the variant) key file None
+  pub named : code ≡ WRONG_JOURNAL → (header : FileHeader) × IsHeaderIn (the variant) key file (Some header)
+  pub whole : (writes : Writes) → code ≡ DONE → IsJournal (journal_key (the variant) key) [] writes journal → (bytes' ≡ length (entries writes)) × (part_at journal 49 bytes' ≡ entries writes)
+  pub torn : code ≡ DONE → AreJournaled (the variant) key journal None → bytes' ≡ 0
+  pub kept : code ≢ DONE → bytes' ≡ bytes
+
+-- The call finds the first of the writes, if there is one: its place, and the length of its bytes.
+pub record JournalNext (writes : List ℕ) (place place' len len' : ℕ) (code : ℤ) : Type 0 where
+  pub answered : code ≢ WRONG_RECORD_LENGTH → code ≡ DONE
+  pub found : code ≡ DONE → writes ≡ entry (place', part_at writes 16 len') ++ drop (16 + len') writes
+  pub within : code ≡ DONE → place' + len' ≤ MAX_STORAGE_BYTES
+  -- it is this one, and no other
+  pub one : (write : ℕ × List ℕ) (after : List ℕ) → write.0 + length write.1 ≤ MAX_STORAGE_BYTES → writes ≡ entry write ++ after
+      → (code ≡ DONE) × ((place', part_at writes 16 len') ≡ write) × (drop (16 + len') writes ≡ after)
+  pub place_kept : code ≢ DONE → place' ≡ place
+  pub len_kept : code ≢ DONE → len' ≡ len
