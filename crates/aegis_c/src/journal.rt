@@ -23,7 +23,7 @@ pub extern "C" fn hunkravy_proved_journal_init(
     id: &[u8; 24],
     nonce: &[u8; 16],
     k: &[u8],
-    start: &mut [u8; 49],
+    start: &mut [u8; 528],
 ) -> i32
     ensures { JournalBegin (variant_of variant) k.now id.now nonce.now page_bytes st.old st.new
         start.old start.new result }

@@ -1,6 +1,6 @@
 -- A journal that is written a write at a time, and what is made of one that is read.
-use Rattle.std.proofs.Common.{◌≡◌, ℕ, ◌+◌, ◌≤◌, ◌↔◌, IsTrue, Bool, inl, inr, List, [], ◌∷◌, ◌++◌, drop, length, take, replicate, refl, sym, ap, subst, ◌∙◌, arith, Option, None, Some, IfNone, IfSome, option_map, true, false}
-use Rattle.std.proofs.lemmas.List.{append-nil, append_assoc, drop_at, length-append, take_at}
+use Rattle.std.proofs.Common.{◌≡◌, ℕ, leb, if◌then◌else◌, ◌+◌, ◌≤◌, ◌↔◌, IsTrue, Bool, inl, inr, List, [], ◌∷◌, ◌++◌, drop, length, take, replicate, refl, sym, ap, subst, ◌∙◌, arith, Option, None, Some, IfNone, IfSome, option_map, true, false}
+use Rattle.std.proofs.lemmas.List.{append-nil, append_assoc, drop_at, length-append, length-drop, take-append-drop, take_at}
 use Rattle.std.specs.Int.{to_le_bytes, w64}
 use Rattle.aegis_aes.specs.Lanes.{IsLaneCount}
 use Rattle.aegis_base.specs.Context.{Stands}
@@ -9,7 +9,7 @@ use Rattle.aegis_base.specs.Variant.{Aegis128L, Variant}
 use Rattle.aegis_base.proofs.MacFacts.{length_mac}
 use Rattle.aegis_engine.specs.Saved.{HasTaken, IsSaved}
 use Rattle.aegis_engine.specs.declared.saved.SavedContext.{SavedContext}
-use Rattle.aegis_pages.specs.Commits.{AreWritesOf, IsAccepted, journal_key}
+use Rattle.aegis_pages.specs.Commits.{AreWritesOf, IsAccepted, IsOfCommit, head_bytes, journal_key}
 use Rattle.aegis_pages.specs.declared.header.FileHeader.{FileHeader}
 use Rattle.aegis_pages.proofs.CommitFacts.{false_is_not}
 use Rattle.aegis_storage.specs.Bytes.{part_at}
@@ -47,7 +47,7 @@ pub head_is : (head a b x y : List ℕ) → head ≡ a ++ (b ++ []) → a ≡ x 
 head_is head a b x y all p q = rw (all, p, q) (ap (λ (l : List ℕ). x ++ l) (append-nil y))
 
 pub one_more_written : (key nonce : List ℕ) (writes : Writes) (old between new : State) (place : ℕ) (head bytes : List ℕ)
-    → place + length bytes ≤ MAX_STORAGE_BYTES → old.context.message_bytes + (length bytes + 89) ≤ MAX_JOURNAL_BYTES
+    → place + length bytes ≤ MAX_STORAGE_BYTES → old.context.message_bytes + (length bytes + 568) ≤ MAX_JOURNAL_BYTES
     → head ++ bytes ≡ entry (place, bytes) → HasTaken Aegis128L old.context between.context head → HasTaken Aegis128L between.context new.context bytes
     → IsJournaling key nonce writes old → IsJournaling key nonce (writes ++ (place, bytes) ∷ []) new
 one_more_written key nonce writes old between new place head bytes low short is first second before =
@@ -62,18 +62,21 @@ one_more_written key nonce writes old between new place head bytes low short is 
           (second key nonce [] (authenticated [] (entries writes) ++ head) (first key nonce [] (authenticated [] (entries writes)) before.saved));
     }
 
-pub all_written : (key beginning nonce : List ℕ) (writes : Writes) (st : State) (end : List ℕ) → IsJournaling key nonce writes st → length beginning ≡ 33 → length nonce ≡ 16
-    → end ≡ mac Aegis128L 32 key nonce (authenticated [] (entries writes)) → IsJournal key [] writes (beginning ++ (nonce ++ (entries writes ++ end)))
-all_written key beginning nonce writes st end is p q same =
-    let fits = is.fits in record {
+pub all_written : (key nonce start : List ℕ) (writes : Writes) (st : State) (end : List ℕ) → IsJournaling key nonce writes st → length start ≡ 528 → drop 512 start ≡ nonce
+    → end ≡ mac Aegis128L 32 key nonce (authenticated [] (entries writes)) → IsJournal key [] writes (start ++ (entries writes ++ end))
+all_written key nonce start writes st end is long second same =
+    let fits = is.fits in
+    let q : length nonce ≡ 16 = omega (arith, ap length second, long, length-drop 512 start) in
+    let parts : start ≡ take 512 start ++ nonce = sym (take-append-drop 512 start) ∙ ap (λ (l : List ℕ). take 512 start ++ l) second in record {
       within = is.within;
       framed = record {
-        beginning = beginning;
+        beginning = take 512 start;
         nonce = nonce;
-        beginning_size = p;
+        beginning_size = omega (arith, long, q, ap length parts, length-append (take 512 start) nonce);
         nonce_size = q;
-        fits = omega (arith, p, q, fits, ap length same, length_mac Aegis128L 32 key nonce (authenticated [] (entries writes)) (inl refl) (inr refl), length-append beginning (nonce ++ (entries writes ++ end)), length-append nonce (entries writes ++ end), length-append (entries writes) end);
-        are = ap (λ (l : List ℕ). beginning ++ (nonce ++ (entries writes ++ l))) same;
+        fits = omega (arith, long, fits, ap length same, length_mac Aegis128L 32 key nonce (authenticated [] (entries writes)) (inl refl) (inr refl), length-append start (entries writes ++ end), length-append (entries writes) end);
+        are = ap (λ (l : List ℕ). l ++ (entries writes ++ end)) parts ∙ append_assoc (take 512 start) nonce (entries writes ++ end)
+            ∙ ap (λ (l : List ℕ). take 512 start ++ (nonce ++ (entries writes ++ l))) same;
       };
     }
 
@@ -106,21 +109,21 @@ journaled now variant key made journal None same some none = (None, rw same at n
 journaled now variant key made journal (Some l) same some none = (Some some.0, rw same at some.1, (some.1.within, some.2))
 
 -- the writes of a whole journal lie behind its beginning and its nonce
-writes_lie : (key journal : List ℕ) (writes : Writes) → IsJournal key [] writes journal → part_at journal 49 (length (entries writes)) ≡ entries writes
+writes_lie : (key journal : List ℕ) (writes : Writes) → IsJournal key [] writes journal → part_at journal 528 (length (entries writes)) ≡ entries writes
 writes_lie key journal writes is =
     let framed = is.framed in
     let end : List ℕ = mac Aegis128L 32 key framed.nonce (authenticated [] (entries writes)) in
     let all : journal ≡ (framed.beginning ++ framed.nonce) ++ (entries writes ++ end) =
     framed.are ∙ sym (append_assoc framed.beginning framed.nonce (entries writes ++ end)) in
-    ap (λ (l : List ℕ). take (length (entries writes)) (drop 49 l)) all
-    ∙ ap (take (length (entries writes))) (drop_at (framed.beginning ++ framed.nonce) (entries writes ++ end) 49 (omega (arith, framed.beginning_size, framed.nonce_size, length-append framed.beginning framed.nonce)))
+    ap (λ (l : List ℕ). take (length (entries writes)) (drop 528 l)) all
+    ∙ ap (take (length (entries writes))) (drop_at (framed.beginning ++ framed.nonce) (entries writes ++ end) 528 (omega (arith, framed.beginning_size, framed.nonce_size, length-append framed.beginning framed.nonce)))
     ∙ take_at (entries writes) end (length (entries writes)) refl
 
 pub whole_found : (key made journal content : List ℕ) (writes : Writes) → made ≡ key → IsContent made [] journal content → IsJournal key [] writes journal
-    → (length content ≡ length (entries writes)) × (part_at journal 49 (length content) ≡ entries writes)
+    → (length content ≡ length (entries writes)) × (part_at journal 528 (length content) ≡ entries writes)
 whole_found key made journal content writes own is whole =
     let same : content ≡ entries writes = is.2 ∙ ap entries (one_journal key [] is.0 writes journal (rw own at is.1) whole) in
-    (ap length same, ap (λ (l : List ℕ). part_at journal 49 (length l)) same ∙ writes_lie key journal writes whole)
+    (ap length same, ap (λ (l : List ℕ). part_at journal 528 (length l)) same ∙ writes_lie key journal writes whole)
 
 -- What was read of a file and of a journal, and whether it was accepted.
 pub record WasRead (variant : Variant) (key file journal : List ℕ) (header : Option FileHeader) (writes : Option Writes) (accepted : Bool) : Type 0 where
@@ -157,6 +160,27 @@ may_not_be variant key file journal header writes accepted read same may =
     let is : IsTrue accepted = read.decides.1 (decided variant key file journal header writes read.count read.is read.are may) in
     false_is_not (subst IsTrue same is)
 
+-- a file that is long enough has a block of a header
+block_is : (file : List ℕ) (n : ℕ) → n ≡ length file → 512 ≤ n → (if leb 512 n then Some (take 512 file) else None) ≡ Some (take 512 file)
+block_is file n same long = grind (arith, long)
+
+-- a whole journal whose commit began or ended with the first bytes of the file
+pub own_may_be : (variant : Variant) (key file journal : List ℕ) (header : Option FileHeader) (writes : Option Writes) (accepted : Bool)
+    → WasRead variant key file journal header writes accepted → (own : Writes) → IsJournal (journal_key variant key) [] own journal → 512 ≤ length file
+    → IsOfCommit (take (head_bytes variant) (take 512 file)) own → MayBeEmptied variant key file journal
+own_may_be variant key file journal header writes accepted read own is long of_commit = (header, Some own, read.is, is, accept header)
+  where
+    accept : (h : Option FileHeader) → IsAccepted variant key (header_block_of file) h (Some own) journal
+    accept None = tt
+    accept (Some h) = rw (block_is file (length file) refl long) of_commit
+
+-- the content of a journal lies in it
+pub content_within : (key journal content : List ℕ) → IsContent key [] journal content → 528 + length content ≤ length journal
+content_within key journal content is =
+    let framed = is.1.framed in
+    let end : List ℕ = mac Aegis128L 32 key framed.nonce (authenticated [] (entries is.0)) in
+    omega (arith, ap length framed.are, ap length is.2, framed.beginning_size, framed.nonce_size, length-append framed.beginning (framed.nonce ++ (entries is.0 ++ end)), length-append framed.nonce (entries is.0 ++ end), length-append (entries is.0) end)
+
 -- the first of the writes, and what comes after it
 pub first_read : (writes : List ℕ) (place : ℕ) (bytes rest : List ℕ) → writes ≡ entry (place, bytes) ++ rest → (part_at writes 16 (length bytes) ≡ bytes) × (drop (16 + length bytes) writes ≡ rest)
 first_read writes place bytes rest is =
@@ -166,3 +190,8 @@ first_read writes place bytes rest is =
       ap (λ (l : List ℕ). take (length bytes) (drop 16 l)) all ∙ ap (take (length bytes)) (drop_at (a ++ b) (bytes ++ rest) 16 refl) ∙ take_at bytes rest (length bytes) refl,
       ap (drop (16 + length bytes)) is ∙ drop_at (entry (place, bytes)) rest (16 + length bytes) (omega (arith, length-append a (b ++ bytes), length-append b bytes)),
     )
+
+pub first_long : (writes : List ℕ) (place : ℕ) (bytes rest : List ℕ) → writes ≡ entry (place, bytes) ++ rest → 16 + length bytes ≤ length writes
+first_long writes place bytes rest is =
+    let a : List ℕ = to_le_bytes w64 place in let b : List ℕ = to_le_bytes w64 (length bytes) in
+    omega (arith, ap length is, length-append (entry (place, bytes)) rest, length-append a (b ++ bytes), length-append b bytes)

@@ -1,7 +1,7 @@
 -- What each call on the journal of a file of sealed pages does: the code that it returns, and the bytes at its pointers
 -- before and after it. Journals are those of `aegis_storage`, under the key and the beginning that `aegis_pages` has for a
 -- file. A record has the name of its call.
-use Rattle.std.specs.Prelude.{ℕ, ℤ, ◌+◌, ◌==◌, leb, Option, Some, None, if◌then◌else◌, ◌≡◌, ◌≢◌, ◌≤◌, List, [], ◌∷◌, ◌++◌, drop, length, take}
+use Rattle.std.specs.Prelude.{ℕ, ℤ, ◌+◌, ◌==◌, leb, Option, Some, None, if◌then◌else◌, ◌≡◌, ◌≢◌, ◌<◌, ◌≤◌, List, [], ◌∷◌, ◌++◌, drop, length, take}
 use Rattle.aegis_base.specs.Variant.{Aegis128L, Variant}
 use Rattle.aegis_engine.specs.Saved.{IsSaved}
 use Rattle.aegis_c_calls.specs.Codes.{role_code, the}
@@ -10,7 +10,7 @@ use Rattle.aegis_c_calls.specs.declared.journal.TheConstants.{ADDED_BYTES, JOURN
 use Rattle.aegis_c_calls.specs.declared.refusal.TheConstants.{DONE, FILE_TOO_LONG, INVALID_TAG, WRONG_JOURNAL, WRONG_RECORD_LENGTH, WRONG_STATE}
 use Rattle.aegis_c_calls.specs.declared.state.State.{State}
 use Rattle.aegis_c_calls.specs.declared.state.TheConstants.{ENDED}
-use Rattle.aegis_pages.specs.Commits.{IsAccepted, journal_key}
+use Rattle.aegis_pages.specs.Commits.{IsAccepted, IsOfCommit, head_bytes, journal_key}
 use Rattle.aegis_pages.specs.Layouts.{journal_beginning}
 use Rattle.aegis_pages.specs.declared.header.FileHeader.{FileHeader}
 use Rattle.aegis_storage.specs.Bytes.{part_at}
@@ -34,7 +34,7 @@ entry_code st place bytes = journal_code st (if leb (place + bytes) MAX_STORAGE_
 -- the state is that of a journal under this key and nonce, which has these writes so far
 pub record IsJournaling (key nonce : List ℕ) (writes : Writes) (st : State) : Type 0 where
   pub within : AreWithin writes
-  pub fits : length (entries writes) + 81 ≤ MAX_JOURNAL_BYTES
+  pub fits : length (entries writes) + 560 ≤ MAX_JOURNAL_BYTES
   pub saved : IsSaved Aegis128L st.context key nonce [] (authenticated [] (entries writes))
 
 -- The call begins a journal of no writes, and overwrites `start` with what it begins with; or it changes nothing.
@@ -42,6 +42,7 @@ pub record JournalBegin (variant : Option Variant) (key id nonce : List ℕ) (pa
   pub answered : code ≡ keyed_code variant (length key) (header_code page_bytes 0)
   pub begun : code ≡ DONE → IsJournaling (journal_key (the variant) key) nonce [] new
   pub written : code ≡ DONE → start' ≡ journal_beginning (file_of (the variant) key id page_bytes) ++ nonce
+  pub nonce : code ≡ DONE → drop 512 start' ≡ nonce
   pub state_kept : code ≢ DONE → new ≡ old
   pub kept : code ≢ DONE → start' ≡ start
 
@@ -54,11 +55,11 @@ pub record JournalEntry (place : ℕ) (bytes : List ℕ) (old new : State) (head
   pub kept : code ≢ DONE → head' ≡ head
 
 -- The call overwrites `mac` with the MAC with which the journal ends, and ends the state; or it changes nothing. What was
--- written is then a journal of the writes.
+-- written, from the bytes of the first call on, is then a journal of the writes.
 pub record JournalFinal (old new : State) (mac mac' : List ℕ) (code : ℤ) : Type 0 where
   pub answered : code ≡ journal_code old DONE
-  pub whole : (key beginning nonce : List ℕ) (writes : Writes) → code ≡ DONE → IsJournaling key nonce writes old → length beginning ≡ 33 → length nonce ≡ 16
-      → IsJournal key [] writes (beginning ++ (nonce ++ (entries writes ++ mac')))
+  pub whole : (key nonce start : List ℕ) (writes : Writes) → code ≡ DONE → IsJournaling key nonce writes old → length start ≡ 528 → drop 512 start ≡ nonce
+      → IsJournal key [] writes (start ++ (entries writes ++ mac'))
   pub ended : code ≡ DONE → new ≡ ENDED
   pub state_kept : code ≢ DONE → new ≡ old
   pub kept : code ≢ DONE → mac' ≡ mac
@@ -93,11 +94,16 @@ pub record JournalCheck (variant : Option Variant) (key file journal : List ℕ)
   pub other : code ≡ WRONG_JOURNAL → keyed_code variant (length key) DONE ≡ DONE
   pub accepted : code ≡ DONE → MayBeEmptied (the variant) key file journal
   pub complete : MayBeEmptied (the variant) key file journal → keyed_code variant (length key) DONE ≡ DONE → code ≡ DONE
+  -- also known without the header: a whole journal whose commit began or ended with the first bytes of the file
+  pub own : (writes : Writes) → IsJournal (journal_key (the variant) key) [] writes journal → 512 ≤ length file → IsOfCommit (take (head_bytes (the variant)) (take 512 file)) writes
+      → keyed_code variant (length key) DONE ≡ DONE → code ≡ DONE
   -- without a header, and with one
   pub none : code ≡ INVALID_TAG → IsHeaderIn (the variant) key file None
   pub named : code ≡ WRONG_JOURNAL → (header : FileHeader) × IsHeaderIn (the variant) key file (Some header)
-  pub whole : (writes : Writes) → code ≡ DONE → IsJournal (journal_key (the variant) key) [] writes journal → (bytes' ≡ length (entries writes)) × (part_at journal 49 bytes' ≡ entries writes)
+  pub whole : (writes : Writes) → code ≡ DONE → IsJournal (journal_key (the variant) key) [] writes journal → (bytes' ≡ length (entries writes)) × (part_at journal 528 bytes' ≡ entries writes)
   pub torn : code ≡ DONE → AreJournaled (the variant) key journal None → bytes' ≡ 0
+  -- the writes lie in the journal
+  pub within : code ≡ DONE → 0 < bytes' → 528 + bytes' ≤ length journal
   pub kept : code ≢ DONE → bytes' ≡ bytes
 
 -- The call finds the first of the writes, if there is one: its place, and the length of its bytes.
@@ -105,6 +111,7 @@ pub record JournalNext (writes : List ℕ) (place place' len len' : ℕ) (code :
   pub answered : code ≢ WRONG_RECORD_LENGTH → code ≡ DONE
   pub found : code ≡ DONE → writes ≡ entry (place', part_at writes 16 len') ++ drop (16 + len') writes
   pub within : code ≡ DONE → place' + len' ≤ MAX_STORAGE_BYTES
+  pub long : code ≡ DONE → 16 + len' ≤ length writes
   -- it is this one, and no other
   pub one : (write : ℕ × List ℕ) (after : List ℕ) → write.0 + length write.1 ≤ MAX_STORAGE_BYTES → writes ≡ entry write ++ after
       → (code ≡ DONE) × ((place', part_at writes 16 len') ≡ write) × (drop (16 + len') writes ≡ after)

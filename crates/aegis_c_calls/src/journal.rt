@@ -26,13 +26,13 @@ use aegis_storage::{MAX_JOURNAL_BYTES, MAX_STORAGE_BYTES, first_write, journaled
 pub const JOURNAL: u32 = 5;
 
 /// How many bytes a journal has in front of its writes: those that name the file, and a nonce.
-pub const START_BYTES: usize = 49;
+pub const START_BYTES: usize = 528;
 
 /// How many bytes a write has in front of its own: its place and its length.
 pub const HEAD_BYTES: usize = 16;
 
 // How many bytes a journal has more than its MAC has taken in and the bytes of the next write.
-const ADDED_BYTES: u64 = 89;
+const ADDED_BYTES: u64 = 568;
 
 // Refuses a state that is no journal, or has a number past the limit.
 fn check_journal(st: &State) -> Result<(), Refusal>
@@ -137,6 +137,7 @@ pub fn entry(
 
 /// Writes the MAC with which the journal ends to `mac`, and ends the state.
 #[inline(never)]
+#[tactic(auto, using(crate::proofs::JournalFacts::all_written))]
 pub fn last(st: &mut State, mac: &mut [u8; 32]) -> Result<(), Refusal>
     ensures { JournalFinal st.old st.new mac.old mac.new (code_of result) }
 {

@@ -9,9 +9,11 @@ use Rattle.aegis_storage.specs.Journal.{HasBeginning, IsContent, IsJournal, IsOn
 use Rattle.aegis_storage.proofs.Disks.{readable}
 use Rattle.aegis_storage.proofs.Journals.{one_journal}
 use Rattle.aegis_pages.specs.declared.header.FileHeader.{FileHeader}
-use Rattle.aegis_pages.specs.Commits.{AreWritesOf, Fits, HasHonestHeader, IsAccepted, IsHonest, IsOfAnother, IsOfCommit, RecoversContentsUnlessForged, head_of, journal_key}
-use Rattle.aegis_pages.specs.Errors.{HasNoHeader}
-use Rattle.aegis_pages.specs.Layouts.{IsHeader, Layout, journal_beginning, HasHeader, layout_of}
+use Rattle.aegis_pages.specs.Commits.{AreWritesOf, Fits, HasHonestHeader, IsAccepted, IsHonest, IsNotWhole, IsOfAnother, IsOfCommit, RecoversContentsUnlessForged, head_of, journal_key}
+use Rattle.aegis_pages.specs.Errors.{IsOpenRefusal}
+use Rattle.aegis_pages.specs.declared.error.PagesError.{PagesError}
+use Rattle.aegis_pages.specs.declared.error.PagesError.TheVariants.{Header, Journal}
+use Rattle.aegis_pages.specs.Layouts.{HasHeader, HasNoHeader, IsHeader, Layout, journal_beginning, layout_of}
 use Rattle.aegis_pages.specs.SealedPages.{IsFileUnder}
 use Rattle.aegis_pages.proofs.CommitFacts.{head_read}
 use Rattle.aegis_pages.proofs.SealedFacts.{one_in_file}
@@ -68,6 +70,35 @@ fits_all variant key (Some file) None read header_block header writes it accepte
 fits_all variant key (Some file) (Some js) read header_block header writes it accepted =
     fits variant key file js header_block header writes (subst (λ (l : List ℕ). WasRead variant key (Some file) (Some js) l header_block header writes) it.content it)
     (subst (IsAccepted variant key header_block header writes) it.content accepted)
+
+-- ---- what is not accepted does not fit
+
+fitting : (variant : Variant) (key file read : List ℕ) (header_block : Option (List ℕ)) (h : FileHeader) (writes : Option Writes)
+    → WasRead variant key (Some file) (Some read) read header_block (Some h) writes → Fits variant key file read → IsAccepted variant key header_block (Some h) writes read
+fitting variant key file read header_block h None it fit = fit.own it.torn (layout_of variant key h) h.counter h.len refl refl it.found.is
+fitting variant key file read None h (Some ws) it fit = let low = it.short in let long = it.found.is.whole in omega (arith, low, long)
+fitting variant key file read (Some s) h (Some ws) it fit =
+    subst (λ (l : List ℕ). IsOfCommit l ws) (sym (head_read variant file s it.first.1)) (fit.whole ws it.whole (λ no. no (layout_of variant key h) h.counter h.len refl refl it.found.is))
+
+not_fitting : (variant : Variant) (key file read : List ℕ) (b : Option (List ℕ)) (header_block : Option (List ℕ)) (h : FileHeader) (writes : Option Writes)
+    → WasRead variant key (Some file) b read header_block (Some h) writes → (IsAccepted variant key header_block (Some h) writes read → ⊥) → IfSome b (λ js. Fits variant key file js → ⊥)
+not_fitting variant key file read None header_block h writes it not = tt
+not_fitting variant key file read (Some js) header_block h writes it not = λ fit.
+    not (subst (IsAccepted variant key header_block (Some h) writes) (sym it.content)
+        (fitting variant key file js header_block h writes (subst (λ (l : List ℕ). WasRead variant key (Some file) (Some js) l header_block (Some h) writes) it.content it) fit))
+
+not_whole : (variant : Variant) (key read : List ℕ) (b : Option (List ℕ)) → IfSome b (λ js. read ≡ js) → IsNotWhole variant key read → IfSome b (IsNotWhole variant key)
+not_whole variant key read None same torn = tt
+not_whole variant key read (Some js) same torn = subst (IsNotWhole variant key) same torn
+
+pub refused_all : (variant : Variant) (key : List ℕ) (a b : Option (List ℕ)) (read : List ℕ) (header_block : Option (List ℕ)) (header : Option FileHeader) (writes : Option Writes)
+    → WasRead variant key a b read header_block header writes → (IsAccepted variant key header_block header writes read → ⊥)
+    → (e : PagesError) → IfSome header (λ _. e ≡ Journal) → IfNone header (e ≡ Header) → IsOpenRefusal variant key a b e
+refused_all variant key a b read header_block None None it not e some none = rw none (it.none, not_whole variant key read b it.content it.torn)
+refused_all variant key a b read header_block None (Some ws) it not e some none = absurd (not tt)
+refused_all variant key None b read header_block (Some h) writes it not e some none = rw some tt
+refused_all variant key (Some file) b read header_block (Some h) writes it not e some none =
+    rw some (λ no. no (layout_of variant key h) h.counter h.len refl refl it.found.is, not_fitting variant key file read b header_block h writes it not)
 
 -- ---- what a commit and a crash left is accepted
 

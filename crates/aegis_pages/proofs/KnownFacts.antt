@@ -2,7 +2,7 @@
 use Rattle.std.proofs.Common.{◌≡◌, ℕ, ◌≤◌, ◌≢◌, ◌∙◌, Bool, Err, Result, List, Option, None, Some, IfSome, refl, sym, arith, rules}
 use Rattle.aegis_pages.specs.declared.error.PagesError.{PagesError}
 use Rattle.aegis_pages.specs.declared.error.PagesError.TheVariants.{Read, Write, Nonce, Header, Damaged, OutOfMemory, Journal, Broken}
-use Rattle.aegis_pages.specs.Errors.{IsReadRefusal, IsBeginError, IsCreateRefusal, IsReadError}
+use Rattle.aegis_pages.specs.Errors.{IsReadRefusal, IsBeginRefusal, IsCreateRefusal, IsReadError}
 use Rattle.aegis_pages.specs.Layouts.{IsPageSize, Layout}
 use Rattle.aegis_pages.specs.SealedPages.{Changes}
 
@@ -32,13 +32,13 @@ read_within layout changes end most o within broken (Damaged k) is = (omega (ari
 read_within layout changes end most o within broken Broken is = is
 read_within layout changes end most o within broken _ is = absurd is
 
-pub create_begins : (n : ℕ) → IsPageSize n → (e : PagesError) → IsBeginError e → IsCreateRefusal n e
-create_begins n size (Read e) is = (size, is)
-create_begins n size (Write e) is = (size, is)
-create_begins n size (Nonce e) is = (size, is)
-create_begins n size OutOfMemory is = (size, is)
-create_begins n size Journal is = (size, is)
-create_begins n size _ is = absurd is
+pub create_begins : (n : ℕ) (journal : Option (List ℕ)) → IsPageSize n → (e : PagesError) → IsBeginRefusal journal e → IsCreateRefusal n journal e
+create_begins n journal size (Read e) is = (size, is)
+create_begins n journal size (Write e) is = (size, is)
+create_begins n journal size (Nonce e) is = (size, is)
+create_begins n journal size OutOfMemory is = (size, is)
+create_begins n journal size Journal is = (size, is)
+create_begins n journal size _ is = absurd is
 
 -- reading failed, and so the file was not left alone
 reads_only : (e : PagesError) → IsReadError e → (e ≢ Journal) × (e ≢ Header)

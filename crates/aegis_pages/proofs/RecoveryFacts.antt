@@ -10,7 +10,7 @@ use Rattle.aegis_storage.proofs.Journals.{crashed_beginning, empty_beginning, cr
 use Rattle.aegis_pages.specs.Changed.{Plaintexts, contents_at}
 use Rattle.aegis_pages.specs.Commits.{IsHonest, IsOfCommit, RecoversContentsUnlessForged, RestsAtContents, head_bytes, head_of, journal_key}
 use Rattle.aegis_pages.specs.Layouts.{IsHeader, Layout, journal_beginning}
-use Rattle.aegis_pages.specs.OpenFile.{AreCommitted, HasCommitted, HasContents, IsCommitted, IsStoredAs, OpenFile, OpensAtOne, Has, IsKnown}
+use Rattle.aegis_pages.specs.OpenFile.{AreCommitted, Committed, HasCommitted, HasContents, IsCommitted, IsStoredAs, OpenFile, OpensAtOne, Has, IsKnown}
 use Rattle.aegis_pages.specs.SealedPages.{ArePages, IsFileOf, IsFileUnder, IsSealed}
 use Rattle.aegis_pages.proofs.CommitFacts.{first_again, head_read, take_own}
 use Rattle.aegis_pages.proofs.OpenFileFacts.{holds_has, holds_sealed, sealed_has}
@@ -184,3 +184,13 @@ opens_held layout counter len changes None b count none header same = tt
 opens_held layout counter len changes (Some file) b count none header same = λ contents h.
     subst (IsKnown (Has layout counter len len changes false contents)) (sym same)
     (holds_has layout counter len changes contents file count none (subst (λ (o : Option (List ℕ)). IfSome o (IsHeader layout counter len)) same header) h)
+
+-- without the changes, the contents are the committed ones
+pub discarded : (layout : Layout) (counter stored len : ℕ) (changes none : Plaintexts) (bytes : Option (List ℕ)) (disk journal : Option Disk) (broken : Bool) (before now : List ℕ) → IsLaneCount layout.variant.lanes → IsPossible bytes disk
+    → ((k : ℕ) → contents_at none k ≡ None) → Committed layout counter disk journal before → IsKnown (Has layout counter stored len changes broken now) bytes → IsKnown (Has layout counter stored stored none broken before) bytes
+discarded layout counter stored len changes none bytes disk journal broken before now count possible empty committed has =
+    let known = readable_certain bytes disk committed.bytes possible committed.rests.storage_is in
+    let held = subst (IsKnown (Has layout counter stored len changes broken now)) known has in
+    subst (IsKnown (Has layout counter stored stored none broken before)) (sym known)
+    (subst (λ (b : Bool). Has layout counter stored stored none b before committed.bytes) (sym held.sound)
+    (holds_has layout counter stored none before committed.bytes count empty held.header (record { layout = layout; counter = counter; variant_is = refl; key_is = refl; is = committed.is })))

@@ -7,8 +7,7 @@ use Rattle.aegis_storage.specs.Disk.{Disk, Writes, after_writes}
 use Rattle.aegis_storage.specs.Journal.{AreWithin, IsAtRest, IsJournal, IsNoForgery, IsOneOf, KeepsBeginning, RecoversUnlessForged, entries}
 use Rattle.aegis_pages.specs.declared.header.FileHeader.{FileHeader}
 use Rattle.aegis_pages.specs.declared.layout.TheConstants.{JOURNAL_MAGIC}
-use Rattle.aegis_pages.specs.Errors.{HasNoHeader}
-use Rattle.aegis_pages.specs.Layouts.{IsHeader, Layout, journal_beginning, layout_of}
+use Rattle.aegis_pages.specs.Layouts.{HasNoHeader, IsHeader, Layout, journal_beginning, layout_of}
 use Rattle.aegis_pages.specs.SealedPages.{IsFileOf, IsFileUnder}
 use Rattle.aegis_pages.specs.OpenFile.{OpenFile}
 
@@ -82,7 +81,7 @@ pub record RestsAtContents (variant : Variant) (key before now : List ℕ) (stor
 
 -- the bytes have more than a beginning, and do not begin with this one
 abbrev pub IsOfAnother : (beginning bytes : List ℕ) → Type 0
-IsOfAnother beginning bytes = (33 < length bytes) × (take 33 bytes ≢ beginning)
+IsOfAnother beginning bytes = (512 < length bytes) × (take 512 bytes ≢ beginning)
 
 -- the writes in the content of a whole journal, or none if there is no such content
 abbrev pub AreWritesOf : Option Writes → (content : Option (List ℕ)) → Type 0
@@ -101,13 +100,17 @@ IsAccepted variant key header_block (Some header) None journal = IsOfAnother (jo
 IsAccepted variant key None (Some header) (Some writes) journal = ⊥
 IsAccepted variant key (Some header_block) (Some header) (Some writes) journal = IsOfCommit (take (head_bytes variant) header_block) writes
 
+-- the journal is not whole: it has no writes under this key
+abbrev pub IsNotWhole : Variant → (key journal : List ℕ) → Type 0
+IsNotWhole variant key journal = (writes : Writes) → IsJournal (journal_key variant key) [] writes journal → ⊥
+
 -- The journal may be made again, or emptied: if it is whole, and the file has a header, its commit began or ended with
 -- that one; and if it is not whole the file has a header, and it has no more than a beginning, or begins with that of the file.
 pub record Fits (variant : Variant) (key file journal : List ℕ) : Type 0 where
   pub whole : (writes : Writes) → IsJournal (journal_key variant key) [] writes journal
       → (HasNoHeader variant key file → ⊥) → IsOfCommit (head_of variant file) writes
-  pub other : ((writes : Writes) → IsJournal (journal_key variant key) [] writes journal → ⊥) → HasNoHeader variant key file → ⊥
-  pub own : ((writes : Writes) → IsJournal (journal_key variant key) [] writes journal → ⊥) → (layout : Layout) (counter len : ℕ) → layout.variant ≡ variant → layout.key ≡ key
+  pub other : IsNotWhole variant key journal → HasNoHeader variant key file → ⊥
+  pub own : IsNotWhole variant key journal → (layout : Layout) (counter len : ℕ) → layout.variant ≡ variant → layout.key ≡ key
       → IsHeader layout counter len file → IsOfAnother (journal_beginning layout) journal → ⊥
 
 -- `RecoversContentsUnlessForged` as one word, which the proofs of callers take from one call to the next

@@ -1,11 +1,12 @@
 -- Which error a call returns.
-use Rattle.std.specs.Prelude.{◌≡◌, ℕ, ◌-◌, ◌*◌, ◌^◌, ◌<◌, Bool, IfSome, List, Option, ⊤, true}
+use Rattle.std.specs.Prelude.{◌≡◌, ℕ, ◌-◌, ◌*◌, ◌^◌, ◌<◌, Bool, IfSome, List, Option, ⊤, length, true}
 use Rattle.aegis_base.specs.Variant.{Variant}
 use Rattle.aegis_pages.specs.declared.error.PagesError.{PagesError}
 use Rattle.aegis_pages.specs.declared.error.PagesError.TheVariants.{Read, Write, Nonce, Header, Damaged, TooLong, OutOfMemory, PageSize, Commitment, Journal, Broken}
 use Rattle.aegis_pages.specs.declared.layout.TheConstants.{MAX_CONTENTS_BYTES}
 use Rattle.aegis_pages.specs.Commitments.{commitment}
-use Rattle.aegis_pages.specs.Layouts.{IsHeader, IsPageSize, Layout}
+use Rattle.aegis_pages.specs.Commits.{Fits, IsNotWhole}
+use Rattle.aegis_pages.specs.Layouts.{HasNoHeader, IsPageSize, Layout}
 use Rattle.aegis_pages.specs.SealedPages.{Changes, Shows}
 
 -- reading failed
@@ -23,14 +24,18 @@ IsSealError _ = ⊥
 abbrev pub ShowsNothing : Layout → Changes → ℕ → Option (List ℕ) → Type 0
 ShowsNothing layout changes k bytes = IfSome bytes (λ file. (m : List ℕ) → Shows layout (changes k) file k m → ⊥)
 
--- a storage failed, no nonce was drawn, no memory was left, or the journal is not empty
+-- a storage failed, no nonce was drawn, or no memory was left
 abbrev pub IsBeginError : PagesError → Type 0
 IsBeginError (Read e) = ⊤
 IsBeginError (Write e) = ⊤
 IsBeginError (Nonce e) = ⊤
 IsBeginError OutOfMemory = ⊤
-IsBeginError Journal = ⊤
 IsBeginError _ = ⊥
+
+-- the journal has bytes, or one of these failed
+abbrev pub IsBeginRefusal : (journal : Option (List ℕ)) → PagesError → Type 0
+IsBeginRefusal journal Journal = IfSome journal (λ js. 0 < length js)
+IsBeginRefusal journal e = IsBeginError e
 
 -- Reading failed, or the page of this number shows nothing.
 abbrev pub IsShowRefusal : Layout → Changes → ℕ → Option (List ℕ) → PagesError → Type 0
@@ -63,23 +68,20 @@ IsCommitRefusal broken counter TooLong = counter ≡ 2 ^ 64 - 1
 IsCommitRefusal broken counter OutOfMemory = ⊤
 IsCommitRefusal broken counter e = IsCommitmentRefusal broken e
 
--- The page size is wrong exactly if that is the error. Otherwise a storage failed, the journal is not empty, no memory was left or no nonce was drawn.
-abbrev pub IsCreateRefusal : ℕ → PagesError → Type 0
-IsCreateRefusal page_bytes PageSize = IsPageSize page_bytes → ⊥
-IsCreateRefusal page_bytes e = IsPageSize page_bytes × IsBeginError e
+-- The page size is wrong exactly if that is the error. Otherwise the journal has bytes, a storage failed, no memory was left or no nonce was drawn.
+abbrev pub IsCreateRefusal : ℕ → (journal : Option (List ℕ)) → PagesError → Type 0
+IsCreateRefusal page_bytes journal PageSize = IsPageSize page_bytes → ⊥
+IsCreateRefusal page_bytes journal e = IsPageSize page_bytes × IsBeginRefusal journal e
 
--- the file has no header that was sealed with the variant and under the key
-abbrev pub HasNoHeader : Variant → List ℕ → List ℕ → Type 0
-HasNoHeader variant key file = (layout : Layout) (counter len : ℕ) → layout.variant ≡ variant → layout.key ≡ key → IsHeader layout counter len file → ⊥
-
--- A storage failed, no memory was left, there is no header, or the journal is another one.
-abbrev pub IsOpenRefusal : Variant → List ℕ → Option (List ℕ) → PagesError → Type 0
-IsOpenRefusal variant key bytes (Read e) = ⊤
-IsOpenRefusal variant key bytes (Write e) = ⊤
-IsOpenRefusal variant key bytes Header = IfSome bytes (HasNoHeader variant key)
-IsOpenRefusal variant key bytes OutOfMemory = ⊤
-IsOpenRefusal variant key bytes Journal = ⊤
-IsOpenRefusal variant key bytes _ = ⊥
+-- A storage failed, or no memory was left. Otherwise `Header` is returned only for a file without a header whose journal
+-- is not whole, and `Journal` only for a file with a header that the journal does not fit.
+abbrev pub IsOpenRefusal : Variant → (key : List ℕ) → (bytes journal : Option (List ℕ)) → PagesError → Type 0
+IsOpenRefusal variant key bytes journal (Read e) = ⊤
+IsOpenRefusal variant key bytes journal (Write e) = ⊤
+IsOpenRefusal variant key bytes journal Header = IfSome bytes (HasNoHeader variant key) × IfSome journal (IsNotWhole variant key)
+IsOpenRefusal variant key bytes journal OutOfMemory = ⊤
+IsOpenRefusal variant key bytes journal Journal = IfSome bytes (λ file. (HasNoHeader variant key file → ⊥) × IfSome journal (λ js. Fits variant key file js → ⊥))
+IsOpenRefusal variant key bytes journal _ = ⊥
 
 -- The error says that the file was not opened, and nothing was written.
 abbrev pub IsLeftAlone : PagesError → Type 0

@@ -1,5 +1,5 @@
 -- How a file of sealed pages is laid out: its header, and sealed pages, their associated data and their places.
-use Rattle.std.specs.Prelude.{ℕ, ◌+◌, ◌-◌, ◌*◌, ◌≤◌, List, ◌∷◌, ◌++◌, drop, length, take, ◌≡◌, ◌^◌, ◌<◌, IfSome, Option}
+use Rattle.std.specs.Prelude.{ℕ, ◌+◌, ◌-◌, ◌*◌, ◌≤◌, List, ◌∷◌, ◌++◌, drop, length, replicate, take, ◌≡◌, ◌^◌, ◌<◌, IfSome, Option}
 use Rattle.std.specs.Int.{to_le_bytes, w32, w64}
 use Rattle.aegis_base.specs.Variant.{Variant, key_length}
 use Rattle.aegis_base.specs.Message.{Opens}
@@ -29,9 +29,9 @@ named magic layout = magic ++ (variant_byte layout.variant ∷ (to_le_bytes w32 
 unfoldable pub plaintext_header : Layout → List ℕ
 plaintext_header layout = named MAGIC layout
 
--- the beginning of the file's journals, which has another magic number
+-- the beginning of the file's journals, which has another magic number, and fills a sector with zeros
 unfoldable pub journal_beginning : Layout → List ℕ
-journal_beginning layout = named JOURNAL_MAGIC layout
+journal_beginning layout = named JOURNAL_MAGIC layout ++ replicate 479 0
 
 -- the associated data of the sealed page of a number
 unfoldable pub associated_data : Layout → ℕ → List ℕ
@@ -89,3 +89,7 @@ pub record HasHeader (variant : Variant) (key : List ℕ) (header : FileHeader) 
   pub page_bytes : IsPageSize header.page_bytes
   pub len : header.len ≤ MAX_CONTENTS_BYTES
   pub is : IfSome file (IsHeader (layout_of variant key header) header.counter header.len)
+
+-- the file has no header that was sealed with the variant and under the key
+abbrev pub HasNoHeader : Variant → List ℕ → List ℕ → Type 0
+HasNoHeader variant key file = (layout : Layout) (counter len : ℕ) → layout.variant ≡ variant → layout.key ≡ key → IsHeader layout counter len file → ⊥

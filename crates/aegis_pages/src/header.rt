@@ -4,8 +4,8 @@ ghost use Rattle.std.specs.Prelude.{◌≡◌, ◌+◌, ◌<◌, ◌≤◌, ◌^
 ghost use Rattle.std.specs.Int.{to_le_bytes, w64};
 ghost use Rattle.aegis_base.specs.Variant.{key_length};
 ghost use Rattle.aegis_storage.specs.Bytes.{part_at};
-ghost use Rattle.aegis_pages.specs.Errors.{HasNoHeader, IsReadError};
-ghost use Rattle.aegis_pages.specs.Layouts.{IsHeaderBlock, header_plaintext, IsPageSize, Layout, OpensAt, sealed_bytes, nonce_bytes, HasHeader, layout_of};
+ghost use Rattle.aegis_pages.specs.Errors.{IsReadError};
+ghost use Rattle.aegis_pages.specs.Layouts.{HasNoHeader, IsHeaderBlock, header_plaintext, IsPageSize, Layout, OpensAt, sealed_bytes, nonce_bytes, HasHeader, layout_of};
 
 use crate::error::PagesError;
 use crate::layout::{

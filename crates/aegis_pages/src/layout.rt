@@ -8,6 +8,7 @@ ghost use Rattle.aegis_pages.specs.Layouts.{IsPageSize, Layout, associated_data,
 use aegis_aes::Row;
 use aegis_base::LaneState;
 use aegis_engine::{Cipher, Once};
+use aegis_storage::BEGINNING_BYTES;
 use aegis_storage::bytes::array_of;
 use std::marker::{Model, PhantomData};
 
@@ -17,8 +18,12 @@ pub const MIN_PAGE_BYTES: u32 = 256;
 /// The greatest page size, in bytes of contents.
 pub const MAX_PAGE_BYTES: u32 = 65_536;
 
-/// The page size for most uses, in bytes of contents: with its nonce of 32 bytes and its tag a page has 4,096.
+/// The page size for most uses of the AEGIS-256 family, in bytes of contents: with its nonce of 32 bytes and its tag a
+/// page has 4,096.
 pub const DEFAULT_PAGE_BYTES: u32 = 4_032;
+
+/// The page size for most uses of the AEGIS-128 family: with its nonce of 16 bytes and its tag a page has 4,096.
+pub const DEFAULT_PAGE_BYTES_128: u32 = 4_048;
 
 /// How many bytes contents may have, 2^60.
 pub const MAX_CONTENTS_BYTES: u64 = 1_152_921_504_606_846_976;
@@ -45,7 +50,10 @@ pub const PAGES_PLACE: u64 = 4_096;
 pub const MAGIC: [u8; 4] = [65, 71, 80, 49];
 
 /// The first bytes of a journal.
-pub const JOURNAL_MAGIC: [u8; 4] = [65, 71, 74, 50];
+pub const JOURNAL_MAGIC: [u8; 4] = [65, 71, 74, 49];
+
+// How many zeros follow the name of the file in the beginning of a journal.
+const PADDING_BYTES: usize = BEGINNING_BYTES - PLAINTEXT_HEADER_BYTES;
 
 /// What all sealed pages of a file are sealed under. The key is overwritten when it is dropped.
 pub struct FileLayout<L: LaneState, const KEY_BYTES: usize> {
@@ -164,12 +172,12 @@ impl<L: LaneState, const KEY_BYTES: usize> FileLayout<L, KEY_BYTES> {
         self.named(&MAGIC)
     }
 
-    /// Returns the beginning of the file's journals, which names the file.
+    /// Returns the beginning of the file's journals, which names the file and fills a sector.
     #[tactic(auto, unfolding(crate::specs::Layouts::journal_beginning))]
-    pub fn journal_beginning(&self) -> [u8; PLAINTEXT_HEADER_BYTES]
+    pub fn journal_beginning(&self) -> [u8; BEGINNING_BYTES]
         ensures { result ≡ journal_beginning self.now }
     {
-        self.named(&JOURNAL_MAGIC)
+        array_of(&[&self.named(&JOURNAL_MAGIC), &[0; PADDING_BYTES]])
     }
 
     /// Returns the associated data of the page of a number, or of a header.

@@ -33,8 +33,8 @@ pub use draws::Nonces;
 pub use error::PagesError;
 pub use header::{FileHeader, open_header_block, seal_header};
 pub use layout::{
-    DEFAULT_PAGE_BYTES, FileLayout, HEADER_BLOCK_BYTES, MAX_CONTENTS_BYTES, MAX_PAGE_BYTES,
-    MIN_PAGE_BYTES,
+    DEFAULT_PAGE_BYTES, DEFAULT_PAGE_BYTES_128, FileLayout, HEADER_BLOCK_BYTES, MAX_CONTENTS_BYTES,
+    MAX_PAGE_BYTES, MIN_PAGE_BYTES,
 };
 pub use opening::{is_accepted, journal_key, recover_file};
 pub use page::{open_page_at, seal_page_at};

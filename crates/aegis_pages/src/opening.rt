@@ -17,7 +17,9 @@ use crate::layout::{
 use aegis::aegis128l::Key;
 use aegis_base::LaneState;
 use aegis_engine::mac_at_once;
-use aegis_storage::{Storage, first_write, journaled_content, read_all, recover};
+use aegis_storage::{
+    BEGINNING_BYTES, Storage, first_write, journaled_content, read_all, recover,
+};
 use std::alloc::Allocator;
 use std::io;
 use std::io::ErrorKind;
@@ -80,14 +82,10 @@ fn is_of_commit(head: &[u8], content: &[u8]) -> bool
 
 // Returns whether a journal has more than a beginning, and does not begin with that of this file: it is that of another
 // one, or no journal. One that has no more is of use to nobody.
-fn is_of_another(beginning: &[u8; PLAINTEXT_HEADER_BYTES], journal: &[u8]) -> bool
+fn is_of_another(beginning: &[u8; BEGINNING_BYTES], journal: &[u8]) -> bool
     ensures { IsTrue result ↔ IsOfAnother beginning.now journal.now }
 {
-    if journal.len() <= PLAINTEXT_HEADER_BYTES {
-        return false;
-    }
-    let (start, _) = journal.split_at(PLAINTEXT_HEADER_BYTES);
-    start[..] != beginning[..]
+    journal.len() > BEGINNING_BYTES && !begins_with(0, journal, beginning)
 }
 
 /// Returns whether a journal may be made again, or emptied. `header_block` is that of its file, if the file has as many
@@ -131,7 +129,8 @@ pub fn is_accepted<L: LaneState, const KEY_BYTES: usize>(
 // Returns the error for a journal that is not accepted, by the header of its file.
 fn left_alone(header: Option<FileHeader>) -> PagesError
     ensures alone { IsLeftAlone result }
-    ensures none { result ≡ PagesError.Header → header ≡ None }
+    ensures some { IfSome header (λ _. result ≡ PagesError.Journal) }
+    ensures none { IfNone header (result ≡ PagesError.Header) }
 {
     match header {
         Some(_) => PagesError::Journal,
@@ -185,7 +184,8 @@ pub fn recover_file<
         → (result ≢ Err PagesError.Journal) × (result ≢ Err PagesError.Header) }
     ensures alone { IfErr result (λ error. IsLeftAlone error
         → (storage.new ≡ storage.old) × (journal.new ≡ journal.old)) }
-    ensures refused { IfErr result (IsOpenRefusal L.VARIANT key.now (S.bytes storage.old)) }
+    ensures refused { IfErr result (IsOpenRefusal L.VARIANT key.now (S.bytes storage.old)
+        (J.bytes journal.old)) }
 {
     let content = match read_all(alloc, journal) {
         Ok(content) => content,

@@ -7,7 +7,7 @@ ghost use Rattle.aegis_storage.specs.Disk.{Disk, certain};
 ghost use Rattle.aegis_pages.specs.Changed.{contents_at};
 ghost use Rattle.aegis_pages.specs.Commitments.{commitment};
 ghost use Rattle.aegis_pages.specs.Commits.{Fits, IsHonest, IsLeftByCommit, RecoversContentsUnlessForged, RecoversOneUnlessForged};
-ghost use Rattle.aegis_pages.specs.Errors.{IsBeginError, IsCommitRefusal, IsCommitmentRefusal, IsCreateRefusal, IsOpenRefusal, IsReadRefusal, IsVerifyRefusal, IsWriteRefusal};
+ghost use Rattle.aegis_pages.specs.Errors.{IsBeginError, IsBeginRefusal, IsCommitRefusal, IsCommitmentRefusal, IsCreateRefusal, IsOpenRefusal, IsReadRefusal, IsVerifyRefusal, IsWriteRefusal};
 ghost use Rattle.aegis_pages.specs.Layouts.{IsHeader, IsPageSize};
 ghost use Rattle.aegis_pages.specs.OpenFile.{AreCommitted, HasCommitted, HasContents, IsCertain, IsKnown, IsStoredAs, IsUnchanged, OpensAtOne, Reads};
 ghost use Rattle.aegis_pages.specs.SealedPages.{IsFileOf, KeepsOthers};
@@ -120,7 +120,8 @@ fn begin_file<S: Storage, N: Nonces, L: LaneState, const KEY_BYTES: usize, A: Al
 fn begin_journal<J: Storage>(journal: &mut J) -> Result<(), PagesError>
     ensures certain { OnOk result ((disk : Disk) → J.disk journal.old ≡ Some disk
         → J.disk journal.new ≡ Some (certain [])) }
-    ensures refused { IfErr result IsBeginError }
+    ensures empty { OnOk result (IfSome (J.bytes journal.old) (λ js. length js ≡ 0)) }
+    ensures refused { IfErr result (IsBeginRefusal (J.bytes journal.old)) }
 {
     match journal.size() {
         Ok(size) => {
@@ -172,7 +173,8 @@ impl<
         ensures certain { IfOk result (λ pages. IfSome (S.disk storage)
             (λ _. IfSome (J.disk journal) (λ _. HasCommitted pages []))) }
         ensures size { OnOk result (IsPageSize page_bytes) }
-        ensures refused { IfErr result (IsCreateRefusal page_bytes) }
+        ensures occupied { OnOk result (IfSome (J.bytes journal) (λ js. length js ≡ 0)) }
+        ensures refused { IfErr result (IsCreateRefusal page_bytes (J.bytes journal)) }
     {
         if !is_page_size(page_bytes) {
             return Err(PagesError::PageSize);
@@ -229,7 +231,8 @@ impl<
             → (result ≢ Err PagesError.Journal) × (result ≢ Err PagesError.Header) }
         ensures fits { OnOk result (IfSome (S.bytes storage) (λ file.
             IfSome (J.bytes journal) (Fits L.VARIANT key.now file))) }
-        ensures refused { IfErr result (IsOpenRefusal L.VARIANT key.now (S.bytes storage)) }
+        ensures refused { IfErr result
+            (IsOpenRefusal L.VARIANT key.now (S.bytes storage) (J.bytes journal)) }
     {
         let header = recover_file::<S, J, L, KEY_BYTES, A>(alloc, &mut storage, &mut journal, key)?;
         let layout = FileLayout::new(key, header.page_bytes, &header.id);
@@ -441,11 +444,16 @@ impl<
         }
     }
 
-    /// Forgets all changes since the last commit.
+    /// Forgets all changes since the last commit: the contents are those that were committed, and the next commit begins
+    /// there.
     pub fn discard(&mut self)
         ensures stored { IsStoredAs self.old self.new }
         ensures len { self.new.len ≡ self.old.stored }
         ensures none { (k : ℕ) → contents_at self.new.changes k ≡ None }
+        ensures contents { (before now : List ℕ) → HasCommitted self.old before
+            → HasContents self.old now → HasContents self.new before }
+        ensures committed { (before : List ℕ) → HasCommitted self.old before
+            → HasCommitted self.new before }
     {
         self.changes.clear();
         self.len = self.stored;

@@ -11,7 +11,7 @@ use Rattle.aegis_base.specs.Mac.{mac}
 use Rattle.aegis_base.specs.Variant.{Aegis128L}
 use Rattle.aegis_base.proofs.MacFacts.{length_mac}
 use Rattle.aegis_storage.specs.declared.store.TheConstants.{MAX_STORAGE_BYTES}
-use Rattle.aegis_storage.proofs.Disks.{certain_has, certain_leaves, cut, has_left, leaves_also, left, left_synced, readable, readable_certain, written_again, after_parts}
+use Rattle.aegis_storage.proofs.Disks.{certain_has, certain_leaves, cut, has_left, leaves_also, left, left_synced, readable, written_again, after_parts}
 use Rattle.aegis_storage.proofs.Overwriting.{kept_part, length-overwritten}
 
 -- ---- writes
@@ -79,16 +79,16 @@ no_writes (v ∷ vs) rest (w ∷ ws) some none p q same =
 long-mac : (key nonce bytes : List ℕ) → length (mac Aegis128L 32 key nonce bytes) ≡ 32
 long-mac key nonce bytes = length_mac Aegis128L 32 key nonce bytes (inl refl) (inr refl)
 
-pub framed_parts : (key context xs journal : List ℕ) (is : IsFramed key context xs journal) (beginning nonce content end : List ℕ) → length beginning ≡ 33 → length nonce ≡ 16 → length end ≡ 32
+pub framed_parts : (key context xs journal : List ℕ) (is : IsFramed key context xs journal) (beginning nonce content end : List ℕ) → length beginning ≡ 512 → length nonce ≡ 16 → length end ≡ 32
     → journal ≡ beginning ++ (nonce ++ (content ++ end)) → (content ≡ xs) × (end ≡ mac Aegis128L 32 key nonce (authenticated context content))
 framed_parts key context xs journal is beginning nonce content end p q r are =
     let tag : List ℕ = mac Aegis128L 32 key is.nonce (authenticated context xs) in
-    let first = same_parts 33 beginning is.beginning _ _ p is.beginning_size (sym are ∙ is.are) in
+    let first = same_parts 512 beginning is.beginning _ _ p is.beginning_size (sym are ∙ is.are) in
     let second = same_parts 16 nonce is.nonce _ _ q is.nonce_size first.1 in
     let sizes : length xs ≡ length content = omega (arith, ap length second.1, r, long-mac key is.nonce (authenticated context xs), length-append content end, length-append xs tag) in
     let third = same_parts (length content) content xs end tag refl sizes second.1 in (third.0, rw (second.0, third.0) third.1)
 
-pub length-framed : (key context content journal : List ℕ) → IsFramed key context content journal → 81 ≤ length journal
+pub length-framed : (key context content journal : List ℕ) → IsFramed key context content journal → 560 ≤ length journal
 length-framed key context content journal is = grind (arith, common_steps, long-mac key is.nonce (authenticated context content))
 
 pub one_content : (key context xs ys journal : List ℕ) → IsFramed key context xs journal → IsFramed key context ys journal → xs ≡ ys
@@ -99,7 +99,7 @@ pub one_journal : (key context : List ℕ) (vs ws : Writes) (journal : List ℕ)
 one_journal key context vs ws journal p q = same_writes vs ws p.within q.within (one_content key context (entries vs) (entries ws) journal p.framed q.framed)
 
 pub empty_is_none : (key context : List ℕ) (writes : Writes) → IsJournal key context writes [] → ⊥
-empty_is_none key context writes is = let long : 81 ≤ 0 = length-framed key context (entries writes) [] is.framed in omega (arith, long)
+empty_is_none key context writes is = let long : 560 ≤ 0 = length-framed key context (entries writes) [] is.framed in omega (arith, long)
 
 -- ---- the writes in the content of a journal
 
@@ -217,15 +217,15 @@ pub record Settled (key context : List ℕ) (storage journal : Option Disk) (a b
   pub gives : GivesOneOf key context a b js now
 
 -- `a_bytes` are the storage's, and `b_bytes` and `c_bytes` the journal's before and after its sync
-pub settled : (key context xs : List ℕ) (writes : Writes) (a_bytes b_bytes c_bytes : Option (List ℕ)) (storage storage' journal journal' : Option Disk) (read js : List ℕ)
-    → IsPossible a_bytes storage → IsPossible b_bytes journal → IsPossible c_bytes journal' → RecoversUnlessForged key context xs writes storage journal → IfSome b_bytes (IsNoForgery key context writes)
-    → MakesCertain a_bytes storage storage' → MakesCertain b_bytes journal journal' → IfSome c_bytes (λ ys. read ≡ ys) → js ≡ read
+pub settled : (key context xs : List ℕ) (writes : Writes) (a_bytes b_bytes : Option (List ℕ)) (storage storage' journal journal' : Option Disk) (read js : List ℕ)
+    → IsPossible a_bytes storage → IsPossible b_bytes journal → RecoversUnlessForged key context xs writes storage journal → IfSome b_bytes (IsNoForgery key context writes)
+    → MakesCertain a_bytes storage storage' → MakesCertain b_bytes journal journal' → IfSome b_bytes (λ ys. read ≡ ys) → js ≡ read
     → Settled key context storage' journal' xs (after_writes writes xs) js
-settled key context xs writes a_bytes b_bytes c_bytes storage storage' journal journal' read js p q r recovers no_forgery s t found same =
+settled key context xs writes a_bytes b_bytes storage storage' journal journal' read js p q recovers no_forgery s t found same =
     let x = readable a_bytes storage recovers.storage_disk p recovers.storage_is in
     let y = readable b_bytes journal recovers.journal_disk q recovers.journal_is in
     let synced = t recovers.journal_disk y.xs recovers.journal_is y.is in
-    let js_are : js ≡ y.xs = same ∙ rw (readable_certain c_bytes journal' y.xs r synced) at found in record {
+    let js_are : js ≡ y.xs = same ∙ rw y.is at found in record {
       now = x.xs;
       storage_is = s recovers.storage_disk x.xs recovers.storage_is x.is;
       journal_is = rw js_are synced;
@@ -290,11 +290,11 @@ pub empty_beginning : (beginning : List ℕ) (state : Option Disk) → state ≡
 empty_beginning beginning state is = certain_has (HasBeginning beginning) state [] (inl (omega arith)) is
 
 -- while the beginning is written
-pub beginning_begins : (beginning part : List ℕ) (old new : Option Disk) → length part ≤ 33 → old ≡ Some (certain []) → Adds old new (Write 0 part ∷ []) → KeepsBeginning beginning new
+pub beginning_begins : (beginning part : List ℕ) (old new : Option Disk) → length part ≤ 512 → old ≡ Some (certain []) → Adds old new (Write 0 part ∷ []) → KeepsBeginning beginning new
 beginning_begins beginning part old new short is adds = leaves_also _ _ new (λ js has. inl (let most = has.most in omega (arith, most, short))) (follows [] part old new is adds)
 
 -- while the rest is written
-pub beginning_stays : (beginning rest : List ℕ) (old new : Option Disk) → length beginning ≡ 33 → old ≡ Some (certain beginning) → Adds old new (Write 33 rest ∷ []) → KeepsBeginning beginning new
+pub beginning_stays : (beginning rest : List ℕ) (old new : Option Disk) → length beginning ≡ 512 → old ≡ Some (certain beginning) → Adds old new (Write 512 rest ∷ []) → KeepsBeginning beginning new
 beginning_stays beginning rest old new long is adds =
     leaves_also _ _ new (λ js has. inr (let first = has.first in rw long at first)) (follows beginning rest old new is (rw long adds))
 

@@ -33,7 +33,7 @@ framed key beginning nonce context content = beginning ++ (nonce ++ (content ++ 
 pub record IsFramed (key context content bytes : List ℕ) : Type 0 where
   pub beginning : List ℕ
   pub nonce : List ℕ
-  pub beginning_size : length beginning ≡ 33
+  pub beginning_size : length beginning ≡ 512
   pub nonce_size : length nonce ≡ 16
   pub fits : length bytes ≤ MAX_JOURNAL_BYTES
   pub are : bytes ≡ framed key beginning nonce context content
@@ -80,11 +80,11 @@ pub record RecoversUnlessForged (key context xs : List ℕ) (writes : Writes) (s
   pub gives : (ys js : List ℕ) → Crashed storage_disk ys → Crashed journal_disk js → IsNoForgery key context writes js
       → GivesOneOf key context xs (after_writes writes xs) js ys
 
--- the bytes are at most 33, as many as the beginning of a journal, or begin with this beginning
+-- the bytes are at most 512, as many as the beginning of a journal, or begin with this beginning
 abbrev pub HasBeginning : (beginning bytes : List ℕ) → Type 0
-HasBeginning beginning bytes = (length bytes ≤ 33) ⊎ (take 33 bytes ≡ beginning)
+HasBeginning beginning bytes = (length bytes ≤ 512) ⊎ (take 512 bytes ≡ beginning)
 
--- Whatever a crash now leaves of the journal has at most 33 bytes, or begins with this beginning. So the file of a
+-- Whatever a crash now leaves of the journal has at most 512 bytes, or begins with this beginning. So the file of a
 -- longer journal is known by its beginning, also if the journal is torn.
 abbrev pub KeepsBeginning : (beginning : List ℕ) → (journal : Option Disk) → Type 0
 KeepsBeginning beginning journal = CrashLeaves (HasBeginning beginning) journal

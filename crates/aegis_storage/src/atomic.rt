@@ -44,6 +44,8 @@ pub fn commit<S: Storage, J: Storage, A: Allocator + Copy>(
         (WritesAll (S.bytes storage.old) (S.bytes storage.new) (writes_of writes.now)) }
     ensures empty { OnOk result (0 < length writes.now
         → IfSome (J.bytes journal.old) (λ js. length js ≡ 0)) }
+    ensures occupied { IfSome (J.bytes journal.old) (λ js. 0 < length js
+        → (storage.new ≡ storage.old) × (journal.new ≡ journal.old)) }
     ensures recovers { (xs : List ℕ) → IsAtRest (S.disk storage.old) (J.disk journal.old) xs
         → RecoversUnlessForged key.now context.now xs (writes_of writes.now)
         (S.disk storage.new) (J.disk journal.new) }

@@ -18,7 +18,7 @@ use std::io::ErrorKind;
 
 /// How many bytes the beginning has, with which a journal begins. It is the caller's, and in plaintext, so that a
 /// journal can be told from that of another storage also if it is torn.
-pub const BEGINNING_BYTES: usize = 33;
+pub const BEGINNING_BYTES: usize = 512;
 
 /// How many bytes the nonce has, which comes next.
 pub const NONCE_BYTES: usize = 16;

@@ -60,6 +60,15 @@ pub trait Storage {
         ensures kept { OnErr result (Keeps (bytes self.old) (bytes self.new)) }
         ensures pending { Adds (disk self.old) (disk self.new) (Size size ∷ []) };
 
+    /// Writes all that the storage holds once more, in place, so that the next sync also makes certain what an earlier
+    /// sync that failed may have left out: Linux forgets it, and reports no error again. `all` is what the storage
+    /// holds. Bytes that are written over themselves are the same after a crash.
+    fn rewrite(&mut self, all: &[u8]) -> io::Result<()>
+        requires all { IfSome (bytes self.old) (λ xs. all.now ≡ xs) }
+        requires within { length all.now ≤ MAX_STORAGE_BYTES }
+        ensures kept { Keeps (bytes self.old) (bytes self.new) }
+        ensures pending { Adds (disk self.old) (disk self.new) [] };
+
     /// Returns once a crash leaves all that was written. For a file the system must ensure that; a vector's contract
     /// speaks of the model alone. After an error nothing more is certain.
     fn sync(&mut self) -> io::Result<()>
@@ -110,6 +119,10 @@ impl<A: Allocator> Storage for Vec<u8, A> {
         Ok(())
     }
 
+    fn rewrite(&mut self, _all: &[u8]) -> io::Result<()> {
+        Ok(())
+    }
+
     fn sync(&mut self) -> io::Result<()> {
         Ok(())
     }
@@ -142,6 +155,10 @@ impl Storage for NoJournal {
         Ok(())
     }
 
+    fn rewrite(&mut self, _all: &[u8]) -> io::Result<()> {
+        Ok(())
+    }
+
     fn sync(&mut self) -> io::Result<()> {
         Ok(())
     }
@@ -164,6 +181,10 @@ impl Storage for File {
 
     fn set_size(&mut self, size: u64) -> io::Result<()> {
         self.set_len(size)
+    }
+
+    fn rewrite(&mut self, all: &[u8]) -> io::Result<()> {
+        self.write_all_at(all, 0)
     }
 
     fn sync(&mut self) -> io::Result<()> {

@@ -99,6 +99,10 @@ impl Storage for TestDisk {
         Ok(())
     }
 
+    fn rewrite(&mut self, _all: &[u8]) -> io::Result<()> {
+        self.count()
+    }
+
     fn sync(&mut self) -> io::Result<()> {
         self.count()?;
         let synced = self.current()?;

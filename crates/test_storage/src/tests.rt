@@ -9,7 +9,7 @@ use std::test::Fail;
 
 const KEY: [u8; 16] = [7; 16];
 
-const FRONT: [u8; 33] = [5; 33];
+const FRONT: [u8; 512] = [5; 512];
 
 const NONCE: [u8; 16] = [9; 16];
 

@@ -18,7 +18,7 @@ pub fn write_both<S: Storage, J: Storage, A: Allocator + Copy>(
     storage: &mut S,
     journal: &mut J,
     key: &Key,
-    beginning: &[u8; 33],
+    beginning: &[u8; 512],
     nonce: &Nonce,
     places: (u64, u64),
     first: &[u8],

@@ -6,6 +6,7 @@ use super::{
 };
 use aegis_256::State256X1;
 use aegis_pages::{PagesError, recover_file};
+use aegis_storage::BEGINNING_BYTES;
 use std::alloc::Global;
 use std::test::Fail;
 use test_storage::disk::TestDisk;
@@ -23,7 +24,7 @@ const PARTS: [u32; 6] = [0, 0xfff, 0x555, 0xaaa, 0x39c, 0x1b1];
 const ORDERS: usize = 2;
 
 // How many calls opening makes of the storage, and of the journal.
-const OPENING_CALLS: (u64, u64) = (7, 7);
+const OPENING_CALLS: (u64, u64) = (7, 8);
 
 // How many calls of the storage a commit makes before it writes.
 const READING_CALLS: u64 = 2;
@@ -154,21 +155,22 @@ fn a_commit_that_is_cut_at_each_call(rt: HostRuntime) -> Result<(), Fail> {
     Ok(())
 }
 
-// The beginning of the journals of a file whose ID has this byte throughout.
-fn beginning_of(id: u8) -> [u8; 33] {
-    let mut beginning = [id; 33];
-    beginning[..9].copy_from_slice(b"AGJ2\x21\x00\x01\x00\x00");
+// The beginning of the journals of a file whose ID has this byte throughout: what names the file, and zeros.
+fn beginning_of(id: u8) -> [u8; BEGINNING_BYTES] {
+    let mut beginning = [0; BEGINNING_BYTES];
+    beginning[..9].copy_from_slice(b"AGJ1\x21\x00\x01\x00\x00");
+    beginning[9..33].fill(id);
     beginning
 }
 
 // What a torn beginning may be: its first `own` bytes are the file's, and the others are `other`, or those of another
 // file.
-fn torn_beginning(own: usize, other: Option<u8>) -> [u8; 33] {
+fn torn_beginning(own: usize, other: Option<u8>) -> [u8; BEGINNING_BYTES] {
     let mut beginning = match other {
-        Some(byte) => [byte; 33],
+        Some(byte) => [byte; BEGINNING_BYTES],
         None => beginning_of(1),
     };
-    let own = own.min(33);
+    let own = own.min(BEGINNING_BYTES);
     beginning[..own].copy_from_slice(&beginning_of(ID[0])[..own]);
     beginning
 }
@@ -180,9 +182,9 @@ fn any_beginning_opens(alloc: Global, journal_calls: u64) -> Result<bool, Fail> 
     if journal.pending.is_empty() {
         return Ok(true);
     }
-    for own in [0, 4, 20, 33] {
+    for own in [0, 4, 33, BEGINNING_BYTES] {
         for other in [None, Some(0), Some(0xee)] {
-            for len in [1, 20, 33, 34, 200, 5000] {
+            for len in [1, 33, 511, 512, 513, 5000] {
                 let torn = left_with_beginning(&journal, len, &torn_beginning(own, other))?;
                 if !opens(alloc, left_of(&storage, 0, 0)?, torn, is_done)? {
                     return Ok(false);
@@ -271,11 +273,11 @@ fn journals_of_others(rt: HostRuntime) -> Result<(), Fail> {
     assert!(rt; matches!(refused, Some(PagesError::Header)));
     let (empty, no_journal): (Vec<u8>, Vec<u8>) = (Vec::new(alloc), Vec::new(alloc));
     let (other, _) = create(alloc, empty, no_journal, &[1; 24], 256)?.into_storages();
-    for torn in [journal.as_slice(), first(&journal, 200)] {
+    for torn in [journal.as_slice(), first(&journal, 600)] {
         let refused = refusal(alloc, &other, torn, &KEY)?;
         assert!(rt; matches!(refused, Some(PagesError::Journal)));
     }
-    assert!(rt; recovers(alloc, &other, first(&journal, 33), 0)?);
+    assert!(rt; recovers(alloc, &other, first(&journal, BEGINNING_BYTES), 0)?);
     Ok(())
 }
 
@@ -284,7 +286,7 @@ fn journals_of_others(rt: HostRuntime) -> Result<(), Fail> {
 fn journals_of_other_states(rt: HostRuntime) -> Result<(), Fail> {
     let alloc = rt.alloc();
     let (file, journal) = committing(alloc)?;
-    assert!(rt; recovers(alloc, &file, first(&journal, 200), 1000)?);
+    assert!(rt; recovers(alloc, &file, first(&journal, 600), 1000)?);
     let mut pages = open(alloc, file, &KEY)?;
     pages.set_len(900)?;
     commit(&mut pages)?;

@@ -55,6 +55,13 @@ impl Storage for Place {
         }
     }
 
+    fn rewrite(&mut self, all: &[u8]) -> io::Result<()> {
+        match self {
+            Place::Memory(bytes) => bytes.rewrite(all),
+            Place::Disk(file) => file.rewrite(all),
+        }
+    }
+
     fn sync(&mut self) -> io::Result<()> {
         match self {
             Place::Memory(bytes) => bytes.sync(),

@@ -1,6 +1,6 @@
-use Rattle.std.proofs.Common.{◌≡◌, ◌∙◌, List, ap, refl, rules, ℕ}
+use Rattle.std.proofs.Common.{◌≡◌, ◌∙◌, List, ap, arith, refl, rules, ℕ}
 use Rattle.aegis_pages.specs.Commits.{journal_key}
-use Rattle.aegis_c_calls.proofs.JournalFacts.{may_be, may_not_be, was_read, whole_found}
+use Rattle.aegis_c_calls.proofs.JournalFacts.{content_within, may_be, may_not_be, own_may_be, was_read, whole_found}
 use Rattle.aegis_c_calls.proofs.journal.check.Goals as goal
 
 pub returns-in-Some : goal.returns-in-Some
@@ -15,10 +15,12 @@ returns-in-Some g c =
       other = search rules;
       accepted = search rules;
       complete = λ may _. absurd (may_not_be variant key _ _ _ read.0 _ read.1 c.if-not-is_accepted.true may);
+      own = λ writes is long of_commit _. absurd (may_not_be variant key _ _ _ read.0 _ read.1 c.if-not-is_accepted.true (own_may_be variant key _ _ _ read.0 _ read.1 writes is long of_commit));
       none = search rules;
       named = λ _. (c.in-Some.field-0, rw c.in-Some.is at read.1.is);
       whole = search rules;
       torn = search rules;
+      within = search rules;
       kept = search rules;
     }
 
@@ -34,10 +36,12 @@ returns-in-None g c =
       other = search rules;
       accepted = search rules;
       complete = λ may _. absurd (may_not_be variant key _ _ _ read.0 _ read.1 c.if-not-is_accepted.true may);
+      own = λ writes is long of_commit _. absurd (may_not_be variant key _ _ _ read.0 _ read.1 c.if-not-is_accepted.true (own_may_be variant key _ _ _ read.0 _ read.1 writes is long of_commit));
       none = λ _. rw c.in-None.is at read.1.is;
       named = search rules;
       whole = search rules;
       torn = search rules;
+      within = search rules;
       kept = search rules;
     }
 
@@ -55,10 +59,12 @@ returns-in_default g c =
       other = search rules;
       accepted = λ _. may_be variant key _ _ _ read.0 _ read.1 c.if-not-is_accepted.false;
       complete = λ _ _. refl;
+      own = λ _ _ _ _ _. refl;
       none = search rules;
       named = search rules;
       whole = λ writes _ is. absurd ((rw made at c.in_default.ensures.none) writes is);
       torn = λ _ _. refl;
+      within = λ _ more. absurd (omega (arith, more));
       kept = search rules;
     }
 
@@ -76,9 +82,11 @@ returns g c =
       other = search rules;
       accepted = λ _. may_be variant key _ _ _ read.0 _ read.1 c.if-not-is_accepted.false;
       complete = λ _ _. refl;
+      own = λ _ _ _ _ _. refl;
       none = search rules;
       named = search rules;
       whole = λ writes _ is. whole_found _ _ _ _ writes made c.in-Some-content.ensures.some is;
       torn = λ _ torn. absurd (torn _ (rw made at c.in-Some-content.ensures.some.1));
+      within = λ _ _. content_within _ _ _ c.in-Some-content.ensures.some;
       kept = search rules;
     }

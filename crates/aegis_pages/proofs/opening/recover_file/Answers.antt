@@ -1,7 +1,7 @@
 use Rattle.std.proofs.Common.{◌∙◌, ap, Err, IsTrue, rules}
 use Rattle.std.proofs.lemmas.Result.{err_from_is_err_and}
-use Rattle.aegis_pages.specs.Commits.{IsLeftByCommit, journal_key}
-use Rattle.aegis_pages.proofs.AcceptFacts.{WasRead, accepts_all, fits_all, writes_read}
+use Rattle.aegis_pages.specs.Commits.{IsAccepted, IsLeftByCommit, journal_key}
+use Rattle.aegis_pages.proofs.AcceptFacts.{WasRead, accepts_all, fits_all, refused_all, writes_read}
 use Rattle.aegis_pages.proofs.KnownFacts.{never_left}
 use Rattle.aegis_pages.proofs.RecoveryFacts.{kept_by_empty, recovers_again, rests_at_contents}
 use Rattle.aegis_pages.proofs.opening.recover_file.Goals as goal
@@ -82,3 +82,23 @@ returns-then-not-is_accepted-clause-accepts g c is =
     } in
     let accepted = accepts_all _ _ _ _ _ _ is.2 _ _ _ _ _ _ read (g.met.S.Storage.possible c.args.storage.now) (g.met.J.Storage.possible c.args.journal.now) is.3 is.4 in
     let yes : IsTrue c.is_accepted.result = (c.is_accepted.ensures writes.0 writes.3).1 (rw c.deref-2.ensures.value accepted) in absurd (search rules)
+
+pub returns-then-not-is_accepted-clause-refused : goal.returns-then-not-is_accepted-clause-refused
+returns-then-not-is_accepted-clause-refused g c =
+    let writes = writes_read (λ l. l.now) (journal_key g.L.LaneState.VARIANT c.args.key.now) c.in-Ok.content.items c.journaled_content-writes.result
+    (rw (c.deref.ensures.value, c.journal_key-journal_key.ensures) at c.journaled_content-writes.ensures.some) (rw (c.deref.ensures.value, c.journal_key-journal_key.ensures) at c.journaled_content-writes.ensures.none) in
+    let read : WasRead g.L.LaneState.VARIANT c.args.key.now (g.S.Storage.bytes c.args.storage.now) (g.J.Storage.bytes c.args.journal.now) c.in-Ok.content.items
+    c.in_ok-header_block.header_block c.in_ok-header.header writes.0 =
+    record {
+      count = g.met.L.LaneState.one_two_or_four;
+      content = c.in-Ok.ensures;
+      found = c.in_ok-header.ensures.found;
+      none = c.in_ok-header.ensures.none;
+      first = c.in_ok-header_block.ensures.read;
+      short = c.in_ok-header_block.ensures.short;
+      whole = writes.1;
+      torn = writes.2;
+    } in
+    let not : IsAccepted g.L.LaneState.VARIANT c.args.key.now c.in_ok-header_block.header_block c.in_ok-header.header writes.0 c.in-Ok.content.items → ⊥ =
+    λ accepted. let yes : IsTrue c.is_accepted.result = (c.is_accepted.ensures writes.0 writes.3).1 (rw c.deref-2.ensures.value accepted) in absurd (search rules) in
+    refused_all _ _ _ _ _ _ _ _ read not _ c.left_alone.ensures.some c.left_alone.ensures.none

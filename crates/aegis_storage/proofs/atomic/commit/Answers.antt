@@ -6,8 +6,8 @@ use Rattle.aegis_storage.proofs.Disks.{on_ok_map}
 use Rattle.aegis_storage.proofs.Journals.{emptied_beginning, finish, middle, over_gives, torn_journal}
 use Rattle.aegis_storage.proofs.atomic.commit.Goals as goal
 
-begins : (beginning bytes rest : List ℕ) → length beginning ≡ 33 → bytes ≡ beginning ++ rest → take 33 bytes ≡ beginning
-begins beginning bytes rest long is = ap (take 33) is ∙ take_at beginning rest 33 long
+begins : (beginning bytes rest : List ℕ) → length beginning ≡ 512 → bytes ≡ beginning ++ rest → take 512 bytes ≡ beginning
+begins beginning bytes rest long is = ap (take 512) is ∙ take_at beginning rest 512 long
 
 pub returns-in_err-write_journal-clause-recovers : goal.returns-in_err-write_journal-clause-recovers
 returns-in_err-write_journal-clause-recovers g c xs rest = torn_journal _ _ xs _ _ _ _ rest.storage_is (c.write_journal.ensures.torn rest.journal_is)

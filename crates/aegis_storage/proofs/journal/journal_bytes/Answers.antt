@@ -12,7 +12,7 @@ returns-clause-journal g c =
     let nonce = c.args.nonce.now in
     let content : List ℕ = entries (writes_of c.args.writes.now) in
     let begun : c.append_writes.new.journal.items ≡ (beginning ++ nonce) ++ content = grind (arith, common_steps) in
-    let last = c.split_at.ensures.back ∙ ap (drop 49) (c.deref.ensures.value ∙ begun) ∙ drop_at (beginning ++ nonce) content 49 (omega (arith, length-append beginning nonce)) in
+    let last = c.split_at.ensures.back ∙ ap (drop 528) (c.deref.ensures.value ∙ begun) ∙ drop_at (beginning ++ nonce) content 528 (omega (arith, length-append beginning nonce)) in
     let tag = rw last at (c.finalize-mac.ensures c.args.key.now nonce _ c.mac_of.ensures) in rw (c.in_ok-extend_from_slice-3.ensures.items, begun, tag) (simp append_assoc)
 
 pub returns-clause-whole : goal.returns-clause-whole
