@@ -17,7 +17,7 @@ fail() {
 # run_tests FOLDER: runs the tests with the package of a folder. Some versions of unittest pass with no tests, and one
 # test counts them.
 run_tests() {
-    (cd tests && PYTHONPATH=$1 python3 -W error -m unittest -v) > "$work/log" 2>&1 || { cat "$work/log"; fail 'a test failed'; }
+    (cd tests && PYTHONPATH=$1 python3 -bb -W error -m unittest -v) > "$work/log" 2>&1 || { cat "$work/log"; fail 'a test failed'; }
     grep '^Ran ' "$work/log"
     grep -qE '^test_no_test_is_left_out .* ok$' "$work/log" || fail 'the tests were not counted'
 }
@@ -58,6 +58,9 @@ fi
 if command -v mypy > /dev/null; then
     (cd "$folder" && env -u PYTHONPATH mypy --strict --cache-dir=/dev/null -p hunkravy)
     (cd tests && env -u PYTHONPATH MYPYPATH="$folder" mypy --strict --cache-dir=/dev/null ./*.py ../examples/*.py)
+    # A name of the standard library that mypy's own description of it gets wrong.
+    (cd "$folder" && PYTHONPATH=. stubtest --concise hunkravy --ignore-unused-allowlist \
+        --allowlist <(echo 'hunkravy\._files\.BinaryIO\.write'))
 else
     echo 'left out: the types of the Python package by mypy, which is not installed'
 fi

@@ -1,5 +1,6 @@
 """Objects whose methods lie, objects that no cipher has begun, copies and pickles, and what is left in memory."""
 
+import ast
 import copy
 import ctypes
 import io
@@ -116,6 +117,16 @@ class Begun(unittest.TestCase):
         for make in makers:
             with self.assertRaises((TypeError, AttributeError)):
                 make()
+
+    def test_the_stub(self) -> None:
+        """It has the names that the native module has."""
+        stub = ast.parse((pathlib.Path(hunkravy.__file__).parent / "_native.pyi").read_text())
+        kinds = {kind.name: kind.body for kind in stub.body if isinstance(kind, ast.ClassDef)}
+        self.assertEqual({name for name in vars(_native) if isinstance(vars(_native)[name], type)}, set(kinds))
+        for name, body in kinds.items():
+            stated = {method.name for method in body if isinstance(method, ast.FunctionDef)} - {"__new__"}
+            found = vars(_native)[name]
+            self.assertEqual({method for method in vars(found) if not method.startswith("_")}, stated)
 
     def test_a_changed_module(self) -> None:
         """No other type than its own is used as a state."""

@@ -5,6 +5,8 @@ import contextlib
 import mmap
 import random
 import signal
+import subprocess
+import sys
 import threading
 import time
 import unittest
@@ -185,6 +187,64 @@ class Threads(unittest.TestCase):
         finally:
             done.set()
             thread.join()
+
+
+class AtTheEnd(unittest.TestCase):
+    """The interpreter ends while a thread is in a method, and `__del__` uses the same object."""
+
+    program = """
+import io, mmap, os, sys, threading, time
+from hunkravy import *
+zeros = mmap.mmap(-1, 1 << 27, flags=mmap.MAP_PRIVATE | mmap.MAP_ANONYMOUS)
+cipher = Aegis256(bytes(32))
+class Slow(io.BytesIO):
+    def read(self, size=-1):
+        time.sleep(0.5)
+        return super().read(size)
+    def write(self, data):
+        time.sleep(0.5)
+        return super().write(data)
+{}
+class Last:
+    def __del__(self, call=call, write=os.write):
+        try:
+            call()
+            write(1, b"returned")
+        except RuntimeError:
+            write(1, b"raised")
+for _ in range(2):
+    threading.Thread(target=work, daemon=True).start()
+time.sleep(0.03)
+# Dropped as soon as the interpreter ends.
+sys.modules["kept"] = Last()
+"""
+
+    def ends(self, objects: str) -> str:
+        """What the program with these objects writes until it ends."""
+        command = [sys.executable, "-c", self.program.format(objects)]
+        return subprocess.run(command, stdout=subprocess.PIPE, check=True, text=True, timeout=30).stdout
+
+    def test_native_objects(self) -> None:
+        for objects in (
+            "mac = Aegis256Mac(bytes(32)); work, call = lambda: mac.update(zeros), mac.digest",
+            "mac = Aegis256Mac(bytes(32)); work, call = lambda: mac.update(zeros), lambda: mac.update(zeros)",
+            "message = cipher.encryptor(bytes(32)); work, call = lambda: message.update(zeros), message.finalize",
+        ):
+            with self.subTest(objects):
+                self.assertEqual(self.ends(objects), "returned")
+
+    def test_files(self) -> None:
+        """A method of a thread that never goes on keeps its turn."""
+        for objects in (
+            "writer = SealedWriter(Slow(), bytes(32)); work, call = (lambda: writer.write(bytes(1 << 20)),) * 2",
+            "writer = SealedWriter(Slow(), bytes(32)); work, call = lambda: writer.write(bytes(1 << 20)), writer.close",
+            """file = io.BytesIO()
+with SealedWriter(file, bytes(32)) as writer:
+    writer.write(bytes(1 << 20))
+reader = SealedReader(Slow(file.getvalue()), bytes(32)); work, call = (lambda: reader.read(1),) * 2""",
+        ):
+            with self.subTest(objects):
+                self.assertEqual(self.ends(objects), "raised")
 
 
 class Chunks(unittest.TestCase):
