@@ -165,7 +165,7 @@ class SealedWriter(Sealed):
         self._may_finish = True
 
     def readinto(self, buffer: _WriteableBuffer, /) -> NoReturn:
-        """Raises `io.UnsupportedOperation`, as `read` and `readall` do."""
+        """Raises `io.UnsupportedOperation`. So do `read` and `readall`."""
         self._unsupported("not readable")
 
     def tell(self) -> int:

@@ -690,6 +690,14 @@ class Reading(unittest.TestCase):
         reader.close()
         self.assertFalse(file.closed)
 
+    def test_nothing_is_kept_after_the_end(self) -> None:
+        reader = SealedReader(open_records(), KEY)
+        reader.read(12)
+        kept = (_native.Records, memoryview, bytearray)
+        self.assertEqual(sum(isinstance(value, kept) for value in vars(reader).values()), 3)
+        reader.close()
+        self.assertFalse([name for name, value in vars(reader).items() if isinstance(value, kept) and value])
+
     def test_wrong_arguments(self) -> None:
         for key in (b"", bytes(31), bytes(33)):
             with self.assertRaisesRegex(ValueError, "^the key must have 32 bytes, not"):
@@ -723,6 +731,9 @@ class Keys(unittest.TestCase):
                           self.digits[:-1] + b"g", b"\xef\xbb\xbf" + self.digits, self.digits[:-2] + "é".encode()):
                 path.write_bytes(wrong)
                 self.assert_rejected(path)
+            # It is not read whole.
+            os.truncate(path, 1 << 42)
+            self.assert_rejected(path)
             with self.assertRaises(FileNotFoundError):
                 read_key(str(path) + "-missing")
 

@@ -115,6 +115,33 @@ class Threads(unittest.TestCase):
         longest = max(after - before for before, after in zip(moments, moments[1:]))
         return len(moments) > 100 and longest < (working.ended - working.begun) / 2
 
+    def test_short_work(self) -> None:
+        """From 4 KiB on other threads may run, though none asks for that here."""
+        mac, counts, done = Aegis256Mac(bytes(32)), [0], threading.Event()
+
+        def count() -> None:
+            while not done.is_set():
+                counts[0] += 1
+                time.sleep(0)
+
+        def runs_beside(length: int) -> bool:
+            data, before = bytes(length), counts[0]
+            for _ in range(2000):
+                mac.update(data)
+            return counts[0] != before
+
+        interval = sys.getswitchinterval()
+        thread = threading.Thread(target=count)
+        try:
+            sys.setswitchinterval(1000)
+            thread.start()
+            self.assertFalse(runs_beside(4095))
+            self.assertTrue(any(runs_beside(4096) for _ in range(50)))
+        finally:
+            sys.setswitchinterval(interval)
+            done.set()
+            thread.join()
+
     def test_each_method_waits_for_another_thread(self) -> None:
         mac, cipher = Aegis256Mac(bytes(32)), Aegis256(bytes(32))
         encryptor = cipher.encryptor(bytes(32))
