@@ -1,22 +1,26 @@
 """Builds the wheel: the package, its native module, and what installers read. Equal files give equal bytes.
 
-`pip install .` calls `build_wheel`, as pyproject.toml says. `make` calls
+`pip install .`, `pip install -e .` and `python -m build` call the hooks at the end, as pyproject.toml says. `make` calls
 
     build_wheel.py FOLDER LIBRARY MACHINE
 
 The C compiler is that of the variable CC, with the flags of CFLAGS after its own.
-The headers and the library are those of the release, or of the repository, that this file is in.
+The headers, the library and the licence are those of the sources, the release or the repository that this file is in.
 """
 
 import base64
+import gzip
 import hashlib
+import io
 import os
 import pathlib
 import platform
 import re
+import shlex
 import subprocess
 import sys
 import sysconfig
+import tarfile
 import tempfile
 import time
 import tomllib
@@ -25,11 +29,13 @@ import zipfile
 HERE = pathlib.Path(__file__).resolve().parent
 ROOT = HERE.parent
 PROJECT = tomllib.loads((HERE / "pyproject.toml").read_text())["project"]
+# The headers that the module includes.
+HEADERS = ("hunkravy.h", "hunkravy_records.h")
 # The stable interface, of Python 3.11 and later.
 INTERFACE = "cp311-abi3"
 # The oldest glibc that has what the module asks for.
 RELEASED = "manylinux_2_17"
-FLAGS = "-std=c11 -O2 -fPIC -Wall -Wextra -Wpedantic -Werror -fvisibility=hidden".split()
+FLAGS = "-std=c11 -O2 -fPIC -Wall -Wextra -Wpedantic -fvisibility=hidden".split()
 # The library's names are not exported, so no other library's are used in their place.
 LINK_FLAGS = "-shared -s -Wl,--exclude-libs,ALL,-z,relro,-z,now".split()
 
@@ -44,14 +50,14 @@ def first(*paths: pathlib.Path) -> pathlib.Path:
 
 def include() -> pathlib.Path:
     """The folder of the library's headers."""
-    return first(ROOT / "include", ROOT / "c" / "include")
+    return first(HERE / "include", ROOT / "include", ROOT / "c" / "include")
 
 
 def library() -> pathlib.Path:
     """The static library: that of HUNKRAVY_LIB_DIR, if it is set."""
     if folder := os.environ.get("HUNKRAVY_LIB_DIR"):
         return first(pathlib.Path(folder) / "libhunkravy.a")
-    return first(ROOT / "lib" / "libhunkravy.a", ROOT / "out" / "both" / "libhunkravy.a")
+    return first(*(folder / "libhunkravy.a" for folder in (HERE / "lib", ROOT / "lib", ROOT / "out" / "both")))
 
 
 def version() -> str:
@@ -66,21 +72,23 @@ def native_module(archive: pathlib.Path) -> bytes:
     headers = [f"-I{include()}", f"-I{sysconfig.get_path('include')}"]
     with tempfile.TemporaryDirectory() as folder:
         module = pathlib.Path(folder) / "module.so"
-        flags = [*FLAGS, *os.environ.get("CFLAGS", "").split()]
-        command = [os.environ.get("CC", "cc"), *flags, *headers, str(HERE / "native" / "native.c"), str(archive)]
+        flags = [*FLAGS, *shlex.split(os.environ.get("CFLAGS", ""))]
+        compiler = shlex.split(os.environ.get("CC", "")) or ["cc"]
+        command = [*compiler, *flags, *headers, str(HERE / "native" / "native.c"), str(archive)]
         subprocess.run([*command, *LINK_FLAGS, "-o", str(module)], check=True)
         return module.read_bytes()
 
 
 def metadata() -> str:
-    """The file METADATA."""
+    """The file METADATA, which sources have as PKG-INFO."""
     classifiers = "".join(f"Classifier: {classifier}\n" for classifier in PROJECT["classifiers"])
     return f"""\
-Metadata-Version: 2.1
+Metadata-Version: 2.4
 Name: {PROJECT["name"]}
 Version: {version()}
 Summary: {PROJECT["description"]}
-License: {PROJECT["license"]["text"]}
+License-Expression: {PROJECT["license"]}
+License-File: LICENSE
 Requires-Python: {PROJECT["requires-python"]}
 {classifiers}Description-Content-Type: text/markdown
 
@@ -93,39 +101,87 @@ def record_line(name: str, data: bytes) -> str:
     return f"{name},sha256={digest.decode()},{len(data)}\n"
 
 
-def contents(archive: pathlib.Path, tag: str) -> dict[str, bytes]:
-    """The files of the wheel, by their names."""
+def sources() -> dict[str, bytes]:
+    """The files of the package that are not built, by their names."""
+    paths = sorted(path for kind in ("*.py", "*.pyi", "py.typed") for path in (HERE / "hunkravy").glob(kind))
+    return {f"hunkravy/{path.name}": path.read_bytes() for path in paths if path.name != "_version.py"}
+
+
+def built(archive: pathlib.Path) -> dict[str, bytes]:
+    """Those that are."""
+    return {
+        "hunkravy/_version.py": f'"""The version of the package."""\n\nVERSION = "{version()}"\n'.encode(),
+        "hunkravy/_native.abi3.so": native_module(archive),
+    }
+
+
+def licence() -> bytes:
+    """The licence."""
+    return first(HERE / "LICENSE", ROOT / "LICENSE").read_bytes()
+
+
+def moment() -> int:
+    """The time of each file, in seconds since 1970: SOURCE_DATE_EPOCH, or else the beginning of 1980, which zip begins with."""
+    return int(os.environ.get("SOURCE_DATE_EPOCH", "315532800"))
+
+
+def write_wheel(folder: pathlib.Path, system: str, package: dict[str, bytes]) -> pathlib.Path:
+    """Writes the wheel of a package for a system, and returns its path."""
+    tag = f"{INTERFACE}-{system}"
     info = f"hunkravy-{version()}.dist-info"
-    sources = sorted(path for kind in ("*.py", "*.pyi", "py.typed") for path in (HERE / "hunkravy").glob(kind))
-    files = {f"hunkravy/{source.name}": source.read_bytes() for source in sources}
-    files["hunkravy/_version.py"] = f'"""The version of the package."""\n\nVERSION = "{version()}"\n'.encode()
-    files["hunkravy/_native.abi3.so"] = native_module(archive)
+    files = dict(package)
     files[f"{info}/METADATA"] = metadata().encode()
     files[f"{info}/WHEEL"] = f"Wheel-Version: 1.0\nGenerator: hunkravy\nRoot-Is-Purelib: false\nTag: {tag}\n".encode()
-    files[f"{info}/LICENSE"] = (ROOT / "LICENSE").read_bytes()
+    files[f"{info}/licenses/LICENSE"] = licence()
     lines = [record_line(name, data) for name, data in files.items()]
     files[f"{info}/RECORD"] = "".join([*lines, f"{info}/RECORD,,\n"]).encode()
-    return files
-
-
-def write(folder: pathlib.Path, archive: pathlib.Path, system: str) -> pathlib.Path:
-    """Writes the wheel for a system, and returns its path."""
-    moment = time.gmtime(int(os.environ.get("SOURCE_DATE_EPOCH", "315532800")))
-    tag = f"{INTERFACE}-{system}"
     wheel = folder / f"hunkravy-{version()}-{tag}.whl"
     with zipfile.ZipFile(wheel, "w", zipfile.ZIP_DEFLATED) as file:
-        for name, data in contents(archive, tag).items():
-            entry = zipfile.ZipInfo(name, moment[:6])
+        for name, data in files.items():
+            entry = zipfile.ZipInfo(name, time.gmtime(moment())[:6])
             entry.external_attr = (0o755 if name.endswith(".so") else 0o644) << 16
             entry.compress_type = zipfile.ZIP_DEFLATED
             file.writestr(entry, data)
     return wheel
 
 
+def own_system() -> str:
+    """Systems like this one."""
+    return f"linux_{platform.machine()}"
+
+
+# ---- The hooks of PEP 517 and PEP 660
+
+
 def build_wheel(wheel_directory: str, config_settings: object = None, metadata_directory: object = None) -> str:
-    """The hook that pip calls. The wheel is for systems like this one."""
-    return write(pathlib.Path(wheel_directory), library(), f"linux_{platform.machine()}").name
+    """Builds the wheel for systems like this one."""
+    return write_wheel(pathlib.Path(wheel_directory), own_system(), sources() | built(library())).name
+
+
+def build_editable(wheel_directory: str, config_settings: object = None, metadata_directory: object = None) -> str:
+    """Builds a wheel that leads to the sources. What is built is written beside them."""
+    for name, data in built(library()).items():
+        (HERE / name).write_bytes(data)
+    return write_wheel(pathlib.Path(wheel_directory), own_system(), {"hunkravy.pth": f"{HERE}\n".encode()}).name
+
+
+def build_sdist(sdist_directory: str, config_settings: object = None) -> str:
+    """Builds the archive of the sources, with the headers and the library for processors like this one."""
+    name = f"hunkravy-{version()}"
+    own = ("build_wheel.py", "pyproject.toml", PROJECT["readme"], "native/native.c")
+    files = sources() | {path: (HERE / path).read_bytes() for path in own}
+    files |= {f"include/{header}": (include() / header).read_bytes() for header in HEADERS}
+    files |= {"lib/libhunkravy.a": library().read_bytes(), "LICENSE": licence(), "PKG-INFO": metadata().encode()}
+    path = pathlib.Path(sdist_directory) / f"{name}.tar.gz"
+    with open(path, "wb") as file, gzip.GzipFile("", "wb", fileobj=file, mtime=moment()) as packed:
+        with tarfile.open(fileobj=packed, mode="w", format=tarfile.PAX_FORMAT) as archive:
+            for member, data in sorted(files.items()):
+                entry = tarfile.TarInfo(f"{name}/{member}")
+                entry.size, entry.mtime = len(data), moment()
+                archive.addfile(entry, io.BytesIO(data))
+    return path.name
 
 
 if __name__ == "__main__":
-    print(write(pathlib.Path(sys.argv[1]), pathlib.Path(sys.argv[2]), f"{RELEASED}_{sys.argv[3]}"))
+    package = sources() | built(pathlib.Path(sys.argv[2]))
+    print(write_wheel(pathlib.Path(sys.argv[1]), f"{RELEASED}_{sys.argv[3]}", package))

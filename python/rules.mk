@@ -9,10 +9,10 @@ PACKAGE = python/build_wheel.py python/pyproject.toml python/README.md $(wildcar
 	c/include/hunkravy.h c/include/hunkravy_records.h LICENSE
 
 $(WHEEL): $(OUT)/both/libhunkravy.a $(PACKAGE)
-	CC="$(CC)" python3 python/build_wheel.py $(OUT) $< x86_64
+	CC="$(CC)" CFLAGS=-Werror python3 python/build_wheel.py $(OUT) $< x86_64
 
 $(WHEEL_aarch64): $(OUT)/aarch64/libhunkravy.a $(PACKAGE)
-	CC=$(TOOLS_aarch64)gcc python3 python/build_wheel.py $(OUT) $< aarch64
+	CC=$(TOOLS_aarch64)gcc CFLAGS=-Werror python3 python/build_wheel.py $(OUT) $< aarch64
 
 # The package, unpacked from its wheel.
 python-package: $(WHEEL)

@@ -17,7 +17,7 @@ fail() {
 # run_tests FOLDER: runs the tests with the package of a folder. Some versions of unittest pass with no tests, and one
 # test counts them.
 run_tests() {
-    (cd tests && PYTHONPATH=$1 python3 -W error -m unittest -v) > "$work/log" 2>&1 || { cat "$work/log"; fail 'a test failed'; }
+    (cd tests && PYTHONPATH=$1 python3 -bb -W error -m unittest -v) > "$work/log" 2>&1 || { cat "$work/log"; fail 'a test failed'; }
     grep '^Ran ' "$work/log"
     grep -qE '^test_no_test_is_left_out .* ok$' "$work/log" || fail 'the tests were not counted'
 }
@@ -30,6 +30,22 @@ module=$folder/hunkravy/_native.abi3.so
 names=$(nm -D --defined-only "$module" | awk '{ print $3 }')
 [ "$names" = PyInit__native ] || fail "the native module exports $names"
 if nm -D --undefined-only "$module" | grep hunkravy; then fail 'the native module needs a library'; fi
+
+# It is compiled for the stable interface of the version that its wheel names, and what is bound at load time is not writable.
+headers=$(python3 -c 'import sysconfig; print(sysconfig.get_path("include"))')
+gcc -E -dM -I../c/include "-I$headers" native/native.c | grep '^#define Py_LIMITED_API 0x030B0000$' > /dev/null ||
+    fail 'the native module is compiled for another interface than that of Python 3.11'
+readelf -d "$module" | grep -q -w NOW && readelf -lW "$module" | grep -q GNU_RELRO ||
+    fail 'the native module is not bound when it is loaded'
+
+# Its level is that of the processor that runs it.
+if command -v qemu-x86_64 > /dev/null && [ "$(uname -m)" = x86_64 ]; then
+    python=$(python3 -c 'import sys; print(sys.executable)')
+    [ "$(PYTHONPATH=$folder qemu-x86_64 -cpu Nehalem "$python" -P -c 'import hunkravy; print(hunkravy.level())')" = 2 ] ||
+        fail 'the module has another level than that of its processor'
+else
+    echo 'left out: the Python package on a processor of level x86-64-v2, by qemu-x86_64, which is not installed'
+fi
 
 # Another build gives the same bytes as that of `make`.
 again=$(CC=gcc python3 build_wheel.py "$work" "$library" "$(uname -m)")
@@ -48,8 +64,7 @@ else
 fi
 
 if command -v clang > /dev/null; then
-    clang --analyze --analyzer-output text -Xclang -analyzer-werror -std=c11 -I../c/include \
-        "-I$(python3 -c 'import sysconfig; print(sysconfig.get_path("include"))')" native/native.c
+    clang --analyze --analyzer-output text -Xclang -analyzer-werror -std=c11 -I../c/include "-I$headers" native/native.c
 else
     echo 'left out: the native module by the analyzer of clang, which is not installed'
 fi
@@ -58,6 +73,9 @@ fi
 if command -v mypy > /dev/null; then
     (cd "$folder" && env -u PYTHONPATH mypy --strict --cache-dir=/dev/null -p hunkravy)
     (cd tests && env -u PYTHONPATH MYPYPATH="$folder" mypy --strict --cache-dir=/dev/null ./*.py ../examples/*.py)
+    # A name of the standard library that mypy's own description of it gets wrong.
+    (cd "$folder" && PYTHONPATH=. stubtest --concise hunkravy --ignore-unused-allowlist \
+        --allowlist <(echo 'hunkravy\._files\.BinaryIO\.write'))
 else
     echo 'left out: the types of the Python package by mypy, which is not installed'
 fi

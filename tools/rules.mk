@@ -14,11 +14,19 @@ $(OUT)/%/hunkravy: $(call sources,hunkravy) crates.txt
 	mkdir -p $(@D)
 	$(call build,hunkravy,--cpu=$*,rt run --cpu=$* -- --help > /dev/null,out/hunkravy)
 
+# The program that starts the build for the processor's level. It calls the system itself, and no library.
+START_FLAGS = -std=gnu11 -Wall -Wextra -Os -ffreestanding -fno-tree-loop-distribute-patterns -fno-stack-protector \
+	-fcf-protection=none -fno-asynchronous-unwind-tables -fPIE -static-pie -nostdlib -s \
+	-Wl,--build-id=none,-z,noseparate-code,-z,noexecstack
+
+$(OUT)/start: dist/start.c c/levels/level.h tools/rules.mk | $(OUT)
+	$(CC) $(START_FLAGS) $< -o $@
+
 # Installs the program hunkravy, its manual page, and completions for shells. The program is a link to the build for the
-# level, or, if there are two, a script that starts the better one.
+# level, or, if there are two, the one that starts the better one.
 ZSH_COMPLETIONS = $(PREFIX)/share/zsh/site-functions
 
-install-tool: $(TOOL_LEVELS:%=$(OUT)/%/hunkravy)
+install-tool: $(TOOL_LEVELS:%=$(OUT)/%/hunkravy) $(if $(filter 2,$(words $(TOOL_LEVELS))),$(OUT)/start)
 	install -d "$(DESTDIR)$(PREFIX)/bin"
 	for level in $(TOOL_LEVELS); do \
 		install -D -m 755 $(OUT)/$$level/hunkravy "$(DESTDIR)$(PREFIX)/lib/hunkravy/$$level/hunkravy" && \
@@ -26,7 +34,7 @@ install-tool: $(TOOL_LEVELS:%=$(OUT)/%/hunkravy)
 		echo "hunkravy is built for $$level" || exit 1; \
 	done
 	if [ $(words $(TOOL_LEVELS)) = 2 ]; then \
-		rm "$(DESTDIR)$(PREFIX)/bin/hunkravy" && install -m 755 dist/start.sh "$(DESTDIR)$(PREFIX)/bin/hunkravy"; \
+		rm "$(DESTDIR)$(PREFIX)/bin/hunkravy" && install -m 755 $(OUT)/start "$(DESTDIR)$(PREFIX)/bin/hunkravy"; \
 	fi
 	install -D -m 644 $(TOOL_PAGES)/man "$(DESTDIR)$(PREFIX)/share/man/man1/hunkravy.1"
 	install -D -m 644 $(TOOL_PAGES)/bash "$(DESTDIR)$(PREFIX)/share/bash-completion/completions/hunkravy"
@@ -38,13 +46,13 @@ install-tool: $(TOOL_LEVELS:%=$(OUT)/%/hunkravy)
 TOOL = $(OUT)/$(lastword $(TOOL_LEVELS))/hunkravy
 SCENES = $(notdir $(basename $(wildcard tools/check_tool/test_*.py)))
 
-check-tool: $(TOOL)
+check-tool: $(TOOL) $(OUT)/start
 	$(CC) -shared -fPIC -O1 tools/check_tool/calls.c -o $(OUT)/calls.so
 	$(MAKE) --no-print-directory --output-sync --jobs=$(or $(RT_JOBS),$(CHECKS)) $(SCENES:%=check-tool-%)
 
 check-tool-%:
-	cd tools/check_tool && TOOL="$(CURDIR)/$(TOOL)" CALLS_LIBRARY="$(CURDIR)/$(OUT)/calls.so" VERSION=$(VERSION) SHELL=/bin/sh \
-		python3 -B scene.py $*
+	cd tools/check_tool && TOOL="$(CURDIR)/$(TOOL)" START="$(CURDIR)/$(OUT)/start" CALLS_LIBRARY="$(CURDIR)/$(OUT)/calls.so" \
+		VERSION=$(VERSION) SHELL=/bin/sh python3 -B scene.py $*
 
 # Writes the manual page and the completions by what the program's help says. check-tool compares them with it.
 tool-pages: $(TOOL)

@@ -40,10 +40,11 @@ extern "C" {
 #define HUNKRAVY_PAGE_TAG_BYTES 32
 /* The most bytes that a page has beside its contents: its nonce and its tag. */
 #define HUNKRAVY_PAGE_MAX_ADDED_BYTES 64
-/* The page size, in bytes of contents: minimum, maximum and default. */
+/* The page size, in bytes of contents: minimum, maximum, and default for nonces of this length. With the default a page
+ * fills a block of 4,096 bytes. */
 #define HUNKRAVY_PAGE_MIN_SIZE 256
 #define HUNKRAVY_PAGE_MAX_SIZE 65536
-#define HUNKRAVY_PAGE_DEFAULT_SIZE 4032
+#define HUNKRAVY_PAGE_DEFAULT_SIZE(npublen) (4096 - (npublen) - HUNKRAVY_PAGE_TAG_BYTES)
 /* The length of the header block. */
 #define HUNKRAVY_PAGE_HEADER_BLOCK_BYTES 512
 /* The position of page 0 in the file. */
@@ -125,9 +126,10 @@ HUNKRAVY_MUST_USE int hunkravy_page_header_open(uint32_t variant, const uint8_t 
  */
 
 #define HUNKRAVY_JOURNAL_NONCE_BYTES 16
-/* What a journal begins with: the bytes that name its file, and a nonce. The first of them are synced first. */
-#define HUNKRAVY_JOURNAL_START_BYTES 49
-#define HUNKRAVY_JOURNAL_BEGINNING_BYTES 33
+/* A journal has a beginning, which names its file, and a nonce in front of its writes. The beginning fills a sector, so
+ * that no later write touches it. */
+#define HUNKRAVY_JOURNAL_START_BYTES 528
+#define HUNKRAVY_JOURNAL_BEGINNING_BYTES 512
 /* The position and the length of a write, in front of its bytes in a journal. */
 #define HUNKRAVY_JOURNAL_HEAD_BYTES 16
 /* The MAC, at the end of a journal. */

@@ -36,22 +36,23 @@ static void seal_header(const struct commit *this, uint8_t *block, uint64_t coun
 
 /* ---- The format, as docs/PAGES.md defines it */
 
-/* Writes the first bytes of a journal or a header. */
-static uint8_t *write_clear(const struct commit *this, const char *magic, uint8_t *at)
+/* Writes the first bytes of a journal. */
+static uint8_t *write_beginning(const struct commit *this, uint8_t *at)
 {
     static const uint8_t BYTES[] = {17, 18, 20, 33, 34, 36};
 
-    memcpy(at, magic, 4);
+    memset(at, 0, 512);
+    memcpy(at, "AGJ1", 4);
     at[4] = BYTES[this->variant];
     memcpy(write_number(at + 5, SIZE, 4), this->id, sizeof this->id);
-    return at + FIRST;
+    return at + 512;
 }
 
 /* Writes the journal. Its MAC is of 8 zeros and the writes. */
 static size_t write_journal(const struct commit *this, uint8_t *journal)
 {
     uint8_t input[MOST_BYTES] = {0}, nonce[32], key[16];
-    uint8_t *at = write_clear(this, "AGJ2", journal);
+    uint8_t *at = write_beginning(this, journal);
 
     memcpy(at, this->nonce, sizeof this->nonce);
     at += sizeof this->nonce;
@@ -61,7 +62,7 @@ static size_t write_journal(const struct commit *this, uint8_t *journal)
         at += this->lengths[i];
     }
     memset(nonce, 255, sizeof nonce);
-    HOLDS(hunkravy_mac(this->variant, (const uint8_t *)"AGJ2", 4, nonce, this->n, this->k, this->n,
+    HOLDS(hunkravy_mac(this->variant, (const uint8_t *)"AGJ1", 4, nonce, this->n, this->k, this->n,
                        key, sizeof key) == HUNKRAVY_OK);
     memcpy(input + 8, journal + START, (size_t)(at - journal) - START);
     HOLDS(hunkravy_mac(HUNKRAVY_AEGIS128L, input, 8 + (size_t)(at - journal) - START, this->nonce,
@@ -167,10 +168,13 @@ static void check_read(const struct commit *this)
     change_a_bit(torn + FIRST, this->length - FIRST);
     check_answer(this, this->before, BLOCK, torn, this->length, HUNKRAVY_OK, 0);
     check_answer(this, none, BLOCK, torn, this->length, HUNKRAVY_INVALID_TAG, 0);
-    change_a_bit(torn, FIRST);
-    check_answer(this, this->before, BLOCK, torn, this->length, HUNKRAVY_WRONG_JOURNAL, 0);
-    check_answer(this, this->before, BLOCK, torn, FIRST, HUNKRAVY_OK, 0);
-    check_answer(this, this->before, BLOCK, torn, FIRST + 1, HUNKRAVY_WRONG_JOURNAL, 0);
+    for (size_t at = 0; at < FIRST; at++) {
+        torn[at] ^= (uint8_t)(1 << at % 8);
+        check_answer(this, this->before, BLOCK, torn, this->length, HUNKRAVY_WRONG_JOURNAL, 0);
+        check_answer(this, this->before, BLOCK, torn, FIRST, HUNKRAVY_OK, 0);
+        check_answer(this, this->before, BLOCK, torn, FIRST + 1, HUNKRAVY_WRONG_JOURNAL, 0);
+        torn[at] = this->journal[at];
+    }
 }
 
 /* ---- What is refused */

@@ -333,8 +333,12 @@ int main(void)
     HOLDS(HUNKRAVY_PAGE_MAX_SIZE == SIZES[COUNT(SIZES) - 1]);
     HOLDS(HUNKRAVY_PAGE_MAX_ADDED_BYTES == HUNKRAVY_AEGIS256_NONCE_BYTES + TAG);
     /* Such a page lies in one block of a disk. */
-    HOLDS(HUNKRAVY_PAGE_DEFAULT_SIZE + HUNKRAVY_PAGE_MAX_ADDED_BYTES == 4096);
-    HOLDS(hunkravy_page_place(6, HUNKRAVY_PAGE_DEFAULT_SIZE, 0) == UINT64_MAX);
+    HOLDS(HUNKRAVY_PAGE_DEFAULT_SIZE(16) == 4048 && HUNKRAVY_PAGE_DEFAULT_SIZE(32) == 4032);
+    for (size_t i = 0; i < COUNT(VARIANTS); i++) {
+        uint32_t n = (uint32_t)VARIANTS[i].key_bytes, size = HUNKRAVY_PAGE_DEFAULT_SIZE(n);
+        HOLDS(hunkravy_page_place(VARIANTS[i].number, size, 3) == UINT64_C(4) * 4096);
+    }
+    HOLDS(hunkravy_page_place(6, SIZES[0], 0) == UINT64_MAX);
     for (size_t i = 0; i < COUNT(VARIANTS); i++) {
         for (size_t j = 0; j < COUNT(SIZES); j++) {
             check_size(&VARIANTS[i], SIZES[j]);

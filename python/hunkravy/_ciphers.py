@@ -4,13 +4,12 @@ from __future__ import annotations
 
 import operator
 import os
-from typing import TYPE_CHECKING, Optional
+from typing import TYPE_CHECKING, Optional, Self
 
 from . import _native, _variants as variants
 
 if TYPE_CHECKING:
-    from _typeshed import ReadableBuffer, WriteableBuffer
-    from typing_extensions import Self
+    from _typeshed import ReadableBuffer as _ReadableBuffer, WriteableBuffer as _WriteableBuffer
 
 NO_DATA = b""
 
@@ -28,7 +27,7 @@ class Cipher(variants.Variant, variants.Secret):
 
     __slots__ = ("_cipher", "_tag_length")
 
-    def __init__(self, key: ReadableBuffer, tag_length: int = 32) -> None:
+    def __init__(self, key: _ReadableBuffer, tag_length: int = 32) -> None:
         tag_length = operator.index(tag_length)
         self._cipher = _native.Cipher(self._VARIANT, key, tag_length)
         self._tag_length = tag_length
@@ -53,17 +52,17 @@ class Cipher(variants.Variant, variants.Secret):
         return self._tag_length
 
     def encrypt(
-        self, nonce: ReadableBuffer, data: ReadableBuffer, associated_data: Optional[ReadableBuffer] = None
+        self, nonce: _ReadableBuffer, data: _ReadableBuffer, associated_data: Optional[_ReadableBuffer] = None
     ) -> bytes:
         """Returns the ciphertext of a message, with its tag after it."""
         return self._cipher.encrypt(nonce, data, NO_DATA if associated_data is None else associated_data)
 
     def encrypt_into(
         self,
-        nonce: ReadableBuffer,
-        data: ReadableBuffer,
-        associated_data: Optional[ReadableBuffer],
-        buf: WriteableBuffer,
+        nonce: _ReadableBuffer,
+        data: _ReadableBuffer,
+        associated_data: Optional[_ReadableBuffer],
+        buf: _WriteableBuffer,
     ) -> int:
         """Encrypts a message into `buf`, which must be as long as message and tag together. Returns that length.
 
@@ -73,7 +72,7 @@ class Cipher(variants.Variant, variants.Secret):
         return self._cipher.encrypt(nonce, data, NO_DATA if associated_data is None else associated_data, buf)
 
     def decrypt(
-        self, nonce: ReadableBuffer, data: ReadableBuffer, associated_data: Optional[ReadableBuffer] = None
+        self, nonce: _ReadableBuffer, data: _ReadableBuffer, associated_data: Optional[_ReadableBuffer] = None
     ) -> bytes:
         """Returns the message of a ciphertext that has its tag after it.
 
@@ -83,10 +82,10 @@ class Cipher(variants.Variant, variants.Secret):
 
     def decrypt_into(
         self,
-        nonce: ReadableBuffer,
-        data: ReadableBuffer,
-        associated_data: Optional[ReadableBuffer],
-        buf: WriteableBuffer,
+        nonce: _ReadableBuffer,
+        data: _ReadableBuffer,
+        associated_data: Optional[_ReadableBuffer],
+        buf: _WriteableBuffer,
     ) -> int:
         """Decrypts a ciphertext that has its tag after it into a buffer of the message's length. Returns that length.
 
@@ -97,22 +96,22 @@ class Cipher(variants.Variant, variants.Secret):
         return self._cipher.decrypt(nonce, data, NO_DATA if associated_data is None else associated_data, buf)
 
     def encryptor(
-        self, nonce: ReadableBuffer, associated_data: Optional[ReadableBuffer] = None
+        self, nonce: _ReadableBuffer, associated_data: Optional[_ReadableBuffer] = None
     ) -> Encryptor:
         """Begins a message that is encrypted in chunks."""
         return Encryptor._of(self._begin(nonce, associated_data))
 
     def decryptor(
-        self, nonce: ReadableBuffer, associated_data: Optional[ReadableBuffer] = None
+        self, nonce: _ReadableBuffer, associated_data: Optional[_ReadableBuffer] = None
     ) -> Decryptor:
         """Begins a ciphertext that is decrypted in chunks."""
         return Decryptor._of(self._begin(nonce, associated_data))
 
-    def keystream(self, nonce: ReadableBuffer, length: int) -> bytes:
+    def keystream(self, nonce: _ReadableBuffer, length: int) -> bytes:
         """Returns the first bytes of a keystream. Never use a nonce for both a message and a keystream."""
         return self._cipher.keystream(nonce, length)
 
-    def _begin(self, nonce: ReadableBuffer, associated_data: Optional[ReadableBuffer]) -> _native.State:
+    def _begin(self, nonce: _ReadableBuffer, associated_data: Optional[_ReadableBuffer]) -> _native.State:
         return self._cipher.begin(nonce, NO_DATA if associated_data is None else associated_data)
 
 
@@ -148,7 +147,7 @@ class Encryptor(Chunks):
 
     __slots__ = ()
 
-    def update(self, data: ReadableBuffer) -> bytes:
+    def update(self, data: _ReadableBuffer) -> bytes:
         """Returns the ciphertext of the next chunk."""
         return self._state.encrypt(data)
 
@@ -174,11 +173,11 @@ class Decryptor(Chunks):
 
     __slots__ = ()
 
-    def update(self, data: ReadableBuffer) -> None:
+    def update(self, data: _ReadableBuffer) -> None:
         """Takes in the next chunk of the ciphertext, without its tag."""
         self._state.decrypt(data)
 
-    def finalize(self, tag: ReadableBuffer) -> bytes:
+    def finalize(self, tag: _ReadableBuffer) -> bytes:
         """Ends the ciphertext, and returns its message.
 
         Raises `InvalidTag`, and erases the message, if the tag is wrong. Any other length of the tag raises

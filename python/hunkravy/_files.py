@@ -3,27 +3,27 @@
 from __future__ import annotations
 
 import contextlib
+import errno
 import io
 import operator
 import os
 import re
+import sys
 import threading
 import warnings
-from typing import TYPE_CHECKING, Any, BinaryIO, ContextManager, Optional, Union
+from types import TracebackType
+from typing import TYPE_CHECKING, Any, BinaryIO, ContextManager, NoReturn, Optional, Self, Union
 
 from . import _native, _variants as variants
 
 if TYPE_CHECKING:
-    from types import TracebackType
-
-    from _typeshed import ReadableBuffer, WriteableBuffer
-    from typing_extensions import Self
+    from _typeshed import ReadableBuffer as _ReadableBuffer, WriteableBuffer as _WriteableBuffer
 
     class RawFile(io.RawIOBase, BinaryIO):  # type: ignore[misc]
         """A raw file that functions which take a file object accept."""
 
         def __enter__(self) -> Self: ...
-        def read(self, size: int = -1, /) -> Union[bytes, Any]: ...
+        def read(self, size: Optional[int] = -1, /) -> Union[bytes, Any]: ...
         def readall(self) -> Union[bytes, Any]: ...
 
 else:
@@ -84,8 +84,15 @@ class NoBytesYet(BlockingIOError):
     """The file beneath does not block, and has no bytes yet."""
 
 
+def bytes_of(view: memoryview) -> memoryview:
+    """Returns a view of the bytes. One of no element cannot be cast."""
+    return view.cast("B") if view.nbytes else memoryview(b"")
+
+
 class Sealed(variants.Secret, RawFile):  # type: ignore[misc]
     """What readers and writers share: the file beneath, and a lock, so that threads take turns."""
+
+    _can_read = _can_write = _can_seek = False
 
     def __init__(self, file: BinaryIO) -> None:
         self._file = file
@@ -98,11 +105,35 @@ class Sealed(variants.Secret, RawFile):  # type: ignore[misc]
             return contextlib.nullcontext()
         if lock._is_owned():
             raise RuntimeError("reentrant call")
+        if sys.is_finalizing():
+            # A thread that has it never goes on.
+            if not lock.acquire(blocking=False):
+                raise RuntimeError("a method is called in another thread, and the interpreter ends")
+            lock.release()
         return lock  # type: ignore[no-any-return]
 
     def _check_open(self) -> None:
         if self.closed:
             raise ValueError("I/O operation on closed file")
+
+    def _unsupported(self, reason: str) -> NoReturn:
+        self._check_open()
+        raise io.UnsupportedOperation(reason)
+
+    def readable(self) -> bool:
+        """Returns whether it is a reader."""
+        self._check_open()
+        return self._can_read
+
+    def writable(self) -> bool:
+        """Returns whether it is a writer."""
+        self._check_open()
+        return self._can_write
+
+    def seekable(self) -> bool:
+        """Returns whether it is a reader whose file can seek."""
+        self._check_open()
+        return self._can_seek
 
 
 class SealedWriter(Sealed):
@@ -110,16 +141,18 @@ class SealedWriter(Sealed):
 
     `key` has 32 bytes. The file is complete once `close` has returned, or a `with` block of the writer has ended
     without an exception. After an exception in the block or of `write`, or if the writer is dropped, the file does not open.
-    If `close` raises an exception, the file may be complete or not. `file` is not closed.
+    If `close` raises an exception, the file may be complete or not. `file` is not closed. It has to block: if it takes no
+    byte, `BlockingIOError` is raised.
 
     Bytes are written in pieces of 65,536. `close` writes the last piece, and `flush` does not. In a `with` block
     `close` takes effect at its end, so an `io.TextIOWrapper` inside it may close the writer.
     """
 
+    _can_write = True
     # False while a method writes, so it stays false if an exception ends one.
     _may_finish = False
 
-    def __init__(self, file: BinaryIO, key: ReadableBuffer) -> None:
+    def __init__(self, file: BinaryIO, key: _ReadableBuffer) -> None:
         super().__init__(file)
         self._is_entered = False
         prefix = os.urandom(PREFIX_BYTES)
@@ -131,23 +164,22 @@ class SealedWriter(Sealed):
         self._write_all(prefix + HEADER)
         self._may_finish = True
 
-    def writable(self) -> bool:
-        """Returns true."""
-        self._check_open()
-        return True
+    def readinto(self, buffer: _WriteableBuffer, /) -> NoReturn:
+        """Raises `io.UnsupportedOperation`. So do `read` and `readall`."""
+        self._unsupported("not readable")
 
     def tell(self) -> int:
         """Returns the number of bytes of contents that were written."""
         self._check_open()
         return self._length
 
-    def write(self, data: ReadableBuffer) -> int:
+    def write(self, data: _ReadableBuffer) -> int:
         """Writes all of the data, and returns their length. After an exception the file cannot be completed."""
         with self._turn():
             self._check_open()
             self._check_may_finish()
             self._may_finish = False
-            with memoryview(data) as view, view.cast("B") as contents:
+            with memoryview(data) as view, bytes_of(view) as contents:
                 self._take_in(contents)
                 count = len(contents)
             self._may_finish = True
@@ -219,9 +251,11 @@ class SealedWriter(Sealed):
 
     def _write_all(self, data: bytes) -> None:
         while data:
-            written = self._file.write(data)
+            written: object = self._file.write(data)
+            if written is None:
+                raise BlockingIOError(errno.EAGAIN, "the file beneath does not block, and took no byte", 0)
             if not isinstance(written, int) or not 0 < written <= len(data):
-                raise OSError(f"only {written} of {len(data)} bytes were written")
+                raise OSError(f"only {written!r} of {len(data)} bytes were written")
             data = data[written:]
 
     def _finish(self) -> None:
@@ -245,7 +279,9 @@ class SealedReader(Sealed):
     not verified. To read line by line, wrap the reader in an `io.BufferedReader`.
     """
 
-    def __init__(self, file: BinaryIO, key: ReadableBuffer) -> None:
+    _can_read = True
+
+    def __init__(self, file: BinaryIO, key: _ReadableBuffer) -> None:
         super().__init__(file)
         # The record that is being read, the piece that was opened last, and how many bytes of contents are before it.
         self._record = bytearray()
@@ -265,29 +301,27 @@ class SealedReader(Sealed):
         self._records = _native.Records(key, self._record[:PREFIX_BYTES])
         self._begin_at(0, 0)
 
-    def readable(self) -> bool:
-        """Returns true."""
-        self._check_open()
-        return True
-
-    def seekable(self) -> bool:
-        """Returns whether the file beneath can seek."""
-        self._check_open()
-        return self._can_seek
+    def write(self, data: _ReadableBuffer, /) -> NoReturn:
+        """Raises `io.UnsupportedOperation`."""
+        self._unsupported("not writable")
 
     def tell(self) -> int:
         """Returns the position in the contents."""
         self._check_open()
         return self._position
 
-    def readinto(self, buffer: WriteableBuffer) -> Optional[int]:
+    def read(self, size: Optional[int] = -1, /) -> Union[bytes, Any]:
+        """Returns the next bytes, at most `size`, or with -1 or None all that are left. See `readinto` for None."""
+        return super().read(-1 if size is None else size)
+
+    def readinto(self, buffer: _WriteableBuffer) -> Optional[int]:
         """Fills the buffer with the next bytes of the contents, and returns how many. If they are fewer than the buffer
         has, the contents end there, the next call raises an exception, or `file` does not block and has no bytes yet.
 
         Returns None if there are no bytes yet at all.
         """
-        with self._turn(), memoryview(buffer) as view, view.cast("B") as out:
-            if out.readonly:
+        with self._turn(), memoryview(buffer) as view, bytes_of(view) as out:
+            if view.readonly:
                 raise TypeError("buffer must be writable")
             self._begin_call()
             filled = self._fill(out)
@@ -311,7 +345,7 @@ class SealedReader(Sealed):
         offset = operator.index(offset)
         with self._turn():
             if not self.seekable():
-                raise io.UnsupportedOperation("the underlying file is not seekable")
+                self._unsupported("the underlying file is not seekable")
             if whence not in (os.SEEK_SET, os.SEEK_CUR, os.SEEK_END):
                 raise ValueError(f"whence must be 0, 1 or 2, not {whence}")
             self._begin_call()

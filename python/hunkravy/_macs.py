@@ -4,13 +4,12 @@ from __future__ import annotations
 
 import operator
 from copy import deepcopy
-from typing import TYPE_CHECKING, Any, Optional
+from typing import TYPE_CHECKING, Any, Optional, Self
 
 from . import _native, _variants as variants
 
 if TYPE_CHECKING:
-    from _typeshed import ReadableBuffer
-    from typing_extensions import Self
+    from _typeshed import ReadableBuffer as _ReadableBuffer
 
 
 class Mac(variants.Variant, variants.Secret):
@@ -32,10 +31,10 @@ class Mac(variants.Variant, variants.Secret):
 
     def __init__(
         self,
-        key: ReadableBuffer,
-        message: Optional[ReadableBuffer] = None,
+        key: _ReadableBuffer,
+        message: Optional[_ReadableBuffer] = None,
         *,
-        nonce: Optional[ReadableBuffer] = None,
+        nonce: Optional[_ReadableBuffer] = None,
         tag_length: int = 32,
     ) -> None:
         tag_length = operator.index(tag_length)
@@ -50,7 +49,7 @@ class Mac(variants.Variant, variants.Secret):
         """The length of the MAC in bytes."""
         return self._digest_size
 
-    def update(self, data: ReadableBuffer) -> None:
+    def update(self, data: _ReadableBuffer) -> None:
         """Takes in the next chunk of the input."""
         self._state.mac_update(data)
 
@@ -62,7 +61,7 @@ class Mac(variants.Variant, variants.Secret):
         """Returns the MAC of the input so far in hexadecimal digits. More input may follow."""
         return self.digest().hex()
 
-    def verify(self, mac: ReadableBuffer) -> None:
+    def verify(self, mac: _ReadableBuffer) -> None:
         """Raises `InvalidTag` unless this is the MAC of the input so far. More input may follow.
 
         The comparison does not stop at the first difference. Any other length raises `ValueError`.

@@ -94,22 +94,25 @@ typedef struct {
     PyThread_type_lock lock;
 } Locked;
 
-/* The same with the lock of an object, which it waits for without the interpreter's. */
+/*
+ * The same with the lock of an object. If it has to wait for that, the interpreter's lock is released in any case. A thread
+ * that has an object's lock never waits for the interpreter's: once the interpreter ends, it would have both forever.
+ */
 static PyThreadState *lock(void *object, size_t length)
 {
     PyThread_type_lock own = ((Locked *)object)->lock;
-    if (!PyThread_acquire_lock(own, NOWAIT_LOCK)) {
-        PyThreadState *released = PyEval_SaveThread();
-        PyThread_acquire_lock(own, WAIT_LOCK);
-        PyEval_RestoreThread(released);
+    if (PyThread_acquire_lock(own, NOWAIT_LOCK)) {
+        return begin_work(length);
     }
-    return begin_work(length);
+    PyThreadState *released = PyEval_SaveThread();
+    PyThread_acquire_lock(own, WAIT_LOCK);
+    return released;
 }
 
 static void unlock(void *object, PyThreadState *released)
 {
-    end_work(released);
     PyThread_release_lock(((Locked *)object)->lock);
+    end_work(released);
 }
 
 /* Makes an object, whose fields after its lock are zeros. */
@@ -242,15 +245,18 @@ static PyObject *decrypt_final(State *self, const Py_buffer *tag)
 {
     uint8_t *out;
     int code = HUNKRAVY_OK;
+    PyThreadState *released;
     if (!has_length("the tag", tag->len, self->tag_bytes)) {
         return NULL;
     }
-    PyThreadState *released = lock(self, 0);
+    /* New bytes need the interpreter's lock too. */
+    while ((released = lock(self, 0)) != NULL) {
+        unlock(self, released);
+    }
     PyObject *message = new_bytes(self->length, &out);
     if (message != NULL) {
-        PyThreadState *working = begin_work(self->length);
+        released = begin_work(self->length);
         code = finish(self, tag, out);
-        end_work(working);
     }
     unlock(self, released);
     return result_of(self, code, message);

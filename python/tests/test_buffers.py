@@ -79,9 +79,9 @@ class Buffers(unittest.TestCase):
             buffer = bytearray(b"a" * 41)
             with self.assertRaises((TypeError, ValueError)):
                 CIPHER.encrypt_into(nonce, data, header, buffer)
-            data = bytes(32 + len(data)) if isinstance(data, bytes) else data
+            data = bytes(73 if len(data) == 9 else 32 + len(data)) if isinstance(data, bytes) else data
             with self.assertRaises((TypeError, ValueError)):
-                CIPHER.decrypt_into(nonce, bytes(73) if data == bytes(41) else data, header, buffer)
+                CIPHER.decrypt_into(nonce, data, header, buffer)
             self.assertEqual(buffer, b"a" * 41)
         buffer = bytearray(b"a" * 41)
         with self.assertRaises(hunkravy.InvalidTag):

@@ -1,7 +1,9 @@
 """Sealed files: writing and reading, damaged files that the tests of the tool and of Rust read too, and the tool."""
 
+import array
 import concurrent.futures
 import csv
+import errno
 import io
 import itertools
 import os
@@ -93,6 +95,12 @@ class Slow(io.RawIOBase):
     def write(self, data: Any) -> Any:
         answer = self._call()
         return self.file.write(data[: self.most]) if answer is self else answer
+
+
+def unsupported(*names: str) -> Iterator[tuple[str, tuple[Any, ...]]]:
+    """These methods of files, with arguments."""
+    arguments = {"readinto": (bytearray(1),), "write": (b"abc",), "writelines": ([b"abc"],), "seek": (0,), "truncate": (0,)}
+    return ((name, arguments.get(name, ())) for name in names)
 
 
 def slow(data: bytes = b"", most: int = 7, fails: Optional[dict[int, Any]] = None) -> BinaryIO:
@@ -351,6 +359,42 @@ class Writing(unittest.TestCase):
         self.assertEqual(SealedReader(io.BytesIO(file.file.getvalue()), KEY).read(), bytes(100_000))
         return False
 
+    def test_a_file_that_does_not_block(self) -> None:
+        file = Slow(most=1000, fails={4: None})
+        writer = SealedWriter(cast(BinaryIO, file), KEY)
+        with self.assertRaises(BlockingIOError) as raised:
+            writer.write(bytes(PIECE))
+        self.assertEqual((raised.exception.errno, raised.exception.characters_written), (errno.EAGAIN, 0))
+        with self.assertRaisesRegex(OSError, "cannot be completed"):
+            writer.close()
+
+    def test_buffers_of_no_element(self) -> None:
+        file = io.BytesIO()
+        with SealedWriter(file, KEY) as writer:
+            self.assertEqual(writer.write(array.array("I")), 0)
+            self.assertEqual(writer.write(memoryview(b"abc")[3:]), 0)
+            self.assertEqual(writer.write(array.array("I", [1])), 4)
+        with SealedReader(io.BytesIO(file.getvalue()), KEY) as reader:
+            self.assertEqual(reader.readinto(array.array("I")), 0)
+            self.assertEqual(reader.readinto(array.array("I", [0])), 4)
+            self.assertRaises(TypeError, reader.readinto, b"")
+
+    def test_what_a_writer_cannot(self) -> None:
+        """Each is what a file of the standard library raises."""
+        with tempfile.TemporaryFile() as file, open(file.fileno(), "wb", buffering=0, closefd=False) as plain:
+            writer = SealedWriter(cast(BinaryIO, file), KEY)
+            for written in (plain, writer):
+                for name, arguments in unsupported("read", "readline", "readinto", "fileno", "seek"):
+                    if written is plain and name in ("fileno", "seek"):
+                        continue
+                    with self.assertRaises(io.UnsupportedOperation, msg=name):
+                        getattr(written, name)(*arguments)
+                self.assertFalse(written.readable())
+                self.assertTrue(written.writable())
+                written.close()
+                for name in ("readable", "writable", "seekable", "tell"):
+                    self.assertRaises(ValueError, getattr(written, name))
+
     def test_a_block_in_a_block(self) -> None:
         file = io.BytesIO()
         with SealedWriter(file, KEY) as writer:
@@ -521,6 +565,29 @@ class Reading(unittest.TestCase):
         plain.seek(len(found), 1)
         self.assertEqual(reader.tell(), plain.tell())
 
+    def test_what_a_reader_cannot(self) -> None:
+        """Each is what a file of the standard library raises."""
+        with open(DATA / "records.sealed", "rb", buffering=0) as plain:
+            for reader in (plain, SealedReader(open_records(), KEY)):
+                for name, arguments in unsupported("write", "truncate", "writelines"):
+                    with self.assertRaises(io.UnsupportedOperation, msg=name):
+                        getattr(reader, name)(*arguments)
+                self.assertTrue(reader.readable() and reader.seekable())
+                self.assertFalse(reader.writable())
+                reader.close()
+                for name in ("readable", "writable", "seekable", "tell"):
+                    self.assertRaises(ValueError, getattr(reader, name))
+                for name, arguments in unsupported("read", "readinto", "write", "seek", "truncate"):
+                    self.assertRaises(ValueError, getattr(reader, name), *arguments)
+
+    def test_sizes(self) -> None:
+        """None is -1, for each method that reads."""
+        for size in (None, -1):
+            self.assertEqual(SealedReader(open_records(), KEY).read(size), Damaged.contents)
+            self.assertEqual(SealedReader(open_records(), KEY).readline(size), Damaged.contents)
+        self.assertEqual(SealedReader(open_records(), KEY).readlines(cast(Any, None)), [Damaged.contents])
+        self.assertEqual(SealedReader(open_records(), KEY).read(0), b"")
+
     def test_wrong_positions(self) -> None:
         reader = SealedReader(open_records(), KEY)
         reader.seek(12)
@@ -623,6 +690,14 @@ class Reading(unittest.TestCase):
         reader.close()
         self.assertFalse(file.closed)
 
+    def test_nothing_is_kept_after_the_end(self) -> None:
+        reader = SealedReader(open_records(), KEY)
+        reader.read(12)
+        kept = (_native.Records, memoryview, bytearray)
+        self.assertEqual(sum(isinstance(value, kept) for value in vars(reader).values()), 3)
+        reader.close()
+        self.assertFalse([name for name, value in vars(reader).items() if isinstance(value, kept) and value])
+
     def test_wrong_arguments(self) -> None:
         for key in (b"", bytes(31), bytes(33)):
             with self.assertRaisesRegex(ValueError, "^the key must have 32 bytes, not"):
@@ -656,6 +731,9 @@ class Keys(unittest.TestCase):
                           self.digits[:-1] + b"g", b"\xef\xbb\xbf" + self.digits, self.digits[:-2] + "é".encode()):
                 path.write_bytes(wrong)
                 self.assert_rejected(path)
+            # It is not read whole.
+            os.truncate(path, 1 << 42)
+            self.assert_rejected(path)
             with self.assertRaises(FileNotFoundError):
                 read_key(str(path) + "-missing")
 

@@ -1,5 +1,7 @@
 """Objects whose methods lie, objects that no cipher has begun, copies and pickles, and what is left in memory."""
 
+import ast
+import contextlib
 import copy
 import ctypes
 import io
@@ -116,6 +118,16 @@ class Begun(unittest.TestCase):
         for make in makers:
             with self.assertRaises((TypeError, AttributeError)):
                 make()
+
+    def test_the_stub(self) -> None:
+        """It has the names that the native module has."""
+        stub = ast.parse((pathlib.Path(hunkravy.__file__).parent / "_native.pyi").read_text())
+        kinds = {kind.name: kind.body for kind in stub.body if isinstance(kind, ast.ClassDef)}
+        self.assertEqual({name for name in vars(_native) if isinstance(vars(_native)[name], type)}, set(kinds))
+        for name, body in kinds.items():
+            stated = {method.name for method in body if isinstance(method, ast.FunctionDef)} - {"__new__"}
+            found = vars(_native)[name]
+            self.assertEqual({method for method in vars(found) if not method.startswith("_")}, stated)
 
     def test_a_changed_module(self) -> None:
         """No other type than its own is used as a state."""
@@ -251,6 +263,30 @@ class Drawn(unittest.TestCase):
                 for place in range(length):
                     self.assertGreater(len({value[place] for value in drawn}), 20)
 
+    def test_no_process_repeats_another(self) -> None:
+        """Not after a fork, nor with the same seed of the module random."""
+        program = """
+import io, os, random
+from hunkravy import Aegis128L, Aegis256, SealedWriter
+
+def prefix():
+    file = io.BytesIO()
+    with SealedWriter(file, bytes(32)):
+        return file.getvalue()[:24]
+
+for is_child in (False, True, True):
+    if not is_child or os.fork() == 0:
+        for draw in (Aegis128L.generate_key, Aegis128L.generate_nonce, Aegis256.generate_key, Aegis256.generate_nonce, prefix):
+            random.seed(1)
+            os.write(1, draw()[:16].hex().encode() + b"\\n")
+    if is_child:
+        os.wait() if os.getpid() == parent else os._exit(0)
+    parent = os.getpid()
+"""
+        environment = dict(os.environ, PYTHONPATH=os.pathsep.join(sys.path))
+        printed = subprocess.run([sys.executable, "-c", program], env=environment, check=True, capture_output=True)
+        self.assertEqual(len(set(printed.stdout.split())), 15)
+
 
 class Memory(unittest.TestCase):
     """What is left in memory of objects and of chunks."""
@@ -273,6 +309,24 @@ class Memory(unittest.TestCase):
         """A program of its own reads the memory of objects after they are freed."""
         environment = dict(os.environ, PYTHONPATH=os.pathsep.join(sys.path))
         subprocess.run([sys.executable, "-c", FREED], env=environment, timeout=60, check=True)
+
+    def test_references(self) -> None:
+        """Objects and errors give back the types that they refer to."""
+
+        def fails() -> None:
+            with contextlib.suppress(hunkravy.InvalidTag):
+                CIPHER.decrypt(NONCE, bytes(40))
+
+        calls: list[Callable[[], object]] = [
+            fails, lambda: Aegis256(KEY), lambda: CIPHER.encryptor(NONCE), lambda: Aegis256Mac(KEY).copy(),
+            lambda: _native.Records(KEY, bytes(24)),
+        ]
+        kinds = (hunkravy.InvalidTag, _native.Cipher, _native.State, _native.Records)
+        before = [sys.getrefcount(kind) for kind in kinds]
+        for call in calls * 100:
+            call()
+        for kind, count in zip(kinds, before):
+            self.assertLess(sys.getrefcount(kind) - count, 50, kind)
 
     @not_sanitized
     def test_nothing_leaks(self) -> None:

@@ -5,6 +5,8 @@ import contextlib
 import mmap
 import random
 import signal
+import subprocess
+import sys
 import threading
 import time
 import unittest
@@ -113,6 +115,33 @@ class Threads(unittest.TestCase):
         longest = max(after - before for before, after in zip(moments, moments[1:]))
         return len(moments) > 100 and longest < (working.ended - working.begun) / 2
 
+    def test_short_work(self) -> None:
+        """From 4 KiB on other threads may run, though none asks for that here."""
+        mac, counts, done = Aegis256Mac(bytes(32)), [0], threading.Event()
+
+        def count() -> None:
+            while not done.is_set():
+                counts[0] += 1
+                time.sleep(0)
+
+        def runs_beside(length: int) -> bool:
+            data, before = bytes(length), counts[0]
+            for _ in range(2000):
+                mac.update(data)
+            return counts[0] != before
+
+        interval = sys.getswitchinterval()
+        thread = threading.Thread(target=count)
+        try:
+            sys.setswitchinterval(1000)
+            thread.start()
+            self.assertFalse(runs_beside(4095))
+            self.assertTrue(any(runs_beside(4096) for _ in range(50)))
+        finally:
+            sys.setswitchinterval(interval)
+            done.set()
+            thread.join()
+
     def test_each_method_waits_for_another_thread(self) -> None:
         mac, cipher = Aegis256Mac(bytes(32)), Aegis256(bytes(32))
         encryptor = cipher.encryptor(bytes(32))
@@ -185,6 +214,64 @@ class Threads(unittest.TestCase):
         finally:
             done.set()
             thread.join()
+
+
+class AtTheEnd(unittest.TestCase):
+    """The interpreter ends while a thread is in a method, and `__del__` uses the same object."""
+
+    program = """
+import io, mmap, os, sys, threading, time
+from hunkravy import *
+zeros = mmap.mmap(-1, 1 << 27, flags=mmap.MAP_PRIVATE | mmap.MAP_ANONYMOUS)
+cipher = Aegis256(bytes(32))
+class Slow(io.BytesIO):
+    def read(self, size=-1):
+        time.sleep(0.5)
+        return super().read(size)
+    def write(self, data):
+        time.sleep(0.5)
+        return super().write(data)
+{}
+class Last:
+    def __del__(self, call=call, write=os.write):
+        try:
+            call()
+            write(1, b"returned")
+        except RuntimeError:
+            write(1, b"raised")
+for _ in range(2):
+    threading.Thread(target=work, daemon=True).start()
+time.sleep(0.03)
+# Dropped as soon as the interpreter ends.
+sys.modules["kept"] = Last()
+"""
+
+    def ends(self, objects: str) -> str:
+        """What the program with these objects writes until it ends."""
+        command = [sys.executable, "-c", self.program.format(objects)]
+        return subprocess.run(command, stdout=subprocess.PIPE, check=True, text=True, timeout=30).stdout
+
+    def test_native_objects(self) -> None:
+        for objects in (
+            "mac = Aegis256Mac(bytes(32)); work, call = lambda: mac.update(zeros), mac.digest",
+            "mac = Aegis256Mac(bytes(32)); work, call = lambda: mac.update(zeros), lambda: mac.update(zeros)",
+            "message = cipher.encryptor(bytes(32)); work, call = lambda: message.update(zeros), message.finalize",
+        ):
+            with self.subTest(objects):
+                self.assertEqual(self.ends(objects), "returned")
+
+    def test_files(self) -> None:
+        """A method of a thread that never goes on keeps its turn."""
+        for objects in (
+            "writer = SealedWriter(Slow(), bytes(32)); work, call = (lambda: writer.write(bytes(1 << 20)),) * 2",
+            "writer = SealedWriter(Slow(), bytes(32)); work, call = lambda: writer.write(bytes(1 << 20)), writer.close",
+            """file = io.BytesIO()
+with SealedWriter(file, bytes(32)) as writer:
+    writer.write(bytes(1 << 20))
+reader = SealedReader(Slow(file.getvalue()), bytes(32)); work, call = (lambda: reader.read(1),) * 2""",
+        ):
+            with self.subTest(objects):
+                self.assertEqual(self.ends(objects), "raised")
 
 
 class Chunks(unittest.TestCase):

@@ -603,8 +603,10 @@ impl Variant {
 
 /// The length of a journal's nonce.
 pub const JOURNAL_NONCE_BYTES: usize = 16;
-/// How many bytes a journal has in front of its writes.
-pub const JOURNAL_START_BYTES: usize = 49;
+/// The length of the beginning of a journal, which names its file, and fills a sector.
+pub const JOURNAL_BEGINNING_BYTES: usize = 512;
+/// How many bytes a journal has in front of its writes: the beginning and the nonce.
+pub const JOURNAL_START_BYTES: usize = 528;
 /// How many bytes a write in a journal has in front of its own.
 pub const JOURNAL_HEAD_BYTES: usize = 16;
 /// How many bytes a journal has after its writes.

@@ -83,8 +83,19 @@ use std::io::ErrorKind;
 #[cfg(feature = "raf")]
 use std::path::Path;
 
-/// The default size of a page, in bytes of contents.
-pub const DEFAULT_CHUNK_SIZE: u32 = 4032;
+/// Returns the default size of a page, in bytes of contents. A page then fills a block of 4,096 bytes: it has 4,048 for
+/// algorithms with nonces of 16 bytes, and 4,032 for the others.
+///
+/// ```
+/// use hunkravy::raf::{Aegis128X4, Aegis256, default_chunk_size};
+///
+/// assert_eq!(default_chunk_size::<Aegis256>(), 4032);
+/// assert_eq!(default_chunk_size::<Aegis128X4>(), 4048);
+/// ```
+#[must_use]
+pub const fn default_chunk_size<A: Algorithm>() -> u32 {
+    (4096 - layout::TAG_BYTES - A::EXPORTS.key_bytes) as u32
+}
 
 /// The most bytes of contents: 2^60.
 pub const MAX_SIZE: u64 = 1 << 60;

@@ -5,7 +5,7 @@ use super::io::{Beside, FileIo, JournalChoice, JournalFile, RafIo, journal_path}
 use super::layout::{ID_BYTES, Layout, is_chunk_size};
 use super::recovery::recover;
 use super::rng::{DefaultRng, RafRng};
-use super::{Algorithm, DEFAULT_CHUNK_SIZE, Error, Raf, Result};
+use super::{Algorithm, Error, Raf, Result, default_chunk_size};
 use crate::exports::PageHeader;
 use alloc::vec;
 use core::marker::PhantomData;
@@ -27,7 +27,7 @@ pub struct RafBuilder<A: Algorithm, R: RafRng = DefaultRng, J: JournalChoice = B
 }
 
 impl<A: Algorithm> RafBuilder<A> {
-    /// Returns the default: pages of [`DEFAULT_CHUNK_SIZE`], the system's random bytes, and 16 MiB of changes in memory. No file is
+    /// Returns the default: pages of [`default_chunk_size`], the system's random bytes, and 16 MiB of changes in memory. No file is
     /// overwritten.
     #[cfg(feature = "raf")]
     #[allow(clippy::new_without_default)]
@@ -38,7 +38,7 @@ impl<A: Algorithm> RafBuilder<A> {
     /// Returns the default with another source of random bytes.
     pub fn with_rng<R: RafRng>(rng: R) -> RafBuilder<A, R> {
         RafBuilder {
-            chunk_size: DEFAULT_CHUNK_SIZE,
+            chunk_size: default_chunk_size::<A>(),
             truncate: false,
             buffer_limit: DEFAULT_BUFFER_LIMIT,
             rng,

@@ -4,9 +4,8 @@
 //! library. The proved crate `aegis_storage` writes the same bytes between the same syncs. Here neighbouring writes are one call.
 
 use super::io::RafIo;
-use super::layout::PLAINTEXT_HEADER_BYTES;
 use crate::exports::{
-    JOURNAL_HEAD_BYTES, JOURNAL_MAC_BYTES, JOURNAL_START_BYTES, Refusal, State, journal_next,
+    JOURNAL_BEGINNING_BYTES, JOURNAL_HEAD_BYTES, JOURNAL_MAC_BYTES, JOURNAL_START_BYTES, Refusal, State, journal_next,
 };
 use alloc::vec::Vec;
 use std::io;
@@ -54,16 +53,17 @@ pub fn commit(
     empty(journal)
 }
 
-/// Writes a journal, and syncs it: the first bytes first, so that a longer journal begins with them after any crash.
+/// Writes a journal, and syncs it: the beginning first, so that a longer journal has it after any crash. No later write is in
+/// its sector.
 fn write_journal(
     journal: &mut impl RafIo,
     seal: JournalSeal,
     writes: &[PendingWrite<'_>],
 ) -> io::Result<()> {
-    journal.write_at(&seal.start[..PLAINTEXT_HEADER_BYTES], 0)?;
+    journal.write_at(&seal.start[..JOURNAL_BEGINNING_BYTES], 0)?;
     journal.sync()?;
     let mut neighbours = Neighbours::new(journal);
-    let mut place = PLAINTEXT_HEADER_BYTES as u64;
+    let mut place = JOURNAL_BEGINNING_BYTES as u64;
     pass_content(seal, writes, |bytes| {
         neighbours.write(bytes, place)?;
         place += bytes.len() as u64;
@@ -72,13 +72,13 @@ fn write_journal(
     neighbours.finish()
 }
 
-/// Passes on the bytes of a journal after its first ones.
+/// Passes on the bytes of a journal after its beginning.
 fn pass_content(
     mut seal: JournalSeal,
     writes: &[PendingWrite<'_>],
     mut pass: impl FnMut(&[u8]) -> io::Result<()>,
 ) -> io::Result<()> {
-    pass(&seal.start[PLAINTEXT_HEADER_BYTES..])?;
+    pass(&seal.start[JOURNAL_BEGINNING_BYTES..])?;
     for write in writes {
         let head = seal.state.journal_entry(write.place, write.bytes);
         pass(&head.map_err(too_long)?)?;
@@ -202,7 +202,7 @@ mod tests {
             (u64::MAX, false),
         ] {
             let bytes = &[4; 3];
-            let mut journal = begun().start[..33].to_vec();
+            let mut journal = begun().start[..512].to_vec();
             let passed = pass_content(begun(), &[PendingWrite { place, bytes }], |bytes| {
                 journal.extend_from_slice(bytes);
                 Ok(())

@@ -11,7 +11,7 @@ use std::io;
 ///
 /// - A complete journal under this key is written to the file and emptied. The file has no header then, or its header is the
 ///   first or the last one of the commit, byte for byte.
-/// - A torn journal is emptied if the file has a header and the journal begins as those of this file do, or has at most 33 bytes.
+/// - A torn journal is emptied if the file has a header and the journal begins as those of this file do, or has at most 512 bytes.
 /// - Otherwise nothing is changed, and the error is [`Error::Journal`] or [`Error::Header`].
 pub fn recover<A: Algorithm>(
     io: &mut impl RafIo,

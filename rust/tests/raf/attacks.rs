@@ -200,10 +200,10 @@ fn a_file_that_is_created_over_one_in_a_commit() {
     assert!(matches!(created, Err(Error::Journal)), "{created:?}");
 }
 
-/// Opening keeps a file of 34 bytes that is no journal, and removes one of 33.
+/// Opening keeps a file of 513 bytes that is no journal, and removes one of 512.
 #[test]
 fn short_files_that_are_no_journal() {
-    for (length, is_kept) in [(1, false), (33, false), (34, true)] {
+    for (length, is_kept) in [(1, false), (512, false), (513, true)] {
         let folder = Folder::new("short-no-journal");
         with_text(&folder.path("file"), b"before");
         fs::write(folder.path("file.journal"), vec![b'a'; length]).unwrap();
@@ -212,7 +212,7 @@ fn short_files_that_are_no_journal() {
     }
 }
 
-/// What lies at the journal's path and is no journal is left alone, and so is the file. But one of up to 33 bytes may be
+/// What lies at the journal's path and is no journal is left alone, and so is the file. But one of up to 512 bytes may be
 /// what a crash has left of a journal, and is removed.
 #[test]
 fn what_is_no_journal() {
@@ -225,10 +225,8 @@ fn what_is_no_journal() {
         |folder| fs::hard_link(folder.path("other"), folder.path("file.journal")),
         |folder| fs::hard_link(folder.path("file"), folder.path("file.journal")),
         |folder| {
-            fs::write(
-                folder.path("file.journal"),
-                "a text to which a user gave this name",
-            )
+            let text = "a text to which a user gave this name ".repeat(20);
+            fs::write(folder.path("file.journal"), text)
         },
     ];
     for (number, put) in puts.iter().enumerate() {
@@ -286,18 +284,18 @@ fn a_link_to_no_file_and_a_journal() {
     );
 }
 
-/// The first bytes of a journal, and an empty one, are of no use to any file, and are removed.
+/// The beginning of a journal, and an empty one, are of no use to any file, and are removed.
 #[test]
 fn a_journal_with_no_record() {
     let folder = Folder::new("no-record");
     let path = folder.path("file");
     with_text(&path, b"text");
-    for size in [0, 1, 32, 33] {
+    for size in [0, 1, 511, 512] {
         fs::write(folder.path("file.journal"), vec![b'A'; size]).unwrap();
         assert_eq!(read(&mut open(&path).unwrap()), b"text");
         assert_eq!(folder.names(), ["file"]);
     }
-    fs::write(folder.path("file.journal"), [b'A'; 34]).unwrap();
+    fs::write(folder.path("file.journal"), [b'A'; 513]).unwrap();
     assert!(matches!(open(&path), Err(Error::Journal)));
     assert_eq!(folder.names(), ["file", "file.journal"]);
 }

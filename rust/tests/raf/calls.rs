@@ -323,7 +323,7 @@ fn the_calls_of_a_commit() {
         (file, Some(u64::MAX - 5056)),
         (journal, Some(0)),
         (journal, None),
-        (journal, Some(33)),
+        (journal, Some(512)),
         (journal, None),
         (file, Some(0)),
         (file, Some(4096)),
@@ -334,7 +334,7 @@ fn the_calls_of_a_commit() {
     ];
     assert_eq!(places(&disks), expected);
     let log = disks.0.log.borrow();
-    assert!(matches!(&log.calls[1].1, Call::Write(0, front) if front.len() == 33));
+    assert!(matches!(&log.calls[1].1, Call::Write(0, front) if front.len() == 512));
     assert_eq!(
         log.calls[1 + JOURNAL_CALLS].1,
         Call::Write(0, first[..512].to_vec())

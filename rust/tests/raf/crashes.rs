@@ -125,20 +125,20 @@ fn each_call_of_a_commit() {
     assert!(seen[0] > 50 && seen[1] > 50, "{seen:?}");
 }
 
-/// Returns the journals that a crash may leave of a pending write of its first bytes: as many of them as `cut` are
+/// Returns the journals that a crash may leave of a pending write of its beginning: as many of its bytes as `cut` are
 /// those of `front`, the others are new or are none yet, and it is cut off anywhere.
 fn torn_fronts(journal: &[u8], front: &[u8], cut: usize) -> Vec<Vec<u8>> {
     let mut written = journal.to_vec();
     written[..cut].copy_from_slice(&front[..cut]);
     let mut unwritten = written.clone();
-    unwritten[cut..33].fill(0);
-    let sizes = [0, cut, 33, 34, journal.len() - 1, journal.len()];
+    unwritten[cut..512].fill(0);
+    let sizes = [0, cut, 512, 513, journal.len() - 1, journal.len()];
     let cut_off = |journal: &[u8], size: usize| journal[..size.min(journal.len())].to_vec();
     let of_sizes = |journal: Vec<u8>| sizes.map(|size| cut_off(&journal, size));
     [of_sizes(written), of_sizes(unwritten)].concat()
 }
 
-/// Whatever is left of the first bytes of a journal, be it what the journal of another file begins with, the file
+/// Whatever is left of the beginning of a journal, be it what the journal of another file begins with, the file
 /// opens.
 #[test]
 fn each_torn_front_of_a_journal() {
@@ -155,8 +155,8 @@ fn each_torn_front_of_a_journal() {
             continue;
         }
         let (file, journal) = changed(&bytes, &calls[..count]);
-        for front in [front_of_another(), [0; 33], [0xff; 33]] {
-            for journal in (0..=33).flat_map(|cut| torn_fronts(&journal, &front, cut)) {
+        for front in [front_of_another(), [0; 512], [0xff; 512]] {
+            for journal in (0..=512).flat_map(|cut| torn_fronts(&journal, &front, cut)) {
                 check_opens(&(file.clone(), journal), &before, &after);
                 tries += 1;
             }

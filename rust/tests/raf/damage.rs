@@ -122,7 +122,7 @@ fn each_changed_byte_of_a_journal() {
         // The MAC is not of the front: a whole journal is that of this file by the headers in it.
         assert_eq!(
             text,
-            if at < 33 {
+            if at < 512 {
                 after.clone()
             } else {
                 before.clone()
@@ -131,7 +131,7 @@ fn each_changed_byte_of_a_journal() {
         );
         assert!(disks.1.bytes.borrow().is_empty());
         changed.1.pop();
-        if at < 33 {
+        if at < 512 {
             check_refused(&changed, &KEY, is_journal);
         }
         let mut short = cut.clone();
@@ -157,7 +157,7 @@ fn a_torn_header_and_a_torn_journal() {
     let (mut cut, after) = cut_short(&bytes, JOURNAL_CALLS);
     cut.0[40] ^= 1;
     assert_eq!(text_of(&mut open_by(&cut, &KEY).0.unwrap()).unwrap(), after);
-    for size in [0, 20, 56, 57, 61, 70, cut.1.len() - 1] {
+    for size in [0, 20, 511, 512, 513, 528, 560, cut.1.len() - 1] {
         let mut short = cut.clone();
         short.1.truncate(size);
         check_refused(&short, &KEY, is_header);
@@ -195,12 +195,12 @@ fn another_algorithm() {
 fn the_journal_of_another_file() {
     let (bytes, text) = file(1);
     let (other, _) = cut_short(&file(100).0, JOURNAL_CALLS);
-    for size in [34, 57, 500, other.1.len()] {
+    for size in [513, 528, 560, other.1.len()] {
         let journal = other.1[..size].to_vec();
         check_refused(&(bytes.0.clone(), journal), &KEY, is_journal);
     }
-    // One with no record is of use to no file.
-    for size in 0..=33 {
+    // A beginning alone is of use to no file.
+    for size in 0..=512 {
         let (file, disks) = open_by(&(bytes.0.clone(), other.1[..size].to_vec()), &KEY);
         assert_eq!(text_of(&mut file.unwrap()).unwrap(), text);
         assert!(disks.1.bytes.borrow().is_empty());
@@ -211,8 +211,8 @@ fn the_journal_of_another_file() {
 #[test]
 fn bytes_that_are_no_journal() {
     let (bytes, _) = file(1);
-    let own = bytes.0[..400].to_vec();
-    for other in [vec![b'a'; 34], vec![0; 5000], own, bytes.0.clone()] {
+    let own = bytes.0[..600].to_vec();
+    for other in [vec![b'a'; 513], vec![0; 5000], own, bytes.0.clone()] {
         check_refused(&(bytes.0.clone(), other), &KEY, is_journal);
     }
 }

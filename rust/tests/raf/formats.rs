@@ -103,9 +103,9 @@ fn journals() {
         let mut nonce = A::Nonce::default();
         nonce.as_mut().fill(255);
         let mut mac = Mac::<A, 16>::new_with_nonce(&key, &nonce);
-        mac.update(b"AGJ2");
+        mac.update(b"AGJ1");
         let journal = disks.1.bytes.borrow();
-        let (nonce, rest) = journal[33..].split_first_chunk().unwrap();
+        let (nonce, rest) = journal[512..].split_first_chunk().unwrap();
         let (content, tag) = rest.split_last_chunk().unwrap();
         let first = [&[0; 8][..], &512u64.to_le_bytes(), &sector].concat();
         assert!(content.starts_with(&first));
@@ -138,7 +138,7 @@ fn a_commit_of_the_small_file() {
     disks.0.log.borrow_mut().left = 9;
     assert!(file.commit().is_err());
     let journal = [
-        129, 138, 83, 205, 226, 202, 157, 91, 163, 43, 34, 234, 87, 178, 70, 154,
+        72, 151, 27, 172, 3, 29, 147, 252, 121, 112, 166, 196, 67, 129, 239, 30,
     ];
     let changed = [
         193, 200, 198, 72, 90, 10, 43, 29, 250, 173, 233, 197, 240, 242, 78, 241,

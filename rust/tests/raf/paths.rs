@@ -320,7 +320,7 @@ fn another_file_in_place_of_a_journal() {
     let journal = folder.path("file.journal");
     let mut file = create(&path).unwrap();
     file.write(b"changed", 0).unwrap();
-    for len in [1, 33, 48] {
+    for len in [1, 512, 600] {
         fs::write(&journal, vec![7; len]).unwrap();
         assert!(matches!(file.commit(), Err(Error::Journal)));
         assert_eq!(fs::read(&journal).unwrap(), vec![7; len]);

@@ -110,6 +110,6 @@ fn a_file_that_is_probed() {
     );
     assert_eq!(
         text,
-        "algorithm: Aegis128X4, chunk_size: 4032, file_size: 512"
+        "algorithm: Aegis128X4, chunk_size: 4048, file_size: 512"
     );
 }

@@ -13,9 +13,10 @@ pub const KEY: [u8; 32] = [7; 32];
 pub const JOURNAL_CALLS: usize = 4;
 
 /// Returns what the journals of another file begin with, whose pages have 256 bytes.
-pub fn front_of_another() -> [u8; 33] {
-    let mut front = [0x6d; 33];
-    front[..9].copy_from_slice(b"AGJ2\x21\0\x01\0\0");
+pub fn front_of_another() -> [u8; 512] {
+    let mut front = [0; 512];
+    front[..33].fill(0x6d);
+    front[..9].copy_from_slice(b"AGJ1\x21\0\x01\0\0");
     front
 }
 

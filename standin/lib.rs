@@ -1,0 +1,22 @@
+//! A stand-in for the exports of `crates/aegis_c`, in plain Rust: the same calls, codes and bytes. Nothing of it is proved, and
+//! it looks up tables by secret bytes. It is for tests alone.
+//!
+//! [`aegis`] has the ciphers, [`message`] the state of a message, and the other modules the exports by what they are on.
+#![no_std]
+
+mod aegis;
+#[allow(dead_code)]
+#[path = "../bench/block.rs"]
+mod block;
+mod code;
+mod journals;
+mod message;
+mod messages;
+mod pages;
+mod records;
+mod slices;
+
+#[panic_handler]
+fn panic(_: &core::panic::PanicInfo) -> ! {
+    loop {}
+}
