@@ -6,6 +6,7 @@ mod batches;
 mod calls;
 mod crashes;
 mod damage;
+mod failed_syncs;
 mod formats;
 mod model;
 mod paths;

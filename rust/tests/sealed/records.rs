@@ -148,7 +148,7 @@ fn a_record_without_room() {
 fn contexts() {
     let contexts = [&[][..], &[0], &[0; 2], &[1; MAX_CONTEXT_BYTES]];
     for sealing in contexts {
-        let sealer = Sealer::new(&key(), &PREFIX, sealing).unwrap();
+        let mut sealer = Sealer::new(&key(), &PREFIX, sealing).unwrap();
         let mut stream = sealer.header().to_vec();
         sealer.seal_last(b"message", &mut stream).unwrap();
         for opening in contexts {
