@@ -97,7 +97,8 @@ impl RafIo for Storage {
         self.count()?;
         let part = &mut self.0.borrow_mut().parts[self.1];
         put(&mut part.read, offset, data);
-        part.dirty.push(offset as usize..offset as usize + data.len());
+        part.dirty
+            .push(offset as usize..offset as usize + data.len());
         Ok(())
     }
 
