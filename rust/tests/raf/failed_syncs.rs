@@ -251,7 +251,7 @@ impl World {
 #[test]
 fn failed_syncs_and_crashes() {
     let mut seen = [0; 3];
-    for seed in 1..3000 {
+    for seed in 1..1000 {
         let mut world = World::new(seed);
         for _ in 0..4 {
             world.step();
@@ -261,5 +261,5 @@ fn failed_syncs_and_crashes() {
             *all += own;
         }
     }
-    assert!(seen.iter().all(|count| *count > 1000), "{seen:?}");
+    assert!(seen.iter().all(|count| *count > 200), "{seen:?}");
 }
