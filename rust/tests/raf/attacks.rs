@@ -6,7 +6,7 @@ use crate::support::{Bytes, Disk, KEY, Random, disks};
 use hunkravy::raf::*;
 use std::fs;
 use std::io;
-use std::os::unix::fs::{MetadataExt, PermissionsExt, symlink};
+use std::os::unix::fs::{FileExt, MetadataExt, PermissionsExt, symlink};
 use std::os::unix::process::CommandExt;
 use std::path::Path;
 use std::process::Command;
@@ -198,6 +198,24 @@ fn a_file_that_is_created_over_one_in_a_commit() {
     drop(file);
     let created = RafBuilder::<Aegis256>::new().create_file(&path, &KEY);
     assert!(matches!(created, Err(Error::Journal)), "{created:?}");
+}
+
+/// A large file of the journal's name that is none of the file's is not read: its bytes may be more than the memory.
+#[test]
+fn a_large_file_that_is_no_journal() {
+    let folder = Folder::new("large-no-journal");
+    let path = folder.path("file");
+    with_text(&path, b"before");
+    let journal = fs::File::create(folder.path("file.journal")).unwrap();
+    for front in [vec![0; 600], crate::support::front_of_another().to_vec()] {
+        journal.write_all_at(&front, 0).unwrap();
+        journal.set_len(1 << 40).unwrap();
+        assert!(matches!(open(&path), Err(Error::Journal)));
+    }
+    // Nor if the file has no header.
+    fs::write(&path, [0; 600]).unwrap();
+    journal.write_all_at(b"AGJ2", 0).unwrap();
+    assert!(matches!(open(&path), Err(Error::Header)));
 }
 
 /// Opening keeps a file of 513 bytes that is no journal, and removes one of 512.

@@ -442,6 +442,41 @@ fn a_source_of_random_bytes_that_fails() {
     file.commit().unwrap();
 }
 
+/// A source whose next bytes are all 255, after this number of calls.
+struct Reserved(Random, usize);
+
+impl RafRng for Reserved {
+    fn fill(&mut self, buf: &mut [u8]) -> Result<()> {
+        self.0.fill(buf)?;
+        match self.1.checked_sub(1) {
+            Some(left) => self.1 = left,
+            // The nonce of a header, or that of the last page and the header.
+            None => buf.iter_mut().rev().take(64).for_each(|byte| *byte = 255),
+        }
+        Ok(())
+    }
+}
+
+/// The nonce that commitments have is used for no header and no page.
+#[test]
+fn the_reserved_nonce() {
+    let disks = disks(Bytes::default());
+    let builder = |left| RafBuilder::<Aegis256>::with_rng(Reserved(Random(5), left));
+    let builder = |left| builder(left).journal(disks.1.clone());
+    let created = builder(1).create(disks.0.clone(), &KEY);
+    assert!(matches!(created, Err(Error::Io(_))));
+    assert_eq!(calls(&disks), 0);
+    drop(builder(2).create(disks.0.clone(), &KEY).unwrap());
+    let count = calls(&disks);
+    let mut file = builder(0).open(disks.0.clone(), &KEY).unwrap();
+    file.write(b"kept", 0).unwrap();
+    assert!(matches!(file.commit(), Err(Error::Io(_))));
+    // Only the opening has synced both.
+    assert_eq!(calls(&disks), count + 2);
+    assert_eq!(file.size(), 4);
+    file.discard();
+}
+
 #[test]
 fn chunk_sizes() {
     for bytes in [0, 1, 255, 65_537, u32::MAX] {

@@ -148,7 +148,7 @@ fn a_record_without_room() {
 fn contexts() {
     let contexts = [&[][..], &[0], &[0; 2], &[1; MAX_CONTEXT_BYTES]];
     for sealing in contexts {
-        let sealer = Sealer::new(&key(), &PREFIX, sealing).unwrap();
+        let mut sealer = Sealer::new(&key(), &PREFIX, sealing).unwrap();
         let mut stream = sealer.header().to_vec();
         sealer.seal_last(b"message", &mut stream).unwrap();
         for opening in contexts {
@@ -232,4 +232,28 @@ fn errors() {
     }
     let source: Box<dyn std::error::Error + Send + Sync> = Error::Flag.into();
     assert!(source.source().is_none());
+}
+
+/// A last message that is rejected changes nothing: another can be the last one. After it there is none.
+#[test]
+fn a_last_message_that_is_too_long() {
+    let mut sealer = Sealer::new(&key(), &PREFIX, b"").unwrap();
+    let mut stream = sealer.header().to_vec();
+    let mut record = vec![7; RECORD_BYTES + MAX_MESSAGE_BYTES + 1];
+    assert_eq!(
+        sealer.seal_last(&record[RECORD_BYTES..], &mut stream),
+        Err(Error::TooLong)
+    );
+    assert_eq!(sealer.seal_last_in_place(&mut record), Err(Error::TooLong));
+    assert!(stream == sealer.header() && record.iter().all(|byte| *byte == 7));
+    sealer.seal_last(b"last", &mut stream).unwrap();
+    let mut opener = Opener::new(&key(), &PREFIX, b"", &stream[..4]).unwrap();
+    let opened = opener.open_next(&stream[4..]).unwrap();
+    assert!(opened.message == b"last" && opened.is_last && opened.rest.is_empty());
+    let length = stream.len();
+    assert_eq!(sealer.seal_next(b"more", &mut stream), Err(Error::Ended));
+    assert_eq!(sealer.seal_last(b"more", &mut stream), Err(Error::Ended));
+    let mut record = [7; RECORD_BYTES];
+    assert_eq!(sealer.seal_next_in_place(&mut record), Err(Error::Ended));
+    assert_eq!((stream.len(), record), (length, [7; RECORD_BYTES]));
 }
