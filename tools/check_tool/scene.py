@@ -78,6 +78,11 @@ class Scene(unittest.TestCase):
     def is_same(self, name, other):
         self.assertTrue(read(name) == (read(other) if isinstance(other, str) else other), f"{name} is another file")
 
+    def differ(self, *values):
+        """No two of these values have the same part of 8 bytes in any place, as random ones with zeros would."""
+        for parts in zip(*([value[at : at + 8] for at in range(0, len(value), 8)] for value in values)):
+            self.assertEqual(len(set(parts)), len(values), values)
+
     def opens(self, name, contents, key="key"):
         """The sealed file opens to these contents."""
         found = subprocess.run([TOOL, "open", "-k", key, name, "-"], stdout=subprocess.PIPE, check=False)

@@ -10,6 +10,7 @@ mod output;
 mod progress;
 mod range;
 mod shown;
+mod socket;
 mod terminal;
 mod transfer;
 mod version;
