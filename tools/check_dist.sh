@@ -27,30 +27,40 @@ line=$(if python3 tools/proved.py check 2> /dev/null; then cat out/proved-line; 
 entries() {
     awk '{ print $1, $2, $6 ($7 ? " " $7 " " $8 : "") }'
 }
+# contents MACHINE ARCHITECTURE: those of the packages for a processor, by its name and by Debian's.
 contents() {
-    for archive in *.tar.gz; do
+    for archive in *"$1"*.tar.gz; do
         echo "== $archive"
         tar --numeric-owner -tvzf "$archive" | entries
     done
-    for package in *.deb; do
+    for package in *_"$2".deb; do
         echo "== $package"
         dpkg-deb -c "$package" | entries
         dpkg-deb -f "$package" Package Version Architecture Multi-Arch Depends Section | sed 's/^/   /'
     done
-    for wheel in *.whl; do
+    for wheel in *"$1".whl; do
         echo "== $wheel"
         python3 -c 'import sys, zipfile
 for entry in zipfile.ZipFile(sys.argv[1]).infolist(): print(oct(entry.external_attr >> 16), entry.filename)' "$wheel"
     done
 }
-(cd "$dist" && contents) | sed "s/$version/VERSION/g" > "$out/contents.txt"
-missing=none
-if ! ls "$dist"/*aarch64* > /dev/null 2>&1; then
+# What dist/contents.txt lists, for ARM: the same without the tool.
+for_arm() {
+    awk '/^== / { is_of_tool = /hunkravy_/ } !is_of_tool && !/\/bin\/|\/lib\/hunkravy\/|share\/(bash|fish|man|zsh)/' |
+        sed 's/x86_64/aarch64/g; s/amd64/arm64/g'
+}
+# lists FILTER MACHINE ARCHITECTURE: whether the list, filtered so, has the packages for a processor.
+lists() {
+    (cd "$dist" && contents "$2" "$3") | sed "s/$version/VERSION/g" > "$out/contents-$2.txt"
+    "$1" < dist/contents.txt | diff - "$out/contents-$2.txt" ||
+        fail "dist/contents.txt does not list what is packed, as $out/contents-$2.txt does"
+}
+lists cat x86_64 amd64
+if ls "$dist"/*aarch64* > /dev/null 2>&1; then
+    lists for_arm aarch64 arm64
+else
     echo 'left out: the archive for ARM, since aarch64-linux-gnu-gcc is not installed'
-    missing='aarch64|arm64'
 fi
-awk -v missing="$missing" '/^== / { is_missing = $0 ~ missing } !is_missing' dist/contents.txt | diff - "$out/contents.txt" ||
-    fail "dist/contents.txt does not list what is packed, as $out/contents.txt does"
 
 # Everything, unpacked: the archives, the packages as a system of their own, and the wheel.
 install_to=(python3 -m pip install --quiet --no-index --no-deps --disable-pip-version-check --root-user-action=ignore --target)
