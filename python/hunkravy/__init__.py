@@ -1,4 +1,4 @@
-"""The AEGIS ciphers, their MACs, and sealed files.
+"""The AEGIS ciphers, their MACs, sealed files, and random-access files.
 
 A message is encrypted in one call or in chunks. A decrypted message is returned only after its tag is verified:
 
@@ -42,6 +42,7 @@ from ._macs import (
     Mac,
 )
 from ._native import LEVEL as _LEVEL, InvalidTag
+from ._random_access import RandomAccessError, RandomAccessFile, RandomAccessStream
 from ._version import VERSION as __version__
 
 __all__ = [
@@ -62,6 +63,9 @@ __all__ = [
     "Encryptor",
     "InvalidTag",
     "Mac",
+    "RandomAccessError",
+    "RandomAccessFile",
+    "RandomAccessStream",
     "SealedFileError",
     "SealedReader",
     "SealedWriter",

@@ -15,6 +15,7 @@
 #include <string.h>
 
 #include "hunkravy.h"
+#include "hunkravy_pages.h"
 #include "hunkravy_records.h"
 
 /* The longest keys and nonces, and the longest tags. */
@@ -334,6 +335,43 @@ static PyObject *state_mac_copy(PyObject *object, PyObject *none)
     return (PyObject *)other;
 }
 
+/* Takes the next write into a journal. Returns the bytes that it has in front of its own there. */
+static PyObject *state_entry(PyObject *object, PyObject *given)
+{
+    State *self = (State *)object;
+    unsigned long long place;
+    Py_buffer bytes;
+    uint8_t *head;
+    if (!PyArg_ParseTuple(given, "Ky*", &place, &bytes)) {
+        return NULL;
+    }
+    PyObject *result = new_bytes(HUNKRAVY_JOURNAL_HEAD_BYTES, &head);
+    if (result != NULL) {
+        PyThreadState *released = lock(self, (size_t)bytes.len);
+        int code = hunkravy_journal_entry(&self->state, place, bytes.buf, (size_t)bytes.len, head);
+        unlock(self, released);
+        result = result_of(self, code, result);
+    }
+    PyBuffer_Release(&bytes);
+    return result;
+}
+
+/* Returns the MAC with which a journal ends. */
+static PyObject *state_journal_final(PyObject *object, PyObject *none)
+{
+    State *self = (State *)object;
+    uint8_t *mac;
+    PyObject *result = new_bytes(HUNKRAVY_JOURNAL_MAC_BYTES, &mac);
+    (void)none;
+    if (result == NULL) {
+        return NULL;
+    }
+    PyThreadState *released = lock(self, 0);
+    int code = hunkravy_journal_final(&self->state, mac);
+    unlock(self, released);
+    return result_of(self, code, result);
+}
+
 static PyMethodDef state_methods[] = {
     {"encrypt", state_encrypt_chunk, METH_O, NULL},
     {"decrypt", state_decrypt_chunk, METH_O, NULL},
@@ -342,6 +380,8 @@ static PyMethodDef state_methods[] = {
     {"mac_verify", state_mac_verify, METH_O, NULL},
     {"mac_copy", state_mac_copy, METH_NOARGS, NULL},
     {"final", state_final, METH_NOARGS, NULL},
+    {"entry", state_entry, METH_VARARGS, NULL},
+    {"journal_final", state_journal_final, METH_NOARGS, NULL},
     {NULL, NULL, 0, NULL},
 };
 
@@ -529,18 +569,28 @@ static PyObject *cipher_keystream(PyObject *object, PyObject *given)
     return result;
 }
 
+/* Makes a state, whose type is in the module of an object. */
+static State *new_state(PyObject *object)
+{
+    State *state = NULL;
+    PyObject *type = of_module(object, "State");
+    if (type != NULL && PyType_Check(type) && PyType_GetSlot((PyTypeObject *)type, Py_tp_dealloc) == SLOT(state_free)) {
+        state = new_object((PyTypeObject *)type);
+    }
+    Py_XDECREF(type);
+    return state;
+}
+
 /* Begins a message in chunks. The arguments are the nonce, and the associated data, without which it is a MAC. */
 static PyObject *cipher_begin(PyObject *object, PyObject *given)
 {
     const Cipher *self = (Cipher *)object;
     Arguments arguments;
     State *state = NULL;
-    PyObject *type = of_module(object, "State");
     memset(&arguments, 0, sizeof arguments);
-    if (type != NULL && PyType_Check(type) && PyType_GetSlot((PyTypeObject *)type, Py_tp_dealloc) == SLOT(state_free) &&
-        PyArg_ParseTuple(given, "y*|y*", &arguments.nonce, &arguments.associated) &&
+    if (PyArg_ParseTuple(given, "y*|y*", &arguments.nonce, &arguments.associated) &&
         has_length("the nonce", arguments.nonce.len, self->key_bytes)) {
-        state = new_object((PyTypeObject *)type);
+        state = new_state(object);
     }
     if (state != NULL) {
         const uint8_t *nonce = arguments.nonce.buf, *associated = arguments.associated.buf, *key = self->key;
@@ -555,8 +605,181 @@ static PyObject *cipher_begin(PyObject *object, PyObject *given)
         state = result_of(object, code, state);
     }
     release(&arguments);
-    Py_XDECREF(type);
     return (PyObject *)state;
+}
+
+/* ---- The pages, headers and journals of a random-access file under the key */
+
+/* Encrypts a page in place. The arguments are the page, the ID of the file, the number of the page, and a nonce. */
+static PyObject *cipher_seal_page(PyObject *object, PyObject *given)
+{
+    const Cipher *self = (Cipher *)object;
+    Py_buffer page, id, nonce;
+    unsigned long long number;
+    PyObject *result = NULL;
+    if (!PyArg_ParseTuple(given, "w*y*Ky*", &page, &id, &number, &nonce)) {
+        return NULL;
+    }
+    if (has_length("the ID", id.len, HUNKRAVY_PAGE_ID_BYTES)) {
+        PyThreadState *released = begin_work((size_t)page.len);
+        int code = hunkravy_page_seal(self->variant, page.buf, (size_t)page.len, id.buf, number, nonce.buf,
+            (size_t)nonce.len, self->key, self->key_bytes);
+        end_work(released);
+        result = result_of(object, code, Py_NewRef(Py_None));
+    }
+    PyBuffer_Release(&page);
+    PyBuffer_Release(&id);
+    PyBuffer_Release(&nonce);
+    return result;
+}
+
+/* Decrypts a page in place. */
+static PyObject *cipher_open_page(PyObject *object, PyObject *given)
+{
+    const Cipher *self = (Cipher *)object;
+    Py_buffer page, id;
+    unsigned long long number;
+    PyObject *result = NULL;
+    if (!PyArg_ParseTuple(given, "w*y*K", &page, &id, &number)) {
+        return NULL;
+    }
+    if (has_length("the ID", id.len, HUNKRAVY_PAGE_ID_BYTES)) {
+        PyThreadState *released = begin_work((size_t)page.len);
+        int code = hunkravy_page_open(self->variant, page.buf, (size_t)page.len, id.buf, number, self->key,
+            self->key_bytes);
+        end_work(released);
+        result = result_of(object, code, Py_NewRef(Py_None));
+    }
+    PyBuffer_Release(&page);
+    PyBuffer_Release(&id);
+    return result;
+}
+
+/* Returns the position of a page in the file. The arguments are the page size, and the number of the page. */
+static PyObject *cipher_page_place(PyObject *object, PyObject *given)
+{
+    unsigned int page_size;
+    unsigned long long number;
+    if (!PyArg_ParseTuple(given, "IK", &page_size, &number)) {
+        return NULL;
+    }
+    uint64_t place = hunkravy_page_place(((Cipher *)object)->variant, page_size, number);
+    return result_of(object, place == UINT64_MAX ? HUNKRAVY_FILE_TOO_LONG : HUNKRAVY_OK,
+        PyLong_FromUnsignedLongLong(place));
+}
+
+/* Returns a header block. The arguments are the page size, the ID, the counter, the length, and a nonce. */
+static PyObject *cipher_seal_header(PyObject *object, PyObject *given)
+{
+    const Cipher *self = (Cipher *)object;
+    Py_buffer id, nonce;
+    unsigned int page_size;
+    unsigned long long counter, length;
+    uint8_t *block;
+    PyObject *result = NULL;
+    if (!PyArg_ParseTuple(given, "Iy*KKy*", &page_size, &id, &counter, &length, &nonce)) {
+        return NULL;
+    }
+    if (has_length("the ID", id.len, HUNKRAVY_PAGE_ID_BYTES)) {
+        result = new_bytes(HUNKRAVY_PAGE_HEADER_BLOCK_BYTES, &block);
+    }
+    if (result != NULL) {
+        int code = hunkravy_page_header_seal(self->variant, block, page_size, id.buf, counter, length, nonce.buf,
+            (size_t)nonce.len, self->key, self->key_bytes);
+        result = result_of(object, code, result);
+    }
+    PyBuffer_Release(&id);
+    PyBuffer_Release(&nonce);
+    return result;
+}
+
+/* Returns the page size, the ID, the counter and the length of a header block. */
+static PyObject *cipher_open_header(PyObject *object, PyObject *block)
+{
+    const Cipher *self = (Cipher *)object;
+    Py_buffer bytes;
+    uint32_t page_size = 0;
+    uint64_t counter = 0, length = 0;
+    uint8_t id[HUNKRAVY_PAGE_ID_BYTES];
+    int code = HUNKRAVY_INVALID_TAG;
+    if (PyObject_GetBuffer(block, &bytes, PyBUF_SIMPLE) < 0) {
+        return NULL;
+    }
+    if (bytes.len == HUNKRAVY_PAGE_HEADER_BLOCK_BYTES) {
+        code = hunkravy_page_header_open(self->variant, bytes.buf, self->key, self->key_bytes, &page_size, id, &counter,
+            &length);
+    }
+    PyBuffer_Release(&bytes);
+    result_of(object, code, NULL);
+    if (code != HUNKRAVY_OK) {
+        return NULL;
+    }
+    return Py_BuildValue("Iy#KK", page_size, (const char *)id, (Py_ssize_t)sizeof id, (unsigned long long)counter,
+        (unsigned long long)length);
+}
+
+/* Begins a journal. Returns its state, and the bytes that it begins with. The arguments are the page size, ID and nonce. */
+static PyObject *cipher_begin_journal(PyObject *object, PyObject *given)
+{
+    const Cipher *self = (Cipher *)object;
+    Py_buffer id, nonce;
+    unsigned int page_size;
+    State *state = NULL;
+    uint8_t start[HUNKRAVY_JOURNAL_START_BYTES];
+    if (!PyArg_ParseTuple(given, "Iy*y*", &page_size, &id, &nonce)) {
+        return NULL;
+    }
+    if (has_length("the ID", id.len, HUNKRAVY_PAGE_ID_BYTES) &&
+        has_length("the nonce", nonce.len, HUNKRAVY_JOURNAL_NONCE_BYTES)) {
+        state = new_state(object);
+    }
+    if (state != NULL) {
+        int code = hunkravy_journal_init(self->variant, &state->state, page_size, id.buf, nonce.buf, self->key,
+            self->key_bytes, start);
+        state = result_of(object, code, state);
+    }
+    PyBuffer_Release(&id);
+    PyBuffer_Release(&nonce);
+    return state == NULL ? NULL : Py_BuildValue("Ny#", state, (const char *)start, (Py_ssize_t)sizeof start);
+}
+
+/* Returns the writes in the bytes of a journal: for each its position in the file, and where its bytes begin and end. */
+static PyObject *writes_in(const uint8_t *journal, size_t length)
+{
+    PyObject *found = PyList_New(0);
+    size_t start = HUNKRAVY_JOURNAL_START_BYTES, end = start + length, count;
+    uint64_t place;
+    while (found != NULL && start < end &&
+           hunkravy_journal_next(journal + start, end - start, &place, &count) == HUNKRAVY_OK) {
+        size_t from = start + HUNKRAVY_JOURNAL_HEAD_BYTES;
+        PyObject *write = Py_BuildValue("Knn", (unsigned long long)place, (Py_ssize_t)from, (Py_ssize_t)(from + count));
+        if (write == NULL || PyList_Append(found, write) < 0) {
+            Py_CLEAR(found);
+        }
+        Py_XDECREF(write);
+        start = from + count;
+    }
+    return found;
+}
+
+/* Returns the writes of a journal that are to be made again. The arguments are what the file begins with, and the journal. */
+static PyObject *cipher_journaled(PyObject *object, PyObject *given)
+{
+    const Cipher *self = (Cipher *)object;
+    Py_buffer file, journal;
+    size_t length = 0;
+    if (!PyArg_ParseTuple(given, "y*y*", &file, &journal)) {
+        return NULL;
+    }
+    PyThreadState *released = begin_work((size_t)journal.len);
+    int code = hunkravy_journal_check(self->variant, file.buf, (size_t)file.len, self->key, self->key_bytes,
+        journal.buf, (size_t)journal.len, &length);
+    end_work(released);
+    result_of(object, code, NULL);
+    PyObject *result = code == HUNKRAVY_OK ? writes_in(journal.buf, length) : NULL;
+    PyBuffer_Release(&file);
+    PyBuffer_Release(&journal);
+    return result;
 }
 
 static PyMethodDef cipher_methods[] = {
@@ -564,6 +787,13 @@ static PyMethodDef cipher_methods[] = {
     {"decrypt", cipher_decrypt, METH_VARARGS, NULL},
     {"keystream", cipher_keystream, METH_VARARGS, NULL},
     {"begin", cipher_begin, METH_VARARGS, NULL},
+    {"seal_page", cipher_seal_page, METH_VARARGS, NULL},
+    {"open_page", cipher_open_page, METH_VARARGS, NULL},
+    {"page_place", cipher_page_place, METH_VARARGS, NULL},
+    {"seal_header", cipher_seal_header, METH_VARARGS, NULL},
+    {"open_header", cipher_open_header, METH_O, NULL},
+    {"begin_journal", cipher_begin_journal, METH_VARARGS, NULL},
+    {"journaled", cipher_journaled, METH_VARARGS, NULL},
     {NULL, NULL, 0, NULL},
 };
 

@@ -1,0 +1,621 @@
+"""Random-access files: encrypted contents that are read and written at any place, and survive crashes."""
+
+from __future__ import annotations
+
+import contextlib
+import errno
+import fcntl
+import io
+import operator
+import os
+import stat
+import threading
+from types import TracebackType
+from typing import TYPE_CHECKING, Any, Iterator, NoReturn, Optional, Self, Union
+
+from . import _native, _variants as variants
+from ._files import RawFile, bytes_of
+
+if TYPE_CHECKING:
+    from _typeshed import ReadableBuffer as _ReadableBuffer, WriteableBuffer as _WriteableBuffer
+
+BLOCK_BYTES = 512
+TAG_BYTES = 32
+ID_BYTES = 24
+JOURNAL_NONCE_BYTES = 16
+# What a journal begins with. It is synced before the rest, and never written again.
+BEGINNING_BYTES = 512
+# With its nonce and its tag a page of the default size has this many bytes.
+PAGE_BLOCK_BYTES = 4096
+MOST_BYTES = 1 << 60
+# Outside a batch a write commits if there are more bytes of changed pages.
+MOST_CHANGED_BYTES = 16 << 20
+# A journal that does not begin as those of its file do is read if it has no more bytes.
+MOST_FOREIGN_BYTES = 64 << 20
+
+CAUSES = {
+    "header": "cannot open the header: wrong key or variant, damaged file, or not a random-access file",
+    "journal": "the journal does not belong to this file",
+    "damaged": "page {} is damaged",
+    "too_long": "the contents would be longer than 2^60 bytes, or no more commits are possible",
+    "locked": "the file is already open, here or in another process",
+    "moved": "the file was renamed, removed or replaced, or has several hard links",
+    "broken": "a commit failed: open the file again",
+}
+
+
+class RandomAccessError(ValueError):
+    """The file cannot be opened, read or written.
+
+    `cause` is "header", "journal", "damaged", "too_long", "locked", "moved" or "broken". `page` is the number of the page
+    that is damaged, or None.
+    """
+
+    def __init__(self, cause: str, page: Optional[int] = None) -> None:
+        super().__init__(cause, page)
+        self.cause = cause
+        self.page = page
+
+    def __str__(self) -> str:
+        return CAUSES[self.cause].format(self.page)
+
+
+def write_all(descriptor: int, data: Union[bytes, bytearray, memoryview], place: int) -> None:
+    """Writes all of the data at a place."""
+    with memoryview(data) as view:
+        written = 0
+        while written < len(view):
+            written += os.pwrite(descriptor, view[written:], place + written)
+
+
+def read_at(descriptor: int, length: int, place: int) -> bytearray:
+    """Returns the bytes from a place on: fewer if the file ends."""
+    found = bytearray()
+    while len(found) < length and (part := os.pread(descriptor, length - len(found), place + len(found))):
+        found += part
+    return found
+
+
+def sync_folder(path: str) -> None:
+    """Syncs the folder of a path, which has its name."""
+    folder = os.open(os.path.dirname(path), os.O_RDONLY | os.O_DIRECTORY | os.O_CLOEXEC)
+    try:
+        os.fsync(folder)
+    finally:
+        os.close(folder)
+
+
+class Journal:
+    """The journal of a file: the file beside it that has the writes of a commit until they are made."""
+
+    def __init__(self, path: str, file: int) -> None:
+        self.path = path + ".journal"
+        self._file = file
+
+    def size(self) -> int:
+        """Returns how many bytes it has: none if there is no file. Raises an error if it is not safe to use."""
+        try:
+            found = os.lstat(self.path)
+        except FileNotFoundError:
+            return 0
+        if found.st_size and not self._is_safe(found):
+            raise OSError(errno.EINVAL, "not a file that only users of the file may write", self.path)
+        return found.st_size
+
+    def _is_safe(self, found: os.stat_result) -> bool:
+        """Returns whether it is a file of this name alone, which no one may write who may not write the file."""
+        of = os.fstat(self._file)
+        group_may = bool(of.st_mode & stat.S_IWGRP)
+        all_may = bool(of.st_mode & stat.S_IWOTH)
+        return (
+            stat.S_ISREG(found.st_mode)
+            and found.st_nlink == 1
+            and (found.st_uid in (0, of.st_uid) or group_may or all_may)
+            and (not found.st_mode & stat.S_IWGRP or all_may or (group_may and found.st_gid == of.st_gid))
+            and (not found.st_mode & stat.S_IWOTH or all_may)
+        )
+
+    def create(self) -> int:
+        """Makes an empty one, and returns its descriptor. One that is left and empty is removed."""
+        with contextlib.suppress(FileNotFoundError):
+            if os.lstat(self.path).st_size == 0:
+                os.unlink(self.path)
+        return self._create(self.path)
+
+    def _create(self, path: str) -> int:
+        """Makes a file with the owner and the permissions of the file, or one for its owner alone."""
+        made = os.open(path, os.O_RDWR | os.O_CREAT | os.O_EXCL | os.O_CLOEXEC, 0o600)
+        of = os.fstat(self._file)
+        with contextlib.suppress(PermissionError):
+            os.fchown(made, of.st_uid, of.st_gid)
+            os.fchmod(made, stat.S_IMODE(of.st_mode) & 0o666 | 0o600)
+        return made
+
+    def write_again(self, content: _ReadableBuffer) -> None:
+        """Replaces it with a copy that is synced.
+
+        After a sync that failed, Linux returns bytes that the disk does not have, and the next sync reports no error.
+        The old one stays until the new one is whole, since the disk may need it.
+        """
+        copy = self.path + "-copy"
+        with contextlib.suppress(FileNotFoundError):
+            os.unlink(copy)
+        made = self._create(copy)
+        try:
+            write_all(made, memoryview(content), 0)
+            os.fsync(made)
+        finally:
+            os.close(made)
+        os.replace(copy, self.path)
+        sync_folder(self.path)
+
+    def remove(self, descriptor: int) -> None:
+        """Empties it, syncs that, and removes it."""
+        os.ftruncate(descriptor, 0)
+        os.fsync(descriptor)
+        with contextlib.suppress(OSError):
+            os.unlink(self.path)
+
+
+class RandomAccessFile(variants.Secret):
+    """An encrypted file whose contents are read and written at any place.
+
+    Changes are kept in memory until a commit: `commit`, the end of a `batch`, `close`, or a write after which more than
+    16 MiB are changed. **After a crash all changes of a commit are there, or none.** A commit writes them to the journal
+    first, the file `PATH.journal`, and removes it at the end. Opening completes a commit that was interrupted.
+
+    `key` has 16 bytes for the variants of AEGIS-128, and 32 for the others. The file is locked while it is open, and
+    belongs to the process that opened it. Threads take turns. Each error is a `RandomAccessError` or an `OSError`.
+
+    In a `with` block an exception discards the changes. A file that is dropped without `close` loses them too.
+    """
+
+    def __init__(
+        self, path: Union[str, os.PathLike[str]], key: _ReadableBuffer, *, variant: type[variants.Variant] = variants.Aegis256
+    ) -> None:
+        """Opens the file at a path, and completes a commit that was interrupted, or discards all of it.
+
+        Raises "header" if there is no file of this variant under the key, "journal" if its journal is that of another
+        file or state, "locked" or "moved". Nothing is then changed.
+        """
+        self._begin(path, key, variant, os.O_RDWR)
+        try:
+            self._recover()
+            self._page_size, self._id, self._counter, self._stored = self._header()
+            self._size = self._stored
+        except BaseException:
+            self._drop()
+            raise
+
+    @classmethod
+    def create(
+        cls,
+        path: Union[str, os.PathLike[str]],
+        key: _ReadableBuffer,
+        *,
+        variant: type[variants.Variant] = variants.Aegis256,
+        page_size: Optional[int] = None,
+    ) -> Self:
+        """Creates an empty file at a path where there is none, and opens it.
+
+        `page_size` is from 256 to 65,536 bytes of contents. A page of the default size fills a block of 4,096 bytes.
+        """
+        self = cls.__new__(cls)
+        self._begin(path, key, variant, os.O_RDWR | os.O_CREAT | os.O_EXCL)
+        try:
+            if self._journal.size():
+                raise RandomAccessError("journal")
+            size = PAGE_BLOCK_BYTES - variant.NONCE_BYTES - TAG_BYTES if page_size is None else operator.index(page_size)
+            self._page_size, self._id, self._counter, self._stored, self._size = size, os.urandom(ID_BYTES), 0, 0, 0
+            write_all(self._file, self._seal_header(0), 0)
+            os.fsync(self._file)
+            sync_folder(self._path)
+        except BaseException:
+            os.unlink(self._path)
+            self._drop()
+            raise
+        return self
+
+    def _begin(
+        self, path: Union[str, os.PathLike[str]], key: _ReadableBuffer, variant: type[variants.Variant], flags: int
+    ) -> None:
+        """Opens and locks the file."""
+        self._turn = threading.RLock()
+        self._owner = os.getpid()
+        # The bytes of each changed page, which are never changed in place, so that a savepoint need not copy them.
+        self._changes: dict[int, bytes] = {}
+        # What a batch goes back to, if there is one.
+        self._is_in_batch = self._is_broken = False
+        self._cipher = _native.Cipher(variant._VARIANT, key, TAG_BYTES)
+        self._nonce_bytes = variant.NONCE_BYTES
+        self._path = os.path.realpath(path)
+        self._file = os.open(self._path, flags | os.O_CLOEXEC, 0o666)
+        self._journal = Journal(self._path, self._file)
+        try:
+            fcntl.flock(self._file, fcntl.LOCK_EX | fcntl.LOCK_NB)
+            self._check_name()
+        except BaseException as error:
+            self._drop()
+            if isinstance(error, BlockingIOError):
+                raise RandomAccessError("locked") from None
+            raise
+
+    # ---- Reading and writing
+
+    @property
+    def size(self) -> int:
+        """The length of the contents in bytes."""
+        return self._size
+
+    @property
+    def closed(self) -> bool:
+        """Whether the file is closed."""
+        return self._file < 0
+
+    def read_at(self, offset: int, length: int) -> bytes:
+        """Returns the bytes of the contents from `offset` on: `length`, or fewer at the end of the contents.
+
+        Raises "damaged" if a page is not authentic.
+        """
+        offset, length = natural(offset), natural(length)
+        with self._turn:
+            self._check()
+            end = min(offset + length, self._size)
+            if offset >= end:
+                return b""
+            first, last = offset // self._page_size, (end - 1) // self._page_size
+            found = b"".join(self._page(number) for number in range(first, last + 1))
+            start = offset - first * self._page_size
+            return found[start : start + end - offset]
+
+    def write_at(self, offset: int, data: _ReadableBuffer) -> int:
+        """Writes the data over the contents from `offset` on, and returns their length. Zeros fill a gap in front.
+
+        After an exception nothing has changed, unless it is one of `commit`.
+        """
+        offset = natural(offset)
+        with self._turn, memoryview(data) as given, bytes_of(given) as view:
+            self._check()
+            self._change(offset, view)
+            if len(self._changes) * self._page_size > MOST_CHANGED_BYTES and not self._is_in_batch:
+                self.commit()
+            return len(view)
+
+    def truncate(self, size: int) -> int:
+        """Truncates the contents to `size` bytes, or extends them with zeros, and returns `size`.
+
+        The file itself does not become shorter.
+        """
+        size = natural(size)
+        with self._turn:
+            self._check()
+            if size > self._size:
+                self.write_at(size, b"")
+                return size
+            count = self._page_count(size)
+            self._changes = {number: page for number, page in self._changes.items() if number < count}
+            self._size = size
+            return size
+
+    def open_stream(self) -> RandomAccessStream:
+        """Returns a raw file object with a position of its own, such as for `tarfile`, `zipfile` or `io.BufferedRandom`.
+
+        Closing it commits, outside a batch. The file stays open.
+        """
+        return RandomAccessStream(self)
+
+    def _change(self, offset: int, data: memoryview) -> None:
+        """Makes a change in memory: all of it, or nothing."""
+        end = offset + len(data)
+        if end > MOST_BYTES:
+            raise RandomAccessError("too_long")
+        if not data and offset <= self._size:
+            return
+        changed = {}
+        for number in range(min(offset, self._size) // self._page_size, self._page_count(end)):
+            page, start = bytearray(self._page(number)), number * self._page_size
+            # What lies past the end is left of longer contents.
+            page[max(self._size - start, 0) :] = bytes(self._page_size - min(max(self._size - start, 0), self._page_size))
+            part = data[max(start - offset, 0) : max(start + self._page_size - offset, 0)]
+            place = max(offset - start, 0)
+            page[place : place + len(part)] = part
+            changed[number] = bytes(page)
+        self._changes.update(changed)
+        self._size = max(self._size, end)
+
+    def _page(self, number: int) -> bytes:
+        """Returns the contents of a page, with zeros if it was never written."""
+        if (changed := self._changes.get(number)) is not None:
+            return changed
+        if number >= self._page_count(self._stored):
+            return bytes(self._page_size)
+        page = read_at(self._file, self._page_bytes(), self._place(number))
+        try:
+            if len(page) < self._page_bytes():
+                raise _native.InvalidTag
+            self._cipher.open_page(page, self._id, number)
+        except _native.InvalidTag:
+            raise RandomAccessError("damaged", number) from None
+        return bytes(page[self._nonce_bytes : -TAG_BYTES])
+
+    def _page_bytes(self) -> int:
+        return self._nonce_bytes + self._page_size + TAG_BYTES
+
+    def _page_count(self, size: int) -> int:
+        return -(-size // self._page_size)
+
+    def _place(self, number: int) -> int:
+        return self._cipher.page_place(self._page_size, number)
+
+    # ---- Commits
+
+    def commit(self) -> None:
+        """Writes all changes, so that after a crash all of them are there, or none. On return they are.
+
+        If the journal cannot be made, or there is no room for longer contents, the changes are still in memory. After an
+        exception of writing the file is broken: open it again, which gives the contents before the changes or after them.
+        """
+        with self._turn:
+            self._check()
+            if not self._changes and self._size == self._stored:
+                return
+            if self._counter == (1 << 64) - 1:
+                raise RandomAccessError("too_long")
+            writes = self._writes()
+            self._check_name()
+            self._reserve(writes[-2][0] + len(writes[-2][1]))
+            if self._journal.size():
+                raise RandomAccessError("journal")
+            journal = self._journal.create()
+            try:
+                self._is_broken = True
+                self._make(journal, writes)
+                self._is_broken = False
+            finally:
+                os.close(journal)
+            self._counter, self._stored, self._changes = self._counter + 1, self._size, {}
+
+    def discard(self) -> None:
+        """Discards all changes since the last commit."""
+        with self._turn:
+            self._changes, self._size = {}, self._stored
+
+    @contextlib.contextmanager
+    def batch(self) -> Iterator[Self]:
+        """Makes several changes together: `with file.batch():` commits them at its end, or discards them after an exception.
+
+        Changes that were made before are committed first. A batch in another one commits nothing: if it fails, its own
+        changes are discarded. Other threads wait until the batch ends.
+        """
+        with self._turn:
+            is_outer = not self._is_in_batch
+            if is_outer:
+                self.commit()
+            self._check()
+            savepoint = (dict(self._changes), self._size, self._counter)
+            self._is_in_batch = True
+            try:
+                yield self
+                if is_outer:
+                    self.commit()
+            except BaseException:
+                self._go_back(*savepoint)
+                raise
+            finally:
+                if is_outer:
+                    self._is_in_batch = False
+
+    def _go_back(self, changes: dict[int, bytes], size: int, counter: int) -> None:
+        if counter == self._counter:
+            self._changes, self._size = changes, size
+        else:
+            self.discard()
+
+    def _writes(self) -> list[tuple[int, bytes]]:
+        """Returns the writes of a commit: the old header, the changed pages, and the next header."""
+        writes = [(0, bytes(read_at(self._file, BLOCK_BYTES, 0)))]
+        if len(writes[0][1]) < BLOCK_BYTES:
+            raise RandomAccessError("header")
+        for number, contents in sorted(self._changes.items()):
+            page = bytearray(self._nonce_bytes) + contents + bytes(TAG_BYTES)
+            self._cipher.seal_page(page, self._id, number, os.urandom(self._nonce_bytes))
+            writes.append((self._place(number), bytes(page)))
+        return [*writes, (0, self._seal_header(self._counter + 1))]
+
+    def _seal_header(self, counter: int) -> bytes:
+        nonce = os.urandom(self._nonce_bytes)
+        return self._cipher.seal_header(self._page_size, self._id, counter, self._size, nonce)
+
+    def _reserve(self, end: int) -> None:
+        """Makes room for the pages. Without it nobody could make the writes of the journal, and the file would not open."""
+        size = os.fstat(self._file).st_size
+        if end > size:
+            try:
+                os.posix_fallocate(self._file, size, end - size)
+            except BaseException:
+                os.ftruncate(self._file, size)
+                raise
+
+    def _make(self, journal: int, writes: list[tuple[int, bytes]]) -> None:
+        """Writes the journal, then makes the writes, and then removes the journal, each with a sync."""
+        state, start = self._cipher.begin_journal(self._page_size, self._id, os.urandom(JOURNAL_NONCE_BYTES))
+        write_all(journal, start[:BEGINNING_BYTES], 0)
+        os.fsync(journal)
+        sync_folder(self._path)
+        parts = [start[BEGINNING_BYTES:]]
+        for place, data in writes:
+            parts += [state.entry(place, data), data]
+        write_all(journal, b"".join([*parts, state.journal_final()]), BEGINNING_BYTES)
+        os.fsync(journal)
+        for place, data in writes:
+            write_all(self._file, data, place)
+        os.fsync(self._file)
+        self._journal.remove(journal)
+
+    # ---- Opening and closing
+
+    def _header(self) -> tuple[int, bytes, int, int]:
+        """Returns the page size, the ID, the counter and the length that the header has."""
+        try:
+            return self._cipher.open_header(read_at(self._file, BLOCK_BYTES, 0))
+        except _native.InvalidTag:
+            raise RandomAccessError("header") from None
+
+    def _recover(self) -> None:
+        """Makes the writes of a whole journal again, or drops one that is torn."""
+        size = self._journal.size()
+        if size == 0:
+            self._header()
+            return
+        journal = os.open(self._journal.path, os.O_RDWR | os.O_NOFOLLOW | os.O_CLOEXEC)
+        try:
+            content = self._journal_of_this(journal, size)
+            writes = self._journaled(content)
+            os.fsync(self._file)
+            if writes:
+                self._journal.write_again(content)
+                for place, start, end in writes:
+                    write_all(self._file, memoryview(content)[start:end], place)
+                os.fsync(self._file)
+        finally:
+            os.close(journal)
+        journal = os.open(self._journal.path, os.O_RDWR | os.O_NOFOLLOW | os.O_CLOEXEC)
+        try:
+            self._journal.remove(journal)
+        finally:
+            os.close(journal)
+
+    def _journal_of_this(self, journal: int, size: int) -> bytearray:
+        """Returns the journal. One that does not begin as those of the file do is not read if it is large."""
+        beginning = read_at(journal, BEGINNING_BYTES, 0)
+        if size > MOST_FOREIGN_BYTES:
+            page_size, file_id, _, _ = self._header()
+            _, start = self._cipher.begin_journal(page_size, file_id, bytes(JOURNAL_NONCE_BYTES))
+            if beginning != start[:BEGINNING_BYTES]:
+                raise RandomAccessError("journal")
+        return beginning + read_at(journal, size - len(beginning), len(beginning))
+
+    def _journaled(self, content: bytearray) -> list[tuple[int, int, int]]:
+        try:
+            return self._cipher.journaled(read_at(self._file, BLOCK_BYTES, 0), content)
+        except _native.InvalidTag:
+            raise RandomAccessError("header") from None
+        except ValueError:
+            raise RandomAccessError("journal") from None
+
+    def _check(self) -> None:
+        if self.closed:
+            raise ValueError("I/O operation on closed file")
+        if self._owner != os.getpid():
+            raise RandomAccessError("locked")
+        if self._is_broken:
+            raise RandomAccessError("broken")
+
+    def _check_name(self) -> None:
+        """Raises an error unless the file is at its path and has no other name, since its journal would not be found."""
+        own = os.fstat(self._file)
+        try:
+            found = os.lstat(self._path)
+        except FileNotFoundError:
+            raise RandomAccessError("moved") from None
+        if own.st_nlink != 1 or not os.path.samestat(own, found):
+            raise RandomAccessError("moved")
+
+    def close(self) -> None:
+        """Commits the changes, and closes the file. In another process than the one that opened it, it only closes it."""
+        with self._turn:
+            if self.closed:
+                return
+            try:
+                if self._owner == os.getpid() and not self._is_broken:
+                    self.commit()
+            finally:
+                self._drop()
+
+    def _drop(self) -> None:
+        if self._file >= 0:
+            os.close(self._file)
+        self._file = -1
+        self._changes = {}
+        self.__dict__.pop("_cipher", None)
+
+    def __enter__(self) -> Self:
+        self._check()
+        return self
+
+    def __exit__(
+        self,
+        kind: Optional[type[BaseException]],
+        error: Optional[BaseException],
+        traceback: Optional[TracebackType],
+    ) -> None:
+        if kind is not None:
+            self.discard()
+        self.close()
+
+    def __del__(self) -> None:
+        if getattr(self, "_file", -1) >= 0:
+            self._drop()
+
+
+def natural(number: int) -> int:
+    """Returns a number that is not negative."""
+    number = operator.index(number)
+    if number < 0:
+        raise ValueError(f"must not be negative: {number}")
+    return number
+
+
+class RandomAccessStream(RawFile):
+    """A raw file object over a `RandomAccessFile`."""
+
+    def __init__(self, file: RandomAccessFile) -> None:
+        self._file = file
+        self._position = 0
+
+    def _open_file(self) -> RandomAccessFile:
+        if self.closed:
+            raise ValueError("I/O operation on closed file")
+        return self._file
+
+    def readable(self) -> bool:
+        """Returns True."""
+        return self._open_file() is not None
+
+    writable = seekable = readable
+
+    def readinto(self, buffer: _WriteableBuffer) -> int:
+        """Fills the buffer with the next bytes, and returns how many: fewer only at the end of the contents."""
+        with memoryview(buffer) as view, bytes_of(view) as out:
+            found = self._open_file().read_at(self._position, len(out))
+            out[: len(found)] = found
+        self._position += len(found)
+        return len(found)
+
+    def write(self, data: _ReadableBuffer) -> int:
+        """Writes all of the data at the position, and returns their length."""
+        count = self._open_file().write_at(self._position, data)
+        self._position += count
+        return count
+
+    def seek(self, offset: int, whence: int = os.SEEK_SET) -> int:
+        """Goes to a position in the contents, and returns it."""
+        origin = {os.SEEK_SET: 0, os.SEEK_CUR: self._position, os.SEEK_END: self._open_file().size}.get(whence)
+        if origin is None:
+            raise ValueError(f"whence must be 0, 1 or 2, not {whence}")
+        self._position = natural(origin + operator.index(offset))
+        return self._position
+
+    def tell(self) -> int:
+        """Returns the position in the contents."""
+        self._open_file()
+        return self._position
+
+    def truncate(self, size: Optional[int] = None) -> int:
+        """Truncates or extends the contents to `size` bytes, or to the position."""
+        return self._open_file().truncate(self._position if size is None else size)
+
+    def flush(self) -> None:
+        """Commits, unless in a batch."""
+        if not self.closed and not self._file.closed and not self._file._is_in_batch:
+            self._file.commit()
