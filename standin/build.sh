@@ -1,6 +1,7 @@
 #!/bin/bash
 # build.sh OUT: builds the stand-in in the place of the proved library, as OUT/LEVEL/aegis_c.a for each level of x86-64.
 set -eu
+out=$(realpath -m "$1")
 cd "$(dirname "$0")"
 work=$(mktemp -d)
 trap 'rm -r "$work"' EXIT
@@ -12,8 +13,8 @@ names=$(grep -ohE 'hunkravy_proved_[a-z_]+' ./*.rs | sort -u | sed 's/^/-u /')
 ld -r --gc-sections $names "$work/standin.a" -o "$work/aegis_c.o"
 objcopy --wildcard --keep-global-symbol='hunkravy_proved_*' -R .llvmbc -R .llvmcmd -g "$work/aegis_c.o"
 for level in x86-64-v2 x86-64-v3; do
-    mkdir -p "$1/$level"
-    rm -f "$1/$level/aegis_c.a"
-    ar rcs "$1/$level/aegis_c.a" "$work/aegis_c.o"
-    echo 'a stand-in, which is not proved' > "$1/$level/revision"
+    mkdir -p "$out/$level"
+    rm -f "$out/$level/aegis_c.a"
+    ar rcs "$out/$level/aegis_c.a" "$work/aegis_c.o"
+    echo 'a stand-in, which is not proved' > "$out/$level/revision"
 done
