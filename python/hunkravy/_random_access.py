@@ -115,11 +115,15 @@ class Journal:
             and (not found.st_mode & stat.S_IWOTH or all_may)
         )
 
-    def create(self) -> int:
-        """Makes an empty one, and returns its descriptor. One that is left and empty is removed."""
-        with contextlib.suppress(FileNotFoundError):
+    def remove_empty(self) -> None:
+        """Removes one that a crash has left empty, if it can be."""
+        with contextlib.suppress(OSError):
             if os.lstat(self.path).st_size == 0:
                 os.unlink(self.path)
+
+    def create(self) -> int:
+        """Makes an empty one, and returns its descriptor."""
+        self.remove_empty()
         return self._create(self.path)
 
     def _create(self, path: str) -> int:
@@ -466,6 +470,7 @@ class RandomAccessFile(variants.Secret):
         size = self._journal.size()
         if size == 0:
             self._header()
+            self._journal.remove_empty()
             return
         journal = os.open(self._journal.path, os.O_RDWR | os.O_NOFOLLOW | os.O_CLOEXEC)
         try:

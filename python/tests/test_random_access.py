@@ -1,0 +1,426 @@
+"""Random-access files: what a crash leaves, locks and moved files, batches, and file objects over them."""
+
+import contextlib
+import errno
+import io
+import itertools
+import os
+import pathlib
+import random
+import tarfile
+import tempfile
+import threading
+import unittest
+import zipfile
+from unittest import mock
+
+from hunkravy import Aegis128L, Aegis128X4, Aegis256, RandomAccessError, RandomAccessFile, _random_access
+
+KEY = bytes(range(32))
+BEFORE = b"before" * 60
+AFTER = b"and after" * 60
+PAGE = 256
+
+
+class Stopped(Exception):
+    """A call that was not made, and those after it."""
+
+
+class Disk:
+    """The files of a folder as a crash may leave them: what was synced, and some of the writes since.
+
+    Each call is counted, and those after the first `calls` raise an exception. The sync of the number `syncs` fails as those
+    of Linux do: the disk does not have what was written, a read returns it, and no later sync writes it.
+    """
+
+    def __init__(self, folder, calls=1 << 30, syncs=0):
+        self.folder, self.left, self.syncs = pathlib.Path(folder), calls, syncs
+        # By path: the bytes that were synced, and the changes since.
+        self.synced = {path: path.read_bytes() for path in self.folder.iterdir()}
+        self.pending = {path: [] for path in self.synced}
+
+    def __enter__(self):
+        self.stack = contextlib.ExitStack()
+        for name in ("pwrite", "fsync", "ftruncate", "unlink", "replace", "posix_fallocate", "open"):
+            real = getattr(os, name)
+            changed = getattr(self, name)
+            self.stack.enter_context(mock.patch.object(os, name, self.counted(real, changed)))
+        return self
+
+    def __exit__(self, *error):
+        self.stack.close()
+
+    def counted(self, real, changed):
+        def call(*arguments, **named):
+            if self.left == 0:
+                raise Stopped
+            self.left -= 1
+            result = real(*arguments, **named)
+            changed(result, *arguments)
+            return result
+
+        return call
+
+    def changes(self, descriptor):
+        path = pathlib.Path(os.readlink(f"/proc/self/fd/{descriptor}"))
+        return path, self.pending.setdefault(path, [])
+
+    def open(self, result, path, *_):
+        path = pathlib.Path(path)
+        if path.is_file():
+            self.synced.setdefault(path, b"")
+            self.pending.setdefault(path, [])
+
+    def pwrite(self, result, descriptor, data, place):
+        self.changes(descriptor)[1].append((place, bytes(data[:result])))
+
+    def ftruncate(self, result, descriptor, size):
+        self.changes(descriptor)[1].append((None, size))
+
+    def posix_fallocate(self, result, descriptor, offset, length):
+        self.changes(descriptor)[1].append((None, offset + length))
+
+    def fsync(self, result, descriptor):
+        path, pending = self.changes(descriptor)
+        if path in self.synced:
+            self.syncs -= 1
+            if self.syncs != 0:
+                self.synced[path] = self.crashed(path, "all")
+            pending.clear()
+            if self.syncs == 0:
+                raise OSError(errno.EIO, os.strerror(errno.EIO))
+
+    def unlink(self, result, path):
+        # The name may come back: a journal that was removed was empty, and is then empty again.
+        self.pending.pop(pathlib.Path(path), None)
+
+    def replace(self, result, old, new):
+        old, new = pathlib.Path(old), pathlib.Path(new)
+        self.synced[new], self.pending[new] = self.synced.pop(old), self.pending.pop(old)
+
+    def states(self):
+        """Yields what a crash may leave: of each file, all changes since its sync, none, every other one, or torn ones."""
+        kinds = [("all", "none", "odd", "torn") if self.pending.get(path) else ("all",) for path in self.synced]
+        for choice in itertools.product(*kinds):
+            yield {path: self.crashed(path, kind) for path, kind in zip(self.synced, choice)}
+
+    def crashed(self, path, kind):
+        found = bytearray(self.synced[path])
+        for number, (place, change) in enumerate(self.pending.get(path, [])):
+            if kind == "none" or (kind == "odd" and number % 2 == 0):
+                continue
+            if place is None:
+                found[change:] = bytes(max(change - len(found), 0))
+                continue
+            if kind == "torn":
+                half = len(change) // 2
+                change = change[:half] + bytes(0xEE for _ in change[half : half + len(change) // 4])
+            found.extend(bytes(max(place - len(found), 0)))
+            found[place : place + len(change)] = change
+        return bytes(found)
+
+
+def contents(path, key=KEY):
+    """Opens a file, and returns its contents."""
+    with RandomAccessFile(path, key) as file:
+        return file.read_at(0, file.size)
+
+
+class Crashes(unittest.TestCase):
+    def setUp(self):
+        self.folder = pathlib.Path(self.enterContext(tempfile.TemporaryDirectory()))
+        self.path = self.folder / "file"
+        with RandomAccessFile.create(self.path, KEY, page_size=PAGE) as file:
+            file.write_at(0, BEFORE)
+        self.files = {self.path: self.path.read_bytes()}
+
+    def lay(self, files):
+        for path in self.folder.iterdir():
+            path.unlink()
+        for path, data in files.items():
+            path.write_bytes(data)
+
+    def stopped(self, files, calls, work):
+        """Lays the files, and works on them until so many calls were made. Returns the disk, and whether all was done."""
+        self.lay(files)
+        disk = Disk(self.folder, calls)
+        with disk, contextlib.suppress(Stopped):
+            work()
+            return disk, True
+        return disk, False
+
+    def commit(self):
+        file = RandomAccessFile(self.path, KEY)
+        try:
+            file.write_at(0, AFTER)
+            file.commit()
+        finally:
+            file._drop()
+
+    def check(self, disk, allowed):
+        count = 0
+        for state in disk.states():
+            self.lay(state)
+            self.assertIn(contents(self.path), allowed)
+            self.assertEqual([path.name for path in self.folder.iterdir() if path.suffix == ".journal"], [])
+            count += 1
+        return count
+
+    def test_a_commit_that_stops_at_each_call(self):
+        states = 0
+        for calls in itertools.count():
+            disk, is_done = self.stopped(self.files, calls, self.commit)
+            states += self.check(disk, [AFTER] if is_done else [BEFORE, AFTER])
+            if is_done:
+                break
+        self.assertGreater(calls, 15)
+        self.assertGreater(states, 50)
+
+    def test_an_opening_that_stops_at_each_call(self):
+        # The pages are written in part, and their journal is whole.
+        calls = next(calls for calls in itertools.count() if self.is_being_made(calls))
+        left = {path: path.read_bytes() for path in self.folder.iterdir()}
+        left[self.path] = self.files[self.path][:4500]
+        for calls in itertools.count():
+            disk, is_done = self.stopped(left, calls, lambda: RandomAccessFile(self.path, KEY).close())
+            self.check(disk, [AFTER])
+            if is_done:
+                break
+        self.assertGreater(calls, 8)
+
+    def is_being_made(self, calls):
+        self.stopped(self.files, calls, self.commit)
+        return self.path.read_bytes()[4096:4416] != self.files[self.path][4096:4416]
+
+    def test_a_sync_that_fails_and_is_forgotten(self):
+        states = 0
+        for syncs, calls in itertools.product(range(1, 5), range(2, 22)):
+            self.lay(self.files)
+            disk = Disk(self.folder, syncs=syncs)
+            with disk:
+                self.assertRaises(OSError, self.commit)
+                # The program opens the file again, and the machine stops.
+                disk.left = calls
+                with contextlib.suppress(Stopped):
+                    RandomAccessFile(self.path, KEY).close()
+            states += self.check(disk, [BEFORE, AFTER])
+        self.assertGreater(states, 50)
+
+    def test_a_journal_of_another_file(self):
+        self.stopped(self.files, 14, self.commit)
+        journal = (self.folder / "file.journal").read_bytes()
+        other = self.folder / "other"
+        RandomAccessFile.create(other, KEY, page_size=PAGE).close()
+        for data in (journal, journal[:600]):
+            (self.folder / "other.journal").write_bytes(data)
+            with self.assertRaises(RandomAccessError) as raised:
+                RandomAccessFile(other, KEY)
+            self.assertEqual(raised.exception.cause, "journal")
+            self.assertEqual((self.folder / "other.journal").read_bytes(), data)
+        (self.folder / "other.journal").write_bytes(journal[:512])
+        self.assertEqual(contents(other), b"")
+
+
+class Files(unittest.TestCase):
+    def setUp(self):
+        self.folder = pathlib.Path(self.enterContext(tempfile.TemporaryDirectory()))
+        self.path = self.folder / "file"
+
+    def assertCause(self, cause, call, *arguments, **named):
+        with self.assertRaises(RandomAccessError) as raised:
+            call(*arguments, **named)
+        self.assertEqual(raised.exception.cause, cause)
+        self.assertEqual(str(raised.exception), _random_access.CAUSES[cause].format(raised.exception.page))
+
+    def test_random_calls(self):
+        for variant, page_size in ((Aegis256, None), (Aegis128L, 256), (Aegis128X4, None)):
+            with self.subTest(variant=variant.name):
+                self.path = self.folder / variant.name
+                key = os.urandom(variant.KEY_BYTES)
+                self.check_calls(variant, key, page_size, random.Random(7))
+
+    def check_calls(self, variant, key, page_size, numbers):
+        model = bytearray()
+        file = RandomAccessFile.create(self.path, key, variant=variant, page_size=page_size)
+        for _ in range(400):
+            kind, place = numbers.randrange(8), numbers.randrange(20_000)
+            if kind < 4:
+                data = numbers.randbytes(numbers.randrange(3000))
+                self.assertEqual(file.write_at(place, data), len(data))
+                if data or place > len(model):
+                    model.extend(bytes(max(place - len(model), 0)))
+                    model[place : place + len(data)] = data
+            elif kind == 4:
+                file.truncate(place)
+                model[place:] = bytes(max(place - len(model), 0))
+            elif kind == 5:
+                file.commit()
+            elif kind == 6:
+                file.close()
+                file = RandomAccessFile(self.path, key, variant=variant)
+            place, length = numbers.randrange(25_000), numbers.randrange(5000)
+            self.assertEqual(file.size, len(model))
+            self.assertEqual(file.read_at(place, length), model[place : place + length])
+        file.close()
+
+    def test_the_default_page_fills_a_block(self):
+        for variant in (Aegis128L, Aegis256):
+            path = self.folder / variant.name
+            with RandomAccessFile.create(path, bytes(variant.KEY_BYTES), variant=variant) as file:
+                file.write_at(0, b"x")
+            self.assertEqual(path.stat().st_size, 8192)
+
+    def test_batches(self):
+        with RandomAccessFile.create(self.path, KEY) as file:
+            with file.batch():
+                file.write_at(0, b"first")
+                with self.assertRaises(ZeroDivisionError), file.batch():
+                    file.write_at(0, b"other")
+                    1 / 0
+                with file.batch():
+                    file.write_at(5, b", second")
+                self.assertEqual(file._counter, 0)
+            self.assertEqual((file.read_at(0, 99), file._counter), (b"first, second", 1))
+            with self.assertRaises(ZeroDivisionError), file.batch():
+                file.truncate(0)
+                file.write_at(10, b"x")
+                1 / 0
+            self.assertEqual(file.read_at(0, 99), b"first, second")
+        self.assertEqual(contents(self.path), b"first, second")
+        with self.assertRaises(ZeroDivisionError), RandomAccessFile(self.path, KEY) as file:
+            file.write_at(0, b"lost")
+            1 / 0
+        file = RandomAccessFile(self.path, KEY)
+        file.write_at(0, b"lost")
+        del file
+        self.assertEqual(contents(self.path), b"first, second")
+
+    def test_locks_and_moves(self):
+        file = RandomAccessFile.create(self.path, KEY)
+        self.assertCause("locked", RandomAccessFile, self.path, KEY)
+        self.assertRaises(FileExistsError, RandomAccessFile.create, self.path, KEY)
+        file.write_at(0, b"kept")
+        self.path.rename(self.folder / "moved")
+        self.assertCause("moved", file.commit)
+        (self.folder / "moved").rename(self.path)
+        os.link(self.path, self.folder / "link")
+        self.assertCause("moved", file.commit)
+        (self.folder / "link").unlink()
+        file.close()
+        self.assertEqual(contents(self.path), b"kept")
+        os.link(self.path, self.folder / "link")
+        self.assertCause("moved", RandomAccessFile, self.path, KEY)
+
+    def test_another_process(self):
+        file = RandomAccessFile.create(self.path, KEY)
+        file.write_at(0, b"of the parent")
+        child = os.fork()
+        if child == 0:
+            try:
+                file.read_at(0, 1)
+            except RandomAccessError as error:
+                file.close()
+                os._exit(0 if error.cause == "locked" else 1)
+            os._exit(2)
+        self.assertEqual(os.waitpid(child, 0)[1], 0)
+        self.assertCause("locked", RandomAccessFile, self.path, KEY)
+        file.close()
+        self.assertEqual(contents(self.path), b"of the parent")
+
+    def test_damage_and_wrong_keys(self):
+        with RandomAccessFile.create(self.path, KEY) as file:
+            file.write_at(0, bytes(9000))
+        self.assertCause("header", RandomAccessFile, self.path, bytes(32))
+        self.assertCause("header", RandomAccessFile, self.path, bytes(16), variant=Aegis128L)
+        data = bytearray(self.path.read_bytes())
+        data[4096 * 2 + 50] ^= 1
+        self.path.write_bytes(data)
+        with RandomAccessFile(self.path, KEY) as file:
+            self.assertEqual(file.read_at(0, 4032), bytes(4032))
+            self.assertCause("damaged", file.read_at, 4000, 100)
+            self.assertCause("damaged", file.write_at, 5000, b"x")
+            file.truncate(4032)
+        self.assertEqual(contents(self.path), bytes(4032))
+
+    def test_arguments(self):
+        with RandomAccessFile.create(self.path, KEY) as file:
+            for call in (file.read_at, file.truncate):
+                self.assertRaises(ValueError, call, -1, *([1] if call == file.read_at else []))
+            self.assertRaises(ValueError, file.write_at, -1, b"")
+            self.assertCause("too_long", file.write_at, 1 << 60, b"x")
+            self.assertEqual(file.read_at(1 << 61, 5), b"")
+        self.assertRaises(ValueError, file.read_at, 0, 1)
+        self.assertRaises(ValueError, RandomAccessFile.create, self.folder / "new", KEY, page_size=255)
+        self.assertEqual(os.listdir(self.folder), ["file"])
+
+    def test_a_full_disk(self):
+        file = RandomAccessFile.create(self.path, KEY)
+        file.write_at(0, bytes(9000))
+        with mock.patch.object(os, "posix_fallocate", side_effect=OSError(28, "No space left on device")):
+            self.assertRaises(OSError, file.commit)
+        self.assertFalse((self.folder / "file.journal").exists())
+        self.assertEqual(file.read_at(0, 9000), bytes(9000))
+        file.close()
+        self.assertEqual(contents(self.path), bytes(9000))
+
+    def test_the_journal(self):
+        """It has the permissions of the file. One that others may write, or that is a link, is left alone."""
+        with RandomAccessFile.create(self.path, KEY) as file:
+            self.path.chmod(0o640)
+            with mock.patch.object(_random_access.Journal, "remove"):
+                file.write_at(0, b"x")
+                file.commit()
+        journal = self.folder / "file.journal"
+        self.assertEqual(journal.stat().st_mode & 0o777, 0o640)
+        journal.chmod(0o666)
+        self.assertRaises(OSError, RandomAccessFile, self.path, KEY)
+        journal.chmod(0o600)
+        journal.rename(self.folder / "elsewhere")
+        journal.symlink_to(self.folder / "elsewhere")
+        self.assertRaises(OSError, RandomAccessFile, self.path, KEY)
+
+    def test_threads(self):
+        with RandomAccessFile.create(self.path, KEY) as file:
+            def work(number):
+                for turn in range(20):
+                    with file.batch():
+                        file.write_at(number * 100, bytes([number]) * 100)
+                    self.assertEqual(file.read_at(number * 100, 100), bytes([number]) * 100)
+
+            threads = [threading.Thread(target=work, args=(number,)) for number in range(4)]
+            for thread in threads:
+                thread.start()
+            for thread in threads:
+                thread.join()
+        self.assertEqual(contents(self.path), b"".join(bytes([number]) * 100 for number in range(4)))
+
+    def test_streams(self):
+        member = b"a member" * 1000
+        with RandomAccessFile.create(self.path, KEY) as file:
+            with tarfile.open(fileobj=file.open_stream(), mode="w") as archive:
+                entry = tarfile.TarInfo("member")
+                entry.size = len(member)
+                archive.addfile(entry, io.BytesIO(member))
+            with tarfile.open(fileobj=file.open_stream()) as archive:
+                self.assertEqual(archive.extractfile("member").read(), member)
+            file.truncate(0)
+            with zipfile.ZipFile(file.open_stream(), "w") as archive:
+                archive.writestr("member", member)
+            with zipfile.ZipFile(file.open_stream()) as archive:
+                self.assertEqual(archive.read("member"), member)
+            with file.open_stream() as stream:
+                self.assertEqual((stream.seek(-3, os.SEEK_END), stream.read(9), stream.tell()), (file.size - 3, stream_end(file), file.size))
+                self.assertRaises(ValueError, stream.seek, -1)
+            self.assertRaises(ValueError, stream.read)
+
+    def test_secrets_are_not_copied(self):
+        with RandomAccessFile.create(self.path, KEY) as file:
+            self.assertRaises(TypeError, file.__reduce_ex__, 2)
+
+
+def stream_end(file):
+    return file.read_at(file.size - 3, 3)
+
+
+if __name__ == "__main__":
+    unittest.main()
