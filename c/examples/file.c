@@ -1,14 +1,11 @@
 /*
- * Keeps a text in an encrypted file that outlasts crashes: after one, all of a change is there, or
- * none of it. The journal is FILE.journal. It reads and writes the text at any place:
+ * Keeps numbered texts in an encrypted file that survives crashes: each change is there as a whole, or not at all. `raf`
+ * in Rust and RandomAccessFile in Python read and write the same files.
  *
- *     file KEYFILE FILE PLACE [TEXT]
+ *     file KEYFILE FILE NUMBER [TEXT]
  *
- * A key file has 32 bytes. The first call makes the file. TEXT is written at PLACE, which is not
- * past the text's end; without TEXT it prints what is there, at most 4,096 bytes. Without FILE it
- * tests itself on temporary files: it stops a change at each of its steps, and opens the file again.
- *
- * cc file.c $(pkg-config --cflags --libs hunkravy)
+ * sets text NUMBER, which may be the next one, or prints it. A text is a page, and has at most 4,032 bytes. The journal is
+ * FILE.journal. A key file has 32 bytes. cc file.c $(pkg-config --cflags --libs hunkravy)
  */
 #define _POSIX_C_SOURCE 200809L
 
@@ -28,130 +25,16 @@
 #define SIZE HUNKRAVY_PAGE_DEFAULT_SIZE(NONCE_BYTES)
 #define PAGE_BYTES (NONCE_BYTES + SIZE + HUNKRAVY_PAGE_TAG_BYTES)
 #define BLOCK_BYTES HUNKRAVY_PAGE_HEADER_BLOCK_BYTES
+#define BEGINNING_BYTES HUNKRAVY_JOURNAL_BEGINNING_BYTES
+#define PATH_BYTES 4096
 
-/* A file that is open, its journal, and what its header has. */
+/* A file that is open, its journal and its folder, and what its header has. */
 struct file {
-    int fd, journal;
+    int fd, journal, folder;
+    char journal_path[PATH_BYTES], copy_path[PATH_BYTES];
     uint8_t key[KEY_BYTES], id[HUNKRAVY_PAGE_ID_BYTES];
     uint64_t counter, length;
 };
-
-/* The test lets so many steps be made. */
-static int steps_left = -1;
-
-/* Each function returns 1, or 0 if it failed, unless its comment says otherwise. */
-
-static int step(void) { return steps_left != 0 && (steps_left < 0 || steps_left-- > 0); }
-
-static int read_all(int fd, uint8_t *bytes, size_t length, uint64_t place)
-{
-    return pread(fd, bytes, length, (off_t)place) == (ssize_t)length;
-}
-
-static int write_all(int fd, const uint8_t *bytes, size_t length, uint64_t place)
-{
-    return step() && pwrite(fd, bytes, length, (off_t)place) == (ssize_t)length;
-}
-
-static int synced(int fd) { return step() && fsync(fd) == 0; }
-
-static int emptied(int fd) { return step() && ftruncate(fd, 0) == 0 && synced(fd); }
-
-static int seal_header(const struct file *file, uint8_t *block, uint64_t counter, uint64_t length)
-{
-    uint8_t nonce[NONCE_BYTES];
-
-    return getentropy(nonce, sizeof nonce) == 0 &&
-           hunkravy_page_header_seal(VARIANT, block, SIZE, file->id, counter, length, nonce,
-                                     NONCE_BYTES, file->key, KEY_BYTES) == HUNKRAVY_OK;
-}
-
-/* ---- Opening */
-
-/* Makes the writes of a commit that was cut short again, or drops what there is of it. */
-static int recover(const struct file *file, uint8_t *journal, size_t journal_length)
-{
-    uint8_t block[BLOCK_BYTES];
-    ssize_t block_length = pread(file->fd, block, sizeof block, 0);
-    const uint8_t *write = journal + HUNKRAVY_JOURNAL_START_BYTES;
-    uint64_t place;
-    size_t length, left;
-
-    if (block_length < 0 || !read_all(file->journal, journal, journal_length, 0) ||
-        hunkravy_journal_check(VARIANT, block, (size_t)block_length, file->key, KEY_BYTES, journal,
-                               journal_length, &left) != HUNKRAVY_OK ||
-        !synced(file->fd) || !synced(file->journal)) {
-        return 0;
-    }
-    while (left > 0) {
-        if (hunkravy_journal_next(write, left, &place, &length) != HUNKRAVY_OK ||
-            !write_all(file->fd, write + HUNKRAVY_JOURNAL_HEAD_BYTES, length, place)) {
-            return 0;
-        }
-        write += HUNKRAVY_JOURNAL_HEAD_BYTES + length;
-        left -= HUNKRAVY_JOURNAL_HEAD_BYTES + length;
-    }
-    return synced(file->fd) && emptied(file->journal);
-}
-
-/* Opens the file, or makes one if there are no bytes of it or of its journal. */
-static int open_file(struct file *file)
-{
-    uint8_t block[BLOCK_BYTES], *journal;
-    uint32_t page_size;
-    off_t length = lseek(file->journal, 0, SEEK_END);
-    int result;
-
-    if (length == 0 && lseek(file->fd, 0, SEEK_END) == 0) {
-        return getentropy(file->id, sizeof file->id) == 0 && seal_header(file, block, 0, 0) &&
-               write_all(file->fd, block, sizeof block, 0) && synced(file->fd);
-    }
-    if (length < 0 || (journal = malloc((size_t)length + HUNKRAVY_JOURNAL_START_BYTES)) == NULL) {
-        return 0;
-    }
-    result = recover(file, journal, (size_t)length) &&
-             read_all(file->fd, block, sizeof block, 0) &&
-             hunkravy_page_header_open(VARIANT, block, file->key, KEY_BYTES, &page_size, file->id,
-                                       &file->counter, &file->length) == HUNKRAVY_OK &&
-             page_size == SIZE;
-    free(journal);
-    return result;
-}
-
-/* ---- Reading */
-
-/* Reads a page into `page`, with its contents after NONCE_BYTES, or zeros past the end. */
-static int read_page(const struct file *file, uint8_t *page, uint64_t number)
-{
-    memset(page, 0, PAGE_BYTES);
-    return number * SIZE >= file->length ||
-           (read_all(file->fd, page, PAGE_BYTES, hunkravy_page_place(VARIANT, SIZE, number)) &&
-            hunkravy_page_open(VARIANT, page, PAGE_BYTES, file->id, number, file->key, KEY_BYTES) ==
-                HUNKRAVY_OK);
-}
-
-/* Reads `length` bytes of the text, or those up to its end. Returns how many, or -1. */
-static long read_text(const struct file *file, uint8_t *bytes, size_t length, uint64_t place)
-{
-    static uint8_t page[PAGE_BYTES];
-    size_t done = 0, count, at;
-
-    if (place > file->length) {
-        return -1;
-    }
-    length = length < file->length - place ? length : (size_t)(file->length - place);
-    for (; done < length; done += count) {
-        at = (place + done) % SIZE;
-        count = SIZE - at < length - done ? SIZE - at : length - done;
-        if (!read_page(file, page, (place + done) / SIZE)) {
-            return -1;
-        }
-        memcpy(bytes + done, page + NONCE_BYTES + at, count);
-    }
-    return (long)length;
-}
-
-/* ---- Writing */
 
 struct write {
     uint64_t place;
@@ -159,169 +42,187 @@ struct write {
     size_t length;
 };
 
-/* Writes the journal: what it begins with is synced first. */
+/* Each function returns 1, or 0 if it failed. */
+
+static int get(int fd, uint8_t *bytes, size_t length, uint64_t place)
+{
+    return pread(fd, bytes, length, (off_t)place) == (ssize_t)length;
+}
+
+static int put(int fd, const uint8_t *bytes, size_t length, uint64_t place)
+{
+    return pwrite(fd, bytes, length, (off_t)place) == (ssize_t)length;
+}
+
+static int emptied(int fd) { return ftruncate(fd, 0) == 0 && fsync(fd) == 0; }
+
+static int seal_header(const struct file *file, uint8_t *block, uint64_t counter, uint64_t length)
+{
+    uint8_t nonce[NONCE_BYTES];
+    return getentropy(nonce, sizeof nonce) == 0 &&
+        hunkravy_page_header_seal(VARIANT, block, SIZE, file->id, counter, length, nonce, NONCE_BYTES, file->key,
+            KEY_BYTES) == HUNKRAVY_OK;
+}
+
+/*
+ * Replaces the journal with a copy that is synced. After a sync that failed, Linux returns bytes that the disk does not
+ * have. The old journal stays until the new one is whole: the disk may need it.
+ */
+static int write_again(struct file *file, const uint8_t *journal, size_t length)
+{
+    int old = file->journal, copy = open(file->copy_path, O_RDWR | O_CREAT | O_TRUNC, 0600);
+    if (copy < 0 || !put(copy, journal, length, 0) || fsync(copy) != 0 ||
+        rename(file->copy_path, file->journal_path) != 0 || fsync(file->folder) != 0) {
+        return 0;
+    }
+    file->journal = copy;
+    return close(old) == 0;
+}
+
+/* Makes the writes of an interrupted commit again, the `left` bytes at `write`. */
+static int make_again(const struct file *file, const uint8_t *write, size_t left)
+{
+    uint64_t place;
+    size_t length;
+    for (; left > 0; left -= HUNKRAVY_JOURNAL_HEAD_BYTES + length) {
+        if (hunkravy_journal_next(write, left, &place, &length) != HUNKRAVY_OK ||
+            !put(file->fd, write + HUNKRAVY_JOURNAL_HEAD_BYTES, length, place)) {
+            return 0;
+        }
+        write += HUNKRAVY_JOURNAL_HEAD_BYTES + length;
+    }
+    return fsync(file->fd) == 0;
+}
+
+/* Completes a commit that was interrupted, or drops what there is of it. */
+static int recover(struct file *file, uint8_t *journal, size_t length)
+{
+    uint8_t block[BLOCK_BYTES];
+    ssize_t found = pread(file->fd, block, sizeof block, 0);
+    size_t left;
+    return found >= 0 && get(file->journal, journal, length, 0) &&
+        hunkravy_journal_check(VARIANT, block, (size_t)found, file->key, KEY_BYTES, journal, length, &left) ==
+            HUNKRAVY_OK &&
+        fsync(file->fd) == 0 &&
+        (left == 0 || (write_again(file, journal, length) &&
+                          make_again(file, journal + HUNKRAVY_JOURNAL_START_BYTES, left))) &&
+        emptied(file->journal);
+}
+
+/* Opens the file, or makes one if there are no bytes of it or of its journal. */
+static int open_file(struct file *file)
+{
+    uint8_t block[BLOCK_BYTES], *journal;
+    uint32_t size;
+    off_t length = lseek(file->journal, 0, SEEK_END);
+    if (length == 0 && lseek(file->fd, 0, SEEK_END) == 0) {
+        return getentropy(file->id, sizeof file->id) == 0 && seal_header(file, block, 0, 0) &&
+            put(file->fd, block, sizeof block, 0) && fsync(file->fd) == 0;
+    }
+    if (length < 0 || (journal = malloc((size_t)length + 1)) == NULL) {
+        return 0;
+    }
+    int result = recover(file, journal, (size_t)length) && get(file->fd, block, sizeof block, 0) &&
+        hunkravy_page_header_open(VARIANT, block, file->key, KEY_BYTES, &size, file->id, &file->counter,
+            &file->length) == HUNKRAVY_OK && size == SIZE;
+    free(journal);
+    return result;
+}
+
+/* Reads page `number`, with its contents after NONCE_BYTES. */
+static int read_page(const struct file *file, uint8_t *page, uint64_t number)
+{
+    return get(file->fd, page, PAGE_BYTES, hunkravy_page_place(VARIANT, SIZE, number)) &&
+        hunkravy_page_open(VARIANT, page, PAGE_BYTES, file->id, number, file->key, KEY_BYTES) == HUNKRAVY_OK;
+}
+
+/* Encrypts a page, and sets `write` to the write of it. */
+static int seal_page(const struct file *file, uint8_t *page, uint64_t number, struct write *write)
+{
+    uint8_t nonce[NONCE_BYTES];
+    *write = (struct write){hunkravy_page_place(VARIANT, SIZE, number), page, PAGE_BYTES};
+    return getentropy(nonce, sizeof nonce) == 0 &&
+        hunkravy_page_seal(VARIANT, page, PAGE_BYTES, file->id, number, nonce, NONCE_BYTES, file->key, KEY_BYTES) ==
+        HUNKRAVY_OK;
+}
+
+/* Writes the journal. What it begins with is synced first. */
 static int write_journal(const struct file *file, const struct write *writes, size_t count)
 {
     hunkravy_state st;
     uint8_t start[HUNKRAVY_JOURNAL_START_BYTES], nonce[HUNKRAVY_JOURNAL_NONCE_BYTES];
     uint8_t head[HUNKRAVY_JOURNAL_HEAD_BYTES], mac[HUNKRAVY_JOURNAL_MAC_BYTES];
-    const size_t first = HUNKRAVY_JOURNAL_BEGINNING_BYTES;
     uint64_t place = sizeof start;
     int result = getentropy(nonce, sizeof nonce) == 0 &&
-                 hunkravy_journal_init(VARIANT, &st, SIZE, file->id, nonce, file->key, KEY_BYTES,
-                                       start) == HUNKRAVY_OK &&
-                 write_all(file->journal, start, first, 0) && synced(file->journal) &&
-                 write_all(file->journal, start + first, sizeof start - first, first);
-
+        hunkravy_journal_init(VARIANT, &st, SIZE, file->id, nonce, file->key, KEY_BYTES, start) == HUNKRAVY_OK &&
+        put(file->journal, start, BEGINNING_BYTES, 0) && fsync(file->journal) == 0 &&
+        put(file->journal, start + BEGINNING_BYTES, sizeof nonce, BEGINNING_BYTES);
     for (size_t i = 0; result && i < count; i++) {
-        result = hunkravy_journal_entry(&st, writes[i].place, writes[i].bytes, writes[i].length,
-                                        head) == HUNKRAVY_OK &&
-                 write_all(file->journal, head, sizeof head, place) &&
-                 write_all(file->journal, writes[i].bytes, writes[i].length, place + sizeof head);
-        place += sizeof head + writes[i].length;
+        const struct write *write = &writes[i];
+        result = hunkravy_journal_entry(&st, write->place, write->bytes, write->length, head) == HUNKRAVY_OK &&
+            put(file->journal, head, sizeof head, place) &&
+            put(file->journal, write->bytes, write->length, place + sizeof head);
+        place += sizeof head + write->length;
     }
-    result = result && hunkravy_journal_final(&st, mac) == HUNKRAVY_OK &&
-             write_all(file->journal, mac, sizeof mac, place) && synced(file->journal);
-    hunkravy_wipe(&st, sizeof st);
-    return result;
+    return result && hunkravy_journal_final(&st, mac) == HUNKRAVY_OK && put(file->journal, mac, sizeof mac, place) &&
+        fsync(file->journal) == 0;
 }
 
-static int commit(const struct file *file, const struct write *writes, size_t count)
+/*
+ * Commits encrypted pages, the writes from 1 up to `count`, of which the last is furthest in the file. The headers become
+ * writes 0 and `count`. After an error open the file again.
+ */
+static int commit(const struct file *file, struct write *writes, size_t count, uint64_t length)
 {
-    if (!write_journal(file, writes, count)) {
-        return 0;
+    uint8_t old[BLOCK_BYTES], next[BLOCK_BYTES];
+    off_t size = lseek(file->fd, 0, SEEK_END), end = (off_t)(writes[count - 1].place + PAGE_BYTES);
+    writes[0] = (struct write){0, old, sizeof old};
+    writes[count] = (struct write){0, next, sizeof next};
+    /* Without room for the pages nobody could make the writes of the journal. */
+    int result = get(file->fd, old, sizeof old, 0) && seal_header(file, next, file->counter + 1, length) && size >= 0 &&
+        (end <= size || posix_fallocate(file->fd, size, end - size) == 0) && write_journal(file, writes, count + 1);
+    for (size_t i = 0; result && i <= count; i++) {
+        result = put(file->fd, writes[i].bytes, writes[i].length, writes[i].place);
     }
-    for (size_t i = 0; i < count; i++) {
-        if (!write_all(file->fd, writes[i].bytes, writes[i].length, writes[i].place)) {
-            return 0;
-        }
-    }
-    return synced(file->fd) && emptied(file->journal);
+    return result && fsync(file->fd) == 0 && emptied(file->journal);
 }
 
-/* Seals page `number` with the next bytes of a text over what it has, and says where it is to be written. */
-static int seal_page(const struct file *file, uint8_t *page, uint64_t number, struct write *write)
+/* Opens and locks the files. */
+static int begin(struct file *file, const char *key_path, const char *path)
 {
-    uint8_t nonce[NONCE_BYTES];
-
-    *write = (struct write){hunkravy_page_place(VARIANT, SIZE, number), page, PAGE_BYTES};
-    return getentropy(nonce, sizeof nonce) == 0 &&
-           hunkravy_page_seal(VARIANT, page, PAGE_BYTES, file->id, number, nonce, NONCE_BYTES,
-                              file->key, KEY_BYTES) == HUNKRAVY_OK;
-}
-
-/* Writes over the text. After an error, or a crash, open the file again: it has all of it, or none. */
-static int write_text(struct file *file, const uint8_t *bytes, size_t length, uint64_t place)
-{
-    uint8_t old_block[BLOCK_BYTES], block[BLOCK_BYTES];
-    size_t most = length / SIZE + 2, done = 0, count = 1, part, at;
-    uint64_t end = place + length > file->length ? place + length : file->length;
-    uint8_t *pages = malloc(most * PAGE_BYTES);
-    struct write *writes = malloc((most + 2) * sizeof *writes);
-    int result = place <= file->length && pages != NULL && writes != NULL &&
-                 read_all(file->fd, old_block, sizeof old_block, 0) &&
-                 seal_header(file, block, file->counter + 1, end);
-
-    for (; result && done < length; done += part, count++) {
-        uint8_t *page = pages + (count - 1) * PAGE_BYTES;
-        uint64_t number = (place + done) / SIZE;
-        at = (place + done) % SIZE;
-        part = SIZE - at < length - done ? SIZE - at : length - done;
-        result = read_page(file, page, number);
-        memcpy(page + NONCE_BYTES + at, bytes + done, part);
-        result = result && seal_page(file, page, number, &writes[count]);
-    }
-    if (result) {
-        writes[0] = (struct write){0, old_block, sizeof old_block};
-        writes[count] = (struct write){0, block, sizeof block};
-        result = commit(file, writes, count + 1);
-    }
-    if (result) {
-        file->counter++;
-        file->length = end;
-    }
-    free(writes);
-    free(pages);
-    return result;
-}
-
-/* ---- The program */
-
-/* Changes a text of three pages, and stops that at each step. Each time the file has all of it, or none. */
-static int try_all(struct file *file)
-{
-    static uint8_t old[12000], new[12000], found[12001];
-    int steps = 0, done = 0;
-
-    memset(old, 'a', sizeof old);
-    memcpy(new, old, sizeof old);
-    memset(new + 3000, 'b', 6000);
-    if (!open_file(file) || !write_text(file, old, sizeof old, 0)) {
-        return 0;
-    }
-    while (!done) {
-        steps_left = steps++;
-        done = write_text(file, new + 3000, 6000, 3000);
-        steps_left = -1;
-        if (!open_file(file) || read_text(file, found, sizeof found, 0) != 12000) {
-            return 0;
-        }
-        if (memcmp(found, new, sizeof new) == 0) {
-            if (!done && !write_text(file, old, sizeof old, 0)) {
-                return 0;
-            }
-        } else if (done || memcmp(found, old, sizeof old) != 0) {
-            return 0;
-        }
-    }
-    return steps > 10;
-}
-
-static int run(struct file *file, char **arguments, const char *written)
-{
-    static uint8_t bytes[4096];
-    char name[4096];
     struct flock whole = {.l_type = F_WRLCK, .l_whence = SEEK_SET};
-    uint64_t place = strtoull(arguments[3], NULL, 10);
-    long count;
-
-    if (!read_all(open(arguments[1], O_RDONLY), file->key, sizeof file->key, 0) ||
-        snprintf(name, sizeof name, "%s.journal", arguments[2]) >= (int)sizeof name) {
+    char folder[PATH_BYTES];
+    if (!get(open(key_path, O_RDONLY), file->key, KEY_BYTES, 0) ||
+        snprintf(file->copy_path, PATH_BYTES, "%s.journal-copy", path) >= PATH_BYTES) {
         return 0;
     }
-    file->fd = open(arguments[2], O_RDWR | O_CREAT, 0600);
-    file->journal = open(name, O_RDWR | O_CREAT, 0600);
-    /* One program at a time; and the names of both outlast a crash, too. */
-    if (fcntl(file->fd, F_SETLK, &whole) != 0 || !synced(open(dirname(name), O_RDONLY)) ||
-        !open_file(file)) {
+    snprintf(file->journal_path, PATH_BYTES, "%s.journal", path);
+    strcpy(folder, path);
+    file->fd = open(path, O_RDWR | O_CREAT, 0600);
+    file->folder = open(dirname(folder), O_RDONLY);
+    if (fcntl(file->fd, F_SETLK, &whole) != 0) {
         return 0;
     }
-    if (written != NULL) {
-        return write_text(file, (const uint8_t *)written, strlen(written), place);
-    }
-    count = read_text(file, bytes, sizeof bytes, place);
-    return count >= 0 && fwrite(bytes, 1, (size_t)count, stdout) == (size_t)count;
+    file->journal = open(file->journal_path, O_RDWR | O_CREAT, 0600);
+    return fsync(file->folder) == 0 && open_file(file);
 }
 
 int main(int count, char **arguments)
 {
-    struct file file = {-1, -1, {0}, {0}, 0, 0};
-    FILE *temporary = tmpfile(), *journal = tmpfile();
-    int result = 0;
-
-    if (count == 4 || count == 5) {
-        result = run(&file, arguments, arguments[4]);
-        if (!result) {
-            fputs("file: failed: check KEYFILE, FILE, PLACE and the output\n", stderr);
-        }
-    } else if (count > 2) {
-        fputs("usage: file KEYFILE FILE PLACE [TEXT]\n", stderr);
-    } else if (temporary != NULL && journal != NULL && getentropy(file.key, KEY_BYTES) == 0) {
-        file.fd = fileno(temporary);
-        file.journal = fileno(journal);
-        result = try_all(&file) &&
-                 puts("hunkravy: each change that was stopped was there as a whole, or not at all") >= 0;
+    struct file file = {.fd = -1};
+    struct write writes[3];
+    uint8_t page[PAGE_BYTES + 1] = {0};
+    uint64_t number = count < 4 ? 0 : strtoull(arguments[3], NULL, 10);
+    int result = (count == 4 || (count == 5 && strlen(arguments[4]) <= SIZE)) &&
+        begin(&file, arguments[1], arguments[2]) && number < file.length / SIZE + (count == 5);
+    if (result && count == 5) {
+        uint64_t end = (number + 1) * SIZE;
+        memcpy(page + NONCE_BYTES, arguments[4], strlen(arguments[4]));
+        result = seal_page(&file, page, number, &writes[1]) &&
+            commit(&file, writes, 2, end > file.length ? end : file.length);
+    } else if (result) {
+        result = read_page(&file, page, number) && printf("%.*s\n", (int)SIZE, (char *)page + NONCE_BYTES) > 0;
     }
     hunkravy_wipe(&file, sizeof file);
-    return result ? EXIT_SUCCESS : EXIT_FAILURE;
+    return result ? EXIT_SUCCESS : (fputs("usage: file KEYFILE FILE NUMBER [TEXT]\n", stderr), EXIT_FAILURE);
 }

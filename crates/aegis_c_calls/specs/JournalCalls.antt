@@ -42,7 +42,7 @@ pub record JournalBegin (variant : Option Variant) (key id nonce : List ℕ) (pa
   pub answered : code ≡ keyed_code variant (length key) (header_code page_bytes 0)
   pub begun : code ≡ DONE → IsJournaling (journal_key (the variant) key) nonce [] new
   pub written : code ≡ DONE → start' ≡ journal_beginning (file_of (the variant) key id page_bytes) ++ nonce
-  pub nonce : code ≡ DONE → drop 512 start' ≡ nonce
+  pub ends : code ≡ DONE → drop 512 start' ≡ nonce
   pub state_kept : code ≢ DONE → new ≡ old
   pub kept : code ≢ DONE → start' ≡ start
 

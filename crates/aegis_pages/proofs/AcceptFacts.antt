@@ -85,7 +85,7 @@ not_fitting : (variant : Variant) (key file read : List ℕ) (b : Option (List �
 not_fitting variant key file read None header_block h writes it not = tt
 not_fitting variant key file read (Some js) header_block h writes it not = λ fit.
     not (subst (IsAccepted variant key header_block (Some h) writes) (sym it.content)
-        (fitting variant key file js header_block h writes (subst (λ (l : List ℕ). WasRead variant key (Some file) (Some js) l header_block (Some h) writes) it.content it) fit))
+    (fitting variant key file js header_block h writes (subst (λ (l : List ℕ). WasRead variant key (Some file) (Some js) l header_block (Some h) writes) it.content it) fit))
 
 not_whole : (variant : Variant) (key read : List ℕ) (b : Option (List ℕ)) → IfSome b (λ js. read ≡ js) → IsNotWhole variant key read → IfSome b (IsNotWhole variant key)
 not_whole variant key read None same torn = tt

@@ -17,9 +17,7 @@ use crate::layout::{
 use aegis::aegis128l::Key;
 use aegis_base::LaneState;
 use aegis_engine::mac_at_once;
-use aegis_storage::{
-    BEGINNING_BYTES, Storage, first_write, journaled_content, read_all, recover,
-};
+use aegis_storage::{BEGINNING_BYTES, Storage, first_write, journaled_content, read_all, recover};
 use std::alloc::Allocator;
 use std::io;
 use std::io::ErrorKind;

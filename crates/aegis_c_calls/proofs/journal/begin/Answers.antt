@@ -29,7 +29,7 @@ returns g c =
       answered = search rules;
       begun = λ _. none_written (journal_key variant c.args.k.now) c.args.nonce.now _ (rw own at saved);
       written = λ _. head_is _ _ _ _ _ c.array_of.ensures (c.journal_beginning.ensures ∙ ap journal_beginning file) refl;
-      nonce = λ _. ap (drop 512) c.array_of.ensures ∙ drop_at c.journal_beginning.result (c.args.nonce.now ++ []) 512 (omega arith) ∙ append-nil c.args.nonce.now;
+      ends = λ _. ap (drop 512) c.array_of.ensures ∙ drop_at c.journal_beginning.result (c.args.nonce.now ++ []) 512 (omega arith) ∙ append-nil c.args.nonce.now;
       state_kept = search rules;
       kept = search rules;
     }
