@@ -184,9 +184,9 @@ abi: $(DESCRIBED)
 check-level: $(OUT)/both/libhunkravy.a $(OUT)/both/$(SONAME)
 	tools/check_level.sh $^ $(STORED_LINES)
 
-# The tests as C++, which call what the headers have.
+# The tests as C++, which call what the headers have. Exception: the one that includes an example in C.
 check-c++: $(OUT)/both/libhunkravy.a
-	for program in $(C_TESTS); do \
+	for program in $(filter-out check_file,$(C_TESTS)); do \
 		$(CC) -std=c++11 $(C_FLAGS) -O2 -x c++ c/tests/$$program.c -x none $< -o $(OUT)/both/$$program++ && \
 		$(OUT)/both/$$program++ $(STORED_LINES) || exit 1; \
 	done

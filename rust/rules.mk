@@ -28,13 +28,14 @@ check-rust-tool: $(OUT)/$(lastword $(TOOL_LEVELS))/hunkravy $(LIBRARY)
 
 # ---- Files in place
 
-# Whether the proved program and the Cargo package's example open what the other has left, after 200 kills and after crashes
-# that tear what was being written.
+# Whether the proved program and those over the packages and in C open what the others have left, after 200 kills and after
+# crashes that tear what was being written.
 RAF = $(OUT)/raf
 
-check-raf: $(BATCHES) $(LIBRARY)
+check-raf: $(BATCHES) $(LIBRARY) python-package
 	rm -rf $(RAF)/left && mkdir -p $(RAF)/left
 	cd rust && export HUNKRAVY_LIB_DIR="$(CURDIR)/$(dir $(LIBRARY))" CARGO_TARGET_DIR="$(CURDIR)/$(RAF)/cargo" && \
 		cargo build --offline --example batches && \
 		HUNKRAVY_BATCHES="$(CURDIR)/$(RAF)/left" cargo test --offline --test raf each_call_of_two_batches
-	tools/check_batches.sh $(BATCHES) $(RAF)/cargo/debug/examples/batches $(RAF)/left
+	$(CC) -std=c99 $(C_FLAGS) -O2 c/tests/check_file.c $(LIBRARY) -o $(RAF)/check_file
+	tools/check_batches.sh $(BATCHES) $(RAF)/cargo/debug/examples/batches $(RAF)/left $(RAF)/check_file $(OUT)/python

@@ -1,17 +1,21 @@
 #!/bin/bash
-# check_batches.sh PROVED [RUST LEFT]: kills programs that write to several rows of one encrypted file at once, by turns, at 200
-# moments. After each kill the file is recovered, and a copy of it: all rows must hold one number, the same in both, and none
-# that is older than the last one seen.
+# check_batches.sh PROVED [RUST LEFT C PYTHON]: kills programs that write to several rows of one encrypted file at once, by
+# turns, at 200 moments. After each kill another one recovers the file, and a copy of it: all rows must hold one number, the
+# same in both, and none that is older than the last one seen.
 #
-# PROVED is the program of crates/example_batches, and RUST the example batches of the Cargo package. LEFT is the folder that
-# the package's test `each_call_of_two_batches` has written: what made-up crashes have left, with any bytes where something
-# was to be written. Both programs have to open that too.
+# PROVED is the program of crates/example_batches, RUST the example batches of the Cargo package, C the program check_file of
+# c/tests, and PYTHON the folder of the Python package. LEFT is the folder that the Cargo package's test
+# `each_call_of_two_batches` has written: what made-up crashes have left, with any bytes where something was to be written. All
+# programs have to open that too.
 set -euo pipefail
 
 proved=$(realpath "$1")
 rust=${2:+$(realpath "$2")}
 left=${3:+$(realpath "$3")}
-programs=(proved ${rust:+rust})
+c=${4:+$(realpath "$4")}
+python=${5:+$(realpath "$5")}
+batches=$(realpath python/tests/batches.py)
+programs=(proved ${rust:+rust} ${c:+c} ${python:+python})
 folder=$(mktemp -d)
 trap 'rm -rf "$folder"' EXIT
 cd "$folder"
@@ -26,6 +30,8 @@ run() {
     case $1 in
         proved) exec "$proved" "$2" "$2.journal" "${@:3}" ;;
         rust) exec "$rust" "${@:2}" ;;
+        c) exec "$c" batches "${@:2}" ;;
+        python) PYTHONPATH=$python exec python3 -B "$batches" "${@:2}" ;;
     esac
 }
 
@@ -45,8 +51,8 @@ for turn in $(seq 200); do
     [ ! -s file.journal ] || recovered=$((recovered + 1))
     rm -f copy copy.journal
     for name in file*; do cp "$name" "copy${name#file}"; done
-    of_copy=$(number "${programs[-1]}" copy)
-    found=$(number "${programs[turn / 2 % ${#programs[@]}]}" file)
+    of_copy=$(number "${programs[(turn / 3) % ${#programs[@]}]}" copy)
+    found=$(number "${programs[(turn / 5) % ${#programs[@]}]}" file)
     [ "$found" -ge "$last" ] || fail "$found after $last"
     [ "$found" = "$of_copy" ] || fail "$found, and $of_copy of a copy"
     last=$found
@@ -56,11 +62,17 @@ done
 echo "killed 200 times, $recovered times with a journal: $last batches, each whole or not there, by: ${programs[*]}"
 
 [ -n "$left" ] || exit 0
+by_proved=
 [ -s "$left/list" ] || fail "$left is empty"
 while read -r name before after; do
-    cp "$left/$name" "$left/$name.journal" .
-    found=$(number proved "$name")
-    [ "$found" = "$before" ] || [ "$found" = "$after" ] || fail "$name holds $found, and not $before or $after"
-    [ "$(number rust "$name")" = "$found" ] || fail "$name holds another number than $found"
+    for program in "${programs[@]}"; do
+        cp "$left/$name" "$left/$name.journal" .
+        found=$(number "$program" "$name")
+        [ "$found" = "$before" ] || [ "$found" = "$after" ] ||
+            fail "$name holds $found by $program, and not $before or $after"
+        [ "$program" = proved ] || [ "$found" = "$by_proved" ] || fail "$name holds $found by $program, and not $by_proved"
+        by_proved=${by_proved:-$found}
+    done
+    by_proved=
     rm "$name"
 done < "$left/list"
