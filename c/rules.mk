@@ -47,7 +47,7 @@ $(OUT)/%/libhunkravy.a: $(OUT)/%/aegis_c.a $(CALLS)
 # The shared library, which exports the calls alone.
 SONAME = libhunkravy.so.0
 
-$(OUT)/%/$(SONAME): $(OUT)/%/libhunkravy.a
+$(OUT)/%/$(SONAME): $(OUT)/%/libhunkravy.a $(OWN_HEADERS:%=c/include/%) c/rules.mk
 	(echo 'HUNKRAVY_0 { global:'; $(EXPORTS) | sed 's/$$/;/'; echo 'local: *; };') > $(@D)/exports.map
 	$(TOOLS_$*)$(CC) -shared -s -Wl,-soname,$(SONAME),--version-script=$(@D)/exports.map,-z,defs,-z,relro,-z,now \
 		-Wl,--whole-archive $< -Wl,--no-whole-archive -o $@
@@ -94,10 +94,15 @@ check-header:
 	done; done
 	uses() { \
 		printf '#include "sodium_compat.h"\nvoid f(void);\nvoid f(void) { %s; }\n' "$$1" | \
-			$(CC) $(C_FLAGS) -c -o /dev/null -x c -; \
-	} && for call in 'hunkravy_stream(0, 0, 0, 0, 0, 0, 0)' 'sodium_init()' \
-		'crypto_aead_aegis256_decrypt(0, 0, 0, 0, 0, 0, 0, 0, 0)'; do \
-		uses "int code = $$call; (void)code" && ! uses "$$call" 2> /dev/null || exit 1; \
+			$$compiler $(C_FLAGS) -c -o /dev/null -x c -; \
+	} && for compiler in $(CC) $(CLANG); do \
+		for call in 'hunkravy_stream(0, 0, 0, 0, 0, 0, 0)' 'sodium_init()' \
+			'crypto_aead_aegis256_decrypt(0, 0, 0, 0, 0, 0, 0, 0, 0)'; do \
+			uses "int code = $$call; (void)code" && ! uses "$$call" 2> /dev/null || exit 1; \
+		done; \
+	done
+	for name in sodium_H crypto_aead_aegis128l_H crypto_aead_aegis256_H; do \
+		! echo '#include "sodium_compat.h"' | $(CC) -D$$name $(C_FLAGS) -fsyntax-only -x c - 2> /dev/null || exit 1; \
 	done
 	! grep -n '^int hunkravy_' $(OWN_HEADERS:%=c/include/%) | grep -v 'hunkravy_level(void)'
 	if [ -n "$(CLANG)" ]; then \
@@ -141,10 +146,13 @@ check-sanitized: $(OUT)/$(SANITIZED_LEVEL)/aegis_c.a
 		$(RUN_$(FOLDER)) $(SANITIZED)/$$program $(STORED_LINES) || exit 1; \
 	done
 
-# The library is built again once a file of each folder that it is made of is newer.
-check-rebuilt: $(OUT)/both/libhunkravy.a
-	$(MAKE) -q $<
-	for file in c/levels/join.sh c/library/calls.c c/include/hunkravy.h; do ! $(MAKE) -q -W $$file $< || exit 1; done
+# Each library is built again once a file of each folder that it is made of is newer, and the shared one once its rule is.
+check-rebuilt: $(OUT)/both/libhunkravy.a $(OUT)/both/$(SONAME)
+	$(MAKE) -q $^
+	for file in c/levels/join.sh c/levels/level.h c/library/calls.c c/include/hunkravy.h; do \
+		for library in $^; do ! $(MAKE) -q -W $$file $$library || exit 1; done; \
+	done
+	! $(MAKE) -q -W c/rules.mk $(lastword $^)
 
 # The tests over the shared library, which exports the calls of the headers and nothing else.
 check-shared: $(OUT)/both/$(SONAME)
@@ -154,12 +162,11 @@ check-shared: $(OUT)/both/$(SONAME)
 		$(<D)/$$program-shared $(STORED_LINES) || exit 1; \
 	done
 
-# The tests with another C library than glibc, over the library with both levels and over each level alone. The test of libsodium's
-# names goes on after abort, which musl's does not allow.
+# The tests with another C library than glibc, over the library with both levels and over each level alone.
 check-musl: $(addprefix check-musl-,both $(RUNNABLE))
 
 check-musl-%: $(OUT)/%/libhunkravy.a
-	for program in $(filter-out check_libsodium,$(C_TESTS)); do \
+	for program in $(C_TESTS); do \
 		musl-gcc -static -std=c99 $(C_FLAGS) -O2 c/tests/$$program.c $< -o $(OUT)/$*/$$program-musl && \
 		LEVEL=$(patsubst x86-64-v%,%,$(filter x86%,$*)) $(OUT)/$*/$$program-musl $(STORED_LINES) || exit 1; \
 	done
