@@ -1,4 +1,4 @@
-"""The AEGIS ciphers, their MACs, and sealed files.
+"""The AEGIS ciphers, their MACs, record streams, and sealed files.
 
 A message is encrypted in one call or in chunks. A decrypted message is returned only after its tag is verified:
 
@@ -42,6 +42,7 @@ from ._macs import (
     Mac,
 )
 from ._native import LEVEL as _LEVEL, InvalidTag
+from ._records import RecordError, RecordOpener, RecordSealer
 from ._version import VERSION as __version__
 
 __all__ = [
@@ -62,6 +63,9 @@ __all__ = [
     "Encryptor",
     "InvalidTag",
     "Mac",
+    "RecordError",
+    "RecordOpener",
+    "RecordSealer",
     "SealedFileError",
     "SealedReader",
     "SealedWriter",

@@ -38,7 +38,7 @@ def sealed(contents: bytes, key: bytes = KEY) -> bytes:
 
 def with_pieces(pieces: list[bytes]) -> bytes:
     """The sealed file with these pieces, the last of which is that of the last record."""
-    records = _native.Records(KEY, PREFIX)
+    records = _native.Records(KEY, PREFIX, b"hunkravy v1")
     records.begin()
     file = PREFIX + b"AGR2"
     for number, piece in enumerate(pieces):
