@@ -161,7 +161,7 @@ touch "$work/page/FILE"
 sed -n '/^```sh$/,/^```$/{ /^```/d; p }' "$folder/README.md" > "$work/commands"
 [ "$(wc -l < "$work/commands")" = 4 ] || fail 'the page of the archive has no commands'
 use PIP_TARGET="$work/of-page" PIP_NO_INDEX=1 PIP_DISABLE_PIP_VERSION_CHECK=1 PIP_ROOT_USER_ACTION=ignore CARGO_NET_OFFLINE=true \
-    bash -ec 'cd page && . ../commands' > "$work/said" 2>&1 || { cat "$work/said"; fail 'a command of the page of the archive fails'; }
+    bash -c 'cd page && while read -r command; do eval "$command" || exit 1; done < ../commands' > "$work/said" 2>&1 < /dev/null || { cat "$work/said"; fail 'a command of the page of the archive fails'; }
 for prefix in "$folder" "$system"; do
     use bash -ec 'rm -f key sealed opened; "$0" keygen key; seq 100000 > text; "$0" seal -k key text sealed
         "$0" check -k key sealed; "$0" open -k key sealed opened; cmp text opened' "$prefix/bin/hunkravy"
