@@ -1,5 +1,5 @@
 # The commands that a person types. Each folder's own are in its rules.mk.
-.PHONY: run program quick test check-pages check-edits
+.PHONY: run program quick test check-gate check-pages check-edits
 .SECONDARY:
 
 SHELL = /bin/bash
@@ -63,6 +63,10 @@ $(OUT)/line-program: $(call sources,aegis_vectors) crates.txt | $(OUT)
 # them and shipped. With STRICT=1 it fails if a check is left out.
 test:
 	@RT_JOBS=$(CHECKS) .ci/checks
+
+# Whether the gate fails if one of its checks fails or hangs, and whether it runs each check that there is a rule for.
+check-gate:
+	python3 tools/check_gate.py
 
 # What a change most often breaks, in five minutes on two processors, with no proof: the pages; the tests of C, Rust and Python
 # over the last library that was proved, also if its sources are newer; the line program on the published vectors, and the

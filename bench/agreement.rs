@@ -59,7 +59,9 @@ fn outcome(
     }
 }
 
-fn check_outcomes(variant: &Variant, size: usize) {
+/// Returns how many outcomes were compared.
+fn check_outcomes(variant: &Variant, size: usize) -> usize {
+    let mut compared = 0;
     for tag_bytes in TAG_SIZES {
         for data_bytes in DATA_SIZES {
             let of = |calls: &Calls| outcome(calls, variant.key_bytes, tag_bytes, data_bytes, size);
@@ -70,18 +72,18 @@ fn check_outcomes(variant: &Variant, size: usize) {
                     "{}: {size} bytes give two answers",
                     variant.name
                 );
+                compared += 1;
             }
         }
     }
+    compared
 }
 
-/// Stops the program where two contenders differ.
-pub fn check(variants: &[Variant], sizes: &[usize]) {
-    for variant in variants {
-        for size in ODD_SIZES.iter().chain(sizes) {
-            check_outcomes(variant, *size);
-        }
-    }
+/// Stops the program where two contenders differ. Returns how many outcomes were compared.
+pub fn check(variants: &[Variant], sizes: &[usize]) -> usize {
+    let sizes = || ODD_SIZES.iter().chain(sizes);
+    let compared = |variant| sizes().map(move |size| check_outcomes(variant, *size));
+    variants.iter().flat_map(compared).sum()
 }
 
 /// `length` bytes with no pattern, the same at each run (xorshift).

@@ -24,8 +24,8 @@ fn main() -> std::io::Result<()> {
         Some(_) => &measure::SIZES[..],
         None => &measure::SIZES[..3],
     };
-    agreement::check(&variants, sizes);
-    println!("The contenders agree at each size.");
+    let compared = agreement::check(&variants, sizes);
+    println!("The contenders agree on {compared} outcomes.");
     let Some(folder) = folder else {
         return Ok(());
     };

@@ -42,9 +42,10 @@ bench-pages: $(OUT)/$(BENCH_CPU)/bench/pages
 	$< /dev/shm/hunkravy-bench > $(OUT)/pages.md
 	$(call write_page,$(BENCH_FOLDER)/PAGES.md,$(OUT)/pages.md)
 
-# Whether the programs that measure run, on little, and what they measure agrees.
+# Whether the programs that measure run, on little, and what they measure agrees: for six variants 17 sizes, two lengths of
+# tags and three of associated data, of three contenders, or of four if the processor has AES instructions.
 check-bench: $(OUT)/both/check-driver $(OUT)/both/bench/calls $(OUT)/both/bench/pages
-	$<
+	$< | grep -E ' (1836|2448) outcomes'
 	$(OUT)/both/bench/calls check
 	$(OUT)/both/bench/pages $(OUT)/bench-file check
 

@@ -47,7 +47,7 @@ $(OUT)/%/libhunkravy.a: $(OUT)/%/aegis_c.a $(CALLS)
 # The shared library, which exports the calls alone.
 SONAME = libhunkravy.so.0
 
-$(OUT)/%/$(SONAME): $(OUT)/%/libhunkravy.a
+$(OUT)/%/$(SONAME): $(OUT)/%/libhunkravy.a $(OWN_HEADERS:%=c/include/%) c/rules.mk
 	(echo 'HUNKRAVY_0 { global:'; $(EXPORTS) | sed 's/$$/;/'; echo 'local: *; };') > $(@D)/exports.map
 	$(TOOLS_$*)$(CC) -shared -s -Wl,-soname,$(SONAME),--version-script=$(@D)/exports.map,-z,defs,-z,relro,-z,now \
 		-Wl,--whole-archive $< -Wl,--no-whole-archive -o $@
@@ -94,10 +94,15 @@ check-header:
 	done; done
 	uses() { \
 		printf '#include "sodium_compat.h"\nvoid f(void);\nvoid f(void) { %s; }\n' "$$1" | \
-			$(CC) $(C_FLAGS) -c -o /dev/null -x c -; \
-	} && for call in 'hunkravy_stream(0, 0, 0, 0, 0, 0, 0)' 'sodium_init()' \
-		'crypto_aead_aegis256_decrypt(0, 0, 0, 0, 0, 0, 0, 0, 0)'; do \
-		uses "int code = $$call; (void)code" && ! uses "$$call" 2> /dev/null || exit 1; \
+			$$compiler $(C_FLAGS) -c -o /dev/null -x c -; \
+	} && for compiler in $(CC) $(CLANG); do \
+		for call in 'hunkravy_stream(0, 0, 0, 0, 0, 0, 0)' 'sodium_init()' \
+			'crypto_aead_aegis256_decrypt(0, 0, 0, 0, 0, 0, 0, 0, 0)'; do \
+			uses "int code = $$call; (void)code" && ! uses "$$call" 2> /dev/null || exit 1; \
+		done; \
+	done
+	for name in sodium_H crypto_aead_aegis128l_H crypto_aead_aegis256_H; do \
+		! echo '#include "sodium_compat.h"' | $(CC) -D$$name $(C_FLAGS) -fsyntax-only -x c - 2> /dev/null || exit 1; \
 	done
 	! grep -n '^int hunkravy_' $(OWN_HEADERS:%=c/include/%) | grep -v 'hunkravy_level(void)'
 	if [ -n "$(CLANG)" ]; then \
@@ -141,10 +146,13 @@ check-sanitized: $(OUT)/$(SANITIZED_LEVEL)/aegis_c.a
 		$(RUN_$(FOLDER)) $(SANITIZED)/$$program $(STORED_LINES) || exit 1; \
 	done
 
-# The library is built again once a file of each folder that it is made of is newer.
-check-rebuilt: $(OUT)/both/libhunkravy.a
-	$(MAKE) -q $<
-	for file in c/levels/join.sh c/library/calls.c c/include/hunkravy.h; do ! $(MAKE) -q -W $$file $< || exit 1; done
+# Each library is built again once a file of each folder that it is made of is newer, and the shared one once its rule is.
+check-rebuilt: $(OUT)/both/libhunkravy.a $(OUT)/both/$(SONAME)
+	$(MAKE) -q $^
+	for file in c/levels/join.sh c/levels/level.h c/library/calls.c c/include/hunkravy.h; do \
+		for library in $^; do ! $(MAKE) -q -W $$file $$library || exit 1; done; \
+	done
+	! $(MAKE) -q -W c/rules.mk $(lastword $^)
 
 # The tests over the shared library, which exports the calls of the headers and nothing else.
 check-shared: $(OUT)/both/$(SONAME)
@@ -154,12 +162,11 @@ check-shared: $(OUT)/both/$(SONAME)
 		$(<D)/$$program-shared $(STORED_LINES) || exit 1; \
 	done
 
-# The tests with another C library than glibc, over the library with both levels and over each level alone. The test of libsodium's
-# names goes on after abort, which musl's does not allow.
+# The tests with another C library than glibc, over the library with both levels and over each level alone.
 check-musl: $(addprefix check-musl-,both $(RUNNABLE))
 
 check-musl-%: $(OUT)/%/libhunkravy.a
-	for program in $(filter-out check_libsodium,$(C_TESTS)); do \
+	for program in $(C_TESTS); do \
 		musl-gcc -static -std=c99 $(C_FLAGS) -O2 c/tests/$$program.c $< -o $(OUT)/$*/$$program-musl && \
 		LEVEL=$(patsubst x86-64-v%,%,$(filter x86%,$*)) $(OUT)/$*/$$program-musl $(STORED_LINES) || exit 1; \
 	done
@@ -214,6 +221,7 @@ check-sodium: $(OUT)/both/libhunkravy.a
 # where they lie themselves.
 EXAMPLES_FOLDER = $(PREFIX)/share/doc/hunkravy/examples
 LIBRARIES = $(PREFIX)/lib
+CMAKE_FOLDER = $(LIBRARIES)/cmake/hunkravy
 SHARED = $(OUT)/$(FOLDER)/$(SONAME)
 
 install: $(LIBRARY) $(SHARED)
@@ -222,30 +230,41 @@ install: $(LIBRARY) $(SHARED)
 	install -m 644 $(LIBRARY) $(SHARED) "$(DESTDIR)$(LIBRARIES)"
 	ln -sf $(SONAME) "$(DESTDIR)$(LIBRARIES)/libhunkravy.so"
 	install -m 644 $(C_EXAMPLES:%=c/examples/%.c) "$(DESTDIR)$(EXAMPLES_FOLDER)"
-	include=$$(realpath -m --relative-to="$(DESTDIR)$(LIBRARIES)/pkgconfig" "$(DESTDIR)$(PREFIX)/include") && \
-		sed -e "s|@INCLUDE@|$$include|" -e 's|@VERSION@|$(VERSION)|' c/include/hunkravy.pc.in \
+	prefix=$$(realpath -m --relative-to="$(DESTDIR)$(LIBRARIES)/pkgconfig" "$(DESTDIR)$(PREFIX)/") && \
+		sed -e "s|@PREFIX@|$$prefix|" -e 's|@VERSION@|$(VERSION)|' c/include/hunkravy.pc.in \
 		> "$(DESTDIR)$(LIBRARIES)/pkgconfig/hunkravy.pc" && \
-		install -D -m 644 c/include/hunkravy-config.cmake "$(DESTDIR)$(LIBRARIES)/cmake/hunkravy/hunkravy-config.cmake" && \
-		echo "get_filename_component(_hunkravy_include \"\$${CMAKE_CURRENT_LIST_DIR}/../../pkgconfig/$$include\" ABSOLUTE)" \
-		> "$(DESTDIR)$(LIBRARIES)/cmake/hunkravy/hunkravy-include.cmake"
+		install -D -m 644 c/include/hunkravy-config.cmake "$(DESTDIR)$(CMAKE_FOLDER)/hunkravy-config.cmake" && \
+		echo "get_filename_component(_hunkravy_include \"\$${CMAKE_CURRENT_LIST_DIR}/../../pkgconfig/$$prefix/include\" ABSOLUTE)" \
+		> "$(DESTDIR)$(CMAKE_FOLDER)/hunkravy-include.cmake"
+	sed 's|@VERSION@|$(VERSION)|' c/include/hunkravy-config-version.cmake.in > "$(DESTDIR)$(CMAKE_FOLDER)/hunkravy-config-version.cmake"
 
-# Builds and runs the examples that are installed at PREFIX, by what pkg-config says of it: over the shared library, and over
-# the static one.
+# Builds and runs the examples that are installed at PREFIX, with what pkg-config returns: over the shared library, and over
+# the static one. With CMake a project asks for no version, or for one; older ones are right, and others are not.
 check-install: | $(OUT) $(if $(filter aarch64,$(FOLDER)),gcc-aarch64-linux-gnu qemu-user)
 	export PKG_CONFIG_PATH="$(LIBRARIES)/pkgconfig" LD_LIBRARY_PATH="$(LIBRARIES)" && \
-	for example in $(C_EXAMPLES); do for library in -lhunkravy -l:libhunkravy.a; do \
-		eval "$(TOOLS_$(FOLDER))$(CC) -std=c99 '$(EXAMPLES_FOLDER)/$$example.c' \
-			$$(pkg-config --cflags --libs-only-L hunkravy) $$library -o $(OUT)/$$example-installed" && \
+	[ "$$(realpath "$$(pkg-config --variable=prefix hunkravy)")" = "$$(realpath "$(PREFIX)/")" ] && \
+	[ "$$(pkg-config --modversion hunkravy)" = $(VERSION) ] && \
+	shared=$$(pkg-config --cflags --libs hunkravy) && \
+	static="$$(pkg-config --cflags --libs-only-L hunkravy) -l:libhunkravy.a" && \
+	for example in $(C_EXAMPLES); do for flags in "$$shared" "$$static"; do \
+		eval "$(TOOLS_$(FOLDER))$(CC) -std=c99 '$(EXAMPLES_FOLDER)/$$example.c' $$flags -o $(OUT)/$$example-installed" && \
 		$(RUN_$(FOLDER)) $(OUT)/$$example-installed || exit 1; \
 	done; done
 	if [ -n '$(TOOLS_$(FOLDER))' ]; then \
 		echo 'left out: the example by CMake, which has no tools for ARM here'; \
 	elif command -v cmake > /dev/null; then \
 		rm -rf $(OUT)/cmake && mkdir $(OUT)/cmake && \
-		printf '%s\n' 'cmake_minimum_required(VERSION 3.10)' 'project(installed C)' 'find_package(hunkravy REQUIRED)' \
+		printf '%s\n' 'cmake_minimum_required(VERSION 3.10)' 'project(installed C)' 'find_package(hunkravy $${ASKED} REQUIRED)' \
 			'foreach(kind hunkravy static)' 'add_executable(seal-$${kind} "$(EXAMPLES_FOLDER)/seal.c")' \
-			'target_link_libraries(seal-$${kind} hunkravy::$${kind})' 'endforeach()' > $(OUT)/cmake/CMakeLists.txt && \
-		cmake -S $(OUT)/cmake -B $(OUT)/cmake/build -DCMAKE_PREFIX_PATH="$(PREFIX);$(LIBRARIES)" > /dev/null && \
+			'target_link_libraries(seal-$${kind} hunkravy::$${kind})' 'endforeach()' \
+			'get_target_property(soname hunkravy::hunkravy IMPORTED_SONAME)' \
+			'if(NOT soname STREQUAL $(SONAME))' 'message(FATAL_ERROR "$${soname}")' 'endif()' > $(OUT)/cmake/CMakeLists.txt && \
+		finds() { \
+			cmake -S $(OUT)/cmake -B $(OUT)/cmake/build "-DASKED=$$1" \
+				-DCMAKE_PREFIX_PATH="$(PREFIX);$(LIBRARIES)" > /dev/null 2> $(OUT)/cmake/said; \
+		} && \
+		for asked in 1.0 $(VERSION).1 '0.1;EXACT'; do ! finds $$asked || exit 1; done && \
+		for asked in '' 0.1 '$(VERSION);EXACT' $(VERSION); do finds "$$asked" || { cat $(OUT)/cmake/said; exit 1; }; done && \
 		cmake --build $(OUT)/cmake/build > /dev/null && \
 		$(OUT)/cmake/build/seal-hunkravy && $(OUT)/cmake/build/seal-static; \
 	else \

@@ -1,8 +1,8 @@
 //! Finds the static library, and links it. Without it the crate is checked and documented, and a link fails.
 
-use std::env;
 use std::path::{Path, PathBuf};
 use std::process::Command;
+use std::{env, fs};
 
 /// The folder of the library, set by whoever has not installed it.
 const FOLDER_VARIABLE: &str = "HUNKRAVY_LIB_DIR";
@@ -55,6 +55,9 @@ pub fn check_target(target: &str) -> Result<(), String> {
     ))
 }
 
+/// The processors of the targets, and the numbers that ELF has for them.
+const PROCESSORS: [(&str, u16); 2] = [("x86_64", 62), ("aarch64", 183)];
+
 /// The folder with the library: that of the variable if it is set, that of the package if it came with one, and otherwise the
 /// one that pkg-config knows.
 pub fn folder() -> Result<PathBuf, String> {
@@ -63,7 +66,7 @@ pub fn folder() -> Result<PathBuf, String> {
     }
     let own = PathBuf::from(env::var_os("CARGO_MANIFEST_DIR").unwrap_or_default()).join("lib");
     if own.join(ARCHIVE).is_file() {
-        return Ok(own);
+        return with_archive(own, "the package");
     }
     let program = env::var_os("PKG_CONFIG").unwrap_or_else(|| "pkg-config".into());
     let found = installed(Path::new(&program)).map_err(|reason| {
@@ -89,13 +92,25 @@ fn installed(program: &Path) -> Result<PathBuf, String> {
     Ok(folder.trim_end().into())
 }
 
-/// The folder, if the library lies in it. Otherwise the error names who gave it.
+/// The folder, if a library for the target's processor lies in it. Otherwise the error names who gave it.
 fn with_archive(folder: PathBuf, source: &str) -> Result<PathBuf, String> {
-    if !folder.join(ARCHIVE).is_file() {
+    let shown = folder.display();
+    let archive = fs::read(folder.join(ARCHIVE))
+        .map_err(|_error| format!("{source} gives {shown}, which has no {ARCHIVE}"))?;
+    // Cargo sets the variable. Without it the program is for this processor.
+    let target = env::var("TARGET").unwrap_or_else(|_unset| env::consts::ARCH.to_owned());
+    let (processor, _) = target.split_once('-').unwrap_or((&target, ""));
+    if !PROCESSORS.contains(&(processor, machine(&archive))) {
         return Err(format!(
-            "{source} gives {}, which has no {ARCHIVE}",
-            folder.display()
+            "{source} gives {shown}, whose {ARCHIVE} is not for {processor}"
         ));
     }
     folder.canonicalize().map_err(|error| error.to_string())
+}
+
+/// The number of the processor of an archive's first object; 0 if it has none.
+fn machine(archive: &[u8]) -> u16 {
+    let object = archive.windows(4).position(|bytes| bytes == b"\x7fELF");
+    let number = object.and_then(|start| archive.get(start + 18..start + 20));
+    number.map_or(0, |bytes| u16::from_le_bytes([bytes[0], bytes[1]]))
 }

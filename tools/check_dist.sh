@@ -91,7 +91,8 @@ done
 has "$work/site/hunkravy/_version.py" "^VERSION = \"$version\"\$"
 has <("$folder/bin/hunkravy" --version) "^hunkravy $version\$"
 has "$folder/share/man/man1/hunkravy.1" "\"hunkravy $version\""
-for licence in "$work"/empty/*/LICENSE "$work"/system/usr/share/doc/*/copyright "$work"/site/hunkravy-*/LICENSE; do
+for licence in "$work"/empty/*/{,rust/,python/}LICENSE "$work"/system/usr/share/doc/*/copyright \
+    "$work"/site/hunkravy-*/licenses/LICENSE; do
     has "$licence" 'Permission is hereby granted'
     [ "$(grep -ihoE 'copyright:? (\(c\) )?2026 .*' "$licence" | sed 's/.*2026 //')" = 'The Hunkravy authors' ] || fail "$licence has another holder"
 done
@@ -106,22 +107,34 @@ glibc() {
 glibc 2.17 "$folder/lib/libhunkravy.so.0" "$work/site/hunkravy/_native.abi3.so"
 glibc 2.34 "$folder/lib/hunkravy/x86-64-v2/hunkravy"
 
-# The sums in each package and in the wheel are those of all of its files, and programs that are built over the shared library
-# depend on this version of it.
+# The sums of the release are right, by the command of its page.
+command=$(sed -n 's/^1\. .*`\(sha256sum [^`]*\)`.*/\1/p' dist/VERIFY.md)
+(cd "$dist" && $command --strict --quiet && diff <(ls | sort) <((echo SHA256SUMS; cut -c 67- SHA256SUMS) | sort)) ||
+    fail 'the sums are not those of the files'
+
+# The size and the changelog of each package. The sums in each package and in the wheel are those of all of its files, and
+# programs that are built over the shared library depend on this version of it.
 for package in "$dist"/*.deb; do
     rm -rf "$work/one"
     dpkg-deb -R "$package" "$work/one"
+    size=$(find "$work/one/usr" -type f -printf '%s\n' | awk '{ sum += $1; count++ } END { print int(sum / 1024), int(sum / 1024) + count }')
+    awk -v size="$size" '/^Installed-Size: / { split(size, most); exit !(most[1] <= $2 && $2 <= most[2]) }' "$work/one/DEBIAN/control" ||
+        fail "$package: its files have $size KiB"
+    [ "$(zcat "$work"/one/usr/share/doc/*/changelog.gz | sed -n 's/^hunkravy (\(.*\)) unstable; urgency=medium$/\1/p')" = "$version" ] ||
+        fail "$package: its changelog is that of another version"
     (cd "$work/one" && md5sum --strict --quiet -c DEBIAN/md5sums && diff <(find usr -type f | sort) <(cut -c 35- DEBIAN/md5sums | sort)) ||
         fail "other sums in $package"
 done
 [ "$(dpkg-deb -I "$dist/libhunkravy0_${version}_amd64.deb" shlibs)" = "libhunkravy 0 libhunkravy0 (>= $version)" ] ||
     fail 'programs depend on another version of the library'
-python3 - "$dist"/*.whl << 'END' || fail 'the RECORD of a wheel has other sums'
+python3 - "$dist"/*.whl << 'END' || fail 'a wheel has other sums or another tag than its name'
 import base64, csv, hashlib, sys, zipfile
 for name in sys.argv[1:]:
+    tag = "-".join(name[: -len(".whl")].split("-")[-3:])
     wheel = zipfile.ZipFile(name)
     files = {entry: wheel.read(entry) for entry in wheel.namelist() if not entry.endswith("/")}
     record = next(entry for entry in files if entry.endswith("/RECORD"))
+    assert f"\nTag: {tag}\n" in files[record.replace("RECORD", "WHEEL")].decode(), name
     sums = lambda data: "sha256=" + base64.urlsafe_b64encode(hashlib.sha256(data).digest()).decode().rstrip("=")
     expected = {entry: [sums(data), str(len(data))] for entry, data in files.items()} | {record: ["", ""]}
     assert {row[0]: row[1:] for row in csv.reader(files[record].decode().splitlines())} == expected, name
@@ -152,6 +165,13 @@ for source in "$folder"/python/*.whl "$folder/python"; do
     use "${install_to[@]}" packages "$source"
     use PYTHONPATH=packages python3 "$folder/python/examples/session_token.py"
 done
+# The commands of the page of the archive, on a copy.
+cp -r "$folder" "$work/page"
+touch "$work/page/FILE"
+sed -n '/^```sh$/,/^```$/{ /^```/d; p }' "$folder/README.md" > "$work/commands"
+[ "$(wc -l < "$work/commands")" = 4 ] || fail 'the page of the archive has no commands'
+use PIP_TARGET="$work/of-page" PIP_NO_INDEX=1 PIP_DISABLE_PIP_VERSION_CHECK=1 PIP_ROOT_USER_ACTION=ignore CARGO_NET_OFFLINE=true \
+    bash -c 'cd page && while read -r command; do eval "$command" || exit 1; done < ../commands' > "$work/said" 2>&1 < /dev/null || { cat "$work/said"; fail 'a command of the page of the archive fails'; }
 for prefix in "$folder" "$system"; do
     use bash -ec 'rm -f key sealed opened; "$0" keygen key; seq 100000 > text; "$0" seal -k key text sealed
         "$0" check -k key sealed; "$0" open -k key sealed opened; cmp text opened' "$prefix/bin/hunkravy"
@@ -159,7 +179,7 @@ done
 
 # What Debian wants of packages, where its program is installed.
 if command -v lintian > /dev/null; then
-    lintian --allow-root --fail-on error --suppress-tags maintainer-address-missing,debian-changelog-file-missing-or-wrong-name "$dist"/*.deb
+    lintian --allow-root --fail-on error,warning "$dist"/*.deb
 else
     echo 'left out: the packages by lintian, which is not installed'
 fi

@@ -2,6 +2,9 @@
 
 - A sample in ```rust stands in a crate, one in ```c in an example of C, and one in ```rs in an example of Rust, line breaks
   aside. Those of the module docs of `aegis` stand in another crate. Samples in ```python are run (tools/check_python.sh).
+- What a page calls is there: the commands of the tool and the targets of make in ```sh or between two `, and the functions
+  of docs/PAGES.md.
+- The speeds of README.md are those of the tables of bench/, and the lengths of docs/PAGES.md those of the headers.
 - A link to a file of the repository leads to one, and its fragment to a heading.
 - A source in Rattle or Rust is named by a `mod` item of the one above it, so no module of tests is left out.
 - A line of a contract has at most 100 columns, one of a source or a page at most 120, but for imports, attributes, tables
@@ -63,6 +66,75 @@ def strange_samples():
         yield from (f"{page}: no sample in {language}" for language in languages.split() if language not in shown)
 
 
+def make_targets():
+    """Returns an expression for the targets of the Makefiles."""
+    text = "".join(read(path) for path in [ROOT / "Makefile", *sorted(ROOT.glob("*/rules.mk"))])
+    names = {name for line in re.findall(r"^([\w%+-][\w%+ -]*):(?!=)", text, re.M) for name in line.split()}
+    return "|".join(re.escape(name).replace("%", ".+") for name in names)
+
+
+def strange_words():
+    """Yields each command, target and function that a page calls and that is not there."""
+    commands = re.search("words='(keygen [a-z ]*)'", read(ROOT / "crates/hunkravy/manual/bash"))[1].replace(" ", "|")
+    # `hunkravy v1` is the context of sealed files.
+    known = (rf"hunkravy ({commands}|--\w+|v1)", rf"make ({make_targets()}|[A-Z]+=\S+)")
+    for page in PAGES:
+        shell = "".join(sample for language, sample in SAMPLE.findall(read(page)) if language == "sh")
+        words = re.findall(r"^(?:\S*/)?(hunkravy \S+|make [\w+][\w+-]*)", shell, re.M)
+        words += re.findall(r"`(hunkravy [\w-]+|make [\w+][\w+-]*)(?: [^`]*)?`", read(page))
+        yield from (f"{page}: there is no {word}" for word in words if not any(re.fullmatch(each, word) for each in known))
+    pages = joined(ROOT.glob("crates/aegis_pages/src/**/*.rt"))
+    for language, sample in SAMPLE.findall(read(ROOT / "docs/PAGES.md")):
+        called = re.findall(r"(?:SealedPages::|pages\.)(\w+)\(", sample) if language == "text" else []
+        yield from (f"docs/PAGES.md: there is no function {name}" for name in called if f"pub fn {name}" not in pages)
+
+
+# What pages state of the tables of bench/ and of the constants of the headers.
+STATED = {
+    "README.md": (
+        "libsodium is {slowest:.0f} to {fastest:.0f} times as fast",
+        "AEGIS-256 encrypts 1 MiB in place at {speed:,} MB/s",
+    ),
+    "docs/PAGES.md": (
+        "N bytes: {AEGIS128_NONCE_BYTES} for AEGIS-128L, 128X2 and 128X4, and {AEGIS256_NONCE_BYTES} for AEGIS-256, 256X2",
+        "| 4 | the page size, from {PAGE_MIN_SIZE} to {PAGE_MAX_SIZE:,} bytes |",
+        "| {PAGE_ID_BYTES} | the file's ID |",
+        "| {PAGE_TAG_BYTES} | the tag |",
+        "A file has at least its first {PAGE_HEADER_BLOCK_BYTES} bytes |",
+        "| from {PAGE_FIRST:,} on | the pages: each a nonce, the ciphertext of the page size, and a tag of {PAGE_TAG_BYTES} bytes",
+        "{most_contents:,} bytes of contents and a nonce of {AEGIS256_NONCE_BYTES}, or with {contents:,} and",
+        "| {JOURNAL_NONCE_BYTES} | a nonce |",
+        "| {JOURNAL_MAC_BYTES}, at the end | the MAC",
+        "the first {JOURNAL_BEGINNING_BYTES} bytes of the journal",
+    ),
+}
+
+
+def numbers():
+    """Returns the numbers of the tables of bench/ and of the headers, by their names."""
+    ratios, speed = [], None
+    for table in ("bench/PEERS.md", "bench/x86-64-v3/PEERS.md"):
+        lines = re.findall(r"^\| ([^|]+) \| ([\d |]+\d) \|$", read(ROOT / table), re.M)
+        rows = {name: list(map(int, numbers.split("|"))) for name, numbers in lines}
+        for name in ("AEGIS-128L", "AEGIS-256"):
+            ratios += [peer / own for peer, own in zip(rows[f"libsodium {name}, AES instructions"], rows[name])]
+        speed = rows["AEGIS-256"][-1]
+    text = "".join(read(path) for path in sorted(ROOT.glob("c/include/*.h")))
+    found = {name: int(value) for name, value in re.findall(r"^#define HUNKRAVY_(\w+) (\d+)$", text, re.M)}
+    block = found["PAGE_FIRST"] - found["PAGE_TAG_BYTES"]
+    found |= {"most_contents": block - found["AEGIS256_NONCE_BYTES"], "contents": block - found["AEGIS128_NONCE_BYTES"]}
+    return found | {"slowest": min(ratios), "fastest": max(ratios), "speed": speed}
+
+
+def strange_numbers():
+    """Yields each statement that a page does not have with the right numbers."""
+    values = numbers()
+    for page, statements in STATED.items():
+        text = joined([ROOT / page])
+        right = (statement.format(**values) for statement in statements)
+        yield from (f"{page}: it does not have: {statement}" for statement in right if statement not in text)
+
+
 def anchors(page):
     """Returns the fragments that lead to the headings of a page."""
     headings = re.findall(r"^#+ (.*)$", read(page), re.M)
@@ -120,7 +192,7 @@ def long_texts():
 
 found = list(dead_links())
 if sys.argv[1:] != ["links"]:
-    found += [*strange_samples(), *long_texts(), *unnamed_modules()]
+    found += [*strange_samples(), *strange_words(), *strange_numbers(), *long_texts(), *unnamed_modules()]
     found += [place for path in [*SOURCES, *PAGES] for place in long_lines(path)]
 print("\n".join(found), end="\n" if found else "")
 sys.exit(bool(found))

@@ -45,8 +45,9 @@ archive() {
     cp -R rust/Cargo.toml rust/Cargo.lock rust/build.rs rust/src rust/examples "$folder/rust"
     cp "$folder/lib/libhunkravy.a" "$folder/rust/lib"
     cp -R python/build_wheel.py python/pyproject.toml python/hunkravy python/native python/examples "$wheel" "$folder/python"
-    rm -rf "$folder"/python/*/__pycache__
-    cp LICENSE "$folder"
+    # What Python and an editable installation leave beside the sources.
+    rm -rf "$folder"/python/*/__pycache__ "$folder"/python/hunkravy/_version.py "$folder"/python/hunkravy/_native.abi3.so
+    for part in "$folder" "$folder/rust" "$folder/python"; do cp LICENSE "$part"; done
     proved > "$folder/PROVED.md"
     python3 tools/ship_pages.py "$folder" SECURITY.md CHANGELOG.md docs/FILES.md docs/PAGES.md docs/DIFFERENCES.md \
         rust/README.md python/README.md
@@ -59,9 +60,10 @@ archive() {
     cp "$wheel" "$out/dist"
 }
 
-# package NAME SECTION DEPENDS DESCRIPTION MORE: the Debian package of the files in work/NAME. There is no address yet.
+# package NAME SECTION DEPENDS DESCRIPTION MORE: the Debian package of the files in work/NAME. No mail reaches the address yet.
 package() {
-    local folder=$work/$1 doc=$work/$1/usr/share/doc/$1 maintainer='The Hunkravy authors' size
+    local folder=$work/$1 doc=$work/$1/usr/share/doc/$1 size
+    local maintainer='The Hunkravy authors <maintainers@users.noreply.hunkravy.example>'
     mkdir -p "$folder/DEBIAN" "$doc"
     (cat dist/copyright && sed -n '/^Permission/,$p' LICENSE | sed 's/^$/./; s/^/ /') > "$doc/copyright"
     printf 'hunkravy (%s) unstable; urgency=medium\n\n  * See /usr/share/doc/%s/CHANGELOG.md.gz.\n\n -- %s  %s\n' "$version" "$1" \
@@ -111,8 +113,11 @@ if command -v dpkg-deb > /dev/null; then
     ARCHITECTURE=amd64
     install_to "$work/hunkravy" install-tool PREFIX=/usr CPU=both ZSH_COMPLETIONS=/usr/share/zsh/vendor-completions
     strip "$work"/hunkravy/usr/lib/hunkravy/*/hunkravy
-    package hunkravy utils 'libc6 (>= 2.34)' 'seals and opens files by AEGIS-256' \
-        'A changed file is rejected; what standard output gets before is verified.'
+    # lintian takes a program that needs no library for a library that lacks them.
+    mkdir -p "$work/hunkravy/usr/share/lintian/overrides"
+    echo 'hunkravy: shared-library-lacks-prerequisites [usr/bin/hunkravy]' > "$work/hunkravy/usr/share/lintian/overrides/hunkravy"
+    package hunkravy utils 'libc6 (>= 2.34)' 'file encryption with AEGIS-256' \
+        $'Encrypts files and pipes under a random key file.\n A file that was changed is rejected.'
     libraries amd64 x86_64-linux-gnu x86_64-unknown-linux-gnu
     if [ -f "$out/aarch64/libhunkravy.a" ]; then
         libraries arm64 aarch64-linux-gnu aarch64-unknown-linux-gnu

@@ -65,12 +65,13 @@ int hunkravy_encrypt_combined(uint32_t variant, uint8_t *c, const uint8_t *m, si
 int hunkravy_decrypt_combined(uint32_t variant, uint8_t *m, const uint8_t *c, size_t clen, const uint8_t *ad,
     size_t adlen, const uint8_t *npub, size_t npublen, const uint8_t *k, size_t klen, size_t maclen)
 {
-    if (clen < maclen) {
-        int code = hunkravy_proved_check_lengths(variant, npublen, klen, 0, adlen, maclen);
-        return code != HUNKRAVY_OK ? code : HUNKRAVY_INVALID_TAG;
+    size_t mlen = clen < maclen ? 0 : clen - maclen;
+    int code = hunkravy_proved_check_lengths(variant, npublen, klen, mlen, adlen, maclen);
+    if (code == HUNKRAVY_OK && clen < maclen) {
+        code = HUNKRAVY_INVALID_TAG;
     }
-    return hunkravy_decrypt(variant, m, c, clen - maclen, ad, adlen, npub, npublen, k, klen,
-        hunkravy_readable(c, clen) + (clen - maclen), maclen);
+    return code != HUNKRAVY_OK ? code : hunkravy_decrypt_in_place(variant, copy(m, c, mlen), mlen, ad, adlen, npub,
+        npublen, k, klen, c + mlen, maclen);
 }
 
 int hunkravy_verify(uint32_t variant, const uint8_t *c, size_t clen, const uint8_t *ad, size_t adlen,

@@ -228,6 +228,8 @@ static void check_long_and_short(uint32_t variant, size_t n)
           HUNKRAVY_DATA_TOO_LONG);
     HOLDS(hunkravy_decrypt_combined(variant, bytes, bytes, 15, bytes, most + 1, k, n, k, n, 16) ==
           HUNKRAVY_DATA_TOO_LONG);
+    HOLDS(hunkravy_decrypt_combined(variant, bytes, bytes, SIZE_MAX / 2 + 17, NULL, 0, k, n, k, n,
+                                    16) == HUNKRAVY_MESSAGE_TOO_LONG);
     HOLDS(hunkravy_verify(variant, bytes, SIZE_MAX, bytes, SIZE_MAX, k, n, k, n, mac, 17) ==
           HUNKRAVY_MESSAGE_TOO_LONG);
     HOLDS(hunkravy_verify(variant, bytes, 64, bytes, SIZE_MAX, k, n, k, n, mac, 17) ==

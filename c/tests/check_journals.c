@@ -25,83 +25,83 @@ struct commit {
     uint8_t journal[MOST_BYTES];
 };
 
-static void seal_header(const struct commit *this, uint8_t *block, uint64_t counter)
+static void seal_header(const struct commit *made, uint8_t *block, uint64_t counter)
 {
     uint8_t npub[32];
 
     fill(npub, sizeof npub);
-    HOLDS(hunkravy_page_header_seal(this->variant, block, SIZE, this->id, counter, 7, npub, this->n,
-                                    this->k, this->n) == HUNKRAVY_OK);
+    HOLDS(hunkravy_page_header_seal(made->variant, block, SIZE, made->id, counter, 7, npub, made->n,
+                                    made->k, made->n) == HUNKRAVY_OK);
 }
 
 /* ---- The format, as docs/PAGES.md defines it */
 
 /* Writes the first bytes of a journal. */
-static uint8_t *write_beginning(const struct commit *this, uint8_t *at)
+static uint8_t *write_beginning(const struct commit *made, uint8_t *at)
 {
     static const uint8_t BYTES[] = {17, 18, 20, 33, 34, 36};
 
     memset(at, 0, 512);
     memcpy(at, "AGJ1", 4);
-    at[4] = BYTES[this->variant];
-    memcpy(write_number(at + 5, SIZE, 4), this->id, sizeof this->id);
+    at[4] = BYTES[made->variant];
+    memcpy(write_number(at + 5, SIZE, 4), made->id, sizeof made->id);
     return at + 512;
 }
 
 /* Writes the journal. Its MAC is of 8 zeros and the writes. */
-static size_t write_journal(const struct commit *this, uint8_t *journal)
+static size_t write_journal(const struct commit *made, uint8_t *journal)
 {
     uint8_t input[MOST_BYTES] = {0}, nonce[32], key[16];
-    uint8_t *at = write_beginning(this, journal);
+    uint8_t *at = write_beginning(made, journal);
 
-    memcpy(at, this->nonce, sizeof this->nonce);
-    at += sizeof this->nonce;
+    memcpy(at, made->nonce, sizeof made->nonce);
+    at += sizeof made->nonce;
     for (size_t i = 0; i < WRITES; i++) {
-        at = write_number(write_number(at, this->places[i], 8), this->lengths[i], 8);
-        memcpy(at, this->writes[i], this->lengths[i]);
-        at += this->lengths[i];
+        at = write_number(write_number(at, made->places[i], 8), made->lengths[i], 8);
+        memcpy(at, made->writes[i], made->lengths[i]);
+        at += made->lengths[i];
     }
     memset(nonce, 255, sizeof nonce);
-    HOLDS(hunkravy_mac(this->variant, (const uint8_t *)"AGJ1", 4, nonce, this->n, this->k, this->n,
+    HOLDS(hunkravy_mac(made->variant, (const uint8_t *)"AGJ1", 4, nonce, made->n, made->k, made->n,
                        key, sizeof key) == HUNKRAVY_OK);
     memcpy(input + 8, journal + START, (size_t)(at - journal) - START);
-    HOLDS(hunkravy_mac(HUNKRAVY_AEGIS128L, input, 8 + (size_t)(at - journal) - START, this->nonce,
-                       sizeof this->nonce, key, sizeof key, at, MAC) == HUNKRAVY_OK);
+    HOLDS(hunkravy_mac(HUNKRAVY_AEGIS128L, input, 8 + (size_t)(at - journal) - START, made->nonce,
+                       sizeof made->nonce, key, sizeof key, at, MAC) == HUNKRAVY_OK);
     return (size_t)(at - journal) + MAC;
 }
 
 /* ---- Writing */
 
-static void check_written(const struct commit *this)
+static void check_written(const struct commit *made)
 {
     hunkravy_state st, kept;
     uint8_t journal[MOST_BYTES], *at = journal + START;
     uint8_t head[HEAD], other[MAC];
 
-    HOLDS(hunkravy_journal_init(this->variant, &st, SIZE, this->id, this->nonce, this->k, this->n,
+    HOLDS(hunkravy_journal_init(made->variant, &st, SIZE, made->id, made->nonce, made->k, made->n,
                                 journal) == HUNKRAVY_OK);
     kept = st;
     memset(head, 0x55, sizeof head);
-    HOLDS(hunkravy_journal_entry(&st, (UINT64_C(1) << 63) - 3, this->text, 3, head) ==
+    HOLDS(hunkravy_journal_entry(&st, (UINT64_C(1) << 63) - 3, made->text, 3, head) ==
           HUNKRAVY_FILE_TOO_LONG);
-    HOLDS(hunkravy_journal_entry(&st, UINT64_MAX, this->text, 3, head) == HUNKRAVY_FILE_TOO_LONG);
-    HOLDS(hunkravy_mac_update(&st, this->text, 3) == HUNKRAVY_WRONG_STATE);
+    HOLDS(hunkravy_journal_entry(&st, UINT64_MAX, made->text, 3, head) == HUNKRAVY_FILE_TOO_LONG);
+    HOLDS(hunkravy_mac_update(&st, made->text, 3) == HUNKRAVY_WRONG_STATE);
     HOLDS(hunkravy_mac_final(&st, other, MAC) == HUNKRAVY_WRONG_STATE);
     HOLDS(memcmp(&st, &kept, sizeof st) == 0 && all_are(head, sizeof head, 0x55));
     for (size_t i = 0; i < WRITES; i++) {
-        HOLDS(hunkravy_journal_entry(&st, this->places[i], this->writes[i], this->lengths[i], at) ==
+        HOLDS(hunkravy_journal_entry(&st, made->places[i], made->writes[i], made->lengths[i], at) ==
               HUNKRAVY_OK);
-        memcpy(at + HEAD, this->writes[i], this->lengths[i]);
-        at += HEAD + this->lengths[i];
+        memcpy(at + HEAD, made->writes[i], made->lengths[i]);
+        at += HEAD + made->lengths[i];
     }
     HOLDS(hunkravy_journal_final(&st, at) == HUNKRAVY_OK);
-    HOLDS((size_t)(at - journal) + MAC == this->length);
-    HOLDS(memcmp(journal, this->journal, this->length) == 0);
+    HOLDS((size_t)(at - journal) + MAC == made->length);
+    HOLDS(memcmp(journal, made->journal, made->length) == 0);
     HOLDS(all_are((const uint8_t *)&st, sizeof st, 0));
     memset(other, 0x55, sizeof other);
     HOLDS(hunkravy_journal_final(&st, other) == HUNKRAVY_WRONG_STATE);
     HOLDS(hunkravy_journal_entry(&st, 0, NULL, 0, head) == HUNKRAVY_WRONG_STATE);
-    HOLDS(hunkravy_mac_init(HUNKRAVY_AEGIS128L, &st, this->k, 16, this->k, 16) == HUNKRAVY_OK);
+    HOLDS(hunkravy_mac_init(HUNKRAVY_AEGIS128L, &st, made->k, 16, made->k, 16) == HUNKRAVY_OK);
     HOLDS(hunkravy_journal_entry(&st, 0, NULL, 0, head) == HUNKRAVY_WRONG_STATE);
     HOLDS(hunkravy_journal_final(&st, other) == HUNKRAVY_WRONG_STATE);
     HOLDS(all_are(other, sizeof other, 0x55) && all_are(head, sizeof head, 0x55));
@@ -110,15 +110,15 @@ static void check_written(const struct commit *this)
 /* ---- Reading */
 
 /* The writes in these bytes are those of the commit. */
-static void check_writes(const struct commit *this, const uint8_t *writes, size_t left)
+static void check_writes(const struct commit *made, const uint8_t *writes, size_t left)
 {
     uint64_t place = 7;
     size_t length = 8;
 
     for (size_t i = 0; i < WRITES; i++) {
         HOLDS(hunkravy_journal_next(writes, left, &place, &length) == HUNKRAVY_OK);
-        HOLDS(place == this->places[i] && length == this->lengths[i]);
-        HOLDS(memcmp(writes + HEAD, this->writes[i], length) == 0);
+        HOLDS(place == made->places[i] && length == made->lengths[i]);
+        HOLDS(memcmp(writes + HEAD, made->writes[i], length) == 0);
         writes += HEAD + length;
         left -= HEAD + length;
     }
@@ -131,55 +131,55 @@ static void check_writes(const struct commit *this, const uint8_t *writes, size_
 }
 
 /* A file that begins with these bytes gets this answer, and so much of the journal is made again. */
-static void check_answer(const struct commit *this, const uint8_t *file, size_t filelen,
+static void check_answer(const struct commit *made, const uint8_t *file, size_t filelen,
                          const uint8_t *journal, size_t journallen, int code, size_t expected)
 {
     uint8_t *copy = copied(journal, journallen);
     size_t writeslen = 9999;
 
-    HOLDS(hunkravy_journal_check(this->variant, file, filelen, this->k, this->n, copy, journallen,
+    HOLDS(hunkravy_journal_check(made->variant, file, filelen, made->k, made->n, copy, journallen,
                                  &writeslen) == code);
     HOLDS(writeslen == (code == HUNKRAVY_OK ? expected : 9999));
     HOLDS(are_equal(copy, journal, journallen));
     if (code == HUNKRAVY_OK && expected > 0) {
-        check_writes(this, copy + START, writeslen);
+        check_writes(made, copy + START, writeslen);
     }
     free(copy);
 }
 
-static void check_read(const struct commit *this)
+static void check_read(const struct commit *made)
 {
-    static const uint8_t none[BLOCK];
-    size_t whole = this->length - START - MAC;
+    static const uint8_t none[BLOCK] = {0};
+    size_t whole = made->length - START - MAC;
     uint8_t torn[MOST_BYTES], later[BLOCK];
 
-    check_answer(this, this->before, BLOCK, this->journal, this->length, HUNKRAVY_OK, whole);
-    check_answer(this, this->after, BLOCK, this->journal, this->length, HUNKRAVY_OK, whole);
-    check_answer(this, none, BLOCK, this->journal, this->length, HUNKRAVY_OK, whole);
-    check_answer(this, none, 0, this->journal, this->length, HUNKRAVY_OK, whole);
-    check_answer(this, this->after, BLOCK - 1, this->journal, this->length, HUNKRAVY_OK, whole);
-    seal_header(this, later, 6);
-    check_answer(this, later, BLOCK, this->journal, this->length, HUNKRAVY_WRONG_JOURNAL, 0);
-    for (size_t length = 0; length < this->length; length += 1 + length / 30) {
-        check_answer(this, this->before, BLOCK, this->journal, length, HUNKRAVY_OK, 0);
-        check_answer(this, none, BLOCK, this->journal, length, HUNKRAVY_INVALID_TAG, 0);
+    check_answer(made, made->before, BLOCK, made->journal, made->length, HUNKRAVY_OK, whole);
+    check_answer(made, made->after, BLOCK, made->journal, made->length, HUNKRAVY_OK, whole);
+    check_answer(made, none, BLOCK, made->journal, made->length, HUNKRAVY_OK, whole);
+    check_answer(made, none, 0, made->journal, made->length, HUNKRAVY_OK, whole);
+    check_answer(made, made->after, BLOCK - 1, made->journal, made->length, HUNKRAVY_OK, whole);
+    seal_header(made, later, 6);
+    check_answer(made, later, BLOCK, made->journal, made->length, HUNKRAVY_WRONG_JOURNAL, 0);
+    for (size_t length = 0; length < made->length; length += 1 + length / 30) {
+        check_answer(made, made->before, BLOCK, made->journal, length, HUNKRAVY_OK, 0);
+        check_answer(made, none, BLOCK, made->journal, length, HUNKRAVY_INVALID_TAG, 0);
     }
-    memcpy(torn, this->journal, this->length);
-    change_a_bit(torn + FIRST, this->length - FIRST);
-    check_answer(this, this->before, BLOCK, torn, this->length, HUNKRAVY_OK, 0);
-    check_answer(this, none, BLOCK, torn, this->length, HUNKRAVY_INVALID_TAG, 0);
+    memcpy(torn, made->journal, made->length);
+    change_a_bit(torn + FIRST, made->length - FIRST);
+    check_answer(made, made->before, BLOCK, torn, made->length, HUNKRAVY_OK, 0);
+    check_answer(made, none, BLOCK, torn, made->length, HUNKRAVY_INVALID_TAG, 0);
     for (size_t at = 0; at < FIRST; at++) {
         torn[at] ^= (uint8_t)(1 << at % 8);
-        check_answer(this, this->before, BLOCK, torn, this->length, HUNKRAVY_WRONG_JOURNAL, 0);
-        check_answer(this, this->before, BLOCK, torn, FIRST, HUNKRAVY_OK, 0);
-        check_answer(this, this->before, BLOCK, torn, FIRST + 1, HUNKRAVY_WRONG_JOURNAL, 0);
-        torn[at] = this->journal[at];
+        check_answer(made, made->before, BLOCK, torn, made->length, HUNKRAVY_WRONG_JOURNAL, 0);
+        check_answer(made, made->before, BLOCK, torn, FIRST, HUNKRAVY_OK, 0);
+        check_answer(made, made->before, BLOCK, torn, FIRST + 1, HUNKRAVY_WRONG_JOURNAL, 0);
+        torn[at] = made->journal[at];
     }
 }
 
 /* ---- What is refused */
 
-static void check_refused(const struct commit *this, uint32_t variant, uint32_t size, size_t klen,
+static void check_refused(const struct commit *made, uint32_t variant, uint32_t size, size_t klen,
                           int code)
 {
     hunkravy_state st;
@@ -187,7 +187,7 @@ static void check_refused(const struct commit *this, uint32_t variant, uint32_t 
     size_t writeslen = 9;
 
     memset(start, 0x55, sizeof start);
-    HOLDS(hunkravy_journal_init(variant, &st, size, this->id, this->nonce, k, klen, start) == code);
+    HOLDS(hunkravy_journal_init(variant, &st, size, made->id, made->nonce, k, klen, start) == code);
     HOLDS(all_are(start, sizeof start, 0x55) && all_are((const uint8_t *)&st, sizeof st, 0));
     if (code != HUNKRAVY_WRONG_PAGE_SIZE) {
         HOLDS(hunkravy_journal_check(variant, NULL, 0, k, klen, NULL, 0, &writeslen) == code);
@@ -198,30 +198,30 @@ static void check_refused(const struct commit *this, uint32_t variant, uint32_t 
 
 static void check_variant(const struct variant *variant)
 {
-    static struct commit this;
+    static struct commit made;
     const uint64_t places[WRITES] = {0, 4096, (UINT64_C(1) << 63) - 346, 0};
-    const uint8_t *const writes[WRITES] = {this.before, this.after, this.text, this.after};
-    const size_t lengths[WRITES] = {BLOCK, 0, sizeof this.text, BLOCK};
+    const uint8_t *const writes[WRITES] = {made.before, made.after, made.text, made.after};
+    const size_t lengths[WRITES] = {BLOCK, 0, sizeof made.text, BLOCK};
 
-    this.variant = variant->number;
-    this.n = variant->key_bytes;
-    fill(this.k, sizeof this.k);
-    fill(this.id, sizeof this.id);
-    fill(this.nonce, sizeof this.nonce);
-    fill(this.text, sizeof this.text);
-    seal_header(&this, this.before, 4);
-    seal_header(&this, this.after, 5);
-    memcpy(this.places, places, sizeof places);
-    memcpy(this.writes, writes, sizeof writes);
-    memcpy(this.lengths, lengths, sizeof lengths);
-    this.length = write_journal(&this, this.journal);
-    check_written(&this);
-    check_read(&this);
-    check_refused(&this, this.variant, SIZE, this.n - 1, HUNKRAVY_WRONG_KEY_LENGTH);
-    check_refused(&this, this.variant, 255, 48 - this.n, HUNKRAVY_WRONG_KEY_LENGTH);
-    check_refused(&this, this.variant, 255, this.n, HUNKRAVY_WRONG_PAGE_SIZE);
-    check_refused(&this, this.variant, 65537, this.n, HUNKRAVY_WRONG_PAGE_SIZE);
-    check_refused(&this, 6, SIZE, this.n, HUNKRAVY_WRONG_VARIANT);
+    made.variant = variant->number;
+    made.n = variant->key_bytes;
+    fill(made.k, sizeof made.k);
+    fill(made.id, sizeof made.id);
+    fill(made.nonce, sizeof made.nonce);
+    fill(made.text, sizeof made.text);
+    seal_header(&made, made.before, 4);
+    seal_header(&made, made.after, 5);
+    memcpy(made.places, places, sizeof places);
+    memcpy(made.writes, writes, sizeof writes);
+    memcpy(made.lengths, lengths, sizeof lengths);
+    made.length = write_journal(&made, made.journal);
+    check_written(&made);
+    check_read(&made);
+    check_refused(&made, made.variant, SIZE, made.n - 1, HUNKRAVY_WRONG_KEY_LENGTH);
+    check_refused(&made, made.variant, 255, 48 - made.n, HUNKRAVY_WRONG_KEY_LENGTH);
+    check_refused(&made, made.variant, 255, made.n, HUNKRAVY_WRONG_PAGE_SIZE);
+    check_refused(&made, made.variant, 65537, made.n, HUNKRAVY_WRONG_PAGE_SIZE);
+    check_refused(&made, 6, SIZE, made.n, HUNKRAVY_WRONG_VARIANT);
 }
 
 int main(void)

@@ -12,6 +12,7 @@
 #include <ucontext.h>
 
 #include "check.h"
+#include "sodium_compat.h"
 
 static uint8_t stack[1 << 18];
 static ucontext_t caller, callee;
@@ -49,7 +50,32 @@ static inline void set_to_zeros(void *bytes, size_t length) { memset(bytes, 0, l
     }
 
 DROPS(wiped, hunkravy_wipe)
+DROPS(zeroed, sodium_memzero)
 DROPS(set, set_to_zeros)
+
+/* The state of a ciphertext that is verified, as hunkravy_verify has it before it compares the tag. */
+static const uint8_t KEY[32] = {1}, NONCE[32] = {2}, CIPHERTEXT[20] = {3};
+
+static hunkravy_state state_of_verify(void)
+{
+    hunkravy_state st;
+    HOLDS(hunkravy_state_init(HUNKRAVY_AEGIS256, &st, NULL, 0, NONCE, 32, KEY, 32) == HUNKRAVY_OK);
+    HOLDS(hunkravy_state_decrypt_check(&st, CIPHERTEXT, sizeof CIPHERTEXT) == HUNKRAVY_OK);
+    return st;
+}
+
+static void verify(void)
+{
+    static const uint8_t mac[32] = {4};
+    HOLDS(hunkravy_verify(HUNKRAVY_AEGIS256, CIPHERTEXT, sizeof CIPHERTEXT, NULL, 0, NONCE, 32, KEY,
+                          32, mac, 32) == HUNKRAVY_INVALID_TAG);
+}
+
+static void keep_state(void)
+{
+    hunkravy_state st = state_of_verify();
+    place = place_of(&st);
+}
 
 /* The space keeps what a return from here writes away from the function's bytes. */
 static void call(void)
@@ -60,8 +86,8 @@ static void call(void)
     space[1] = space[0];
 }
 
-/* Whether the `length` bytes of the secret are zeros, after the function that had it. */
-static int is_zeros_after(void (*function)(void), size_t length)
+/* Runs a function on the array. */
+static void run(void (*function)(void))
 {
     memset(stack, 0x55, sizeof stack);
     drops = function;
@@ -71,8 +97,27 @@ static int is_zeros_after(void (*function)(void), size_t length)
     callee.uc_link = &caller;
     makecontext(&callee, call, 0);
     HOLDS(swapcontext(&caller, &callee) == 0);
+}
+
+/* Whether the `length` bytes of the secret are zeros, after the function that had it. */
+static int is_zeros_after(void (*function)(void), size_t length)
+{
+    run(function);
     HOLDS(place < sizeof stack - length);
     return all_are(stack + place, length, 0);
+}
+
+/* Whether the state of a ciphertext that is verified is somewhere in the array, after a function. */
+static int leaves_state(void (*function)(void))
+{
+    hunkravy_state st = state_of_verify();
+    run(function);
+    for (size_t i = 0; i + sizeof st <= sizeof stack; i += sizeof(uint64_t)) {
+        if (memcmp(stack + i, &st, sizeof st) == 0) {
+            return 1;
+        }
+    }
+    return 0;
 }
 
 int main(void)
@@ -81,6 +126,9 @@ int main(void)
 
     HOLDS(is_zeros_after(wiped_key, 32));
     HOLDS(is_zeros_after(wiped_state, sizeof(hunkravy_state)));
+    HOLDS(is_zeros_after(zeroed_key, 32));
+    HOLDS(is_zeros_after(zeroed_state, sizeof(hunkravy_state)));
+    HOLDS(!leaves_state(verify) && leaves_state(keep_state));
     HOLDS(!is_zeros_after(set_key, 32));
     HOLDS(!is_zeros_after(set_state, sizeof(hunkravy_state)));
     hunkravy_wipe(bytes + 1, 1);

@@ -1,4 +1,4 @@
-"""The AEGIS ciphers, their MACs, sealed files, and random-access files.
+"""The AEGIS ciphers, their MACs, record streams, sealed files, and random-access files.
 
 A message is encrypted in one call or in chunks. A decrypted message is returned only after its tag is verified:
 
@@ -43,6 +43,7 @@ from ._macs import (
 )
 from ._native import LEVEL as _LEVEL, InvalidTag
 from ._random_access import RandomAccessError, RandomAccessFile, RandomAccessStream
+from ._records import RecordError, RecordOpener, RecordSealer
 from ._version import VERSION as __version__
 
 __all__ = [
@@ -66,6 +67,9 @@ __all__ = [
     "RandomAccessError",
     "RandomAccessFile",
     "RandomAccessStream",
+    "RecordError",
+    "RecordOpener",
+    "RecordSealer",
     "SealedFileError",
     "SealedReader",
     "SealedWriter",

@@ -2,19 +2,26 @@
 
 from __future__ import annotations
 
-import contextlib
 import errno
 import io
 import operator
 import os
 import re
-import sys
-import threading
 import warnings
 from types import TracebackType
-from typing import TYPE_CHECKING, Any, BinaryIO, ContextManager, NoReturn, Optional, Self, Union
+from typing import TYPE_CHECKING, Any, BinaryIO, NoReturn, Optional, Self, Union
 
-from . import _native, _variants as variants
+from . import _native, _turns as turns, _variants as variants
+from ._records import (
+    HEAD_BYTES,
+    HEADER,
+    PREFIX_BYTES,
+    RECORD_BYTES,
+    TAG_BYTES,
+    Fault,
+    RecordError,
+    length_of_record,
+)
 
 if TYPE_CHECKING:
     from _typeshed import ReadableBuffer as _ReadableBuffer, WriteableBuffer as _WriteableBuffer
@@ -29,42 +36,26 @@ if TYPE_CHECKING:
 else:
     RawFile = io.RawIOBase
 
-PREFIX_BYTES = 24
-HEADER = b"AGR2"
-HEAD_BYTES = 5
-TAG_BYTES = 32
-RECORD_BYTES = HEAD_BYTES + TAG_BYTES
-# A piece of the contents is the message of a record. These are those that are written, and the longest that is read.
+# A piece of the contents is the message of a record. These are those that are written.
 PIECE_BYTES = 1 << 16
-MOST_PIECE_BYTES = 1 << 24
+CONTEXT = b"hunkravy v1"
 
 # 64 digits, and at most two bytes of white space.
 KEY_FILE = re.compile(rb"([0-9A-Fa-f]{64})(?:\s{0,2}|\xc2[\x85\xa0])")
 
-CAUSES = {
-    "header": "not a sealed file: bytes 24 to 27 are not AGR2",
-    "truncated": "the file is truncated",
-    "flag": "the first byte of record {} is neither 0 nor 1",
-    "too_long": "the length of record {} is more than 16 MiB",
-    "damaged": "record {} is damaged, or the key is wrong",
-    "trailing": "bytes follow the last record",
-}
 
-
-class SealedFileError(ValueError):
+class SealedFileError(Fault):
     """The file is not a sealed file, is damaged or truncated, or the key is wrong.
 
     `cause` is "header", "truncated", "flag", "too_long", "damaged" or "trailing". `record` is the number of the record
     that was read, counted from 0.
     """
 
-    def __init__(self, cause: str, record: int) -> None:
-        super().__init__(cause, record)
-        self.cause = cause
-        self.record = record
-
-    def __str__(self) -> str:
-        return CAUSES[self.cause].format(self.record)
+    causes = RecordError.causes | {
+        "header": "not a sealed file: bytes 24 to 27 are not AGR2",
+        "truncated": "the file is truncated",
+        "damaged": "record {} is damaged, or the key is wrong",
+    }
 
 
 def read_key(path: Union[str, os.PathLike[str]]) -> bytes:
@@ -89,28 +80,14 @@ def bytes_of(view: memoryview) -> memoryview:
     return view.cast("B") if view.nbytes else memoryview(b"")
 
 
-class Sealed(variants.Secret, RawFile):  # type: ignore[misc]
-    """What readers and writers share: the file beneath, and a lock, so that threads take turns."""
+class Sealed(variants.Secret, turns.Turns, RawFile):  # type: ignore[misc]
+    """What readers and writers share: the file beneath, and turns of threads."""
 
     _can_read = _can_write = _can_seek = False
 
     def __init__(self, file: BinaryIO) -> None:
+        super().__init__()
         self._file = file
-        self._lock = threading.RLock()
-
-    def _turn(self) -> ContextManager[Any]:
-        """Returns the lock. There is none if `__init__` has raised, and this thread may hold it in a method beneath."""
-        lock: Any = vars(self).get("_lock")
-        if lock is None:
-            return contextlib.nullcontext()
-        if lock._is_owned():
-            raise RuntimeError("reentrant call")
-        if sys.is_finalizing():
-            # A thread that has it never goes on.
-            if not lock.acquire(blocking=False):
-                raise RuntimeError("a method is called in another thread, and the interpreter ends")
-            lock.release()
-        return lock  # type: ignore[no-any-return]
 
     def _check_open(self) -> None:
         if self.closed:
@@ -156,7 +133,7 @@ class SealedWriter(Sealed):
         super().__init__(file)
         self._is_entered = False
         prefix = os.urandom(PREFIX_BYTES)
-        self._records = _native.Records(key, prefix)
+        self._records = _native.Records(key, prefix, CONTEXT)
         self._record = bytearray(RECORD_BYTES + PIECE_BYTES)
         self._filled = 0
         self._length = 0
@@ -298,7 +275,7 @@ class SealedReader(Sealed):
         self._read_record(PREFIX_BYTES + len(HEADER))
         if self._record[PREFIX_BYTES:] != HEADER:
             raise SealedFileError("header", 0)
-        self._records = _native.Records(key, self._record[:PREFIX_BYTES])
+        self._records = _native.Records(key, self._record[:PREFIX_BYTES], CONTEXT)
         self._begin_at(0, 0)
 
     def write(self, data: _ReadableBuffer, /) -> NoReturn:
@@ -442,19 +419,12 @@ class SealedReader(Sealed):
             raise self._fault("trailing")
 
     def _read_head(self) -> int:
-        """Reads the head of the next record, and returns the length of its piece, which is not verified."""
+        """Reads the head of the next record, and returns the record's length, which is not verified."""
         self._read_record(HEAD_BYTES)
-        if self._record[:1] > b"\1":
-            raise self._fault("flag")
-        if len(self._record) < HEAD_BYTES:
-            raise self._fault("truncated")
-        length = int.from_bytes(self._record[1:HEAD_BYTES], "little")
-        if length > MOST_PIECE_BYTES:
-            raise self._fault("too_long")
-        return length
+        return length_of_record(self._record, self._fault)
 
     def _open_next(self) -> None:
-        length = RECORD_BYTES + self._read_head()
+        length = self._read_head()
         self._read_record(length)
         if len(self._record) < length:
             raise self._fault("truncated")
@@ -491,7 +461,7 @@ class SealedReader(Sealed):
         while True:
             self._file.seek(self._first + PREFIX_BYTES + len(HEADER) + RECORD_BYTES * number + before)
             self._record, self._number = bytearray(), number
-            length = self._read_head()
+            length = self._read_head() - RECORD_BYTES
             if self._record[0] == 1 or (position is not None and position < before + length):
                 break
             if length == 0:

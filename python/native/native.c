@@ -28,10 +28,6 @@
 /* Slots of types have functions as `void *`, which POSIX converts to and ISO C does not. */
 #define SLOT(function) (__extension__(void *)(function))
 
-/* The context of sealed files, without its last byte, which is zero. */
-static const uint8_t CONTEXT[] = "hunkravy v1";
-#define CONTEXT_BYTES (sizeof CONTEXT - 1)
-
 /* ---- What the types share */
 
 /* Returns what has a name in the module of an object, or null with an exception. */
@@ -797,11 +793,13 @@ static PyMethodDef cipher_methods[] = {
     {NULL, NULL, 0, NULL},
 };
 
-/* ---- The record stream of a sealed file */
+/* ---- A record stream */
 
 typedef struct {
     PyObject_HEAD
     PyThread_type_lock lock;
+    /* The bytes of the context, which the stream points to. */
+    PyObject *context;
     uint8_t key[HUNKRAVY_RECORD_KEY_BYTES];
     uint8_t prefix[HUNKRAVY_RECORD_PREFIX_BYTES];
     hunkravy_record_stream stream;
@@ -810,15 +808,17 @@ typedef struct {
 static PyObject *records_new(PyTypeObject *type, PyObject *arguments, PyObject *named)
 {
     Py_buffer key, prefix;
+    PyObject *context;
     Records *self = NULL;
     (void)named;
-    if (!PyArg_ParseTuple(arguments, "y*y*", &key, &prefix)) {
+    if (!PyArg_ParseTuple(arguments, "y*y*S", &key, &prefix, &context)) {
         return NULL;
     }
     if (has_length("the key", key.len, sizeof self->key) && has_length("the prefix", prefix.len, sizeof self->prefix)) {
         self = new_object(type);
     }
     if (self != NULL) {
+        self->context = Py_NewRef(context);
         copy(self->key, key.buf, sizeof self->key);
         copy(self->prefix, prefix.buf, sizeof self->prefix);
     }
@@ -829,6 +829,7 @@ static PyObject *records_new(PyTypeObject *type, PyObject *arguments, PyObject *
 
 static void records_free(PyObject *object)
 {
+    Py_XDECREF(((Records *)object)->context);
     free_object(object, sizeof(Records));
 }
 
@@ -841,13 +842,15 @@ static PyObject *records_begin(PyObject *object, PyObject *given)
     Records *self = (Records *)object;
     uint8_t header[HUNKRAVY_RECORD_HEADER_BYTES];
     unsigned long long number = 0, before = 0;
+    const uint8_t *context = (const uint8_t *)PyBytes_AsString(self->context);
+    size_t length = (size_t)PyBytes_Size(self->context);
     if (!PyArg_ParseTuple(given, "|KK", &number, &before)) {
         return NULL;
     }
     PyThreadState *released = lock(self, 0);
     int code = PyTuple_Size(given) == 0
-        ? hunkravy_record_begin(&self->stream, self->key, self->prefix, CONTEXT, CONTEXT_BYTES, header)
-        : hunkravy_record_begin_open_at(&self->stream, self->key, self->prefix, CONTEXT, CONTEXT_BYTES, number, before);
+        ? hunkravy_record_begin(&self->stream, self->key, self->prefix, context, length, header)
+        : hunkravy_record_begin_open_at(&self->stream, self->key, self->prefix, context, length, number, before);
     unlock(self, released);
     return result_of(object, code, Py_NewRef(Py_None));
 }

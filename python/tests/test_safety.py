@@ -153,7 +153,7 @@ class Begun(unittest.TestCase):
 
     def test_record_streams(self) -> None:
         """Records out of turn or of no length that records have."""
-        records = _native.Records(KEY, bytes(24))
+        records = _native.Records(KEY, bytes(24), b"context")
         calls: list[tuple[type[Exception], Callable[[], object]]] = [
             (RuntimeError, lambda: records.seal(bytearray(40), False)),
             (RuntimeError, lambda: records.open(bytearray(40))),
@@ -319,7 +319,7 @@ class Memory(unittest.TestCase):
 
         calls: list[Callable[[], object]] = [
             fails, lambda: Aegis256(KEY), lambda: CIPHER.encryptor(NONCE), lambda: Aegis256Mac(KEY).copy(),
-            lambda: _native.Records(KEY, bytes(24)),
+            lambda: _native.Records(KEY, bytes(24), b"context"),
         ]
         kinds = (hunkravy.InvalidTag, _native.Cipher, _native.State, _native.Records)
         before = [sys.getrefcount(kind) for kind in kinds]

@@ -26,7 +26,7 @@ def samples(page: pathlib.Path) -> list[str]:
 
 class Samples(unittest.TestCase):
     def test_each_page(self) -> None:
-        for page, count in ((HERE.parent / "README.md", 3), (HERE.parents[1] / "README.md", 1)):
+        for page, count in ((HERE.parent / "README.md", 4), (HERE.parents[1] / "README.md", 1)):
             found = samples(page)
             self.assertGreaterEqual(len(found), count, page)
             names: dict[str, object] = {}
@@ -47,7 +47,7 @@ class Samples(unittest.TestCase):
                 self.assertTrue(name.startswith("_") or is_named, name)
 
     def test_each_module(self) -> None:
-        for name, count in (("", 5), ("._ciphers", 13), ("._macs", 5)):
+        for name, count in (("", 5), ("._ciphers", 13), ("._macs", 5), ("._records", 6)):
             module = importlib.import_module(f"hunkravy{name}")
             failed, attempted = doctest.testmod(module)
             self.assertEqual(failed, 0, name)
@@ -99,7 +99,7 @@ class Example(unittest.TestCase):
 class Found(unittest.TestCase):
     def test_no_test_is_left_out(self) -> None:
         found = unittest.defaultTestLoader.discover(str(HERE))
-        self.assertEqual(found.countTestCases(), 111)
+        self.assertEqual(found.countTestCases(), 118)
 
 
 if __name__ == "__main__":

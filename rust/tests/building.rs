@@ -71,11 +71,21 @@ impl Script {
         printed.lines().map(str::to_owned).collect()
     }
 
-    /// A folder with an archive in it.
+    /// A folder with an archive in it, for x86-64.
     fn with_archive(&self, name: &str) -> PathBuf {
+        self.with_archive_for(name, 62)
+    }
+
+    /// The same for the processor that ELF has this number for.
+    fn with_archive_for(&self, name: &str, machine: u8) -> PathBuf {
         let folder = self.package.join(name);
         fs::create_dir_all(&folder).unwrap();
-        fs::write(folder.join("libhunkravy.a"), "").unwrap();
+        let object = b"!<arch>\n(its names)\x7fELF\x02\x01\x01\0\0\0\0\0\0\0\0\0\x01\0";
+        fs::write(
+            folder.join("libhunkravy.a"),
+            [&object[..], &[machine, 0, 1]].concat(),
+        )
+        .unwrap();
         folder.canonicalize().unwrap()
     }
 }
@@ -181,6 +191,29 @@ fn the_library_that_is_found() {
     finds(&[("HUNKRAVY_LIB_DIR", &*empty), by_program], None);
 }
 
+/// A library for another processor is not linked, whoever gives it.
+#[test]
+fn the_library_of_another_processor() {
+    let script = Script::new("another-processor");
+    let (own, other) = (62, 183);
+    for (target, machine, is_linked) in [
+        ("x86_64-unknown-linux-gnu", own, true),
+        ("x86_64-unknown-linux-musl", other, false),
+        ("x86_64-unknown-linux-gnu", 0, false),
+        ("aarch64-unknown-linux-gnu", own, false),
+        ("aarch64-unknown-linux-musl", other, true),
+    ] {
+        for variable in ["HUNKRAVY_LIB_DIR", "NONE"] {
+            let named = script.with_archive_for("named", machine);
+            script.with_archive_for("lib", machine);
+            let printed = script.run(&[("TARGET", Path::new(target)), (variable, &named)]);
+            let has = |text: &str| printed.iter().any(|line| line.contains(text));
+            assert_eq!(has("link-search"), is_linked, "{printed:?}");
+            assert!(is_linked || has(&format!("is not for {}", target.split('-').next().unwrap())));
+        }
+    }
+}
+
 const MANIFEST: &str = r#"
 [package]
 name = "NAME"
@@ -278,6 +311,18 @@ fn manifests_of_the_crate_aegis() {
         );
         assert!(is_built || printed.contains("error[E"), "{printed}");
     }
+}
+
+/// A manifest that keeps the version of the crate `aegis` fails, and the page says so.
+#[test]
+fn a_version_of_the_crate_aegis() {
+    let dependency = "aegis = { package = \"hunkravy\", version = \"0.9\", PATH }";
+    let (is_built, printed) = cargo("check", "with_ciphers", "of-version", dependency);
+    assert!(
+        !is_built && printed.contains("failed to select a version"),
+        "{printed}"
+    );
+    assert!(include_str!("../README.md").contains("Remove a `version = \"0.9\"` from that line"));
 }
 
 /// Whoever drops a message, a tag, a state or an error is warned.

@@ -1,0 +1,137 @@
+"""Record streams: what they give back, at each position, and each damaged stream that the tests of the tool read too."""
+
+import array
+import concurrent.futures
+import io
+import unittest
+from typing import Any, Callable
+
+import test_files
+from hunkravy import RecordError, RecordOpener, RecordSealer
+
+KEY, PREFIX, CONTEXT = bytes(range(32)), bytes(range(24)), b"a context"
+
+
+def stream(messages: list[bytes], context: bytes = CONTEXT) -> list[bytes]:
+    """The header and the records of a stream."""
+    sealer = RecordSealer(KEY, PREFIX, context)
+    return [sealer.header, *map(sealer.seal, messages[:-1]), sealer.seal_last(messages[-1])]
+
+
+def read(opener: RecordOpener, file: io.BytesIO) -> list[bytes]:
+    """The messages of a stream that comes from a file."""
+    messages = []
+    while not opener.has_ended:
+        head = file.read(5)
+        messages.append(opener.open(head + file.read(opener.record_length(head) - 5)))
+    opener.finish(file.read())
+    return messages
+
+
+class Streams(unittest.TestCase):
+    def test_messages(self) -> None:
+        for messages in ([b""], [b"one", b"", b"three"], [bytes(1 << 16), b"x" * 100]):
+            header, *records = stream(messages)
+            opener = RecordOpener(KEY, PREFIX, CONTEXT, header)
+            self.assertEqual(read(opener, io.BytesIO(b"".join(records))), messages)
+            self.assertEqual(opener.position, (len(messages), sum(map(len, messages))))
+
+    def test_positions(self) -> None:
+        messages = [b"one", b"", b"three"]
+        _, *records = stream(messages)
+        for number in range(3):
+            before = sum(map(len, messages[:number]))
+            opener = RecordOpener.at(KEY, PREFIX, CONTEXT, number, before)
+            self.assertEqual(opener.position, (number, before))
+            self.assertEqual([opener.open(record) for record in records[number:]], messages[number:])
+            opener.finish()
+            for wrong in ((number + 1, before), (number, before + 1)):
+                with self.assertRaisesRegex(RecordError, "^record . is damaged"):
+                    RecordOpener.at(KEY, PREFIX, CONTEXT, *wrong).open(records[number])
+        self.assertRaises(ValueError, RecordOpener.at, KEY, PREFIX, CONTEXT, 1 << 60, 1 << 60)
+
+    def test_a_stream_has_a_key_a_prefix_and_a_context(self) -> None:
+        header, record = stream([b"a message"])
+        for key, prefix, context in ((bytes(32), PREFIX, CONTEXT), (KEY, bytes(24), CONTEXT), (KEY, PREFIX, b"")):
+            with self.assertRaises(RecordError) as raised:
+                RecordOpener(key, prefix, context, header).open(record)
+            self.assertEqual((raised.exception.cause, raised.exception.record), ("damaged", 0))
+        self.assertEqual(len({RecordSealer.generate_prefix() for _ in range(64)}), 64)
+
+    def test_each_damaged_stream(self) -> None:
+        """Its fault is that of the sealed file, and stays."""
+        count = 0
+        for name, data, key, cause, verified in test_files.damaged_files():
+            if len(data) < 28:
+                continue
+            with self.subTest(name):
+                file, found = io.BytesIO(data[28:]), b""
+                try:
+                    opener = RecordOpener(key, data[:24], b"hunkravy v1", data[24:28])
+                    while not opener.has_ended:
+                        head = file.read(5)
+                        found += opener.open(head + file.read(opener.record_length(head) - 5))
+                    opener.finish(file.read())
+                    said = "none"
+                except RecordError as error:
+                    said = f"damaged {error.record}" if error.cause == "damaged" else error.cause
+                    if said != "header":
+                        self.assert_stays(opener, error)
+                self.assertEqual((said, len(found)), (cause, verified))
+                self.assertTrue(test_files.Damaged.contents.startswith(found) or found == b"xyz")
+            count += 1
+        self.assertGreater(count, 100)
+
+    def assert_stays(self, opener: RecordOpener, error: RecordError) -> None:
+        calls: list[Callable[[], object]] = [
+            lambda: opener.open(bytes(37)), lambda: opener.record_length(bytes(5)), opener.finish,
+        ]
+        for call in calls:
+            with self.assertRaises(RecordError) as again:
+                call()
+            self.assertEqual(again.exception.args, error.args)
+
+    def test_after_the_end(self) -> None:
+        sealer = RecordSealer(KEY, PREFIX)
+        record = sealer.seal_last(b"last")
+        for seal in (sealer.seal, sealer.seal_last):
+            self.assertRaises(RuntimeError, seal, b"more")
+        opener = RecordOpener(KEY, PREFIX, b"", sealer.header)
+        opener.open(record)
+        with self.assertRaisesRegex(RecordError, "^bytes follow the last record$"):
+            opener.open(record)
+
+    def test_wrong_arguments(self) -> None:
+        """They change nothing."""
+        sealer = RecordSealer(KEY, PREFIX, array.array("I", [1]))
+        self.assertRaisesRegex(ValueError, "too long", sealer.seal, bytes((1 << 24) + 1))
+        self.assertRaises(TypeError, sealer.seal, "text")
+        self.assertRaises(ValueError, RecordSealer, KEY, PREFIX, bytes(1 << 16))
+        self.assertRaises(ValueError, RecordSealer, KEY, bytes(23))
+        self.assertRaises(ValueError, RecordSealer, bytes(31), PREFIX)
+        opener = RecordOpener(KEY, PREFIX, bytes(array.array("I", [1])), sealer.header)
+        record = sealer.seal(array.array("I", [7]))
+        wrong: list[Any] = [record + b"?", "text", None]
+        for data in wrong:
+            with self.assertRaises((TypeError, ValueError)):
+                opener.open(data)
+        self.assertEqual(opener.open(record), bytes(array.array("I", [7])))
+
+    def test_threads(self) -> None:
+        """Each message has a record of its own."""
+        sealer = RecordSealer(KEY, PREFIX)
+        with concurrent.futures.ThreadPoolExecutor(8) as threads:
+            records = list(threads.map(sealer.seal, [bytes(5000)] * 50))
+        numbers = set()
+        for record in records:
+            for number in range(50):
+                try:
+                    RecordOpener.at(KEY, PREFIX, b"", number, 5000 * number).open(record)
+                    numbers.add(number)
+                except RecordError:
+                    pass
+        self.assertEqual(numbers, set(range(50)))
+
+
+if __name__ == "__main__":
+    unittest.main()
