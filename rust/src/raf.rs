@@ -120,7 +120,8 @@ pub const MAX_SIZE: u64 = 1 << 60;
 /// dropping does nothing there.
 ///
 /// If memory runs out, the error is [`Error::Io`] of kind [`OutOfMemory`](std::io::ErrorKind::OutOfMemory), and nothing has
-/// changed. Exceptions: the standard library ends the program if it finds none for a path of more than 383 bytes or a message.
+/// changed. Exceptions: the standard library ends the program if it finds none for the text of an error, or for a path while a
+/// file is opened. Opening checks first that there are 64 KiB.
 #[must_use]
 pub struct Raf<A: Algorithm, I: RafIo = FileIo, R: RafRng = DefaultRng, J: RafIo = JournalFile> {
     io: I,

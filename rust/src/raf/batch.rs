@@ -46,7 +46,7 @@ struct Savepoint {
 struct Batch<'a, A: Algorithm, I: RafIo, R: RafRng, J: RafIo> {
     file: &'a mut Raf<A, I, R, J>,
     number: u64,
-    /// That of a batch inside another, which has the same number.
+    /// A batch inside another has one, and the same number.
     savepoint: Option<Savepoint>,
     is_complete: bool,
 }

@@ -2,7 +2,7 @@
 
 use super::system::{lock, take_room, unlock};
 use super::{Error, Result};
-use crate::memory::zeros;
+use crate::memory::{check_memory, zeros};
 use alloc::vec::Vec;
 use std::ffi::{OsStr, OsString};
 use std::fs::{self, File, Metadata, OpenOptions, Permissions};
@@ -139,6 +139,7 @@ impl FileIo {
     }
 
     fn with(options: &mut OpenOptions, path: &Path) -> Result<Self> {
+        check_memory()?;
         let file = options.read(true).write(true).open(path)?;
         Ok(Self::of(file, Some(resolved(path)?)))
     }
@@ -475,6 +476,7 @@ fn is_same(one: &Metadata, other: &Metadata) -> bool {
 
 /// Returns the path of the journal of a file, of which there need not be one yet.
 pub(super) fn journal_path(path: &Path) -> io::Result<PathBuf> {
+    check_memory()?;
     Ok(with_journal(&resolved(path)?))
 }
 
