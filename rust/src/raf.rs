@@ -525,6 +525,27 @@ mod tests {
         }
     }
 
+    /// The counter of commits does not begin again.
+    #[test]
+    fn the_last_commit() {
+        let header = PageHeader {
+            page_size: 256,
+            ..PageHeader::default()
+        };
+        let layout = Layout::<Aegis256>::of(&[7; 32], &header);
+        for (counter, is_last) in [(u64::MAX, true), (u64::MAX - 1, false)] {
+            let header_block = layout.header(counter, 0, &[1; 32]).to_vec();
+            let builder = RafBuilder::<Aegis256>::with_rng(Zeros).journal(NoJournal);
+            let mut file = builder.open(Header(header_block), &[7; 32]).unwrap();
+            file.write(&[1], 0).unwrap();
+            let committed = file.commit();
+            assert_eq!(matches!(committed, Err(Error::TooLong)), is_last);
+            // This storage cannot grow.
+            assert_eq!(matches!(committed, Err(Error::Io(_))), !is_last);
+            file.discard();
+        }
+    }
+
     /// The last byte of the longest contents may be written, and none after it.
     #[test]
     fn the_longest_contents() {

@@ -621,10 +621,11 @@ pub(super) fn read_all(io: &mut impl RafIo) -> io::Result<Vec<u8>> {
 
 #[cfg(test)]
 mod tests {
-    use super::{FileIo, JournalFile, RafIo, mode_beside, sync_folder, with_journal};
+    use super::{FileIo, JournalFile, RafIo, mode_beside, new_journal, open_same};
+    use super::{sync_folder, with_journal};
     use alloc::format;
     use std::fs::{self, File, Permissions};
-    use std::os::unix::fs::{MetadataExt, PermissionsExt, chown};
+    use std::os::unix::fs::{MetadataExt, PermissionsExt, chown, symlink};
     use std::path::Path;
 
     /// A device, which the system can neither sync nor cut: so each of these calls reaches the system.
@@ -703,6 +704,29 @@ mod tests {
             fs::remove_file(&at).unwrap();
         }
         fs::remove_file(&path).unwrap();
+    }
+
+    /// A new journal is for its owner alone until it has the mode of its file. It takes no other file and follows no link. What
+    /// was found at a path is what is opened.
+    #[test]
+    fn new_journals() {
+        let path = std::env::temp_dir().join(format!("hunkravy-new-{}", std::process::id()));
+        let (at, other) = (with_journal(&path), path.with_extension("other"));
+        let made = new_journal(&at).unwrap().metadata().unwrap();
+        assert_eq!(
+            made.mode() & 0o777,
+            0o600,
+            "there is no file whose mode it gets"
+        );
+        assert!(new_journal(&at).is_err());
+        fs::write(&other, "another").unwrap();
+        let found = fs::symlink_metadata(&at).unwrap();
+        assert!(open_same(&at, &found).is_ok() && open_same(&other, &found).is_err());
+        fs::remove_file(&at).unwrap();
+        fs::remove_file(&other).unwrap();
+        symlink(&other, &at).unwrap();
+        assert!(new_journal(&at).is_err() && !other.exists());
+        fs::remove_file(&at).unwrap();
     }
 
     /// The mode of a journal is that for the group that it gets.
