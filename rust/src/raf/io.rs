@@ -1,6 +1,6 @@
 //! Storages of a file and of its journal.
 
-use super::system::{lock, take_room, unlock};
+use super::system::{Process, lock, take_room, unlock};
 use super::{Error, Result};
 use crate::memory::{check_memory, zeros};
 use alloc::vec::Vec;
@@ -10,7 +10,6 @@ use std::io;
 use std::os::unix::ffi::OsStrExt;
 use std::os::unix::fs::{FileExt, MetadataExt, OpenOptionsExt, PermissionsExt, fchown};
 use std::path::{Path, PathBuf};
-use std::process;
 
 /// A storage: bytes that are read and written at any place.
 ///
@@ -93,7 +92,7 @@ pub struct FileIo {
     path: Option<PathBuf>,
     is_name_synced: bool,
     /// The process that opened it: a copy of the descriptor in another shares its lock.
-    owner: u32,
+    owner: Option<Process>,
     is_locked: bool,
     /// Whether the file was made for this one, and has no header yet. Dropping then removes it.
     is_unfinished: bool,
@@ -115,7 +114,7 @@ impl FileIo {
             file,
             is_name_synced: path.is_none(),
             path,
-            owner: process::id(),
+            owner: Process::this().ok(),
             is_locked: false,
             is_unfinished: false,
         }
@@ -142,6 +141,11 @@ impl FileIo {
         check_memory()?;
         let file = options.read(true).write(true).open(path)?;
         Ok(Self::of(file, Some(resolved(path)?)))
+    }
+
+    /// Returns whether this process has opened it.
+    fn is_here(&self) -> bool {
+        self.owner.is_some_and(Process::is_this)
     }
 
     /// Returns [`Error::Moved`] unless the file is the one at its path, and has no other name.
@@ -196,7 +200,7 @@ impl RafIo for FileIo {
     }
 
     fn lock(&mut self) -> Result<()> {
-        if self.owner != process::id() {
+        if !self.is_here() {
             return Err(Error::Locked);
         }
         if let Err(error) = lock(&self.file) {
@@ -227,7 +231,7 @@ impl RafIo for FileIo {
 /// open, such as in a process that is being started.
 impl Drop for FileIo {
     fn drop(&mut self) {
-        if self.owner != process::id() {
+        if !self.is_here() {
             return;
         }
         if let (Some(path), true) = (&self.path, self.is_unfinished) {
@@ -657,7 +661,7 @@ mod tests {
         let mut io = FileIo::create(&path).unwrap();
         io.lock().unwrap();
         let in_this_one = io.file.try_clone().unwrap();
-        io.owner = 0;
+        io.owner = None;
         drop(io);
         let mut other = FileIo::open(&path).unwrap();
         assert!(other.lock().is_err());
