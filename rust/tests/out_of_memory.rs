@@ -134,7 +134,8 @@ fn call(done: impl FnOnce() -> Result<()>) -> io::Result<()> {
 fn changes_of_a_file() {
     let path = path("changes");
     let is_kept = |file: &mut Raf<Aegis256>| text_of(file) == contents();
-    let calls: [fn(&mut Raf<Aegis256>) -> Result<()>; 6] = [
+    type Call = fn(&mut Raf<Aegis256>) -> Result<()>;
+    let calls: [Call; 6] = [
         |file| file.write(&[3; 60_000], 7).map(|_| ()),
         |file| file.write(&[3], 45_000).map(|_| ()),
         |file| file.truncate(70_000),

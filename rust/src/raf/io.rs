@@ -710,8 +710,8 @@ mod tests {
         fs::remove_file(&path).unwrap();
     }
 
-    /// A new journal is for its owner alone until it has the mode of its file. It takes no other file and follows no link. What
-    /// was found at a path is what is opened.
+    /// A new journal is for its owner alone until it has the mode of its file. It takes no other file and follows no link. Opening
+    /// rejects any other file than was found.
     #[test]
     fn new_journals() {
         let path = std::env::temp_dir().join(format!("hunkravy-new-{}", std::process::id()));
