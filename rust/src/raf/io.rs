@@ -84,7 +84,7 @@ pub trait RafIo {
 ///
 /// A file that was opened through a path and has several names (hard links) is rejected, since each name would have a journal.
 /// Any user who may read the file can lock it, and so keep all others out. It belongs to the process that opened it: after a fork
-/// no other process can lock it.
+/// no other process can lock it. The first commit syncs the folder, which the user must be able to read.
 #[derive(Debug)]
 pub struct FileIo {
     file: File,
@@ -626,8 +626,8 @@ pub(super) fn read_all(io: &mut impl RafIo) -> io::Result<Vec<u8>> {
 #[cfg(test)]
 mod tests {
     use super::{FileIo, JournalFile, RafIo, mode_beside, new_journal, open_same};
-    use super::{sync_folder, with_journal};
-    use alloc::format;
+    use super::{sync_folder, with_journal, write_zeros};
+    use alloc::{format, vec};
     use std::fs::{self, File, Permissions};
     use std::os::unix::fs::{MetadataExt, PermissionsExt, chown, symlink};
     use std::path::Path;
@@ -765,6 +765,22 @@ mod tests {
             assert_eq!(mode_beside(of, true), in_its_group, "{of:o}");
             assert_eq!(mode_beside(of, false), in_another, "{of:o}");
         }
+    }
+
+    /// Zeros are written in the place of room that a file system cannot take, and nowhere else.
+    #[test]
+    fn zeros_for_room() {
+        let path = std::env::temp_dir().join(format!("hunkravy-zeros-{}", std::process::id()));
+        for (from, end) in [(100, 200_000), (300, 301), (5, 5), (65_536, 131_072)] {
+            fs::write(&path, [7; 300]).unwrap();
+            let file = File::options().write(true).open(&path).unwrap();
+            write_zeros(&file, from, end).unwrap();
+            let mut expected = vec![7; 300];
+            expected.resize(300.max(if from < end { end as usize } else { 0 }), 0);
+            expected[300.min(from as usize)..].fill(if from < end { 0 } else { 7 });
+            assert!(fs::read(&path).unwrap() == expected, "{from} {end}");
+        }
+        fs::remove_file(&path).unwrap();
     }
 
     /// An empty journal is removed when it is opened, whoever may open it, and another file of its name is not.
