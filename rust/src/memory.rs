@@ -1,6 +1,7 @@
 //! Memory that may run out.
 
 use alloc::vec::Vec;
+use core::hint::black_box;
 use std::io::{self, ErrorKind};
 
 /// Returns an empty vector with room for this number of values, or an error if memory runs out.
@@ -16,4 +17,10 @@ pub(crate) fn zeros(count: usize) -> io::Result<Vec<u8>> {
     let mut bytes = with_room(count)?;
     bytes.resize(count, 0);
     Ok(bytes)
+}
+
+/// Returns an error if memory has run out, before calls of the standard library that would end the program.
+pub(crate) fn check_memory() -> io::Result<()> {
+    black_box(with_room::<u8>(65_536)?);
+    Ok(())
 }

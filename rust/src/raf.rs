@@ -83,7 +83,7 @@ use layout::{HEADER_BLOCK_BYTES, Layout};
 use std::io::ErrorKind;
 #[cfg(feature = "raf")]
 use std::path::Path;
-use std::process;
+use system::Process;
 
 /// Returns the default size of a page, in bytes of contents. A page then fills a block of 4,096 bytes: it has 4,048 for
 /// algorithms with nonces of 16 bytes, and 4,032 for the others.
@@ -120,7 +120,8 @@ pub const MAX_SIZE: u64 = 1 << 60;
 /// dropping does nothing there.
 ///
 /// If memory runs out, the error is [`Error::Io`] of kind [`OutOfMemory`](std::io::ErrorKind::OutOfMemory), and nothing has
-/// changed. Exceptions: the standard library ends the program if it finds none for a path of more than 383 bytes or a message.
+/// changed. Exceptions: the standard library ends the program if it finds none for the text of an error, or for a path while a
+/// file is opened. Opening checks first that there are 64 KiB.
 #[must_use]
 pub struct Raf<A: Algorithm, I: RafIo = FileIo, R: RafRng = DefaultRng, J: RafIo = JournalFile> {
     io: I,
@@ -140,7 +141,7 @@ pub struct Raf<A: Algorithm, I: RafIo = FileIo, R: RafRng = DefaultRng, J: RafIo
     shown: Range<u64>,
     is_broken: bool,
     /// The process that opened it.
-    owner: u32,
+    owner: Process,
     /// The number of the batch that it is in, or was in before it was moved elsewhere.
     batch: u64,
     /// Whether a change has failed since the last commit, so that those in memory may be a part of what was to be
@@ -249,14 +250,26 @@ impl<A: Algorithm, I: RafIo, R: RafRng, J: RafIo> Raf<A, I, R, J> {
         }
         let chunk_size = u64::from(self.layout.chunk_size);
         let pages = offset.min(self.size) / chunk_size..end.div_ceil(chunk_size);
-        Changes::check_room(pages.end - pages.start, chunk_size)?;
-        let mut changed = with_room((pages.end - pages.start) as usize)?;
+        self.change_pages(pages, data, offset)?;
+        self.size = self.size.max(end);
+        Ok(())
+    }
+
+    /// Changes pages, or none of them.
+    fn change_pages(&mut self, pages: Range<u64>, data: &[u8], offset: u64) -> Result<()> {
+        let count = pages.end - pages.start;
+        Changes::check_room(count, u64::from(self.layout.chunk_size))?;
+        let page_bytes = self.layout.page_bytes();
+        let mut changed = with_room(count as usize)?;
         for number in pages {
             self.change_page(number, data, offset)?;
-            changed.push((number, copy_of(&self.pages[..self.layout.page_bytes()])?));
+            let page = &self.pages[..page_bytes];
+            // One that is changed once more takes no memory.
+            if count > 1 || !self.changes.replace(number, page) {
+                changed.push((number, copy_of(page)?));
+            }
         }
         self.changes.append(changed)?;
-        self.size = self.size.max(end);
         Ok(())
     }
 
@@ -297,6 +310,9 @@ impl<A: Algorithm, I: RafIo, R: RafRng, J: RafIo> Raf<A, I, R, J> {
 
     fn commit_all(&mut self) -> Result<()> {
         self.check_is_usable()?;
+        if !self.owner.is_this() {
+            return Err(Error::Locked);
+        }
         if self.changes.is_empty() && self.size == self.stored {
             return Ok(());
         }
@@ -377,7 +393,7 @@ impl<A: Algorithm, I: RafIo, R: RafRng, J: RafIo> Raf<A, I, R, J> {
 
     /// Returns an error in another process than that which opened the file, or if the file is broken.
     fn check_is_usable(&self) -> Result<()> {
-        if self.owner != process::id() {
+        if !self.owner.seems_this() {
             Err(Error::Locked)
         } else if self.is_broken {
             Err(Error::Broken)
@@ -521,6 +537,27 @@ mod tests {
         fn fill(&mut self, buf: &mut [u8]) -> Result<()> {
             buf.fill(0);
             Ok(())
+        }
+    }
+
+    /// The counter of commits does not begin again.
+    #[test]
+    fn the_last_commit() {
+        let header = PageHeader {
+            page_size: 256,
+            ..PageHeader::default()
+        };
+        let layout = Layout::<Aegis256>::of(&[7; 32], &header);
+        for (counter, is_last) in [(u64::MAX, true), (u64::MAX - 1, false)] {
+            let header_block = layout.header(counter, 0, &[1; 32]).to_vec();
+            let builder = RafBuilder::<Aegis256>::with_rng(Zeros).journal(NoJournal);
+            let mut file = builder.open(Header(header_block), &[7; 32]).unwrap();
+            file.write(&[1], 0).unwrap();
+            let committed = file.commit();
+            assert_eq!(matches!(committed, Err(Error::TooLong)), is_last);
+            // This storage cannot grow.
+            assert_eq!(matches!(committed, Err(Error::Io(_))), !is_last);
+            file.discard();
         }
     }
 

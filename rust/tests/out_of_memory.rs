@@ -134,7 +134,8 @@ fn call(done: impl FnOnce() -> Result<()>) -> io::Result<()> {
 fn changes_of_a_file() {
     let path = path("changes");
     let is_kept = |file: &mut Raf<Aegis256>| text_of(file) == contents();
-    let calls: [fn(&mut Raf<Aegis256>) -> Result<()>; 6] = [
+    type Call = fn(&mut Raf<Aegis256>) -> Result<()>;
+    let calls: [Call; 6] = [
         |file| file.write(&[3; 60_000], 7).map(|_| ()),
         |file| file.write(&[3], 45_000).map(|_| ()),
         |file| file.truncate(70_000),
@@ -262,7 +263,7 @@ fn with_journal() -> (Vec<u8>, Vec<u8>) {
     (before, journal.0.take())
 }
 
-/// An opening without memory loses nothing, also if it is to complete a commit. Opening at a path takes memory that cannot fail.
+/// An opening without memory loses nothing, also if it is to complete a commit.
 #[test]
 fn openings() {
     let (file, journal) = with_journal();
@@ -279,6 +280,28 @@ fn openings() {
         let call = |disks: &mut (Memory, Memory)| open(disks).map(|_| ());
         assert!(each_failure(make, call, is_kept) > 0);
     }
+}
+
+/// Opening or creating at a path returns an error if there is no memory at all.
+#[test]
+fn files_at_paths() {
+    let path = path("paths");
+    let (opened, _) = with_failure(0, false, || Raf::<Aegis256>::open_file(&path, &KEY));
+    assert_eq!(
+        io::Error::from(opened.unwrap_err()).kind(),
+        ErrorKind::OutOfMemory
+    );
+    assert_eq!(
+        text_of(&mut Raf::open_file(&path, &KEY).unwrap()),
+        [1; 50_000]
+    );
+    fs::remove_file(&path).unwrap();
+    let (created, _) = with_failure(0, false, || Raf::<Aegis256>::create_file(&path, &KEY));
+    assert_eq!(
+        io::Error::from(created.unwrap_err()).kind(),
+        ErrorKind::OutOfMemory
+    );
+    assert!(!path.exists());
 }
 
 #[test]

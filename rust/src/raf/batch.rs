@@ -4,7 +4,6 @@ use super::changes::Changes;
 use super::{Algorithm, Error, Raf, RafIo, RafRng};
 use alloc::vec::Vec;
 use std::io::ErrorKind;
-use std::process;
 use std::sync::{Mutex, MutexGuard, PoisonError};
 
 /// The number of the last batch, and the numbers of those that are being made, in all threads. A file knows its batch by the
@@ -46,7 +45,7 @@ struct Savepoint {
 struct Batch<'a, A: Algorithm, I: RafIo, R: RafRng, J: RafIo> {
     file: &'a mut Raf<A, I, R, J>,
     number: u64,
-    /// That of a batch inside another, which has the same number.
+    /// A batch inside another has one, and the same number.
     savepoint: Option<Savepoint>,
     is_complete: bool,
 }
@@ -93,7 +92,7 @@ impl<'a, A: Algorithm, I: RafIo, R: RafRng, J: RafIo> Batch<'a, A, I, R, J> {
 
 impl<A: Algorithm, I: RafIo, R: RafRng, J: RafIo> Drop for Batch<'_, A, I, R, J> {
     fn drop(&mut self) {
-        if self.file.owner != process::id() {
+        if !self.file.owner.is_this() {
             // A thread of the other process may have held the list, for ever in this one.
             return;
         }
@@ -150,7 +149,7 @@ impl<A: Algorithm, I: RafIo, R: RafRng, J: RafIo> Raf<A, I, R, J> {
 
     /// Returns whether the file is in a batch that is being made.
     pub(super) fn is_in_batch(&self) -> bool {
-        self.batch != 0 && self.owner == process::id() && batches().open.contains(&self.batch)
+        self.batch != 0 && self.owner.seems_this() && batches().open.contains(&self.batch)
     }
 
     fn savepoint(&self) -> Result<Savepoint, Error> {

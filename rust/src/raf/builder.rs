@@ -5,6 +5,7 @@ use super::io::{Beside, FileIo, JournalChoice, JournalFile, RafIo, journal_path}
 use super::layout::{ID_BYTES, Layout, is_chunk_size};
 use super::recovery::recover;
 use super::rng::{DefaultRng, RafRng, checked_nonce};
+use super::system::Process;
 use super::{Algorithm, Error, Raf, Result, default_chunk_size};
 use crate::exports::PageHeader;
 use crate::memory::zeros;
@@ -12,7 +13,6 @@ use alloc::vec::Vec;
 use core::marker::PhantomData;
 use std::io;
 use std::path::Path;
-use std::process;
 
 /// The default limit on bytes of changed pages in memory.
 const DEFAULT_BUFFER_LIMIT: usize = 16 << 20;
@@ -140,8 +140,8 @@ impl<A: Algorithm, R: RafRng, J: JournalChoice> RafBuilder<A, R, J> {
         builder.journal.lock()?;
         let header = recover::<A>(&mut io, &mut builder.journal, key)?;
         let layout = Layout::of(key, &header);
-        let pages = room_for_reads(&layout)?;
-        Ok(builder.over(io, layout, pages, &header))
+        let (pages, owner) = (room_for_reads(&layout)?, Process::this()?);
+        Ok(builder.over(io, layout, pages, owner, &header))
     }
 
     /// Creates a file at a path. The file, its header and its name are then synced.
@@ -226,14 +226,14 @@ impl<A: Algorithm, R: RafRng, J: JournalChoice> RafBuilder<A, R, J> {
             contents_len: 0,
         };
         let layout = Layout::of(key, &header);
-        let pages = room_for_reads(&layout)?;
+        let (pages, owner) = (room_for_reads(&layout)?, Process::this()?);
         let header_block = layout.header(0, 0, &draws.nonce);
         builder.journal.sync()?;
         io.set_size(0)?;
         io.write_at(&header_block, 0)?;
         io.sync()?;
         io.check_path()?;
-        Ok(builder.over(io, layout, pages, &header))
+        Ok(builder.over(io, layout, pages, owner, &header))
     }
 }
 
@@ -244,6 +244,7 @@ impl<A: Algorithm, R: RafRng, J: RafIo> RafBuilder<A, R, J> {
         io: I,
         layout: Layout<A>,
         pages: Vec<u8>,
+        owner: Process,
         header: &PageHeader,
     ) -> Raf<A, I, R, J> {
         Raf {
@@ -259,7 +260,7 @@ impl<A: Algorithm, R: RafRng, J: RafIo> RafBuilder<A, R, J> {
             changes: Changes::default(),
             buffer_limit: self.buffer_limit,
             is_broken: false,
-            owner: process::id(),
+            owner,
             batch: 0,
             is_cut_short: false,
         }

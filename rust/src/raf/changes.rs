@@ -70,6 +70,12 @@ impl Changes {
         Ok(())
     }
 
+    /// Replaces a page that was changed. Returns whether there is one.
+    pub fn replace(&mut self, number: u64, page: &[u8]) -> bool {
+        let own = self.0.get_mut(&number);
+        own.map(|own| own.0.copy_from_slice(page)).is_some()
+    }
+
     /// Takes over pages, in place of those of the same numbers. If memory runs out nothing has changed.
     pub fn append(&mut self, pages: Vec<(u64, Page)>) -> io::Result<()> {
         let reserved = self.0.try_reserve(pages.len());

@@ -1,8 +1,8 @@
 //! Storages of a file and of its journal.
 
-use super::system::{lock, take_room, unlock};
+use super::system::{Process, lock, take_room, unlock};
 use super::{Error, Result};
-use crate::memory::zeros;
+use crate::memory::{check_memory, zeros};
 use alloc::vec::Vec;
 use std::ffi::{OsStr, OsString};
 use std::fs::{self, File, Metadata, OpenOptions, Permissions};
@@ -10,7 +10,6 @@ use std::io;
 use std::os::unix::ffi::OsStrExt;
 use std::os::unix::fs::{FileExt, MetadataExt, OpenOptionsExt, PermissionsExt, fchown};
 use std::path::{Path, PathBuf};
-use std::process;
 
 /// A storage: bytes that are read and written at any place.
 ///
@@ -85,7 +84,7 @@ pub trait RafIo {
 ///
 /// A file that was opened through a path and has several names (hard links) is rejected, since each name would have a journal.
 /// Any user who may read the file can lock it, and so keep all others out. It belongs to the process that opened it: after a fork
-/// no other process can lock it.
+/// no other process can lock it. The first commit syncs the folder, which the user must be able to read.
 #[derive(Debug)]
 pub struct FileIo {
     file: File,
@@ -93,7 +92,7 @@ pub struct FileIo {
     path: Option<PathBuf>,
     is_name_synced: bool,
     /// The process that opened it: a copy of the descriptor in another shares its lock.
-    owner: u32,
+    owner: Option<Process>,
     is_locked: bool,
     /// Whether the file was made for this one, and has no header yet. Dropping then removes it.
     is_unfinished: bool,
@@ -115,7 +114,7 @@ impl FileIo {
             file,
             is_name_synced: path.is_none(),
             path,
-            owner: process::id(),
+            owner: Process::this().ok(),
             is_locked: false,
             is_unfinished: false,
         }
@@ -139,8 +138,14 @@ impl FileIo {
     }
 
     fn with(options: &mut OpenOptions, path: &Path) -> Result<Self> {
+        check_memory()?;
         let file = options.read(true).write(true).open(path)?;
         Ok(Self::of(file, Some(resolved(path)?)))
+    }
+
+    /// Returns whether this process has opened it.
+    fn is_here(&self) -> bool {
+        self.owner.is_some_and(Process::is_this)
     }
 
     /// Returns [`Error::Moved`] unless the file is the one at its path, and has no other name.
@@ -195,7 +200,7 @@ impl RafIo for FileIo {
     }
 
     fn lock(&mut self) -> Result<()> {
-        if self.owner != process::id() {
+        if !self.is_here() {
             return Err(Error::Locked);
         }
         if let Err(error) = lock(&self.file) {
@@ -226,7 +231,7 @@ impl RafIo for FileIo {
 /// open, such as in a process that is being started.
 impl Drop for FileIo {
     fn drop(&mut self) {
-        if self.owner != process::id() {
+        if !self.is_here() {
             return;
         }
         if let (Some(path), true) = (&self.path, self.is_unfinished) {
@@ -475,6 +480,7 @@ fn is_same(one: &Metadata, other: &Metadata) -> bool {
 
 /// Returns the path of the journal of a file, of which there need not be one yet.
 pub(super) fn journal_path(path: &Path) -> io::Result<PathBuf> {
+    check_memory()?;
     Ok(with_journal(&resolved(path)?))
 }
 
@@ -619,10 +625,11 @@ pub(super) fn read_all(io: &mut impl RafIo) -> io::Result<Vec<u8>> {
 
 #[cfg(test)]
 mod tests {
-    use super::{FileIo, JournalFile, RafIo, mode_beside, sync_folder, with_journal};
-    use alloc::format;
+    use super::{FileIo, JournalFile, RafIo, mode_beside, new_journal, open_same};
+    use super::{sync_folder, with_journal, write_zeros};
+    use alloc::{format, vec};
     use std::fs::{self, File, Permissions};
-    use std::os::unix::fs::{MetadataExt, PermissionsExt, chown};
+    use std::os::unix::fs::{MetadataExt, PermissionsExt, chown, symlink};
     use std::path::Path;
 
     /// A device, which the system can neither sync nor cut: so each of these calls reaches the system.
@@ -654,7 +661,7 @@ mod tests {
         let mut io = FileIo::create(&path).unwrap();
         io.lock().unwrap();
         let in_this_one = io.file.try_clone().unwrap();
-        io.owner = 0;
+        io.owner = None;
         drop(io);
         let mut other = FileIo::open(&path).unwrap();
         assert!(other.lock().is_err());
@@ -703,6 +710,29 @@ mod tests {
         fs::remove_file(&path).unwrap();
     }
 
+    /// A new journal is for its owner alone until it has the mode of its file. It takes no other file and follows no link. Opening
+    /// rejects any other file than was found.
+    #[test]
+    fn new_journals() {
+        let path = std::env::temp_dir().join(format!("hunkravy-new-{}", std::process::id()));
+        let (at, other) = (with_journal(&path), path.with_extension("other"));
+        let made = new_journal(&at).unwrap().metadata().unwrap();
+        assert_eq!(
+            made.mode() & 0o777,
+            0o600,
+            "there is no file whose mode it gets"
+        );
+        assert!(new_journal(&at).is_err());
+        fs::write(&other, "another").unwrap();
+        let found = fs::symlink_metadata(&at).unwrap();
+        assert!(open_same(&at, &found).is_ok() && open_same(&other, &found).is_err());
+        fs::remove_file(&at).unwrap();
+        fs::remove_file(&other).unwrap();
+        symlink(&other, &at).unwrap();
+        assert!(new_journal(&at).is_err() && !other.exists());
+        fs::remove_file(&at).unwrap();
+    }
+
     /// The mode of a journal is that for the group that it gets.
     #[test]
     fn a_mode_in_the_group_of_the_file() {
@@ -735,6 +765,22 @@ mod tests {
             assert_eq!(mode_beside(of, true), in_its_group, "{of:o}");
             assert_eq!(mode_beside(of, false), in_another, "{of:o}");
         }
+    }
+
+    /// Zeros are written in the place of room that a file system cannot take, and nowhere else.
+    #[test]
+    fn zeros_for_room() {
+        let path = std::env::temp_dir().join(format!("hunkravy-zeros-{}", std::process::id()));
+        for (from, end) in [(100, 200_000), (300, 301), (5, 5), (65_536, 131_072)] {
+            fs::write(&path, [7; 300]).unwrap();
+            let file = File::options().write(true).open(&path).unwrap();
+            write_zeros(&file, from, end).unwrap();
+            let mut expected = vec![7; 300];
+            expected.resize(300.max(if from < end { end as usize } else { 0 }), 0);
+            expected[300.min(from as usize)..].fill(if from < end { 0 } else { 7 });
+            assert!(fs::read(&path).unwrap() == expected, "{from} {end}");
+        }
+        fs::remove_file(&path).unwrap();
     }
 
     /// An empty journal is removed when it is opened, whoever may open it, and another file of its name is not.

@@ -76,8 +76,8 @@ impl FileStart {
         Ok(content)
     }
 
-    /// Returns whether the file is as it was before the commit that has these writes, and none of them was begun: it has the old
-    /// header, and each page that it had opens and is none of those.
+    /// Returns whether none of the writes of a commit was begun: the file has the old header, and each page that it had opens and
+    /// is none of those writes.
     fn is_before<A: Algorithm>(
         &self,
         io: &mut impl RafIo,

@@ -2,9 +2,11 @@
 
 use super::{Error, Result};
 use core::ffi::c_int;
+use core::sync::atomic::{AtomicBool, AtomicU32, Ordering::SeqCst};
 use std::fs::File;
 use std::io::{self, ErrorKind};
 use std::os::fd::AsRawFd;
+use std::process;
 
 const LOCK_EX: c_int = 2;
 const LOCK_NB: c_int = 4;
@@ -13,10 +15,15 @@ const LOCK_UN: c_int = 8;
 /// The file system cannot do this, in Linux.
 const EOPNOTSUPP: i32 = 95;
 
-// SAFETY: they are declared as in `sys/file.h` and `fcntl.h` of glibc for 64 bits.
+// SAFETY: they are declared as in `sys/file.h`, `fcntl.h` and `pthread.h` of glibc for 64 bits.
 unsafe extern "C" {
     safe fn flock(descriptor: c_int, operation: c_int) -> c_int;
     safe fn fallocate(descriptor: c_int, mode: c_int, offset: i64, length: i64) -> c_int;
+    safe fn pthread_atfork(
+        before: Option<extern "C" fn()>,
+        in_parent: Option<extern "C" fn()>,
+        in_child: Option<extern "C" fn()>,
+    ) -> c_int;
 }
 
 /// Turns what a call has returned into a result.
@@ -53,5 +60,48 @@ pub fn take_room(file: &File, from: u64, end: u64) -> io::Result<bool> {
             Err(error) if error.kind() == ErrorKind::Interrupted => (),
             Err(error) => return Err(error),
         }
+    }
+}
+
+/// How many forks are between this process and the one that first opened a file, and whether they are counted.
+static FORKS: AtomicU32 = AtomicU32::new(0);
+static IS_COUNTED: AtomicBool = AtomicBool::new(false);
+
+extern "C" fn count_fork() {
+    FORKS.fetch_add(1, SeqCst);
+}
+
+/// A process.
+#[derive(Clone, Copy, Debug, PartialEq, Eq)]
+pub struct Process {
+    id: u32,
+    forks: u32,
+}
+
+impl Process {
+    /// Returns this one.
+    pub fn this() -> io::Result<Self> {
+        // Two threads may both do so: then a fork counts twice.
+        if !IS_COUNTED.load(SeqCst) {
+            if pthread_atfork(None, None, Some(count_fork)) != 0 {
+                return Err(ErrorKind::OutOfMemory.into());
+            }
+            IS_COUNTED.store(true, SeqCst);
+        }
+        Ok(Process {
+            id: process::id(),
+            forks: FORKS.load(SeqCst),
+        })
+    }
+
+    /// Returns whether it is this one. The system is not asked, so a process that was made without `fork` of the C library counts
+    /// as the one that made it.
+    pub fn seems_this(self) -> bool {
+        self.forks == FORKS.load(SeqCst)
+    }
+
+    /// Returns whether it is this one.
+    pub fn is_this(self) -> bool {
+        self.seems_this() && self.id == process::id()
     }
 }

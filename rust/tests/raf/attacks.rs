@@ -466,6 +466,40 @@ fn each_read_that_fails() {
     assert!(failed > 6, "{failed}");
 }
 
+/// This test runs itself once more as another user, who cannot give a journal to the owner of the file beside it: that user could
+/// write it, and not the file. So it is removed. Only root can become another user.
+#[test]
+fn a_journal_that_is_not_safe() {
+    const NAME: &str = "attacks::a_journal_that_is_not_safe";
+    const VARIABLE: &str = "HUNKRAVY_UNSAFE";
+    if let Some(journal) = std::env::var_os(VARIABLE) {
+        let mut disk = disks(Bytes::default()).0;
+        disk.journal = Some(journal.into());
+        let mut file = RafBuilder::<Aegis256>::new().create(disk, &KEY).unwrap();
+        file.write(b"text", 0).unwrap();
+        assert!(matches!(file.commit(), Err(Error::Io(error))
+            if error.kind() == io::ErrorKind::InvalidData));
+        return;
+    }
+    if fs::metadata("/proc/self").unwrap().uid() != 0 {
+        return;
+    }
+    let folder = Folder::new("not-safe");
+    let (path, program) = (folder.path("file"), folder.path("program"));
+    fs::copy(std::env::current_exe().unwrap(), &program).unwrap();
+    fs::write(&path, "of root").unwrap();
+    let allow = |path: &Path, mode| fs::set_permissions(path, fs::Permissions::from_mode(mode));
+    allow(path.parent().unwrap(), 0o777).unwrap();
+    allow(&program, 0o755).unwrap();
+    allow(&path, 0o600).unwrap();
+    let mut command = Command::new(&program);
+    command.args([NAME, "--exact"]);
+    command.env(VARIABLE, folder.path("file.journal"));
+    let output = command.uid(65_534).gid(65_534).output().unwrap();
+    assert!(output.status.success(), "{output:?}");
+    assert_eq!(folder.names(), ["file", "program"]);
+}
+
 /// This test runs itself once more as another user, who may not write to the folder, or not read it: the file is read, and a
 /// commit is refused and changes nothing. It writes no journal that it has not made, even if it may.
 #[test]

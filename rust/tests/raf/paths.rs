@@ -495,7 +495,8 @@ fn cursors() {
     let mut file = create(&path).unwrap();
     let mut cursor = file.cursor();
     cursor.write_all(b"one two ").unwrap();
-    cursor.write_all(b"three").unwrap();
+    cursor.write_all(b"thr").unwrap();
+    cursor.write_all(b"ee").unwrap();
     cursor.seek(SeekFrom::End(-5)).unwrap();
     let mut word = String::new();
     cursor.read_to_string(&mut word).unwrap();

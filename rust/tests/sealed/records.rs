@@ -208,28 +208,37 @@ fn moved_stream_keeps_its_context() {
     );
 }
 
-/// Each error has a text of its own.
+/// Each error has its text, and is what an `io::Error` of it holds.
 #[test]
 fn errors() {
-    let errors = [
-        Error::Header,
-        Error::Truncated,
-        Error::Flag,
-        Error::TooLong,
-        Error::Damaged(7),
-        Error::Damaged(70),
-        Error::Trailing,
-        Error::StreamTooLong,
-        Error::ContextTooLong,
+    let texts = [
+        (Error::Header, "not a record stream: the header is wrong"),
+        (Error::Truncated, "the record stream is truncated"),
+        (Error::Flag, "the first byte of a record is neither 0 nor 1"),
+        (Error::TooLong, "a message is longer than 16 MiB"),
+        (
+            Error::Damaged(70),
+            "record 70 is damaged, or the key, prefix or context is wrong",
+        ),
+        (Error::Trailing, "bytes follow the last record"),
+        (
+            Error::StreamTooLong,
+            "the stream is longer than 2^61 - 1 bytes",
+        ),
+        (
+            Error::ContextTooLong,
+            "the context is longer than 65,535 bytes",
+        ),
+        (
+            Error::Ended,
+            "the last message of the record stream was sealed",
+        ),
     ];
-    let mut texts: Vec<String> = errors.iter().map(Error::to_string).collect();
-    assert!(texts[4].contains('7') && texts.iter().all(|text| text.len() > 5));
-    texts.sort();
-    texts.dedup();
-    assert_eq!(texts.len(), errors.len());
-    for error in errors {
+    for (error, text) in texts {
+        assert_eq!(error.to_string(), text);
         assert_eq!(fault_of(&error.into()), error);
     }
+    assert_eq!(Error::OutOfMemory.to_string(), "out of memory");
     let source: Box<dyn std::error::Error + Send + Sync> = Error::Flag.into();
     assert!(source.source().is_none());
 }
