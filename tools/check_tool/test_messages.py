@@ -80,8 +80,8 @@ MESSAGES = (
     ("CALLS LATE=fsync_folder $TOOL seal -k key small out", 3,
      r"hunkravy: out is complete, but a power loss may undo it, since its folder cannot be synced: No space left .+"),
 )
-# These need an input of 2^61 bytes, and a command line that is not understood and not rejected.
-UNREACHABLE = "is longer than a sealed file can be", "no command: see hunkravy --help"
+# These need an input of 2^61 bytes, and a command line that is not understood and not rejected. The last is not printed.
+UNREACHABLE = "is longer than a sealed file can be", "no command: see hunkravy --help", "standard error leads to what is read"
 ELSEWHERE = ("is a socket of messages, which may lose a part of one: read from a pipe or a file",)
 
 

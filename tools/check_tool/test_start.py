@@ -21,7 +21,8 @@ def install(folder, build):
         if build:
             shutil.copy(build, place / "hunkravy")
         else:
-            place.joinpath("hunkravy").write_text(f'#!/bin/sh\necho {level}; printf "<%s>" "$@"\n', encoding="ascii")
+            prints = f'#!/bin/sh\necho {level}; printf "<%s>" "$@"\n'
+            place.joinpath("hunkravy").write_text(prints, encoding="ascii")
             place.joinpath("hunkravy").chmod(0o755)
     os.mkdir(f"{folder}/bin")
     shutil.copy(START, f"{folder}/bin/hunkravy")
@@ -62,10 +63,11 @@ class Start(Scene):
     # The build gets the name that the caller gave, and is the same process.
     def test_the_build_takes_its_place(self):
         install("place", shutil.which("cat"))
-        with subprocess.Popen(["-a name", "/proc/self/cmdline", "/proc/self/stat"], executable="place/bin/hunkravy",
-                              stdout=subprocess.PIPE) as process:
-            printed = process.communicate()[0]
-        self.assertTrue(printed.startswith(b"-a name\0/proc/self/cmdline\0/proc/self/stat\0%d (hunkravy)" % process.pid), printed)
+        words = ["-a name", *(f"/proc/self/{what}" for what in ("cmdline", "environ", "stat"))]
+        how = {"executable": "place/bin/hunkravy", "env": {"MARK": "1"}, "stdout": subprocess.PIPE}
+        with subprocess.Popen(words, **how) as process:
+            printed = process.communicate()[0].decode()
+        self.assertTrue(printed.startswith("\0".join([*words, "MARK=1", f"{process.pid} (hunkravy)"])), printed)
 
     def test_a_build_that_is_missing(self):
         os.mkdir("bin")

@@ -41,7 +41,8 @@ class Words(Scene):
         self.shell(2, r"$TOOL seal -k key $'small\377' out", "an argument, or")
         self.shell(2, r"exec -a $'\377' $TOOL info sealed", "or the program's own name, is not UTF-8")
         os.mkdir("$(touch pasted)")
-        self.tool(3, [TOOL, "seal", "-k", "key", "$(touch pasted)", "out"], r"^hunkravy: \S+ pasted\) is a folder: [^$]*$")
+        hint = r"^hunkravy: \$\(touch pasted\) is a folder: to seal it, run tar -c FOLDER \|"
+        self.tool(3, [TOOL, "seal", "-k", "key", "$(touch pasted)", "out"], hint)
         # The tests of the packages have the forms of a key.
         for wrong in "small", "/dev/null", "/dev/zero":
             self.tool(3, f"seal -k {wrong} small out", f"{wrong} holds no key", "chmod")
