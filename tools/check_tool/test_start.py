@@ -6,7 +6,7 @@ import re
 import shutil
 import subprocess
 
-from scene import START, TOOL, Scene
+from scene import START, TOOL, Scene, read
 
 LEVELS = "x86-64-v2", "x86-64-v3"
 # What x86-64-v3 adds to x86-64-v2, as /proc/cpuinfo and qemu name it.
@@ -89,6 +89,11 @@ class Start(Scene):
             self.left_out("an empty root, since there is no right to chroot")
         for name in "/bin/hunkravy", "/links/relative", "/absolute":
             self.tool(0, [*changes, "root", name, "--version"], r"\Ahunkravy ")
-        for words in "keygen /key", "seal -k /key /bin/hunkravy /sealed", "open -k /key /sealed /opened":
+        for words in "keygen /key", "seal -k /key /bin/hunkravy /sealed", "open -k /key /sealed /opened", "seal -k /key - /none":
             self.tool(0, [*changes, "root", "/bin/hunkravy", *words.split()], lacks=".")
         self.is_same("root/opened", START)
+        # Nothing shows that standard input is not the output.
+        seals, key = f"{' '.join(changes)} root /bin/hunkravy seal --force", read("root/key")
+        self.shell(3, f"{seals} -k - /sealed /key < root/key", "the key cannot be read from standard input: No such")
+        self.shell(3, f"{seals} -k /key - /sealed < root/sealed", "standard input cannot be read: No such")
+        self.is_same("root/key", key)
