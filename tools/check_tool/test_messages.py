@@ -68,7 +68,7 @@ MESSAGES = (
      r"hunkravy: the contents are not printable text: give a file as OUT, redirect with >, or give - to print\r"),
     # Calls of the system that fail.
     ("CALLS getentropy=fails $TOOL keygen out", 3, r"hunkravy: the system returned no random bytes: .+"),
-    ("CALLS NO_MEMORY=150 $TOOL open -k key sealed out", 3, r"hunkravy: out of memory"),
+    ("CALLS NO_MEMORY=100 $TOOL open -k key sealed out", 3, r"hunkravy: out of memory"),
     ("CALLS link=fails $TOOL seal -k key small out", 0, r"hunkravy: out was renamed into place, since linking failed: .+"),
     ("CALLS unlink=fails $TOOL seal -k key small out", 3,
      r"hunkravy: \./\.out\.hunkravy-[0-9a-f]{16} was not removed: delete it if it is there, since it may hold plaintext or a key\n"
