@@ -58,7 +58,7 @@ class Contents(Scene):
             try:
                 for at in range(0, len(contents), size):
                     os.write(writer, contents[at : at + size])
-            except (BrokenPipeError, ConnectionResetError):
+            except ConnectionError:
                 pass
             os.close(writer)
             printed = process.communicate(timeout=300)[0]
