@@ -14,7 +14,8 @@ PREFIX = /usr/local
 # has both, and each name is bound to the best that the processor has when a program is loaded.
 CPU =
 LEVELS = x86-64-v2 x86-64-v3
-RUNNABLE = $(if $(shell grep -m1 -w avx2 /proc/cpuinfo),$(LEVELS),x86-64-v2)
+FEATURES := $(shell sed -n 's/^ *FEATURE(.*, \([a-z0-9]*\)).*/\1/p' c/levels/level.h)
+RUNNABLE := $(if $(filter-out $(shell grep -m1 ^flags /proc/cpuinfo),$(FEATURES)),x86-64-v2,$(LEVELS))
 
 # How many checks run side by side: one on each processor, as far as each has 2.5 GiB of memory. A check that several
 # processors share takes nearly half more of their time.

@@ -5,7 +5,8 @@
  * led to it. Elsewhere the name is that which the program was started by, and its links are followed here. The status
  * is 127 if the build cannot be started.
  */
-#include <cpuid.h>
+#include "../c/levels/level.h"
+
 #include <stddef.h>
 #include <stdint.h>
 
@@ -28,35 +29,6 @@ static long call(long number, const void *first, const void *second, const void 
                      : "a"(number), "D"(first), "S"(second), "d"(third)
                      : "rcx", "r11", "memory");
     return result;
-}
-
-/* ---- The level */
-
-/* Returns whether the system saves the registers of AVX. */
-static int saves_avx(void)
-{
-    uint32_t low, high;
-    __asm__("xgetbv" : "=a"(low), "=d"(high) : "c"(0));
-    return (low & 6) == 6;
-}
-
-/* Returns whether the processor and the system have all that x86-64-v3 adds to x86-64-v2. */
-static int has_level_3(void)
-{
-    const unsigned first = bit_AVX | bit_F16C | bit_FMA | bit_MOVBE | bit_OSXSAVE;
-    const unsigned seventh = bit_AVX2 | bit_BMI | bit_BMI2;
-    const unsigned extended = bit_LZCNT;
-    unsigned eax, ebx, ecx, edx;
-    if (!__get_cpuid(1, &eax, &ebx, &ecx, &edx) || (ecx & first) != first) {
-        return 0;
-    }
-    if (!__get_cpuid_count(7, 0, &eax, &ebx, &ecx, &edx) || (ebx & seventh) != seventh) {
-        return 0;
-    }
-    if (!__get_cpuid(0x80000001, &eax, &ebx, &ecx, &edx) || (ecx & extended) != extended) {
-        return 0;
-    }
-    return saves_avx();
 }
 
 /* ---- Paths */

@@ -5,7 +5,7 @@
 # the stored lines.
 set -euo pipefail
 archive=$(realpath "$1") shared=$(realpath "$2") lines=$(realpath "$3")
-tests=$PWD/c/tests include=$PWD/c/include
+tests=$PWD/c/tests include=$PWD/c/include levels=$PWD/c/levels
 work=$(mktemp -d)
 trap 'rm -rf "$work"' EXIT
 cd "$work"
@@ -64,24 +64,48 @@ gcc -O1 -fPIC -pie -I. level.c "$archive" -o level
 # is_bound LEVEL COMMAND: whether the program finds this level when it is run so.
 is_bound() {
     status=0
-    "${@:2}" > found || status=$?
+    "${@:2}" > found 2> said || status=$?
     [ $status = 139 ] || fail "the program writes to a pointer, or fails: status $status"
     [ "$(head -n 1 found)" = "$1" ] || fail "the library finds level $(head -n 1 found), not $1"
     nm level | awk -v name="^hunkravy_v$1_" 'sub(name, "", $3) { print $1, $3 }' | diff <(tail -n +2 found | sort) <(sort) ||
         fail "calls are not bound to the build for x86-64-v$1"
 }
+features=$(sed -n 's/^ *FEATURE(.*, \([a-z0-9]*\)).*/\1/p' "$levels/level.h")
+[ "$(wc -w <<< "$features")" = 9 ] || fail "level.h lists other features: $features"
 level=3
-for feature in avx2 bmi2 fma; do
+for feature in $features; do
     grep -m 1 -q -w "$feature" /proc/cpuinfo || level=2
 done
 is_bound $level ./level
+
+# A system that does not save all registers of AVX has the lower level, whatever the processor has.
+cat > saved.c << 'END'
+#include <cpuid.h>
+#include <stdint.h>
+static uint32_t saved;
+#define __asm__(...) (low = saved, high = 0)
+#include "level.h"
+int main(int count, char **arguments)
+{
+    (void)arguments;
+    for (saved = 0; saved < 256; saved++) {
+        if (has_level_3() != (count > 1 && (saved & 6) == 6)) {
+            return 1;
+        }
+    }
+    return 0;
+}
+END
+gcc -O1 -Wno-unused-but-set-variable "-I$levels" saved.c -o saved
+if [ $level = 3 ]; then ./saved 3; else ./saved; fi || fail 'the registers that the system saves are not looked at'
 
 # On a processor of the lower level: the calls' bindings, and the tests over both libraries.
 if command -v qemu-x86_64 > /dev/null; then
     old='qemu-x86_64 -cpu Nehalem'
     is_bound 2 $old ./level
     # Each feature is asked for: without it the lower build runs.
-    for feature in avx2 bmi2 fma; do
+    is_bound 3 qemu-x86_64 -cpu Haswell ./level
+    for feature in $features; do
         is_bound 2 qemu-x86_64 -cpu Haswell,-$feature ./level
     done
     for library in "$archive" "$shared"; do

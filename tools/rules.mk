@@ -19,7 +19,7 @@ START_FLAGS = -std=gnu11 -Wall -Wextra -Os -ffreestanding -fno-tree-loop-distrib
 	-fcf-protection=none -fno-asynchronous-unwind-tables -fPIE -static-pie -nostdlib -s \
 	-Wl,--build-id=none,-z,noseparate-code,-z,noexecstack
 
-$(OUT)/start: dist/start.c tools/rules.mk | $(OUT)
+$(OUT)/start: dist/start.c c/levels/level.h tools/rules.mk | $(OUT)
 	$(CC) $(START_FLAGS) $< -o $@
 
 # Installs the program hunkravy, its manual page, and completions for shells. The program is a link to the build for the

@@ -2,8 +2,7 @@
  * The names of the library's functions, over its builds for two processor levels.
  *
  * Each name jumps through a pointer. A constructor sets all pointers once, to the build for x86-64-v3 if the processor and
- * the system have AVX2, BMI2 and FMA, and then makes their page read-only. Before that they lead to the build for
- * x86-64-v2. join.sh compiles this file and writes exports.h, a line EXPORT(NAME) for each function. With HUNKRAVY_LEVEL the
+ * the system have that level, and then makes their page read-only. Before that they lead to the build for x86-64-v2. join.sh compiles this file and writes exports.h, a line EXPORT(NAME) for each function. With HUNKRAVY_LEVEL the
  * library is one build alone, and nothing is chosen.
  */
 int hunkravy_level(void);
@@ -17,31 +16,10 @@ int hunkravy_level(void)
 
 #else
 
-#include <cpuid.h>
+#include "level.h"
+
 #include <stddef.h>
-#include <stdint.h>
 #include <sys/mman.h>
-
-/* Returns whether the system saves the registers of AVX. */
-static int saves_avx(void)
-{
-    uint32_t low, high;
-    __asm__("xgetbv" : "=a"(low), "=d"(high) : "c"(0));
-    return (low & 6) == 6;
-}
-
-/* Returns whether the processor and the system have what the higher level needs. */
-static int has_level_3(void)
-{
-    unsigned eax, ebx, ecx, edx;
-    if (!__get_cpuid(1, &eax, &ebx, &ecx, &edx) || !(ecx & bit_OSXSAVE) || !(ecx & bit_AVX) || !(ecx & bit_FMA)) {
-        return 0;
-    }
-    if (!__get_cpuid_count(7, 0, &eax, &ebx, &ecx, &edx) || !(ebx & bit_AVX2) || !(ebx & bit_BMI2)) {
-        return 0;
-    }
-    return saves_avx();
-}
 
 int hunkravy_level(void)
 {

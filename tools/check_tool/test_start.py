@@ -6,11 +6,11 @@ import re
 import shutil
 import subprocess
 
-from scene import START, TOOL, Scene, read
+from scene import ROOT, START, TOOL, Scene, read
 
 LEVELS = "x86-64-v2", "x86-64-v3"
 # What x86-64-v3 adds to x86-64-v2, as /proc/cpuinfo and qemu name it.
-FEATURES = "avx", "avx2", "bmi1", "bmi2", "f16c", "fma", "abm", "movbe", "xsave"
+FEATURES = re.findall(r"^ +FEATURE\(.*, (\w+)\)", ROOT.joinpath("c/levels/level.h").read_text("ascii"), re.M)
 
 
 def install(folder, build):
