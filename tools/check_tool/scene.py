@@ -1,7 +1,7 @@
 """What the scenes of this folder share: a folder with keys and sealed files, and runs of the program in it.
 
-TOOL is the program, START the one that starts a build, VERSION its version, and CALLS_LIBRARY the library of calls.c, as
-tools/rules.mk sets them.
+TOOL is the program, START the one that starts a build, VERSION its version, and CALLS_LIBRARY the library of calls.c,
+as tools/rules.mk sets them.
 """
 
 import os

@@ -35,16 +35,19 @@ class Contents(Scene):
             first, end = PIECE * record, min(PIECE * record + PIECE, 200_000)
             lost = rf"\(bytes {first} to {end - 1} of .*--from {end}\)"
             damaged = f"is damaged: record {record} does not open {lost}; the first {first} bytes of"
-            # A wrong key looks as damage in the first record does, and then no other byte opens.
-            says = damaged if record else "^hunkravy: flipped: the key is probably wrong, or the file is damaged at its start$"
+            # A wrong key looks like damage in the first record, and then no other byte opens.
+            wrong = "^hunkravy: flipped: the key is probably wrong, or the file is damaged at its start$"
+            says = damaged if record else wrong
             self.tool(1, "check -k key flipped", says)
             self.shell(1, "$TOOL open -k key flipped > started", (says, "incomplete: discard it\n\\Z" if record else says))
             self.is_same("started", text[:first])
             self.tool(0, f"open -k key --from {end} flipped -")
             self.assertTrue(self.printed == text[end:])
             if record:
-                self.shell(1, "$TOOL open -k key --from 5 flipped > part", rf"^hunkravy: flipped is damaged: record {record} .*{lost}$")
-                self.shell(1, f"$TOOL open -k key --from {first} flipped", rf"wrong, or the file is damaged in or before record {record}$")
+                damaged = rf"^hunkravy: flipped is damaged: record {record} does not open {lost}$"
+                self.shell(1, "$TOOL open -k key --from 5 flipped > part", damaged)
+                wrong = f"^hunkravy: flipped: the key is wrong, or the file is damaged in or before record {record}$"
+                self.tool(1, f"open -k key --from {first} flipped", wrong)
 
     def sends(self, words, ends, contents, size):
         """Runs the program with one end as standard input, sends the contents to the other in messages of a size, and returns
@@ -55,7 +58,7 @@ class Contents(Scene):
             try:
                 for at in range(0, len(contents), size):
                     os.write(writer, contents[at : at + size])
-            except (BrokenPipeError, ConnectionResetError):
+            except ConnectionError:
                 pass
             os.close(writer)
             printed = process.communicate(timeout=300)[0]
@@ -89,7 +92,7 @@ class Contents(Scene):
             ends = [end.detach() for end in socket.socketpair(socket.AF_UNIX, kind)]
             status, printed = self.sends("seal -k key - lost", ends, text, 70_000)
             self.assertEqual(status, 3)
-            self.assertRegex(printed, rb"\Ahunkravy: standard input is a socket of messages, which may lose a part of one: .*\n\Z")
+            self.assertRegex(printed, rb"\Ahunkravy: standard input is a socket of messages, which may lose a part of one: ")
             self.nothing_left("lost")
 
     def test_truncated_pipes(self):
@@ -109,7 +112,8 @@ class Contents(Scene):
         others = [f"other --from {first}" for first in ("0 --length 0", "10", "199999", "200000", "300000")]
         for part, output in itertools.product(past + others, ("out", "-")):
             too_far = "sealed has only 200000 bytes of contents: --from is past their end"
-            says = too_far if part in past else "sealed: the key is (probably )?wrong, or the file is damaged (at its start|in or before record 3)"
+            wrong = "sealed: the key is (probably )?wrong, or the file is damaged (at its start|in or before record [34])"
+            says = too_far if part in past else wrong
             self.tool(1, f"open -k {part} sealed {output}", rf"\Ahunkravy: {says}\n\Z")
             self.nothing_left("out")
 

@@ -68,7 +68,7 @@ MESSAGES = (
      r"hunkravy: the contents are not printable text: give a file as OUT, redirect with >, or give - to print\r"),
     # Calls of the system that fail.
     ("CALLS getentropy=fails $TOOL keygen out", 3, r"hunkravy: the system returned no random bytes: .+"),
-    ("CALLS NO_MEMORY=150 $TOOL open -k key sealed out", 3, r"hunkravy: out of memory"),
+    ("CALLS NO_MEMORY=100 $TOOL open -k key sealed out", 3, r"hunkravy: out of memory"),
     ("CALLS link=fails $TOOL seal -k key small out", 0, r"hunkravy: out was renamed into place, since linking failed: .+"),
     ("CALLS unlink=fails $TOOL seal -k key small out", 3,
      r"hunkravy: \./\.out\.hunkravy-[0-9a-f]{16} was not removed: delete it if it is there, since it may hold plaintext or a key\n"
@@ -80,8 +80,8 @@ MESSAGES = (
     ("CALLS LATE=fsync_folder $TOOL seal -k key small out", 3,
      r"hunkravy: out is complete, but a power loss may undo it, since its folder cannot be synced: No space left .+"),
 )
-# These need an input of 2^61 bytes, and a command line that is not understood and not rejected.
-UNREACHABLE = "is longer than a sealed file can be", "no command: see hunkravy --help"
+# These need an input of 2^61 bytes, and a command line that is not understood and not rejected. The last is not printed.
+UNREACHABLE = "is longer than a sealed file can be", "no command: see hunkravy --help", "standard error leads to what is read"
 ELSEWHERE = ("is a socket of messages, which may lose a part of one: read from a pipe or a file",)
 
 

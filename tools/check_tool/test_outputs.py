@@ -57,6 +57,18 @@ REJECTED = {
     "became a device or a pipe": ("seal -k key /dev/null /dev/fd/3 3>&-", "seal -k key /dev/null /dev/stdout >&-"),
     "/dev/stdout": ("open --force -k key --from 5 sealed /dev/stdout >&-",),
 }
+# Standard error leads to what is read, where no message may go. Most of these would have one.
+UNSAID = (
+    "check -k key sealed &>> key",
+    "seal -k key small sealed 2>> name",
+    "seal -k other small sealed 2>> small",
+    "open -k - sealed 2>> key < link",
+    "open -k other - 2>> same < sealed",
+    "check -k small sealed 2>> small",
+    "rekey -k small -n key sealed out 2>> key",
+    "rekey -k key -n - sealed out 2>> other < other",
+    "info small 2>> small",
+)
 
 
 def snapshot():
@@ -81,6 +93,10 @@ class Outputs(Scene):
                 with self.subTest(command):
                     self.shell(3, f"$TOOL {command}", reason)
                     self.assertTrue(snapshot() == before)
+        for command in UNSAID:
+            with self.subTest(command):
+                self.shell(3, f"$TOOL {command}", lacks=".")
+                self.assertTrue(snapshot() == before)
         # Without a message nothing is written, so the output may be the input.
         self.shell(0, "$TOOL check --quiet -k key sealed >> sealed && $TOOL info --quiet sealed >> sealed")
         self.assertTrue(snapshot() == before)

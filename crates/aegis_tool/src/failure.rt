@@ -86,6 +86,9 @@ pub enum Failure<'a> {
     NoFile,
     #[error("standard input can be used only once: give files for IN and for any second key")]
     StandardKey,
+    // It is not printed.
+    #[error("standard error leads to what is read")]
+    Unsaid,
     #[error("no command: see hunkravy --help")]
     NoCommand,
     #[error("out of memory")]

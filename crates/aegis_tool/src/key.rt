@@ -1,5 +1,6 @@
 //! Key files: 64 hexadecimal digits and a line feed.
 
+use crate::command::Place;
 use crate::failure::Failure;
 use crate::output::{Identity, STANDARD_INPUT};
 use crate::shown::Name;
@@ -71,6 +72,14 @@ impl<'a> KeyFile<'a> {
 /// The name of a key file that is standard input.
 pub const STANDARD: &str = "-";
 
+/// Returns the place of a key file.
+pub fn place_of(name: &str) -> Place<'_> {
+    match name {
+        STANDARD => Place::Standard,
+        _ => Place::File(name),
+    }
+}
+
 // The key that an input has.
 fn key_in<'a, R: Read>(input: &mut R, name: Name<'a>) -> Result<Key, Failure<'a>> {
     match read_key(input) {
@@ -80,9 +89,9 @@ fn key_in<'a, R: Read>(input: &mut R, name: Name<'a>) -> Result<Key, Failure<'a>
     }
 }
 
-// Warns if the mode of a key file lets others read or change it.
-fn warn(rt: &HostRuntime, name: Name<'_>, found: &Metadata) {
-    if found.is_file() && found.mode() & OTHERS != 0 {
+// Warns if the mode of a key file lets others read or change it, unless `quiet`.
+fn warn(rt: &HostRuntime, name: Name<'_>, found: &Metadata, quiet: bool) {
+    if !quiet && found.is_file() && found.mode() & OTHERS != 0 {
         let _ = eprintln!(rt;
             "hunkravy: the mode of {name} lets others read or change the key: run chmod 600"
         );
@@ -94,9 +103,7 @@ fn read_standard<'a>(rt: &HostRuntime, quiet: bool) -> Result<KeyFile<'a>, Failu
     let name = Name("standard input");
     let key = key_in(&mut rt.stdin(), name)?;
     if let Ok(found) = fs::metadata(rt, STANDARD_INPUT) {
-        if !quiet {
-            warn(rt, name, &found);
-        }
+        warn(rt, name, &found, quiet);
     }
     Ok(KeyFile {
         key,
@@ -117,9 +124,7 @@ pub fn read<'a>(rt: &HostRuntime, name: &'a str, quiet: bool) -> Result<KeyFile<
     let mut file = File::open(rt, name.0).map_err(unreadable)?;
     let key = key_in(&mut file, name)?;
     let found = file.metadata().map_err(unreadable)?;
-    if !quiet {
-        warn(rt, name, &found);
-    }
+    warn(rt, name, &found, quiet);
     Ok(KeyFile {
         key,
         name,

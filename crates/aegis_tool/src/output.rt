@@ -11,6 +11,7 @@
 
 use crate::command::{Place, Transfer};
 use crate::failure::Failure;
+use crate::key;
 use crate::key::KeyFile;
 use crate::shown::Name;
 use std::fs::{File, Metadata, OpenOptions};
@@ -43,8 +44,8 @@ impl Identity {
         }
     }
 
-    /// Returns the identity of what was found. Exceptions: a terminal or another character device, and a socket. What
-    /// is written to these is not read from them again.
+    /// Returns the identity of what was found. Exceptions: a terminal or another character device, and a socket, since
+    /// bytes written to these are not read from them again.
     pub fn of(found: &Metadata) -> Option<Self> {
         if found.file_type().is_char_device() || found.file_type().is_socket() {
             None
@@ -62,7 +63,7 @@ impl Identity {
         }
     }
 
-    /// Returns the identity of standard input. It is an error if it has no name, as without `/proc`.
+    /// Returns the identity of standard input. It is an error if it has no name: it is closed, or there is no `/proc`.
     pub fn of_standard_input(rt: &HostRuntime) -> io::Result<Option<Self>> {
         Ok(Identity::of(&fs::metadata(rt, STANDARD_INPUT)?))
     }
@@ -72,6 +73,8 @@ impl Identity {
 pub const STANDARD_INPUT: &str = "/proc/self/fd/0";
 
 const STANDARD_OUTPUT: &str = "/proc/self/fd/1";
+
+const STANDARD_ERROR: &str = "/proc/self/fd/2";
 
 // The name of an output.
 fn name_of(output: Place<'_>) -> &str {
@@ -142,13 +145,27 @@ pub fn is_terminal(rt: &HostRuntime, output: Place<'_>) -> bool {
     }
 }
 
-/// Returns the paths as they are when the run begins: with whether the output is new.
-pub fn at_the_start<'a>(rt: &HostRuntime, paths: Transfer<'a>) -> Transfer<'a> {
+/// Returns an error if standard error leads to what is read: a message would be written there.
+pub fn refuse_errors<'a>(rt: &HostRuntime, input: Place<'a>) -> Result<(), Failure<'a>> {
+    match (Identity::at(rt, STANDARD_ERROR), identity_of(rt, input)) {
+        (Ok(written), Ok(read)) if written.is_some() && written == read => Err(Failure::Unsaid),
+        _ => Ok(()),
+    }
+}
+
+/// Returns the paths as they are when the run begins: with whether the output is new. It is an error if a message would
+/// be written into the key file or the input.
+pub fn at_the_start<'a>(
+    rt: &HostRuntime,
+    paths: Transfer<'a>,
+) -> Result<Transfer<'a>, Failure<'a>> {
+    refuse_errors(rt, key::place_of(paths.key))?;
+    refuse_errors(rt, paths.input)?;
     let is_new = matches!(
         fs::metadata(rt, name_of(paths.output)),
         Err(error) if error.kind() == ErrorKind::NotFound
     );
-    Transfer { is_new, ..paths }
+    Ok(Transfer { is_new, ..paths })
 }
 
 /// Returns an error if the output is new and names a device or a pipe, which is then the input by its descriptor.

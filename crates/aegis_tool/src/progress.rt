@@ -53,8 +53,8 @@ impl Display<'_> {
         }
     }
 
-    // Shows how much was read, and how many MiB a second, in at most 30 columns. A terminal with fewer keeps the line in
-    // one row, since wrapping is turned off while it is written.
+    // Shows how much was read, and how many MiB a second, in at most 30 columns. A terminal with fewer keeps the line
+    // in one row, since wrapping is turned off while it is written.
     fn show(&self, read: u64, rate: u64) {
         let _ = match self.length {
             Some(length) => {

@@ -34,7 +34,7 @@ pub struct Start {
 }
 
 impl Start {
-    /// Returns an error if the part begins after the last one of the records that were opened, which is then the file's.
+    /// Returns an error if the part begins after the last record that was opened, which is then the file's last one.
     pub fn reached(&self, opened: &OpenedRange) -> Result<(), PartError> {
         if self.from <= opened.end.before {
             Ok(())

@@ -2,11 +2,10 @@
 
 use crate::output::STANDARD_INPUT;
 use std::alloc::AllocError;
-use std::fs;
 use std::fs::File;
-use std::io;
 use std::io::{BufRead, BufReader};
 use std::os::unix::fs::{FileTypeExt, MetadataExt};
+use std::{fs, io};
 
 // A word of a line, by its place.
 #[derive(Clone, Copy)]
@@ -17,9 +16,7 @@ struct Word<'a> {
 
 // Whether a line has all of these words.
 fn has(line: &str, words: &[Word<'_>]) -> bool {
-    words
-        .iter()
-        .all(|word| line.split_whitespace().nth(word.place) == Some(word.text))
+    words.iter().all(|word| line.split_whitespace().nth(word.place) == Some(word.text))
 }
 
 // Whether a table of the system has a line with these words.
@@ -33,8 +30,8 @@ fn is_listed(rt: &HostRuntime, table: &str, words: &[Word<'_>]) -> io::Result<bo
     Ok(false)
 }
 
-// Whether the system lists the socket of this number as a stream. The numbers of sockets are in columns 6 and 9, and `0001`
-// is the type of a stream.
+// Whether the system lists the socket of this number as a stream. The numbers of sockets are in columns 6 and 9, and
+// `0001` is the type of a stream.
 fn is_stream(rt: &HostRuntime, number: &str) -> bool {
     let local = [
         Word {

@@ -5,7 +5,8 @@ use crate::failure::{Failure, PartError, Seen, Stopped, printed};
 use crate::key;
 use crate::key::KeyFile;
 use crate::output::{
-    Target, is_terminal, open_target, refuse_inputs, refuse_own_descriptor, refuse_terminal,
+    Target, is_terminal, open_target, refuse_errors, refuse_inputs, refuse_own_descriptor,
+    refuse_terminal,
 };
 use crate::progress::{Counted, Display, Measured};
 use crate::range::{Start, is_reachable, start_of};
@@ -16,10 +17,10 @@ use aegis::aegis256::Key;
 use aegis_files::{FileError, open_range, open_stream, rekey_stream, seal_stream};
 use std::alloc::Global;
 use std::fs::File;
-use std::{env, io};
 use std::io::{BufReader, IsTerminal, Read, Write};
 use std::random::RandomSource;
 use std::time::Instant;
+use std::{env, io};
 
 /// The context that every file is sealed under, with its key and its prefix.
 const CONTEXT: [u8; 11] = *b"hunkravy v1";
@@ -328,6 +329,7 @@ pub fn rekey<'a>(
     if new_key == key::STANDARD && paths.key == key::STANDARD {
         return Err(Stopped::from(Failure::StandardKey));
     }
+    refuse_errors(rt, key::place_of(new_key))?;
     let key = key_of(rt, paths)?;
     let new = key_of(
         rt,
