@@ -18,7 +18,8 @@ use Rattle.aegis_storage.specs.Journal.{IsContent, IsJournal, authenticated, ent
 use Rattle.aegis_storage.specs.declared.journal.TheConstants.{MAX_JOURNAL_BYTES}
 use Rattle.aegis_storage.specs.declared.store.TheConstants.{MAX_STORAGE_BYTES}
 use Rattle.aegis_storage.proofs.Journals.{entries_more, one_journal, within_more}
-use Rattle.aegis_c_calls.specs.JournalCalls.{AreJournaled, IsHeaderIn, IsJournaling, MayBeEmptied, header_block_of}
+use Rattle.aegis_c_calls.specs.JournalCalls.{AreJournaled, IsHeaderIn, IsJournaling, JournalBegin, JournalEntry, JournalFinal, MayBeEmptied, header_block_of}
+use Rattle.aegis_c_calls.specs.declared.refusal.TheConstants.{DONE}
 use Rattle.aegis_c_calls.specs.declared.state.State.{State}
 use Rattle.aegis_c_calls.proofs.OneRecord.{one_header}
 
@@ -79,6 +80,20 @@ all_written key nonce start writes st end is long second same =
             ∙ ap (λ (l : List ℕ). take 512 start ++ (nonce ++ (entries writes ++ l))) same;
       };
     }
+
+-- all calls in a row
+pub two_journaled : (variant : Variant) (key id nonce : List ℕ) (page_bytes : ℕ) (s0 s1 s2 s3 s4 : State) (first second : ℕ × List ℕ) (a start b first_head c second_head d mac : List ℕ)
+    → JournalBegin (Some variant) key id nonce page_bytes s0 s1 a start DONE → JournalEntry first.0 first.1 s1 s2 b first_head DONE → JournalEntry second.0 second.1 s2 s3 c second_head DONE
+    → JournalFinal s3 s4 d mac DONE → length start ≡ 528
+    → IsJournal (journal_key variant key) [] (first ∷ second ∷ []) (((start ++ (first_head ++ first.1)) ++ (second_head ++ second.1)) ++ mac)
+two_journaled variant key id nonce page_bytes s0 s1 s2 s3 s4 first second a start b first_head c second_head d mac begun one two ended long =
+    let after = two.taken (journal_key variant key) nonce (first ∷ []) refl (one.taken (journal_key variant key) nonce [] refl (begun.begun refl)) in
+    let whole = ended.whole (journal_key variant key) nonce start (first ∷ second ∷ []) refl after long (begun.ends refl) in
+    let all : entries (first ∷ second ∷ []) ≡ (first_head ++ first.1) ++ (second_head ++ second.1) =
+    ap (λ (l : List ℕ). entry first ++ l) (append-nil (entry second)) ∙ ap (λ (l : List ℕ). l ++ entry second) (sym (one.written refl)) ∙ ap (λ (l : List ℕ). (first_head ++ first.1) ++ l) (sym (two.written refl)) in
+    subst (IsJournal (journal_key variant key) [] (first ∷ second ∷ []))
+    (ap (λ (l : List ℕ). start ++ (l ++ mac)) all ∙ sym (append_assoc start ((first_head ++ first.1) ++ (second_head ++ second.1)) mac)
+    ∙ ap (λ (l : List ℕ). l ++ mac) (sym (append_assoc start (first_head ++ first.1) (second_head ++ second.1)))) whole
 
 -- ---- reading
 

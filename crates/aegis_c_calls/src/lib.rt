@@ -13,6 +13,7 @@
 
 pub mod journal;
 mod keys;
+pub mod laws;
 pub mod message;
 pub mod page;
 pub mod record;
