@@ -243,7 +243,10 @@ impl RafIo for Kept {
     }
 
     fn set_size(&mut self, _size: u64) -> io::Result<()> {
-        Err(ErrorKind::Other.into())
+        match self.0.get_size()? {
+            0 => Ok(()),
+            _ => Err(ErrorKind::Other.into()),
+        }
     }
 }
 

@@ -2,6 +2,7 @@
 
 use super::changes::Changes;
 use super::io::{Beside, FileIo, JournalChoice, JournalFile, RafIo, journal_path};
+use super::journal::empty;
 use super::layout::{ID_BYTES, Layout, is_chunk_size};
 use super::recovery::recover;
 use super::rng::{DefaultRng, RafRng, checked_nonce};
@@ -228,7 +229,7 @@ impl<A: Algorithm, R: RafRng, J: JournalChoice> RafBuilder<A, R, J> {
         let layout = Layout::of(key, &header);
         let (pages, owner) = (room_for_reads(&layout)?, Process::this()?);
         let header_block = layout.header(0, 0, &draws.nonce);
-        builder.journal.sync()?;
+        empty(&mut builder.journal)?;
         io.set_size(0)?;
         io.write_at(&header_block, 0)?;
         io.sync()?;

@@ -542,8 +542,12 @@ impl RafIo for JournalFile {
         }
     }
 
+    /// Truncates no file that was not opened before.
     fn set_size(&mut self, size: u64) -> io::Result<()> {
-        match self.open(size > 0)? {
+        if let (Some(path), None, 0) = (&self.path, &self.file, size) {
+            return left_at(path, false).map(|_| ());
+        }
+        match self.open(true)? {
             Some(file) => file.set_len(size),
             None => Ok(()),
         }

@@ -133,9 +133,7 @@ pub fn recover<A: Algorithm>(
     };
     // If no power was lost, what can be read may not be synced yet.
     io.sync()?;
-    if writes.is_empty() {
-        journal.sync()?;
-    } else {
+    if !writes.is_empty() {
         let mut buffer = Buffer::new()?;
         if start.is_before::<A>(io, key, writes)? {
             write_again(journal, &content)?;
@@ -143,9 +141,9 @@ pub fn recover<A: Algorithm>(
         journal.sync()?;
         write_and_sync(io, journaled_writes(writes), &mut buffer)?;
     }
-    if !content.is_empty() {
-        empty(journal)?;
-    } else if journal.get_size()? != 0 {
+    // Also if it is empty: after a sync that failed the disk may have its old bytes.
+    empty(journal)?;
+    if journal.get_size()? != 0 {
         // What has its name by now was not read.
         return Err(Error::Journal);
     }

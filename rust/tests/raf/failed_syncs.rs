@@ -263,3 +263,31 @@ fn failed_syncs_and_crashes() {
     }
     assert!(seen.iter().all(|count| *count > 200), "{seen:?}");
 }
+
+/// The sync that empties a torn journal fails, and so does the first of the next commit, which tears the beginning: the old bytes
+/// are on the disk after it, but not if the opening between the two has emptied the journal once more.
+#[test]
+fn a_journal_that_is_emptied_twice() {
+    for seed in 1..200 {
+        let mut world = World::new(seed);
+        let mut torn = front_of(&world.machine.borrow().parts[0].read);
+        torn.resize(2000, 5);
+        let machine = world.machine.clone();
+        machine.borrow_mut().parts[1].read = torn.clone();
+        machine.borrow_mut().parts[1].stored = torn;
+        machine.borrow_mut().until_failure = seed as usize % 3;
+        let _ = world.open();
+        machine.borrow_mut().until_failure = usize::MAX;
+        let mut file = world.open().unwrap();
+        machine.borrow_mut().until_failure = 0;
+        file.write(b"text", 0).unwrap();
+        assert!(file.commit().is_err());
+        drop(file);
+        world.end();
+    }
+}
+
+/// Returns the beginning of a file's journals.
+fn front_of(file: &[u8]) -> Vec<u8> {
+    [&b"AGJ1"[..], &file[4..33], &[0; 479]].concat()
+}
