@@ -2,21 +2,20 @@
 
 use super::io::{RafIo, read_all};
 use super::journal::{Buffer, empty, journaled_writes, write_and_sync};
-use super::layout::{
-    HEADER_BLOCK_BYTES, Layout, MAGIC, PLAINTEXT_HEADER_BYTES, algorithm_byte, open_header,
-};
-use super::{Algorithm, Error, Result};
-use crate::exports::{JOURNAL_BEGINNING_BYTES, JOURNAL_HEAD_BYTES, JOURNAL_START_BYTES};
+use super::layout::{HEADER_BLOCK_BYTES, ID_BYTES, Layout, open_header};
+use super::{Algorithm, Error, Result, default_chunk_size};
+use crate::exports::{JOURNAL_BEGINNING_BYTES, JOURNAL_NONCE_BYTES};
 use crate::exports::{PageHeader, Refusal};
 use crate::memory::zeros;
 use crate::wipe::Wiped;
 use alloc::vec::Vec;
 use std::io;
 
-/// What each journal begins with, in front of the rest of its file's plaintext header.
-const JOURNAL_MAGIC: [u8; 4] = *b"AGJ1";
-/// Where the old header block is in a journal: it is the first write.
-const OLD_HEADER: usize = JOURNAL_START_BYTES + JOURNAL_HEAD_BYTES;
+/// A journal that does not begin as those of its file do is read if it has no more bytes: a larger file of its name may have
+/// more than the memory.
+const MOST_FOREIGN_BYTES: u64 = 64 << 20;
+/// How many bytes the beginnings of all journals of an algorithm have in common.
+const COMMON_BYTES: usize = 5;
 
 /// What a file begins with.
 struct FileStart {
@@ -41,30 +40,33 @@ impl FileStart {
         }
     }
 
-    /// Returns whether a journal that begins with these bytes may be one of this file: it has its beginning, or the header of
-    /// before is one of this file. If the file has no header, that of any file will do.
-    fn is_of<A: Algorithm>(&self, start: &[u8]) -> bool {
-        let mut beginning = [0; JOURNAL_BEGINNING_BYTES];
-        beginning[4] = algorithm_byte::<A>();
-        let mut known = 5;
-        if let (Some(block), Some(_)) = (&self.block, &self.header) {
-            beginning[..PLAINTEXT_HEADER_BYTES].copy_from_slice(&block[..PLAINTEXT_HEADER_BYTES]);
-            known = JOURNAL_BEGINNING_BYTES;
-        }
-        let plaintext = &beginning[4..known.min(PLAINTEXT_HEADER_BYTES)];
-        let old = start.get(OLD_HEADER..).unwrap_or(&[]);
-        (start.starts_with(&JOURNAL_MAGIC) && start[4..].starts_with(&beginning[4..known]))
-            || (old.starts_with(&MAGIC) && old[4..].starts_with(plaintext))
+    /// Returns whether a journal begins as those of this file do. If the file has no header, those of any file will do.
+    fn is_of<A: Algorithm>(&self, key: &A::Key, found: &[u8]) -> bool {
+        let any = PageHeader {
+            page_size: default_chunk_size::<A>(),
+            id: [0; ID_BYTES],
+            counter: 0,
+            contents_len: 0,
+        };
+        let known = match self.header {
+            Some(_) => JOURNAL_BEGINNING_BYTES,
+            None => COMMON_BYTES,
+        };
+        let layout = Layout::<A>::of(key, self.header.as_ref().unwrap_or(&any));
+        let own = layout.journal(&[0; JOURNAL_NONCE_BYTES]);
+        found.starts_with(&own.start[..known])
     }
 
-    /// Reads the journal. Bytes that are none of this file are not read: they may be more than the memory.
-    fn read_journal<A: Algorithm>(&self, journal: &mut impl RafIo) -> Result<Vec<u8>> {
-        let size = journal.get_size()?;
-        if size > JOURNAL_BEGINNING_BYTES as u64 {
-            let mut first = [0; OLD_HEADER + PLAINTEXT_HEADER_BYTES];
-            let count = first.len().min(size as usize);
-            journal.read_at(&mut first[..count], 0)?;
-            if !self.is_of::<A>(&first[..count]) {
+    /// Reads the journal.
+    fn read_journal<A: Algorithm>(
+        &self,
+        journal: &mut impl RafIo,
+        key: &A::Key,
+    ) -> Result<Vec<u8>> {
+        if journal.get_size()? > MOST_FOREIGN_BYTES {
+            let mut first = [0; JOURNAL_BEGINNING_BYTES];
+            journal.read_at(&mut first, 0)?;
+            if !self.is_of::<A>(key, &first) {
                 return Err(self.refusal());
             }
         }
@@ -124,7 +126,7 @@ pub fn recover<A: Algorithm>(
     key: &A::Key,
 ) -> Result<PageHeader> {
     let start = FileStart::read::<A>(io, key)?;
-    let content = start.read_journal::<A>(journal)?;
+    let content = start.read_journal::<A>(journal, key)?;
     let file = start.block.as_ref().map_or(&[][..], |block| block);
     let writes = match A::EXPORTS.journal_check(file, key.as_ref(), &content) {
         Ok(writes) => writes,
