@@ -17,9 +17,8 @@ use Rattle.aegis_storage.specs.Disk.{Writes}
 use Rattle.aegis_storage.specs.Journal.{IsContent, IsJournal, authenticated, entries, entry}
 use Rattle.aegis_storage.specs.declared.journal.TheConstants.{MAX_JOURNAL_BYTES}
 use Rattle.aegis_storage.specs.declared.store.TheConstants.{MAX_STORAGE_BYTES}
-use Rattle.aegis_storage.proofs.Journals.{entries_more, one_journal, within_more}
-use Rattle.aegis_c_calls.specs.JournalCalls.{AreJournaled, IsHeaderIn, IsJournaling, JournalBegin, JournalEntry, JournalFinal, MayBeEmptied, header_block_of}
-use Rattle.aegis_c_calls.specs.declared.refusal.TheConstants.{DONE}
+use Rattle.aegis_storage.proofs.Journals.{entries_more, one_journal, same_entry, within_more}
+use Rattle.aegis_c_calls.specs.JournalCalls.{AreJournaled, HoldsWrites, IsHeaderIn, IsJournaling, MayBeEmptied, followed_by, header_block_of}
 use Rattle.aegis_c_calls.specs.declared.state.State.{State}
 use Rattle.aegis_c_calls.proofs.OneRecord.{one_header}
 
@@ -40,60 +39,71 @@ recounted variant context ad_bytes message_bytes key nonce ad m is p q =
 
 -- ---- writing
 
-pub none_written : (key nonce : List ℕ) (st : State) → IsSaved Aegis128L st.context key nonce [] ([] ++ replicate 8 0) → IsJournaling key nonce [] st
-none_written key nonce st is = record { within = tt; fits = omega arith; saved = is }
+pub none_written : (key nonce start : List ℕ) (all : Writes) (st : State) → length start ≡ 528 → drop 512 start ≡ nonce → IsSaved Aegis128L st.context key nonce [] ([] ++ replicate 8 0) → IsJournaling key all all st start
+none_written key nonce start all st long ends is = record {
+  start = start;
+  writes = [];
+  start_size = long;
+  split = refl;
+  written = sym (append-nil start);
+  within = tt;
+  fits = omega arith;
+  saved = subst (λ (l : List ℕ). IsSaved Aegis128L st.context key l [] ([] ++ replicate 8 0)) (sym ends) is;
+}
 
 -- the place and the length of a write
 pub head_is : (head a b x y : List ℕ) → head ≡ a ++ (b ++ []) → a ≡ x → b ≡ y → head ≡ x ++ y
 head_is head a b x y all p q = rw (all, p, q) (ap (λ (l : List ℕ). x ++ l) (append-nil y))
 
-pub one_more_written : (key nonce : List ℕ) (writes : Writes) (old between new : State) (place : ℕ) (head bytes : List ℕ)
+pub one_more_written : (key : List ℕ) (all rest : Writes) (old between new : State) (place : ℕ) (head bytes before : List ℕ)
     → place + length bytes ≤ MAX_STORAGE_BYTES → old.context.message_bytes + (length bytes + 568) ≤ MAX_JOURNAL_BYTES
     → head ++ bytes ≡ entry (place, bytes) → HasTaken Aegis128L old.context between.context head → HasTaken Aegis128L between.context new.context bytes
-    → IsJournaling key nonce writes old → IsJournaling key nonce (writes ++ (place, bytes) ∷ []) new
-one_more_written key nonce writes old between new place head bytes low short is first second before =
-    let counts = saved_counts Aegis128L old.context key nonce [] (authenticated [] (entries writes)) before.saved in
+    → IsJournaling key all ((place, bytes) ∷ rest) old before → IsJournaling key all rest new (followed_by (followed_by before head) bytes)
+unfolding followed_by
+one_more_written key all rest old between new place head bytes before low short is first second so_far =
+    let writes = so_far.writes in
+    let nonce : List ℕ = drop 512 so_far.start in
+    let counts = saved_counts Aegis128L old.context key nonce [] (authenticated [] (entries writes)) so_far.saved in
     let count = counts.1 in
-    let all : entries (writes ++ (place, bytes) ∷ []) ≡ entries writes ++ (head ++ bytes) = entries_more writes (place, bytes) ∙ ap (λ (l : List ℕ). entries writes ++ l) (sym is) in
+    let more : entries (writes ++ (place, bytes) ∷ []) ≡ entries writes ++ (head ++ bytes) = entries_more writes (place, bytes) ∙ ap (λ (l : List ℕ). entries writes ++ l) (sym is) in
     let size : length (head ++ bytes) ≡ 16 + length bytes = ap length is ∙ omega (arith, length-append (to_le_bytes w64 place) (to_le_bytes w64 (length bytes) ++ bytes), length-append (to_le_bytes w64 (length bytes)) bytes) in
     record {
-      within = within_more writes (place, bytes) before.within low;
-      fits = omega (arith, short, count, size, ap length all, length-append (entries writes) (head ++ bytes), length-append (to_le_bytes w64 0) (entries writes));
-      saved = subst (λ (l : List ℕ). IsSaved Aegis128L new.context key nonce [] l) (append_assoc (authenticated [] (entries writes)) head bytes ∙ append_assoc (to_le_bytes w64 0) (entries writes) (head ++ bytes) ∙ ap (λ (l : List ℕ). to_le_bytes w64 0 ++ l) (sym all))
-          (second key nonce [] (authenticated [] (entries writes) ++ head) (first key nonce [] (authenticated [] (entries writes)) before.saved));
+      start = so_far.start;
+      writes = writes ++ (place, bytes) ∷ [];
+      start_size = so_far.start_size;
+      split = so_far.split ∙ sym (append_assoc writes ((place, bytes) ∷ []) rest);
+      written = append_assoc before head bytes ∙ ap (λ (l : List ℕ). l ++ (head ++ bytes)) so_far.written ∙ append_assoc so_far.start (entries writes) (head ++ bytes) ∙ ap (λ (l : List ℕ). so_far.start ++ l) (sym more);
+      within = within_more writes (place, bytes) so_far.within low;
+      fits = omega (arith, short, count, size, ap length more, length-append (entries writes) (head ++ bytes), length-append (to_le_bytes w64 0) (entries writes));
+      saved = subst (λ (l : List ℕ). IsSaved Aegis128L new.context key nonce [] l) (append_assoc (authenticated [] (entries writes)) head bytes ∙ append_assoc (to_le_bytes w64 0) (entries writes) (head ++ bytes) ∙ ap (λ (l : List ℕ). to_le_bytes w64 0 ++ l) (sym more))
+          (second key nonce [] (authenticated [] (entries writes) ++ head) (first key nonce [] (authenticated [] (entries writes)) so_far.saved));
     }
 
-pub all_written : (key nonce start : List ℕ) (writes : Writes) (st : State) (end : List ℕ) → IsJournaling key nonce writes st → length start ≡ 528 → drop 512 start ≡ nonce
-    → end ≡ mac Aegis128L 32 key nonce (authenticated [] (entries writes)) → IsJournal key [] writes (start ++ (entries writes ++ end))
-all_written key nonce start writes st end is long second same =
+pub all_written : (key before : List ℕ) (all : Writes) (st : State) (end : List ℕ) → (is : IsJournaling key all [] st before)
+    → end ≡ mac Aegis128L 32 key (drop 512 is.start) (authenticated [] (entries is.writes)) → IsJournal key [] all (followed_by before end)
+unfolding followed_by
+all_written key before all st end is same =
+    let start = is.start in
+    let writes = is.writes in
+    let nonce : List ℕ = drop 512 start in
     let fits = is.fits in
-    let q : length nonce ≡ 16 = omega (arith, ap length second, long, length-drop 512 start) in
-    let parts : start ≡ take 512 start ++ nonce = sym (take-append-drop 512 start) ∙ ap (λ (l : List ℕ). take 512 start ++ l) second in record {
+    let long = is.start_size in
+    let same_writes : writes ≡ all = sym (is.split ∙ append-nil writes) in
+    let q : length nonce ≡ 16 = omega (arith, long, length-drop 512 start) in
+    let parts : start ≡ take 512 start ++ nonce = sym (take-append-drop 512 start) in
+    let bytes : before ++ end ≡ start ++ (entries writes ++ end) = ap (λ (l : List ℕ). l ++ end) is.written ∙ append_assoc start (entries writes) end in
+    let whole : IsJournal key [] writes (before ++ end) = record {
       within = is.within;
       framed = record {
         beginning = take 512 start;
         nonce = nonce;
         beginning_size = omega (arith, long, q, ap length parts, length-append (take 512 start) nonce);
         nonce_size = q;
-        fits = omega (arith, long, fits, ap length same, length_mac Aegis128L 32 key nonce (authenticated [] (entries writes)) (inl refl) (inr refl), length-append start (entries writes ++ end), length-append (entries writes) end);
-        are = ap (λ (l : List ℕ). l ++ (entries writes ++ end)) parts ∙ append_assoc (take 512 start) nonce (entries writes ++ end)
+        fits = omega (arith, long, fits, ap length bytes, ap length same, length_mac Aegis128L 32 key nonce (authenticated [] (entries writes)) (inl refl) (inr refl), length-append start (entries writes ++ end), length-append (entries writes) end);
+        are = bytes ∙ ap (λ (l : List ℕ). l ++ (entries writes ++ end)) parts ∙ append_assoc (take 512 start) nonce (entries writes ++ end)
             ∙ ap (λ (l : List ℕ). take 512 start ++ (nonce ++ (entries writes ++ l))) same;
       };
-    }
-
--- all calls in a row
-pub two_journaled : (variant : Variant) (key id nonce : List ℕ) (page_bytes : ℕ) (s0 s1 s2 s3 s4 : State) (first second : ℕ × List ℕ) (a start b first_head c second_head d mac : List ℕ)
-    → JournalBegin (Some variant) key id nonce page_bytes s0 s1 a start DONE → JournalEntry first.0 first.1 s1 s2 b first_head DONE → JournalEntry second.0 second.1 s2 s3 c second_head DONE
-    → JournalFinal s3 s4 d mac DONE → length start ≡ 528
-    → IsJournal (journal_key variant key) [] (first ∷ second ∷ []) (((start ++ (first_head ++ first.1)) ++ (second_head ++ second.1)) ++ mac)
-two_journaled variant key id nonce page_bytes s0 s1 s2 s3 s4 first second a start b first_head c second_head d mac begun one two ended long =
-    let after = two.taken (journal_key variant key) nonce (first ∷ []) refl (one.taken (journal_key variant key) nonce [] refl (begun.begun refl)) in
-    let whole = ended.whole (journal_key variant key) nonce start (first ∷ second ∷ []) refl after long (begun.ends refl) in
-    let all : entries (first ∷ second ∷ []) ≡ (first_head ++ first.1) ++ (second_head ++ second.1) =
-    ap (λ (l : List ℕ). entry first ++ l) (append-nil (entry second)) ∙ ap (λ (l : List ℕ). l ++ entry second) (sym (one.written refl)) ∙ ap (λ (l : List ℕ). (first_head ++ first.1) ++ l) (sym (two.written refl)) in
-    subst (IsJournal (journal_key variant key) [] (first ∷ second ∷ []))
-    (ap (λ (l : List ℕ). start ++ (l ++ mac)) all ∙ sym (append_assoc start ((first_head ++ first.1) ++ (second_head ++ second.1)) mac)
-    ∙ ap (λ (l : List ℕ). l ++ mac) (sym (append_assoc start (first_head ++ first.1) (second_head ++ second.1)))) whole
+    } in subst (λ (ws : Writes). IsJournal key [] ws (before ++ end)) same_writes whole
 
 -- ---- reading
 
@@ -135,10 +145,11 @@ writes_lie key journal writes is =
     ∙ take_at (entries writes) end (length (entries writes)) refl
 
 pub whole_found : (key made journal content : List ℕ) (writes : Writes) → made ≡ key → IsContent made [] journal content → IsJournal key [] writes journal
-    → (length content ≡ length (entries writes)) × (part_at journal 528 (length content) ≡ entries writes)
+    → HoldsWrites writes (part_at journal 528 (length content))
+unfolding HoldsWrites
 whole_found key made journal content writes own is whole =
     let same : content ≡ entries writes = is.2 ∙ ap entries (one_journal key [] is.0 writes journal (rw own at is.1) whole) in
-    (ap length same, ap (λ (l : List ℕ). part_at journal 528 (length l)) same ∙ writes_lie key journal writes whole)
+    (whole.within, ap (λ (l : List ℕ). part_at journal 528 (length l)) same ∙ writes_lie key journal writes whole)
 
 -- What was read of a file and of a journal, and whether it was accepted.
 pub record WasRead (variant : Variant) (key file journal : List ℕ) (header : Option FileHeader) (writes : Option Writes) (accepted : Bool) : Type 0 where
@@ -210,3 +221,15 @@ pub first_long : (writes : List ℕ) (place : ℕ) (bytes rest : List ℕ) → w
 first_long writes place bytes rest is =
     let a : List ℕ = to_le_bytes w64 place in let b : List ℕ = to_le_bytes w64 (length bytes) in
     omega (arith, ap length is, length-append (entry (place, bytes)) rest, length-append a (b ++ bytes), length-append b bytes)
+
+-- the first of the writes that the bytes hold
+pub first_held : (writes : List ℕ) (write : ℕ × List ℕ) (after : Writes) (place : ℕ) (bytes rest : List ℕ) → HoldsWrites (write ∷ after) writes
+    → place + length bytes ≤ MAX_STORAGE_BYTES → writes ≡ entry (place, bytes) ++ rest → ((place, bytes) ≡ write) × HoldsWrites after rest
+unfolding HoldsWrites
+first_held writes write after place bytes rest holds low is =
+    let first = same_entry (place, bytes) write rest (entries after) low holds.0.0 (sym is ∙ holds.1) in (first.0, (holds.0.1, first.1))
+
+-- bytes that hold a write begin with one
+pub holds_one : (writes : List ℕ) (write : ℕ × List ℕ) (after : Writes) → HoldsWrites (write ∷ after) writes → (write.0 + length write.1 ≤ MAX_STORAGE_BYTES) × (writes ≡ entry write ++ entries after)
+unfolding HoldsWrites
+holds_one writes write after holds = (holds.0.0, holds.1)

@@ -31,44 +31,68 @@ entry_code st place bytes = journal_code st (if leb (place + bytes) MAX_STORAGE_
 
 -- ---- writing
 
--- the state is that of a journal under this key and nonce, which has these writes so far
-pub record IsJournaling (key nonce : List ℕ) (writes : Writes) (st : State) : Type 0 where
+-- bytes, and the bytes that are written after them
+unfoldable pub followed_by : List ℕ → List ℕ → List ℕ
+followed_by bytes more = bytes ++ more
+
+-- The state, and the bytes that were written, are those of a journal under this key, of all the writes except the rest,
+-- which are still to be taken in.
+pub record IsJournaling (key : List ℕ) (all rest : Writes) (st : State) (bytes : List ℕ) : Type 0 where
+  -- what the journal begins with, with its nonce, and the writes so far
+  pub start : List ℕ
+  pub writes : Writes
+  pub start_size : length start ≡ 528
+  pub split : all ≡ writes ++ rest
+  pub written : bytes ≡ start ++ entries writes
   pub within : AreWithin writes
   pub fits : length (entries writes) + 560 ≤ MAX_JOURNAL_BYTES
-  pub saved : IsSaved Aegis128L st.context key nonce [] (authenticated [] (entries writes))
+  pub saved : IsSaved Aegis128L st.context key (drop 512 start) [] (authenticated [] (entries writes))
 
--- The call begins a journal of no writes, and overwrites `start` with what it begins with; or it changes nothing.
+-- the same, and a whole journal under a key, each as one word, which the proofs of callers take from one call to the next
+unfoldable pub IsJournaled : (key : List ℕ) (all rest : Writes) (st : State) (bytes : List ℕ) → Type 0
+IsJournaled key all rest st bytes = IsJournaling key all rest st bytes
+
+unfoldable pub IsWhole : (key : List ℕ) → Writes → (journal : List ℕ) → Type 0
+IsWhole key writes journal = IsJournal key [] writes journal
+
+-- The call begins a journal of any writes, and overwrites `start` with what it begins with; or it changes nothing.
 pub record JournalBegin (variant : Option Variant) (key id nonce : List ℕ) (page_bytes : ℕ) (old new : State) (start start' : List ℕ) (code : ℤ) : Type 0 where
   pub answered : code ≡ keyed_code variant (length key) (header_code page_bytes 0)
-  pub begun : code ≡ DONE → IsJournaling (journal_key (the variant) key) nonce [] new
+  pub begun : (all : Writes) → code ≡ DONE → IsJournaling (journal_key (the variant) key) all all new start'
   pub written : code ≡ DONE → start' ≡ journal_beginning (file_of (the variant) key id page_bytes) ++ nonce
-  pub ends : code ≡ DONE → drop 512 start' ≡ nonce
   pub state_kept : code ≢ DONE → new ≡ old
   pub kept : code ≢ DONE → start' ≡ start
 
--- The call takes in a write, and overwrites `head` with what it has in front of its bytes; or it changes nothing.
+-- The call takes in the next write, and overwrites `head` with what it has in front of its bytes; or it changes nothing.
 pub record JournalEntry (place : ℕ) (bytes : List ℕ) (old new : State) (head head' : List ℕ) (code : ℤ) : Type 0 where
   pub answered : code ≡ entry_code old place (length bytes)
-  pub taken : (key nonce : List ℕ) (writes : Writes) → code ≡ DONE → IsJournaling key nonce writes old → IsJournaling key nonce (writes ++ (place, bytes) ∷ []) new
+  pub taken : (key : List ℕ) (all rest : Writes) (before : List ℕ) → code ≡ DONE → IsJournaling key all ((place, bytes) ∷ rest) old before → IsJournaling key all rest new (followed_by (followed_by before head') bytes)
   pub written : code ≡ DONE → head' ++ bytes ≡ entry (place, bytes)
   pub state_kept : code ≢ DONE → new ≡ old
   pub kept : code ≢ DONE → head' ≡ head
 
--- The call overwrites `mac` with the MAC with which the journal ends, and ends the state; or it changes nothing. What was
--- written, from the bytes of the first call on, is then a journal of the writes.
+-- The call overwrites `mac` with the MAC with which the journal ends, and ends the state; or it changes nothing. With the
+-- MAC, what was written is then a journal of all the writes.
 pub record JournalFinal (old new : State) (mac mac' : List ℕ) (code : ℤ) : Type 0 where
   pub answered : code ≡ journal_code old DONE
-  pub whole : (key nonce start : List ℕ) (writes : Writes) → code ≡ DONE → IsJournaling key nonce writes old → length start ≡ 528 → drop 512 start ≡ nonce
-      → IsJournal key [] writes (start ++ (entries writes ++ mac'))
+  pub whole : (key : List ℕ) (all : Writes) (before : List ℕ) → code ≡ DONE → IsJournaling key all [] old before → IsJournal key [] all (followed_by before mac')
   pub ended : code ≡ DONE → new ≡ ENDED
   pub state_kept : code ≢ DONE → new ≡ old
   pub kept : code ≢ DONE → mac' ≡ mac
 
 -- ---- reading
 
+-- the bytes are those of the writes, as a journal has them
+unfoldable pub HoldsWrites : Writes → List ℕ → Type 0
+HoldsWrites writes bytes = AreWithin writes × (bytes ≡ entries writes)
+
 -- the block of the header of a file that begins with these bytes, if they are as many
 abbrev pub header_block_of : List ℕ → Option (List ℕ)
 header_block_of file = if leb 512 (length file) then Some (take 512 file) else None
+
+-- the commit of the writes began or ended with the first bytes of the file, as one word too
+unfoldable pub IsOwnCommit : Variant → (file : List ℕ) → Writes → Type 0
+IsOwnCommit variant file writes = (512 ≤ length file) × IsOfCommit (take (head_bytes variant) (take 512 file)) writes
 
 -- what a file that begins with these bytes has as its header
 abbrev pub IsHeaderIn : (variant : Variant) (key file : List ℕ) → Option FileHeader → Type 0
@@ -100,7 +124,7 @@ pub record JournalCheck (variant : Option Variant) (key file journal : List ℕ)
   -- without a header, and with one
   pub none : code ≡ INVALID_TAG → IsHeaderIn (the variant) key file None
   pub named : code ≡ WRONG_JOURNAL → (header : FileHeader) × IsHeaderIn (the variant) key file (Some header)
-  pub whole : (writes : Writes) → code ≡ DONE → IsJournal (journal_key (the variant) key) [] writes journal → (bytes' ≡ length (entries writes)) × (part_at journal 528 bytes' ≡ entries writes)
+  pub whole : (writes : Writes) → code ≡ DONE → IsJournal (journal_key (the variant) key) [] writes journal → HoldsWrites writes (part_at journal 528 bytes')
   pub torn : code ≡ DONE → AreJournaled (the variant) key journal None → bytes' ≡ 0
   -- the writes lie in the journal
   pub within : code ≡ DONE → 0 < bytes' → 528 + bytes' ≤ length journal
@@ -112,8 +136,8 @@ pub record JournalNext (writes : List ℕ) (place place' len len' : ℕ) (code :
   pub found : code ≡ DONE → writes ≡ entry (place', part_at writes 16 len') ++ drop (16 + len') writes
   pub within : code ≡ DONE → place' + len' ≤ MAX_STORAGE_BYTES
   pub long : code ≡ DONE → 16 + len' ≤ length writes
-  -- it is this one, and no other
-  pub one : (write : ℕ × List ℕ) (after : List ℕ) → write.0 + length write.1 ≤ MAX_STORAGE_BYTES → writes ≡ entry write ++ after
-      → (code ≡ DONE) × ((place', part_at writes 16 len') ≡ write) × (drop (16 + len') writes ≡ after)
+  -- it is the first of those that the bytes hold, and no other
+  pub one : (write : ℕ × List ℕ) (after : Writes) → HoldsWrites (write ∷ after) writes
+      → (code ≡ DONE) × ((place', part_at writes 16 len') ≡ write) × HoldsWrites after (drop (16 + len') writes)
   pub place_kept : code ≢ DONE → place' ≡ place
   pub len_kept : code ≢ DONE → len' ≡ len

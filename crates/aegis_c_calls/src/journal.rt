@@ -2,11 +2,14 @@
 //! time: a state, of the role [`JOURNAL`], has its MAC so far. Its bytes are those of `aegis_storage`, so what is
 //! proved of crashes there is of them. `N` is the length of the variant's keys, in bytes.
 
-ghost use Rattle.std.specs.Prelude.{◌≡◌, ◌≢◌, ◌+◌, ◌≤◌, ℤ, IfErr, OnOk, Some, length};
+ghost use Rattle.std.specs.Prelude.{◌≡◌, ◌≢◌, ◌+◌, ◌≤◌, ◌∷◌, [], ℕ, ℤ, IfErr, IsOk, List, OnOk, Some, length};
 ghost use Rattle.aegis_base.specs.Variant.{Aegis128L, key_length};
 ghost use Rattle.aegis_engine.specs.Saved.{HasTaken};
 ghost use Rattle.aegis_c_calls.specs.Codes.{code_of, number_of};
-ghost use Rattle.aegis_c_calls.specs.JournalCalls.{IsHeaderIn, JournalBegin, JournalCheck, JournalEntry, JournalFinal, JournalNext, entry_code, header_block_of, journal_code};
+ghost use Rattle.aegis_storage.specs.Bytes.{part_at};
+ghost use Rattle.aegis_storage.specs.Disk.{Writes};
+ghost use Rattle.aegis_pages.specs.Commits.{journal_key};
+ghost use Rattle.aegis_c_calls.specs.JournalCalls.{HoldsWrites, IsHeaderIn, IsJournaled, IsOwnCommit, IsWhole, JournalBegin, JournalCheck, JournalEntry, JournalFinal, JournalNext, entry_code, followed_by, header_block_of, journal_code};
 ghost use Rattle.aegis_c_calls.specs.declared.refusal.TheConstants.{DONE, WRONG_STATE};
 
 use crate::keys::key_alone;
@@ -103,8 +106,10 @@ pub fn begin<S: LaneState, const N: usize>(
     start: &mut [u8; START_BYTES],
 ) -> Result<(), Refusal>
     requires { N ≡ key_length S.VARIANT.family }
-    ensures { JournalBegin (Some S.VARIANT) k.now id.now nonce.now page_bytes st.old st.new
+    ensures call { JournalBegin (Some S.VARIANT) k.now id.now nonce.now page_bytes st.old st.new
         start.old start.new (code_of result) }
+    ensures begun { OnOk result ((all : Writes)
+        → IsJournaled (journal_key S.VARIANT k.now) all all st.new start.new) }
 {
     let key = key_alone::<N>(k)?;
     check_header(page_bytes, 0)?;
@@ -126,7 +131,10 @@ pub fn entry(
     bytes: &[u8],
     head: &mut [u8; HEAD_BYTES],
 ) -> Result<(), Refusal>
-    ensures { JournalEntry place bytes.now st.old st.new head.old head.new (code_of result) }
+    ensures call { JournalEntry place bytes.now st.old st.new head.old head.new (code_of result) }
+    ensures taken { OnOk result ((key : List ℕ) (all rest : Writes) (before : List ℕ)
+        → IsJournaled key all ((place, bytes.now) ∷ rest) st.old before
+        → IsJournaled key all rest st.new (followed_by (followed_by before head.new) bytes.now)) }
 {
     check_entry(st, place, bytes.len())?;
     *head = array_of(&[&place.to_le_bytes(), &(bytes.len() as u64).to_le_bytes()]);
@@ -137,9 +145,11 @@ pub fn entry(
 
 /// Writes the MAC with which the journal ends to `mac`, and ends the state.
 #[inline(never)]
-#[tactic(auto, using(crate::proofs::JournalFacts::all_written))]
 pub fn last(st: &mut State, mac: &mut [u8; 32]) -> Result<(), Refusal>
-    ensures { JournalFinal st.old st.new mac.old mac.new (code_of result) }
+    ensures call { JournalFinal st.old st.new mac.old mac.new (code_of result) }
+    ensures whole { OnOk result ((key : List ℕ) (all : Writes) (before : List ℕ)
+        → IsJournaled key all [] st.old before
+        → IsWhole key all (followed_by before mac.new)) }
 {
     check_journal(st)?;
     *mac = st.context.mac::<State128X1, 32>();
@@ -179,8 +189,13 @@ pub fn check<S: LaneState, const N: usize>(
     writes: &mut usize,
 ) -> Result<(), Refusal>
     requires { N ≡ key_length S.VARIANT.family }
-    ensures { JournalCheck (Some S.VARIANT) k.now file.now journal.now writes.old writes.new
+    ensures call { JournalCheck (Some S.VARIANT) k.now file.now journal.now writes.old writes.new
         (code_of result) }
+    ensures accepted { (all : Writes) → IsWhole (journal_key S.VARIANT k.now) all journal.now
+        → IsOwnCommit S.VARIANT file.now all → length k.now ≡ N → IsOk result }
+    ensures found { OnOk result ((all : Writes)
+        → IsWhole (journal_key S.VARIANT k.now) all journal.now
+        → HoldsWrites all (part_at journal.now 528 writes.new)) }
 {
     let key = key_alone::<N>(k)?;
     let header = header_in::<S, N>(key, file);

@@ -13,7 +13,6 @@
 
 pub mod journal;
 mod keys;
-pub mod laws;
 pub mod message;
 pub mod page;
 pub mod record;

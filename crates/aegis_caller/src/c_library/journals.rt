@@ -1,19 +1,58 @@
 //! The journal of a commit: one that is made of writes is whole, and is taken apart into the same writes.
 
-ghost use Rattle.std.specs.Prelude.{◌≡◌, ◌+◌, ◌≤◌, ◌∷◌, ◌++◌, [], IfOk, IsOk, List, OnOk, length, take, ℕ};
+ghost use Rattle.std.specs.Prelude.{◌≡◌, ◌+◌, ◌<◌, ◌≤◌, ◌∷◌, [], IfOk, IsOk, List, OnOk, length, ℕ};
 ghost use Rattle.aegis_base.specs.Variant.{key_length};
-ghost use Rattle.aegis_pages.specs.Commits.{IsOfCommit, head_bytes, journal_key};
+ghost use Rattle.aegis_pages.specs.Commits.{journal_key};
+ghost use Rattle.aegis_storage.specs.Bytes.{part_at};
 ghost use Rattle.aegis_storage.specs.Disk.{Writes};
-ghost use Rattle.aegis_storage.specs.Journal.{IsJournal, entries, entry};
-ghost use Rattle.aegis_storage.specs.declared.store.TheConstants.{MAX_STORAGE_BYTES};
+ghost use Rattle.aegis_c_calls.specs.JournalCalls.{HoldsWrites, IsJournaled, IsOwnCommit, IsWhole, followed_by};
 
 use aegis_base::LaneState;
 use aegis_c_calls::journal::{HEAD_BYTES, START_BYTES, begin, check, entry, last, next};
-use aegis_c_calls::laws::two_writes_are_journaled;
 use aegis_c_calls::refusal::Refusal;
 use aegis_c_calls::state::State;
 
-/// Makes a journal of two writes: what it begins with, the writes, each with what is in front of its bytes, and the MAC.
+/// Begins a journal, and takes in its first write.
+pub fn first_journaled<S: LaneState, const N: usize>(
+    st: &mut State,
+    page_bytes: u32,
+    id: &[u8; 24],
+    nonce: &[u8; 16],
+    k: &[u8],
+    place: u64,
+    bytes: &[u8],
+    start: &mut [u8; START_BYTES],
+    head: &mut [u8; HEAD_BYTES],
+) -> Result<(), Refusal>
+    requires { N ≡ key_length S.VARIANT.family }
+    ensures { OnOk result ((rest : Writes) → IsJournaled (journal_key S.VARIANT k.now)
+        ((place, bytes.now) ∷ rest) rest st.new
+        (followed_by (followed_by start.new head.new) bytes.now)) }
+{
+    begin::<S, N>(st, page_bytes, id, nonce, k, start)?;
+    entry(st, place, bytes, head)?;
+    Ok(())
+}
+
+/// Takes in the last write of a journal, and ends it.
+pub fn last_journaled(
+    st: &mut State,
+    place: u64,
+    bytes: &[u8],
+    head: &mut [u8; HEAD_BYTES],
+    mac: &mut [u8; 32],
+) -> Result<(), Refusal>
+    ensures { OnOk result ((key : List ℕ) (all : Writes) (before : List ℕ)
+        → IsJournaled key all ((place, bytes.now) ∷ []) st.old before
+        → IsWhole key all
+        (followed_by (followed_by (followed_by before head.new) bytes.now) mac.new)) }
+{
+    entry(st, place, bytes, head)?;
+    last(st, mac)?;
+    Ok(())
+}
+
+/// Makes a journal of two writes. What the calls wrote, joined with the bytes of the writes, is the journal.
 pub fn two_writes_journaled<S: LaneState, const N: usize>(
     st: &mut State,
     page_bytes: u32,
@@ -29,24 +68,24 @@ pub fn two_writes_journaled<S: LaneState, const N: usize>(
     mac: &mut [u8; 32],
 ) -> Result<(), Refusal>
     requires { N ≡ key_length S.VARIANT.family }
-    ensures { OnOk result (IsJournal (journal_key S.VARIANT k.now) []
+    ensures { OnOk result (IsWhole (journal_key S.VARIANT k.now)
         ((places.0, first.now) ∷ (places.1, second.now) ∷ [])
-        (((start.new ++ (first_head.new ++ first.now)) ++ (second_head.new ++ second.now))
-        ++ mac.new)) }
+        (followed_by (followed_by (followed_by (followed_by (followed_by start.new
+        first_head.new) first.now) second_head.new) second.now) mac.new)) }
 {
-    two_writes_are_journaled();
-    begin::<S, N>(st, page_bytes, id, nonce, k, start)?;
-    entry(st, places.0, first, first_head)?;
-    entry(st, places.1, second, second_head)?;
-    last(st, mac)?;
+    first_journaled::<S, N>(
+        st, page_bytes, id, nonce, k, places.0, first, start, first_head,
+    )?;
+    last_journaled(st, places.1, second, second_head, mac)?;
     Ok(())
 }
 
 /// Takes the first write out of the writes of a journal. It is the one that was written there, and so is the rest.
 pub fn first_found(writes: &[u8]) -> Result<(u64, &[u8], &[u8]), Refusal>
-    ensures { (write : ℕ × List ℕ) (rest : List ℕ)
-        → write.0 + length write.1 ≤ MAX_STORAGE_BYTES → writes.now ≡ entry write ++ rest
-        → IfOk result (λ found. ((found.0, found.1.now) ≡ write) × (found.2.now ≡ rest)) }
+    ensures first { IfOk result (λ found. (write : ℕ × List ℕ) (after : Writes)
+        → HoldsWrites (write ∷ after) writes.now → (found.0, found.1.now) ≡ write) }
+    ensures rest { IfOk result (λ found. (write : ℕ × List ℕ) (after : Writes)
+        → HoldsWrites (write ∷ after) writes.now → HoldsWrites after found.2.now) }
 {
     let mut place = 0;
     let mut len = 0;
@@ -56,26 +95,45 @@ pub fn first_found(writes: &[u8]) -> Result<(u64, &[u8], &[u8]), Refusal>
     Ok((place, bytes, after))
 }
 
-/// Finds the writes of a whole journal whose commit began or ended with the header with which the file begins.
+/// Returns how many bytes of writes a journal has. A whole one whose commit began or ended with the header with which the
+/// file begins is accepted, and those are its writes.
+pub fn length_found<S: LaneState, const N: usize>(
+    file: &[u8],
+    k: &[u8; N],
+    journal: &[u8],
+) -> Result<usize, Refusal>
+    requires { N ≡ key_length S.VARIANT.family }
+    ensures accepted { (writes : Writes)
+        → IsWhole (journal_key S.VARIANT k.now) writes journal.now
+        → IsOwnCommit S.VARIANT file.now writes → IsOk result }
+    ensures within { IfOk result (λ len. 0 < len → 528 + len ≤ length journal.now) }
+    ensures found { IfOk result (λ len. (writes : Writes)
+        → IsWhole (journal_key S.VARIANT k.now) writes journal.now
+        → HoldsWrites writes (part_at journal.now 528 len)) }
+{
+    let mut len = 0;
+    check::<S, N>(file, k, journal, &mut len)?;
+    Ok(len)
+}
+
+/// Finds the writes of a journal.
 pub fn writes_found<'a, S: LaneState, const N: usize>(
     file: &[u8],
     k: &[u8; N],
     journal: &'a [u8],
 ) -> Result<&'a [u8], Refusal>
     requires { N ≡ key_length S.VARIANT.family }
-    ensures accepted { (writes : Writes)
-        → IsJournal (journal_key S.VARIANT k.now) [] writes journal.now → 512 ≤ length file.now
-        → IsOfCommit (take (head_bytes S.VARIANT) (take 512 file.now)) writes → IsOk result }
-    ensures found { IfOk result (λ found. (writes : Writes)
-        → IsJournal (journal_key S.VARIANT k.now) [] writes journal.now
-        → found.now ≡ entries writes) }
+    ensures { IfOk result (λ found. (writes : Writes)
+        → IsWhole (journal_key S.VARIANT k.now) writes journal.now
+        → HoldsWrites writes found.now) }
 {
-    let mut len = 0;
-    check::<S, N>(file, k, journal, &mut len)?;
+    let len = length_found::<S, N>(file, k, journal)?;
     if len == 0 {
         return Ok(&journal[..0]);
     }
-    Ok(&journal[START_BYTES..START_BYTES + len])
+    let (_start, rest) = journal.split_at(START_BYTES);
+    let (writes, _mac) = rest.split_at(len);
+    Ok(writes)
 }
 
 /// Finds the two writes of a journal of two.
@@ -85,9 +143,12 @@ pub fn two_writes_found<'a, S: LaneState, const N: usize>(
     journal: &'a [u8],
 ) -> Result<((u64, &'a [u8]), (u64, &'a [u8])), Refusal>
     requires { N ≡ key_length S.VARIANT.family }
-    ensures { IfOk result (λ found. (first second : ℕ × List ℕ)
-        → IsJournal (journal_key S.VARIANT k.now) [] (first ∷ second ∷ []) journal.now
-        → ((found.0.0, found.0.1.now) ≡ first) × ((found.1.0, found.1.1.now) ≡ second)) }
+    ensures first { IfOk result (λ found. (first second : ℕ × List ℕ)
+        → IsWhole (journal_key S.VARIANT k.now) (first ∷ second ∷ []) journal.now
+        → (found.0.0, found.0.1.now) ≡ first) }
+    ensures second { IfOk result (λ found. (first second : ℕ × List ℕ)
+        → IsWhole (journal_key S.VARIANT k.now) (first ∷ second ∷ []) journal.now
+        → (found.1.0, found.1.1.now) ≡ second) }
 {
     let writes = writes_found::<S, N>(file, k, journal)?;
     let (place, bytes, rest) = first_found(writes)?;

@@ -6,6 +6,7 @@ use Rattle.aegis_pages.specs.Commits.{journal_key}
 use Rattle.aegis_pages.specs.Layouts.{journal_beginning}
 use Rattle.aegis_c_calls.specs.PageCalls.{file_of}
 use Rattle.aegis_c_calls.proofs.JournalFacts.{head_is, none_written, saved_counts}
+use Rattle.aegis_c_calls.specs.JournalCalls.{IsJournaled}
 use Rattle.aegis_c_calls.proofs.journal.begin.Goals as goal
 
 pub absorb-requires-clause-associated_data_within : goal.absorb-requires-clause-associated_data_within
@@ -16,8 +17,8 @@ pub absorb-requires-clause-message_within : goal.absorb-requires-clause-message_
 absorb-requires-clause-message_within g c =
     let counts = saved_counts Aegis128L c.begin.new.self _ _ _ _ c.begin.ensures.stands in omega (arith, counts.1)
 
-pub returns : goal.returns
-returns g c =
+pub returns-clause-call : goal.returns-clause-call
+returns-clause-call g c =
     let variant = g.S.LaneState.VARIANT in
     let own : c.journal_key-journal_key.result ≡ journal_key variant c.args.k.now =
     c.journal_key-journal_key.ensures ∙ ap (journal_key variant) c.in_ok-key.ensures.key in
@@ -25,11 +26,17 @@ returns g c =
     c.new-layout.ensures ∙ ap (λ (k : List ℕ). file_of variant k c.args.id.now c.args.page_bytes) c.in_ok-key.ensures.key in
     let saved : IsSaved Aegis128L c.absorb.new.self c.journal_key-journal_key.result c.args.nonce.now [] (replicate 8 0) =
     c.absorb.ensures _ _ _ _ c.begin.ensures.stands in
+    let written : c.array_of.result ≡ c.journal_beginning.result ++ c.args.nonce.now =
+    c.array_of.ensures ∙ ap (λ (l : List ℕ). c.journal_beginning.result ++ l) (append-nil c.args.nonce.now) in
+    let ends : drop 512 c.array_of.result ≡ c.args.nonce.now = ap (drop 512) written ∙ drop_at c.journal_beginning.result c.args.nonce.now 512 (omega arith) in
     record {
       answered = search rules;
-      begun = λ _. none_written (journal_key variant c.args.k.now) c.args.nonce.now _ (rw own at saved);
+      begun = λ all _. none_written (journal_key variant c.args.k.now) c.args.nonce.now c.array_of.result all _ (omega arith) ends (rw own at saved);
       written = λ _. head_is _ _ _ _ _ c.array_of.ensures (c.journal_beginning.ensures ∙ ap journal_beginning file) refl;
-      ends = λ _. ap (drop 512) c.array_of.ensures ∙ drop_at c.journal_beginning.result (c.args.nonce.now ++ []) 512 (omega arith) ∙ append-nil c.args.nonce.now;
       state_kept = search rules;
       kept = search rules;
     }
+
+pub returns-clause-begun : goal.returns-clause-begun
+unfolding IsJournaled
+returns-clause-begun g c all = (returns-clause-call g c).begun all refl

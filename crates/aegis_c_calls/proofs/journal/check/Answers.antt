@@ -1,10 +1,11 @@
 use Rattle.std.proofs.Common.{◌≡◌, ◌∙◌, List, ap, arith, refl, rules, ℕ}
 use Rattle.aegis_pages.specs.Commits.{journal_key}
 use Rattle.aegis_c_calls.proofs.JournalFacts.{content_within, may_be, may_not_be, own_may_be, was_read, whole_found}
+use Rattle.aegis_c_calls.specs.JournalCalls.{IsOwnCommit, IsWhole}
 use Rattle.aegis_c_calls.proofs.journal.check.Goals as goal
 
-pub returns-in-Some : goal.returns-in-Some
-returns-in-Some g c =
+pub returns-in-Some-clause-call : goal.returns-in-Some-clause-call
+returns-in-Some-clause-call g c =
     let variant = g.S.LaneState.VARIANT in
     let key : List ℕ = c.args.k.now in
     let read = was_read (λ l. l.now) variant _ key _ c.args.file.now c.args.journal.now _ c.header_in-header.result c.journaled_content-content.result c.is_accepted.result g.met.S.LaneState.one_two_or_four
@@ -24,8 +25,8 @@ returns-in-Some g c =
       kept = search rules;
     }
 
-pub returns-in-None : goal.returns-in-None
-returns-in-None g c =
+pub returns-in-None-clause-call : goal.returns-in-None-clause-call
+returns-in-None-clause-call g c =
     let variant = g.S.LaneState.VARIANT in
     let key : List ℕ = c.args.k.now in
     let read = was_read (λ l. l.now) variant _ key _ c.args.file.now c.args.journal.now _ c.header_in-header.result c.journaled_content-content.result c.is_accepted.result g.met.S.LaneState.one_two_or_four
@@ -45,8 +46,8 @@ returns-in-None g c =
       kept = search rules;
     }
 
-pub returns-in_default : goal.returns-in_default
-returns-in_default g c =
+pub returns-in_default-clause-call : goal.returns-in_default-clause-call
+returns-in_default-clause-call g c =
     let variant = g.S.LaneState.VARIANT in
     let key : List ℕ = c.args.k.now in
     let read = was_read (λ l. l.now) variant _ key _ c.args.file.now c.args.journal.now _ c.header_in-header.result c.journaled_content-content.result c.is_accepted.result g.met.S.LaneState.one_two_or_four
@@ -68,8 +69,8 @@ returns-in_default g c =
       kept = search rules;
     }
 
-pub returns : goal.returns
-returns g c =
+pub returns-clause-call : goal.returns-clause-call
+returns-clause-call g c =
     let variant = g.S.LaneState.VARIANT in
     let key : List ℕ = c.args.k.now in
     let read = was_read (λ l. l.now) variant _ key _ c.args.file.now c.args.journal.now _ c.header_in-header.result c.journaled_content-content.result c.is_accepted.result g.met.S.LaneState.one_two_or_four
@@ -90,3 +91,29 @@ returns g c =
       within = λ _ _. content_within _ _ _ c.in-Some-content.ensures.some;
       kept = search rules;
     }
+
+pub returns-in_default-clause-found : goal.returns-in_default-clause-found
+unfolding IsWhole
+returns-in_default-clause-found g c =
+    let made : c.journal_key-journal_key.result ≡ journal_key g.S.LaneState.VARIANT c.args.k.now =
+    c.journal_key-journal_key.ensures ∙ ap (journal_key g.S.LaneState.VARIANT) c.in_ok-key.ensures.key in λ writes is. absurd ((rw made at c.in_default.ensures.none) writes is)
+
+pub returns-clause-found : goal.returns-clause-found
+unfolding IsWhole
+returns-clause-found g c =
+    let made : c.journal_key-journal_key.result ≡ journal_key g.S.LaneState.VARIANT c.args.k.now =
+    c.journal_key-journal_key.ensures ∙ ap (journal_key g.S.LaneState.VARIANT) c.in_ok-key.ensures.key in λ writes is. whole_found _ _ _ _ writes made c.in-Some-content.ensures.some is
+
+pub returns-in-Some-clause-accepted : goal.returns-in-Some-clause-accepted
+unfolding IsOwnCommit IsWhole
+returns-in-Some-clause-accepted g c all is own size =
+    let read = was_read (λ l. l.now) g.S.LaneState.VARIANT _ c.args.k.now _ c.args.file.now c.args.journal.now _ c.header_in-header.result c.journaled_content-content.result c.is_accepted.result g.met.S.LaneState.one_two_or_four
+    c.in_ok-key.ensures.key c.journal_key-journal_key.ensures c.header_block.ensures c.header_in-header.ensures c.journaled_content-content.ensures.some c.journaled_content-content.ensures.none c.is_accepted.ensures in
+    absurd (may_not_be g.S.LaneState.VARIANT c.args.k.now _ _ _ read.0 _ read.1 c.if-not-is_accepted.true (own_may_be g.S.LaneState.VARIANT c.args.k.now _ _ _ read.0 _ read.1 all is own.0 own.1))
+
+pub returns-in-None-clause-accepted : goal.returns-in-None-clause-accepted
+unfolding IsOwnCommit IsWhole
+returns-in-None-clause-accepted g c all is own size =
+    let read = was_read (λ l. l.now) g.S.LaneState.VARIANT _ c.args.k.now _ c.args.file.now c.args.journal.now _ c.header_in-header.result c.journaled_content-content.result c.is_accepted.result g.met.S.LaneState.one_two_or_four
+    c.in_ok-key.ensures.key c.journal_key-journal_key.ensures c.header_block.ensures c.header_in-header.ensures c.journaled_content-content.ensures.some c.journaled_content-content.ensures.none c.is_accepted.ensures in
+    absurd (may_not_be g.S.LaneState.VARIANT c.args.k.now _ _ _ read.0 _ read.1 c.if-not-is_accepted.true (own_may_be g.S.LaneState.VARIANT c.args.k.now _ _ _ read.0 _ read.1 all is own.0 own.1))

@@ -1,6 +1,7 @@
-use Rattle.std.proofs.Common.{◌∙◌, List, ap, refl, rules, sym, ℕ}
-use Rattle.aegis_storage.proofs.Journals.{same_entry}
-use Rattle.aegis_c_calls.proofs.JournalFacts.{first_long, first_read}
+use Rattle.std.proofs.Common.{◌∙◌, List, ap, refl, rules, subst, sym, ℕ}
+use Rattle.aegis_storage.specs.Journal.{entries}
+use Rattle.aegis_c_calls.specs.JournalCalls.{HoldsWrites}
+use Rattle.aegis_c_calls.proofs.JournalFacts.{first_held, first_long, first_read, holds_one}
 use Rattle.aegis_c_calls.proofs.journal.next.Goals as goal
 
 pub returns-in_default : goal.returns-in_default
@@ -9,7 +10,7 @@ returns-in_default c = record {
   found = search rules;
   within = search rules;
   long = search rules;
-  one = λ write after low same. absurd (c.in_default.ensures.none write after low same);
+  one = λ write after holds. let held = holds_one _ write after holds in absurd (c.in_default.ensures.none write (entries after) held.0 held.1);
   place_kept = λ _. refl;
   len_kept = λ _. refl;
 }
@@ -23,9 +24,9 @@ returns c =
       found = λ _. rw (read.0, read.1) is;
       within = λ _. c.in-Some.ensures.within;
       long = λ _. first_long c.args.writes.now c.in-Some.found c.in-Some.bytes.now c.in-Some._rest.now is;
-      one = λ write after low same.
-          let first = same_entry (c.in-Some.found, c.in-Some.bytes.now) write c.in-Some._rest.now after c.in-Some.ensures.within low (sym is ∙ same) in
-          (refl, ap (λ (l : List ℕ). (c.in-Some.found, l)) read.0 ∙ first.0, read.1 ∙ first.1);
+      one = λ write after holds.
+          let first = first_held c.args.writes.now write after c.in-Some.found c.in-Some.bytes.now c.in-Some._rest.now holds c.in-Some.ensures.within is in
+          (refl, ap (λ (l : List ℕ). (c.in-Some.found, l)) read.0 ∙ first.0, subst (HoldsWrites after) (sym read.1) first.1);
       place_kept = search rules;
       len_kept = search rules;
     }
